@@ -1,0 +1,21 @@
+-- What an error tells: the fault, where it stands in the whole stream, and the number that belongs to it.
+use Rattle.std.specs.Prelude.{ℕ, Option, None}
+use Rattle.wasm_base.specs.declared.error.Error.{Error}
+use Rattle.wasm_base.specs.declared.fault.Fault.{Fault}
+
+pub record FaultAt : Type 0 where
+  pub fault : Fault
+  pub offset : ℕ
+  pub number : Option ℕ
+
+-- all of an error but its hint
+abbrev pub fault_at : Error → FaultAt
+fault_at e = record { fault = e.fault; offset = e.offset; number = e.number }
+
+-- a fault at an offset, with no number
+abbrev pub at_offset : Fault → ℕ → FaultAt
+at_offset fault offset = record { fault = fault; offset = offset; number = None }
+
+-- how many more bytes an error says are wanted
+abbrev pub hint_of : Error → Option ℕ
+hint_of e = e.hint

@@ -1,0 +1,10 @@
+pub mod FaultAt
+pub mod Found
+pub mod Groups
+pub mod Header
+pub mod Message
+pub mod Name
+pub mod Number
+pub mod Outcome
+pub mod TextOf
+pub mod Window

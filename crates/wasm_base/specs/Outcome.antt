@@ -1,0 +1,20 @@
+-- What reading from a place comes to.
+use Rattle.std.specs.Prelude.{◌≡◌, Result, Ok, Err}
+use Rattle.wasm_base.specs.FaultAt.{FaultAt, fault_at}
+use Rattle.wasm_base.specs.Window.{Place}
+use Rattle.wasm_base.specs.declared.error.Error.{Error}
+
+-- a value and the place behind its bytes, or the first fault
+abbrev pub Outcome : Type 0 → Type 0
+Outcome A = Result (A × Place) FaultAt
+
+-- one reading after the other
+infixl 10 ◌>>=◌
+abbrev pub ◌>>=◌ : {A B : Type 0} → Result A FaultAt → (A → Result B FaultAt) → Result B FaultAt
+(Ok x) >>= f = f x
+(Err e) >>= f = Err e
+
+-- What a call returned, and the place that it left, is this outcome; view is what counts of the value.
+abbrev pub Gives : {X Y : Type 0} → (X → Y) → Result X Error → Place → Outcome Y → Type 0
+Gives view (Ok x) after outcome = outcome ≡ Ok (view x, after)
+Gives view (Err e) after outcome = outcome ≡ Err (fault_at e)

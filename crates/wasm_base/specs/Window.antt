@@ -1,0 +1,35 @@
+-- A window of the stream, and a place in it.
+use Rattle.std.specs.Prelude.{◌≡◌, ℕ, ◌+◌, ◌≤◌, List, drop}
+
+-- what a reader is: the bytes of its window, the offset at which they begin in the whole stream, how many of
+-- them it has passed, and the features that it takes, as bits
+pub record Window : Type 0 where
+  pub features : ℕ
+  pub start : ℕ
+  pub bytes : List ℕ
+  pub position : ℕ
+
+-- what a reader has before it: the offset where it stands, and the bytes from there to the end of its window
+pub record Place : Type 0 where
+  pub features : ℕ
+  pub offset : ℕ
+  pub rest : List ℕ
+
+-- where a reader stands
+abbrev pub place : Window → Place
+place w = record { features = w.features; offset = w.start + w.position; rest = drop w.position w.bytes }
+
+-- the place behind n bytes
+abbrev pub advanced : ℕ → Place → Place
+advanced n p = record { features = p.features; offset = p.offset + n; rest = drop n p.rest }
+
+-- the window that has the rest of another at its front
+abbrev pub whole_window : Place → Window
+whole_window p = record { features = p.features; start = p.offset; bytes = p.rest; position = 0 }
+
+-- The window is the same, and its reader does not stand before where it was.
+pub record KeepsWindow (old new : Window) : Type 0 where
+  pub features : new.features ≡ old.features
+  pub start : new.start ≡ old.start
+  pub bytes : new.bytes ≡ old.bytes
+  pub forward : old.position ≤ new.position

@@ -1,0 +1,130 @@
+// A fault with its place in the stream.
+ghost use Rattle.std.specs.Prelude.{◌≡◌, Some, None};
+
+use crate::fault::Fault;
+use std::alloc::AllocFailed;
+use std::fmt;
+
+pub type Result<T, E = Error> = std::result::Result<T, E>;
+
+/// A fault, the offset in the whole stream at which it stands, and the number that belongs to it.
+///
+/// Two errors are equal if these are: the hint is not compared.
+#[derive(Clone, Copy, Debug)]
+#[derive_where(PartialEq, Eq)]
+pub struct Error {
+    fault: Fault,
+    offset: u64,
+    number: Option<u64>,
+    #[derive_where(skip(EqHashOrd))]
+    hint: Option<usize>,
+}
+
+impl Error {
+    ghost use Rattle.wasm_base.specs.Message.{message_of};
+    ghost use Rattle.wasm_base.specs.FaultAt.{fault_at, at_offset, hint_of};
+
+    /// A fault at an offset, with no number and no hint.
+    pub fn new(fault: Fault, offset: u64) -> Self
+        ensures told { fault_at result ≡ at_offset fault offset }
+        ensures hint { hint_of result ≡ None }
+    {
+        Error {
+            fault,
+            offset,
+            number: None,
+            hint: None,
+        }
+    }
+
+    /// The same with a number.
+    pub fn with_number(self, number: u64) -> Self
+        ensures told { fault_at result ≡ record (fault_at self) { number = Some number } }
+        ensures hint { hint_of result ≡ hint_of self }
+    {
+        Error {
+            number: Some(number),
+            ..self
+        }
+    }
+
+    /// The same with a hint.
+    pub(crate) fn with_hint(self, hint: usize) -> Self
+        ensures told { fault_at result ≡ fault_at self }
+        ensures hint { hint_of result ≡ Some hint }
+    {
+        Error {
+            hint: Some(hint),
+            ..self
+        }
+    }
+
+    /// The same with no hint.
+    pub fn without_needed_hint(self) -> Self
+        ensures told { fault_at result ≡ fault_at self }
+        ensures hint { hint_of result ≡ None }
+    {
+        Error { hint: None, ..self }
+    }
+
+    pub fn fault(&self) -> Fault
+        ensures { result ≡ (fault_at self.now).fault }
+    {
+        self.fault
+    }
+
+    /// The fixed text of the fault.
+    pub fn message(&self) -> &'static str
+        ensures { result.now ≡ message_of (fault_at self.now).fault }
+    {
+        self.fault.message()
+    }
+
+    /// Where the fault stands, in the whole stream.
+    pub fn offset(&self) -> u64
+        ensures { result ≡ (fault_at self.now).offset }
+    {
+        self.offset
+    }
+
+    pub fn number(&self) -> Option<u64>
+        ensures { result ≡ (fault_at self.now).number }
+    {
+        self.number
+    }
+
+    /// How many more bytes a read wanted, where it says so.
+    pub fn needed_hint(&self) -> Option<usize>
+        ensures { result ≡ hint_of self.now }
+    {
+        self.hint
+    }
+}
+
+impl fmt::Display for Error {
+    ghost use Rattle.std.specs.Prelude.{Some};
+    ghost use Rattle.wasm_base.specs.Message.{error_text};
+    ghost use Rattle.wasm_base.specs.FaultAt.{fault_at};
+
+    ghost output = { λ e. Some (error_text (fault_at e)) };
+
+    fn fmt<W: fmt::Write>(&self, f: &mut fmt::Formatter<W>) -> fmt::Result {
+        let (message, offset) = (self.message(), self.offset);
+        match self.number {
+            Some(number) => write!(f, "{message}: {number} (at offset 0x{offset:x})"),
+            None => write!(f, "{message} (at offset 0x{offset:x})"),
+        }
+    }
+}
+
+impl<T: Drop> From<AllocFailed<T>> for Error {
+    ghost use Rattle.std.specs.Prelude.{◌≡◌};
+    ghost use Rattle.wasm_base.specs.FaultAt.{fault_at, at_offset};
+    ghost use Rattle.wasm_base.specs.declared.fault.Fault.TheVariants.{OutOfMemory};
+
+    ghost from_gives = { λ _ e. fault_at e ≡ at_offset OutOfMemory 0 };
+
+    fn from(_refused: AllocFailed<T>) -> Error {
+        Error::new(Fault::OutOfMemory, 0)
+    }
+}

@@ -1,0 +1,364 @@
+// A reader of bytes that knows where they stand in the whole stream.
+ghost use Rattle.std.specs.Prelude.{⊤, ◌≡◌, ◌+◌, ◌<◌, ◌≤◌, ◌^◌, ◌==◌, ◌↔◌, IsTrue, IfOk, OnOk, Some, None, length};
+ghost use Rattle.std.specs.Int.RustNames.{bit_and};
+ghost use Rattle.wasm_base.specs.FaultAt.{fault_at, at_offset};
+ghost use Rattle.wasm_base.specs.Groups.{sum_bound};
+ghost use Rattle.wasm_base.specs.Header.{agree, magic, header_version_at};
+ghost use Rattle.wasm_base.specs.Name.{bytes_at, byte_at, peeked_at, peeked_byte_at, u32_at, name_limit, text_at, window_at};
+ghost use Rattle.wasm_base.specs.TextOf.{text_of};
+ghost use Rattle.wasm_base.specs.Number.{unsigned_at};
+ghost use Rattle.wasm_base.specs.Outcome.{Gives};
+ghost use Rattle.wasm_base.specs.Window.{place, advanced, whole_window, KeepsWindow};
+ghost use Rattle.wasm_base.specs.declared.fault.Fault.TheVariants.{UnexpectedEof};
+ghost use Rattle.wasm_base.specs.declared.fault.NumberKind.TheVariants.{VarU32};
+
+use crate::error::{Error, Result};
+use crate::fault::{Fault, NumberKind};
+use crate::features::WasmFeatures;
+use crate::number::{Found, number_in};
+use bitflags::Flags;
+use std::alloc::AllocError;
+use std::marker::Model;
+use std::ops::Range;
+
+/// The most bytes of a name.
+const NAME_LIMIT: u32 = 100_000;
+
+/// A window of the stream, and a place in it.
+///
+/// Each read moves the place behind what it read. After a fault the place lies in the window, and not before where
+/// it was. Offsets count bytes from the start of the whole stream.
+#[derive(Debug, Drop)]
+pub struct BinaryReader<'a> {
+    bytes: &'a [u8],
+    start: u64,
+    position: usize,
+    features: WasmFeatures,
+}
+
+impl<'a> Model for BinaryReader<'a> {
+    ghost use Rattle.std.specs.Prelude.{◌+◌, ◌≤◌, ◌<◌, ◌^◌, length};
+    ghost use Rattle.wasm_base.specs.Window.{Window};
+
+    ghost Value = { Window };
+
+    ghost view = { λ r. record { features = r.features.0; start = r.start; bytes = r.bytes.now; position = r.position } };
+
+    ghost invariant = { λ r. (r.position ≤ length r.bytes.now) × (r.start + length r.bytes.now < 2 ^ 64) };
+}
+
+impl<'a> Clone for BinaryReader<'a> {
+    ghost is_clone = { λ reader copy. copy ≡ reader };
+
+    ghost is_infallible = { λ _. ⊤ };
+
+    fn clone(&self) -> std::result::Result<Self, AllocError> {
+        Ok(BinaryReader {
+            bytes: self.bytes,
+            start: self.start,
+            position: self.position,
+            features: self.features,
+        })
+    }
+}
+
+/// Whether so many bytes at this offset stay within the offsets of a stream: whether a reader over them can be made.
+pub fn fits(offset: u64, len: usize) -> bool
+    ensures { IsTrue result ↔ (offset + len < 2 ^ 64) }
+{
+    len as u64 <= u64::MAX - offset
+}
+
+impl<'a> BinaryReader<'a> {
+    /// A reader of bytes that begin at this offset of the stream, with all features. `fits` tells whether they may.
+    pub fn new(bytes: &'a [u8], offset: u64) -> Self
+        requires { offset + length bytes.now < 2 ^ 64 }
+        ensures { result ≡ record { features = 3; start = offset; bytes = bytes.now; position = 0 } }
+    {
+        BinaryReader::new_features(bytes, offset, WasmFeatures::all())
+    }
+
+    /// A reader of bytes that begin at this offset of the stream. `fits` tells whether they may.
+    pub fn new_features(bytes: &'a [u8], offset: u64, features: WasmFeatures) -> Self
+        requires { offset + length bytes.now < 2 ^ 64 }
+        ensures { result ≡ record { features = features.0; start = offset; bytes = bytes.now; position = 0 } }
+    {
+        BinaryReader {
+            bytes,
+            start: offset,
+            position: 0,
+            features,
+        }
+    }
+
+    /// The place as an offset in the whole stream.
+    pub fn original_position(&self) -> u64
+        ensures offset { result ≡ (place self.now).offset }
+        ensures fits { result + length (place self.now).rest < 2 ^ 64 }
+    {
+        self.start + self.position as u64
+    }
+
+    /// The place within the window, in bytes from its start.
+    pub fn current_position(&self) -> usize
+        ensures position { result ≡ self.now.position }
+        ensures within { result ≤ length self.now.bytes }
+    {
+        self.position
+    }
+
+    /// The offsets of the whole window.
+    pub fn range(&self) -> Range<u64>
+        ensures { result ≡ record { start = self.now.start; end = self.now.start + length self.now.bytes } }
+    {
+        self.start..self.start + self.bytes.len() as u64
+    }
+
+    /// The offsets of the bytes that are left.
+    pub fn remaining_range(&self) -> Range<u64>
+        ensures { result ≡ record { start = (place self.now).offset; end = self.now.start + length self.now.bytes } }
+    {
+        self.original_position()..self.start + self.bytes.len() as u64
+    }
+
+    /// The bytes that are left.
+    pub fn remaining_buffer(&self) -> &'a [u8]
+        ensures { result.now ≡ (place self.now).rest }
+    {
+        &self.bytes[self.position..]
+    }
+
+    /// How many bytes are left.
+    pub fn bytes_remaining(&self) -> usize
+        ensures { result ≡ length (place self.now).rest }
+    {
+        self.bytes.len() - self.position
+    }
+
+    /// Whether no bytes are left.
+    pub fn eof(&self) -> bool
+        ensures { result ≡ (length (place self.now).rest == 0) }
+    {
+        self.position >= self.bytes.len()
+    }
+
+    /// The bytes that are left as a window of its own.
+    pub fn shrink(&self) -> Self
+        ensures { result ≡ whole_window (place self.now) }
+    {
+        BinaryReader {
+            bytes: &self.bytes[self.position..],
+            start: self.start + self.position as u64,
+            position: 0,
+            features: self.features,
+        }
+    }
+
+    /// The features that its reads take.
+    pub fn features(&self) -> WasmFeatures
+        ensures { result.0 ≡ self.now.features }
+    {
+        self.features
+    }
+
+    /// Whether limits are 64-bit numbers.
+    pub fn memory64(&self) -> bool
+        ensures { result ≡ (bit_and self.now.features 1 == 1) }
+    {
+        self.features.contains(WasmFeatures::MEMORY64)
+    }
+
+    // Passes over bytes that are there.
+    fn advance(&mut self, len: usize)
+        requires { len ≤ length (place self.old).rest }
+        ensures place { place self.new ≡ advanced len (place self.old) }
+        ensures keeps { KeepsWindow self.old self.new }
+    {
+        self.position += len;
+    }
+
+    // The error of a read that wants so many bytes more than are left.
+    fn missing(&self, wanted: usize) -> Error
+        ensures { fault_at result ≡ at_offset UnexpectedEof (place self.now).offset }
+    {
+        Error::new(Fault::UnexpectedEof, self.original_position()).with_hint(wanted)
+    }
+
+    // The offset of the last byte that was read.
+    fn last_offset(&self) -> u64
+        requires { 0 < (place self.now).offset }
+        ensures { result + 1 ≡ (place self.now).offset }
+    {
+        self.original_position() - 1
+    }
+
+    /// The next byte, which stays unread. `UnexpectedEof` here, where none is left.
+    pub fn peek(&self) -> Result<u8>
+        ensures { Gives (λ b. b) result (place self.now) (peeked_byte_at (place self.now)) }
+    {
+        match self.remaining_buffer() {
+            [byte, ..] => Ok(*byte),
+            [] => Err(self.missing(1)),
+        }
+    }
+
+    /// The next `len` bytes, which stay unread. `UnexpectedEof` here, where they aren't all there.
+    pub fn peek_bytes(&self, len: usize) -> Result<&'a [u8]>
+        ensures { Gives (λ bytes. bytes.now) result (place self.now) (peeked_at len (place self.now)) }
+    {
+        let rest = self.remaining_buffer();
+        if rest.len() < len {
+            return Err(self.missing(len - rest.len()));
+        }
+        Ok(&rest[..len])
+    }
+
+    /// Reads `len` bytes. `UnexpectedEof` where they begin, if they aren't all there.
+    pub fn read_bytes(&mut self, len: usize) -> Result<&'a [u8]>
+        ensures gives { Gives (λ bytes. bytes.now) result (place self.new) (bytes_at len (place self.old)) }
+        ensures keeps { KeepsWindow self.old self.new }
+    {
+        let bytes = self.peek_bytes(len)?;
+        self.advance(len);
+        Ok(bytes)
+    }
+
+    /// Reads a byte. `UnexpectedEof` here, where none is left.
+    pub fn read_u8(&mut self) -> Result<u8>
+        ensures gives { Gives (λ b. b) result (place self.new) (byte_at (place self.old)) }
+        ensures keeps { KeepsWindow self.old self.new }
+    {
+        let byte = self.peek()?;
+        self.advance(1);
+        Ok(byte)
+    }
+
+    /// Reads a number of four bytes, the lowest first. `UnexpectedEof` where they begin, if they aren't all there.
+    #[tactic(auto, unfolding(crate::specs::Name::u32_at))]
+    pub fn read_u32(&mut self) -> Result<u32>
+        ensures gives { Gives (λ n. n) result (place self.new) (u32_at (place self.old)) }
+        ensures keeps { KeepsWindow self.old self.new }
+    {
+        let bytes = self.read_bytes(4)?;
+        Ok(
+            u32::from(bytes[0])
+                + 256 * u32::from(bytes[1])
+                + 65536 * u32::from(bytes[2])
+                + 16777216 * u32::from(bytes[3]),
+        )
+    }
+
+    // The groups of the number of this kind.
+    #[tactic(auto, unfolding(crate::specs::Number::unsigned_at))]
+    fn read_groups(&mut self, kind: NumberKind) -> Result<u128>
+        ensures gives { Gives (λ n. n) result (place self.new) (unsigned_at kind (place self.old)) }
+        ensures keeps { KeepsWindow self.old self.new }
+        ensures below { IfOk result (λ n. n < sum_bound kind) }
+        ensures moves { OnOk result ((place self.old).offset < (place self.new).offset) }
+    {
+        let rest = self.remaining_buffer();
+        match number_in(kind, rest) {
+            Found::Read { sum, used } => {
+                self.advance(used);
+                Ok(sum)
+            }
+            Found::Bad { fault, place } => {
+                let offset = self.original_position() + place as u64;
+                Err(Error::new(fault, offset))
+            }
+            Found::Short => {
+                let end = self.original_position() + rest.len() as u64;
+                Err(Error::new(Fault::UnexpectedEof, end).with_hint(1))
+            }
+        }
+    }
+
+    /// Reads a u32 in LEB128 (core specification, Binary format, Integers).
+    ///
+    /// `NumberTooLong` and `NumberTooLarge` stand at the last byte that it may take, `UnexpectedEof` where its next
+    /// byte would stand.
+    pub fn read_var_u32(&mut self) -> Result<u32>
+        ensures gives { Gives (λ n. n) result (place self.new) (unsigned_at VarU32 (place self.old)) }
+        ensures keeps { KeepsWindow self.old self.new }
+        ensures moves { OnOk result ((place self.old).offset < (place self.new).offset) }
+    {
+        Ok(self.read_groups(NumberKind::VarU32)? as u32)
+    }
+
+    // Reads so many bytes of text, behind their size.
+    #[tactic(auto, unfolding(crate::specs::TextOf::text_of), using(crate::proofs::Texts::text_test))]
+    fn read_text(&mut self, len: usize) -> Result<&'a str>
+        requires { 0 < (place self.old).offset }
+        ensures gives { Gives (λ text. text.now) result (place self.new) (text_of len (place self.old)) }
+        ensures keeps { KeepsWindow self.old self.new }
+    {
+        let bytes = self.read_bytes(len)?;
+        match std::str::from_utf8(bytes) {
+            Ok(text) => Ok(text),
+            Err(_) => Err(Error::new(Fault::MalformedUtf8, self.last_offset())),
+        }
+    }
+
+    /// Reads a text: a size and so many bytes of UTF-8 (core specification, Binary format, Names).
+    ///
+    /// After the faults of the size: `UnexpectedEof` behind it, if the bytes aren't all there; `MalformedUtf8` at
+    /// the text's last byte.
+    #[tactic(auto, using(crate::proofs::Texts::text_steps))]
+    pub fn read_unlimited_string(&mut self) -> Result<&'a str>
+        ensures gives { Gives (λ text. text.now) result (place self.new) (text_at None (place self.old)) }
+        ensures keeps { KeepsWindow self.old self.new }
+    {
+        let size = self.read_var_u32()?;
+        self.read_text(size as usize)
+    }
+
+    /// Reads a name: a text of at most 100,000 bytes. A larger size is `StringSize` at the size's last byte, before
+    /// its bytes are looked at.
+    #[tactic(auto, using(crate::proofs::Texts::text_steps))]
+    pub fn read_string(&mut self) -> Result<&'a str>
+        ensures gives { Gives (λ text. text.now) result (place self.new) (text_at (Some name_limit) (place self.old)) }
+        ensures keeps { KeepsWindow self.old self.new }
+    {
+        let size = self.read_var_u32()?;
+        if size > NAME_LIMIT {
+            return Err(Error::new(Fault::StringSize, self.last_offset()));
+        }
+        self.read_text(size as usize)
+    }
+
+    /// Reads a size, a u32, and a window of so many bytes, with the same features. `UnexpectedEof` behind the size,
+    /// if the bytes aren't all there.
+    #[tactic(auto, unfolding(crate::specs::Name::window_at))]
+    pub fn read_reader(&mut self) -> Result<BinaryReader<'a>>
+        ensures gives { Gives (λ window. window) result (place self.new) (window_at (place self.old)) }
+        ensures keeps { KeepsWindow self.old self.new }
+    {
+        let size = self.read_var_u32()?;
+        let start = self.original_position();
+        let bytes = self.read_bytes(size as usize)?;
+        Ok(BinaryReader::new_features(bytes, start, self.features))
+    }
+
+    /// Reads the magic and the 32 bits behind it, of which the lower 16 are the version and the upper 16 the kind
+    /// (core specification, Binary format, Modules). Four other bytes are `BadMagic` where they begin.
+    #[tactic(auto, unfolding(crate::specs::Header::header_version_at))]
+    pub fn read_header_version(&mut self) -> Result<u32>
+        ensures gives { Gives (λ n. n) result (place self.new) (header_version_at (place self.old)) }
+        ensures keeps { KeepsWindow self.old self.new }
+    {
+        let start = self.original_position();
+        let front = self.read_bytes(4)?;
+        if !is_magic(front) {
+            return Err(Error::new(Fault::BadMagic, start));
+        }
+        self.read_u32()
+    }
+}
+
+// Whether four bytes begin a header.
+fn is_magic(front: &[u8]) -> bool
+    requires { length front.now ≡ 4 }
+    ensures { result ≡ agree front.now magic }
+{
+    front[0] == 0x00 && front[1] == 0x61 && front[2] == 0x73 && front[3] == 0x6d
+}
