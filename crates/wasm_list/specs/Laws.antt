@@ -1,0 +1,18 @@
+-- Laws of the definitions of framing.
+use Rattle.std.specs.Prelude.{◌≡◌, ℕ, ◌<◌, List, ◌++◌, length}
+use Rattle.wasm_list.specs.Grammar.{Tile, tile, verdict}
+use Rattle.wasm_list.specs.Reading.{Event, Reading}
+use Rattle.wasm_list.specs.Tiling.{grammar, Faultless}
+
+-- two readings of one stream are one
+abbrev pub OneReading : Type 0
+OneReading = (stream : List ℕ) (start features : ℕ) (xs ys : List Event) → Reading stream start features xs → Reading stream start features ys → xs ≡ ys
+
+-- every stream has a reading
+abbrev pub SomeReading : Type 0
+SomeReading = (stream : List ℕ) (start features : ℕ) → (events : List Event) × Reading stream start features events
+
+-- what a tile is depends on its own bytes alone, of which there is at least one
+abbrev pub TilesStandAlone : Type 0
+TilesStandAlone = (start : ℕ) (tiles : List Tile) (rest : List ℕ) (t : Tile) → Faultless start tiles → verdict (grammar start tiles) rest ≡ tile t
+    → (0 < length t.bytes) × ((more : List ℕ) → verdict (grammar start tiles) (t.bytes ++ more) ≡ tile t) × ((others : List ℕ) × (rest ≡ t.bytes ++ others))
