@@ -1,3 +1,7 @@
+pub mod Framed
 pub mod GrammarLaws
-pub mod TileLaws
+pub mod Headers
+pub mod Parsing
 pub mod ReadingLaws
+pub mod Telling
+pub mod TileLaws

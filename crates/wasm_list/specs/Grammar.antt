@@ -123,16 +123,21 @@ code_grammar past offset size = number offset (λ count width.
     refuse (wrong_count past offset count) (
     takes (code_head count width (size - width)))))
 
--- what a data section that ends at this offset is wrong in: it has as many segments as were announced
-abbrev pub wrong_data : Past → (id offset : ℕ) → List ℕ → Option FaultAt
-wrong_data past id offset content =
+-- what a counted section that ends at this offset is wrong in: the data section has as many segments as were announced
+abbrev pub wrong_data : Past → Kind → (id offset : ℕ) → List ℕ → Option FaultAt
+wrong_data past items id offset content =
     when (id == 11 && not (list_all (nat_eq (count_of content)) past.data_counts)) (at_offset DataCountDiffer offset)
+wrong_data past custom id offset content = None
+wrong_data past index id offset content = None
+wrong_data past data_count id offset content = None
+wrong_data past code id offset content = None
+wrong_data past unknown id offset content = None
 
 -- the content of any other section, of this length and at this offset
 abbrev pub whole_grammar : Past → Kind → (id offset length : ℕ) → Grammar
 whole_grammar past kind id offset size = bytes size offset (λ content.
     refuse (wrong_content kind offset content) (
-    refuse (wrong_data past id (offset + size) content) (
+    refuse (wrong_data past kind id (offset + size) content) (
     takes (section kind id content))))
 
 -- the content of a section, of this length and at this offset

@@ -1,6 +1,12 @@
+pub mod Answers
 pub mod Content
+pub mod ContentAt
+pub mod Custom
 pub mod Grammar
+pub mod Kinds
 pub mod Laws
 pub mod Reading
+pub mod Stands
 pub mod Tiling
+pub mod Unread
 pub mod Waiting

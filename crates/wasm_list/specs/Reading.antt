@@ -41,7 +41,7 @@ told_section features from to items id content = counted id (count_of content) (
 told_section features from to index id content = start_section (count_of content) from to
 told_section features from to data_count id content = data_count_section (count_of content) from to
 told_section features from to custom id content = told_custom features from to content (name (Some name_limit) content)
-told_section features from to code id content = unknown_section id content from to
+told_section features from to code id content = counted id (count_of content) (window_over features from content)
 told_section features from to unknown id content = unknown_section id content from to
 
 -- what is told of a tile between these offsets
