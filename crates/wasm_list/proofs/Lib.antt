@@ -3,5 +3,6 @@ pub mod GrammarLaws
 pub mod Headers
 pub mod Parsing
 pub mod ReadingLaws
+pub mod StandsLaws
 pub mod Telling
 pub mod TileLaws

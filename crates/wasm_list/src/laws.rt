@@ -1,5 +1,5 @@
 //! Laws of the definitions of framing, each the contract of a function that does nothing.
-ghost use Rattle.wasm_list.specs.Laws.{OneReading, SomeReading, TilesStandAlone};
+ghost use Rattle.wasm_list.specs.Laws.{OneReading, ParserSuffices, SomeReading, TilesStandAlone};
 
 /// Two readings of one stream are one.
 pub fn one_reading()
@@ -15,4 +15,10 @@ pub fn some_reading()
 /// there.
 pub fn tiles_stand_alone()
     ensures { TilesStandAlone }
+{}
+
+/// What may stand behind a front of a stream depends on what a parser that stands there knows, and a parser that
+/// passes what stands there stands behind it.
+pub fn parser_suffices()
+    ensures { ParserSuffices }
 {}
