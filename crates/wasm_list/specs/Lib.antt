@@ -5,6 +5,7 @@ pub mod Custom
 pub mod Grammar
 pub mod Kinds
 pub mod Laws
+pub mod Listing
 pub mod Reading
 pub mod Stands
 pub mod Tiling

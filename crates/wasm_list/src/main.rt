@@ -3,7 +3,10 @@
 
 mod custom;
 mod laws;
+mod lines;
 mod parser;
 mod payload;
+mod sink;
+mod source;
 
 fn main() {}
