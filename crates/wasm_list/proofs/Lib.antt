@@ -2,6 +2,7 @@ pub mod Framed
 pub mod GrammarLaws
 pub mod Headers
 pub mod Parsing
+pub mod Progress
 pub mod ReadingLaws
 pub mod StandsLaws
 pub mod Telling

@@ -265,3 +265,8 @@ stands_on p start covered s d t e =
       bodies = ap (bodies_after t.shape) s.bodies;
       left = ap (bytes_after t t.shape) s.left;
     }
+
+-- its tiles are one more
+pub stands_on-tiles : (p : Stand) (start : ℕ) (covered : List ℕ) (s : Stands p start covered) (d : List ℕ) (t : Tile) (e : verdict (grammar_of p) d ≡ tile t) → (stands_on p start covered s d t e).tiles ≡ t ∷ s.tiles
+unfolding stands_on
+stands_on-tiles p start covered s d t e = refl

@@ -6,7 +6,9 @@ pub mod Grammar
 pub mod Kinds
 pub mod Laws
 pub mod Listing
+pub mod Lists
 pub mod Reading
+pub mod Runs
 pub mod Stands
 pub mod Tiling
 pub mod Unread
