@@ -67,11 +67,11 @@ framed_sized past start id p q v r a h o n next =
     let e : number_at VarU32 p.rest ≡ read v m.used = m.reads in
     let u : unread_framed past.encoding id (start + 1) p.rest ≡ unread_ending (kind_of past.encoding id) id (p.offset + m.used + v) = rw t (rw e (ap (λ (x : ℕ). unread_ending (kind_of past.encoding id) id (x + m.used + v)) o)) in
     let at_q : (s : ℕ) → IsToldOrUnread (unread_ending (kind_of past.encoding id) id (p.offset + m.used + v)) s (advanced m.used p) (verdict (sized past (kind_of past.encoding id) id p.offset (p.offset + m.used) v) (drop m.used p.rest)) r a =
-        λ s. subst (λ (x : Place). IsToldOrUnread (unread_ending (kind_of past.encoding id) id (x.offset + v)) s x (verdict (sized past (kind_of past.encoding id) id p.offset x.offset v) x.rest) r a) m.behind (next s) in
+    λ s. subst (λ (x : Place). IsToldOrUnread (unread_ending (kind_of past.encoding id) id (x.offset + v)) s x (verdict (sized past (kind_of past.encoding id) id p.offset x.offset v) x.rest) r a) m.behind (next s) in
     let step : (s : ℕ) → IsTold s (advanced m.used p) (verdict (sized past (kind_of past.encoding id) id p.offset (p.offset + m.used) v) (drop m.used p.rest)) r a → IsTold s p (verdict (framed past start id) p.rest) r a =
-        λ s x. told_right s p (when (nat_le 128 id) (at_offset MalformedSectionId start)) _ r a (good_id start id h) (
-        subst (λ (y : ℕ). IsTold s p (verdict (number y (λ size width. sized past (kind_of past.encoding id) id y (y + width) size)) p.rest) r a) (sym o)
-        (told_number s p p.offset (λ size width. sized past (kind_of past.encoding id) id p.offset (p.offset + width) size) r a v m.used e x)) in
+    λ s x. told_right s p (when (nat_le 128 id) (at_offset MalformedSectionId start)) _ r a (good_id start id h) (
+    subst (λ (y : ℕ). IsTold s p (verdict (number y (λ size width. sized past (kind_of past.encoding id) id y (y + width) size)) p.rest) r a) (sym o)
+    (told_number s p p.offset (λ size width. sized past (kind_of past.encoding id) id p.offset (p.offset + width) size) r a v m.used e x)) in
     λ s. same_unread (unread_framed past.encoding id (start + 1) p.rest) (unread_ending (kind_of past.encoding id) id (p.offset + m.used + v)) s p _ r a u
     (unless_unread (unread_ending (kind_of past.encoding id) id (p.offset + m.used + v)) s s (advanced m.used p) p (verdict (sized past (kind_of past.encoding id) id p.offset (p.offset + m.used) v) (drop m.used p.rest)) (verdict (framed past start id) p.rest) r a (step s) (at_q s))
 
@@ -272,9 +272,9 @@ framed_at (x ∷ xs) past p q id r a z m b next s =
     let j : advanced 1 p ≡ q = ap (λ (w : ℕ × Place). w.1) y in
     let k : drop 1 p.rest ≡ xs = ap (drop 1) z in
     let here : IsToldOrUnread (unread_framed past.encoding x (p.offset + 1) (drop 1 p.rest)) s (advanced 1 p) (verdict (framed past p.offset x) (drop 1 p.rest)) r a =
-        subst₂ (λ (w : ℕ) (v : Place). IsToldOrUnread (unread_framed past.encoding w (p.offset + 1) v.rest) s v (verdict (framed past p.offset w) v.rest) r a) (sym i) (sym j) (next s) in
+    subst₂ (λ (w : ℕ) (v : Place). IsToldOrUnread (unread_framed past.encoding w (p.offset + 1) v.rest) s v (verdict (framed past p.offset w) v.rest) r a) (sym i) (sym j) (next s) in
     let there : IsToldOrUnread (unread_framed past.encoding x (p.offset + 1) xs) s (advanced 1 p) (verdict (framed past p.offset x) xs) r a =
-        subst (λ (w : List ℕ). IsToldOrUnread (unread_framed past.encoding x (p.offset + 1) w) s (advanced 1 p) (verdict (framed past p.offset x) w) r a) k here in
+    subst (λ (w : List ℕ). IsToldOrUnread (unread_framed past.encoding x (p.offset + 1) w) s (advanced 1 p) (verdict (framed past p.offset x) w) r a) k here in
     rw (← m) (unless_unread (unread_framed past.encoding x (p.offset + 1) xs) s s (advanced 1 p) p (verdict (framed past p.offset x) xs) (behind (x ∷ []) (verdict (framed past p.offset x) xs)) r a
     (told_at s p 1 (x ∷ []) (verdict (framed past p.offset x) xs) r a refl) there)
 

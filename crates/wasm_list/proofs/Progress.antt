@@ -131,7 +131,7 @@ one_tile stream taken written written' p p' rest consumed payload t g u v k h e 
     let more : (stands_on p 0 g.covered g.stands rest t v).tiles ≡ t ∷ g.stands.tiles = stands_on-tiles p 0 g.covered g.stands rest t v in
     let read : AllRead (t ∷ g.stands.tiles) gr.rest = (subst (AllRead g.stands.tiles) gr.split g.all_read, subst (λ (x : List ℕ). unread_behind g.stands.tiles x ≡ None) gr.split u') in
     let lines : Appends taken written' (listing_of (events_of 0 all_features (t ∷ g.stands.tiles))) =
-        written_more taken written written' (events_of 0 all_features g.stands.tiles) (event_of all_features (0 + length (front g.stands.tiles)) t) g.listed (subst (Appends written written') line w) in
+    written_more taken written written' (events_of 0 all_features g.stands.tiles) (event_of all_features (0 + length (front g.stands.tiles)) t) g.listed (subst (Appends written written') line w) in
     let behind : Progress stream taken written' (passed p t) gr.rest = record {
       covered = g.covered ++ t.bytes;
       stands = stands_on p 0 g.covered g.stands rest t v;
@@ -240,9 +240,9 @@ line_cut stream taken written written' first e n r p q =
     let line : List ℕ = event_line e in
     let others : List ℕ = listing_of r.more in
     let same : listing_of r.events ≡ listing_of first ++ event_line e ++ listing_of r.more =
-        ap listing_of r.begins ∙ (listing-append (first ++ e ∷ []) r.more ∙ ap (λ (x : List ℕ). x ++ listing_of r.more) (one_more first e)) in
+    ap listing_of r.begins ∙ (listing-append (first ++ e ∷ []) r.more ∙ ap (λ (x : List ℕ). x ++ listing_of r.more) (one_more first e)) in
     let split : listing_of first ++ event_line e ++ listing_of r.more ≡ (listing_of first ++ take n (event_line e)) ++ (drop n (event_line e) ++ listing_of r.more) =
-        simp append_assoc (ap (λ (x : List ℕ). listing_of first ++ x) (ap (λ (x : List ℕ). x ++ listing_of r.more) (sym (take-append-drop n (event_line e))) ∙ append_assoc (take n (event_line e)) (drop n (event_line e)) (listing_of r.more))) in
+    simp append_assoc (ap (λ (x : List ℕ). listing_of first ++ x) (ap (λ (x : List ℕ). x ++ listing_of r.more) (sym (take-append-drop n (event_line e))) ∙ append_assoc (take n (event_line e)) (drop n (event_line e)) (listing_of r.more))) in
     record {
       events = r.events;
       reading = r.reading;

@@ -10,6 +10,8 @@ mod payload;
 mod program;
 mod sink;
 mod source;
+#[cfg(test)]
+mod tests;
 
 use program::{finish, run};
 use sink::{WriteSink, write_all};

@@ -88,9 +88,7 @@ fn header<'a>(reader: &mut BinaryReader<'a>) -> Result<Payload<'a>>
             encoding,
             range: start..reader.original_position(),
         }),
-        None => Err(
-            Error::new(Fault::UnknownVersion, start + 4).with_number(u64::from(bits)),
-        ),
+        None => Err(Error::new(Fault::UnknownVersion, start + 4).with_number(u64::from(bits))),
     }
 }
 
@@ -175,9 +173,7 @@ impl Parser {
         ensures { StandsThere (unread_ending (form_of self.now.encoding id) id ((place reader.old).offset + size)) (sized_grammar (past_of self.now) (form_of self.now.encoding id) id field (place reader.old).offset size) (place reader.old) result (place reader.new) }
     {
         if u64::from(size) > u64::MAX - reader.original_position() {
-            return Err(
-                Error::new(Fault::SectionTooLarge, field).with_number(u64::from(size)),
-            );
+            return Err(Error::new(Fault::SectionTooLarge, field).with_number(u64::from(size)));
         }
         match kind_of(self.encoding(), id) {
             Kind::Custom => self.custom(id, size, reader),
@@ -219,7 +215,10 @@ impl Parser {
         let mut reader = BinaryReader::new_features(bytes, self.offset, self.features);
         let payload = self.read(&mut reader)?;
         match &payload {
-            Payload::NotYet(_) => return Ok(Chunk::Parsed { consumed: 0, payload }),
+            Payload::NotYet(_) => return Ok(Chunk::Parsed {
+                consumed: 0,
+                payload,
+            }),
             Payload::Version { encoding, .. } => self.encoding = *encoding,
             _ => {}
         }

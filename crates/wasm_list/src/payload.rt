@@ -52,7 +52,10 @@ impl<'a> fmt::Debug for Payload<'a> {
                 .field("encoding", encoding)
                 .field("range", range)
                 .finish(),
-            Payload::CustomSection(section) => f.debug_tuple("CustomSection").field(section).finish(),
+            Payload::CustomSection(section) => f
+                .debug_tuple("CustomSection")
+                .field(section)
+                .finish(),
             Payload::UnknownSection { id, range, .. } => f
                 .debug_struct("UnknownSection")
                 .field("id", id)

@@ -1,0 +1,189 @@
+// Calls of the parser.
+use crate::parser::Parser;
+use crate::payload::{Chunk, Encoding, Payload};
+use std::test::Fail;
+use wasm_base::{Error, Fault};
+
+const HEADER: &[u8] = b"\0asm\x01\0\0\0";
+
+// A parser that stands behind a module's header.
+fn behind_header(offset: u64) -> Result<Parser, Error> {
+    let mut parser = Parser::new(offset);
+    parser.parse(HEADER, true)?;
+    Ok(parser)
+}
+
+fn refusal(parser: &mut Parser, bytes: &[u8]) -> Option<Error> {
+    parser.parse(bytes, true).err()
+}
+
+#[test]
+fn a_header(rt: HostRuntime) -> Result<(), Fail> {
+    let mut parser = Parser::new(0);
+    assert_eq!(rt;
+        refusal(&mut parser, b""),
+        Some(Error::new(Fault::UnexpectedEof, 0))
+    );
+    assert_eq!(rt; parser.offset(), 0);
+    let unknown = Error::new(Fault::UnknownVersion, 4).with_number(16843009);
+    assert_eq!(rt;
+        refusal(&mut parser, b"\0asm\x01\x01\x01\x01"),
+        Some(unknown)
+    );
+    match parser.parse(HEADER, true)? {
+        Chunk::Parsed {
+            consumed,
+            payload: Payload::Version {
+                num,
+                encoding,
+                range,
+            },
+        } => {
+            assert_eq!(rt; (consumed, num, encoding), (8, 1, Encoding::Module));
+            assert_eq!(rt; range, 0..8);
+        }
+        _other => assert!(rt; false),
+    }
+    assert_eq!(rt; parser.offset(), 8);
+    Ok(())
+}
+
+#[test]
+fn the_end_again_and_again(rt: HostRuntime) -> Result<(), Fail> {
+    let mut parser = behind_header(0)?;
+    for _ in 0..3 {
+        match parser.parse(b"", true)? {
+            Chunk::Parsed {
+                consumed,
+                payload: Payload::End(at),
+            } => assert_eq!(rt; (consumed, at), (0, 8)),
+            _other => assert!(rt; false),
+        }
+    }
+    Ok(())
+}
+
+#[test]
+fn a_custom_section(rt: HostRuntime) -> Result<(), Fail> {
+    let mut parser = behind_header(0)?;
+    match parser.parse(b"\0\x01\0", true)? {
+        Chunk::Parsed {
+            consumed,
+            payload: Payload::CustomSection(section),
+        } => {
+            assert_eq!(rt; consumed, 3);
+            assert_eq!(rt; section.name(), "");
+            assert_eq!(rt; section.data_offset(), 11);
+            assert_eq!(rt; section.range(), 10..11);
+            assert_eq!(rt; section.data_range(), 11..11);
+            assert_eq!(rt; section.data(), b"".as_slice());
+            assert!(rt; section.data_reader().eof());
+        }
+        _other => assert!(rt; false),
+    }
+    assert_eq!(rt; parser.offset(), 11);
+    Ok(())
+}
+
+#[test]
+fn faults_change_nothing(rt: HostRuntime) -> Result<(), Fail> {
+    let mut parser = behind_header(0)?;
+    let rows: [(&[u8], Fault, u64); 3] = [
+        (b"\0\x01\x01", Fault::UnexpectedEof, 11),
+        (b"\0asm", Fault::MagicAtSection, 8),
+        (b"\x80", Fault::MalformedSectionId, 8),
+    ];
+    for (bytes, fault, offset) in rows {
+        assert_eq!(rt;
+            refusal(&mut parser, bytes),
+            Some(Error::new(fault, offset)),
+            "{bytes:?}"
+        );
+        assert_eq!(rt; parser.offset(), 8);
+    }
+    Ok(())
+}
+
+#[test]
+fn unknown_sections_of_a_component(rt: HostRuntime) -> Result<(), Fail> {
+    let mut parser = Parser::new(0);
+    parser.parse(b"\0asm\x0d\0\x01\0", true)?;
+    match parser.parse(b"\x01\x01\0", true)? {
+        Chunk::Parsed {
+            payload: Payload::UnknownSection {
+                id,
+                contents,
+                range,
+            },
+            ..
+        } => {
+            assert_eq!(rt; id, 1);
+            assert_eq!(rt; contents, b"\0".as_slice());
+            assert_eq!(rt; range, 10..11);
+        }
+        _other => assert!(rt; false),
+    }
+    Ok(())
+}
+
+#[test]
+fn sections_not_read_yet(rt: HostRuntime) -> Result<(), Fail> {
+    let mut parser = behind_header(0)?;
+    for section in [1, 2, 3, 4, 5, 6, 7, 8, 9, 10, 11, 12, 13] {
+        match parser.parse(&[section, 3], true)? {
+            Chunk::Parsed {
+                consumed,
+                payload: Payload::NotYet(id),
+            } => assert_eq!(rt; (consumed, id), (0, section)),
+            _other => assert!(rt; false),
+        }
+    }
+    assert_eq!(rt; parser.offset(), 8);
+    Ok(())
+}
+
+#[test]
+fn near_the_top_of_the_offsets(rt: HostRuntime) -> Result<(), Fail> {
+    let mut parser = behind_header(18446744073709551600)?;
+    let large = Error::new(Fault::SectionTooLarge, 18446744073709551609).with_number(6);
+    assert_eq!(rt; refusal(&mut parser, b"\0\x06"), Some(large));
+    let mut parser = behind_header(18446744073709551607)?;
+    assert_eq!(rt;
+        refusal(&mut parser, b"\0"),
+        Some(Error::new(Fault::OffsetRange, 18446744073709551615))
+    );
+    match parser.parse(b"", true)? {
+        Chunk::Parsed {
+            payload: Payload::End(at),
+            ..
+        } => assert_eq!(rt; at, 18446744073709551615),
+        _other => assert!(rt; false),
+    }
+    Ok(())
+}
+
+#[test]
+fn payloads_as_debug_text(rt: HostRuntime) -> Result<(), Fail> {
+    let mut parser = Parser::new(0);
+    let rows: [(&[u8], &str); 4] = [
+        (
+            HEADER,
+            "Parsed { consumed: 8, payload: Version { num: 1, encoding: Module, range: 0..8 } }",
+        ),
+        (
+            b"\0\x02\x01a",
+            "Parsed { consumed: 4, payload: CustomSection(CustomSectionReader { name: \"a\", data_offset: 12, data: \"...\", range: 10..12 }) }",
+        ),
+        (
+            b"\x0e\0",
+            "Parsed { consumed: 2, payload: UnknownSection { id: 14, range: 14..14 } }",
+        ),
+        (b"", "Parsed { consumed: 0, payload: End(14) }"),
+    ];
+    for (bytes, text) in rows {
+        let chunk = parser.parse(bytes, true)?;
+        let debug = format!(in rt.alloc(); "{chunk:?}")?;
+        assert_eq!(rt; debug.as_str(), text);
+    }
+    Ok(())
+}

@@ -1,0 +1,110 @@
+// The statuses and messages of runs.
+use super::devices::Failing;
+use crate::program::{finish, run};
+use crate::sink::{BoundedSink, Sink, WriteSink};
+use crate::source::{SliceSource, Source};
+use std::test::Fail;
+
+const MODULE: &[u8] = b"\0asm\x01\0\0\0\0\x02\x01a";
+
+#[test]
+fn runs_over_slices(rt: HostRuntime) -> Result<(), Fail> {
+    let rows: [(&[u8], u8, &[u8], &[u8]); 3] = [
+        (
+            MODULE,
+            0,
+            b"version 0 8 1 module\ncustom 10 12 12\nend 12\n",
+            b"",
+        ),
+        (
+            b"\0asm\x01\0\0\0\x80",
+            1,
+            b"version 0 8 1 module\nfault 8 malformed section id\n",
+            b"",
+        ),
+        (
+            b"\0asm\x01\0\0\0\x0a\x01\0",
+            3,
+            b"version 0 8 1 module\n",
+            b"not yet\n",
+        ),
+    ];
+    for (stream, status, lines, complaint) in rows {
+        let mut input = SliceSource::new(stream);
+        let mut output = BoundedSink::new(rt.alloc(), 200)?;
+        let mut errors = BoundedSink::new(rt.alloc(), 200)?;
+        assert_eq!(rt;
+            run(rt.alloc(), &[], &mut input, &mut output, &mut errors),
+            status,
+            "{stream:?}"
+        );
+        assert_eq!(rt; output.written(), lines, "{stream:?}");
+        assert_eq!(rt; errors.written(), complaint, "{stream:?}");
+    }
+    Ok(())
+}
+
+#[test]
+fn refuses_arguments(rt: HostRuntime) -> Result<(), Fail> {
+    let arguments = vec![in rt.alloc(); String::from_str(rt.alloc(), "strip")?]?;
+    let mut input = SliceSource::new(MODULE);
+    let mut output = BoundedSink::new(rt.alloc(), 200)?;
+    let mut errors = BoundedSink::new(rt.alloc(), 200)?;
+    let status = run(
+        rt.alloc(),
+        arguments.as_slice(),
+        &mut input,
+        &mut output,
+        &mut errors,
+    );
+    assert_eq!(rt; status, 2);
+    assert_eq!(rt; output.written(), b"".as_slice());
+    assert_eq!(rt; errors.written(), b"usage: wasm_list [strip]\n".as_slice());
+    let mut deaf = BoundedSink::new(rt.alloc(), 3)?;
+    let status = run(
+        rt.alloc(),
+        arguments.as_slice(),
+        &mut input,
+        &mut output,
+        &mut deaf,
+    );
+    assert_eq!(rt; status, 2);
+    assert_eq!(rt; deaf.written(), b"usa".as_slice());
+    Ok(())
+}
+
+#[test]
+fn says_which_device_failed(rt: HostRuntime) -> Result<(), Fail> {
+    let mut input = Failing::after(MODULE, 4, 1);
+    let mut output = BoundedSink::new(rt.alloc(), 200)?;
+    let mut errors = BoundedSink::new(rt.alloc(), 200)?;
+    assert_eq!(rt;
+        run(rt.alloc(), &[], &mut input, &mut output, &mut errors),
+        3
+    );
+    assert_eq!(rt; errors.written(), b"input failed\n".as_slice());
+    assert!(rt; input.failed() && !output.failed());
+
+    let mut input = SliceSource::new(MODULE);
+    let mut output = BoundedSink::new(rt.alloc(), 24)?;
+    let mut errors = BoundedSink::new(rt.alloc(), 200)?;
+    assert_eq!(rt;
+        run(rt.alloc(), &[], &mut input, &mut output, &mut errors),
+        3
+    );
+    assert_eq!(rt; errors.written(), b"output failed\n".as_slice());
+    assert_eq!(rt; output.written(), b"version 0 8 1 module\ncus".as_slice());
+    assert!(rt; output.failed() && !input.failed());
+    Ok(())
+}
+
+#[test]
+fn finishes_by_flushing(rt: HostRuntime) -> Result<(), Fail> {
+    let mut output = WriteSink::new(Vec::<u8>::new(rt.alloc()));
+    let mut errors = BoundedSink::new(rt.alloc(), 20)?;
+    for status in 0..4 {
+        assert_eq!(rt; finish(status, &mut output, &mut errors), status);
+    }
+    assert_eq!(rt; errors.written(), b"".as_slice());
+    Ok(())
+}
