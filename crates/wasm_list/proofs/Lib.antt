@@ -7,3 +7,4 @@ pub mod ReadingLaws
 pub mod StandsLaws
 pub mod Telling
 pub mod TileLaws
+pub mod WorkedLaws

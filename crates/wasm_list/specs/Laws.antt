@@ -1,7 +1,9 @@
 -- Laws of the definitions of framing.
-use Rattle.std.specs.Prelude.{◌≡◌, ℕ, ◌<◌, List, ◌++◌, length}
+use Rattle.std.specs.Prelude.{◌≡◌, ℕ, ◌+◌, ◌^◌, ◌<◌, ◌↔◌, List, ◌++◌, length}
+use Rattle.wasm_list.specs.Accepted.{IsAccepted}
+use Rattle.wasm_list.specs.Content.{ended}
 use Rattle.wasm_list.specs.Grammar.{Tile, tile, verdict}
-use Rattle.wasm_list.specs.Reading.{Event, Reading}
+use Rattle.wasm_list.specs.Reading.{Event, Reads, Reading}
 use Rattle.wasm_list.specs.Stands.{Stand, Stands, grammar_of, passed}
 use Rattle.wasm_list.specs.Tiling.{grammar, Faultless}
 
@@ -24,3 +26,8 @@ abbrev pub ParserSuffices : Type 0
 ParserSuffices = (parser : Stand) (start : ℕ) (covered : List ℕ) (s : Stands parser start covered) →
     (grammar_of parser ≡ grammar start s.tiles)
     × ((rest : List ℕ) (t : Tile) → verdict (grammar_of parser) rest ≡ tile t → Stands (passed parser t) start (covered ++ t.bytes))
+
+-- the reading of a stream ends at its end exactly if the stream is accepted
+abbrev pub AcceptedEnds : Type 0
+AcceptedEnds = (stream : List ℕ) (start : ℕ) → start + length stream < 2 ^ 64
+    → IsAccepted stream ↔ ((tiles : List Tile) × Reads stream start tiles (ended (start + length stream)))

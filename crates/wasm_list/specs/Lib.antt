@@ -1,3 +1,4 @@
+pub mod Accepted
 pub mod Answers
 pub mod Content
 pub mod ContentAt
@@ -13,3 +14,4 @@ pub mod Stands
 pub mod Tiling
 pub mod Unread
 pub mod Waiting
+pub mod Worked

@@ -1,4 +1,5 @@
 //! Laws of the definitions of framing, each the contract of a function that does nothing.
+ghost use Rattle.wasm_list.specs.Worked.{WorkedStreams};
 ghost use Rattle.wasm_list.specs.Laws.{OneReading, ParserSuffices, SomeReading, TilesStandAlone};
 
 /// Two readings of one stream are one.
@@ -21,4 +22,9 @@ pub fn tiles_stand_alone()
 /// passes what stands there stands behind it.
 pub fn parser_suffices()
     ensures { ParserSuffices }
+{}
+
+/// Worked streams have the readings that were computed by hand.
+pub fn worked_streams()
+    ensures { WorkedStreams }
 {}
