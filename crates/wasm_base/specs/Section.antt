@@ -93,6 +93,11 @@ SameItems meaning (Ok x ∷ xs) (Err f ∷ ys) = ⊥
 SameItems meaning (Err e ∷ xs) (Ok y ∷ ys) = ⊥
 SameItems meaning (Err e ∷ xs) (Err f ∷ ys) = (e ≡ f) × SameItems meaning xs ys
 
+-- Two iterators give the same items and the same fault, each by a relation that its calls of `next` meet; views say
+-- what counts of what they give.
+abbrev pub GivesTheSame : {T A B : Type 0} → (Place → Outcome T → Type 0) → (Items → Option A → Items → Type 0) → (A → Result T FaultAt) → Items → (Items → Option B → Items → Type 0) → (B → Result T FaultAt) → Items → Type 0
+GivesTheSame {T} {A} {B} meaning next view s others_next others_view t = (given : List A) (others : List B) → Drains next s given → Drains others_next t others → SameItems meaning (map view given) (map others_view others)
+
 -- as an item that was read
 abbrev pub as_read : {T : Type 0} → T → Result T FaultAt
 as_read x = Ok x
@@ -102,6 +107,10 @@ abbrev pub fault_of : {T X : Type 0} → Result X Error → List (Result T Fault
 fault_of (Ok x) = []
 fault_of (Err e) = Err (fault_at e) ∷ []
 
--- The items of the window can all be read, and nothing is left behind them; or this is their fault.
+-- Some items of the window can be read, and this is what comes behind them.
+abbrev pub WalksTo : {T : Type 0} → (Place → Outcome T → Type 0) → ℕ → Place → List (Result T FaultAt) → Type 0
+WalksTo {T} meaning count p end = (items : List T) × ItemsOf meaning count p (map as_read items ++ end)
+
+-- The announced items can all be read, and nothing is left behind them; or this is the first fault.
 abbrev pub Walks : {T X : Type 0} → (Place → Outcome T → Type 0) → ℕ → Place → Result X Error → Type 0
-Walks {T} meaning count p result = (items : List T) × ItemsOf meaning count p (map as_read items ++ fault_of result)
+Walks meaning count p result = WalksTo meaning count p (fault_of result)

@@ -6,6 +6,7 @@ mod error;
 mod fault;
 mod features;
 mod item;
+pub mod laws;
 mod number;
 mod reader;
 mod section;
