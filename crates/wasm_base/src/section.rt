@@ -108,7 +108,8 @@ impl<'a, T> SectionLimited<'a, T> {
     pub fn into_iter_with_offsets(self) -> SectionLimitedIntoIterWithOffsets<'a, T>
     where
         T: FromReader<'a>,
-        ensures { result ≡ all_items self.entry }
+        ensures items { result ≡ all_items self.entry }
+        ensures fits { self.entry.count < 2 ^ 32 }
     {
         SectionLimitedIntoIterWithOffsets {
             items: self.into_iter(),
@@ -121,7 +122,8 @@ impl<'a, T: FromReader<'a>> IntoIterator for SectionLimited<'a, T> {
 
     type IntoIter = SectionLimitedIntoIter<'a, T>;
 
-    ghost into_iter_gives = { λ section items. items ≡ all_items section };
+    // The bound on the count lets a loop add up what it reads.
+    ghost into_iter_gives = { λ section items. (items ≡ all_items section) × (section.count < 2 ^ 32) };
 
     fn into_iter(self) -> SectionLimitedIntoIter<'a, T> {
         let SectionLimited {

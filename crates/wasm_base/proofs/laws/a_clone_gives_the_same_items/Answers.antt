@@ -4,4 +4,4 @@ use Rattle.wasm_base.proofs.OneOutcome.{runs_give_the_same}
 use Rattle.wasm_base.proofs.laws.a_clone_gives_the_same_items.Goals as goal
 
 pub returns : goal.returns
-returns g c one section copy same s t s_is t_is = runs_give_the_same g.T.FromReader.meaning one s t (t_is ∙ ap all_items same ∙ sym s_is)
+returns g c one section copy same s t s_is t_is = runs_give_the_same g.T.FromReader.meaning one s t (t_is.0 ∙ ap all_items same ∙ sym s_is.0)
