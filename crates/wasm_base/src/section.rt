@@ -126,17 +126,10 @@ impl<'a, T: FromReader<'a>> IntoIterator for SectionLimited<'a, T> {
     ghost into_iter_gives = { λ section items. (items ≡ all_items section) × (section.count < 2 ^ 32) };
 
     fn into_iter(self) -> SectionLimitedIntoIter<'a, T> {
-        let SectionLimited {
-            reader,
-            count,
-            item,
-        } = self;
         SectionLimitedIntoIter {
-            reader,
-            count,
-            left: count,
+            left: self.count,
+            section: self,
             ended: false,
-            item,
         }
     }
 }
@@ -157,11 +150,9 @@ impl<'a, T> From<SectionLimitedIntoIter<'a, T>> for SectionLimited<'a, T> {
 /// follows, at the first of them. Behind that, and behind an item's fault, nothing comes.
 #[derive(Debug)]
 pub struct SectionLimitedIntoIter<'a, T> {
-    reader: BinaryReader<'a>,
-    count: u32,
+    section: SectionLimited<'a, T>,
     left: u32,
     ended: bool,
-    item: PhantomData<T>,
 }
 
 impl<'a, T> Model for SectionLimitedIntoIter<'a, T> {
@@ -169,17 +160,15 @@ impl<'a, T> Model for SectionLimitedIntoIter<'a, T> {
 
     ghost Value = { Items };
 
-    ghost view = { λ s. record { reader = s.reader; count = s.count; left = s.left; ended = s.ended } };
+    ghost view = { λ s. record { reader = s.section.reader; count = s.section.count; left = s.left; ended = s.ended } };
 }
 
 impl<'a, T> Drop for SectionLimitedIntoIter<'a, T> {
     fn drop(self) {
         let SectionLimitedIntoIter {
-            reader: _,
-            count: _,
+            section: _,
             left: _,
             ended: _,
-            item: _,
         } = self;
     }
 }
@@ -191,11 +180,9 @@ impl<'a, T: Clone> Clone for SectionLimitedIntoIter<'a, T> {
 
     fn clone(&self) -> std::result::Result<Self, AllocError> {
         Ok(SectionLimitedIntoIter {
-            reader: self.reader.clone()?,
-            count: self.count,
+            section: self.section.clone()?,
             left: self.left,
             ended: self.ended,
-            item: PhantomData,
         })
     }
 }
@@ -206,7 +193,7 @@ impl<'a, T> SectionLimitedIntoIter<'a, T> {
         ensures offset { result ≡ (place self.now.reader).offset }
         ensures fits { result + length (place self.now.reader).rest < 2 ^ 64 }
     {
-        self.reader.original_position()
+        self.section.original_position()
     }
 
     // The section, its reader where the iterator stands.
@@ -214,17 +201,11 @@ impl<'a, T> SectionLimitedIntoIter<'a, T> {
         ensures { result ≡ record { reader = self.entry.reader; count = self.entry.count } }
     {
         let SectionLimitedIntoIter {
-            reader,
-            count,
+            section,
             left: _,
             ended: _,
-            item,
         } = self;
-        SectionLimited {
-            reader,
-            count,
-            item,
-        }
+        section
     }
 }
 
@@ -241,13 +222,13 @@ impl<'a, T: FromReader<'a>> Iterator for SectionLimitedIntoIter<'a, T> {
         }
         if self.left == 0 {
             self.ended = true;
-            if self.reader.eof() {
+            if self.section.reader.eof() {
                 return None;
             }
-            return Some(Err(Error::new(Fault::SizeMismatch, self.reader.original_position())));
+            return Some(Err(Error::new(Fault::SizeMismatch, self.original_position())));
         }
         self.left -= 1;
-        let item = T::from_reader(&mut self.reader);
+        let item = T::from_reader(&mut self.section.reader);
         self.ended = item.is_err();
         Some(item)
     }
