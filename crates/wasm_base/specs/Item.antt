@@ -37,8 +37,12 @@ bool_at p = do
   byte ← byte_at p
   truth_of byte byte.0
 
+-- A meaning allows one outcome at each place, the value and all.
+pub record Determines {T : Type 0} (meaning : Place → Outcome T → Type 0) : Type 0 where
+  pub one : (p : Place) (a b : Outcome T) → meaning p a → meaning p b → a ≡ b
+
 -- Wherever a meaning allows one of two values, it allows the other: it knows no difference between them. References
--- to the same text are alike in this way.
+-- to the same text are alike in this way, though they need not be equal.
 abbrev pub Alike : {T : Type 0} → (Place → Outcome T → Type 0) → T → T → Type 0
 Alike meaning x y = (p q : Place) → meaning p (Ok (x, q)) ↔ meaning p (Ok (y, q))
 
@@ -49,6 +53,6 @@ SameOutcome meaning (Ok x) (Err e) = ⊥
 SameOutcome meaning (Err e) (Ok y) = ⊥
 SameOutcome meaning (Err e) (Err f) = e ≡ f
 
--- A meaning allows one outcome at each place.
+-- A meaning allows one outcome at each place, as far as it knows a difference.
 pub record AllowsOne {T : Type 0} (meaning : Place → Outcome T → Type 0) : Type 0 where
   pub one : (p : Place) (a b : Outcome T) → meaning p a → meaning p b → SameOutcome meaning a b

@@ -83,12 +83,16 @@ pub record GivesItems {T : Type 0} (next : Items → Option (Result T Error) →
   pub at_most : (given : List (Result T Error)) → Drains next s given → length given ≤ most_items s
   pub behind : (t u : Items) (given : Option (Result T Error)) → next s None t → next t given u → given ≡ None
 
--- item by item alike, and the same faults
+-- Both were read from one place to another, and the meaning knows no difference between them.
+abbrev pub SameItem : {T : Type 0} → (Place → Outcome T → Type 0) → T → T → Type 0
+SameItem meaning x y = ((p : Place) × (q : Place) × meaning p (Ok (x, q)) × meaning p (Ok (y, q))) × Alike meaning x y
+
+-- item by item the same, and the same faults
 abbrev pub SameItems : {T : Type 0} → (Place → Outcome T → Type 0) → List (Result T FaultAt) → List (Result T FaultAt) → Type 0
 SameItems meaning [] [] = Unit {0}
 SameItems meaning [] (y ∷ ys) = ⊥
 SameItems meaning (x ∷ xs) [] = ⊥
-SameItems meaning (Ok x ∷ xs) (Ok y ∷ ys) = Alike meaning x y × SameItems meaning xs ys
+SameItems meaning (Ok x ∷ xs) (Ok y ∷ ys) = SameItem meaning x y × SameItems meaning xs ys
 SameItems meaning (Ok x ∷ xs) (Err f ∷ ys) = ⊥
 SameItems meaning (Err e ∷ xs) (Ok y ∷ ys) = ⊥
 SameItems meaning (Err e ∷ xs) (Err f ∷ ys) = (e ≡ f) × SameItems meaning xs ys
@@ -97,6 +101,10 @@ SameItems meaning (Err e ∷ xs) (Err f ∷ ys) = (e ≡ f) × SameItems meaning
 -- what counts of what they give.
 abbrev pub GivesTheSame : {T A B : Type 0} → (Place → Outcome T → Type 0) → (Items → Option A → Items → Type 0) → (A → Result T FaultAt) → Items → (Items → Option B → Items → Type 0) → (B → Result T FaultAt) → Items → Type 0
 GivesTheSame {T} {A} {B} meaning next view s others_next others_view t = (given : List A) (others : List B) → Drains next s given → Drains others_next t others → SameItems meaning (map view given) (map others_view others)
+
+-- They give lists that are equal.
+abbrev pub GivesEqual : {T A B : Type 0} → (Items → Option A → Items → Type 0) → (A → Result T FaultAt) → Items → (Items → Option B → Items → Type 0) → (B → Result T FaultAt) → Items → Type 0
+GivesEqual {T} {A} {B} next view s others_next others_view t = (given : List A) (others : List B) → Drains next s given → Drains others_next t others → map view given ≡ map others_view others
 
 -- as an item that was read
 abbrev pub as_read : {T : Type 0} → T → Result T FaultAt

@@ -18,7 +18,7 @@ pub trait FromReader<'a>: Sized + Drop {
     /// What reading from a place may come to: a value and the place behind it, or a fault.
     ghost meaning: { Place → Outcome Self → Type 0 };
 
-    /// Reads an item. It never answers `OutOfMemory`.
+    /// Reads an item.
     ///
     /// After a fault the reader stands in its window, and not before where it was.
     fn from_reader(reader: &mut BinaryReader<'a>) -> Result<Self>
