@@ -1,7 +1,7 @@
 -- A loop over the items of a section.
-use Rattle.std.proofs.Common.{◌≡◌, ℕ, zero, suc, true, false, List, [], ◌∷◌, length, Some, None, Result, Ok, Err, refl, arith}
+use Rattle.std.proofs.Common.{◌≡◌, ℕ, zero, suc, true, false, List, [], ◌∷◌, length, Some, Result, Ok, Err, refl, arith}
 use Rattle.std.specs.Prelude.{nat_lt}
-use Rattle.std.proofs.lemmas.Bool.{le-ltb, lt-ltb}
+use Rattle.std.proofs.lemmas.Bool.{lt-ltb}
 use Rattle.wasm_base.specs.FaultAt.{FaultAt, fault_at}
 use Rattle.wasm_base.specs.Outcome.{Outcome}
 use Rattle.wasm_base.specs.Section.{Items, NextItem, ReadsItem, ItemsOf, WalksTo}
@@ -32,20 +32,7 @@ module _ {T : Type 0} (meaning : Place → Outcome T → Type 0) where
           rw (test, last.1) refl
       by_left (suc n) k = ((next.item going (omega (arith, k))).0, refl)
 
-  -- the turn that gave nothing
-  pub none_came : (s t : Items) → s.ended ≡ false → NextItem meaning s None t → ItemsOf meaning s.left (place s.reader) []
-  none_came s t going next = by_left s.left refl
-    where
-      by_left : (n : ℕ) → s.left ≡ n → ItemsOf meaning n (place s.reader) []
-      by_left zero k =
-          let test : nat_lt 0 (length (place s.reader).rest) ≡ false = le-ltb _ _ (omega (arith, (next.last going k).0)) in
-          rw test refl
-      by_left (suc n) k = absurd (next.item going (omega (arith, k)))
-
-  pub not_begun : (count : ℕ) (before : Place) → Walked meaning count before count before
-  not_begun count before = record { whole = λ end h. h }
-
-  -- The walk goes on.
+  -- The walk goes on behind an item.
   pub after_item : (count : ℕ) (before : Place) (s t : Items) (x : T) → Walked meaning count before s.left (place s.reader) → s.ended ≡ false → NextItem meaning s (Some (Ok x)) t → (t.ended ≡ false) × Walked meaning count before t.left (place t.reader)
   after_item count before s t x walked going next =
       let item = item_came s t x going next in
@@ -53,8 +40,6 @@ module _ {T : Type 0} (meaning : Place → Outcome T → Type 0) where
       let w : Walked meaning count before (suc t.left) (place s.reader) = rw k at walked in
       (item.2, record { whole = λ end h. w.whole end (x ∷ h.0, (place t.reader, item.0, h.1)) })
 
+  -- The walk ends at a fault.
   pub at_a_fault : (count : ℕ) (before : Place) (s t : Items) (e : Error) → Walked meaning count before s.left (place s.reader) → s.ended ≡ false → NextItem meaning s (Some (Err e)) t → WalksTo meaning count before (Err (fault_at e) ∷ [])
   at_a_fault count before s t e walked going next = walked.whole _ ([], fault_came s t e going next)
-
-  pub at_the_last : (count : ℕ) (before : Place) (s t : Items) → Walked meaning count before s.left (place s.reader) → s.ended ≡ false → NextItem meaning s None t → WalksTo meaning count before []
-  at_the_last count before s t walked going next = walked.whole _ ([], none_came s t going next)

@@ -19,7 +19,14 @@ use std::ops::Range;
 
 /// A window that begins with a count of items.
 ///
-/// `new` reads the count alone: each item is read when an iterator comes to it.
+/// `new` reads the count alone: each item is read when an iterator comes to it. A loop takes the items, and the first
+/// fault in their place:
+///
+/// ```text
+/// for item in section {
+///     let item = item?;
+/// }
+/// ```
 pub struct SectionLimited<'a, T> {
     reader: BinaryReader<'a>,
     count: u32,

@@ -1,5 +1,5 @@
 -- A loop that adds up the numbers of a section.
-use Rattle.std.proofs.Common.{◌≡◌, ℕ, zero, suc, ◌+◌, Bool, true, false, cond, List, [], ◌∷◌, length, Some, None, Result, Ok, Err, refl, ap, ◌∙◌, arith}
+use Rattle.std.proofs.Common.{◌≡◌, ℕ, zero, suc, ◌+◌, Bool, true, false, cond, [], ◌∷◌, length, Some, Result, Ok, Err, refl, ap, ◌∙◌, arith}
 use Rattle.std.specs.Prelude.{nat_lt}
 use Rattle.wasm_base.specs.FaultAt.{FaultAt, fault_at, at_offset}
 use Rattle.wasm_base.specs.Item.{ReadsAs}
@@ -10,12 +10,8 @@ use Rattle.wasm_base.specs.Window.{Place, place}
 use Rattle.wasm_base.specs.declared.error.Error.{Error}
 use Rattle.wasm_base.specs.declared.fault.Fault.TheVariants.{SizeMismatch}
 use Rattle.wasm_base.specs.declared.fault.NumberKind.TheVariants.{VarU32}
-use Rattle.wasm_base.proofs.Walks.{item_came, fault_came, none_came}
+use Rattle.wasm_base.proofs.Walks.{item_came, fault_came}
 use Rattle.wasm_uses.specs.Totals.{total_at, plus}
-
-pub plus_zero : (r : Result ℕ FaultAt) → plus 0 r ≡ r
-plus_zero (Ok n) = ap Ok (omega arith)
-plus_zero (Err e) = refl
 
 plus_twice : (m n : ℕ) (r : Result ℕ FaultAt) → plus m (plus n r) ≡ plus (m + n) r
 plus_twice m n (Ok k) = ap Ok (omega arith)
@@ -46,17 +42,3 @@ fault_total (suc left) p f h = rw h.0 refl
 -- the turn that gave a fault
 pub at_a_fault : (all : Result ℕ FaultAt) (s t : Items) (total : ℕ) (e : Error) → all ≡ plus total (total_at s.left (place s.reader)) → s.ended ≡ false → NextItem numbers s (Some (Err e)) t → all ≡ Err (fault_at e)
 at_a_fault all s t total e so_far going next = rw (fault_total s.left (place s.reader) (fault_at e) (fault_came numbers s t e going next)) at so_far
-
-none_total : (left : ℕ) (p : Place) → ItemsOf numbers left p [] → total_at left p ≡ Ok 0
-none_total zero p h = by_rest (nat_lt 0 (length p.rest)) h
-  where
-    by_rest : (b : Bool) → (let x : List (Result ℕ FaultAt) = [] in x) ≡ cond b (Err (at_offset SizeMismatch p.offset) ∷ []) [] → (let x : Result ℕ FaultAt = cond b (Err (at_offset SizeMismatch p.offset)) (Ok 0) in x) ≡ Ok 0
-    by_rest true e = cc
-    by_rest false e = refl
-none_total (suc left) p h = absurd h
-
--- the turn that gave nothing
-pub at_the_last : (all : Result ℕ FaultAt) (s t : Items) (total : ℕ) → all ≡ plus total (total_at s.left (place s.reader)) → s.ended ≡ false → NextItem numbers s None t → all ≡ Ok total
-at_the_last all s t total so_far going next =
-    let end : all ≡ Ok (total + 0) = rw (none_total s.left (place s.reader) (none_came numbers s t going next)) at so_far in
-    end ∙ ap Ok (omega arith)
