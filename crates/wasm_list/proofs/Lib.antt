@@ -1,0 +1,9 @@
+pub mod Framed
+pub mod GrammarLaws
+pub mod Headers
+pub mod Parsing
+pub mod Progress
+pub mod ReadingLaws
+pub mod StandsLaws
+pub mod Telling
+pub mod TileLaws

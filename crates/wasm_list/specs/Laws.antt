@@ -1,0 +1,26 @@
+-- Laws of the definitions of framing.
+use Rattle.std.specs.Prelude.{◌≡◌, ℕ, ◌<◌, List, ◌++◌, length}
+use Rattle.wasm_list.specs.Grammar.{Tile, tile, verdict}
+use Rattle.wasm_list.specs.Reading.{Event, Reading}
+use Rattle.wasm_list.specs.Stands.{Stand, Stands, grammar_of, passed}
+use Rattle.wasm_list.specs.Tiling.{grammar, Faultless}
+
+-- two readings of one stream are one
+abbrev pub OneReading : Type 0
+OneReading = (stream : List ℕ) (start features : ℕ) (xs ys : List Event) → Reading stream start features xs → Reading stream start features ys → xs ≡ ys
+
+-- every stream has a reading
+abbrev pub SomeReading : Type 0
+SomeReading = (stream : List ℕ) (start features : ℕ) → (events : List Event) × Reading stream start features events
+
+-- what a tile is depends on its own bytes alone, of which there is at least one
+abbrev pub TilesStandAlone : Type 0
+TilesStandAlone = (start : ℕ) (tiles : List Tile) (rest : List ℕ) (t : Tile) → Faultless start tiles → verdict (grammar start tiles) rest ≡ tile t
+    → (0 < length t.bytes) × ((more : List ℕ) → verdict (grammar start tiles) (t.bytes ++ more) ≡ tile t) × ((others : List ℕ) × (rest ≡ t.bytes ++ others))
+
+-- what may stand behind a front depends on what a parser that stands there knows, and a parser that passes what stands
+-- there stands behind it
+abbrev pub ParserSuffices : Type 0
+ParserSuffices = (parser : Stand) (start : ℕ) (covered : List ℕ) (s : Stands parser start covered) →
+    (grammar_of parser ≡ grammar start s.tiles)
+    × ((rest : List ℕ) (t : Tile) → verdict (grammar_of parser) rest ≡ tile t → Stands (passed parser t) start (covered ++ t.bytes))

@@ -1,0 +1,15 @@
+pub mod Answers
+pub mod Content
+pub mod ContentAt
+pub mod Custom
+pub mod Grammar
+pub mod Kinds
+pub mod Laws
+pub mod Listing
+pub mod Lists
+pub mod Reading
+pub mod Runs
+pub mod Stands
+pub mod Tiling
+pub mod Unread
+pub mod Waiting

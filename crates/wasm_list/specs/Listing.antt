@@ -1,0 +1,49 @@
+-- The listing of a reading: a line for each event.
+use Rattle.std.specs.Prelude.{ℕ, ◌+◌, List, [], ◌++◌, length, codes, decimal, Option, Some, None}
+use Rattle.std.specs.List.{flat_map}
+use Rattle.wasm_base.specs.Message.{message_of}
+use Rattle.wasm_base.specs.Window.{Window}
+use Rattle.wasm_list.specs.Reading.{Told, version, counted, start_section, data_count_section, code_start, code_entry, custom_section, unknown_section, stopped, ending, Event}
+use Rattle.wasm_list.specs.declared.payload.Encoding.{Encoding}
+use Rattle.wasm_list.specs.declared.payload.Encoding.TheVariants.{Module, Component}
+
+-- a blank and a number, before the rest of a line
+abbrev pub field : ℕ → List ℕ → List ℕ
+field n rest = codes " " ++ (decimal n ++ rest)
+
+-- the offsets of a window, before the rest of a line
+abbrev pub window_fields : Window → List ℕ → List ℕ
+window_fields window rest = field window.start (field (window.start + length window.bytes) rest)
+
+abbrev pub encoding_name : Encoding → List ℕ
+encoding_name Module = codes "module"
+encoding_name Component = codes "component"
+
+-- the number of a fault, where it has one, before the rest of a line
+abbrev pub fault_number : Option ℕ → List ℕ → List ℕ
+fault_number None rest = rest
+fault_number (Some n) rest = codes ": " ++ (decimal n ++ rest)
+
+-- the line of what is told, which ends with a line feed
+unfoldable pub line_of : Told → List ℕ
+line_of (version num encoding from to) = codes "version" ++ field from (field to (field num (codes " " ++ (encoding_name encoding ++ codes "\n"))))
+line_of (counted id count window) = codes "section" ++ field id (window_fields window (field count (codes "\n")))
+line_of (start_section func from to) = codes "start" ++ field from (field to (field func (codes "\n")))
+line_of (data_count_section count from to) = codes "datacount" ++ field from (field to (field count (codes "\n")))
+line_of (code_start count from to size) = codes "code" ++ field from (field to (field count (field size (codes "\n"))))
+line_of (code_entry window) = codes "body" ++ window_fields window (codes "\n")
+line_of (custom_section name data_offset window) = codes "custom" ++ window_fields window (field data_offset (codes "\n"))
+line_of (unknown_section id contents from to) = codes "unknown" ++ field id (field from (field to (codes "\n")))
+line_of (stopped f) = codes "fault" ++ field f.offset (codes " " ++ (message_of f.fault ++ fault_number f.number (codes "\n")))
+line_of (ending offset) = codes "end" ++ field offset (codes "\n")
+
+-- the line of what a payload tells, if it tells anything
+abbrev pub line_if : Option Told → List ℕ
+line_if None = []
+line_if (Some told) = line_of told
+
+abbrev pub event_line : Event → List ℕ
+event_line e = line_of e.told
+
+abbrev pub listing_of : List Event → List ℕ
+listing_of events = flat_map event_line events

@@ -1,0 +1,24 @@
+//! Laws of the definitions of framing, each the contract of a function that does nothing.
+ghost use Rattle.wasm_list.specs.Laws.{OneReading, ParserSuffices, SomeReading, TilesStandAlone};
+
+/// Two readings of one stream are one.
+pub fn one_reading()
+    ensures { OneReading }
+{}
+
+/// Every stream has a reading.
+pub fn some_reading()
+    ensures { SomeReading }
+{}
+
+/// What a tile is depends on its own bytes alone: it stands behind the same tiles in every stream that has its bytes
+/// there.
+pub fn tiles_stand_alone()
+    ensures { TilesStandAlone }
+{}
+
+/// What may stand behind a front of a stream depends on what a parser that stands there knows, and a parser that
+/// passes what stands there stands behind it.
+pub fn parser_suffices()
+    ensures { ParserSuffices }
+{}

@@ -1,0 +1,59 @@
+// The lines of a listing.
+ghost use Rattle.std.specs.Prelude.{◌≡◌, Some, IfOk, string_bytes};
+ghost use Rattle.wasm_base.specs.FaultAt.{fault_at};
+ghost use Rattle.wasm_list.specs.Answers.{told_by};
+ghost use Rattle.wasm_list.specs.Listing.{encoding_name as name_of, line_of, line_if};
+ghost use Rattle.wasm_list.specs.Reading.{stopped};
+
+use crate::payload::{Encoding, Payload};
+use std::alloc::{AllocError, Global};
+use wasm_base::Error;
+
+fn encoding_name(encoding: Encoding) -> &'static str
+    ensures { result.now ≡ name_of encoding }
+{
+    match encoding {
+        Encoding::Module => "module",
+        Encoding::Component => "component",
+    }
+}
+
+/// The line of a payload. A section that isn't read yet has none.
+#[tactic(auto, unfolding(crate::specs::Listing::line_of))]
+pub(crate) fn payload_line(alloc: Global, payload: &Payload) -> Result<String, AllocError>
+    ensures { IfOk result (λ line. string_bytes line ≡ line_if (told_by payload.now)) }
+{
+    match payload {
+        Payload::Version {
+            num,
+            encoding,
+            range,
+        } => {
+            let (start, end, name) = (range.start, range.end, encoding_name(*encoding));
+            format!(in alloc; "version {start} {end} {num} {name}\n")
+        }
+        Payload::CustomSection(section) => {
+            let (range, data_offset) = (section.range(), section.data_offset());
+            let (start, end) = (range.start, range.end);
+            format!(in alloc; "custom {start} {end} {data_offset}\n")
+        }
+        Payload::UnknownSection { id, range, .. } => {
+            let (start, end) = (range.start, range.end);
+            format!(in alloc; "unknown {id} {start} {end}\n")
+        }
+        Payload::NotYet(_) => Ok(String::new(alloc)),
+        Payload::End(offset) => format!(in alloc; "end {offset}\n"),
+    }
+}
+
+/// The line of a fault.
+#[tactic(auto, unfolding(crate::specs::Listing::line_of))]
+pub(crate) fn fault_line(alloc: Global, error: &Error) -> Result<String, AllocError>
+    ensures { IfOk result (λ line. string_bytes line ≡ line_of (stopped (fault_at error.now))) }
+{
+    let (offset, message) = (error.offset(), error.message());
+    match error.number() {
+        Some(number) => format!(in alloc; "fault {offset} {message}: {number}\n"),
+        None => format!(in alloc; "fault {offset} {message}\n"),
+    }
+}
