@@ -1,3 +1,6 @@
 pub mod NumberLaws
 pub mod Numbers
+pub mod OneOutcome
+pub mod Runs
 pub mod Texts
+pub mod Walks

@@ -2,9 +2,11 @@ pub mod FaultAt
 pub mod Found
 pub mod Groups
 pub mod Header
+pub mod Item
 pub mod Message
 pub mod Name
 pub mod Number
 pub mod Outcome
+pub mod Section
 pub mod TextOf
 pub mod Window

@@ -5,12 +5,17 @@
 mod error;
 mod fault;
 mod features;
+mod item;
+pub mod laws;
 mod number;
 mod reader;
+mod section;
 #[cfg(test)]
 mod tests;
 
 pub use error::{Error, Result};
 pub use fault::{CoreStart, Fault, Lead, NumberKind};
 pub use features::WasmFeatures;
+pub use item::FromReader;
 pub use reader::{BinaryReader, fits};
+pub use section::{SectionLimited, SectionLimitedIntoIter, SectionLimitedIntoIterWithOffsets};

@@ -4,6 +4,7 @@ ghost use Rattle.std.specs.Int.RustNames.{bit_and};
 ghost use Rattle.wasm_base.specs.FaultAt.{fault_at, at_offset};
 ghost use Rattle.wasm_base.specs.Groups.{sum_bound};
 ghost use Rattle.wasm_base.specs.Header.{agree, magic, header_version_at};
+ghost use Rattle.wasm_base.specs.Item.{Means};
 ghost use Rattle.wasm_base.specs.Name.{bytes_at, byte_at, peeked_at, peeked_byte_at, u32_at, name_limit, text_at, window_at};
 ghost use Rattle.wasm_base.specs.TextOf.{text_of};
 ghost use Rattle.wasm_base.specs.Number.{unsigned_at};
@@ -15,6 +16,7 @@ ghost use Rattle.wasm_base.specs.declared.fault.NumberKind.TheVariants.{VarU32};
 use crate::error::{Error, Result};
 use crate::fault::{Fault, NumberKind};
 use crate::features::WasmFeatures;
+use crate::item::FromReader;
 use crate::number::{Found, number_in};
 use bitflags::Flags;
 use std::alloc::AllocError;
@@ -165,7 +167,8 @@ impl<'a> BinaryReader<'a> {
     pub fn memory64(&self) -> bool
         ensures { result ≡ (bit_and self.now.features 1 == 1) }
     {
-        self.features.contains(WasmFeatures::MEMORY64)
+        let features = self.features;
+        features.contains(WasmFeatures::MEMORY64)
     }
 
     // Passes over bytes that are there.
@@ -337,6 +340,14 @@ impl<'a> BinaryReader<'a> {
         let start = self.original_position();
         let bytes = self.read_bytes(size as usize)?;
         Ok(BinaryReader::new_features(bytes, start, self.features))
+    }
+
+    /// Reads an item, with the faults of its type.
+    pub fn read<T: FromReader<'a>>(&mut self) -> Result<T>
+        ensures means { Means T.meaning (place self.old) result (place self.new) }
+        ensures keeps { KeepsWindow self.old self.new }
+    {
+        T::from_reader(self)
     }
 
     /// Reads the magic and the 32 bits behind it, of which the lower 16 are the version and the upper 16 the kind

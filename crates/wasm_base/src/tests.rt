@@ -1,4 +1,6 @@
 // Worked examples, and each public call once.
+mod sections;
+
 use crate::{BinaryReader, CoreStart, Error, Fault, Lead, NumberKind, WasmFeatures, fits};
 use bitflags::Flags;
 use std::test::Fail;

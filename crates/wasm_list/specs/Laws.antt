@@ -1,10 +1,11 @@
 -- Laws of the definitions of framing.
-use Rattle.std.specs.Prelude.{◌≡◌, ℕ, ◌+◌, ◌^◌, ◌<◌, ◌↔◌, List, ◌++◌, length}
+use Rattle.std.specs.Prelude.{◌≡◌, ℕ, ◌+◌, ◌<◌, ◌↔◌, List, ◌++◌, length}
 use Rattle.wasm_list.specs.Accepted.{IsAccepted}
 use Rattle.wasm_list.specs.Content.{ended}
 use Rattle.wasm_list.specs.Grammar.{Tile, tile, verdict}
 use Rattle.wasm_list.specs.Reading.{Event, Reads, Reading}
 use Rattle.wasm_list.specs.Stands.{Stand, Stands, grammar_of, passed}
+use Rattle.wasm_list.specs.Stream.{Stream}
 use Rattle.wasm_list.specs.Tiling.{grammar, Faultless}
 
 -- two readings of one stream are one
@@ -29,5 +30,5 @@ ParserSuffices = (parser : Stand) (start : ℕ) (covered : List ℕ) (s : Stands
 
 -- the reading of a stream ends at its end exactly if the stream is accepted
 abbrev pub AcceptedEnds : Type 0
-AcceptedEnds = (stream : List ℕ) (start : ℕ) → start + length stream < 2 ^ 64
+AcceptedEnds = (stream : List ℕ) (start : ℕ) → Stream stream start
     → IsAccepted stream ↔ ((tiles : List Tile) × Reads stream start tiles (ended (start + length stream)))

@@ -11,6 +11,7 @@ pub mod Lists
 pub mod Reading
 pub mod Runs
 pub mod Stands
+pub mod Stream
 pub mod Tiling
 pub mod Unread
 pub mod Waiting

@@ -1,0 +1,124 @@
+-- Counted items in a window. Core specification, Binary format, Modules, Sections.
+use Rattle.std.specs.Prelude.{◌≡◌, ℕ, zero, suc, ◌+◌, ◌<◌, ◌≤◌, Bool, true, false, List, [], ◌∷◌, ◌++◌, length, Option, Some, None, Result, Ok, Err, nat_lt, if◌then◌else◌, map}
+use Rattle.std.specs.Iterator.{Drains}
+use Rattle.wasm_base.specs.FaultAt.{FaultAt, fault_at, at_offset}
+use Rattle.wasm_base.specs.Item.{Alike}
+use Rattle.wasm_base.specs.Outcome.{Outcome}
+use Rattle.wasm_base.specs.Window.{Window, Place, place, KeepsWindow}
+use Rattle.wasm_base.specs.declared.error.Error.{Error}
+use Rattle.wasm_base.specs.declared.fault.Fault.TheVariants.{SizeMismatch}
+
+-- a window behind whose count so many items are announced
+pub record Section : Type 0 where
+  pub reader : Window
+  pub count : ℕ
+
+-- where an iterator over items stands: so many were announced, so many are left of these, and whether it is over
+pub record Items : Type 0 where
+  pub reader : Window
+  pub count : ℕ
+  pub left : ℕ
+  pub ended : Bool
+
+-- an iterator that has not begun
+abbrev pub all_items : Section → Items
+all_items s = record { reader = s.reader; count = s.count; left = s.count; ended = false }
+
+-- An item is left, and is read by its meaning: the iterator goes on, or ends at its fault.
+abbrev pub ReadsItem : {T : Type 0} → (Place → Outcome T → Type 0) → Items → Option (Result T Error) → Items → Type 0
+ReadsItem meaning s None t = ⊥
+ReadsItem meaning s (Some (Ok x)) t = meaning (place s.reader) (Ok (x, place t.reader)) × (t.left + 1 ≡ s.left) × (t.ended ≡ false)
+ReadsItem meaning s (Some (Err e)) t = meaning (place s.reader) (Err (fault_at e)) × (t.left + 1 ≡ s.left) × (t.ended ≡ true)
+
+-- No item is left: nothing comes, or one fault where the window has bytes left. Either way it is over.
+abbrev pub ReadsEnd : {T : Type 0} → Items → Option (Result T Error) → Items → Type 0
+ReadsEnd s None t = (length (place s.reader).rest ≡ 0) × (t ≡ record s { ended = true })
+ReadsEnd s (Some (Ok x)) t = ⊥
+ReadsEnd s (Some (Err e)) t = (0 < length (place s.reader).rest) × (fault_at e ≡ at_offset SizeMismatch (place s.reader).offset) × (t ≡ record s { ended = true })
+
+-- one call of `next`
+pub record NextItem {T : Type 0} (meaning : Place → Outcome T → Type 0) (s : Items) (given : Option (Result T Error)) (t : Items) : Type 0 where
+  pub over : s.ended ≡ true → (given ≡ None) × (t ≡ s)
+  pub item : s.ended ≡ false → 0 < s.left → ReadsItem meaning s given t
+  pub last : s.ended ≡ false → s.left ≡ 0 → ReadsEnd s given t
+  pub count : t.count ≡ s.count
+  pub keeps : KeepsWindow s.reader t.reader
+
+-- how many items may still come: one more than are left, for a fault at the end
+abbrev pub most_items : Items → ℕ
+most_items s = if s.ended then 0 else s.left + 1
+
+-- an item and the offset at which its bytes begin
+abbrev pub AtItsOffset : {T : Type 0} → (Place → Outcome T → Type 0) → Place → Outcome (ℕ × T) → Type 0
+AtItsOffset meaning before (Ok x) = (x.0.0 ≡ before.offset) × meaning before (Ok (x.0.1, x.1))
+AtItsOffset meaning before (Err e) = meaning before (Err e)
+
+-- behind the last item: nothing, or one fault where the window has bytes left
+abbrev pub at_the_end : {T : Type 0} → Place → List (Result T FaultAt)
+at_the_end p = if nat_lt 0 (length p.rest) then Err (at_offset SizeMismatch p.offset) ∷ [] else []
+
+-- The items that a window has from a place on: each by its meaning where the one before ended, as many as are
+-- announced or up to the first fault, and then the end.
+abbrev pub ItemsOf : {T : Type 0} → (Place → Outcome T → Type 0) → ℕ → Place → List (Result T FaultAt) → Type 0
+ItemsOf meaning zero p given = given ≡ at_the_end p
+ItemsOf meaning (suc left) p [] = ⊥
+ItemsOf meaning (suc left) p (Ok x ∷ given) = (q : Place) × meaning p (Ok (x, q)) × ItemsOf meaning left q given
+ItemsOf meaning (suc left) p (Err e ∷ given) = meaning p (Err e) × (given ≡ [])
+
+-- an item, or what its error tells
+abbrev pub told : {T : Type 0} → Result T Error → Result T FaultAt
+told (Ok x) = Ok x
+told (Err e) = Err (fault_at e)
+
+-- the item alone, or what its error tells
+abbrev pub told_item : {T : Type 0} → Result (ℕ × T) Error → Result T FaultAt
+told_item (Ok x) = Ok x.1
+told_item (Err e) = Err (fault_at e)
+
+-- What calls of `next` give from here up to the first `None`, by a relation that each call meets: the items of the
+-- window where the iterator is not over, and nothing where it is. Behind that `None` nothing comes any more.
+pub record GivesItems {T : Type 0} (next : Items → Option (Result T Error) → Items → Type 0) (meaning : Place → Outcome T → Type 0) (s : Items) : Type 0 where
+  pub items : s.ended ≡ false → (given : List (Result T Error)) → Drains next s given → ItemsOf meaning s.left (place s.reader) (map told given)
+  pub over : s.ended ≡ true → (given : List (Result T Error)) → Drains next s given → given ≡ []
+  pub at_most : (given : List (Result T Error)) → Drains next s given → length given ≤ most_items s
+  pub behind : (t u : Items) (given : Option (Result T Error)) → next s None t → next t given u → given ≡ None
+
+-- Both were read from one place to another, and the meaning knows no difference between them.
+abbrev pub SameItem : {T : Type 0} → (Place → Outcome T → Type 0) → T → T → Type 0
+SameItem meaning x y = ((p : Place) × (q : Place) × meaning p (Ok (x, q)) × meaning p (Ok (y, q))) × Alike meaning x y
+
+-- item by item the same, and the same faults
+abbrev pub SameItems : {T : Type 0} → (Place → Outcome T → Type 0) → List (Result T FaultAt) → List (Result T FaultAt) → Type 0
+SameItems meaning [] [] = Unit {0}
+SameItems meaning [] (y ∷ ys) = ⊥
+SameItems meaning (x ∷ xs) [] = ⊥
+SameItems meaning (Ok x ∷ xs) (Ok y ∷ ys) = SameItem meaning x y × SameItems meaning xs ys
+SameItems meaning (Ok x ∷ xs) (Err f ∷ ys) = ⊥
+SameItems meaning (Err e ∷ xs) (Ok y ∷ ys) = ⊥
+SameItems meaning (Err e ∷ xs) (Err f ∷ ys) = (e ≡ f) × SameItems meaning xs ys
+
+-- Two iterators give the same items and the same fault, each by a relation that its calls of `next` meet; views say
+-- what counts of what they give.
+abbrev pub GivesTheSame : {T A B : Type 0} → (Place → Outcome T → Type 0) → (Items → Option A → Items → Type 0) → (A → Result T FaultAt) → Items → (Items → Option B → Items → Type 0) → (B → Result T FaultAt) → Items → Type 0
+GivesTheSame {T} {A} {B} meaning next view s others_next others_view t = (given : List A) (others : List B) → Drains next s given → Drains others_next t others → SameItems meaning (map view given) (map others_view others)
+
+-- They give lists that are equal.
+abbrev pub GivesEqual : {T A B : Type 0} → (Items → Option A → Items → Type 0) → (A → Result T FaultAt) → Items → (Items → Option B → Items → Type 0) → (B → Result T FaultAt) → Items → Type 0
+GivesEqual {T} {A} {B} next view s others_next others_view t = (given : List A) (others : List B) → Drains next s given → Drains others_next t others → map view given ≡ map others_view others
+
+-- as an item that was read
+abbrev pub as_read : {T : Type 0} → T → Result T FaultAt
+as_read x = Ok x
+
+-- the fault that a walk over items ended at, if it did
+abbrev pub fault_of : {T X : Type 0} → Result X Error → List (Result T FaultAt)
+fault_of (Ok x) = []
+fault_of (Err e) = Err (fault_at e) ∷ []
+
+-- Some items of the window can be read, and this is what comes behind them.
+abbrev pub WalksTo : {T : Type 0} → (Place → Outcome T → Type 0) → ℕ → Place → List (Result T FaultAt) → Type 0
+WalksTo {T} meaning count p end = (items : List T) × ItemsOf meaning count p (map as_read items ++ end)
+
+-- The announced items can all be read, and nothing is left behind them; or this is the first fault.
+abbrev pub Walks : {T X : Type 0} → (Place → Outcome T → Type 0) → ℕ → Place → Result X Error → Type 0
+Walks meaning count p result = WalksTo meaning count p (fault_of result)

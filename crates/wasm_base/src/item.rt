@@ -1,0 +1,72 @@
+// What can be read from a reader.
+ghost use Rattle.std.specs.Prelude.{◌≡◌, Some};
+ghost use Rattle.wasm_base.specs.Item.{Means, ReadsAs, BothInTurn, bool_at};
+ghost use Rattle.wasm_base.specs.Name.{name_limit, text_at};
+ghost use Rattle.wasm_base.specs.Number.{unsigned_at};
+ghost use Rattle.wasm_base.specs.Outcome.{Outcome};
+ghost use Rattle.wasm_base.specs.Window.{Place, place, KeepsWindow};
+
+use crate::error::{Error, Result};
+use crate::fault::Fault;
+use crate::reader::BinaryReader;
+
+/// What can be read from a reader, and takes no memory.
+///
+/// An item type has a meaning, and its `from_reader` keeps to it: that is all that sections ask of it. A meaning may
+/// allow several outcomes, and an item may take no bytes.
+pub trait FromReader<'a>: Sized + Drop {
+    /// What reading from a place may come to: a value and the place behind it, or a fault.
+    ghost meaning: { Place → Outcome Self → Type 0 };
+
+    /// Reads an item.
+    ///
+    /// After a fault the reader stands in its window, and not before where it was.
+    fn from_reader(reader: &mut BinaryReader<'a>) -> Result<Self>
+        ensures means { Means meaning (place reader.old) result (place reader.new) }
+        ensures keeps { KeepsWindow reader.old reader.new };
+}
+
+/// A byte that is 0 or 1, else `InvalidBool` at it.
+impl<'a> FromReader<'a> for bool {
+    ghost meaning = { ReadsAs (λ truth. truth) bool_at };
+
+    #[tactic(auto, unfolding(crate::specs::Item::bool_at))]
+    fn from_reader(reader: &mut BinaryReader<'a>) -> Result<Self> {
+        match reader.read_u8()? {
+            0 => Ok(false),
+            1 => Ok(true),
+            _ => Err(Error::new(Fault::InvalidBool, reader.original_position() - 1)),
+        }
+    }
+}
+
+/// A u32 in LEB128, with the faults of `read_var_u32`.
+impl<'a> FromReader<'a> for u32 {
+    ghost use Rattle.wasm_base.specs.declared.fault.NumberKind.TheVariants.{VarU32};
+
+    ghost meaning = { ReadsAs (λ number. number) (unsigned_at VarU32) };
+
+    fn from_reader(reader: &mut BinaryReader<'a>) -> Result<Self> {
+        reader.read_var_u32()
+    }
+}
+
+/// A name of at most 100,000 bytes, with the faults of `read_string`.
+impl<'a> FromReader<'a> for &'a str {
+    ghost meaning = { ReadsAs (λ text. text.now) (text_at (Some name_limit)) };
+
+    fn from_reader(reader: &mut BinaryReader<'a>) -> Result<Self> {
+        reader.read_string()
+    }
+}
+
+/// One item and then another.
+impl<'a, T: FromReader<'a>, U: FromReader<'a>> FromReader<'a> for (T, U) {
+    ghost meaning = { BothInTurn T.meaning U.meaning };
+
+    fn from_reader(reader: &mut BinaryReader<'a>) -> Result<Self> {
+        let first = T::from_reader(reader)?;
+        let second = U::from_reader(reader)?;
+        Ok((first, second))
+    }
+}

@@ -1,0 +1,45 @@
+//! What holds of whole runs of the iterators over a section, whatever its items are.
+ghost use Rattle.wasm_base.specs.Item.{AllowsOne, Determines};
+ghost use Rattle.wasm_base.specs.Section.{Section, Items, AtItsOffset, GivesItems, GivesTheSame, GivesEqual, told, told_item};
+
+use crate::item::FromReader;
+use crate::section::{SectionLimited, SectionLimitedIntoIter, SectionLimitedIntoIterWithOffsets};
+
+/// Calls of `next` up to the first `None` give the items of the window, and nothing comes behind that `None`. The
+/// second iterator gives each item with the offset at which its bytes begin.
+///
+/// The items of a window are those that are announced, and then nothing, or one `SizeMismatch` where bytes are left;
+/// behind an item's fault, nothing.
+pub fn items_of_a_window<'a, T: FromReader<'a>>()
+    ensures items { (s : Items) → GivesItems ⟦<SectionLimitedIntoIter<'a, T> as Iterator>⟧.next_gives T.meaning s }
+    ensures with_offsets { (s : Items) → GivesItems ⟦<SectionLimitedIntoIterWithOffsets<'a, T> as Iterator>⟧.next_gives (AtItsOffset T.meaning) s }
+{}
+
+/// Both iterators give the same items and the same fault, where the meaning of an item allows one outcome: equal
+/// ones, where it determines the value and all.
+pub fn both_iterators_give_the_same_items<'a, T: FromReader<'a>>()
+    ensures same { AllowsOne T.meaning → (s : Items) → GivesTheSame T.meaning ⟦<SectionLimitedIntoIter<'a, T> as Iterator>⟧.next_gives told s ⟦<SectionLimitedIntoIterWithOffsets<'a, T> as Iterator>⟧.next_gives told_item s }
+    ensures equal { Determines T.meaning → (s : Items) → GivesEqual ⟦<SectionLimitedIntoIter<'a, T> as Iterator>⟧.next_gives told s ⟦<SectionLimitedIntoIterWithOffsets<'a, T> as Iterator>⟧.next_gives told_item s }
+{}
+
+/// A clone of a section gives the same items and the same fault, where the meaning of an item allows one outcome.
+pub fn a_clone_gives_the_same_items<'a, T: FromReader<'a>>()
+    ensures same { AllowsOne T.meaning → (section copy : Section) → ⟦<SectionLimited<'a, T> as Clone>⟧.is_clone section copy → (s t : Items) → ⟦<SectionLimited<'a, T> as IntoIterator>⟧.into_iter_gives section s → ⟦<SectionLimited<'a, T> as IntoIterator>⟧.into_iter_gives copy t → GivesTheSame T.meaning ⟦<SectionLimitedIntoIter<'a, T> as Iterator>⟧.next_gives told s ⟦<SectionLimitedIntoIter<'a, T> as Iterator>⟧.next_gives told t }
+    ensures equal { Determines T.meaning → (section copy : Section) → ⟦<SectionLimited<'a, T> as Clone>⟧.is_clone section copy → (s t : Items) → ⟦<SectionLimited<'a, T> as IntoIterator>⟧.into_iter_gives section s → ⟦<SectionLimited<'a, T> as IntoIterator>⟧.into_iter_gives copy t → GivesEqual ⟦<SectionLimitedIntoIter<'a, T> as Iterator>⟧.next_gives told s ⟦<SectionLimitedIntoIter<'a, T> as Iterator>⟧.next_gives told t }
+{}
+
+/// A clone of an iterator gives the same items and the same fault, where the meaning of an item allows one outcome.
+pub fn a_cloned_iterator_gives_the_same_items<'a, T: FromReader<'a> + Clone>()
+    ensures same { AllowsOne T.meaning → (s t : Items) → ⟦<SectionLimitedIntoIter<'a, T> as Clone>⟧.is_clone s t → GivesTheSame T.meaning ⟦<SectionLimitedIntoIter<'a, T> as Iterator>⟧.next_gives told s ⟦<SectionLimitedIntoIter<'a, T> as Iterator>⟧.next_gives told t }
+    ensures equal { Determines T.meaning → (s t : Items) → ⟦<SectionLimitedIntoIter<'a, T> as Clone>⟧.is_clone s t → GivesEqual ⟦<SectionLimitedIntoIter<'a, T> as Iterator>⟧.next_gives told s ⟦<SectionLimitedIntoIter<'a, T> as Iterator>⟧.next_gives told t }
+{}
+
+/// Truths, numbers and names allow one outcome, and so does a pair of what allows one. Truths and numbers are
+/// determined, and so is a pair of what is.
+pub fn these_allow_one_outcome<'a, T: FromReader<'a>, U: FromReader<'a>>()
+    ensures truth { AllowsOne ⟦<bool as FromReader<'a>>⟧.meaning × Determines ⟦<bool as FromReader<'a>>⟧.meaning }
+    ensures number { AllowsOne ⟦<u32 as FromReader<'a>>⟧.meaning × Determines ⟦<u32 as FromReader<'a>>⟧.meaning }
+    ensures name { AllowsOne ⟦<&'a str as FromReader<'a>>⟧.meaning }
+    ensures pair { AllowsOne T.meaning → AllowsOne U.meaning → AllowsOne ⟦<(T, U) as FromReader<'a>>⟧.meaning }
+    ensures determined_pair { Determines T.meaning → Determines U.meaning → Determines ⟦<(T, U) as FromReader<'a>>⟧.meaning }
+{}

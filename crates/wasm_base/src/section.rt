@@ -1,0 +1,299 @@
+// Counted items in a window.
+ghost use Rattle.std.specs.Prelude.{⊤, ◌≡◌, ◌+◌, ◌<◌, ◌^◌, true, false, Some, IfSome, Ok, Err, IfOk, MatchResult, length};
+ghost use Rattle.std.specs.Iterator.{at_most, UpTo};
+ghost use Rattle.std.specs.Iterator.SizeHint.{IsWithinCount};
+ghost use Rattle.wasm_base.specs.FaultAt.{fault_at};
+ghost use Rattle.wasm_base.specs.Number.{unsigned_at};
+ghost use Rattle.wasm_base.specs.Section.{Section, Items, NextItem, AtItsOffset, all_items, most_items};
+ghost use Rattle.wasm_base.specs.Window.{place, KeepsWindow};
+ghost use Rattle.wasm_base.specs.declared.fault.NumberKind.TheVariants.{VarU32};
+
+use crate::error::{Error, Result};
+use crate::fault::Fault;
+use crate::item::FromReader;
+use crate::reader::BinaryReader;
+use std::alloc::AllocError;
+use std::fmt;
+use std::marker::{Model, PhantomData};
+use std::ops::Range;
+
+/// A window that begins with a count of items.
+///
+/// `new` reads the count alone: each item is read when an iterator comes to it. A loop takes the items, and the first
+/// fault in their place:
+///
+/// ```text
+/// for item in section {
+///     let item = item?;
+/// }
+/// ```
+pub struct SectionLimited<'a, T> {
+    reader: BinaryReader<'a>,
+    count: u32,
+    item: PhantomData<T>,
+}
+
+impl<'a, T> Model for SectionLimited<'a, T> {
+    ghost use Rattle.wasm_base.specs.Section.{Section};
+
+    ghost Value = { Section };
+
+    ghost view = { λ s. record { reader = s.reader; count = s.count } };
+}
+
+// By hand, so that nothing is asked of `T`.
+impl<'a, T> Drop for SectionLimited<'a, T> {
+    fn drop(self) {
+        let SectionLimited {
+            reader: _,
+            count: _,
+            item: _,
+        } = self;
+    }
+}
+
+impl<'a, T> fmt::Debug for SectionLimited<'a, T> {
+    fn fmt<W: fmt::Write>(&self, f: &mut fmt::Formatter<W>) -> fmt::Result {
+        f.debug_struct("SectionLimited")
+            .field("count", &self.count)
+            .field("range", &self.range())
+            .finish()
+    }
+}
+
+impl<'a, T> Clone for SectionLimited<'a, T> {
+    ghost is_clone = { λ section copy. copy ≡ section };
+
+    ghost is_infallible = { λ _. ⊤ };
+
+    fn clone(&self) -> std::result::Result<Self, AllocError> {
+        Ok(SectionLimited {
+            reader: self.reader.clone()?,
+            count: self.count,
+            item: PhantomData,
+        })
+    }
+}
+
+impl<'a, T> SectionLimited<'a, T> {
+    /// Reads the count, a u32, with the faults of `read_var_u32`. No item is looked at.
+    pub fn new(mut reader: BinaryReader<'a>) -> Result<Self>
+        ensures gives { MatchResult result (λ section. unsigned_at VarU32 (place reader.entry) ≡ Ok (section.count, place section.reader)) (λ e. unsigned_at VarU32 (place reader.entry) ≡ Err (fault_at e)) }
+        ensures keeps { IfOk result (λ section. KeepsWindow reader.entry section.reader) }
+    {
+        let count = reader.read_var_u32()?;
+        Ok(SectionLimited {
+            reader,
+            count,
+            item: PhantomData,
+        })
+    }
+
+    /// How many items are announced.
+    pub fn count(&self) -> u32
+        ensures { result ≡ self.now.count }
+    {
+        self.count
+    }
+
+    /// The offset behind the count, in the whole stream.
+    pub fn original_position(&self) -> u64
+        ensures offset { result ≡ (place self.now.reader).offset }
+        ensures fits { result + length (place self.now.reader).rest < 2 ^ 64 }
+    {
+        self.reader.original_position()
+    }
+
+    /// The offsets of the whole window, the count among them.
+    pub fn range(&self) -> Range<u64>
+        ensures { result ≡ record { start = self.now.reader.start; end = self.now.reader.start + length self.now.reader.bytes } }
+    {
+        self.reader.range()
+    }
+
+    /// The items, each with the offset in the whole stream at which its bytes begin.
+    pub fn into_iter_with_offsets(self) -> SectionLimitedIntoIterWithOffsets<'a, T>
+    where
+        T: FromReader<'a>,
+        ensures items { result ≡ all_items self.entry }
+        ensures fits { self.entry.count < 2 ^ 32 }
+    {
+        SectionLimitedIntoIterWithOffsets {
+            items: self.into_iter(),
+        }
+    }
+}
+
+impl<'a, T: FromReader<'a>> IntoIterator for SectionLimited<'a, T> {
+    type Item = Result<T>;
+
+    type IntoIter = SectionLimitedIntoIter<'a, T>;
+
+    // The bound on the count lets a loop add up what it reads.
+    ghost into_iter_gives = { λ section items. (items ≡ all_items section) × (section.count < 2 ^ 32) };
+
+    fn into_iter(self) -> SectionLimitedIntoIter<'a, T> {
+        SectionLimitedIntoIter {
+            left: self.count,
+            section: self,
+            ended: false,
+        }
+    }
+}
+
+impl<'a, T> From<SectionLimitedIntoIter<'a, T>> for SectionLimited<'a, T> {
+    ghost from_gives = { λ items section. section ≡ record { reader = items.reader; count = items.count } };
+
+    /// The section again, with the count that was announced. Its reader stands where the iterator stood, so that its
+    /// items are read from there.
+    fn from(items: SectionLimitedIntoIter<'a, T>) -> Self {
+        items.into_section()
+    }
+}
+
+/// The items of a section.
+///
+/// The announced items come, up to the first fault. Where all were read and bytes are left, one `SizeMismatch`
+/// follows, at the first of them. Behind that, and behind an item's fault, nothing comes.
+#[derive(Debug)]
+pub struct SectionLimitedIntoIter<'a, T> {
+    section: SectionLimited<'a, T>,
+    left: u32,
+    ended: bool,
+}
+
+impl<'a, T> Model for SectionLimitedIntoIter<'a, T> {
+    ghost use Rattle.wasm_base.specs.Section.{Items};
+
+    ghost Value = { Items };
+
+    ghost view = { λ s. record { reader = s.section.reader; count = s.section.count; left = s.left; ended = s.ended } };
+}
+
+impl<'a, T> Drop for SectionLimitedIntoIter<'a, T> {
+    fn drop(self) {
+        let SectionLimitedIntoIter {
+            section: _,
+            left: _,
+            ended: _,
+        } = self;
+    }
+}
+
+impl<'a, T: Clone> Clone for SectionLimitedIntoIter<'a, T> {
+    ghost is_clone = { λ items copy. copy ≡ items };
+
+    ghost is_infallible = { λ _. ⊤ };
+
+    fn clone(&self) -> std::result::Result<Self, AllocError> {
+        Ok(SectionLimitedIntoIter {
+            section: self.section.clone()?,
+            left: self.left,
+            ended: self.ended,
+        })
+    }
+}
+
+impl<'a, T> SectionLimitedIntoIter<'a, T> {
+    /// The offset in the whole stream where the iterator stands.
+    pub fn original_position(&self) -> u64
+        ensures offset { result ≡ (place self.now.reader).offset }
+        ensures fits { result + length (place self.now.reader).rest < 2 ^ 64 }
+    {
+        self.section.original_position()
+    }
+
+    // The section, its reader where the iterator stands.
+    fn into_section(self) -> SectionLimited<'a, T>
+        ensures { result ≡ record { reader = self.entry.reader; count = self.entry.count } }
+    {
+        let SectionLimitedIntoIter {
+            section,
+            left: _,
+            ended: _,
+        } = self;
+        section
+    }
+}
+
+impl<'a, T: FromReader<'a>> Iterator for SectionLimitedIntoIter<'a, T> {
+    type Item = Result<T>;
+
+    ghost next_gives = { NextItem T.meaning };
+
+    ghost remaining = { λ items. at_most (most_items items) };
+
+    fn next(&mut self) -> Option<Result<T>> {
+        if self.ended {
+            return None;
+        }
+        if self.left == 0 {
+            self.ended = true;
+            if self.section.reader.eof() {
+                return None;
+            }
+            return Some(Err(Error::new(Fault::SizeMismatch, self.original_position())));
+        }
+        self.left -= 1;
+        let item = T::from_reader(&mut self.section.reader);
+        self.ended = item.is_err();
+        Some(item)
+    }
+
+    fn size_hint(&self) -> (usize, Option<usize>)
+        ensures lower { IsWithinCount result.0 (at_most (most_items self.now)) }
+        ensures upper { IfSome result.1 (UpTo (at_most (most_items self.now))) }
+        ensures exact { (result.0 ≡ 0) × (result.1 ≡ Some (most_items self.now)) }
+    {
+        if self.ended {
+            return (0, Some(0));
+        }
+        (0, Some(self.left as usize + 1))
+    }
+}
+
+/// The items of a section, each with the offset in the whole stream at which its bytes begin.
+///
+/// They come, and end, as those of `SectionLimitedIntoIter`.
+pub struct SectionLimitedIntoIterWithOffsets<'a, T> {
+    items: SectionLimitedIntoIter<'a, T>,
+}
+
+impl<'a, T> Model for SectionLimitedIntoIterWithOffsets<'a, T> {
+    ghost use Rattle.wasm_base.specs.Section.{Items};
+
+    ghost Value = { Items };
+
+    ghost view = { λ s. s.items };
+}
+
+impl<'a, T> Drop for SectionLimitedIntoIterWithOffsets<'a, T> {
+    fn drop(self) {
+        let SectionLimitedIntoIterWithOffsets { items: _ } = self;
+    }
+}
+
+impl<'a, T: FromReader<'a>> Iterator for SectionLimitedIntoIterWithOffsets<'a, T> {
+    type Item = Result<(u64, T)>;
+
+    ghost next_gives = { NextItem (AtItsOffset T.meaning) };
+
+    ghost remaining = { λ items. at_most (most_items items) };
+
+    fn next(&mut self) -> Option<Result<(u64, T)>> {
+        let offset = self.items.original_position();
+        match self.items.next() {
+            Some(Ok(item)) => Some(Ok((offset, item))),
+            Some(Err(e)) => Some(Err(e)),
+            None => None,
+        }
+    }
+
+    fn size_hint(&self) -> (usize, Option<usize>)
+        ensures lower { IsWithinCount result.0 (at_most (most_items self.now)) }
+        ensures upper { IfSome result.1 (UpTo (at_most (most_items self.now))) }
+        ensures exact { (result.0 ≡ 0) × (result.1 ≡ Some (most_items self.now)) }
+    {
+        self.items.size_hint()
+    }
+}

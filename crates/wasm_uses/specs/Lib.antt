@@ -1,0 +1,2 @@
+pub mod Careless
+pub mod Totals
