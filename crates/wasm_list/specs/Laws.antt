@@ -1,12 +1,14 @@
 -- Laws of the definitions of framing.
-use Rattle.std.specs.Prelude.{◌≡◌, ℕ, ◌+◌, ◌<◌, ◌↔◌, List, ◌++◌, length}
+use Rattle.std.specs.Prelude.{◌≡◌, ℕ, ◌+◌, ◌<◌, ◌≤◌, ◌↔◌, List, [], ◌∷◌, ◌++◌, length}
 use Rattle.wasm_list.specs.Accepted.{IsAccepted}
-use Rattle.wasm_list.specs.Content.{ended}
+use Rattle.wasm_base.specs.FaultAt.{FaultAt}
+use Rattle.wasm_list.specs.Content.{Ending, fault, ended}
 use Rattle.wasm_list.specs.Grammar.{Tile, tile, verdict}
-use Rattle.wasm_list.specs.Reading.{Event, Reads, Reading}
+use Rattle.wasm_list.specs.Reading.{Event, events_of, last_event, Reads, Reading}
+use Rattle.wasm_list.specs.Spans.{consumed_by, EndToEnd}
 use Rattle.wasm_list.specs.Stands.{Stand, Stands, grammar_of, passed}
 use Rattle.wasm_list.specs.Stream.{Stream}
-use Rattle.wasm_list.specs.Tiling.{grammar, Faultless}
+use Rattle.wasm_list.specs.Tiling.{front, grammar, Faultless}
 
 -- two readings of one stream are one
 abbrev pub OneReading : Type 0
@@ -32,3 +34,24 @@ ParserSuffices = (parser : Stand) (start : ℕ) (covered : List ℕ) (s : Stands
 abbrev pub AcceptedEnds : Type 0
 AcceptedEnds = (stream : List ℕ) (start : ℕ) → Stream stream start
     → IsAccepted stream ↔ ((tiles : List Tile) × Reads stream start tiles (ended (start + length stream)))
+
+-- the reading of a stream ends with a fault exactly if the stream is not accepted
+abbrev pub FaultEnds : Type 0
+FaultEnds = (stream : List ℕ) (start : ℕ) → Stream stream start
+    → (¬ IsAccepted stream) ↔ ((tiles : List Tile) × (f : FaultAt) × Reads stream start tiles (fault f))
+
+-- a fault lies in the stream, or at its end
+abbrev pub FaultLiesWithin : Type 0
+FaultLiesWithin = (stream : List ℕ) (start : ℕ) (tiles : List Tile) (f : FaultAt) → Reads stream start tiles (fault f)
+    → (start + length (front tiles) ≤ f.offset) × (f.offset ≤ start + length stream)
+
+-- the tiles of a reading are the longest faultless tiling of its stream: every other is a beginning of it
+abbrev pub LongestTiling : Type 0
+LongestTiling = (stream : List ℕ) (start : ℕ) (tiles others : List Tile) (end : Ending) (rest : List ℕ) → Reads stream start tiles end → Faultless start others → stream ≡ front others ++ rest
+    → (later : List Tile) × (tiles ≡ later ++ others)
+
+-- events stand end to end in their stream, and their windows are its parts; what they consumed, joined, is the stream
+-- up to where the reading stops
+abbrev pub EventsLieEndToEnd : Type 0
+EventsLieEndToEnd = (stream : List ℕ) (start features : ℕ) (tiles : List Tile) (end : Ending) → Reads stream start tiles end
+    → EndToEnd stream start start (events_of start features tiles ++ last_event end ∷ []) × (consumed_by (events_of start features tiles ++ last_event end ∷ []) ≡ front tiles)
