@@ -1,6 +1,7 @@
 pub mod Framed
 pub mod GrammarLaws
 pub mod Headers
+pub mod Longest
 pub mod Parsing
 pub mod Progress
 pub mod ReadingLaws
