@@ -1,8 +1,10 @@
+pub mod Bounds
 pub mod Framed
 pub mod GrammarLaws
 pub mod Headers
 pub mod Longest
 pub mod Parsing
+pub mod Places
 pub mod Progress
 pub mod ReadingLaws
 pub mod StandsLaws

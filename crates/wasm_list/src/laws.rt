@@ -1,6 +1,6 @@
 //! Laws of the definitions of framing, each the contract of a function that does nothing.
 ghost use Rattle.wasm_list.specs.Worked.{WorkedStreams};
-ghost use Rattle.wasm_list.specs.Laws.{LongestTiling, OneReading, ParserSuffices, SomeReading, TilesStandAlone};
+ghost use Rattle.wasm_list.specs.Laws.{FaultLiesWithin, LongestTiling, OneReading, ParserSuffices, SomeReading, TilesStandAlone};
 
 /// Two readings of one stream are one.
 pub fn one_reading()
@@ -10,6 +10,11 @@ pub fn one_reading()
 /// Every stream has a reading.
 pub fn some_reading()
     ensures { SomeReading }
+{}
+
+/// A fault lies in the stream behind the tiles before it, or at its end.
+pub fn fault_lies_within()
+    ensures { FaultLiesWithin }
 {}
 
 /// The tiles of a reading are the longest faultless tiling of its stream: every other is a beginning of it.
