@@ -40,7 +40,7 @@ Within low here (bytes count o next) = Between low here o × ((b : List ℕ) →
 Within low here (section_start o e next) = Between low here o × EndsIn low here e × ((id : ℕ) → Within low (here + 1) (next id))
 
 -- a fault behind bytes
-behind_final : (front : List ℕ) (v : Verdict) (e : Ending) → behind front v ≡ final e → v ≡ final e
+pub behind_final : (front : List ℕ) (v : Verdict) (e : Ending) → behind front v ≡ final e → v ≡ final e
 behind_final front (tile t) e h = cc
 behind_final front (final f) e h = cc
 

@@ -1,4 +1,5 @@
 pub mod Bounds
+pub mod Ends
 pub mod Framed
 pub mod GrammarLaws
 pub mod Headers

@@ -66,3 +66,26 @@ name_place_at limit xs (read size used) f p e r =
 pub name_place : (limit : Option ℕ) (xs : List ℕ) (f : Fault) (p : ℕ) → name limit xs ≡ refused f p → p ≤ length xs
 unfolding name
 name_place limit xs f p r = name_place_at limit xs (number VarU32 xs) f p refl r
+
+text_used : (a b : Bool) (text shown : List ℕ) (size used n k : ℕ) → nat_lt (n - used) size ≡ a → used ≤ n
+    → cond a (refused UnexpectedEof used) (cond b (named text (used + size)) (refused MalformedUtf8 (used + size - 1))) ≡ named shown k → k ≤ n
+text_used true b text shown size used n k l t e = cc
+text_used false true text shown size used n k l t e = let z : used + size ≡ k = cc in omega (arith, ltb-false (n - used) size l)
+text_used false false text shown size used n k l t e = cc
+
+size_used : (a : Bool) (v : Name) (used n k : ℕ) (shown : List ℕ) → (v ≡ named shown k → k ≤ n) → cond a (refused StringSize (used - 1)) v ≡ named shown k → k ≤ n
+size_used true v used n k shown h e = cc
+size_used false v used n k shown h e = h e
+
+name_used_at : (limit : Option ℕ) (xs : List ℕ) (n : Number) (shown : List ℕ) (k : ℕ) → number VarU32 xs ≡ n → behind_size limit xs n ≡ named shown k → k ≤ length xs
+name_used_at limit xs (bad g i) shown k e r = cc
+name_used_at limit xs short shown k e r = cc
+name_used_at limit xs (read size used) shown k e r =
+    let u : Used VarU32 xs size used = number-used VarU32 xs size used e in
+    size_used (is_above limit size) (text_behind xs size used) used (length xs) k shown
+    (λ q. text_used (nat_lt (length xs - used) size) (is_utf8 (take size (drop used xs))) (take size (drop used xs)) shown size used (length xs) k refl u.there (rw (length-drop used xs) at q)) r
+
+-- a name takes no more than the bytes that are there
+pub name_used : (limit : Option ℕ) (xs shown : List ℕ) (k : ℕ) → name limit xs ≡ named shown k → k ≤ length xs
+unfolding name
+name_used limit xs shown k r = name_used_at limit xs (number VarU32 xs) shown k refl r

@@ -1,6 +1,6 @@
 //! Laws of the definitions of framing, each the contract of a function that does nothing.
 ghost use Rattle.wasm_list.specs.Worked.{WorkedStreams};
-ghost use Rattle.wasm_list.specs.Laws.{FaultLiesWithin, LongestTiling, OneReading, ParserSuffices, SomeReading, TilesStandAlone};
+ghost use Rattle.wasm_list.specs.Laws.{EventsLieEndToEnd, FaultLiesWithin, LongestTiling, OneReading, ParserSuffices, SomeReading, TilesStandAlone};
 
 /// Two readings of one stream are one.
 pub fn one_reading()
@@ -10,6 +10,12 @@ pub fn one_reading()
 /// Every stream has a reading.
 pub fn some_reading()
     ensures { SomeReading }
+{}
+
+/// The events of a reading stand end to end in its stream, and their windows are its parts at their own offsets; the
+/// bytes that they consumed, joined, are the stream up to where the reading stops.
+pub fn events_lie_end_to_end()
+    ensures { EventsLieEndToEnd }
 {}
 
 /// A fault lies in the stream behind the tiles before it, or at its end.
