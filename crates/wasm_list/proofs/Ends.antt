@@ -2,6 +2,7 @@
 use Rattle.std.proofs.Common.{◌≡◌, ℕ, zero, suc, ◌+◌, ◌-◌, ◌<◌, ◌≤◌, Bool, true, false, cond, ◌&&◌, not, List, [], ◌∷◌, ◌++◌, length, take, drop, flat_map, Option, Some, None, nat_lt, nat_le, nat_eq, refl, sym, ap, subst, subst₂, ◌∙◌, arith, le_refl, length-append, append-nil, append_assoc, leb-true}
 use Rattle.std.specs.List.{list_any}
 use Rattle.std.proofs.lemmas.List.{length-take-le, take_at, drop_at}
+use Rattle.std.proofs.lemmas.Grind.{flat_map-append}
 use Rattle.wasm_base.specs.FaultAt.{FaultAt, at_offset}
 use Rattle.wasm_base.specs.Header.{magic, agree}
 use Rattle.wasm_base.specs.Name.{Name, named, refused, name_limit, name, of_four}
@@ -274,25 +275,24 @@ stands_between stream earlier passed rest start low high features (body content)
 
 -- ---- all events
 
-consumed_snoc : (es : List Event) (e : Event) → consumed_by (es ++ e ∷ []) ≡ consumed_by es ++ e.consumed
-consumed_snoc [] e = append-nil e.consumed
-consumed_snoc (x ∷ es) e = ap (λ (l : List ℕ). x.consumed ++ l) (consumed_snoc es e) ∙ sym (append_assoc x.consumed (consumed_by es) e.consumed)
+consumed_more : (es : List Event) (e : Event) → consumed_by (es ++ e ∷ []) ≡ consumed_by es ++ e.consumed
+consumed_more es e = flat_map-append (λ x. x.consumed) es (e ∷ []) ∙ ap (λ (l : List ℕ). consumed_by es ++ l) (append-nil e.consumed)
 
-end_to_end_snoc : (stream : List ℕ) (start at : ℕ) (es : List Event) (e : Event) (low : ℕ) → low ≡ at + length (consumed_by es) → EndToEnd stream start at es → StandsBetween stream start low (low + length e.consumed) e.told → EndToEnd stream start at (es ++ e ∷ [])
-end_to_end_snoc stream start at [] e low l h s = (subst (λ (x : ℕ). StandsBetween stream start x (x + length e.consumed) e.told) (omega arith) s, tt)
-end_to_end_snoc stream start at (x ∷ es) e low l h s =
-    (h.0, end_to_end_snoc stream start (at + length x.consumed) es e low (omega (arith, length-append x.consumed (consumed_by es))) h.1 s)
+end_to_end_more : (stream : List ℕ) (start at : ℕ) (es : List Event) (e : Event) (low : ℕ) → low ≡ at + length (consumed_by es) → EndToEnd stream start at es → StandsBetween stream start low (low + length e.consumed) e.told → EndToEnd stream start at (es ++ e ∷ [])
+end_to_end_more stream start at [] e low l h s = (subst (λ (x : ℕ). StandsBetween stream start x (x + length e.consumed) e.told) (omega arith) s, tt)
+end_to_end_more stream start at (x ∷ es) e low l h s =
+    (h.0, end_to_end_more stream start (at + length x.consumed) es e low (omega (arith, length-append x.consumed (consumed_by es))) h.1 s)
 
 tiles_consume : (start features : ℕ) (ts : List Tile) → consumed_by (events_of start features ts) ≡ front ts
 tiles_consume start features [] = refl
 tiles_consume start features (t ∷ ts) =
-    consumed_snoc (events_of start features ts) (event_of features (start + length (front ts)) t) ∙ ap (λ (l : List ℕ). l ++ t.bytes) (tiles_consume start features ts)
+    consumed_more (events_of start features ts) (event_of features (start + length (front ts)) t) ∙ ap (λ (l : List ℕ). l ++ t.bytes) (tiles_consume start features ts)
 
 tiles_lie : (stream : List ℕ) (start features : ℕ) (ts : List Tile) (rest : List ℕ) → Faultless start ts → stream ≡ front ts ++ rest → EndToEnd stream start start (events_of start features ts)
 tiles_lie stream start features [] rest f w = tt
 tiles_lie stream start features (t ∷ ts) rest f w =
     let z : stream ≡ front ts ++ (t.bytes ++ rest) = w ∙ append_assoc (front ts) t.bytes rest in
-    end_to_end_snoc stream start start (events_of start features ts) (event_of features (start + length (front ts)) t) (start + length (front ts))
+    end_to_end_more stream start start (events_of start features ts) (event_of features (start + length (front ts)) t) (start + length (front ts))
     (ap (λ (l : List ℕ). start + length l) (sym (tiles_consume start features ts)))
     (tiles_lie stream start features ts (t.bytes ++ rest) f.0 z)
     (stands_between stream (front ts) t.bytes rest start (start + length (front ts)) (start + length (front ts) + length t.bytes) features t.shape z refl refl (tile_closes start ts t.bytes t f.1))
@@ -304,7 +304,7 @@ last_stands stream start ts (ended x) r = let z : x ≡ start + length (front ts
 pub events_lie_end_to_end : EventsLieEndToEnd
 events_lie_end_to_end stream start features ts end r =
     let n : consumed_by (events_of start features ts) ≡ front ts = tiles_consume start features ts in
-    (end_to_end_snoc stream start start (events_of start features ts) (last_event end) (start + length (front ts)) (ap (λ (l : List ℕ). start + length l) (sym n))
+    (end_to_end_more stream start start (events_of start features ts) (last_event end) (start + length (front ts)) (ap (λ (l : List ℕ). start + length l) (sym n))
     (tiles_lie stream start features ts r.rest r.faultless r.whole)
     (last_stands stream start ts end r),
-    consumed_snoc (events_of start features ts) (last_event end) ∙ (append-nil (consumed_by (events_of start features ts)) ∙ n))
+    consumed_more (events_of start features ts) (last_event end) ∙ (append-nil (consumed_by (events_of start features ts)) ∙ n))

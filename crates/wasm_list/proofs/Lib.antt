@@ -5,10 +5,12 @@ pub mod GrammarLaws
 pub mod Headers
 pub mod Longest
 pub mod Parsing
+pub mod Moves
 pub mod Places
 pub mod Progress
 pub mod ReadingLaws
 pub mod StandsLaws
 pub mod Telling
 pub mod TileLaws
+pub mod Unaccepted
 pub mod WorkedLaws

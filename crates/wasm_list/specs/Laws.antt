@@ -4,6 +4,7 @@ use Rattle.wasm_list.specs.Accepted.{IsAccepted}
 use Rattle.wasm_base.specs.FaultAt.{FaultAt}
 use Rattle.wasm_list.specs.Content.{Ending, fault, ended}
 use Rattle.wasm_list.specs.Grammar.{Tile, tile, verdict}
+use Rattle.wasm_list.specs.Moved.{moved_events, PassesTheTop}
 use Rattle.wasm_list.specs.Reading.{Event, events_of, last_event, Reads, Reading}
 use Rattle.wasm_list.specs.Spans.{consumed_by, EndToEnd}
 use Rattle.wasm_list.specs.Stands.{Stand, Stands, grammar_of, passed}
@@ -55,3 +56,9 @@ LongestTiling = (stream : List ℕ) (start : ℕ) (tiles others : List Tile) (en
 abbrev pub EventsLieEndToEnd : Type 0
 EventsLieEndToEnd = (stream : List ℕ) (start features : ℕ) (tiles : List Tile) (end : Ending) → Reads stream start tiles end
     → EndToEnd stream start start (events_of start features tiles ++ last_event end ∷ []) × (consumed_by (events_of start features tiles ++ last_event end ∷ []) ≡ front tiles)
+
+-- the start offset only moves offsets: the reading of a stream that starts so much later has the same events with
+-- every offset moved, unless a section passes the top of the offsets there
+abbrev pub StartOnlyMoves : Type 0
+StartOnlyMoves = (stream : List ℕ) (start by features : ℕ) (xs ys : List Event) (x : Reading stream start features xs) (y : Reading stream (start + by) features ys) → ¬ PassesTheTop y.end
+    → ys ≡ moved_events by xs

@@ -8,6 +8,7 @@ pub mod Kinds
 pub mod Laws
 pub mod Listing
 pub mod Lists
+pub mod Moved
 pub mod Reading
 pub mod Runs
 pub mod Spans

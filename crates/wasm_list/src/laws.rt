@@ -1,6 +1,6 @@
 //! Laws of the definitions of framing, each the contract of a function that does nothing.
 ghost use Rattle.wasm_list.specs.Worked.{WorkedStreams};
-ghost use Rattle.wasm_list.specs.Laws.{EventsLieEndToEnd, FaultLiesWithin, LongestTiling, OneReading, ParserSuffices, SomeReading, TilesStandAlone};
+ghost use Rattle.wasm_list.specs.Laws.{EventsLieEndToEnd, FaultLiesWithin, LongestTiling, OneReading, ParserSuffices, SomeReading, StartOnlyMoves, TilesStandAlone};
 
 /// Two readings of one stream are one.
 pub fn one_reading()
@@ -26,6 +26,12 @@ pub fn fault_lies_within()
 /// The tiles of a reading are the longest faultless tiling of its stream: every other is a beginning of it.
 pub fn longest_tiling()
     ensures { LongestTiling }
+{}
+
+/// The start offset only moves offsets: the reading of a stream that starts later has the same events with every offset
+/// moved, unless a section passes the top of the offsets there.
+pub fn start_only_moves()
+    ensures { StartOnlyMoves }
 {}
 
 /// What a tile is depends on its own bytes alone: it stands behind the same tiles in every stream that has its bytes
