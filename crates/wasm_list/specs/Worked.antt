@@ -63,14 +63,26 @@ AComponent = Reading (component ++ 1 ∷ 1 ∷ 0 ∷ []) 0 3
 -- worked streams, by what is peculiar to each
 pub record WorkedStreams : Type 0 where
   pub a_body : ABody
-  pub every_section : EverySection
   pub a_component : AComponent
+  pub header_alone : EndsSo m (ended 8)
+  pub unknown_version : EndsSo (0x00 ∷ 0x61 ∷ 0x73 ∷ 0x6d ∷ 1 ∷ 1 ∷ 1 ∷ 1 ∷ []) (fault (record { fault = UnknownVersion; offset = 4; number = Some 16843009 }))
+  pub types_twice : EndsSo (m ++ 1 ∷ 1 ∷ 0 ∷ 1 ∷ 1 ∷ []) (fault (at_offset OutOfOrder 13))
+  pub magic_again : EndsSo (m ++ 0x00 ∷ 0x61 ∷ 0x73 ∷ 0x6d ∷ []) (fault (at_offset MagicAtSection 8))
+  pub no_code : EndsSo (m ++ 3 ∷ 2 ∷ 1 ∷ 0 ∷ []) (fault (at_offset FunctionWithoutCode 12))
+  pub data_differ : EndsSo (m ++ 12 ∷ 1 ∷ 1 ∷ 11 ∷ 2 ∷ 2 ∷ 0 ∷ []) (fault (at_offset DataCountDiffer 15))
+  pub code_of_none : EndsSo (m ++ small 10) (ended 11)
+  pub trailing : EndsSo (m ++ 3 ∷ 2 ∷ 1 ∷ 0 ∷ 10 ∷ 3 ∷ 1 ∷ 0 ∷ 0 ∷ []) (fault (at_offset TrailingCode 16))
+  pub past_the_section : EndsSo (m ++ 3 ∷ 2 ∷ 2 ∷ 0 ∷ 10 ∷ 2 ∷ 2 ∷ 0 ∷ 0 ∷ []) (fault (at_offset UnexpectedEof 16))
+  pub too_large : (tiles : List Tile) × Reads (m ++ 0 ∷ 6 ∷ []) 18446744073709551600 tiles (fault (record { fault = SectionTooLarge; offset = 18446744073709551609; number = Some 6 }))
+
+-- streams at the edges of the rules, by what each has
+pub record EdgesOfRules : Type 0 where
+  pub every_section : EverySection
   pub nothing : EndsSo [] (fault (at_offset UnexpectedEof 0))
   pub half_a_header : EndsSo (0x00 ∷ 0x61 ∷ 0x73 ∷ 0x6d ∷ 1 ∷ []) (fault (at_offset UnexpectedEof 4))
   pub no_magic : EndsSo (0x00 ∷ 0x61 ∷ 0x73 ∷ 0x6e ∷ 1 ∷ 0 ∷ 0 ∷ 0 ∷ []) (fault (at_offset BadMagic 0))
-  pub unknown_version : EndsSo (0x00 ∷ 0x61 ∷ 0x73 ∷ 0x6d ∷ 1 ∷ 1 ∷ 1 ∷ 1 ∷ []) (fault (record { fault = UnknownVersion; offset = 4; number = Some 16843009 }))
-  pub header_alone : EndsSo m (ended 8)
-  pub magic_again : EndsSo (m ++ 0x00 ∷ 0x61 ∷ 0x73 ∷ 0x6d ∷ []) (fault (at_offset MagicAtSection 8))
+  pub component_of_no_layer : EndsSo (0x00 ∷ 0x61 ∷ 0x73 ∷ 0x6d ∷ 0x0d ∷ 0 ∷ 0 ∷ 0 ∷ []) (fault (record { fault = UnknownVersion; offset = 4; number = Some 13 }))
+  pub module_of_a_layer : EndsSo (0x00 ∷ 0x61 ∷ 0x73 ∷ 0x6d ∷ 1 ∷ 0 ∷ 1 ∷ 0 ∷ []) (fault (record { fault = UnknownVersion; offset = 4; number = Some 65537 }))
   pub magic_cut : EndsSo (m ++ 0x00 ∷ 0x61 ∷ 0x73 ∷ []) (fault (at_offset UnexpectedEof 10))
   pub id_of_128 : EndsSo (m ++ 128 ∷ 0 ∷ []) (fault (at_offset MalformedSectionId 8))
   pub unknown_id : EndsSo (m ++ 14 ∷ 0 ∷ []) (ended 10)
@@ -78,10 +90,8 @@ pub record WorkedStreams : Type 0 where
   pub length_too_long : EndsSo (m ++ 1 ∷ 0x80 ∷ 0x80 ∷ 0x80 ∷ 0x80 ∷ 0x80 ∷ []) (fault (at_offset (NumberTooLong VarU32) 13))
   pub section_cut : EndsSo (m ++ 1 ∷ 2 ∷ 0 ∷ []) (fault (at_offset UnexpectedEof 10))
   pub at_the_top : (tiles : List Tile) × Reads (m ++ small 0) 18446744073709551604 tiles (ended 18446744073709551615)
-  pub too_large : (tiles : List Tile) × Reads (m ++ 0 ∷ 6 ∷ []) 18446744073709551600 tiles (fault (record { fault = SectionTooLarge; offset = 18446744073709551609; number = Some 6 }))
   pub count_too_large : EndsSo (m ++ 1 ∷ 5 ∷ 0xff ∷ 0xff ∷ 0xff ∷ 0xff ∷ 0x1f ∷ []) (fault (at_offset (NumberTooLarge VarU32) 14))
   pub count_cut : EndsSo (m ++ 1 ∷ 1 ∷ 0x80 ∷ []) (fault (at_offset UnexpectedEof 11))
-  pub types_twice : EndsSo (m ++ 1 ∷ 1 ∷ 0 ∷ 1 ∷ 1 ∷ []) (fault (at_offset OutOfOrder 13))
   pub types_behind_custom : EndsSo (m ++ small 1 ++ small 0 ++ small 1) (fault (at_offset OutOfOrder 16))
   pub components_have_no_order : EndsSo (component ++ small 2 ++ small 1 ++ small 1) (ended 17)
   pub name_cut : EndsSo (m ++ 0 ∷ 1 ∷ 5 ∷ []) (fault (at_offset UnexpectedEof 11))
@@ -89,19 +99,14 @@ pub record WorkedStreams : Type 0 where
   pub start_cut : EndsSo (m ++ 8 ∷ 0 ∷ []) (fault (at_offset UnexpectedEof 10))
   pub start_with_more : EndsSo (m ++ 8 ∷ 2 ∷ 0 ∷ 0 ∷ []) (fault (at_offset StartContent 11))
   pub count_with_more : EndsSo (m ++ 12 ∷ 2 ∷ 0 ∷ 0 ∷ []) (fault (at_offset DataCountContent 11))
-  pub no_code : EndsSo (m ++ 3 ∷ 2 ∷ 1 ∷ 0 ∷ []) (fault (at_offset FunctionWithoutCode 12))
   pub no_functions : EndsSo (m ++ small 3) (ended 11)
-  pub code_of_none : EndsSo (m ++ small 10) (ended 11)
   pub code_alone : EndsSo (m ++ 10 ∷ 2 ∷ 1 ∷ 0 ∷ []) (fault (at_offset CodeWithoutFunction 10))
   pub code_differs : EndsSo (m ++ 3 ∷ 1 ∷ 0 ∷ 10 ∷ 2 ∷ 1 ∷ 0 ∷ []) (fault (at_offset FunctionCodeDiffer 13))
   pub no_data : EndsSo (m ++ 12 ∷ 1 ∷ 1 ∷ []) (fault (at_offset DataCountWithoutData 11))
   pub no_segments : EndsSo (m ++ small 12) (ended 11)
-  pub data_differ : EndsSo (m ++ 12 ∷ 1 ∷ 1 ∷ 11 ∷ 2 ∷ 2 ∷ 0 ∷ []) (fault (at_offset DataCountDiffer 15))
   pub data_of_more : EndsSo (m ++ 12 ∷ 1 ∷ 0 ∷ 11 ∷ 2 ∷ 1 ∷ 0 ∷ []) (fault (at_offset DataCountDiffer 15))
   pub code_without_count : EndsSo (m ++ 10 ∷ 0 ∷ []) (fault (at_offset UnexpectedEof 10))
   pub count_past_the_section : EndsSo (m ++ 10 ∷ 0 ∷ 0 ∷ []) (fault (at_offset UnexpectedEof 10))
   pub no_body : EndsSo (m ++ 3 ∷ 2 ∷ 1 ∷ 0 ∷ 10 ∷ 1 ∷ 1 ∷ []) (fault (at_offset UnexpectedEof 15))
   pub body_size_cut : EndsSo (m ++ 3 ∷ 2 ∷ 1 ∷ 0 ∷ 10 ∷ 2 ∷ 1 ∷ 0x80 ∷ []) (fault (at_offset UnexpectedEof 16))
   pub body_cut : EndsSo (m ++ 3 ∷ 2 ∷ 1 ∷ 0 ∷ 10 ∷ 3 ∷ 1 ∷ 5 ∷ 0 ∷ []) (fault (at_offset UnexpectedEof 16))
-  pub past_the_section : EndsSo (m ++ 3 ∷ 2 ∷ 2 ∷ 0 ∷ 10 ∷ 2 ∷ 2 ∷ 0 ∷ 0 ∷ []) (fault (at_offset UnexpectedEof 16))
-  pub trailing : EndsSo (m ++ 3 ∷ 2 ∷ 1 ∷ 0 ∷ 10 ∷ 3 ∷ 1 ∷ 0 ∷ 0 ∷ []) (fault (at_offset TrailingCode 16))

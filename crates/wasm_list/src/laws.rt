@@ -1,5 +1,5 @@
 //! Laws of the definitions of framing, each the contract of a function that does nothing.
-ghost use Rattle.wasm_list.specs.Worked.{WorkedStreams};
+ghost use Rattle.wasm_list.specs.Worked.{EdgesOfRules, WorkedStreams};
 ghost use Rattle.wasm_list.specs.Laws.{EventsLieEndToEnd, FaultLiesWithin, LongestTiling, OneReading, ParserSuffices, SomeReading, StartOnlyMoves, TilesStandAlone};
 
 /// Two readings of one stream are one.
@@ -49,4 +49,9 @@ pub fn parser_suffices()
 /// Worked streams have the readings that were computed by hand.
 pub fn worked_streams()
     ensures { WorkedStreams }
+{}
+
+/// Streams at the edges of the rules have the readings, or end as they do, by hand.
+pub fn edges_of_rules()
+    ensures { EdgesOfRules }
 {}
