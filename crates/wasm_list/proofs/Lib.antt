@@ -6,5 +6,13 @@ pub mod Progress
 pub mod ReadingLaws
 pub mod StandsLaws
 pub mod Telling
+pub mod TextbookContents
+pub mod TextbookCounts
+pub mod TextbookEnds
+pub mod TextbookFits
+pub mod TextbookHeaders
+pub mod TextbookLists
+pub mod TextbookParts
+pub mod TextbookTiles
 pub mod TileLaws
 pub mod WorkedLaws
