@@ -11,8 +11,11 @@ pub mod TextbookCounts
 pub mod TextbookEnds
 pub mod TextbookFits
 pub mod TextbookHeaders
+pub mod TextbookKnows
 pub mod TextbookLists
 pub mod TextbookParts
+pub mod TextbookSteps
 pub mod TextbookTiles
+pub mod TextbookWalks
 pub mod TileLaws
 pub mod WorkedLaws

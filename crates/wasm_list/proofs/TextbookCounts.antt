@@ -45,7 +45,8 @@ pub yes_section : (encoding : Encoding) (n : ℕ) (f : Frame) → IsSection enco
 yes_section Module n f s = eq-eqb f.id n s.1
 yes_section Component n f s = let z : Component ≡ Module = s.0 in cc
 
-and_swap : (a b : Bool) → (a && b) ≡ (b && a)
+-- two tests in either order
+pub and_swap : (a b : Bool) → (a && b) ≡ (b && a)
 and_swap true true = refl
 and_swap true false = refl
 and_swap false true = refl
