@@ -10,10 +10,12 @@ pub mod TextbookContents
 pub mod TextbookCounts
 pub mod TextbookEnds
 pub mod TextbookFits
+pub mod TextbookFrames
 pub mod TextbookHeaders
 pub mod TextbookKnows
 pub mod TextbookLists
 pub mod TextbookParts
+pub mod TextbookStates
 pub mod TextbookSteps
 pub mod TextbookTiles
 pub mod TextbookWalks

@@ -1,15 +1,15 @@
 -- Nothing is wrong with a section's content exactly if it is good.
-use Rattle.std.proofs.Common.{◌≡◌, ℕ, zero, suc, ◌+◌, ◌<◌, ◌≤◌, Bool, true, false, cond, List, [], ◌∷◌, length, Option, Some, None, nat_lt, refl, sym, ap, subst, ◌∙◌, arith, le-ltb, ltb-false}
-use Rattle.wasm_base.specs.FaultAt.{FaultAt, at_offset}
+use Rattle.std.proofs.Common.{◌≡◌, ℕ, zero, suc, ◌+◌, ◌≤◌, List, length, Some, None, nat_lt, refl, ap, subst, arith, le-ltb, ltb-false}
+use Rattle.wasm_base.specs.FaultAt.{at_offset}
 use Rattle.wasm_base.specs.Name.{Name, named, refused, name_limit, name}
 use Rattle.wasm_base.specs.Number.{Number, read, bad, short, number}
 use Rattle.wasm_base.specs.declared.fault.Fault.{Fault}
-use Rattle.wasm_base.specs.declared.fault.Fault.TheVariants.{UnexpectedEof, StartContent, DataCountContent}
+use Rattle.wasm_base.specs.declared.fault.Fault.TheVariants.{StartContent, DataCountContent}
 use Rattle.wasm_base.specs.declared.fault.NumberKind.TheVariants.{VarU32}
 use Rattle.wasm_base.proofs.NumberLaws.{number-used, Used}
 use Rattle.wasm_list.specs.declared.payload.Encoding.{Encoding}
 use Rattle.wasm_list.specs.declared.payload.Encoding.TheVariants.{Module, Component}
-use Rattle.wasm_list.specs.Content.{Kind, custom, items, index, data_count, code, unknown, kind_of, when, wrong_name, wrong_number, wrong_single, wrong_content}
+use Rattle.wasm_list.specs.Content.{Kind, custom, items, index, data_count, code, unknown, kind_of, wrong_name, wrong_number, wrong_single, wrong_content}
 use Rattle.wasm_list.specs.Accepted.{IsNumber, IsGood}
 use Rattle.wasm_list.proofs.StandsLaws.{none_when}
 use Rattle.wasm_list.proofs.TextbookTiles.{IsWhole}

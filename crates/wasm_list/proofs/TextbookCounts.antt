@@ -1,17 +1,13 @@
 -- What the tiles before a section say to it, told of the frames before it.
-use Rattle.std.proofs.Common.{◌≡◌, ℕ, zero, suc, ◌+◌, ◌<◌, ◌⊎◌, inl, inr, ◌==◌, Bool, true, false, cond, not, ◌&&◌, ◌||◌, List, [], ◌∷◌, ◌++◌, length, refl, sym, ap, subst, ◌∙◌, arith, Option, Some, None, nat_lt, nat_eq, eqb-true, eq-eqb, ltb-true, lt-ltb, length-append, append-nil, append_assoc}
-use Rattle.std.specs.List.{All, Any, list_all, list_any}
-use Rattle.std.proofs.lemmas.Bool.{and_parts, and_from, and_cases, cases_Bool}
+use Rattle.std.proofs.Common.{◌≡◌, ℕ, ◌<◌, Bool, true, false, cond, not, ◌&&◌, ◌||◌, List, [], ◌∷◌, ◌++◌, length, refl, sym, ap, ◌∙◌, nat_lt, nat_eq, eqb-true, eq-eqb, append-nil, append_assoc}
+use Rattle.std.specs.List.{All, list_all, list_any}
 use Rattle.std.proofs.Math.Dec.{eqb-suc-zero}
 use Rattle.std.proofs.lemmas.List.Folds.{list_all-append, list_any-append}
-use Rattle.wasm_base.specs.FaultAt.{FaultAt, at_offset}
-use Rattle.wasm_base.specs.declared.fault.Fault.TheVariants.{FunctionCodeDiffer, CodeWithoutFunction, DataCountDiffer}
 use Rattle.wasm_list.specs.declared.payload.Encoding.{Encoding}
 use Rattle.wasm_list.specs.declared.payload.Encoding.TheVariants.{Module, Component}
-use Rattle.wasm_list.specs.Content.{Kind, custom, items, index, data_count, code, unknown, kind_of, rank_of, when, count_of}
-use Rattle.wasm_list.specs.Grammar.{Past, wrong_count, wrong_data}
-use Rattle.wasm_list.specs.Accepted.{Sized, Frame, frame_count, frame_rank, IsSection, FitsAfter, IsMatched}
-use Rattle.wasm_list.proofs.TextbookLists.{all_of, all_to, any_of, any_to}
+use Rattle.wasm_list.specs.Grammar.{Past}
+use Rattle.wasm_list.specs.Accepted.{Frame, frame_count, frame_rank, IsSection}
+use Rattle.wasm_list.proofs.TextbookLists.{all_of, all_to}
 
 -- whether a frame is a module's section with this id
 abbrev pub is_section : Encoding → ℕ → Frame → Bool

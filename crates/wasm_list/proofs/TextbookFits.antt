@@ -1,17 +1,16 @@
 -- A section may follow other tiles exactly if it fits behind their frames.
-use Rattle.std.proofs.Common.{◌≡◌, ℕ, zero, suc, ◌+◌, ◌<◌, ◌⊎◌, inl, inr, ◌==◌, Bool, true, false, cond, not, ◌&&◌, ◌||◌, List, [], ◌∷◌, ◌++◌, length, refl, sym, ap, subst, ◌∙◌, arith, Option, Some, None, nat_lt, nat_eq, eqb-true, eq-eqb, ltb-true, lt-ltb, ltb-false}
+use Rattle.std.proofs.Common.{◌≡◌, ℕ, zero, suc, ◌<◌, ◌⊎◌, inl, inr, ◌==◌, Bool, true, false, cond, not, ◌&&◌, List, length, refl, sym, ap, subst, ◌∙◌, arith, Some, None, nat_lt, nat_eq, eqb-true, eq-eqb, ltb-true, lt-ltb}
 use Rattle.std.specs.List.{All, Any, list_all, list_any}
-use Rattle.std.proofs.lemmas.Bool.{and_cases, cases_Bool}
 use Rattle.wasm_base.specs.FaultAt.{FaultAt, at_offset}
-use Rattle.wasm_base.specs.declared.fault.Fault.TheVariants.{FunctionCodeDiffer, CodeWithoutFunction, DataCountDiffer, FunctionWithoutCode, DataCountWithoutData}
+use Rattle.wasm_base.specs.declared.fault.Fault.TheVariants.{FunctionCodeDiffer, CodeWithoutFunction, DataCountDiffer}
 use Rattle.wasm_list.specs.declared.payload.Encoding.{Encoding}
 use Rattle.wasm_list.specs.declared.payload.Encoding.TheVariants.{Module, Component}
-use Rattle.wasm_list.specs.Content.{Kind, custom, items, index, data_count, code, unknown, kind_of, rank_of, when, count_of, Ending, fault, ended}
-use Rattle.wasm_list.specs.Grammar.{Past, wrong_count, wrong_data, end_of}
-use Rattle.wasm_list.specs.Accepted.{Sized, Frame, frame_count, frame_rank, IsSection, FitsAfter, IsMatched}
+use Rattle.wasm_list.specs.Content.{Kind, custom, items, index, data_count, code, unknown, kind_of, when}
+use Rattle.wasm_list.specs.Grammar.{Past, wrong_count, wrong_data}
+use Rattle.wasm_list.specs.Accepted.{Frame, frame_count, frame_rank, IsSection}
 use Rattle.wasm_list.proofs.StandsLaws.{Follows, follows_all}
 use Rattle.wasm_list.proofs.TextbookLists.{all_of, all_to, any_of, any_to}
-use Rattle.wasm_list.proofs.TextbookCounts.{is_section, one_count, counts_of, Knows, section_yes, yes_section, all_counts, any_counts, no_counts, HasCount, same_to, same_of, offends}
+use Rattle.wasm_list.proofs.TextbookCounts.{is_section, counts_of, Knows, section_yes, yes_section, no_counts, HasCount, same_to, same_of}
 
 follows_to : (r : ℕ) (b : Bool) → (0 < r → b ≡ true) → (nat_lt 0 r && not b) ≡ false
 follows_to zero b h = refl

@@ -1,15 +1,15 @@
 -- The header's tile has the header's bytes.
-use Rattle.std.proofs.Common.{◌≡◌, ℕ, zero, suc, ◌+◌, ◌*◌, ◌/◌, ◌%◌, ◌<◌, ◌⊎◌, inl, inr, ◌==◌, Bool, true, false, cond, not, ◌&&◌, List, [], ◌∷◌, ◌++◌, length, Option, Some, None, nat_eq, refl, sym, ap, subst, ◌∙◌, arith, append-nil, eqb-true}
+use Rattle.std.proofs.Common.{◌≡◌, ℕ, ◌+◌, ◌*◌, ◌/◌, ◌%◌, ◌<◌, ◌⊎◌, inl, inr, ◌==◌, Bool, true, false, cond, not, ◌&&◌, List, [], ◌∷◌, ◌++◌, length, Option, Some, None, nat_eq, refl, sym, ap, subst, ◌∙◌, arith, eqb-true}
 use Rattle.std.specs.List.{All}
 use Rattle.std.proofs.lemmas.Bool.{and_parts}
-use Rattle.wasm_base.specs.FaultAt.{FaultAt, at_offset}
+use Rattle.wasm_base.specs.FaultAt.{at_offset}
 use Rattle.wasm_base.specs.Header.{magic, agree}
 use Rattle.wasm_base.specs.Name.{of_four}
 use Rattle.wasm_base.specs.declared.fault.Fault.TheVariants.{BadMagic}
 use Rattle.wasm_list.specs.declared.payload.Encoding.{Encoding}
 use Rattle.wasm_list.specs.declared.payload.Encoding.TheVariants.{Module, Component}
 use Rattle.wasm_list.specs.Content.{when}
-use Rattle.wasm_list.specs.Grammar.{Shape, header, Tile, Verdict, tile, Grammar, refuse, bytes, verdict, encoding_named, header_of, version_of as grammar_of_bits, header_grammar}
+use Rattle.wasm_list.specs.Grammar.{header, Tile, tile, refuse, bytes, verdict, encoding_named, header_of, version_of as grammar_of_bits, header_grammar}
 use Rattle.wasm_list.specs.Accepted.{header_bytes}
 use Rattle.wasm_list.proofs.StandsLaws.{none_when}
 use Rattle.wasm_list.proofs.TextbookFits.{not_false}

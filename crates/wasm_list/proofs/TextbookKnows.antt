@@ -1,16 +1,16 @@
 -- What tiles say of the frames that they make, tile by tile.
-use Rattle.std.proofs.Common.{◌≡◌, ℕ, zero, suc, ◌+◌, ◌-◌, ◌<◌, ◌≤◌, ◌⊎◌, inl, inr, Bool, true, false, cond, not, ◌&&◌, List, [], ◌∷◌, ◌++◌, length, refl, sym, ap, subst, ◌∙◌, arith, nat_lt, nat_eq, eqb-true, lt-ltb, length-append, append-nil}
-use Rattle.std.specs.List.{All, flat_map, list_all}
+use Rattle.std.proofs.Common.{◌≡◌, ℕ, zero, suc, ◌+◌, ◌⊎◌, inl, inr, Bool, true, false, cond, ◌&&◌, List, [], ◌∷◌, ◌++◌, length, refl, sym, ap, subst, ◌∙◌, nat_lt, nat_eq, eqb-true, lt-ltb}
+use Rattle.std.specs.List.{list_all}
 use Rattle.std.proofs.lemmas.Bool.{and_from}
 use Rattle.std.proofs.lemmas.List.Folds.{list_all-append}
 use Rattle.wasm_list.specs.declared.payload.Encoding.{Encoding}
 use Rattle.wasm_list.specs.declared.payload.Encoding.TheVariants.{Module, Component}
 use Rattle.wasm_list.specs.Content.{Kind, custom, items, index, data_count, code, unknown, kind_of, rank_of, count_of}
-use Rattle.wasm_list.specs.Grammar.{Shape, header, section, code_head, body, Tile, Past, Grammar, section_grammar, body_grammar}
-use Rattle.wasm_list.specs.Tiling.{front, grammar, Faultless, past, tile_rank, count_in, counts, bodies_left, bytes_left, encoding_of}
+use Rattle.wasm_list.specs.Grammar.{header, section, code_head, body, Tile, Grammar, section_grammar, body_grammar}
+use Rattle.wasm_list.specs.Tiling.{front, grammar, past, tile_rank, count_in, counts, bodies_left, bytes_left}
 use Rattle.wasm_list.specs.Stands.{is_start}
-use Rattle.wasm_list.specs.Accepted.{Sized, Frame, frame_bytes, frame_count, frame_rank, header_bytes}
-use Rattle.wasm_list.proofs.TextbookCounts.{is_section, one_count, counts_of, counts_push, and_swap, Knows}
+use Rattle.wasm_list.specs.Accepted.{Frame, frame_count, frame_rank}
+use Rattle.wasm_list.proofs.TextbookCounts.{one_count, counts_of, counts_push, and_swap, Knows}
 use Rattle.wasm_list.proofs.TextbookTiles.{made, IsWhole, version_of}
 
 -- what may stand behind tiles that are at the end of a section

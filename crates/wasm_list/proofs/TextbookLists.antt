@@ -1,5 +1,5 @@
 -- Laws of lists that the textbook form of a stream asks for.
-use Rattle.std.proofs.Common.{◌≡◌, ℕ, zero, suc, ◌+◌, ◌<◌, ◌⊎◌, inl, inr, Bool, true, false, cond, not, ◌&&◌, ◌||◌, List, [], ◌∷◌, ◌++◌, length, refl, sym, ap, subst, ◌∙◌, arith, slice_index_or}
+use Rattle.std.proofs.Common.{◌≡◌, ◌⊎◌, inl, inr, Bool, true, false, List, [], ◌∷◌, ◌++◌, refl, ap}
 use Rattle.std.specs.List.{All, Any, list_all, list_any}
 use Rattle.std.proofs.lemmas.Bool.{and_parts, and_from, or_parts}
 use Rattle.std.proofs.lemmas.List.Elements.{All-nil, All-cons, All-head, All-tail}
@@ -27,6 +27,11 @@ module _ {X : Type 0} where
   -- an element passes a test for what is said of one
   pub any_to : (p : X → Bool) (P : X → Type 0) → ((x : X) → P x → p x ≡ true) → (xs : List X) → Any P xs → list_any p xs ≡ true
   any_to p P h xs a = list_any-from_Any p xs (a.0, a.1, a.2, a.3, h a.1 a.4)
+
+  -- what holds of each holds of each of the first
+  pub all_front : (P : X → Type 0) (xs ys : List X) → All P (xs ++ ys) → All P xs
+  all_front P [] ys a = All-nil P
+  all_front P (x ∷ xs) ys a = All-cons P x xs (All-head P x (xs ++ ys) a) (all_front P xs ys (All-tail P x (xs ++ ys) a))
 
   -- a test that no element passes says something of each
   pub none_of : (p : X → Bool) (P : X → Type 0) → ((x : X) → p x ≡ false → P x) → (xs : List X) → list_any p xs ≡ false → All P xs

@@ -1,25 +1,19 @@
 -- Tiles are bytes in the textbook form.
-use Rattle.std.proofs.Common.{◌≡◌, ◌≢◌, ℕ, zero, suc, ◌+◌, ◌-◌, ◌*◌, ◌^◌, ◌/◌, ◌%◌, ◌<◌, ◌≤◌, ◌⊎◌, inl, inr, ◌==◌, Bool, true, false, cond, not, ◌&&◌, List, [], ◌∷◌, ◌++◌, length, take, drop, Option, Some, None, nat_lt, nat_le, nat_eq, refl, sym, ap, subst, ◌∙◌, arith, append-nil, append_assoc, length-append, eqb-true, leb-true, leb-false, ltb-false}
-use Rattle.std.specs.List.{All}
+use Rattle.std.proofs.Common.{◌≡◌, ℕ, zero, suc, ◌+◌, ◌-◌, ◌<◌, ◌≤◌, Bool, true, false, cond, not, ◌&&◌, List, [], ◌∷◌, ◌++◌, length, take, drop, Option, Some, None, nat_lt, nat_le, refl, sym, ap, subst, ◌∙◌, arith, append-nil, leb-true, leb-false, ltb-false}
 use Rattle.std.proofs.lemmas.List.{length-take-le}
-use Rattle.std.proofs.lemmas.List.Elements.{All-head, All-tail}
-use Rattle.std.proofs.lemmas.Bool.{and_parts}
 use Rattle.wasm_base.specs.FaultAt.{FaultAt, at_offset}
 use Rattle.wasm_base.specs.Header.{magic, agree}
-use Rattle.wasm_base.specs.Name.{of_four}
-use Rattle.wasm_base.specs.Number.{Number, read, number as number_at}
+use Rattle.wasm_base.specs.Number.{read}
 use Rattle.wasm_base.specs.declared.fault.NumberKind.TheVariants.{VarU32}
 use Rattle.wasm_base.specs.declared.fault.Fault.TheVariants.{MagicAtSection, UnexpectedEof}
 use Rattle.wasm_base.proofs.NumberLaws.{number-used, Used}
-use Rattle.wasm_list.specs.declared.payload.Encoding.{Encoding}
-use Rattle.wasm_list.specs.declared.payload.Encoding.TheVariants.{Module, Component}
 use Rattle.wasm_list.specs.Content.{Kind, custom, items, index, data_count, code, unknown, kind_of, rank_of, Ending, fault, when, wrong_content}
-use Rattle.wasm_list.specs.Grammar.{Shape, header, section, code_head, body, Tile, Verdict, tile, final, behind, Past, Grammar, takes, stops, refuse, number, bytes, section_start, verdict, encoding_named, header_of, header_grammar, section_grammar, body_grammar, content_grammar, whole_grammar, code_grammar, sized, framed, wrong_count, wrong_data}
-use Rattle.wasm_list.specs.Accepted.{IsNumber, header_bytes}
+use Rattle.wasm_list.specs.Grammar.{Shape, section, code_head, body, Tile, tile, final, behind, Past, Grammar, takes, refuse, number, bytes, verdict, section_grammar, body_grammar, content_grammar, whole_grammar, code_grammar, sized, framed, wrong_count, wrong_data}
+use Rattle.wasm_list.specs.Accepted.{IsNumber}
 use Rattle.wasm_list.proofs.GrammarLaws.{behind-tile}
 use Rattle.wasm_list.proofs.StandsLaws.{Follows, none_when}
 use Rattle.wasm_list.proofs.TileLaws.{Numbered, numbered}
-use Rattle.wasm_list.proofs.TextbookTiles.{made, IsWhole, version_of}
+use Rattle.wasm_list.proofs.TextbookTiles.{made, IsWhole}
 
 -- nothing is wrong in front of a tile
 pub refuse_parts : (e : Option FaultAt) (next : Grammar) (xs : List ℕ) (t : Tile) → verdict (refuse e next) xs ≡ tile t → (e ≡ None) × (verdict next xs ≡ tile t)

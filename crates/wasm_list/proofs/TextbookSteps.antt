@@ -1,16 +1,16 @@
 -- A good section that fits behind other tiles is one tile more, or the head of a code section and its bodies.
-use Rattle.std.proofs.Common.{◌≡◌, ℕ, zero, suc, ◌+◌, ◌-◌, ◌^◌, ◌<◌, ◌≤◌, ◌⊎◌, inl, inr, Bool, true, false, List, [], ◌∷◌, ◌++◌, length, Option, Some, None, nat_eq, refl, sym, ap, subst, ◌∙◌, arith, length-append, append-nil, append_assoc, lit<}
-use Rattle.std.specs.List.{All, Any, flat_map}
+use Rattle.std.proofs.Common.{◌≡◌, ℕ, suc, ◌+◌, ◌-◌, ◌^◌, ◌<◌, ◌≤◌, true, false, List, [], ◌∷◌, ◌++◌, length, Some, nat_eq, refl, sym, ap, subst, ◌∙◌, arith, length-append, append-nil, append_assoc, lit<}
+use Rattle.std.specs.List.{All, flat_map}
 use Rattle.std.proofs.lemmas.Bool.{ne_eqb}
 use Rattle.std.proofs.lemmas.List.Elements.{All-head, All-tail}
 use Rattle.wasm_base.specs.Name.{named, name_limit, name}
 use Rattle.wasm_list.specs.declared.payload.Encoding.{Encoding}
 use Rattle.wasm_list.specs.declared.payload.Encoding.TheVariants.{Module, Component}
-use Rattle.wasm_list.specs.Content.{Kind, custom, items, index, data_count, code, unknown, kind_of, rank_of, value_of, count_of}
-use Rattle.wasm_list.specs.Grammar.{Shape, section, code_head, body, Tile, tile, Past, Grammar, verdict, section_grammar, body_grammar}
+use Rattle.wasm_list.specs.Content.{kind_of, rank_of, value_of, count_of}
+use Rattle.wasm_list.specs.Grammar.{section, code_head, body, Tile, tile, Past, Grammar, verdict, section_grammar, body_grammar}
 use Rattle.wasm_list.specs.Tiling.{front, grammar, Faultless, past, bodies_left, bytes_left}
 use Rattle.wasm_list.specs.Stands.{is_start}
-use Rattle.wasm_list.specs.Accepted.{Sized, sized_bytes, IsNumber, IsSized, Frame, frame_bytes, frame_count, frame_rank, IsFrame, IsGood, FitsAfter, CodeDivision}
+use Rattle.wasm_list.specs.Accepted.{Sized, sized_bytes, IsSized, Frame, frame_bytes, frame_count, frame_rank, IsFrame, IsGood, FitsAfter, CodeDivision}
 use Rattle.wasm_list.proofs.StandsLaws.{Follows}
 use Rattle.wasm_list.proofs.TextbookCounts.{Knows}
 use Rattle.wasm_list.proofs.TextbookFits.{rank_to, CodeFits, code_to, data_to}

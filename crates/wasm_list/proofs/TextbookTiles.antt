@@ -1,19 +1,19 @@
 -- Bytes in the textbook form are tiles.
-use Rattle.std.proofs.Common.{◌≡◌, ◌≢◌, ℕ, zero, suc, ◌+◌, ◌-◌, ◌*◌, ◌^◌, ◌<◌, ◌≤◌, Bool, true, false, cond, not, ◌&&◌, List, [], ◌∷◌, ◌++◌, length, take, drop, Option, Some, None, nat_lt, nat_le, nat_eq, refl, sym, ap, subst, ◌∙◌, arith, append-nil, append_assoc, length-append, eqb-true, le-leb, le-ltb, lt-ltb}
+use Rattle.std.proofs.Common.{◌≡◌, ◌≢◌, ℕ, suc, ◌+◌, ◌-◌, ◌^◌, ◌<◌, ◌≤◌, Bool, true, false, not, ◌&&◌, List, [], ◌∷◌, ◌++◌, length, take, drop, Option, Some, None, nat_lt, nat_le, nat_eq, refl, sym, ap, subst, ◌∙◌, arith, append-nil, length-append, eqb-true, le-leb, le-ltb, lt-ltb}
 use Rattle.std.proofs.lemmas.List.{take_at, drop_at}
 use Rattle.std.proofs.lemmas.Bool.{and_parts, false_from_ne_true}
 use Rattle.std.proofs.lemmas.Bool.Decides.{nat_tests}
-use Rattle.wasm_base.specs.FaultAt.{FaultAt, at_offset}
+use Rattle.wasm_base.specs.FaultAt.{FaultAt}
 use Rattle.wasm_base.specs.Header.{magic, agree}
-use Rattle.wasm_base.specs.Name.{Name, named, refused, name_limit, name}
-use Rattle.wasm_base.specs.Number.{Number, read, bad, short, number as number_at}
+use Rattle.wasm_base.specs.Name.{named, refused, name_limit, name}
+use Rattle.wasm_base.specs.Number.{read, short, number as number_at}
 use Rattle.wasm_base.specs.declared.fault.NumberKind.TheVariants.{VarU32}
 use Rattle.wasm_base.specs.declared.fault.Fault.TheVariants.{UnexpectedEof}
 use Rattle.wasm_base.proofs.NumberLaws.{number-more, number-used, Used}
 use Rattle.wasm_list.specs.declared.payload.Encoding.{Encoding}
 use Rattle.wasm_list.specs.declared.payload.Encoding.TheVariants.{Module, Component}
-use Rattle.wasm_list.specs.Content.{Kind, custom, items, index, data_count, code, unknown, kind_of, rank_of, Ending, fault, when, wrong_content}
-use Rattle.wasm_list.specs.Grammar.{Shape, header, section, code_head, body, Tile, Verdict, tile, final, behind, behind_number, Past, Grammar, takes, stops, refuse, number, bytes, section_start, verdict, header_grammar, section_grammar, body_grammar, content_grammar, whole_grammar, code_grammar, sized, framed, wrong_count, wrong_data}
+use Rattle.wasm_list.specs.Content.{Kind, custom, items, index, data_count, code, unknown, kind_of, rank_of, Ending, when, wrong_content}
+use Rattle.wasm_list.specs.Grammar.{Shape, header, section, code_head, body, Tile, tile, Past, Grammar, takes, refuse, number, bytes, section_start, verdict, header_grammar, section_grammar, body_grammar, content_grammar, whole_grammar, code_grammar, framed, wrong_count, wrong_data}
 use Rattle.wasm_list.specs.Accepted.{IsNumber, header_bytes}
 use Rattle.wasm_list.proofs.StandsLaws.{Follows}
 use Rattle.wasm_list.proofs.TileLaws.{one_byte}

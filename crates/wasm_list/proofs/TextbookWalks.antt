@@ -1,5 +1,5 @@
 -- An accepted stream's reading ends at its end.
-use Rattle.std.proofs.Common.{◌≡◌, ℕ, zero, suc, ◌+◌, ◌-◌, ◌^◌, ◌<◌, ◌≤◌, ◌⊎◌, inl, inr, Bool, true, false, List, [], ◌∷◌, ◌++◌, length, nat_eq, refl, sym, ap, subst, ◌∙◌, arith, length-append, append-nil, append_assoc}
+use Rattle.std.proofs.Common.{◌≡◌, ℕ, ◌+◌, ◌-◌, ◌^◌, ◌<◌, ◌≤◌, ◌⊎◌, inl, inr, true, false, List, [], ◌∷◌, ◌++◌, length, nat_eq, refl, sym, ap, subst, ◌∙◌, arith, length-append, append-nil, append_assoc}
 use Rattle.std.specs.List.{All, flat_map}
 use Rattle.std.proofs.lemmas.List.{flat_map_more}
 use Rattle.std.proofs.lemmas.Grind.{flat_map-append}
@@ -7,11 +7,11 @@ use Rattle.std.proofs.lemmas.List.Elements.{All-head, All-tail}
 use Rattle.wasm_list.specs.declared.payload.Encoding.{Encoding}
 use Rattle.wasm_list.specs.declared.payload.Encoding.TheVariants.{Module, Component}
 use Rattle.wasm_list.specs.Content.{Kind, custom, items, index, data_count, code, unknown, kind_of, ended}
-use Rattle.wasm_list.specs.Grammar.{Shape, header, section, code_head, body, Tile, tile, final, Past, Grammar, verdict, end_of, section_grammar}
+use Rattle.wasm_list.specs.Grammar.{header, section, code_head, Tile, tile, final, Past, Grammar, verdict, end_of, section_grammar}
 use Rattle.wasm_list.specs.Tiling.{front, grammar, Faultless, past, bodies_left, bytes_left}
 use Rattle.wasm_list.specs.Reading.{Reads}
 use Rattle.wasm_list.specs.Stands.{is_start}
-use Rattle.wasm_list.specs.Accepted.{Sized, sized_bytes, Frame, frame_bytes, IsFrame, IsGood, FitsAfter, CodeDivision, IsAccepted, header_bytes}
+use Rattle.wasm_list.specs.Accepted.{sized_bytes, Frame, frame_bytes, IsFrame, IsGood, FitsAfter, CodeDivision, IsAccepted, header_bytes}
 use Rattle.wasm_list.proofs.TextbookCounts.{Knows}
 use Rattle.wasm_list.proofs.TextbookContents.{code_id}
 use Rattle.wasm_list.proofs.TextbookEnds.{end_to}

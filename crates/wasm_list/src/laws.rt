@@ -1,6 +1,6 @@
 //! Laws of the definitions of framing, each the contract of a function that does nothing.
 ghost use Rattle.wasm_list.specs.Worked.{WorkedStreams};
-ghost use Rattle.wasm_list.specs.Laws.{OneReading, ParserSuffices, SomeReading, TilesStandAlone};
+ghost use Rattle.wasm_list.specs.Laws.{AcceptedEnds, OneReading, ParserSuffices, SomeReading, TilesStandAlone};
 
 /// Two readings of one stream are one.
 pub fn one_reading()
@@ -27,4 +27,10 @@ pub fn parser_suffices()
 /// Worked streams have the readings that were computed by hand.
 pub fn worked_streams()
     ensures { WorkedStreams }
+{}
+
+/// The reading of a stream ends at its end exactly if the stream is accepted: a header, and then nothing but good
+/// sections in their order.
+pub fn accepted_ends()
+    ensures { AcceptedEnds }
 {}
