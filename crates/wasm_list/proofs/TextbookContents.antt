@@ -14,6 +14,7 @@ use Rattle.wasm_list.specs.Accepted.{IsNumber, IsGood}
 use Rattle.wasm_list.proofs.StandsLaws.{none_when}
 use Rattle.wasm_list.proofs.TextbookTiles.{IsWhole}
 
+-- nothing is wrong with content that is one number
 single_to : (left : Fault) (o n : ℕ) (content : List ℕ) → IsNumber content n → wrong_single left o content (number VarU32 content) ≡ None
 single_to left o n content e = rw e (rw (le-ltb (length content) (length content) (omega arith)) refl)
 
@@ -27,15 +28,18 @@ good_to data_count o content w g = single_to DataCountContent o g.0 content g.1
 good_to unknown o content w g = refl
 good_to code o content w g = absurd w
 
+-- content with no fault in its name has a name
 named_from : (o : ℕ) (content : List ℕ) (n : Name) → name (Some name_limit) content ≡ n → wrong_name o n ≡ None → IsGood custom content
 named_from o content (named text used) e h = (text, used, e)
 named_from o content (refused f place) e h = cc
 
+-- content with no fault in its number has a number
 read_from : (o : ℕ) (content : List ℕ) (n : Number) → number VarU32 content ≡ n → wrong_number o content n ≡ None → IsGood items content
 read_from o content (read v k) e h = (v, k, e)
 read_from o content (bad f place) e h = cc
 read_from o content short e h = cc
 
+-- content with no fault as one number is one number
 single_from : (left : Fault) (o : ℕ) (content : List ℕ) (n : Number) → number VarU32 content ≡ n → wrong_single left o content n ≡ None → (v : ℕ) × IsNumber content v
 single_from left o content (read v k) e h =
     let u : Used VarU32 content v k = number-used VarU32 content v k e in

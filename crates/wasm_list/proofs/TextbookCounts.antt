@@ -1,6 +1,7 @@
 -- What the tiles before a section say to it, told of the frames before it.
 use Rattle.std.proofs.Common.{◌≡◌, ℕ, ◌<◌, Bool, true, false, cond, not, ◌&&◌, ◌||◌, List, [], ◌∷◌, ◌++◌, length, refl, sym, ap, ◌∙◌, nat_lt, nat_eq, eqb-true, eq-eqb, append-nil, append_assoc}
 use Rattle.std.specs.List.{All, list_all, list_any}
+use Rattle.std.proofs.Math.Bool.{and_comm, or_comm}
 use Rattle.std.proofs.Math.Dec.{eqb-suc-zero}
 use Rattle.std.proofs.lemmas.List.Folds.{list_all-append, list_any-append}
 use Rattle.wasm_list.specs.declared.payload.Encoding.{Encoding}
@@ -37,22 +38,10 @@ pub section_yes : (encoding : Encoding) (n : ℕ) (f : Frame) → is_section enc
 section_yes Module n f e = (refl, eqb-true f.id n e)
 section_yes Component n f e = cc
 
+-- a module's section with this id passes the test
 pub yes_section : (encoding : Encoding) (n : ℕ) (f : Frame) → IsSection encoding n f → is_section encoding n f ≡ true
 yes_section Module n f s = eq-eqb f.id n s.1
 yes_section Component n f s = let z : Component ≡ Module = s.0 in cc
-
--- two tests in either order
-pub and_swap : (a b : Bool) → (a && b) ≡ (b && a)
-and_swap true true = refl
-and_swap true false = refl
-and_swap false true = refl
-and_swap false false = refl
-
-or_swap : (a b : Bool) → (a || b) ≡ (b || a)
-or_swap true true = refl
-or_swap true false = refl
-or_swap false true = refl
-or_swap false false = refl
 
 -- one more frame behind others puts its count first
 pub counts_push : (encoding : Encoding) (n : ℕ) (fs : List Frame) (f : Frame) → counts_of encoding n (fs ++ f ∷ []) ≡ one_count encoding n f ++ counts_of encoding n fs
@@ -64,15 +53,18 @@ counts_push encoding n (g ∷ fs) f =
 abbrev pub passes : Encoding → ℕ → (ℕ → Bool) → Frame → Bool
 passes encoding n p f = not (is_section encoding n f) || p (frame_count f)
 
+-- a frame is such a section, and its count passes a test
 abbrev pub offends : Encoding → ℕ → (ℕ → Bool) → Frame → Bool
 offends encoding n p f = is_section encoding n f && p (frame_count f)
 
+-- all of at most one count
 one_all : (b : Bool) (p : ℕ → Bool) (c : ℕ) → list_all p (cond b (c ∷ []) []) ≡ (not b || p c)
-one_all true p c = and_swap (p c) true
+one_all true p c = and_comm (p c) true
 one_all false p c = refl
 
+-- one of at most one count
 one_any : (b : Bool) (p : ℕ → Bool) (c : ℕ) → list_any p (cond b (c ∷ []) []) ≡ (b && p c)
-one_any true p c = or_swap (p c) false
+one_any true p c = or_comm (p c) false
 one_any false p c = refl
 
 -- each count passes exactly if each frame does
@@ -80,7 +72,7 @@ pub all_counts : (encoding : Encoding) (n : ℕ) (p : ℕ → Bool) (fs : List F
 all_counts encoding n p [] = refl
 all_counts encoding n p (f ∷ fs) =
     list_all-append p (counts_of encoding n fs) (one_count encoding n f)
-    ∙ (and_swap (list_all p (counts_of encoding n fs)) (list_all p (one_count encoding n f))
+    ∙ (and_comm (list_all p (counts_of encoding n fs)) (list_all p (one_count encoding n f))
     ∙ (ap (λ (b : Bool). b && list_all p (counts_of encoding n fs)) (one_all (is_section encoding n f) p (frame_count f))
     ∙ ap (λ (b : Bool). passes encoding n p f && b) (all_counts encoding n p fs)))
 
@@ -89,10 +81,11 @@ pub any_counts : (encoding : Encoding) (n : ℕ) (p : ℕ → Bool) (fs : List F
 any_counts encoding n p [] = refl
 any_counts encoding n p (f ∷ fs) =
     list_any-append p (counts_of encoding n fs) (one_count encoding n f)
-    ∙ (or_swap (list_any p (counts_of encoding n fs)) (list_any p (one_count encoding n f))
+    ∙ (or_comm (list_any p (counts_of encoding n fs)) (list_any p (one_count encoding n f))
     ∙ (ap (λ (b : Bool). b || list_any p (counts_of encoding n fs)) (one_any (is_section encoding n f) p (frame_count f))
     ∙ ap (λ (b : Bool). offends encoding n p f || b) (any_counts encoding n p fs)))
 
+-- one more section, if it is one, is one more count
 none_step : (b : Bool) (c : ℕ) (xs : List ℕ) (t : Bool) → nat_eq (length xs) 0 ≡ not t → nat_eq (length (xs ++ cond b (c ∷ []) [])) 0 ≡ not (b || t)
 none_step true c [] t h = refl
 none_step true c (x ∷ xs) t h = eqb-suc-zero (length (xs ++ c ∷ []))
@@ -103,10 +96,12 @@ pub no_counts : (encoding : Encoding) (n : ℕ) (fs : List Frame) → nat_eq (le
 no_counts encoding n [] = refl
 no_counts encoding n (f ∷ fs) = none_step (is_section encoding n f) (frame_count f) (counts_of encoding n fs) (list_any (is_section encoding n) fs) (no_counts encoding n fs)
 
+-- a test that holds where it is asked for
 passes_to : (b t : Bool) → (b ≡ true → t ≡ true) → (not b || t) ≡ true
 passes_to true t h = h refl
 passes_to false t h = refl
 
+-- what such a test says where it is asked for
 passes_of : (b t : Bool) → (not b || t) ≡ true → b ≡ true → t ≡ true
 passes_of true t e f = e
 passes_of false t e f = cc
@@ -121,6 +116,7 @@ same_to encoding n c fs a = all_counts encoding n (nat_eq c) fs
     ∙ all_to (passes encoding n (nat_eq c)) (λ g. IsSection encoding n g → frame_count g ≡ c)
     (λ g h. passes_to (is_section encoding n g) (nat_eq c (frame_count g)) (λ e. eq-eqb c (frame_count g) (sym (h (section_yes encoding n g e))))) fs a
 
+-- what the test of counts says
 pub same_of : (encoding : Encoding) (n c : ℕ) (fs : List Frame) → list_all (nat_eq c) (counts_of encoding n fs) ≡ true → HasCount encoding n c fs
 same_of encoding n c fs e =
     all_of (passes encoding n (nat_eq c)) (λ g. IsSection encoding n g → frame_count g ≡ c)

@@ -1,5 +1,6 @@
 -- A section may follow other tiles exactly if it fits behind their frames.
 use Rattle.std.proofs.Common.{◌≡◌, ℕ, zero, suc, ◌<◌, ◌⊎◌, inl, inr, ◌==◌, Bool, true, false, cond, not, ◌&&◌, List, length, refl, sym, ap, subst, ◌∙◌, arith, Some, None, nat_lt, nat_eq, eqb-true, eq-eqb, ltb-true, lt-ltb}
+use Rattle.std.proofs.lemmas.Bool.{not-false}
 use Rattle.std.specs.List.{All, Any, list_all, list_any}
 use Rattle.wasm_base.specs.FaultAt.{FaultAt, at_offset}
 use Rattle.wasm_base.specs.declared.fault.Fault.TheVariants.{FunctionCodeDiffer, CodeWithoutFunction, DataCountDiffer}
@@ -12,6 +13,7 @@ use Rattle.wasm_list.proofs.StandsLaws.{Follows, follows_all}
 use Rattle.wasm_list.proofs.TextbookLists.{all_of, all_to, any_of, any_to}
 use Rattle.wasm_list.proofs.TextbookCounts.{is_section, counts_of, Knows, section_yes, yes_section, no_counts, HasCount, same_to, same_of}
 
+-- a rank that is asked for only above 0
 follows_to : (r : ℕ) (b : Bool) → (0 < r → b ≡ true) → (nat_lt 0 r && not b) ≡ false
 follows_to zero b h = refl
 follows_to (suc r) b h = let e : b ≡ true = h (omega arith) in rw (e, lt-ltb 0 (suc r) (omega arith))
@@ -32,20 +34,17 @@ pub some_to : (encoding : Encoding) (n : ℕ) (fs : List Frame) → Any (IsSecti
 some_to encoding n fs a =
     no_counts encoding n fs ∙ ap not (any_to (is_section encoding n) (IsSection encoding n) (λ g. yes_section encoding n g) fs a)
 
--- what isn't false is true
-pub not_false : (b : Bool) → not b ≡ false → b ≡ true
-not_false true e = refl
-not_false false e = cc
-
+-- where there is a count, there is a section with this id
 pub some_from : (encoding : Encoding) (n : ℕ) (fs : List Frame) → nat_eq (length (counts_of encoding n fs)) 0 ≡ false → Any (IsSection encoding n) fs
 some_from encoding n fs e =
-    any_of (is_section encoding n) (IsSection encoding n) (λ g. section_yes encoding n g) fs (not_false (list_any (is_section encoding n) fs) (sym (no_counts encoding n fs) ∙ e))
+    any_of (is_section encoding n) (IsSection encoding n) (λ g. section_yes encoding n g) fs (not-false (list_any (is_section encoding n) fs) (sym (no_counts encoding n fs) ∙ e))
 
 -- what a code section with this count wants of the frames before it
 pub record CodeFits (encoding : Encoding) (fs : List Frame) (c : ℕ) : Type 0 where
   pub bodies : HasCount encoding 3 c fs
   pub functions : Any (IsSection encoding 3) fs ⊎ (c ≡ 0)
 
+-- nothing is wrong with a code section's count, if the counts agree and there are functions or no bodies
 right_count : (all none : Bool) (c : ℕ) (e f : FaultAt) → all ≡ true → (none ≡ false) ⊎ (c ≡ 0) → cond (not all) (Some e) (when (nat_lt 0 c && none) f) ≡ None
 right_count all none c e f a (inl b) = rw (a, b) (when_right (nat_lt 0 c))
   where
@@ -61,6 +60,7 @@ code_to encoding fs p k o c h =
     (ap (list_all (nat_eq c)) k.functions ∙ same_to encoding 3 c fs h.bodies)
     (elim h.functions [ inl a ↦ inl (ap (λ (x : List ℕ). nat_eq (length x) 0) k.functions ∙ some_to encoding 3 fs a) | inr z ↦ inr z ])
 
+-- what it says that nothing is wrong with a code section's count
 count_right : (all none : Bool) (c : ℕ) (e f : FaultAt) → cond (not all) (Some e) (when (nat_lt 0 c && none) f) ≡ None → (all ≡ true) × ((none ≡ false) ⊎ (c ≡ 0))
 count_right false none c e f h = cc
 count_right true false c e f h = (refl, inl refl)
@@ -77,10 +77,12 @@ code_from encoding fs p k o c h =
       functions = elim r.1 [ inl a ↦ inl (some_from encoding 3 fs (sym (ap (λ (x : List ℕ). nat_eq (length x) 0) k.functions) ∙ a)) | inr z ↦ inr z ];
     }
 
+-- nothing is wrong with a count that isn't asked for, or agrees
 data_right : (b all : Bool) (e : FaultAt) → (b ≡ true → all ≡ true) → when (b && not all) e ≡ None
 data_right true all e h = rw (h refl) refl
 data_right false all e h = refl
 
+-- a count with which nothing is wrong agrees where it is asked for
 right_data : (b all : Bool) (e : FaultAt) → when (b && not all) e ≡ None → b ≡ true → all ≡ true
 right_data true true e h z = refl
 right_data true false e h z = cc
@@ -91,6 +93,7 @@ pub no_items : (id : ℕ) → kind_of Component id ≡ items → ⊥
 no_items zero e = cc
 no_items (suc id) e = cc
 
+-- sections of items are a module's
 items_in : (encoding : Encoding) (id : ℕ) → kind_of encoding id ≡ items → encoding ≡ Module
 items_in Module id e = refl
 items_in Component id e = absurd (no_items id e)

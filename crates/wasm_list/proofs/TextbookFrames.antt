@@ -13,15 +13,14 @@ use Rattle.wasm_list.proofs.TextbookHeaders.{HeaderParts, header_parts}
 use Rattle.wasm_list.proofs.TextbookKnows.{grammar_closed, grammar_open, knows_header}
 use Rattle.wasm_list.proofs.TextbookParts.{SectionParts, section_parts, BodyParts, body_parts}
 use Rattle.wasm_list.proofs.TextbookStates.{Settled, Pending, settles, in_order_none, whole_settled, code_pending, body_pending}
-use Rattle.wasm_list.proofs.TextbookTiles.{made, version_of}
-use Rattle.wasm_list.proofs.TextbookWalks.{whole_or_code}
+use Rattle.wasm_list.proofs.TextbookTiles.{made, whole_or_code, header_version}
 
 -- a header alone
 header_settled : (start : ℕ) (t : Tile) → All (λ b. b < 256) t.bytes → verdict (header_grammar start) t.bytes ≡ tile t → Settled (t ∷ [])
 header_settled start t a h =
     let p : HeaderParts t = header_parts start t.bytes t a h in
     let e : Encoding = p.encoding in
-    let r : Settled (made (header (version_of e) e) (header_bytes e) ∷ []) = record {
+    let r : Settled (made (header (header_version e) e) (header_bytes e) ∷ []) = record {
       frames = [];
       covers = sym (append-nil (header_bytes e));
       knows = knows_header e (header_bytes e);

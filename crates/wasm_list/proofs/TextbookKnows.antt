@@ -2,6 +2,7 @@
 use Rattle.std.proofs.Common.{◌≡◌, ℕ, zero, suc, ◌+◌, ◌⊎◌, inl, inr, Bool, true, false, cond, ◌&&◌, List, [], ◌∷◌, ◌++◌, length, refl, sym, ap, subst, ◌∙◌, nat_lt, nat_eq, eqb-true, lt-ltb}
 use Rattle.std.specs.List.{list_all}
 use Rattle.std.proofs.lemmas.Bool.{and_from}
+use Rattle.std.proofs.Math.Bool.{and_comm}
 use Rattle.std.proofs.lemmas.List.Folds.{list_all-append}
 use Rattle.wasm_list.specs.declared.payload.Encoding.{Encoding}
 use Rattle.wasm_list.specs.declared.payload.Encoding.TheVariants.{Module, Component}
@@ -10,8 +11,8 @@ use Rattle.wasm_list.specs.Grammar.{header, section, code_head, body, Tile, Gram
 use Rattle.wasm_list.specs.Tiling.{front, grammar, past, tile_rank, count_in, counts, bodies_left, bytes_left}
 use Rattle.wasm_list.specs.Stands.{is_start}
 use Rattle.wasm_list.specs.Accepted.{Frame, frame_count, frame_rank}
-use Rattle.wasm_list.proofs.TextbookCounts.{one_count, counts_of, counts_push, and_swap, Knows}
-use Rattle.wasm_list.proofs.TextbookTiles.{made, IsWhole, version_of}
+use Rattle.wasm_list.proofs.TextbookCounts.{one_count, counts_of, counts_push, Knows}
+use Rattle.wasm_list.proofs.TextbookTiles.{made, IsWhole, header_version}
 
 -- what may stand behind tiles that are at the end of a section
 pub grammar_closed : (start : ℕ) (ts : List Tile) → is_start ts ≡ false → nat_eq (bodies_left ts + bytes_left ts) 0 ≡ true
@@ -34,7 +35,7 @@ grammar_open start (t ∷ ts) b e = open_at (nat_eq (bodies_left (t ∷ ts) + by
     open_at false g h e = refl
 
 -- behind a header there is no frame yet
-pub knows_header : (encoding : Encoding) (bytes : List ℕ) → Knows encoding [] (past (made (header (version_of encoding) encoding) bytes ∷ []))
+pub knows_header : (encoding : Encoding) (bytes : List ℕ) → Knows encoding [] (past (made (header (header_version encoding) encoding) bytes ∷ []))
 knows_header encoding bytes = record {
   named = refl;
   ranks = λ r l. and_from (nat_lt 0 r) true (lt-ltb 0 r l) refl;
@@ -57,7 +58,7 @@ knows_body encoding fs ts content bytes k = record {
 
 -- one more frame passes a test with the others
 all_push : (p : Frame → Bool) (fs : List Frame) (f : Frame) → list_all p (fs ++ f ∷ []) ≡ (p f && list_all p fs)
-all_push p fs f = list_all-append p fs (f ∷ []) ∙ (and_swap (list_all p fs) (p f && true) ∙ ap (λ (b : Bool). b && list_all p fs) (and_swap (p f) true))
+all_push p fs f = list_all-append p fs (f ∷ []) ∙ (and_comm (list_all p fs) (p f && true) ∙ ap (λ (b : Bool). b && list_all p fs) (and_comm (p f) true))
 
 -- a section of this kind has a count
 abbrev pub IsCounting : Kind → Type 0
@@ -68,6 +69,7 @@ IsCounting data_count = Unit {0}
 IsCounting code = ⊥
 IsCounting unknown = ⊥
 
+-- a section with another id adds no count
 other_count : (n id : ℕ) (k : Kind) (content others : List ℕ) → nat_eq id n ≡ false → count_in n (section k id content) others ≡ others
 other_count n id custom content others e = refl
 other_count n id items content others e = rw e refl
@@ -76,6 +78,7 @@ other_count n id data_count content others e = rw e refl
 other_count n id code content others e = refl
 other_count n id unknown content others e = refl
 
+-- a section with this id adds its count
 this_count : (n id : ℕ) (k : Kind) (content others : List ℕ) → nat_eq id n ≡ true → IsCounting k → count_in n (section k id content) others ≡ count_of content ∷ others
 this_count n id custom content others e c = absurd c
 this_count n id items content others e c = rw e refl
@@ -84,10 +87,12 @@ this_count n id data_count content others e c = rw e refl
 this_count n id code content others e c = absurd c
 this_count n id unknown content others e c = absurd c
 
+-- a component's section adds no count
 component_count : (n id : ℕ) (content others : List ℕ) → count_in n (section (kind_of Component id) id content) others ≡ others
 component_count n zero content others = refl
 component_count n (suc id) content others = refl
 
+-- a module's section adds its count exactly if it has this id
 module_count : (n id : ℕ) (content others : List ℕ) → IsCounting (kind_of Module n) ⊎ (kind_of Module n ≡ code) → IsWhole (kind_of Module id)
     → (b : Bool) → nat_eq id n ≡ b → count_in n (section (kind_of Module id) id content) others ≡ cond b (count_of content ∷ []) [] ++ others
 module_count n id content others (inl c) w true e =
@@ -102,6 +107,7 @@ section_count : (n : ℕ) → IsCounting (kind_of Module n) ⊎ (kind_of Module 
 section_count n c Module f others w = module_count n f.id f.sized.content others c w (nat_eq f.id n) refl
 section_count n c Component f others w = component_count n f.id f.sized.content others
 
+-- counts with those of one more frame are the counts of all frames
 counts_more : (encoding : Encoding) (n : ℕ) (fs : List Frame) (f : Frame) (old new : List ℕ) → old ≡ counts_of encoding n fs → new ≡ one_count encoding n f ++ old → new ≡ counts_of encoding n (fs ++ f ∷ [])
 counts_more encoding n fs f old new e h = h ∙ (ap (λ (x : List ℕ). one_count encoding n f ++ x) e ∙ sym (counts_push encoding n fs f))
 
@@ -118,6 +124,7 @@ knows_section encoding fs ts f bytes w k = record {
   data_counts = counts_more encoding 12 fs f (counts 12 ts) _ k.data_counts (section_count 12 (inl tt) encoding f (counts 12 ts) w);
 }
 
+-- the head of a code section adds its count exactly if that is asked for
 code_count : (b d : Bool) (c count : ℕ) (others : List ℕ) → d ≡ b → c ≡ count → cond b (count ∷ others) others ≡ cond d (c ∷ []) [] ++ others
 code_count true d c count others e z = rw (e, z) refl
 code_count false d c count others e z = rw e refl

@@ -31,6 +31,7 @@ record NumberParts (next : ℕ → ℕ → Grammar) (t : Tile) : Type 0 where
   pub goes_on : verdict (next value (length field)) others ≡ tile rest
   pub is : t ≡ made rest.shape (field ++ rest.bytes)
 
+-- what a tile behind a number consists of
 number_parts : (o : ℕ) (next : ℕ → ℕ → Grammar) (xs : List ℕ) (t : Tile) → verdict (number o next) xs ≡ tile t → NumberParts next t
 number_parts o next xs t h =
     let n : Numbered next xs t = numbered o next xs t h in
@@ -55,6 +56,7 @@ pub record BytesParts (n : ℕ) (next : List ℕ → Grammar) (t : Tile) : Type 
   pub goes_on : verdict (next front) others ≡ tile rest
   pub is : t ≡ made rest.shape (front ++ rest.bytes)
 
+-- what a tile behind so many bytes consists of, if they are there
 bytes_at : (b : Bool) (n : ℕ) (next : List ℕ → Grammar) (xs : List ℕ) (e : Ending) (t : Tile) → nat_le n (length xs) ≡ b
     → cond b (behind (take n xs) (verdict (next (take n xs)) (drop n xs))) (final e) ≡ tile t → BytesParts n next t
 bytes_at true n next xs e t l h =
@@ -62,10 +64,12 @@ bytes_at true n next xs e t l h =
     record { front = take n xs; size = length-take-le n xs (leb-true _ _ l); others = drop n xs; rest = s; goes_on = r; is = q }
 bytes_at false n next xs e t l h = cc
 
+-- what a tile behind so many bytes consists of
 pub bytes_parts : (n o : ℕ) (next : List ℕ → Grammar) (xs : List ℕ) (t : Tile) → verdict (bytes n o next) xs ≡ tile t → BytesParts n next t
 unfolding verdict
 bytes_parts n o next xs t h = bytes_at (nat_le n (length xs)) n next xs _ t refl h
 
+-- a tile that is whole has no more bytes
 pub takes_parts : (s : Shape) (xs : List ℕ) (t : Tile) → verdict (takes s) xs ≡ tile t → t ≡ made s []
 unfolding verdict
 takes_parts s xs t h = cc
@@ -88,6 +92,7 @@ pub record SectionParts (p : Past) (o : ℕ) (t : Tile) : Type 0 where
   pub goes_on : verdict (content_grammar p (kind_of p.encoding id) id (o + 1 + length field) size) others ≡ tile rest
   pub is : t ≡ made rest.shape (id ∷ (field ++ rest.bytes))
 
+-- what a section's tile consists of behind its id
 framed_parts : (p : Past) (o id : ℕ) (xs : List ℕ) (s t : Tile) → verdict (framed p o id) xs ≡ tile s → t ≡ made s.shape (id ∷ s.bytes) → SectionParts p o t
 framed_parts p o id xs s t h e =
     let a : ((when (nat_le 128 id) _ ≡ None) × (verdict _ xs ≡ tile s)) = refuse_parts _ _ xs s h in
@@ -107,6 +112,7 @@ framed_parts p o id xs s t h e =
       is = e ∙ ap (λ (x : Tile). made x.shape (id ∷ x.bytes)) n.is;
     }
 
+-- what a section's tile consists of, if it begins no header
 start_at : (b : Bool) (p : Past) (o id : ℕ) (xs : List ℕ) (x : FaultAt) (t : Tile) → cond b (final (fault x)) (behind (id ∷ []) (verdict (framed p o id) xs)) ≡ tile t → SectionParts p o t
 start_at true p o id xs x t h = cc
 start_at false p o id xs x t h =
@@ -127,6 +133,7 @@ pub record WholeParts (p : Past) (kind : Kind) (id o size : ℕ) (t : Tile) : Ty
   pub counted : wrong_data p kind id (o + size) content ≡ None
   pub is : t ≡ made (section kind id content) content
 
+-- the content of a section that is one tile
 whole_parts : (p : Past) (kind : Kind) (id o size : ℕ) (xs : List ℕ) (t : Tile) → verdict (whole_grammar p kind id o size) xs ≡ tile t → WholeParts p kind id o size t
 whole_parts p kind id o size xs t h =
     let b : BytesParts size (λ content. refuse (wrong_content kind o content) (refuse (wrong_data p kind id (o + size) content) (takes (section kind id content)))) t = bytes_parts size o _ xs t h in
@@ -140,6 +147,7 @@ whole_parts p kind id o size xs t h =
       is = ends_there t b.rest (section kind id b.front) b.front b.is (takes_parts _ b.others b.rest d.1);
     }
 
+-- the same for each of its kinds
 pub content_parts : (p : Past) (kind : Kind) (id o size : ℕ) (xs : List ℕ) (t : Tile) → IsWhole kind → verdict (content_grammar p kind id o size) xs ≡ tile t → WholeParts p kind id o size t
 content_parts p custom id o size xs t w h = whole_parts p custom id o size xs t h
 content_parts p items id o size xs t w h = whole_parts p items id o size xs t h
@@ -157,6 +165,7 @@ pub record HeadParts (p : Past) (o size : ℕ) (t : Tile) : Type 0 where
   pub right : wrong_count p o count ≡ None
   pub is : t ≡ made (code_head count (length head) (size - length head)) head
 
+-- what the head of a code section consists of
 pub head_parts : (p : Past) (o size : ℕ) (xs : List ℕ) (t : Tile) → verdict (code_grammar p o size) xs ≡ tile t → HeadParts p o size t
 head_parts p o size xs t h =
     let n : NumberParts (λ count width. refuse (when (nat_lt size width) _) (refuse (wrong_count p o count) (takes (code_head count width (size - width))))) t = number_parts o _ xs t h in
@@ -181,6 +190,7 @@ pub record BodyParts (m l : ℕ) (t : Tile) : Type 0 where
   pub fits : length field + length content ≤ l
   pub is : t ≡ made (body content) (field ++ content)
 
+-- what a body consists of
 pub body_parts : (m l o : ℕ) (xs : List ℕ) (t : Tile) → verdict (body_grammar m l o) xs ≡ tile t → BodyParts m l t
 unfolding body_grammar verdict
 body_parts zero l o xs t h = cc

@@ -25,6 +25,7 @@ pub record InOrder (encoding : Encoding) (fs : List Frame) : Type 0 where
   pub each : All (IsFrame encoding) fs
   pub order : (earlier later : List Frame) (f : Frame) → fs ≡ earlier ++ f ∷ later → FitsAfter encoding earlier f
 
+-- nothing stands in no list
 no_more : (earlier later : List Frame) (f : Frame) → [] ≡ earlier ++ f ∷ later → ⊥
 no_more [] later f e = cc
 no_more (g ∷ earlier) later f e = cc
@@ -36,6 +37,7 @@ in_order_none encoding = record {
   order = λ earlier later f e. absurd (no_more earlier later f e);
 }
 
+-- each of the sections and one more fits
 fits_push : (encoding : Encoding) (fs earlier : List Frame) (f g : Frame) → FitsAfter encoding fs f → ((earlier later : List Frame) (h : Frame) → fs ≡ earlier ++ h ∷ later → FitsAfter encoding earlier h)
     → ((earlier ≡ fs) × (g ≡ f)) ⊎ ((more : List Frame) × (fs ≡ earlier ++ g ∷ more)) → FitsAfter encoding earlier g
 fits_push encoding fs earlier f g a order (inl q) = subst (λ (x : List Frame). FitsAfter encoding x g) (sym q.0) (subst (λ (x : Frame). FitsAfter encoding fs x) (sym q.1) a)
@@ -104,6 +106,7 @@ settles ts p e =
 abbrev frame_of : ℕ → List ℕ → List ℕ → Frame
 frame_of id field content = record { id = id; sized = record { field = field; content = content } }
 
+-- a section that is one tile is good
 whole_frame : (p : Past) (o : ℕ) (t : Tile) (s : SectionParts p o t) (at : ℕ) → IsWhole (kind_of p.encoding s.id) → (c : WholeParts p (kind_of p.encoding s.id) s.id at s.size s.rest)
     → IsFrame p.encoding (frame_of s.id s.field c.content)
 whole_frame p o t s at w c = record {
@@ -112,6 +115,7 @@ whole_frame p o t s at w c = record {
   content = good_from (kind_of p.encoding s.id) at c.content w c.right;
 }
 
+-- a section that is one tile fits behind the frames before it
 whole_fits : (p : Past) (fs : List Frame) (o : ℕ) (t : Tile) (s : SectionParts p o t) (at : ℕ) → Knows p.encoding fs p → IsWhole (kind_of p.encoding s.id) → (c : WholeParts p (kind_of p.encoding s.id) s.id at s.size s.rest)
     → FitsAfter p.encoding fs (frame_of s.id s.field c.content)
 whole_fits p fs o t s at k w c =
@@ -141,6 +145,7 @@ whole_settled ts o t q s w =
     } in
     subst (λ (x : Tile). Settled (x ∷ ts)) (sym z) r
 
+-- a code section with the right rank and count fits behind the frames before it
 code_fits : (p : Past) (fs : List Frame) → Knows Module fs p → (at count : ℕ) → Follows p (rank_of (kind_of Module 10) 10) → wrong_count p at count ≡ None → (f : Frame) → f.id ≡ 10 → frame_count f ≡ count → FitsAfter Module fs f
 code_fits p fs k at count r w f z c =
     let g : CodeFits Module fs (frame_count f) = subst (CodeFits Module fs) (sym c) (code_from Module fs p k at count w) in
@@ -186,12 +191,14 @@ code_pending ts o t q s e =
     } in
     subst (λ (x : Tile). Pending (x ∷ ts)) (sym z) r
 
+-- the bytes of a code section with one more body
 body_covers : (front field head : List ℕ) (bodies : List Sized) (s : Sized) → (front ++ 10 ∷ (field ++ (head ++ flat_map sized_bytes bodies))) ++ sized_bytes s ≡ front ++ 10 ∷ (field ++ (head ++ flat_map sized_bytes (bodies ++ s ∷ [])))
 body_covers front field head bodies s =
     append_assoc front (10 ∷ (field ++ (head ++ flat_map sized_bytes bodies))) (sized_bytes s)
     ∙ (ap (λ (x : List ℕ). front ++ 10 ∷ x) (append_assoc field (head ++ flat_map sized_bytes bodies) (sized_bytes s))
     ∙ ap (λ (x : List ℕ). front ++ 10 ∷ (field ++ x)) (flat_map_more sized_bytes head bodies s))
 
+-- how many they are
 body_bytes : (head : List ℕ) (bodies : List Sized) (s : Sized) → length head + length (flat_map sized_bytes bodies) + length (sized_bytes s) ≡ length head + length (flat_map sized_bytes (bodies ++ s ∷ []))
 body_bytes head bodies s =
     let e : length ((head ++ flat_map sized_bytes bodies) ++ sized_bytes s) ≡ length (head ++ flat_map sized_bytes (bodies ++ s ∷ [])) = ap (λ (x : List ℕ). length x) (flat_map_more sized_bytes head bodies s) in

@@ -18,6 +18,7 @@ use Rattle.wasm_list.proofs.TextbookContents.{good_to}
 use Rattle.wasm_list.proofs.TextbookTiles.{made, IsWhole, Fronts, number_on, section_tile, code_head_tile, body_tile}
 use Rattle.wasm_list.proofs.TextbookKnows.{grammar_open, knows_body}
 
+-- what stands in front of a good section's content is right, if the section fits
 fronts_of : (p : Past) (fs : List Frame) (o : ℕ) (f : Frame) → Knows p.encoding fs p → IsFrame p.encoding f → FitsAfter p.encoding fs f → o + length (frame_bytes f) < 2 ^ 64
     → Fronts p o f.id f.sized.field (length f.sized.content)
 fronts_of p fs o f k i a r = record {
@@ -32,6 +33,7 @@ named_zero : (encoding : Encoding) (id : ℕ) (content : List ℕ) → IsGood (k
 named_zero Module id content g z = subst (λ (x : ℕ). IsGood (kind_of Module x) content) z g
 named_zero Component id content g z = subst (λ (x : ℕ). IsGood (kind_of Component x) content) z g
 
+-- a good section that fits behind tiles of its own encoding is a tile
 section_at : (p : Past) (fs : List Frame) (o : ℕ) (f : Frame) → o + length (frame_bytes f) < 2 ^ 64 → Knows p.encoding fs p → IsFrame p.encoding f → FitsAfter p.encoding fs f
     → IsWhole (kind_of p.encoding f.id) → verdict (section_grammar p o) (frame_bytes f) ≡ tile (made (section (kind_of p.encoding f.id) f.id f.sized.content) (frame_bytes f))
 section_at p fs o f r k i a w =
@@ -50,9 +52,11 @@ section_step encoding p fs o f r k i a w =
 pub division_count : (f : Frame) (d : CodeDivision f.sized.content) → frame_count f ≡ length d.bodies
 division_count f d = ap count_of d.whole ∙ ap value_of (number_on d.field (flat_map sized_bytes d.bodies) (length d.bodies) d.count)
 
-division_length : (f : Frame) (d : CodeDivision f.sized.content) → length f.sized.content ≡ length d.field + length (flat_map sized_bytes d.bodies)
+-- how long a code section's content is
+pub division_length : (f : Frame) (d : CodeDivision f.sized.content) → length f.sized.content ≡ length d.field + length (flat_map sized_bytes d.bodies)
 division_length f d = ap (λ (x : List ℕ). length x) d.whole ∙ length-append d.field (flat_map sized_bytes d.bodies)
 
+-- what stands in front of a good code section's content is right, if the section fits
 code_fronts : (p : Past) (fs : List Frame) (o : ℕ) (f : Frame) → f.id ≡ 10 → Knows Module fs p → IsFrame Module f → FitsAfter Module fs f → o + length (frame_bytes f) < 2 ^ 64
     → Fronts p o 10 f.sized.field (length f.sized.content)
 code_fronts p fs o f z k i a r =
@@ -83,9 +87,11 @@ pub record Through (start : ℕ) (ts : List Tile) (bodies : List Sized) : Type 0
   pub closed : nat_eq (bodies_left tiles + bytes_left tiles) 0 ≡ true
   pub knows : (encoding : Encoding) (fs : List Frame) → Knows encoding fs (past ts) → Knows encoding fs (past tiles)
 
+-- where a body is missing, a code section isn't at its end
 some_left : (a b n : ℕ) → a ≡ suc n → nat_eq (a + b) 0 ≡ false
 some_left a b n e = ne_eqb (a + b) 0 (λ z. absurd (omega arith))
 
+-- a body that a code section misses is a tile
 body_at : (start : ℕ) (ts : List Tile) (s : Sized) (n : ℕ) → is_start ts ≡ false → IsSized s → bodies_left ts ≡ suc n → length (sized_bytes s) ≤ bytes_left ts
     → verdict (grammar start ts) (sized_bytes s) ≡ tile (made (body s.content) (sized_bytes s))
 body_at start ts s n b i e l =

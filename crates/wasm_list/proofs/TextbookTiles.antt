@@ -1,5 +1,5 @@
 -- Bytes in the textbook form are tiles.
-use Rattle.std.proofs.Common.{◌≡◌, ◌≢◌, ℕ, suc, ◌+◌, ◌-◌, ◌^◌, ◌<◌, ◌≤◌, Bool, true, false, not, ◌&&◌, List, [], ◌∷◌, ◌++◌, length, take, drop, Option, Some, None, nat_lt, nat_le, nat_eq, refl, sym, ap, subst, ◌∙◌, arith, append-nil, length-append, eqb-true, le-leb, le-ltb, lt-ltb}
+use Rattle.std.proofs.Common.{◌≡◌, ◌≢◌, ℕ, suc, ◌+◌, ◌-◌, ◌^◌, ◌<◌, ◌≤◌, ◌⊎◌, inl, inr, Bool, true, false, not, ◌&&◌, List, [], ◌∷◌, ◌++◌, length, take, drop, Option, Some, None, nat_lt, nat_le, nat_eq, refl, sym, ap, subst, ◌∙◌, arith, append-nil, length-append, eqb-true, le-leb, le-ltb, lt-ltb}
 use Rattle.std.proofs.lemmas.List.{take_at, drop_at}
 use Rattle.std.proofs.lemmas.Bool.{and_parts, false_from_ne_true}
 use Rattle.std.proofs.lemmas.Bool.Decides.{nat_tests}
@@ -64,6 +64,7 @@ start_tile : (o : ℕ) (e : Ending) (next : ℕ → Grammar) (id : ℕ) (xs : Li
 unfolding verdict
 start_tile o e next id xs s b m h = rw m (rw h refl)
 
+-- a tile that is whole has no more bytes
 takes_tile : (s : Shape) (xs : List ℕ) → verdict (takes s) xs ≡ tile (made s [])
 unfolding verdict
 takes_tile s xs = refl
@@ -72,6 +73,7 @@ takes_tile s xs = refl
 all_of_it : (g : Grammar) (s : Shape) (xs : List ℕ) → verdict g (xs ++ []) ≡ tile (made s (xs ++ [])) → verdict g xs ≡ tile (made s xs)
 all_of_it g s xs h = subst (λ (x : List ℕ). verdict g x ≡ tile (made s x)) (append-nil xs) h
 
+-- content with no fault is a tile
 whole_tile : (p : Past) (kind : Kind) (id o : ℕ) (content : List ℕ) → wrong_content kind o content ≡ None → wrong_data p kind id (o + length content) content ≡ None
     → verdict (whole_grammar p kind id o (length content)) content ≡ tile (made (section kind id content) content)
 whole_tile p kind id o content a b =
@@ -88,6 +90,16 @@ IsWhole index = Unit {0}
 IsWhole data_count = Unit {0}
 IsWhole unknown = Unit {0}
 
+-- each section is one tile, or a code section
+pub whole_or_code : (k : Kind) → IsWhole k ⊎ (k ≡ code)
+whole_or_code custom = inl tt
+whole_or_code items = inl tt
+whole_or_code index = inl tt
+whole_or_code data_count = inl tt
+whole_or_code code = inr refl
+whole_or_code unknown = inl tt
+
+-- the same for each kind of section that is one tile
 content_tile : (p : Past) (kind : Kind) (id o : ℕ) (content : List ℕ) → IsWhole kind → wrong_content kind o content ≡ None → wrong_data p kind id (o + length content) content ≡ None
     → verdict (content_grammar p kind id o (length content)) content ≡ tile (made (section kind id content) content)
 content_tile p custom id o content w a b = whole_tile p custom id o content a b
@@ -123,10 +135,12 @@ framed_tile p o id field size xs s f m h =
     fits : (n : ℕ) → n < 2 ^ 64 → nat_lt (2 ^ 64 - 1) n ≡ false
     fits n h = grind (arith, nat_tests)
 
+-- 0x73 alone is a number, 115
 another_byte : (xs : List ℕ) → number_at VarU32 (0x73 ∷ xs) ≡ read 0x73 1
 unfolding number_at
 another_byte xs = refl
 
+-- a name of 115 bytes isn't in fewer
 long_name : (xs : List ℕ) → length xs < 0x73 → name (Some name_limit) (0x73 ∷ xs) ≡ refused UnexpectedEof 1
 unfolding name
 long_name xs h = rw (another_byte xs) (rw (lt-ltb (length xs) 0x73 h) refl)
@@ -141,6 +155,7 @@ magic_content (y ∷ ys) text used l a e =
     let g : name (Some name_limit) (0x73 ∷ ys) ≡ refused UnexpectedEof 1 = long_name ys (omega arith) in
     cc
 
+-- a section whose length and content begin as the magic goes on has no name
 magic_field : (field content text : List ℕ) (used : ℕ) → IsNumber field (length content) → agree (field ++ content) (0x61 ∷ 0x73 ∷ 0x6d ∷ []) ≡ true → name (Some name_limit) content ≡ named text used → ⊥
 magic_field [] content text used e a n =
     let u : Used VarU32 [] (length content) 0 = number-used VarU32 [] (length content) 0 e in
@@ -176,15 +191,13 @@ section_tile p o id field content f w n a b =
     framed_tile p o id field (length content) content (section (kind_of p.encoding id) id content) f (no_magic id field content f.number n)
     (content_tile p (kind_of p.encoding id) id (o + 1 + length field) content w (a _) (b _))
 
-not_less : (a b : ℕ) → b ≤ a → nat_lt a b ≡ false
-not_less a b h = le-ltb a b h
-
+-- a right count is the head of a code section
 code_tile : (p : Past) (o size count : ℕ) (head : List ℕ) → IsNumber head count → length head ≤ size → wrong_count p o count ≡ None
     → verdict (code_grammar p o size) head ≡ tile (made (code_head count (length head) (size - length head)) head)
 code_tile p o size count head e l w =
     all_of_it (code_grammar p o size) (code_head count (length head) (size - length head)) head
     (number_tile o _ head [] count (code_head count (length head) (size - length head)) [] e
-    (when_tile (nat_lt size (length head)) _ _ [] _ (not_less size (length head) l) (refuse_tile _ _ [] _ w (takes_tile _ []))))
+    (when_tile (nat_lt size (length head)) _ _ [] _ (le-ltb size (length head) l) (refuse_tile _ _ [] _ w (takes_tile _ []))))
 
 -- a code section up to its count
 pub code_head_tile : (p : Past) (o size count : ℕ) (field head : List ℕ) → Fronts p o 10 field size → kind_of p.encoding 10 ≡ code → IsNumber head count → length head ≤ size
@@ -202,15 +215,15 @@ body_tile m l o field content e h =
     number_tile o _ field content (length content) (body content) content e
     (all_of_it _ (body content) content
     (bytes_tile (length content) (o + length field) _ content [] (body content) [] refl
-    (when_tile (nat_lt l (length field + length content)) _ _ [] _ (not_less l (length field + length content) h) (takes_tile (body content) []))))
+    (when_tile (nat_lt l (length field + length content)) _ _ [] _ (le-ltb l (length field + length content) h) (takes_tile (body content) []))))
 
 -- the version of an encoding
-abbrev pub version_of : Encoding → ℕ
-version_of Module = 1
-version_of Component = 13
+abbrev pub header_version : Encoding → ℕ
+header_version Module = 1
+header_version Component = 13
 
 -- a header
-pub header_tile : (o : ℕ) (encoding : Encoding) → verdict (header_grammar o) (header_bytes encoding) ≡ tile (made (header (version_of encoding) encoding) (header_bytes encoding))
+pub header_tile : (o : ℕ) (encoding : Encoding) → verdict (header_grammar o) (header_bytes encoding) ≡ tile (made (header (header_version encoding) encoding) (header_bytes encoding))
 unfolding verdict header_grammar
 header_tile o Module = refl
 header_tile o Component = refl

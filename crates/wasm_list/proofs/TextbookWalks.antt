@@ -1,12 +1,12 @@
 -- An accepted stream's reading ends at its end.
-use Rattle.std.proofs.Common.{◌≡◌, ℕ, ◌+◌, ◌-◌, ◌^◌, ◌<◌, ◌≤◌, ◌⊎◌, inl, inr, true, false, List, [], ◌∷◌, ◌++◌, length, nat_eq, refl, sym, ap, subst, ◌∙◌, arith, length-append, append-nil, append_assoc}
+use Rattle.std.proofs.Common.{◌≡◌, ℕ, ◌+◌, ◌-◌, ◌^◌, ◌<◌, ◌≤◌, inl, inr, true, false, List, [], ◌∷◌, ◌++◌, length, nat_eq, refl, sym, ap, subst, ◌∙◌, arith, length-append, append-nil, append_assoc}
 use Rattle.std.specs.List.{All, flat_map}
 use Rattle.std.proofs.lemmas.List.{flat_map_more}
 use Rattle.std.proofs.lemmas.Grind.{flat_map-append}
 use Rattle.std.proofs.lemmas.List.Elements.{All-head, All-tail}
 use Rattle.wasm_list.specs.declared.payload.Encoding.{Encoding}
 use Rattle.wasm_list.specs.declared.payload.Encoding.TheVariants.{Module, Component}
-use Rattle.wasm_list.specs.Content.{Kind, custom, items, index, data_count, code, unknown, kind_of, ended}
+use Rattle.wasm_list.specs.Content.{Kind, code, kind_of, ended}
 use Rattle.wasm_list.specs.Grammar.{header, section, code_head, Tile, tile, final, Past, Grammar, verdict, end_of, section_grammar}
 use Rattle.wasm_list.specs.Tiling.{front, grammar, Faultless, past, bodies_left, bytes_left}
 use Rattle.wasm_list.specs.Reading.{Reads}
@@ -15,9 +15,9 @@ use Rattle.wasm_list.specs.Accepted.{sized_bytes, Frame, frame_bytes, IsFrame, I
 use Rattle.wasm_list.proofs.TextbookCounts.{Knows}
 use Rattle.wasm_list.proofs.TextbookContents.{code_id}
 use Rattle.wasm_list.proofs.TextbookEnds.{end_to}
-use Rattle.wasm_list.proofs.TextbookTiles.{made, IsWhole, version_of, header_tile}
+use Rattle.wasm_list.proofs.TextbookTiles.{made, IsWhole, whole_or_code, header_version, header_tile}
 use Rattle.wasm_list.proofs.TextbookKnows.{grammar_closed, knows_header, knows_section, knows_code}
-use Rattle.wasm_list.proofs.TextbookSteps.{section_step, code_step, division_count, Through, bodies_walk}
+use Rattle.wasm_list.proofs.TextbookSteps.{section_step, code_step, division_count, division_length, Through, bodies_walk}
 
 -- the bytes of a header and these frames
 abbrev pub stream_of : Encoding → List Frame → List ℕ
@@ -45,12 +45,14 @@ closed_verdict start encoding fs ts c bytes t h = subst (λ (g : Grammar). verdi
 pub stream_more : (encoding : Encoding) (fs : List Frame) (f : Frame) (covered : List ℕ) → covered ≡ stream_of encoding fs → covered ++ frame_bytes f ≡ stream_of encoding (fs ++ f ∷ [])
 stream_more encoding fs f covered e = ap (λ (x : List ℕ). x ++ frame_bytes f) e ∙ flat_map_more frame_bytes (header_bytes encoding) fs f
 
+-- one more frame ends below 2^64
 room_for : (start : ℕ) (encoding : Encoding) (fs : List Frame) (f : Frame) (covered : List ℕ) → covered ≡ stream_of encoding fs → start + length (stream_of encoding (fs ++ f ∷ [])) < 2 ^ 64
     → (start + length covered) + length (frame_bytes f) < 2 ^ 64
 room_for start encoding fs f covered e r =
     let l : length covered + length (frame_bytes f) ≡ length (stream_of encoding (fs ++ f ∷ [])) = sym (length-append covered (frame_bytes f)) ∙ ap (λ (x : List ℕ). length x) (stream_more encoding fs f covered e) in
     omega arith
 
+-- one more frame that fits and is no code section
 whole_step : (start : ℕ) (encoding : Encoding) (fs : List Frame) (f : Frame) → Reached start encoding fs → start + length (stream_of encoding (fs ++ f ∷ [])) < 2 ^ 64 → IsFrame encoding f → FitsAfter encoding fs f
     → IsWhole (kind_of encoding f.id) → Reached start encoding (fs ++ f ∷ [])
 whole_step start encoding fs f q r i a w =
@@ -69,6 +71,7 @@ whole_step start encoding fs f q r i a w =
       };
     }
 
+-- the bytes of a code section's head and bodies are the section's
 code_bytes : (f : Frame) (d : CodeDivision f.sized.content) → f.id ≡ 10 → (covered : List ℕ) → (covered ++ 10 ∷ (f.sized.field ++ d.field)) ++ flat_map sized_bytes d.bodies ≡ covered ++ frame_bytes f
 code_bytes f d z covered =
     append_assoc covered (10 ∷ (f.sized.field ++ d.field)) (flat_map sized_bytes d.bodies)
@@ -76,6 +79,7 @@ code_bytes f d z covered =
     ∙ (ap (λ (x : List ℕ). covered ++ 10 ∷ (f.sized.field ++ x)) (sym d.whole)
     ∙ ap (λ (n : ℕ). covered ++ n ∷ (f.sized.field ++ f.sized.content)) (sym z)))
 
+-- one more code section that fits
 module_step : (start : ℕ) (fs : List Frame) (f : Frame) → f.id ≡ 10 → CodeDivision f.sized.content → Reached start Module fs → start + length (stream_of Module (fs ++ f ∷ [])) < 2 ^ 64 → IsFrame Module f → FitsAfter Module fs f
     → Reached start Module (fs ++ f ∷ [])
 module_step start fs f z d q r i a =
@@ -86,7 +90,7 @@ module_step start fs f z d q r i a =
     let h : Tile = made (code_head (length d.bodies) (length d.field) n) hb in
     let v : verdict (grammar start ts) hb ≡ tile h =
     closed_verdict start Module fs ts c hb h (code_step (past ts) fs (start + length (front ts)) f d z (room_for start Module fs f (front ts) c.covers r) c.knows i a) in
-    let l : length f.sized.content ≡ length d.field + length (flat_map sized_bytes d.bodies) = ap (λ (x : List ℕ). length x) d.whole ∙ length-append d.field (flat_map sized_bytes d.bodies) in
+    let l : length f.sized.content ≡ length d.field + length (flat_map sized_bytes d.bodies) = division_length f d in
     let t : Through start (h ∷ ts) d.bodies = bodies_walk start d.bodies (h ∷ ts) refl (c.faultless, v) d.each refl (omega arith) in
     record {
       tiles = t.tiles;
@@ -99,15 +103,7 @@ module_step start fs f z d q r i a =
       };
     }
 
--- each section is one tile, or a code section
-pub whole_or_code : (k : Kind) → IsWhole k ⊎ (k ≡ code)
-whole_or_code custom = inl tt
-whole_or_code items = inl tt
-whole_or_code index = inl tt
-whole_or_code data_count = inl tt
-whole_or_code code = inr refl
-whole_or_code unknown = inl tt
-
+-- the same in any encoding
 code_frame : (start : ℕ) (encoding : Encoding) (fs : List Frame) (f : Frame) → encoding ≡ Module → Reached start encoding fs → start + length (stream_of encoding (fs ++ f ∷ [])) < 2 ^ 64 → IsFrame encoding f → FitsAfter encoding fs f
     → kind_of encoding f.id ≡ code → Reached start encoding (fs ++ f ∷ [])
 code_frame start Module fs f e q r i a k =
@@ -123,6 +119,7 @@ frame_step start encoding fs f q r i a =
       | inr k ↦ code_frame start encoding fs f (code_id encoding f.id k).0 q r i a k
     ]
 
+-- the first frames are no longer than all
 stream_front : (encoding : Encoding) (fs later : List Frame) → length (stream_of encoding fs) ≤ length (stream_of encoding (fs ++ later))
 stream_front encoding fs later =
     let e : flat_map frame_bytes (fs ++ later) ≡ flat_map frame_bytes fs ++ flat_map frame_bytes later = flat_map-append frame_bytes fs later in
@@ -142,7 +139,7 @@ frames_walk start encoding all r order (f ∷ later) earlier e a q =
 -- a header is no frame yet
 begins : (start : ℕ) (encoding : Encoding) → Reached start encoding []
 begins start encoding = record {
-  tiles = made (header (version_of encoding) encoding) (header_bytes encoding) ∷ [];
+  tiles = made (header (header_version encoding) encoding) (header_bytes encoding) ∷ [];
   there = record {
     begun = refl;
     faultless = (tt, header_tile start encoding);
@@ -152,6 +149,7 @@ begins start encoding = record {
   };
 }
 
+-- where a stream may end and nothing follows it ends
 end_verdict : (p : Past) (o : ℕ) → end_of p o ≡ ended o → verdict (section_grammar p o) [] ≡ final (ended o)
 unfolding verdict section_grammar
 end_verdict p o e = ap final e
