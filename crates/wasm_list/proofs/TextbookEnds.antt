@@ -15,9 +15,9 @@ use Rattle.wasm_list.proofs.TextbookLists.{any_of, none_of}
 use Rattle.wasm_list.proofs.TextbookCounts.{is_section, counts_of, Knows, section_yes, yes_section, any_counts, offends}
 use Rattle.wasm_list.proofs.TextbookFits.{some_to, some_from}
 
--- a count above 0, and no other section
-abbrev pub Misses : Encoding → ℕ → ℕ → List Frame → Bool
-Misses encoding n other fs = list_any (nat_lt 0) (counts_of encoding n fs) && nat_eq (length (counts_of encoding other fs)) 0
+-- whether a section has a count above 0, and there is no other section
+abbrev pub misses : Encoding → ℕ → ℕ → List Frame → Bool
+misses encoding n other fs = list_any (nat_lt 0) (counts_of encoding n fs) && nat_eq (length (counts_of encoding other fs)) 0
 
 -- a matched section whose other section is missing has no count above 0
 matched_any : (encoding : Encoding) (n other : ℕ) (fs : List Frame) → IsMatched encoding n other fs → nat_eq (length (counts_of encoding other fs)) 0 ≡ true → list_any (nat_lt 0) (counts_of encoding n fs) ≡ true → ⊥
@@ -37,7 +37,7 @@ matched_at encoding n other fs m true e = rw (false_from_ne_true (list_any (nat_
 matched_at encoding n other fs m false e = and_right (list_any (nat_lt 0) (counts_of encoding n fs)) false refl
 
 -- matched sections miss none
-pub matched_to : (encoding : Encoding) (n other : ℕ) (fs : List Frame) → IsMatched encoding n other fs → Misses encoding n other fs ≡ false
+pub matched_to : (encoding : Encoding) (n other : ℕ) (fs : List Frame) → IsMatched encoding n other fs → misses encoding n other fs ≡ false
 matched_to encoding n other fs m = matched_at encoding n other fs m (nat_eq (length (counts_of encoding other fs)) 0) refl
 
 -- sections without a count above 0 are matched
@@ -52,7 +52,7 @@ matched_some : (encoding : Encoding) (n other : ℕ) (fs : List Frame) → Any (
 matched_some encoding n other fs a = λ k d l s h. a
 
 -- sections that miss none are matched
-pub matched_from : (encoding : Encoding) (n other : ℕ) (fs : List Frame) → Misses encoding n other fs ≡ false → IsMatched encoding n other fs
+pub matched_from : (encoding : Encoding) (n other : ℕ) (fs : List Frame) → misses encoding n other fs ≡ false → IsMatched encoding n other fs
 matched_from encoding n other fs e =
     elim (and_cases (list_any (nat_lt 0) (counts_of encoding n fs)) (nat_eq (length (counts_of encoding other fs)) 0) e) [
       | inl a ↦ matched_none encoding n other fs a
@@ -71,7 +71,7 @@ ends_from false false e f o p h = (refl, refl)
 
 -- how a stream ends, told of its frames
 misses_same : (encoding : Encoding) (fs : List Frame) (p : Past) → Knows encoding fs p → (o : ℕ)
-    → end_of p o ≡ cond (Misses encoding 3 10 fs) (fault (at_offset FunctionWithoutCode o)) (cond (Misses encoding 12 11 fs) (fault (at_offset DataCountWithoutData o)) (ended o))
+    → end_of p o ≡ cond (misses encoding 3 10 fs) (fault (at_offset FunctionWithoutCode o)) (cond (misses encoding 12 11 fs) (fault (at_offset DataCountWithoutData o)) (ended o))
 misses_same encoding fs p k o = rw (k.functions, k.codes, k.datas, k.data_counts) refl
 
 -- behind frames that are matched a stream may end
@@ -81,7 +81,7 @@ end_to encoding fs p k o a b = misses_same encoding fs p k o ∙ ends_to _ _ _ _
 -- frames behind which a stream may end are matched
 pub end_from : (encoding : Encoding) (fs : List Frame) (p : Past) → Knows encoding fs p → (o e : ℕ) → end_of p o ≡ ended e → IsMatched encoding 3 10 fs × IsMatched encoding 12 11 fs
 end_from encoding fs p k o e h =
-    let q : ((Misses encoding 3 10 fs ≡ false) × (Misses encoding 12 11 fs ≡ false)) = ends_from _ _ _ _ o e (sym (misses_same encoding fs p k o) ∙ h) in
+    let q : ((misses encoding 3 10 fs ≡ false) × (misses encoding 12 11 fs ≡ false)) = ends_from _ _ _ _ o e (sym (misses_same encoding fs p k o) ∙ h) in
     (matched_from encoding 3 10 fs q.0, matched_from encoding 12 11 fs q.1)
 
 -- the stream doesn't end within this
