@@ -16,6 +16,7 @@ use Rattle.wasm_list.specs.Laws.{FaultLiesWithin}
 use Rattle.wasm_list.specs.Reading.{Reads}
 use Rattle.wasm_list.specs.Tiling.{inside, past, grammar, bodies_left, bytes_left, front}
 use Rattle.wasm_list.specs.declared.payload.Encoding.{Encoding}
+use Rattle.wasm_list.proofs.Endings.{behind_final}
 use Rattle.wasm_list.proofs.Places.{number_place, name_place}
 
 -- an offset between these
@@ -38,11 +39,6 @@ Within low here (refuse e next) = MayLie low here e × Within low here next
 Within low here (number o next) = Between low here o × ((v k : ℕ) → Within low (here + k) (next v k))
 Within low here (bytes count o next) = Between low here o × ((b : List ℕ) → length b ≡ count → Within low (here + count) (next b))
 Within low here (section_start o e next) = Between low here o × EndsIn low here e × ((id : ℕ) → Within low (here + 1) (next id))
-
--- a fault behind bytes
-pub behind_final : (front : List ℕ) (v : Verdict) (e : Ending) → behind front v ≡ final e → v ≡ final e
-behind_final front (tile t) e h = cc
-behind_final front (final f) e h = cc
 
 final_same : (f g : FaultAt) → (let v : Verdict = final (fault f) in v) ≡ final (fault g) → f ≡ g
 final_same f g e = cc

@@ -17,7 +17,7 @@ use Rattle.wasm_list.specs.Reading.{Told, Event, window_over, told_custom, told_
 use Rattle.wasm_list.specs.Spans.{consumed_by, IsPart, LiesIn, StandsBetween, EndToEnd}
 use Rattle.wasm_list.specs.Tiling.{inside, past, grammar, bodies_left, bytes_left, front, Faultless}
 use Rattle.wasm_list.specs.declared.payload.Encoding.{Encoding}
-use Rattle.wasm_list.proofs.Bounds.{behind_final}
+use Rattle.wasm_list.proofs.Endings.{header_end, inside_end}
 use Rattle.wasm_list.proofs.GrammarLaws.{behind-tile}
 use Rattle.wasm_list.proofs.Places.{name_used}
 
@@ -123,57 +123,6 @@ tile_closes start ts xs t h = closes [] (grammar start ts) xs t (Closing-grammar
 
 -- ---- where a stream ends
 
--- no stream ends in this grammar
-abbrev pub NeverEnds : Grammar → Type 0
-NeverEnds (takes shape) = Unit {0}
-NeverEnds (stops e) = Unit {0}
-NeverEnds (refuse e next) = NeverEnds next
-NeverEnds (number p next) = (v k : ℕ) → NeverEnds (next v k)
-NeverEnds (bytes count p next) = (b : List ℕ) → NeverEnds (next b)
-NeverEnds (section_start p e next) = ⊥
-
-never_number : (o : ℕ) (xs : List ℕ) (next : ℕ → ℕ → Grammar) (x : ℕ) → ((v k : ℕ) (zs : List ℕ) → verdict (next v k) zs ≡ final (ended x) → ⊥)
-    → (n : Number) → behind_number o xs n (λ v k. verdict (next v k) (drop k xs)) ≡ final (ended x) → ⊥
-never_number o xs next x ih (read v k) h = ih v k (drop k xs) (behind_final (take k xs) _ _ h)
-never_number o xs next x ih (bad g p) h = cc
-never_number o xs next x ih short h = cc
-
-never_bytes : (front : List ℕ) (v : Verdict) (f : FaultAt) (x : ℕ) → (v ≡ final (ended x) → ⊥) → (b : Bool) → cond b (behind front v) (final (fault f)) ≡ final (ended x) → ⊥
-never_bytes front v f x ih true h = ih (behind_final front v _ h)
-never_bytes front v f x ih false h = cc
-
-never : (g : Grammar) (xs : List ℕ) (x : ℕ) → NeverEnds g → verdict g xs ≡ final (ended x) → ⊥
-unfolding verdict
-never (takes shape) xs x n h = cc
-never (stops e) xs x n h = cc
-never (refuse (Some e) next) xs x n h = cc
-never (refuse None next) xs x n h = never next xs x n h
-never (number o next) xs x n h = never_number o xs next x (λ v k zs. never (next v k) zs x (n v k)) (number_at VarU32 xs) h
-never (bytes count o next) xs x n h =
-    never_bytes (take count xs) (verdict (next (take count xs)) (drop count xs)) (at_offset UnexpectedEof o) x (never (next (take count xs)) (drop count xs) x (n (take count xs))) (nat_le count (length xs)) h
-never (section_start o e next) xs x n h = absurd n
-
-Never-content : (p : Past) (kind : Kind) (id o n : ℕ) → NeverEnds (content_grammar p kind id o n)
-Never-content p custom id o n = λ b. tt
-Never-content p items id o n = λ b. tt
-Never-content p index id o n = λ b. tt
-Never-content p data_count id o n = λ b. tt
-Never-content p unknown id o n = λ b. tt
-Never-content p code id o n = λ v k. tt
-
-Never-header_of : (o bits : ℕ) (e : Option Encoding) → NeverEnds (header_of o bits e)
-Never-header_of o bits (Some e) = tt
-Never-header_of o bits None = tt
-
-Never-header : (o : ℕ) → NeverEnds (header_grammar o)
-unfolding header_grammar
-Never-header o = λ a b. Never-header_of o (of_four b) _
-
-Never-body : (m l o : ℕ) → NeverEnds (body_grammar m l o)
-unfolding body_grammar
-Never-body zero l o = tt
-Never-body (suc m) l o = λ v k b. tt
-
 -- a stream ends behind all its bytes, and is told so there
 abbrev pub IsEndAt : (o : ℕ) (rest : List ℕ) (x : ℕ) → Type 0
 IsEndAt o rest x = (rest ≡ []) × (x ≡ o)
@@ -181,32 +130,19 @@ IsEndAt o rest x = (rest ≡ []) × (x ≡ o)
 ended_same : (x y : ℕ) → (let e : Ending = ended x in e) ≡ ended y → y ≡ x
 ended_same x y e = cc
 
-final_same : (e f : Ending) → final e ≡ final f → e ≡ f
-final_same e f h = cc
-
 end_is : (a b : Bool) (o x : ℕ) (e f : FaultAt) → cond a (fault e) (cond b (fault f) (ended o)) ≡ ended x → x ≡ o
 end_is true b o x e f h = cc
 end_is false true o x e f h = cc
 end_is false false o x e f h = ended_same o x h
 
-end_start : (id : ℕ) (v : Verdict) (f : FaultAt) (x : ℕ) → (v ≡ final (ended x) → ⊥) → (b : Bool) → cond b (final (fault f)) (behind (id ∷ []) v) ≡ final (ended x) → ⊥
-end_start id v f x ih true h = cc
-end_start id v f x ih false h = ih (behind_final (id ∷ []) v _ h)
-
-end_section : (p : Past) (o : ℕ) (xs : List ℕ) (x : ℕ) → verdict (section_grammar p o) xs ≡ final (ended x) → IsEndAt o xs x
-unfolding section_grammar verdict
-end_section p o [] x h =
-    (refl, end_is (list_any (nat_lt 0) p.functions && nat_eq (length p.codes) 0) (list_any (nat_lt 0) p.data_counts && nat_eq (length p.datas) 0) o x _ _ (final_same _ _ h))
-end_section p o (id ∷ xs) x h =
-    absurd (end_start id (verdict (framed p o id) xs) (at_offset MagicAtSection o) x (never (framed p o id) xs x (λ size width. Never-content p (kind_of p.encoding id) id (o + 1 + width) size)) (agree (id ∷ xs) magic && nat_le 4 (length (id ∷ xs))) h)
-
-end_inside : (b : Bool) (p : Past) (m l o : ℕ) (xs : List ℕ) (x : ℕ) → verdict (cond b (section_grammar p o) (body_grammar m l o)) xs ≡ final (ended x) → IsEndAt o xs x
-end_inside true p m l o xs x h = end_section p o xs x h
-end_inside false p m l o xs x h = absurd (never (body_grammar m l o) xs x (Never-body m l o) h)
+end_told : (p : Past) (o x : ℕ) → end_of p o ≡ ended x → x ≡ o
+end_told p o x h = end_is (list_any (nat_lt 0) p.functions && nat_eq (length p.codes) 0) (list_any (nat_lt 0) p.data_counts && nat_eq (length p.datas) 0) o x _ _ h
 
 end_at : (start : ℕ) (ts : List Tile) (xs : List ℕ) (x : ℕ) → verdict (grammar start ts) xs ≡ final (ended x) → IsEndAt (start + length (front ts)) xs x
-end_at start [] xs x h = absurd (never (header_grammar start) xs x (Never-header start) h)
-end_at start (t ∷ ts) xs x h = end_inside (nat_eq (bodies_left (t ∷ ts) + bytes_left (t ∷ ts)) 0) (past (t ∷ ts)) (bodies_left (t ∷ ts)) (bytes_left (t ∷ ts)) (start + length (front (t ∷ ts))) xs x h
+end_at start [] xs x h = absurd (header_end start xs x h)
+end_at start (t ∷ ts) xs x h =
+    let e = inside_end (nat_eq (bodies_left (t ∷ ts) + bytes_left (t ∷ ts)) 0) (past (t ∷ ts)) (bodies_left (t ∷ ts)) (bytes_left (t ∷ ts)) (start + length (front (t ∷ ts))) xs x h in
+    (e.1, end_told (past (t ∷ ts)) (start + length (front (t ∷ ts))) x e.2)
 
 -- a reading that doesn't stop at a fault ends behind the whole stream
 pub ends_behind_all : (stream : List ℕ) (start : ℕ) (ts : List Tile) (x : ℕ) → Reads stream start ts (ended x) → (x ≡ start + length stream) × (x ≡ start + length (front ts))

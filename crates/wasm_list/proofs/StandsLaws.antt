@@ -105,7 +105,8 @@ Placed p (code_head count width size) = Follows p (rank_of code 10)
 Placed p (header version encoding) = ⊥
 Placed p (body content) = ⊥
 
-none_when : (b : Bool) (e : FaultAt) → when b e ≡ None → b ≡ false
+-- a test that finds nothing wrong fails
+pub none_when : (b : Bool) (e : FaultAt) → when b e ≡ None → b ≡ false
 none_when true e h = cc
 none_when false e h = refl
 
@@ -153,7 +154,8 @@ headed o xs t e = each_tile IsHeader (header_grammar o) (λ a x b. header_each o
 abbrev pub Fresh : List Tile → Shape → Type 0
 Fresh ts s = 0 < tile_rank s → list_all (λ (u : Tile). nat_lt (tile_rank u.shape) (tile_rank s)) ts ≡ true
 
-follows_all : (r : ℕ) (b : Bool) → (nat_lt 0 r && not b) ≡ false → 0 < r → b ≡ true
+-- where a section of a rank may follow, each tile ranks below it
+pub follows_all : (r : ℕ) (b : Bool) → (nat_lt 0 r && not b) ≡ false → 0 < r → b ≡ true
 follows_all r true e h = refl
 follows_all r false e h = let z : nat_lt 0 r ≡ true = lt-ltb 0 r h in absurd (true_false (rw z at e))
   where

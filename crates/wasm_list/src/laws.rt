@@ -1,6 +1,6 @@
 //! Laws of the definitions of framing, each the contract of a function that does nothing.
+ghost use Rattle.wasm_list.specs.Laws.{AcceptedEnds, EventsLieEndToEnd, FaultEnds, FaultLiesWithin, LongestTiling, OneReading, ParserSuffices, SomeReading, StartOnlyMoves, TilesStandAlone};
 ghost use Rattle.wasm_list.specs.Worked.{EdgesOfRules, WorkedStreams};
-ghost use Rattle.wasm_list.specs.Laws.{EventsLieEndToEnd, FaultLiesWithin, LongestTiling, OneReading, ParserSuffices, SomeReading, StartOnlyMoves, TilesStandAlone};
 
 /// Two readings of one stream are one.
 pub fn one_reading()
@@ -12,10 +12,15 @@ pub fn some_reading()
     ensures { SomeReading }
 {}
 
-/// The events of a reading stand end to end in its stream, and their windows are its parts at their own offsets; the
-/// bytes that they consumed, joined, are the stream up to where the reading stops.
-pub fn events_lie_end_to_end()
-    ensures { EventsLieEndToEnd }
+/// The reading of a stream ends at its end exactly if the stream is accepted: a header, and then nothing but good
+/// sections in their order.
+pub fn accepted_ends()
+    ensures { AcceptedEnds }
+{}
+
+/// The reading of a stream ends with a fault exactly if the stream is not accepted.
+pub fn fault_ends()
+    ensures { FaultEnds }
 {}
 
 /// A fault lies in the stream behind the tiles before it, or at its end.
@@ -26,6 +31,12 @@ pub fn fault_lies_within()
 /// The tiles of a reading are the longest faultless tiling of its stream: every other is a beginning of it.
 pub fn longest_tiling()
     ensures { LongestTiling }
+{}
+
+/// The events of a reading stand end to end in its stream, and their windows are its parts at their own offsets; the
+/// bytes that they consumed, joined, are the stream up to where the reading stops.
+pub fn events_lie_end_to_end()
+    ensures { EventsLieEndToEnd }
 {}
 
 /// The start offset only moves offsets: the reading of a stream that starts later has the same events with every offset

@@ -1,4 +1,4 @@
--- A stream that isn't accepted ends with a fault.
+-- A stream ends at its end if it is accepted, and otherwise with a fault.
 use Rattle.std.proofs.Common.{◌≡◌, ℕ, ◌+◌, ◌↔◌, List, length, sym, subst, ◌∙◌}
 use Rattle.wasm_base.specs.FaultAt.{FaultAt}
 use Rattle.wasm_list.specs.Accepted.{IsAccepted}
@@ -9,6 +9,8 @@ use Rattle.wasm_list.specs.Reading.{Reads}
 use Rattle.wasm_list.specs.Stream.{Stream}
 use Rattle.wasm_list.proofs.Ends.{ends_behind_all}
 use Rattle.wasm_list.proofs.ReadingLaws.{Rest, reads_all, reads_same}
+use Rattle.wasm_list.proofs.TextbookFrames.{reads_accepted}
+use Rattle.wasm_list.proofs.TextbookWalks.{accepted_reads}
 
 faulty : (stream : List ℕ) (start : ℕ) (tiles : List Tile) (end : Ending) → Reads stream start tiles end → ¬ ((ts : List Tile) × Reads stream start ts (ended (start + length stream)))
     → (ts : List Tile) × (f : FaultAt) × Reads stream start ts (fault f)
@@ -19,8 +21,11 @@ faulty stream start tiles (ended x) r n =
 no_end : (stream : List ℕ) (start : ℕ) (ts us : List Tile) (f : FaultAt) (x : ℕ) → Reads stream start ts (fault f) → Reads stream start us (ended x) → ⊥
 no_end stream start ts us f x p q = let z : fault f ≡ ended x = (reads_same stream start ts us (fault f) (ended x) p q).1 in cc
 
-pub fault_ends : AcceptedEnds → FaultEnds
-fault_ends law stream start s =
-    let (ends, accepted) = law stream start s in
+pub accepted_ends : AcceptedEnds
+accepted_ends stream start s = (λ a. accepted_reads stream start s.fits a, λ r. reads_accepted stream start _ r.0 s.each r.1)
+
+pub fault_ends : FaultEnds
+fault_ends stream start s =
+    let (ends, accepted) = accepted_ends stream start s in
     let r : Rest stream start = reads_all stream start in
     (λ n. faulty stream start r.tiles r.end r.reads (λ e. n (accepted e)), λ (ts, f, p) a. no_end stream start ts (ends a).0 f (start + length stream) p (ends a).1)
