@@ -1,3 +1,4 @@
+pub mod Counted
 pub mod Framed
 pub mod GrammarLaws
 pub mod Headers

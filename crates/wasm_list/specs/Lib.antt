@@ -10,6 +10,7 @@ pub mod Listing
 pub mod Lists
 pub mod Reading
 pub mod Runs
+pub mod Single
 pub mod Stands
 pub mod Stream
 pub mod Tiling
