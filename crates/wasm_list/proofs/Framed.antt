@@ -1,27 +1,26 @@
 -- What stands at the start of a section, and what is read there.
-use Rattle.std.proofs.Common.{◌≡◌, ◌≢◌, ℕ, zero, suc, ◌+◌, ◌-◌, ◌^◌, ◌<◌, ◌≤◌, Bool, true, false, cond, not, ◌&&◌, List, [], ◌∷◌, ◌++◌, length, take, drop, slice_index, Option, Some, None, Result, Ok, Err, nat_le, nat_lt, nat_eq, refl, sym, ap, subst, subst₂, ◌∙◌, arith, le-leb, leb-true, add-zero, ltb-true, ltb-false, lt-ltb, le-ltb}
+use Rattle.std.proofs.Common.{◌≡◌, ℕ, ◌+◌, ◌-◌, ◌^◌, ◌<◌, ◌≤◌, Bool, true, false, cond, not, ◌&&◌, List, [], ◌∷◌, ◌++◌, length, take, drop, Some, None, Result, Ok, Err, nat_le, nat_lt, nat_eq, refl, sym, ap, subst, subst₂, ◌∙◌, arith, le-leb, add-zero, ltb-true, ltb-false, lt-ltb, le-ltb, eqb-true}
 use Rattle.std.proofs.lemmas.Bool.{lt-leb}
 use Rattle.std.proofs.lemmas.List.{length-take-le, take-append-drop}
 use Rattle.wasm_base.specs.FaultAt.{FaultAt, fault_at, at_offset}
 use Rattle.wasm_base.specs.Header.{magic, agree}
-use Rattle.wasm_base.specs.Name.{Name, named, refused, name_limit, name, name_in_window, text_at, bytes_at, first_of, byte_at, peeked_at}
+use Rattle.wasm_base.specs.Name.{Name, named, refused, name_limit, name, name_in_window, text_at, first_of, byte_at, peeked_at}
 use Rattle.wasm_base.specs.Number.{Number, read, bad, short, number as number_at, in_window, unsigned_at}
 use Rattle.wasm_base.specs.Outcome.{◌>>=◌}
 use Rattle.wasm_base.specs.Window.{Window, Place, place, advanced, KeepsWindow}
 use Rattle.wasm_base.specs.declared.error.Error.{Error}
-use Rattle.wasm_base.specs.declared.fault.Fault.{Fault}
 use Rattle.wasm_base.specs.declared.fault.Fault.TheVariants.{UnexpectedEof, MagicAtSection, MalformedSectionId, SectionTooLarge, OutOfOrder}
 use Rattle.wasm_base.specs.declared.fault.NumberKind.TheVariants.{VarU32}
 use Rattle.wasm_list.specs.Answers.{told_by, IsTold, IsToldOrUnread, StandsThere}
-use Rattle.wasm_list.specs.Content.{Kind, custom, items, index, data_count, code, unknown, kind_of, rank_of, Ending, fault, ended, when, wrong_content, wrong_name}
+use Rattle.wasm_list.specs.Content.{Kind, custom, items, index, data_count, code, unknown, kind_of, rank_of, when, wrong_content, wrong_name}
 use Rattle.wasm_list.specs.ContentAt.{content_at}
 use Rattle.wasm_list.specs.Custom.{Custom, IsCustom}
-use Rattle.wasm_list.specs.Grammar.{Shape, section, Tile, Verdict, tile, final, behind, Past, Grammar, takes, refuse, number, bytes, section_start, verdict, end_of, whole_grammar, wrong_data, content_grammar, sized, framed, section_grammar}
-use Rattle.wasm_list.specs.Reading.{Told, told_of, told_section, told_custom, window_over, custom_section, unknown_section}
+use Rattle.wasm_list.specs.Grammar.{section, behind, Past, Grammar, number, verdict, whole_grammar, wrong_data, content_grammar, sized, framed, section_grammar}
+use Rattle.wasm_list.specs.Reading.{told_section, told_custom, window_over, custom_section, unknown_section}
 use Rattle.wasm_list.specs.Unread.{is_unread, unread_ending, unread_sized, unread_framed, unread_at}
 use Rattle.wasm_list.specs.declared.payload.Encoding.{Encoding}
 use Rattle.wasm_list.specs.declared.payload.Payload.{Payload}
-use Rattle.wasm_list.specs.declared.payload.Payload.TheVariants.{NotYet, CustomSection, UnknownSection}
+use Rattle.wasm_list.specs.declared.payload.Payload.TheVariants.{NotYet, CustomSection}
 use Rattle.wasm_list.proofs.GrammarLaws.{agree_same}
 use Rattle.wasm_list.proofs.Telling.{told_at, told_bytes, told_missing, told_number, told_no_number, told_wrong, told_right, told_whole, unless_unread, nothing_unread, same_unread, ReadNumber, read_number}
 
@@ -86,25 +85,47 @@ sized_large past kind id field size p e a h f =
     λ s. nothing_unread (unread_ending kind id (p.offset + size)) s p _ (Err e) a u (told_wrong s p (when (nat_lt (2 ^ 64 - 1) (p.offset + size)) x) _ e a w)
 
 -- one that isn't read yet
-pub sized_unread : (past : Past) (kind : Kind) (id field size : ℕ) (p : Place) (r : Result Payload Error) (a : Place) → p.offset + size ≤ 2 ^ 64 - 1 → is_unread kind ≡ true → r ≡ Ok (NotYet id)
+pub sized_unread : (past : Past) (kind : Kind) (id field size : ℕ) (p : Place) (r : Result Payload Error) (a : Place) → p.offset + size ≤ 2 ^ 64 - 1 → is_unread kind id ≡ true → r ≡ Ok (NotYet id)
     → StandsThere (unread_ending kind id (p.offset + size)) (sized past kind id field p.offset size) p r a
 sized_unread past kind id field size p r a h u e =
     let t : nat_lt (2 ^ 64 - 1) (p.offset + size) ≡ false = le-ltb (2 ^ 64 - 1) (p.offset + size) h in
     let w : unread_ending kind id (p.offset + size) ≡ Some id = rw t (rw u refl) in
     λ s. same_unread (unread_ending kind id (p.offset + size)) (Some id) s p _ r a w e
 
--- one with no rank
-pub sized_plain : (past : Past) (kind : Kind) (id field size : ℕ) (p : Place) (r : Result Payload Error) (a : Place) → p.offset + size ≤ 2 ^ 64 - 1 → is_unread kind ≡ false → rank_of kind id ≡ 0
-    → StandsThere None (content_grammar past kind id p.offset size) p r a → StandsThere (unread_ending kind id (p.offset + size)) (sized past kind id field p.offset size) p r a
-sized_plain past kind id field size p r a h u k next =
+-- whether a section of this kind and id may not stand behind others, for its rank
+abbrev pub is_disordered : Past → Kind → ℕ → Bool
+is_disordered past kind id = nat_lt 0 (rank_of kind id) && not (past.may_follow (rank_of kind id))
+
+-- one that ranks no higher than one before it
+pub sized_disordered : (past : Past) (kind : Kind) (id field size : ℕ) (p : Place) (e : Error) (a : Place) → p.offset + size ≤ 2 ^ 64 - 1 → is_unread kind id ≡ false → is_disordered past kind id ≡ true → fault_at e ≡ at_offset OutOfOrder p.offset
+    → StandsThere (unread_ending kind id (p.offset + size)) (sized past kind id field p.offset size) p (Err e) a
+sized_disordered past kind id field size p e a h u k f =
     let t : nat_lt (2 ^ 64 - 1) (p.offset + size) ≡ false = le-ltb (2 ^ 64 - 1) (p.offset + size) h in
     let x : FaultAt = record { fault = SectionTooLarge; offset = field; number = Some size } in
     let y : FaultAt = at_offset OutOfOrder p.offset in
     let fits : when (nat_lt (2 ^ 64 - 1) (p.offset + size)) x ≡ None = rw t refl in
-    let ranks : when (nat_lt 0 (rank_of kind id) && not (past.may_follow (rank_of kind id))) y ≡ None = rw k refl in
+    let ranks : when (is_disordered past kind id) y ≡ Some (fault_at e) = rw k (ap Some (sym f)) in
+    let w : unread_ending kind id (p.offset + size) ≡ None = rw t (rw u refl) in
+    λ s. nothing_unread (unread_ending kind id (p.offset + size)) s p _ (Err e) a w (told_right s p (when (nat_lt (2 ^ 64 - 1) (p.offset + size)) x) _ (Err e) a fits
+    (told_wrong s p (when (is_disordered past kind id) y) _ e a ranks))
+
+-- one that is in its place
+pub sized_ordered : (past : Past) (kind : Kind) (id field size : ℕ) (p : Place) (r : Result Payload Error) (a : Place) → p.offset + size ≤ 2 ^ 64 - 1 → is_unread kind id ≡ false → is_disordered past kind id ≡ false
+    → StandsThere None (content_grammar past kind id p.offset size) p r a → StandsThere (unread_ending kind id (p.offset + size)) (sized past kind id field p.offset size) p r a
+sized_ordered past kind id field size p r a h u k next =
+    let t : nat_lt (2 ^ 64 - 1) (p.offset + size) ≡ false = le-ltb (2 ^ 64 - 1) (p.offset + size) h in
+    let x : FaultAt = record { fault = SectionTooLarge; offset = field; number = Some size } in
+    let y : FaultAt = at_offset OutOfOrder p.offset in
+    let fits : when (nat_lt (2 ^ 64 - 1) (p.offset + size)) x ≡ None = rw t refl in
+    let ranks : when (is_disordered past kind id) y ≡ None = rw k refl in
     let w : unread_ending kind id (p.offset + size) ≡ None = rw t (rw u refl) in
     λ s. nothing_unread (unread_ending kind id (p.offset + size)) s p _ r a w (told_right s p (when (nat_lt (2 ^ 64 - 1) (p.offset + size)) x) _ r a fits
-    (told_right s p (when (nat_lt 0 (rank_of kind id) && not (past.may_follow (rank_of kind id))) y) _ r a ranks (next s)))
+    (told_right s p (when (is_disordered past kind id) y) _ r a ranks (next s)))
+
+-- the same for the kind that was found
+pub sized_as : (past : Past) (found kind : Kind) (id field size : ℕ) (p : Place) (r : Result Payload Error) (a : Place) → found ≡ kind
+    → StandsThere (unread_ending found id (p.offset + size)) (sized past found id field p.offset size) p r a → StandsThere (unread_ending kind id (p.offset + size)) (sized past kind id field p.offset size) p r a
+sized_as past found kind id field size p r a same next = subst (λ (k : Kind). StandsThere (unread_ending k id (p.offset + size)) (sized past k id field p.offset size) p r a) same next
 
 -- content that isn't all there
 content_missing : (b : Bool) (past : Past) (kind : Kind) (id size : ℕ) (p : Place) (e : Error) (a : Place) → nat_lt (length p.rest) size ≡ b
@@ -144,17 +165,25 @@ pub has_content : (size : ℕ) (p : Place) (w : Window) (q : Place) → content_
 unfolding content_at
 has_content size p w q h = content_there (nat_lt (length p.rest) size) size p w q refl (sym (content_steps (nat_lt (length p.rest) size) size p) ∙ h)
 
--- counts are compared only of sections with a count
-no_data : (past : Past) (kind : Kind) (id offset : ℕ) (content : List ℕ) → is_unread kind ≡ false → wrong_data past kind id offset content ≡ None
+-- of counted items a function section is read
+is_three : (b : Bool) (id : ℕ) → nat_eq id 3 ≡ b → not b ≡ false → id ≡ 3
+is_three true id e u = eqb-true id 3 e
+is_three false id e u = cc
+
+pub read_items : (id : ℕ) → is_unread items id ≡ false → id ≡ 3
+read_items id u = is_three (nat_eq id 3) id refl u
+
+-- counts are compared only of data sections
+no_data : (past : Past) (kind : Kind) (id offset : ℕ) (content : List ℕ) → is_unread kind id ≡ false → wrong_data past kind id offset content ≡ None
 no_data past custom id offset content u = refl
 no_data past unknown id offset content u = refl
-no_data past items id offset content u = cc
-no_data past index id offset content u = cc
-no_data past data_count id offset content u = cc
+no_data past items id offset content u = subst (λ (i : ℕ). wrong_data past items i offset content ≡ None) (sym (read_items id u)) refl
+no_data past index id offset content u = refl
+no_data past data_count id offset content u = refl
 no_data past code id offset content u = cc
 
 -- good content, told by a payload
-pub whole_good : (past : Past) (kind : Kind) (id size : ℕ) (p : Place) (w : Window) (q : Place) (payload : Payload) → is_unread kind ≡ false → content_at size p ≡ Ok (w, q) → wrong_content kind p.offset (take size p.rest) ≡ None
+pub whole_good : (past : Past) (kind : Kind) (id size : ℕ) (p : Place) (w : Window) (q : Place) (payload : Payload) → is_unread kind id ≡ false → content_at size p ≡ Ok (w, q) → wrong_content kind p.offset (take size p.rest) ≡ None
     → told_by payload ≡ Some (told_section p.features p.offset (p.offset + size) kind id (take size p.rest))
     → StandsThere None (whole_grammar past kind id p.offset size) p (Ok payload) q
 whole_good past kind id size p w q payload u h good told =
@@ -238,16 +267,6 @@ unknown_read past id size p w q payload h told =
     let l : length (take size p.rest) ≡ size = length-take-le size p.rest k.there in
     let at_w : told_by payload ≡ Some (unknown_section id (take size p.rest) p.offset (p.offset + length (take size p.rest))) = subst (λ (x : Window). told_by payload ≡ Some (unknown_section id (place x).rest x.start (x.start + length x.bytes))) k.window told in
     whole_good past unknown id size p w q payload refl h (good_unknown p.offset (take size p.rest)) (rw l at at_w)
-
-pub sized_custom : (past : Past) (kind : Kind) (id field size : ℕ) (p : Place) (r : Result Payload Error) (a : Place) → custom ≡ kind → p.offset + size ≤ 2 ^ 64 - 1
-    → StandsThere None (whole_grammar past custom id p.offset size) p r a → StandsThere (unread_ending kind id (p.offset + size)) (sized past kind id field p.offset size) p r a
-sized_custom past kind id field size p r a is h next =
-    subst (λ (k : Kind). StandsThere (unread_ending k id (p.offset + size)) (sized past k id field p.offset size) p r a) is (sized_plain past custom id field size p r a h refl refl next)
-
-pub sized_unknown : (past : Past) (kind : Kind) (id field size : ℕ) (p : Place) (r : Result Payload Error) (a : Place) → unknown ≡ kind → p.offset + size ≤ 2 ^ 64 - 1
-    → StandsThere None (whole_grammar past unknown id p.offset size) p r a → StandsThere (unread_ending kind id (p.offset + size)) (sized past kind id field p.offset size) p r a
-sized_unknown past kind id field size p r a is h next =
-    subst (λ (k : Kind). StandsThere (unread_ending k id (p.offset + size)) (sized past k id field p.offset size) p r a) is (sized_plain past unknown id field size p r a h refl refl next)
 
 -- a magic where a section may start
 magic_at : (xs : List ℕ) (past : Past) (p : Place) (e : Error) (a : Place) → true ≡ (agree xs magic && nat_le 4 (length xs)) → 0 < length xs → fault_at e ≡ at_offset MagicAtSection p.offset

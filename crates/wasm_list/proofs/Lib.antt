@@ -1,5 +1,6 @@
 pub mod Accepting
 pub mod Bounds
+pub mod Counted
 pub mod Endings
 pub mod Ends
 pub mod Framed

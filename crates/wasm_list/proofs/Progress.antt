@@ -1,17 +1,17 @@
 -- How far a listing has come, and what each step does to it.
-use Rattle.std.proofs.Common.{◌≡◌, ℕ, ◌+◌, ◌-◌, ◌^◌, ◌<◌, ◌≤◌, Bool, true, false, List, [], ◌∷◌, ◌++◌, length, take, drop, Option, Some, None, Result, Ok, Err, zero, suc, min, refl, sym, ap, subst, subst₂, ◌∙◌, arith, le_refl, append_assoc, append-nil, length-append, zero-add}
+use Rattle.std.proofs.Common.{◌≡◌, ℕ, ◌+◌, ◌-◌, ◌^◌, ◌<◌, ◌≤◌, true, false, List, [], ◌∷◌, ◌++◌, length, take, drop, Option, Some, None, Result, Ok, Err, zero, suc, refl, sym, ap, subst, subst₂, ◌∙◌, arith, le_refl, append_assoc, append-nil, length-append, zero-add}
 use Rattle.std.proofs.lemmas.List.{drop_at, take-append-drop}
 use Rattle.std.specs.Io.KnownBytes.{Appends}
 use Rattle.std.proofs.KnownBytes.{Appends-nil, Appends-trans}
-use Rattle.wasm_base.specs.FaultAt.{FaultAt, fault_at, at_offset}
+use Rattle.wasm_base.specs.FaultAt.{FaultAt, fault_at}
 use Rattle.wasm_base.specs.declared.error.Error.{Error}
-use Rattle.wasm_list.specs.Answers.{told_by, Answers, AnswersOrUnread, Parses, IsFaultAlone}
-use Rattle.wasm_list.specs.Content.{Kind, custom, items, index, data_count, code, unknown, Ending, fault, ended}
+use Rattle.wasm_list.specs.Answers.{told_by, Answers, AnswersOrUnread, Parses}
+use Rattle.wasm_list.specs.Content.{custom, items, index, data_count, code, unknown, Ending, fault, ended}
 use Rattle.wasm_base.specs.Name.{Name, named, refused, name_limit, name}
 use Rattle.wasm_list.specs.Grammar.{Shape, header, section, code_head, body, Tile, Verdict, tile, final, Grammar, verdict}
 use Rattle.wasm_list.specs.Listing.{line_of, line_if, event_line, listing_of}
 use Rattle.wasm_list.specs.Lists.{all_features, IsEndedBy, unread_behind, AllRead, IsListed, IsListedBefore, IsBeginning, Writes, IsCutShort, ListsBytes, Lists}
-use Rattle.wasm_list.specs.Reading.{Told, ending, stopped, Event, told_of, told_custom, told_ending, event_of, events_of, last_event, Reads, Reading}
+use Rattle.wasm_list.specs.Reading.{ending, stopped, Event, told_of, told_custom, told_ending, event_of, events_of, last_event, Reads, Reading}
 use Rattle.wasm_list.specs.Stands.{Stand, new_stand, Stands, grammar_of, passed, is_start}
 use Rattle.wasm_list.specs.Tiling.{front, grammar, Faultless, encoding_of}
 use Rattle.wasm_list.specs.Unread.{unread_at, unread_in}
@@ -20,12 +20,12 @@ use Rattle.wasm_list.specs.declared.listing.Ended.TheVariants.{End, Fault}
 use Rattle.wasm_list.specs.declared.listing.ListError.{ListError}
 use Rattle.wasm_list.specs.declared.listing.ListError.TheVariants.{Input, Output, Memory, NotYet}
 use Rattle.wasm_list.specs.declared.payload.Chunk.{Chunk}
-use Rattle.wasm_list.specs.declared.payload.Chunk.TheVariants.{NeedMoreData, Parsed}
+use Rattle.wasm_list.specs.declared.payload.Chunk.TheVariants.{Parsed}
 use Rattle.wasm_list.specs.declared.payload.Payload.{Payload}
 use Rattle.wasm_list.specs.declared.payload.Payload.TheVariants as payloads
-use Rattle.wasm_list.proofs.ReadingLaws.{Grown, grows, Rest, reads_all}
+use Rattle.wasm_list.proofs.ReadingLaws.{Grown, grows}
 use Rattle.wasm_list.proofs.StandsLaws.{grammar_same, stands_on, stands_on-tiles}
-use Rattle.wasm_list.proofs.TileLaws.{tile_least}
+use Rattle.wasm_list.proofs.Telling.{same_told}
 
 -- The lines of a beginning of the stream are written, and the parser stands behind it.
 pub record Progress (stream : List ℕ) (taken written : Option (List ℕ)) (p : Stand) (rest : List ℕ) : Type 0 where
@@ -275,13 +275,16 @@ told_no_ending f s to (section custom id content) o h = by_name (to - length con
 told_no_ending f s to (code_head count width size) o h = cc
 told_no_ending f s to (body content) o h = cc
 
-some_same : (x y : Told) → Some x ≡ Some y → x ≡ y
-some_same x y e = cc
-
 -- what a payload tells at the end is that end
 only_end : (payload : Payload) (e : Ending) → told_by payload ≡ Some (told_ending e) → (o : ℕ) × (payload ≡ payloads.End o) × (e ≡ ended o)
 only_end (payloads.Version num encoding range) (fault f) h = cc
 only_end (payloads.Version num encoding range) (ended o) h = cc
+only_end (payloads.FunctionSection s) (fault f) h = cc
+only_end (payloads.FunctionSection s) (ended o) h = cc
+only_end (payloads.StartSection func range) (fault f) h = cc
+only_end (payloads.StartSection func range) (ended o) h = cc
+only_end (payloads.DataCountSection count range) (fault f) h = cc
+only_end (payloads.DataCountSection count range) (ended o) h = cc
 only_end (payloads.CustomSection s) (fault f) h = cc
 only_end (payloads.CustomSection s) (ended o) h = cc
 only_end (payloads.UnknownSection id contents range) (fault f) h = cc
@@ -294,7 +297,7 @@ only_end (payloads.End at) (ended o) h = (at, refl, cc)
 pub ends_listed : (stream : List ℕ) (taken written written' : Option (List ℕ)) (p p' : Stand) (rest : List ℕ) (consumed : ℕ) (payload : Payload) (o : ℕ) → Progress stream taken written p rest
     → Came p rest consumed payload p' × (unread_in p rest ≡ None) → payload ≡ payloads.End o → Appends written written' (line_if (told_by payload)) → IsListed stream taken written' End
 ends_listed stream taken written written' p p' rest consumed payload o g (tile_came t v k h e, u) is w =
-    let z : told_of p.features p.offset (p.offset + length t.bytes) t.shape ≡ ending o = some_same _ _ (sym h ∙ ap told_by is) in
+    let z : told_of p.features p.offset (p.offset + length t.bytes) t.shape ≡ ending o = same_told _ _ (sym h ∙ ap told_by is) in
     absurd (told_no_ending p.features p.offset (p.offset + length t.bytes) t.shape o z)
 ends_listed stream taken written written' p p' rest consumed payload o g (end_came e v h, u) is w =
     let z = only_end payload e h in

@@ -1,23 +1,20 @@
 -- How what stands at a place is told, field by field.
-use Rattle.std.proofs.Common.{◌≡◌, ◌≢◌, ℕ, zero, suc, ◌+◌, ◌-◌, ◌<◌, ◌≤◌, Bool, true, false, cond, ◌&&◌, List, [], ◌∷◌, ◌++◌, length, take, drop, Option, Some, None, Result, Ok, Err, nat_le, nat_lt, refl, sym, ap, subst, ◌∙◌, arith, length-append, le-leb, leb-true, add-zero, ltb-true, ltb-false, lt-ltb, le-ltb}
+use Rattle.std.proofs.Common.{◌≡◌, ℕ, ◌+◌, ◌<◌, ◌≤◌, List, ◌++◌, length, take, drop, Option, Some, None, Result, Ok, Err, refl, sym, ap, subst, ◌∙◌, arith, length-append, le-leb, add-zero}
 use Rattle.std.proofs.lemmas.Bool.{lt-leb}
 use Rattle.std.proofs.lemmas.List.{length-take-le}
 use Rattle.wasm_base.specs.FaultAt.{FaultAt, fault_at, at_offset}
-use Rattle.wasm_base.specs.Header.{magic, agree}
 use Rattle.wasm_base.specs.Number.{Number, read, bad, short, number as number_at, in_window, unsigned_at}
 use Rattle.wasm_base.specs.Window.{Place, advanced}
 use Rattle.wasm_base.specs.declared.error.Error.{Error}
-use Rattle.wasm_base.specs.declared.fault.Fault.{Fault}
-use Rattle.wasm_base.specs.declared.fault.Fault.TheVariants.{UnexpectedEof, MagicAtSection}
+use Rattle.wasm_base.specs.declared.fault.Fault.TheVariants.{UnexpectedEof}
 use Rattle.wasm_base.specs.declared.fault.NumberKind.TheVariants.{VarU32}
 use Rattle.wasm_base.proofs.NumberLaws.{Used, number-used}
 use Rattle.wasm_base.proofs.Texts.{advanced_twice}
-use Rattle.wasm_list.specs.Answers.{told_by, IsTold, IsToldOrUnread, StandsThere}
-use Rattle.wasm_list.specs.Content.{Ending, fault, ended}
-use Rattle.wasm_list.specs.Grammar.{Shape, Tile, Verdict, tile, final, behind, behind_number, Grammar, takes, stops, refuse, number, bytes, section_start, verdict}
+use Rattle.wasm_list.specs.Answers.{told_by, IsTold, IsToldOrUnread}
+use Rattle.wasm_list.specs.Content.{fault, ended}
+use Rattle.wasm_list.specs.Grammar.{Shape, Verdict, tile, final, behind, behind_number, Grammar, takes, stops, refuse, number, bytes, verdict}
 use Rattle.wasm_list.specs.Reading.{Told, told_of}
 use Rattle.wasm_list.specs.declared.payload.Payload.{Payload}
-use Rattle.wasm_list.specs.declared.payload.Payload.TheVariants.{NotYet}
 
 -- a tile that begins with these bytes
 pub told_behind : (s : ℕ) (p : Place) (f : List ℕ) (v : Verdict) (r : Result Payload Error) (a : Place) → IsTold s (advanced (length f) p) v r a → IsTold s p (behind f v) r a
@@ -123,3 +120,7 @@ read_number_at p v q short e h = cc
 pub read_number : (p : Place) (v : ℕ) (q : Place) → unsigned_at VarU32 p ≡ Ok (v, q) → ReadNumber p v q
 unfolding unsigned_at
 read_number p v q h = read_number_at p v q (number_at VarU32 p.rest) refl h
+
+-- what is told once is told alike
+pub same_told : (x y : Told) → Some x ≡ Some y → x ≡ y
+same_told x y e = cc

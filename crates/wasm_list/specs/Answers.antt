@@ -1,22 +1,25 @@
 -- What one call of a parser answers.
-use Rattle.std.specs.Prelude.{◌≡◌, ℕ, ◌+◌, ◌≤◌, ◌<◌, ◌^◌, Bool, true, List, length, Option, Some, None, Result, Ok, Err}
+use Rattle.std.specs.Prelude.{◌≡◌, ℕ, ◌+◌, ◌≤◌, ◌<◌, ◌^◌, List, length, Option, Some, None, Result, Ok, Err}
 use Rattle.wasm_base.specs.FaultAt.{FaultAt, fault_at, at_offset}
 use Rattle.wasm_base.specs.Window.{Place, place, advanced}
 use Rattle.wasm_base.specs.declared.error.Error.{Error}
 use Rattle.wasm_base.specs.declared.fault.Fault.TheVariants.{OffsetRange}
-use Rattle.wasm_list.specs.Content.{Ending, fault, ended}
+use Rattle.wasm_list.specs.Content.{fault, ended}
 use Rattle.wasm_list.specs.Grammar.{Tile, Verdict, tile, final, Grammar, verdict}
-use Rattle.wasm_list.specs.Reading.{Told, version, custom_section, unknown_section, ending, told_of, told_ending}
+use Rattle.wasm_list.specs.Reading.{Told, version, counted, start_section, data_count_section, custom_section, unknown_section, ending, told_of, told_ending}
 use Rattle.wasm_list.specs.Stands.{Stand, grammar_of, passed}
 use Rattle.wasm_list.specs.Unread.{unread_in}
 use Rattle.wasm_list.specs.declared.payload.Payload.{Payload}
-use Rattle.wasm_list.specs.declared.payload.Payload.TheVariants.{Version, CustomSection, UnknownSection, NotYet, End}
+use Rattle.wasm_list.specs.declared.payload.Payload.TheVariants.{Version, FunctionSection, StartSection, DataCountSection, CustomSection, UnknownSection, NotYet, End}
 use Rattle.wasm_list.specs.declared.payload.Chunk.{Chunk}
 use Rattle.wasm_list.specs.declared.payload.Chunk.TheVariants.{NeedMoreData, Parsed}
 
 -- what a payload tells; a section that isn't read yet tells nothing
 abbrev pub told_by : Payload → Option Told
 told_by (Version num encoding range) = Some (version num encoding range.start range.end)
+told_by (FunctionSection s) = Some (counted 3 s.count (record s.reader { position = 0 }))
+told_by (StartSection func range) = Some (start_section func range.start range.end)
+told_by (DataCountSection count range) = Some (data_count_section count range.start range.end)
 told_by (CustomSection s) = Some (custom_section s.name (place s.reader).offset (record s.reader { position = 0 }))
 told_by (UnknownSection id contents range) = Some (unknown_section id contents.now range.start range.end)
 told_by (NotYet id) = None
@@ -54,6 +57,11 @@ Answers old (final (ended offset)) (Err e) new = ⊥
 abbrev pub AnswersOrUnread : Option ℕ → Stand → Verdict → Result Chunk Error → Stand → Type 0
 AnswersOrUnread (Some id) old v result new = (result ≡ Ok (Parsed 0 (NotYet id))) × (new ≡ old)
 AnswersOrUnread None old v result new = Answers old v result new
+
+-- The parser has passed the tile that this payload tells of, and that ends at this offset.
+abbrev pub Passes : Stand → Payload → (to : ℕ) → Stand → Type 0
+Passes old payload to new = (rest : List ℕ) (t : Tile) → verdict (grammar_of old) rest ≡ tile t → to ≡ old.offset + length t.bytes
+    → told_by payload ≡ Some (told_of old.features old.offset to t.shape) → new ≡ passed old t
 
 -- an answer that is this fault and changes nothing
 abbrev pub IsFaultAlone : FaultAt → Stand → Result Chunk Error → Stand → Type 0

@@ -1,7 +1,7 @@
 -- The kinds of sections, as the code has them.
 use Rattle.wasm_list.specs.Content.{Kind as Form, custom, items, index, data_count, code, unknown}
-use Rattle.wasm_list.specs.declared.parser.Kind.{Kind}
-use Rattle.wasm_list.specs.declared.parser.Kind.TheVariants.{Custom, Items, Index, DataCount, Code, Unknown}
+use Rattle.wasm_list.specs.declared.sections.Kind.{Kind}
+use Rattle.wasm_list.specs.declared.sections.Kind.TheVariants.{Custom, Items, Index, DataCount, Code, Unknown}
 
 abbrev pub kind_is : Kind → Form
 kind_is Custom = custom

@@ -11,6 +11,7 @@ pub mod Lists
 pub mod Moved
 pub mod Reading
 pub mod Runs
+pub mod Single
 pub mod Spans
 pub mod Stands
 pub mod Stream

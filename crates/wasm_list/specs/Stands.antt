@@ -1,10 +1,10 @@
 -- Where a parser stands in a stream.
-use Rattle.std.specs.Prelude.{◌≡◌, ℕ, zero, suc, ◌+◌, ◌-◌, max, Bool, true, false, List, [], ◌∷◌, ◌++◌, length, option_to_list, Option, Some, None, nat_lt, nat_eq, if◌then◌else◌}
+use Rattle.std.specs.Prelude.{◌≡◌, ℕ, zero, suc, ◌+◌, max, Bool, true, false, List, [], ◌∷◌, length, option_to_list, Option, Some, None, nat_lt, nat_eq, if◌then◌else◌}
 use Rattle.wasm_list.specs.declared.payload.Encoding.{Encoding}
 use Rattle.wasm_list.specs.declared.payload.Encoding.TheVariants.{Module}
-use Rattle.wasm_list.specs.Content.{Kind, items, data_count, custom, index, code, unknown, count_of}
+use Rattle.wasm_list.specs.Content.{items, data_count, custom, index, code, unknown, count_of}
 use Rattle.wasm_list.specs.Grammar.{Shape, header, section, code_head, body, Tile, Past, Grammar, header_grammar}
-use Rattle.wasm_list.specs.Tiling.{front, grammar, Faultless, inside, encoding_of, encoding_in, tile_rank, counts, bodies_left, bytes_left, bodies_after, bytes_after}
+use Rattle.wasm_list.specs.Tiling.{front, Faultless, inside, encoding_of, encoding_in, tile_rank, counts, bodies_left, bytes_left, bodies_after, bytes_after}
 
 -- the greatest rank of these tiles
 abbrev pub greatest : List Tile → ℕ
@@ -33,14 +33,14 @@ pub record Stand : Type 0 where
   pub bodies : ℕ
   pub left : ℕ
 
--- a parser that has passed no section with a rank
-abbrev pub unranked_stand : (offset features : ℕ) → Bool → Encoding → Stand
-unranked_stand offset features expects_header encoding =
-    record { offset = offset; features = features; expects_header = expects_header; encoding = encoding; rank = 0; functions = None; codes = None; datas = None; data_counts = None; bodies = 0; left = 0 }
+-- a parser that has passed no code section and no data section
+abbrev pub stand_before_code : (offset features : ℕ) → Bool → Encoding → (rank : ℕ) (functions data_counts : Option ℕ) → Stand
+stand_before_code offset features expects_header encoding rank functions data_counts =
+    record { offset = offset; features = features; expects_header = expects_header; encoding = encoding; rank = rank; functions = functions; codes = None; datas = None; data_counts = data_counts; bodies = 0; left = 0 }
 
 -- a parser that has passed nothing of a stream
 abbrev pub new_stand : (offset features : ℕ) → Stand
-new_stand offset features = unranked_stand offset features true Module
+new_stand offset features = stand_before_code offset features true Module 0 None None
 
 -- The parser stands behind this front of a stream that starts at this offset.
 pub record Stands (p : Stand) (start : ℕ) (covered : List ℕ) : Type 0 where

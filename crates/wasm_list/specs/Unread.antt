@@ -1,5 +1,5 @@
--- Sections that aren't read yet: those of a module with an id from 1 to 13.
-use Rattle.std.specs.Prelude.{ℕ, ◌+◌, ◌-◌, ◌^◌, Bool, true, false, ◌&&◌, List, [], ◌∷◌, length, Option, Some, None, nat_lt, nat_le, if◌then◌else◌}
+-- Sections that aren't read yet: those of a module with one of the ids 1, 2, 4 to 7, 9 to 11 and 13.
+use Rattle.std.specs.Prelude.{ℕ, ◌+◌, ◌-◌, ◌^◌, Bool, true, false, ◌&&◌, not, List, [], ◌∷◌, length, Option, Some, None, nat_lt, nat_le, nat_eq, if◌then◌else◌}
 use Rattle.wasm_base.specs.Header.{magic, agree}
 use Rattle.wasm_base.specs.Number.{Number, read, bad, short, number}
 use Rattle.wasm_base.specs.declared.fault.NumberKind.TheVariants.{VarU32}
@@ -7,18 +7,18 @@ use Rattle.wasm_list.specs.Content.{Kind, custom, items, index, data_count, code
 use Rattle.wasm_list.specs.Stands.{Stand}
 use Rattle.wasm_list.specs.declared.payload.Encoding.{Encoding}
 
--- whether sections of this kind aren't read yet
-abbrev pub is_unread : Kind → Bool
-is_unread custom = false
-is_unread unknown = false
-is_unread items = true
-is_unread index = true
-is_unread data_count = true
-is_unread code = true
+-- whether a section of this kind with this id isn't read yet: of counted items, only those of a function section are
+abbrev pub is_unread : Kind → (id : ℕ) → Bool
+is_unread custom id = false
+is_unread unknown id = false
+is_unread items id = not (nat_eq id 3)
+is_unread index id = false
+is_unread data_count id = false
+is_unread code id = true
 
 -- the id, if a section with it, of this kind, isn't read yet; its content would end at this offset
 abbrev pub unread_ending : Kind → (id end : ℕ) → Option ℕ
-unread_ending kind id end = if nat_lt (2 ^ 64 - 1) end then None else if is_unread kind then Some id else None
+unread_ending kind id end = if nat_lt (2 ^ 64 - 1) end then None else if is_unread kind id then Some id else None
 
 abbrev pub unread_sized : Encoding → (id offset : ℕ) → Number → Option ℕ
 unread_sized encoding id offset (read size width) = unread_ending (kind_of encoding id) id (offset + width + size)

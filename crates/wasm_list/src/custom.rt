@@ -76,8 +76,8 @@ impl<'a> CustomSectionReader<'a> {
     }
 }
 
-// A text that stands for bytes that are not printed.
-struct Dots;
+/// A text that stands for bytes that are not printed.
+pub(crate) struct Dots;
 
 impl fmt::Debug for Dots {
     fn fmt<W: fmt::Write>(&self, f: &mut fmt::Formatter<W>) -> fmt::Result {

@@ -1,12 +1,13 @@
 // The lines of a listing.
-ghost use Rattle.std.specs.Prelude.{◌≡◌, Some, IfOk, string_bytes};
+ghost use Rattle.std.specs.Prelude.{◌≡◌, ◌++◌, Some, IfOk, codes, string_bytes};
 ghost use Rattle.wasm_base.specs.FaultAt.{fault_at};
 ghost use Rattle.wasm_list.specs.Answers.{told_by};
-ghost use Rattle.wasm_list.specs.Listing.{encoding_name as name_of, line_of, line_if};
+ghost use Rattle.wasm_list.specs.Listing.{encoding_name as name_of, field, line_of, line_if};
 ghost use Rattle.wasm_list.specs.Reading.{stopped};
 
 use crate::payload::{Encoding, Payload};
 use std::alloc::{AllocError, Global};
+use std::ops::Range;
 use wasm_base::Error;
 
 fn encoding_name(encoding: Encoding) -> &'static str
@@ -16,6 +17,14 @@ fn encoding_name(encoding: Encoding) -> &'static str
         Encoding::Module => "module",
         Encoding::Component => "component",
     }
+}
+
+// The line of a section with this id that begins with a count.
+fn counted_line(alloc: Global, id: u8, range: Range<u64>, count: u32) -> Result<String, AllocError>
+    ensures { IfOk result (λ line. string_bytes line ≡ codes "section" ++ field id (field range.start (field range.end (field count (codes "\n"))))) }
+{
+    let (start, end) = (range.start, range.end);
+    format!(in alloc; "section {id} {start} {end} {count}\n")
 }
 
 /// The line of a payload. A section that isn't read yet has none.
@@ -31,6 +40,17 @@ pub(crate) fn payload_line(alloc: Global, payload: &Payload) -> Result<String, A
         } => {
             let (start, end, name) = (range.start, range.end, encoding_name(*encoding));
             format!(in alloc; "version {start} {end} {num} {name}\n")
+        }
+        Payload::FunctionSection(section) => {
+            counted_line(alloc, 3, section.range(), section.count())
+        }
+        Payload::StartSection { func, range } => {
+            let (start, end) = (range.start, range.end);
+            format!(in alloc; "start {start} {end} {func}\n")
+        }
+        Payload::DataCountSection { count, range } => {
+            let (start, end) = (range.start, range.end);
+            format!(in alloc; "datacount {start} {end} {count}\n")
         }
         Payload::CustomSection(section) => {
             let (range, data_offset) = (section.range(), section.data_offset());

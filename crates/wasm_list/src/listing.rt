@@ -111,6 +111,8 @@ fn list_bytes<W: Sink>(alloc: Global, bytes: &[u8], output: &mut W) -> Result<En
                 if let Payload::End(_) = payload {
                     return Ok(Ended::End);
                 }
+                // Here, and not by itself at the arm's end: there each kind of payload would be a path of its own.
+                drop(payload);
                 rest = rest.split_at(consumed).1;
             }
             Ok(Chunk::NeedMoreData(_)) => unreachable!(),

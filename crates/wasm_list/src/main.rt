@@ -8,6 +8,7 @@ mod listing;
 mod parser;
 mod payload;
 mod program;
+mod sections;
 mod sink;
 mod source;
 #[cfg(test)]

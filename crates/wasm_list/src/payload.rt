@@ -1,7 +1,8 @@
 // What a parser tells of a stream.
-use crate::custom::CustomSectionReader;
+use crate::custom::{CustomSectionReader, Dots};
 use std::fmt;
 use std::ops::Range;
+use wasm_base::SectionLimited;
 
 /// What a header announces.
 #[derive(Clone, Copy, Debug, PartialEq, Eq)]
@@ -16,6 +17,15 @@ pub(crate) enum Payload<'a> {
     Version {
         num: u16,
         encoding: Encoding,
+        range: Range<u64>,
+    },
+    FunctionSection(SectionLimited<'a, u32>),
+    StartSection {
+        func: u32,
+        range: Range<u64>,
+    },
+    DataCountSection {
+        count: u32,
         range: Range<u64>,
     },
     CustomSection(CustomSectionReader<'a>),
@@ -50,6 +60,17 @@ impl<'a> fmt::Debug for Payload<'a> {
                 .debug_struct("Version")
                 .field("num", num)
                 .field("encoding", encoding)
+                .field("range", range)
+                .finish(),
+            Payload::FunctionSection(_) => f.debug_tuple("FunctionSection").field(&Dots).finish(),
+            Payload::StartSection { func, range } => f
+                .debug_struct("StartSection")
+                .field("func", func)
+                .field("range", range)
+                .finish(),
+            Payload::DataCountSection { count, range } => f
+                .debug_struct("DataCountSection")
+                .field("count", count)
                 .field("range", range)
                 .finish(),
             Payload::CustomSection(section) => f

@@ -10,7 +10,7 @@ use std::test::Fail;
 use wasm_base::{Error, Fault};
 
 /// A stream after a module's header, and its listing after the header's line.
-const LISTINGS: [(&[u8], &[u8]); 16] = [
+const LISTINGS: [(&[u8], &[u8]); 32] = [
     (b"\x00\x02\x01a", b"custom 10 12 12\nend 12\n"),
     (b"", b"end 8\n"),
     (b"\x0e\x01\xff", b"unknown 14 10 11\nend 11\n"),
@@ -51,6 +51,55 @@ const LISTINGS: [(&[u8], &[u8]); 16] = [
         b"\x7f\x00\x00\x01\x00",
         b"unknown 127 10 10\ncustom 12 13 13\nend 13\n",
     ),
+    (
+        b"\x03\x02\x01\0",
+        b"section 3 10 12 1\nfault 12 function section has non-zero count but code section is absent\n",
+    ),
+    (b"\x03\x01\0", b"section 3 10 11 0\nend 11\n"),
+    (b"\x0c\x01\0", b"datacount 10 11 0\nend 11\n"),
+    (
+        b"\x0c\x01\x01",
+        b"datacount 10 11 1\nfault 11 data count is non-zero but data section is absent\n",
+    ),
+    (
+        b"\x03\x02\x01\0\x0c\x01\x01",
+        b"section 3 10 12 1\ndatacount 14 15 1\nfault 15 function section has non-zero count but code section is absent\n",
+    ),
+    (
+        b"\x08\x01\x01\x03\x01\0",
+        b"start 10 11 1\nfault 13 section out of order\n",
+    ),
+    (
+        b"\x08\x01\0\x08\x01\0",
+        b"start 10 11 0\nfault 13 section out of order\n",
+    ),
+    (
+        b"\x0c\x01\0\x08\x05",
+        b"datacount 10 11 0\nfault 13 section out of order\n",
+    ),
+    (
+        b"\x03\x01\0\0\x01\0\x0e\0\x08\x01\0",
+        b"section 3 10 11 0\ncustom 13 14 14\nunknown 14 16 16\nstart 18 19 0\nend 19\n",
+    ),
+    (
+        b"\x08\x02\x01\x01",
+        b"fault 11 unexpected content in the start section\n",
+    ),
+    (
+        b"\x08\x06\xff\xff\xff\xff\x0f\0",
+        b"fault 15 unexpected content in the start section\n",
+    ),
+    (
+        b"\x0c\x02\0\0",
+        b"fault 11 unexpected content in the data count section\n",
+    ),
+    (b"\x03\0\0", b"fault 10 unexpected end-of-file\n"),
+    (b"\x0c\x01\x80\0", b"fault 11 unexpected end-of-file\n"),
+    (
+        b"\x03\x05\x80\x80\x80\x80\x10",
+        b"fault 14 invalid var_u32: integer too large\n",
+    ),
+    (b"\x08\x05\0\0", b"fault 10 unexpected end-of-file\n"),
 ];
 
 #[test]
@@ -75,7 +124,7 @@ fn lists_modules(rt: HostRuntime) -> Result<(), Fail> {
 #[test]
 fn tells_how_a_stream_ends(rt: HostRuntime) -> Result<(), Fail> {
     let unknown = Error::new(Fault::UnknownVersion, 4).with_number(16843009);
-    let streams: [(&[u8], Result<Ended, ListError>, &[u8]); 8] = [
+    let streams: [(&[u8], Result<Ended, ListError>, &[u8]); 10] = [
         (
             b"\0asm\x0d\0\x01\0\x01\x01\0",
             Ok(Ended::End),
@@ -90,6 +139,16 @@ fn tells_how_a_stream_ends(rt: HostRuntime) -> Result<(), Fail> {
             b"\0asm\x01\0\0\0\x0e\0\x0d\x05",
             Err(ListError::NotYet(13)),
             b"version 0 8 1 module\nunknown 14 10 10\n",
+        ),
+        (
+            b"\0asm\x01\0\0\0\x08\x01\0\x01\x01\0",
+            Err(ListError::NotYet(1)),
+            b"version 0 8 1 module\nstart 10 11 0\n",
+        ),
+        (
+            b"\0asm\x0d\0\x01\0\x0c\x01\x01\x03\x01\x01",
+            Ok(Ended::End),
+            b"version 0 8 13 component\nunknown 12 10 11\nunknown 3 13 14\nend 14\n",
         ),
         (
             b"\0asm\x01\0\0\0\x01\x80",

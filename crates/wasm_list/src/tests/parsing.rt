@@ -88,10 +88,13 @@ fn a_custom_section(rt: HostRuntime) -> Result<(), Fail> {
 #[test]
 fn faults_change_nothing(rt: HostRuntime) -> Result<(), Fail> {
     let mut parser = behind_header(0)?;
-    let rows: [(&[u8], Fault, u64); 3] = [
+    let rows: [(&[u8], Fault, u64); 6] = [
         (b"\0\x01\x01", Fault::UnexpectedEof, 11),
         (b"\0asm", Fault::MagicAtSection, 8),
         (b"\x80", Fault::MalformedSectionId, 8),
+        (b"\x08\0", Fault::UnexpectedEof, 10),
+        (b"\x0c\x02\0\0", Fault::DataCountContent, 11),
+        (b"\x03\x02\0", Fault::UnexpectedEof, 10),
     ];
     for (bytes, fault, offset) in rows {
         assert_eq!(rt;
@@ -101,6 +104,75 @@ fn faults_change_nothing(rt: HostRuntime) -> Result<(), Fail> {
         );
         assert_eq!(rt; parser.offset(), 8);
     }
+    // No rank and no count was kept of those that were refused.
+    parser.parse(b"\x03\x01\0", true)?;
+    assert_eq!(rt; parser.offset(), 11);
+    parser.parse(b"", true)?;
+    Ok(())
+}
+
+#[test]
+fn a_function_section(rt: HostRuntime) -> Result<(), Fail> {
+    let mut parser = behind_header(0)?;
+    match parser.parse(b"\x03\x03\x02\0\x07", true)? {
+        Chunk::Parsed {
+            consumed,
+            payload: Payload::FunctionSection(section),
+        } => {
+            assert_eq!(rt; (consumed, section.count()), (5, 2));
+            assert_eq!(rt; section.range(), 10..13);
+            let mut types = Vec::new(rt.alloc());
+            for item in section {
+                types.push(item?)?;
+            }
+            assert_eq!(rt; types.as_slice(), [0, 7].as_slice());
+        }
+        _other => assert!(rt; false),
+    }
+    assert_eq!(rt;
+        refusal(&mut parser, b"\x03\x01\0"),
+        Some(Error::new(Fault::OutOfOrder, 15))
+    );
+    assert_eq!(rt;
+        refusal(&mut parser, b""),
+        Some(Error::new(Fault::FunctionWithoutCode, 13))
+    );
+    Ok(())
+}
+
+#[test]
+fn a_start_section(rt: HostRuntime) -> Result<(), Fail> {
+    let mut parser = behind_header(0)?;
+    match parser.parse(b"\x08\x01\x01", true)? {
+        Chunk::Parsed {
+            consumed,
+            payload: Payload::StartSection { func, range },
+        } => {
+            assert_eq!(rt; (consumed, func), (3, 1));
+            assert_eq!(rt; range, 10..11);
+        }
+        _other => assert!(rt; false),
+    }
+    Ok(())
+}
+
+#[test]
+fn a_data_count_section(rt: HostRuntime) -> Result<(), Fail> {
+    let mut parser = behind_header(0)?;
+    match parser.parse(b"\x0c\x02\x80\x01", true)? {
+        Chunk::Parsed {
+            consumed,
+            payload: Payload::DataCountSection { count, range },
+        } => {
+            assert_eq!(rt; (consumed, count), (4, 128));
+            assert_eq!(rt; range, 10..12);
+        }
+        _other => assert!(rt; false),
+    }
+    assert_eq!(rt;
+        refusal(&mut parser, b""),
+        Some(Error::new(Fault::DataCountWithoutData, 12))
+    );
     Ok(())
 }
 
@@ -129,7 +201,8 @@ fn unknown_sections_of_a_component(rt: HostRuntime) -> Result<(), Fail> {
 #[test]
 fn sections_not_read_yet(rt: HostRuntime) -> Result<(), Fail> {
     let mut parser = behind_header(0)?;
-    for section in [1, 2, 3, 4, 5, 6, 7, 8, 9, 10, 11, 12, 13] {
+    parser.parse(b"\x08\x01\0", true)?;
+    for section in [1, 2, 4, 5, 6, 7, 9, 10, 11, 13] {
         match parser.parse(&[section, 3], true)? {
             Chunk::Parsed {
                 consumed,
@@ -138,7 +211,7 @@ fn sections_not_read_yet(rt: HostRuntime) -> Result<(), Fail> {
             _other => assert!(rt; false),
         }
     }
-    assert_eq!(rt; parser.offset(), 8);
+    assert_eq!(rt; parser.offset(), 11);
     Ok(())
 }
 
@@ -165,7 +238,7 @@ fn near_the_top_of_the_offsets(rt: HostRuntime) -> Result<(), Fail> {
 #[test]
 fn payloads_as_debug_text(rt: HostRuntime) -> Result<(), Fail> {
     let mut parser = Parser::new(0);
-    let rows: [(&[u8], &str); 4] = [
+    let rows: [(&[u8], &str); 7] = [
         (
             HEADER,
             "Parsed { consumed: 8, payload: Version { num: 1, encoding: Module, range: 0..8 } }",
@@ -178,7 +251,19 @@ fn payloads_as_debug_text(rt: HostRuntime) -> Result<(), Fail> {
             b"\x0e\0",
             "Parsed { consumed: 2, payload: UnknownSection { id: 14, range: 14..14 } }",
         ),
-        (b"", "Parsed { consumed: 0, payload: End(14) }"),
+        (
+            b"\x03\x01\0",
+            "Parsed { consumed: 3, payload: FunctionSection(\"...\") }",
+        ),
+        (
+            b"\x08\x01\x01",
+            "Parsed { consumed: 3, payload: StartSection { func: 1, range: 19..20 } }",
+        ),
+        (
+            b"\x0c\x01\0",
+            "Parsed { consumed: 3, payload: DataCountSection { count: 0, range: 22..23 } }",
+        ),
+        (b"", "Parsed { consumed: 0, payload: End(23) }"),
     ];
     for (bytes, text) in rows {
         let chunk = parser.parse(bytes, true)?;

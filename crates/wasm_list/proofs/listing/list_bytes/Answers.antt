@@ -1,9 +1,7 @@
-use Rattle.std.proofs.Common.{◌≡◌, ◌<◌, ◌≤◌, ◌^◌, ℕ, ◌-◌, List, take, length, drop, subst, sym, refl, arith, length-drop}
+use Rattle.std.proofs.Common.{◌<◌, ◌^◌, length, refl, arith, length-drop}
 use Rattle.std.proofs.lemmas.Grind.{common_steps}
 use Rattle.std.proofs.lemmas.Result.{err_from_is_err_and}
-use Rattle.wasm_list.specs.Lists.{ListsBytes}
-use Rattle.wasm_list.specs.Unread.{unread_in}
-use Rattle.wasm_list.proofs.Progress.{Progress, begun, came, Came, ends_listed, goes_on, stops_listing, fault_listed, fault_cut, not_yet}
+use Rattle.wasm_list.proofs.Progress.{begun, came, ends_listed, goes_on, stops_listing, fault_listed, fault_cut, not_yet}
 use Rattle.wasm_list.proofs.listing.list_bytes.Goals as goal
 
 pub events-init : goal.events-init

@@ -1,8 +1,11 @@
-use Rattle.std.proofs.Common.{Some, ap, arith, ◌∙◌}
+use Rattle.std.proofs.Common.{Some, refl, sym, ap, arith, ◌∙◌}
+use Rattle.wasm_base.specs.FaultAt.{at_offset}
 use Rattle.wasm_base.specs.Window.{place}
+use Rattle.wasm_base.specs.declared.fault.Fault.TheVariants.{OutOfOrder}
 use Rattle.wasm_list.specs.Content.{kind_of}
+use Rattle.wasm_list.specs.Kinds.{kind_is}
 use Rattle.wasm_list.specs.Stands.{past_of}
-use Rattle.wasm_list.proofs.Framed.{sized_large, sized_custom, sized_unknown}
+use Rattle.wasm_list.proofs.Framed.{sized_large, sized_as, sized_unread, sized_disordered, sized_ordered}
 use Rattle.wasm_list.proofs.parser.Parser.sized.Goals as goal
 
 pub returns-then-from-original_position : goal.returns-then-from-original_position
@@ -10,10 +13,18 @@ returns-then-from-original_position c =
     sized_large (past_of c.args.self.now) (kind_of c.args.self.now.encoding c.args.id) c.args.id c.args.field c.args.size (place c.args.reader.now) c.with_number.result _ (omega arith)
     (c.with_number.ensures.told ∙ (λ i. record { fault = (c.new.ensures.told i).fault; offset = (c.new.ensures.told i).offset; number = Some (c.from-then-from-original_position.ensures i) }))
 
-pub returns-in-Custom : goal.returns-in-Custom
-returns-in-Custom c =
-    sized_custom (past_of c.args.self.now) (kind_of c.args.self.now.encoding c.args.id) c.args.id c.args.field c.args.size (place c.args.reader.now) c.custom.result _ (c.in-Custom.ensures ∙ ap (λ e. kind_of e c.args.id) c.encoding.ensures) (omega arith) c.custom.ensures
+pub returns-then-is_unread : goal.returns-then-is_unread
+returns-then-is_unread c =
+    sized_as (past_of c.args.self.now) (kind_is c.kind_of-kind.result) (kind_of c.args.self.now.encoding c.args.id) c.args.id c.args.field c.args.size (place c.args.reader.now) _ _ (c.kind_of-kind.ensures ∙ ap (λ e. kind_of e c.args.id) c.encoding.ensures)
+    (sized_unread (past_of c.args.self.now) (kind_is c.kind_of-kind.result) c.args.id c.args.field c.args.size (place c.args.reader.now) _ _ (omega arith) (sym c.if-is_unread.ensures) refl)
 
-pub returns-in-Unknown : goal.returns-in-Unknown
-returns-in-Unknown c =
-    sized_unknown (past_of c.args.self.now) (kind_of c.args.self.now.encoding c.args.id) c.args.id c.args.field c.args.size (place c.args.reader.now) c.unknown.result _ (c.in-Unknown.ensures ∙ ap (λ e. kind_of e c.args.id) c.encoding.ensures) (omega arith) c.unknown.ensures
+pub returns-then-is_out_of_order : goal.returns-then-is_out_of_order
+returns-then-is_out_of_order c =
+    sized_as (past_of c.args.self.now) (kind_is c.kind_of-kind.result) (kind_of c.args.self.now.encoding c.args.id) c.args.id c.args.field c.args.size (place c.args.reader.now) _ _ (c.kind_of-kind.ensures ∙ ap (λ e. kind_of e c.args.id) c.encoding.ensures)
+    (sized_disordered (past_of c.args.self.now) (kind_is c.kind_of-kind.result) c.args.id c.args.field c.args.size (place c.args.reader.now) c.new-then-is_out_of_order.result _ (omega arith) (sym c.if-is_unread.ensures) (rw c.rank_of.ensures at (sym c.if-is_out_of_order.ensures))
+    (c.new-then-is_out_of_order.ensures.told ∙ ap (at_offset OutOfOrder) c.original_position-then-is_out_of_order.ensures.offset))
+
+pub returns : goal.returns
+returns c =
+    sized_as (past_of c.args.self.now) (kind_is c.kind_of-kind.result) (kind_of c.args.self.now.encoding c.args.id) c.args.id c.args.field c.args.size (place c.args.reader.now) _ _ (c.kind_of-kind.ensures ∙ ap (λ e. kind_of e c.args.id) c.encoding.ensures)
+    (sized_ordered (past_of c.args.self.now) (kind_is c.kind_of-kind.result) c.args.id c.args.field c.args.size (place c.args.reader.now) _ _ (omega arith) (sym c.if-is_unread.ensures) (rw c.rank_of.ensures at (sym c.if-is_out_of_order.ensures)) c.content.ensures)
