@@ -176,14 +176,22 @@ count_wrong : (p : Past) (offset count : ℕ) → MayLie offset offset (wrong_co
 count_wrong p offset count = count_wrong_at (not (list_all (nat_eq count) p.functions)) (nat_lt 0 count && nat_eq (length p.functions) 0) offset _ _ refl refl
 
 Within-whole : (low here : ℕ) (p : Past) (kind : Kind) (id offset size : ℕ) → low ≤ offset → offset ≡ here → Within low here (whole_grammar p kind id offset size)
-Within-whole low here p kind id offset size l z = (lies low here offset l (omega arith), λ content n.
-    (wider offset low (offset + length content) (here + size) _ l (omega arith) (content_wrong kind offset content),
-    (wider (offset + size) low (offset + size) (here + size) _ (omega arith) (omega arith) (data_wrong p kind id (offset + size) content), tt)))
+Within-whole low here p kind id offset size l z = (
+  lies low here offset l (omega arith),
+  λ content n. (
+    wider offset low (offset + length content) (here + size) _ l (omega arith) (content_wrong kind offset content),
+    (wider (offset + size) low (offset + size) (here + size) _ (omega arith) (omega arith) (data_wrong p kind id (offset + size) content), tt),
+  ),
+)
 
 Within-code : (low here : ℕ) (p : Past) (offset size : ℕ) → low ≤ offset → offset ≡ here → Within low here (code_grammar p offset size)
-Within-code low here p offset size l z = (lies low here offset l (omega arith), λ count width.
-    (when_lies low (here + width) _ _ (omega arith, omega arith),
-    (wider offset low offset (here + width) _ l (omega arith) (count_wrong p offset count), tt)))
+Within-code low here p offset size l z = (
+  lies low here offset l (omega arith),
+  λ count width. (
+    when_lies low (here + width) _ _ (omega arith, omega arith),
+    (wider offset low offset (here + width) _ l (omega arith) (count_wrong p offset count), tt),
+  ),
+)
 
 Within-content : (low here : ℕ) (p : Past) (kind : Kind) (id offset size : ℕ) → low ≤ offset → offset ≡ here → Within low here (content_grammar p kind id offset size)
 Within-content low here p code id offset size l z = Within-code low here p offset size l z
@@ -202,21 +210,34 @@ end_lies : (p : Past) (offset : ℕ) → EndsIn offset offset (end_of p offset)
 end_lies p offset = end_lies_at (list_any (nat_lt 0) p.functions && nat_eq (length p.codes) 0) (list_any (nat_lt 0) p.data_counts && nat_eq (length p.datas) 0) offset _ _ refl refl
 
 Within-sized : (o : ℕ) (p : Past) (kind : Kind) (id size width : ℕ) → Within o (o + 1 + width) (sized p kind id (o + 1) (o + 1 + width) size)
-Within-sized o p kind id size width =
-    (when_lies o (o + 1 + width) _ _ (omega arith, omega arith),
-    (when_lies o (o + 1 + width) _ _ (omega arith, omega arith),
-    Within-content o (o + 1 + width) p kind id (o + 1 + width) size (omega arith) refl))
+Within-sized o p kind id size width = (
+  when_lies o (o + 1 + width) _ _ (omega arith, omega arith),
+  (
+    when_lies o (o + 1 + width) _ _ (omega arith, omega arith),
+    Within-content o (o + 1 + width) p kind id (o + 1 + width) size (omega arith) refl,
+  ),
+)
 
 Within-section : (p : Past) (o : ℕ) → Within o o (section_grammar p o)
 unfolding section_grammar
-Within-section p o = ((le_refl o, le_refl o), end_lies p o, λ id.
-    (when_lies o (o + 1) _ _ (omega arith, omega arith), ((omega arith, omega arith), λ size width. Within-sized o p (kind_of p.encoding id) id size width)))
+Within-section p o = (
+  (le_refl o, le_refl o),
+  end_lies p o,
+  λ id.
+      (when_lies o (o + 1) _ _ (omega arith, omega arith), ((omega arith, omega arith), λ size width. Within-sized o p (kind_of p.encoding id) id size width)),
+)
 
 Within-body : (bodies left o : ℕ) → Within o o (body_grammar bodies left o)
 unfolding body_grammar
 Within-body zero left o = (le_refl o, le_refl o)
-Within-body (suc bodies) left o = ((le_refl o, le_refl o), λ size width. ((omega arith, omega arith), λ content n.
-    (when_lies o (o + width + size) _ _ (omega arith, omega arith), tt)))
+Within-body (suc bodies) left o = (
+  (le_refl o, le_refl o),
+  λ size width. (
+    (omega arith, omega arith),
+    λ content n.
+        (when_lies o (o + width + size) _ _ (omega arith, omega arith), tt),
+  ),
+)
 
 Within-header_of : (o bits : ℕ) (e : Option Encoding) → Within o (o + 4 + 4) (header_of o bits e)
 Within-header_of o bits (Some e) = tt

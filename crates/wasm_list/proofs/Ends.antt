@@ -239,8 +239,9 @@ last_stands stream start ts (ended x) r = let z : x ≡ start + length (front ts
 
 pub events_lie_end_to_end : EventsLieEndToEnd
 events_lie_end_to_end stream start features ts end r =
-    let n : consumed_by (events_of start features ts) ≡ front ts = tiles_consume start features ts in
-    (end_to_end_more stream start start (events_of start features ts) (last_event end) (start + length (front ts)) (ap (λ (l : List ℕ). start + length l) (sym n))
-    (tiles_lie stream start features ts r.rest r.faultless r.whole)
-    (last_stands stream start ts end r),
-    consumed_more (events_of start features ts) (last_event end) ∙ (append-nil (consumed_by (events_of start features ts)) ∙ n))
+    let n : consumed_by (events_of start features ts) ≡ front ts = tiles_consume start features ts in (
+      end_to_end_more stream start start (events_of start features ts) (last_event end) (start + length (front ts)) (ap (λ (l : List ℕ). start + length l) (sym n))
+          (tiles_lie stream start features ts r.rest r.faultless r.whole)
+          (last_stands stream start ts end r),
+      consumed_more (events_of start features ts) (last_event end) ∙ (append-nil (consumed_by (events_of start features ts)) ∙ n),
+    )

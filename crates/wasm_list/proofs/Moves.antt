@@ -179,16 +179,26 @@ top_moves by top field o n false false x y = inl refl
 top_moves by top field o n true false x y = absurd (omega (arith, ltb-true top (o + n) x, ltb-false top (o + by + n) y))
 
 Like-sized : (by : ℕ) (p : Past) (kind : Kind) (id field o n : ℕ) → Like by (sized p kind id field o n) (sized p kind id (field + by) (o + by) n)
-Like-sized by p kind id field o n =
-    (_, _, refl, top_moves by (2 ^ 64 - 1) field o n _ _ refl refl,
-    (_, _, refl, when_moves by (nat_lt 0 (rank_of kind id) && not (p.may_follow (rank_of kind id))) (at_offset OutOfOrder o) (at_offset OutOfOrder (o + by)) refl, Like-content by p kind id o n))
+Like-sized by p kind id field o n = (
+  _,
+  _,
+  refl,
+  top_moves by (2 ^ 64 - 1) field o n _ _ refl refl,
+  (_, _, refl, when_moves by (nat_lt 0 (rank_of kind id) && not (p.may_follow (rank_of kind id))) (at_offset OutOfOrder o) (at_offset OutOfOrder (o + by)) refl, Like-content by p kind id o n),
+)
 
 Like-framed : (by : ℕ) (p : Past) (o id : ℕ) → Like by (framed p o id) (framed p (o + by) id)
-Like-framed by p o id =
-    (_, _, refl, when_moves by (nat_le 128 id) (at_offset MalformedSectionId o) (at_offset MalformedSectionId (o + by)) refl,
-    (λ size width. sized p (kind_of p.encoding id) id (o + by + 1) (o + by + 1 + width) size,
+Like-framed by p o id = (
+  _,
+  _,
+  refl,
+  when_moves by (nat_le 128 id) (at_offset MalformedSectionId o) (at_offset MalformedSectionId (o + by)) refl,
+  (
+    λ size width. sized p (kind_of p.encoding id) id (o + by + 1) (o + by + 1 + width) size,
     ap (λ (x : ℕ). number x (λ size width. sized p (kind_of p.encoding id) id (o + by + 1) (o + by + 1 + width) size)) (omega arith),
-    λ size width. subst₂ (λ (f c : ℕ). Like by (sized p (kind_of p.encoding id) id (o + 1) (o + 1 + width) size) (sized p (kind_of p.encoding id) id f c size)) (omega arith) (omega arith) (Like-sized by p (kind_of p.encoding id) id (o + 1) (o + 1 + width) size)))
+    λ size width. subst₂ (λ (f c : ℕ). Like by (sized p (kind_of p.encoding id) id (o + 1) (o + 1 + width) size) (sized p (kind_of p.encoding id) id f c size)) (omega arith) (omega arith) (Like-sized by p (kind_of p.encoding id) id (o + 1) (o + 1 + width) size),
+  ),
+)
 
 end_moves_at : (by : ℕ) (a b : Bool) (o : ℕ) (e f : FaultAt) → cond a (fault (moved_fault by e)) (cond b (fault (moved_fault by f)) (ended (o + by))) ≡ moved_ending by (cond a (fault e) (cond b (fault f) (ended o)))
 end_moves_at by true b o e f = refl
@@ -204,9 +214,11 @@ unfolding section_grammar
 Like-section by p o = (framed p (o + by), ap (λ (x : Ending). section_start (o + by) x (framed p (o + by))) (end_moves by p o), λ id. Like-framed by p o id)
 
 Like-body_of : (by o left n width : ℕ) → Like by (body_of o left n width) (body_of (o + by) left n width)
-Like-body_of by o left n width =
-    (_, ap (λ (x : ℕ). bytes n x (λ content. refuse (when (nat_lt left (width + n)) (at_offset UnexpectedEof (o + by))) (takes (body content)))) (omega arith),
-    λ content. (_, _, refl, when_moves by (nat_lt left (width + n)) (at_offset UnexpectedEof o) (at_offset UnexpectedEof (o + by)) refl, refl))
+Like-body_of by o left n width = (
+  _,
+  ap (λ (x : ℕ). bytes n x (λ content. refuse (when (nat_lt left (width + n)) (at_offset UnexpectedEof (o + by))) (takes (body content)))) (omega arith),
+  λ content. (_, _, refl, when_moves by (nat_lt left (width + n)) (at_offset UnexpectedEof o) (at_offset UnexpectedEof (o + by)) refl, refl),
+)
 
 Like-body : (by bodies left o : ℕ) → Like by (body_grammar bodies left o) (body_grammar bodies left (o + by))
 unfolding body_grammar
@@ -219,8 +231,17 @@ Like-header_of by o bits None = ap (λ (x : ℕ). stops (record { fault = Unknow
 
 Like-header : (by o : ℕ) → Like by (header_grammar o) (header_grammar (o + by))
 unfolding header_grammar
-Like-header by o = (_, refl, λ first. (_, _, refl, when_moves by (not (agree first magic)) (at_offset BadMagic o) (at_offset BadMagic (o + by)) refl,
-    (λ four. version_of (o + by) (of_four four), ap (λ (x : ℕ). bytes 4 x (λ four. version_of (o + by) (of_four four))) (omega arith), λ four. Like-header_of by o (of_four four) _)))
+Like-header by o = (
+  _,
+  refl,
+  λ first. (
+    _,
+    _,
+    refl,
+    when_moves by (not (agree first magic)) (at_offset BadMagic o) (at_offset BadMagic (o + by)) refl,
+    (λ four. version_of (o + by) (of_four four), ap (λ (x : ℕ). bytes 4 x (λ four. version_of (o + by) (of_four four))) (omega arith), λ four. Like-header_of by o (of_four four) _),
+  ),
+)
 
 Like-inside : (by : ℕ) (b : Bool) (p : Past) (bodies left o : ℕ) → Like by (cond b (section_grammar p o) (body_grammar bodies left o)) (cond b (section_grammar p (o + by)) (body_grammar bodies left (o + by)))
 Like-inside by true p bodies left o = Like-section by p o

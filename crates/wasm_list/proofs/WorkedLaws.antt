@@ -66,7 +66,7 @@ unfolding verdict header_grammar section_grammar body_grammar number wrong_conte
 edges_of_rules = record {
   every_section = record {
     tiles = small_tile custom 0 ∷ small_tile items 11 ∷ code 1 0 ∷ small_tile data_count 12 ∷ small_tile items 9 ∷ small_tile index 8 ∷ small_tile items 7 ∷ small_tile items 6 ∷ small_tile items 13 ∷ small_tile items 5
-    ∷ small_tile items 4 ∷ small_tile items 3 ∷ small_tile items 2 ∷ small_tile items 1 ∷ head ∷ [];
+        ∷ small_tile items 4 ∷ small_tile items 3 ∷ small_tile items 2 ∷ small_tile items 1 ∷ head ∷ [];
     end = ended 50;
     reads = record { rest = []; whole = refl; faultless = (((((((((((((((tt, refl), refl), refl), refl), refl), refl), refl), refl), refl), refl), refl), refl), refl), refl), rw empty_name refl); stops = refl };
     listed = rw empty_name refl;

@@ -6,7 +6,7 @@ ghost use Rattle.wasm_list.specs.Listing.{encoding_name as name_of, field, line_
 ghost use Rattle.wasm_list.specs.Reading.{stopped};
 
 use crate::payload::{Encoding, Payload};
-use std::alloc::{AllocError, Global};
+use std::alloc::{AllocError, Allocator};
 use std::ops::Range;
 use wasm_base::Error;
 
@@ -20,7 +20,12 @@ fn encoding_name(encoding: Encoding) -> &'static str
 }
 
 // The line of a section with this id that begins with a count.
-fn counted_line(alloc: Global, id: u8, range: Range<u64>, count: u32) -> Result<String, AllocError>
+fn counted_line<A: Allocator>(
+    alloc: A,
+    id: u8,
+    range: Range<u64>,
+    count: u32,
+) -> Result<String<A>, AllocError>
     ensures { IfOk result (λ line. string_bytes line ≡ codes "section" ++ field id (field range.start (field range.end (field count (codes "\n"))))) }
 {
     let (start, end) = (range.start, range.end);
@@ -29,7 +34,10 @@ fn counted_line(alloc: Global, id: u8, range: Range<u64>, count: u32) -> Result<
 
 /// The line of a payload. A section that isn't read yet has none.
 #[tactic(auto, unfolding(crate::specs::Listing::line_of))]
-pub(crate) fn payload_line(alloc: Global, payload: &Payload) -> Result<String, AllocError>
+pub(crate) fn payload_line<A: Allocator>(
+    alloc: A,
+    payload: &Payload,
+) -> Result<String<A>, AllocError>
     ensures { IfOk result (λ line. string_bytes line ≡ line_if (told_by payload.now)) }
 {
     match payload {
@@ -68,7 +76,7 @@ pub(crate) fn payload_line(alloc: Global, payload: &Payload) -> Result<String, A
 
 /// The line of a fault.
 #[tactic(auto, unfolding(crate::specs::Listing::line_of))]
-pub(crate) fn fault_line(alloc: Global, error: &Error) -> Result<String, AllocError>
+pub(crate) fn fault_line<A: Allocator>(alloc: A, error: &Error) -> Result<String<A>, AllocError>
     ensures { IfOk result (λ line. string_bytes line ≡ line_of (stopped (fault_at error.now))) }
 {
     let (offset, message) = (error.offset(), error.message());

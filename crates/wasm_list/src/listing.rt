@@ -11,7 +11,7 @@ use crate::parser::Parser;
 use crate::payload::{Chunk, Payload};
 use crate::sink::{Sink, write_all};
 use crate::source::Source;
-use std::alloc::{AllocError, Global};
+use std::alloc::{AllocError, Allocator, Global};
 use wasm_base::Error;
 
 /// How a stream that was listed ended.
@@ -59,7 +59,7 @@ fn write_line<W: Sink>(output: &mut W, line: &str) -> Result<(), ListError>
 }
 
 // Writes the line of a payload.
-fn tell<W: Sink>(alloc: Global, output: &mut W, payload: &Payload) -> Result<(), ListError>
+fn tell<A: Allocator, W: Sink>(alloc: A, output: &mut W, payload: &Payload) -> Result<(), ListError>
     ensures writes { Writes (W.taken output.old) (W.taken output.new) (line_if (told_by payload.now)) result }
     ensures failed { W.has_failed output.new ≡ output_failed result (W.has_failed output.old) }
 {
@@ -68,7 +68,11 @@ fn tell<W: Sink>(alloc: Global, output: &mut W, payload: &Payload) -> Result<(),
 }
 
 // Writes the line of a fault.
-fn tell_fault<W: Sink>(alloc: Global, output: &mut W, error: &Error) -> Result<(), ListError>
+fn tell_fault<A: Allocator, W: Sink>(
+    alloc: A,
+    output: &mut W,
+    error: &Error,
+) -> Result<(), ListError>
     ensures writes { Writes (W.taken output.old) (W.taken output.new) (line_of (stopped (fault_at error.now))) result }
     ensures failed { W.has_failed output.new ≡ output_failed result (W.has_failed output.old) }
 {
@@ -77,7 +81,11 @@ fn tell_fault<W: Sink>(alloc: Global, output: &mut W, error: &Error) -> Result<(
 }
 
 // All bytes of the source, of which at most `piece` are read at once.
-fn read_all<R: Source>(alloc: Global, input: &mut R, piece: usize) -> Result<Vec<u8>, ListError>
+fn read_all<A: Allocator + Copy, R: Source>(
+    alloc: A,
+    input: &mut R,
+    piece: usize,
+) -> Result<Vec<u8, A>, ListError>
     requires { 0 < piece }
     ensures gathers { Gathers (R.left input.old) (R.left input.new) result }
     ensures failed { R.has_failed input.new ≡ input_failed result (R.has_failed input.old) }
@@ -95,7 +103,11 @@ fn read_all<R: Source>(alloc: Global, input: &mut R, piece: usize) -> Result<Vec
 }
 
 // Writes the listing of a whole stream.
-fn list_bytes<W: Sink>(alloc: Global, bytes: &[u8], output: &mut W) -> Result<Ended, ListError>
+fn list_bytes<A: Allocator + Copy, W: Sink>(
+    alloc: A,
+    bytes: &[u8],
+    output: &mut W,
+) -> Result<Ended, ListError>
     ensures lists { ListsBytes bytes.now (W.taken output.old) (W.taken output.new) result }
     ensures failed { W.has_failed output.new ≡ output_failed result (W.has_failed output.old) }
 {
@@ -124,6 +136,22 @@ fn list_bytes<W: Sink>(alloc: Global, bytes: &[u8], output: &mut W) -> Result<En
     }
 }
 
+// The same as `list`, with memory from any allocator.
+pub(crate) fn list_in<A: Allocator + Copy, R: Source, W: Sink>(
+    alloc: A,
+    input: &mut R,
+    output: &mut W,
+    piece: usize,
+) -> Result<Ended, ListError>
+    requires { 1 ≤ piece }
+    ensures lists { Lists (R.left input.old) (R.left input.new) (W.taken output.old) (W.taken output.new) result }
+    ensures input { R.has_failed input.new ≡ input_failed result (R.has_failed input.old) }
+    ensures output { W.has_failed output.new ≡ output_failed result (W.has_failed output.old) }
+{
+    let bytes = read_all(alloc, input, piece)?;
+    list_bytes(alloc, bytes.as_slice(), output)
+}
+
 /// Reads the input, at most `piece` bytes at once, and writes its listing: a line for each event of the reading of the
 /// stream, whose offsets count from 0.
 ///
@@ -140,6 +168,5 @@ pub fn list<R: Source, W: Sink>(
     ensures input { R.has_failed input.new ≡ input_failed result (R.has_failed input.old) }
     ensures output { W.has_failed output.new ≡ output_failed result (W.has_failed output.old) }
 {
-    let bytes = read_all(alloc, input, piece)?;
-    list_bytes(alloc, bytes.as_slice(), output)
+    list_in(alloc, input, output, piece)
 }

@@ -1,6 +1,6 @@
 use Rattle.std.proofs.lemmas.Result.{err_from_is_err_and}
 use Rattle.wasm_list.proofs.Progress.{not_gathered}
-use Rattle.wasm_list.proofs.listing.list.Goals as goal
+use Rattle.wasm_list.proofs.listing.list_in.Goals as goal
 
 pub returns-in_err-bytes-clause-lists : goal.returns-in_err-bytes-clause-lists
 returns-in_err-bytes-clause-lists g c =
