@@ -1,12 +1,10 @@
 -- A stream ends at its end if it is accepted, and otherwise with a fault.
-use Rattle.std.proofs.Common.{◌≡◌, ℕ, ◌+◌, ◌↔◌, List, length, sym, subst, ◌∙◌}
+use Rattle.std.proofs.Common.{◌≡◌, ℕ, ◌+◌, List, length, subst}
 use Rattle.wasm_base.specs.FaultAt.{FaultAt}
-use Rattle.wasm_list.specs.Accepted.{IsAccepted}
 use Rattle.wasm_list.specs.Content.{Ending, fault, ended}
 use Rattle.wasm_list.specs.Grammar.{Tile}
 use Rattle.wasm_list.specs.Laws.{AcceptedEnds, FaultEnds}
 use Rattle.wasm_list.specs.Reading.{Reads}
-use Rattle.wasm_list.specs.Stream.{Stream}
 use Rattle.wasm_list.proofs.Ends.{ends_behind_all}
 use Rattle.wasm_list.proofs.ReadingLaws.{Rest, reads_all, reads_same}
 use Rattle.wasm_list.proofs.TextbookFrames.{reads_accepted}

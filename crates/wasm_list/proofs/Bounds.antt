@@ -1,5 +1,5 @@
 -- Where the faults of a grammar lie.
-use Rattle.std.proofs.Common.{◌≡◌, ℕ, zero, suc, ◌+◌, ◌-◌, ◌^◌, ◌<◌, ◌≤◌, Bool, true, false, cond, ◌&&◌, not, List, [], ◌∷◌, ◌++◌, length, take, drop, Option, Some, None, nat_lt, nat_le, nat_eq, refl, sym, ap, subst, subst₂, ◌∙◌, arith, le_refl, length-append, leb-true, ltb-true, ltb-false}
+use Rattle.std.proofs.Common.{◌≡◌, ℕ, zero, suc, ◌+◌, ◌<◌, ◌≤◌, Bool, true, false, cond, ◌&&◌, not, List, [], ◌∷◌, length, take, drop, Option, Some, None, nat_lt, nat_le, nat_eq, refl, ap, subst, ◌∙◌, arith, le_refl, length-append, leb-true}
 use Rattle.std.specs.List.{list_all, list_any}
 use Rattle.std.proofs.lemmas.List.{length-take-le, length-drop}
 use Rattle.wasm_base.specs.FaultAt.{FaultAt, at_offset}
@@ -10,11 +10,10 @@ use Rattle.wasm_base.specs.declared.fault.Fault.{Fault}
 use Rattle.wasm_base.specs.declared.fault.Fault.TheVariants.{UnexpectedEof, MagicAtSection, StartContent, DataCountContent}
 use Rattle.wasm_base.specs.declared.fault.NumberKind.TheVariants.{VarU32}
 use Rattle.wasm_base.proofs.NumberLaws.{Used, number-used}
-use Rattle.wasm_list.specs.Content.{Kind, custom, items, index, data_count, code, unknown, kind_of, rank_of, Ending, fault, ended, when, wrong_number, wrong_single, wrong_name, wrong_content}
-use Rattle.wasm_list.specs.Grammar.{Shape, Tile, Verdict, tile, final, Grammar, takes, stops, refuse, number, bytes, section_start, behind, behind_number, verdict, Past, encoding_named, header_of, header_grammar, end_of, wrong_count, code_grammar, wrong_data, whole_grammar, content_grammar, sized, framed, section_grammar, body_of, body_grammar}
+use Rattle.wasm_list.specs.Content.{Kind, custom, items, index, data_count, code, unknown, kind_of, Ending, fault, ended, when, wrong_number, wrong_single, wrong_name, wrong_content}
+use Rattle.wasm_list.specs.Grammar.{Tile, Verdict, final, Grammar, takes, stops, refuse, number, bytes, section_start, behind, behind_number, verdict, Past, header_of, header_grammar, end_of, wrong_count, code_grammar, wrong_data, whole_grammar, content_grammar, sized, section_grammar, body_grammar}
 use Rattle.wasm_list.specs.Laws.{FaultLiesWithin}
-use Rattle.wasm_list.specs.Reading.{Reads}
-use Rattle.wasm_list.specs.Tiling.{inside, past, grammar, bodies_left, bytes_left, front}
+use Rattle.wasm_list.specs.Tiling.{past, grammar, bodies_left, bytes_left, front}
 use Rattle.wasm_list.specs.declared.payload.Encoding.{Encoding}
 use Rattle.wasm_list.proofs.Endings.{behind_final}
 use Rattle.wasm_list.proofs.Places.{number_place, name_place}

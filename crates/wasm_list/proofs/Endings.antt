@@ -1,19 +1,13 @@
 -- Where a stream may end.
-use Rattle.std.proofs.Common.{◌≡◌, ℕ, zero, suc, ◌+◌, ◌<◌, inl, inr, Bool, true, false, cond, ◌&&◌, List, [], ◌∷◌, length, take, drop, Option, Some, None, nat_lt, nat_le, nat_eq, refl, sym, subst, ◌∙◌, ltb-true, lt-ltb}
-use Rattle.std.specs.List.{Any, list_any}
-use Rattle.std.proofs.lemmas.Bool.{and_parts, and_from, and_cases, and_right, false_from_ne_true}
+use Rattle.std.proofs.Common.{◌≡◌, ℕ, zero, suc, ◌+◌, Bool, true, false, cond, ◌&&◌, List, [], ◌∷◌, length, take, drop, Option, Some, None, nat_le, refl}
 use Rattle.wasm_base.specs.FaultAt.{FaultAt, at_offset}
 use Rattle.wasm_base.specs.Header.{magic, agree}
 use Rattle.wasm_base.specs.Number.{Number, read, bad, short, number as number_at}
-use Rattle.wasm_base.specs.declared.fault.Fault.TheVariants.{FunctionWithoutCode, DataCountWithoutData, MagicAtSection, UnexpectedEof}
+use Rattle.wasm_base.specs.declared.fault.Fault.TheVariants.{MagicAtSection, UnexpectedEof}
 use Rattle.wasm_base.specs.declared.fault.NumberKind.TheVariants.{VarU32}
 use Rattle.wasm_list.specs.declared.payload.Encoding.{Encoding}
 use Rattle.wasm_list.specs.Content.{Kind, custom, items, index, data_count, code, unknown, kind_of, Ending, fault, ended}
 use Rattle.wasm_list.specs.Grammar.{Verdict, tile, final, behind, behind_number, Past, Grammar, takes, stops, refuse, number, bytes, section_start, verdict, header_of, header_grammar, end_of, section_grammar, body_grammar, content_grammar, framed}
-use Rattle.wasm_list.specs.Accepted.{Frame, frame_count, IsSection, IsMatched}
-use Rattle.wasm_list.proofs.TextbookLists.{any_of, none_of}
-use Rattle.wasm_list.proofs.TextbookCounts.{is_section, counts_of, Knows, section_yes, yes_section, any_counts, offends}
-use Rattle.wasm_list.proofs.TextbookFits.{some_to, some_from}
 
 -- the stream doesn't end within this
 abbrev pub NoEnd : Grammar → Type 0

@@ -1,5 +1,5 @@
 -- Events lie end to end.
-use Rattle.std.proofs.Common.{◌≡◌, ℕ, zero, suc, ◌+◌, ◌-◌, ◌<◌, ◌≤◌, Bool, true, false, cond, ◌&&◌, not, List, [], ◌∷◌, ◌++◌, length, take, drop, flat_map, Option, Some, None, nat_lt, nat_le, nat_eq, refl, sym, ap, subst, subst₂, ◌∙◌, arith, le_refl, length-append, append-nil, append_assoc, leb-true}
+use Rattle.std.proofs.Common.{◌≡◌, ℕ, zero, suc, ◌+◌, ◌-◌, ◌≤◌, Bool, true, false, cond, ◌&&◌, List, [], ◌∷◌, ◌++◌, length, take, drop, Option, Some, None, nat_lt, nat_le, nat_eq, refl, sym, ap, subst, ◌∙◌, arith, le_refl, length-append, append-nil, append_assoc}
 use Rattle.std.specs.List.{list_any}
 use Rattle.std.proofs.lemmas.List.{length-take-le, take_at, drop_at}
 use Rattle.std.proofs.lemmas.Grind.{flat_map-append}
@@ -10,12 +10,12 @@ use Rattle.wasm_base.specs.Number.{Number, read, bad, short, number as number_at
 use Rattle.wasm_base.specs.declared.fault.Fault.TheVariants.{UnexpectedEof, MagicAtSection}
 use Rattle.wasm_base.specs.declared.fault.NumberKind.TheVariants.{VarU32}
 use Rattle.wasm_base.proofs.NumberLaws.{Used, number-used}
-use Rattle.wasm_list.specs.Content.{Kind, custom, items, index, data_count, code, unknown, kind_of, count_of, Ending, fault, ended}
-use Rattle.wasm_list.specs.Grammar.{Shape, header, section, code_head, body, Tile, Verdict, tile, final, Grammar, takes, stops, refuse, number, bytes, section_start, behind, behind_number, verdict, Past, header_of, header_grammar, end_of, content_grammar, framed, section_grammar, body_grammar}
+use Rattle.wasm_list.specs.Content.{Kind, custom, items, index, data_count, code, unknown, kind_of, Ending, fault, ended}
+use Rattle.wasm_list.specs.Grammar.{Shape, header, section, code_head, body, Tile, Verdict, tile, final, Grammar, takes, stops, refuse, number, bytes, section_start, behind, behind_number, verdict, Past, header_of, header_grammar, end_of, content_grammar, section_grammar, body_grammar}
 use Rattle.wasm_list.specs.Laws.{EventsLieEndToEnd}
-use Rattle.wasm_list.specs.Reading.{Told, Event, window_over, told_custom, told_section, told_of, event_of, told_ending, last_event, events_of, Reads}
+use Rattle.wasm_list.specs.Reading.{Event, window_over, told_custom, told_section, told_of, event_of, told_ending, last_event, events_of, Reads}
 use Rattle.wasm_list.specs.Spans.{consumed_by, IsPart, LiesIn, StandsBetween, EndToEnd}
-use Rattle.wasm_list.specs.Tiling.{inside, past, grammar, bodies_left, bytes_left, front, Faultless}
+use Rattle.wasm_list.specs.Tiling.{past, grammar, bodies_left, bytes_left, front, Faultless}
 use Rattle.wasm_list.specs.declared.payload.Encoding.{Encoding}
 use Rattle.wasm_list.proofs.Endings.{header_end, inside_end}
 use Rattle.wasm_list.proofs.GrammarLaws.{behind-tile}

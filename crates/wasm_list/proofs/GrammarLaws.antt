@@ -1,10 +1,10 @@
 -- Laws of every grammar.
-use Rattle.std.proofs.Common.{◌≡◌, ◌≢◌, ℕ, zero, suc, ◌+◌, ◌-◌, ◌<◌, ◌≤◌, Bool, true, false, cond, ◌&&◌, List, [], ◌∷◌, ◌++◌, length, take, drop, replicate, Option, Some, None, nat_lt, nat_le, nat_eq, refl, sym, ap, subst, subst₂, true≢false, ◌∙◌, arith, length-append, leb-true, le-leb, append-nil, append_assoc}
-use Rattle.std.proofs.lemmas.List.{take-append-le, drop-append-le, take-append-drop, take-take, take_all, drop_all, take_at, drop_at, length-take-le}
-use Rattle.wasm_base.specs.FaultAt.{FaultAt, at_offset}
+use Rattle.std.proofs.Common.{◌≡◌, ◌≢◌, ℕ, ◌-◌, ◌≤◌, Bool, true, false, cond, ◌&&◌, List, [], ◌∷◌, ◌++◌, length, take, drop, Some, None, nat_le, nat_eq, refl, sym, ap, subst, subst₂, true≢false, ◌∙◌, arith, length-append, leb-true, le-leb, append_assoc}
+use Rattle.std.proofs.lemmas.List.{take-append-le, drop-append-le, take-append-drop, take_at, drop_at, length-take-le}
+use Rattle.wasm_base.specs.FaultAt.{at_offset}
 use Rattle.wasm_base.specs.Number.{Number, read, bad, short, number as number_at}
 use Rattle.wasm_base.specs.Header.{magic, agree}
-use Rattle.wasm_list.specs.Grammar.{Shape, Tile, Verdict, tile, final, behind, behind_number, Grammar, takes, stops, refuse, number, bytes, section_start, verdict}
+use Rattle.wasm_list.specs.Grammar.{Tile, Verdict, tile, final, behind, behind_number, Grammar, takes, stops, refuse, number, bytes, section_start, verdict}
 use Rattle.wasm_list.specs.Content.{Ending, fault}
 use Rattle.wasm_list.specs.Waiting.{Waiting, enough, wants, later, later_number, waiting}
 use Rattle.wasm_base.specs.declared.fault.NumberKind.TheVariants.{VarU32}

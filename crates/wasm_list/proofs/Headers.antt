@@ -1,15 +1,15 @@
 -- What is read of a header.
-use Rattle.std.proofs.Common.{◌≡◌, ℕ, ◌+◌, ◌-◌, ◌/◌, ◌%◌, ◌<◌, ◌≤◌, Bool, true, false, cond, not, List, [], ◌∷◌, length, take, drop, Option, Some, None, Result, Ok, Err, nat_lt, refl, sym, ap, subst, ◌∙◌, arith, length-drop, ltb-true, ltb-false}
-use Rattle.wasm_base.specs.FaultAt.{FaultAt, fault_at, at_offset}
+use Rattle.std.proofs.Common.{◌≡◌, ℕ, ◌+◌, ◌/◌, ◌%◌, ◌≤◌, Bool, true, false, cond, not, List, length, take, drop, Some, None, Result, Ok, Err, nat_lt, refl, sym, ap, subst, ◌∙◌, ltb-true, ltb-false}
+use Rattle.wasm_base.specs.FaultAt.{fault_at, at_offset}
 use Rattle.wasm_base.specs.Header.{magic, agree, header_version_at}
-use Rattle.wasm_base.specs.Name.{bytes_at, of_four, u32_at}
+use Rattle.wasm_base.specs.Name.{of_four, u32_at}
 use Rattle.wasm_base.specs.Outcome.{Outcome, ◌>>=◌}
 use Rattle.wasm_base.specs.Window.{Place, advanced}
 use Rattle.wasm_base.specs.declared.error.Error.{Error}
 use Rattle.wasm_base.specs.declared.fault.Fault.TheVariants.{UnexpectedEof, BadMagic, UnknownVersion}
 use Rattle.wasm_list.specs.Answers.{told_by, IsTold}
 use Rattle.wasm_list.specs.Content.{when}
-use Rattle.wasm_list.specs.Grammar.{header, Grammar, bytes, verdict, encoding_named, header_of, version_of, header_grammar}
+use Rattle.wasm_list.specs.Grammar.{header, verdict, encoding_named, version_of, header_grammar}
 use Rattle.wasm_list.specs.Reading.{told_of}
 use Rattle.wasm_list.specs.declared.payload.Encoding.{Encoding}
 use Rattle.wasm_list.specs.declared.payload.Payload.{Payload}

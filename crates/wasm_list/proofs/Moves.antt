@@ -1,5 +1,5 @@
 -- The start offset only moves offsets.
-use Rattle.std.proofs.Common.{◌≡◌, ℕ, zero, suc, ◌+◌, ◌-◌, ◌^◌, ◌<◌, ◌≤◌, Bool, true, false, cond, ◌&&◌, not, List, [], ◌∷◌, ◌++◌, length, take, drop, map, Option, Some, None, option_map, nat_lt, nat_le, nat_eq, ◌⊎◌, inl, inr, refl, sym, ap, subst, subst₂, ◌∙◌, arith, length-append, ltb-true, ltb-false}
+use Rattle.std.proofs.Common.{◌≡◌, ℕ, zero, suc, ◌+◌, ◌-◌, ◌^◌, Bool, true, false, cond, ◌&&◌, not, List, [], ◌∷◌, ◌++◌, length, take, drop, Option, Some, None, option_map, nat_lt, nat_le, nat_eq, ◌⊎◌, inl, inr, refl, sym, ap, subst, subst₂, ◌∙◌, arith, length-append, ltb-true, ltb-false}
 use Rattle.std.specs.List.{list_all, list_any}
 use Rattle.std.proofs.lemmas.List.{map-append}
 use Rattle.wasm_base.specs.FaultAt.{FaultAt, at_offset}
@@ -7,13 +7,13 @@ use Rattle.wasm_base.specs.Header.{magic, agree}
 use Rattle.wasm_base.specs.Name.{Name, named, refused, name_limit, name, of_four}
 use Rattle.wasm_base.specs.Number.{Number, read, bad, short, number as number_at}
 use Rattle.wasm_base.specs.declared.fault.Fault.{Fault}
-use Rattle.wasm_base.specs.declared.fault.Fault.TheVariants.{UnexpectedEof, MagicAtSection, SectionTooLarge, StartContent, DataCountContent, UnknownVersion, OutOfOrder, MalformedSectionId, TrailingCode, BadMagic, FunctionCodeDiffer, CodeWithoutFunction, FunctionWithoutCode, DataCountWithoutData, DataCountDiffer}
+use Rattle.wasm_base.specs.declared.fault.Fault.TheVariants.{UnexpectedEof, MagicAtSection, SectionTooLarge, StartContent, DataCountContent, UnknownVersion, OutOfOrder, MalformedSectionId, BadMagic, FunctionCodeDiffer, CodeWithoutFunction, FunctionWithoutCode, DataCountWithoutData, DataCountDiffer}
 use Rattle.wasm_base.specs.declared.fault.NumberKind.TheVariants.{VarU32}
-use Rattle.wasm_list.specs.Content.{Kind, custom, items, index, data_count, code, unknown, kind_of, rank_of, count_of, Ending, fault, ended, when, wrong_number, wrong_single, wrong_name, wrong_content}
-use Rattle.wasm_list.specs.Grammar.{Shape, header, section, code_head, body, Tile, Verdict, tile, final, Grammar, takes, stops, refuse, number, bytes, section_start, behind, behind_number, verdict, Past, encoding_named, header_of, version_of, header_grammar, end_of, wrong_count, code_grammar, wrong_data, whole_grammar, content_grammar, sized, framed, section_grammar, body_of, body_grammar}
+use Rattle.wasm_list.specs.Content.{Kind, custom, items, index, data_count, code, unknown, kind_of, rank_of, Ending, fault, ended, when, wrong_number, wrong_single, wrong_name, wrong_content}
+use Rattle.wasm_list.specs.Grammar.{Shape, header, section, code_head, body, Tile, Verdict, tile, final, Grammar, takes, stops, refuse, number, bytes, section_start, behind, behind_number, verdict, Past, header_of, version_of, header_grammar, end_of, wrong_count, code_grammar, wrong_data, whole_grammar, content_grammar, sized, framed, section_grammar, body_of, body_grammar}
 use Rattle.wasm_list.specs.Laws.{StartOnlyMoves}
-use Rattle.wasm_list.specs.Moved.{moved_fault, moved_ending, moved_window, moved_told, moved_event, moved_events, PassesTheTop}
-use Rattle.wasm_list.specs.Reading.{Told, code_start, code_entry, custom_section, Event, window_over, told_custom, told_section, told_of, event_of, told_ending, last_event, events_of, Reads, Reading}
+use Rattle.wasm_list.specs.Moved.{moved_fault, moved_ending, moved_told, moved_event, moved_events, PassesTheTop}
+use Rattle.wasm_list.specs.Reading.{code_start, code_entry, custom_section, window_over, told_custom, told_section, told_of, event_of, last_event, events_of, Reads}
 use Rattle.wasm_list.specs.Tiling.{inside, past, grammar, bodies_left, bytes_left, front, Faultless}
 use Rattle.wasm_list.specs.declared.payload.Encoding.{Encoding}
 use Rattle.wasm_list.proofs.Ends.{Closes, tile_closes}

@@ -1,8 +1,7 @@
 -- What is wrong with bytes is wrong at one of them, or at their end.
-use Rattle.std.proofs.Common.{◌≡◌, ℕ, zero, suc, ◌+◌, ◌-◌, ◌<◌, ◌≤◌, Bool, true, false, cond, List, [], ◌∷◌, length, take, drop, slice_index, Option, Some, None, nat_lt, refl, sym, ap, ◌∙◌, arith, ltb-true, ltb-false}
+use Rattle.std.proofs.Common.{◌≡◌, ℕ, suc, ◌+◌, ◌-◌, ◌<◌, ◌≤◌, Bool, true, false, cond, List, length, take, drop, slice_index, Option, Some, None, nat_lt, refl, arith, ltb-true, ltb-false}
 use Rattle.std.proofs.lemmas.List.{length-drop}
 use Rattle.std.specs.Str.{is_utf8}
-use Rattle.wasm_base.specs.FaultAt.{FaultAt, at_offset}
 use Rattle.wasm_base.specs.Name.{Name, named, refused, name, is_above, text_behind, behind_size}
 use Rattle.wasm_base.specs.Number.{Number, read, bad, short, number, last_place, ends_at, groups, most_bytes, is_unused_right}
 use Rattle.wasm_base.specs.declared.fault.Fault.{Fault}
@@ -10,7 +9,6 @@ use Rattle.wasm_base.specs.declared.fault.Fault.TheVariants.{UnexpectedEof, Stri
 use Rattle.wasm_base.specs.declared.fault.NumberKind.{NumberKind}
 use Rattle.wasm_base.specs.declared.fault.NumberKind.TheVariants.{VarU32, VarI32, VarU64, VarI64, VarS33}
 use Rattle.wasm_base.proofs.NumberLaws.{Used, number-used, last_place-lt}
-use Rattle.wasm_list.specs.Content.{Kind, custom, items, index, data_count, code, unknown, when, wrong_number, wrong_single, wrong_name, wrong_content}
 
 none_place : (t : Bool) (n m p : ℕ) (f g : Fault) → nat_lt n m ≡ t → 0 < m → cond t short (bad f (m - 1)) ≡ bad g p → p < n
 none_place true n m p f g l s e = cc

@@ -1,11 +1,11 @@
 -- Laws of tilings and readings.
-use Rattle.std.proofs.Common.{◌≡◌, ◌≢◌, ℕ, zero, suc, ◌+◌, ◌-◌, ◌<◌, ◌≤◌, List, [], ◌∷◌, ◌++◌, length, take, drop, refl, sym, ap, subst, subst₂, ◌∙◌, arith, length-append, append-nil, append_assoc, le_refl}
+use Rattle.std.proofs.Common.{◌≡◌, ℕ, zero, suc, ◌+◌, ◌<◌, ◌≤◌, List, [], ◌∷◌, ◌++◌, length, refl, sym, ap, subst, subst₂, ◌∙◌, arith, length-append, append-nil, append_assoc, le_refl}
 use Rattle.std.proofs.lemmas.List.{append_cancel_left}
 use Rattle.wasm_list.specs.Content.{Ending, ended}
-use Rattle.wasm_list.specs.Grammar.{Shape, Tile, Verdict, tile, final, Grammar, verdict}
+use Rattle.wasm_list.specs.Grammar.{Tile, Verdict, tile, final, verdict}
 use Rattle.wasm_list.specs.Tiling.{front, grammar, Faultless}
-use Rattle.wasm_list.specs.Reading.{Reads, Reading, NextEvent, Event, event_of, events_of, last_event}
-use Rattle.wasm_list.specs.Waiting.{Waiting, enough, waiting}
+use Rattle.wasm_list.specs.Reading.{Reads, Reading, NextEvent, Event, events_of, last_event}
+use Rattle.wasm_list.specs.Waiting.{enough, waiting}
 use Rattle.wasm_list.proofs.GrammarLaws.{Cut, verdict-more, verdict-cut}
 use Rattle.wasm_list.proofs.TileLaws.{Guarded-grammar, tile_least}
 

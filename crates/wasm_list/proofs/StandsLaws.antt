@@ -1,15 +1,15 @@
 -- What a parser knows is what the tiles before it say.
-use Rattle.std.proofs.Common.{◌≡◌, ◌≢◌, ℕ, zero, suc, ◌+◌, ◌-◌, ◌<◌, ◌≤◌, max, Bool, true, false, cond, not, ◌&&◌, List, [], ◌∷◌, ◌++◌, length, option_to_list, Option, Some, None, nat_lt, nat_eq, refl, sym, ap, subst, subst₂, ◌∙◌, arith, length-append, append-nil, append_assoc, add-zero, lit<, nat_le, take, drop, ltb-true, ltb-false, eqb-true, lt-ltb, slice_index}
+use Rattle.std.proofs.Common.{◌≡◌, ℕ, zero, suc, ◌+◌, ◌<◌, max, Bool, true, false, cond, not, ◌&&◌, List, [], ◌∷◌, ◌++◌, length, option_to_list, Option, Some, None, nat_lt, nat_eq, refl, sym, ap, subst, ◌∙◌, arith, length-append, add-zero, lit<, nat_le, take, drop, ltb-true, eqb-true, lt-ltb, slice_index}
 use Rattle.std.specs.List.{list_all}
-use Rattle.std.proofs.lemmas.Bool.{and_parts, cases_Bool}
+use Rattle.std.proofs.lemmas.Bool.{and_parts}
 use Rattle.std.proofs.lemmas.Bool.Decides.{nat_tests}
 use mathlib.Core.Path.{fun_ext}
 use Rattle.wasm_list.specs.declared.payload.Encoding.{Encoding}
 use Rattle.wasm_base.specs.FaultAt.{FaultAt}
 use Rattle.wasm_base.specs.Number.{Number, read, bad, short, number as number_at}
-use Rattle.wasm_list.specs.Content.{Kind, items, data_count, custom, index, code, unknown, rank_of, ranks, count_of, kind_of, Ending, fault, when}
-use Rattle.wasm_list.specs.Grammar.{Shape, header, section, code_head, body, Tile, Verdict, tile, final, behind, behind_number, Past, Grammar, takes, stops, refuse, number, bytes, section_start, verdict, header_grammar, section_grammar, body_grammar, content_grammar, sized, framed, header_of, encoding_named}
-use Rattle.wasm_list.specs.Tiling.{front, grammar, Faultless, past, inside, encoding_of, encoding_in, tile_rank, count_in, counts, bodies_left, bytes_left, bodies_after, bytes_after}
+use Rattle.wasm_list.specs.Content.{Kind, items, data_count, custom, index, code, unknown, rank_of, ranks, count_of, kind_of, Ending, when}
+use Rattle.wasm_list.specs.Grammar.{Shape, header, section, code_head, body, Tile, Verdict, tile, final, behind, behind_number, Past, Grammar, takes, stops, refuse, number, bytes, section_start, verdict, header_grammar, section_grammar, body_grammar, content_grammar, header_of}
+use Rattle.wasm_list.specs.Tiling.{front, grammar, past, inside, encoding_of, encoding_in, tile_rank, count_in, counts, bodies_left, bytes_left, bodies_after, bytes_after}
 use Rattle.wasm_list.specs.Stands.{Stand, greatest, is_start, Stands, past_of, grammar_of, count_after, rank_after, passed}
 use Rattle.wasm_base.specs.declared.fault.NumberKind.TheVariants.{VarU32}
 use Rattle.wasm_list.proofs.GrammarLaws.{behind-tile}

@@ -1,16 +1,16 @@
 -- What each grammar of the stream keeps: its tiles are guarded, and take at least one byte.
-use Rattle.std.proofs.Common.{◌≡◌, ◌≢◌, ℕ, zero, suc, ◌+◌, ◌-◌, ◌*◌, ◌^◌, ◌<◌, ◌≤◌, Bool, true, false, cond, ◌&&◌, not, List, [], ◌∷◌, ◌++◌, length, take, drop, slice_index, Option, Some, None, nat_lt, nat_le, nat_eq, ◌==◌, refl, sym, ap, subst, ◌∙◌, arith, length-append, length-take, leb-true, le-leb, eqb-true, subst₂}
+use Rattle.std.proofs.Common.{◌≡◌, ℕ, zero, suc, ◌+◌, ◌<◌, ◌≤◌, Bool, true, false, cond, ◌&&◌, List, [], ◌∷◌, ◌++◌, length, take, drop, Option, Some, None, nat_le, nat_eq, refl, sym, ap, ◌∙◌, arith, length-append, leb-true, eqb-true, subst₂}
 use Rattle.std.proofs.lemmas.List.{length-take-le}
 use Rattle.std.proofs.lemmas.Bool.{and_parts}
 use Rattle.wasm_base.specs.FaultAt.{FaultAt, at_offset}
 use Rattle.wasm_base.specs.Name.{of_four}
 use Rattle.wasm_base.specs.Number.{Number, read, bad, short, number as number_at}
-use Rattle.wasm_list.specs.Content.{Kind, custom, items, index, data_count, code, unknown, kind_of, rank_of, Ending, fault, when, wrong_content}
+use Rattle.wasm_list.specs.Content.{Kind, custom, items, index, data_count, code, unknown, kind_of, Ending, fault}
 use Rattle.wasm_base.specs.Header.{magic, agree}
-use Rattle.wasm_list.specs.Grammar.{Shape, Tile, Verdict, tile, final, behind, behind_number, Grammar, takes, stops, refuse, number, bytes, section_start, verdict, Past, encoding_named, header_of, version_of, header_grammar, end_of, code_grammar, whole_grammar, content_grammar, sized, framed, section_grammar, body_of, body_grammar}
-use Rattle.wasm_list.specs.Tiling.{inside, past, grammar, bodies_left, bytes_left, front}
+use Rattle.wasm_list.specs.Grammar.{Tile, Verdict, tile, final, behind, behind_number, Grammar, refuse, number, bytes, section_start, verdict, Past, header_of, header_grammar, content_grammar, sized, framed, section_grammar, body_of, body_grammar}
+use Rattle.wasm_list.specs.Tiling.{past, grammar, bodies_left, bytes_left, front}
 use Rattle.wasm_base.specs.declared.fault.NumberKind.TheVariants.{VarU32}
-use Rattle.wasm_base.specs.declared.fault.Fault.TheVariants.{UnexpectedEof, MagicAtSection}
+use Rattle.wasm_base.specs.declared.fault.Fault.TheVariants.{MagicAtSection}
 use Rattle.wasm_list.specs.declared.payload.Encoding.{Encoding}
 use Rattle.wasm_list.specs.declared.payload.Encoding.TheVariants.{Module, Component}
 use Rattle.wasm_base.proofs.NumberLaws.{number-used, Used}

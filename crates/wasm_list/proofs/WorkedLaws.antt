@@ -5,7 +5,7 @@ use Rattle.std.proofs.lemmas.Str.{IsUtf8-nil, is_utf8-from_IsUtf8}
 use Rattle.wasm_base.specs.Name.{name}
 use Rattle.wasm_base.specs.Number.{number}
 use Rattle.wasm_list.specs.Content.{Kind, custom, items, index, data_count, unknown, ended, wrong_content}
-use Rattle.wasm_list.specs.Grammar.{Shape, header, section, code_head, body, Tile, verdict, header_grammar, section_grammar, body_grammar}
+use Rattle.wasm_list.specs.Grammar.{header, section, code_head, body, Tile, verdict, header_grammar, section_grammar, body_grammar}
 use Rattle.wasm_list.specs.Worked.{m, component, EdgesOfRules, WorkedStreams}
 use Rattle.wasm_list.specs.declared.payload.Encoding.TheVariants.{Module, Component}
 

@@ -2,13 +2,11 @@
 use Rattle.std.specs.Prelude.{◌≡◌, ℕ, Bool, true, List, [], ◌∷◌, ◌++◌, length, take, Option, Some, None, Result, Ok, Err, Vec}
 use Rattle.std.specs.Io.KnownBytes.{Consumes, Appends, IsAtEnd}
 use Rattle.wasm_base.specs.FaultAt.{fault_at}
-use Rattle.wasm_base.specs.declared.error.Error.{Error}
 use Rattle.wasm_list.specs.Content.{Ending, fault, ended}
 use Rattle.wasm_list.specs.Grammar.{Tile}
 use Rattle.wasm_list.specs.Listing.{listing_of}
 use Rattle.wasm_list.specs.Reading.{Event, events_of, last_event, Reads, Reading}
 use Rattle.wasm_list.specs.Tiling.{front, encoding_of, Faultless}
-use Rattle.wasm_list.specs.Stands.{is_start}
 use Rattle.wasm_list.specs.Unread.{unread_at}
 use Rattle.wasm_list.specs.declared.listing.Ended.{Ended}
 use Rattle.wasm_list.specs.declared.listing.Ended.TheVariants.{End, Fault}

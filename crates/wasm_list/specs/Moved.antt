@@ -1,5 +1,5 @@
 -- What is told of a stream, with every offset moved.
-use Rattle.std.specs.Prelude.{◌≡◌, ℕ, ◌+◌, List, map, Option, Some, None, option_map}
+use Rattle.std.specs.Prelude.{◌≡◌, ℕ, ◌+◌, List, map}
 use Rattle.wasm_base.specs.FaultAt.{FaultAt}
 use Rattle.wasm_base.specs.Window.{Window}
 use Rattle.wasm_base.specs.declared.fault.Fault.TheVariants.{SectionTooLarge}

@@ -4,7 +4,7 @@ use Rattle.wasm_base.specs.FaultAt.{FaultAt}
 use Rattle.wasm_base.specs.Name.{Name, named, refused, name_limit, name}
 use Rattle.wasm_base.specs.Window.{Window}
 use Rattle.wasm_list.specs.Content.{Kind, items, data_count, custom, index, code, unknown, count_of, Ending, fault, ended}
-use Rattle.wasm_list.specs.Grammar.{Shape, header, section, code_head, body, Tile, Verdict, tile, final, verdict}
+use Rattle.wasm_list.specs.Grammar.{Shape, header, section, code_head, body, Tile, Verdict, final, verdict}
 use Rattle.wasm_list.specs.Tiling.{front, grammar, Faultless}
 use Rattle.wasm_list.specs.declared.payload.Encoding.{Encoding}
 

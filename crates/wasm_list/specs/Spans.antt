@@ -1,5 +1,5 @@
 -- Where events stand in their stream.
-use Rattle.std.specs.Prelude.{◌≡◌, ℕ, ◌+◌, ◌-◌, ◌≤◌, List, [], ◌∷◌, ◌++◌, length, take, drop, flat_map}
+use Rattle.std.specs.Prelude.{◌≡◌, ℕ, ◌+◌, ◌-◌, ◌≤◌, List, [], ◌∷◌, length, take, drop, flat_map}
 use Rattle.wasm_base.specs.Window.{Window}
 use Rattle.wasm_list.specs.Reading.{Told, version, counted, start_section, data_count_section, code_start, code_entry, custom_section, unknown_section, stopped, ending, Event}
 

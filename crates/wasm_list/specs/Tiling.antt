@@ -1,10 +1,10 @@
 -- The tiles of a stream.
-use Rattle.std.specs.Prelude.{◌≡◌, ℕ, zero, suc, ◌+◌, ◌-◌, List, [], ◌∷◌, ◌++◌, map, length, nat_lt, nat_eq, if◌then◌else◌}
+use Rattle.std.specs.Prelude.{◌≡◌, ℕ, ◌+◌, ◌-◌, List, [], ◌∷◌, ◌++◌, length, nat_lt, nat_eq, if◌then◌else◌}
 use Rattle.std.specs.List.{list_all}
-use Rattle.wasm_list.specs.Content.{Kind, items, data_count, custom, index, code, unknown, rank_of, count_of}
-use Rattle.wasm_list.specs.Grammar.{Shape, header, section, code_head, body, Tile, Verdict, tile, Past, Grammar, verdict, header_grammar, section_grammar, body_grammar}
+use Rattle.wasm_list.specs.Content.{items, data_count, custom, index, code, unknown, rank_of, count_of}
+use Rattle.wasm_list.specs.Grammar.{Shape, header, section, code_head, body, Tile, tile, Past, Grammar, verdict, header_grammar, section_grammar, body_grammar}
 use Rattle.wasm_list.specs.declared.payload.Encoding.{Encoding}
-use Rattle.wasm_list.specs.declared.payload.Encoding.TheVariants.{Module, Component}
+use Rattle.wasm_list.specs.declared.payload.Encoding.TheVariants.{Module}
 
 -- Tiles are listed from the newest to the oldest: `t ∷ earlier` is a tile and all those before it.
 

@@ -1,8 +1,8 @@
 -- Where bytes that have come don't decide yet what stands there.
-use Rattle.std.specs.Prelude.{◌≡◌, ℕ, zero, suc, ◌+◌, ◌-◌, Bool, true, false, ◌&&◌, List, [], ◌∷◌, ◌++◌, length, take, drop, replicate, Option, Some, None, nat_le, if◌then◌else◌}
+use Rattle.std.specs.Prelude.{ℕ, ◌+◌, ◌-◌, List, [], ◌∷◌, length, take, drop, Some, None, nat_le, if◌then◌else◌}
 use Rattle.wasm_base.specs.Header.{magic, agree}
 use Rattle.wasm_base.specs.Number.{Number, read, bad, short, number as number_at}
-use Rattle.wasm_list.specs.Grammar.{Shape, Grammar, takes, stops, refuse, number, bytes, section_start}
+use Rattle.wasm_list.specs.Grammar.{Grammar, takes, stops, refuse, number, bytes, section_start}
 use Rattle.wasm_base.specs.declared.fault.NumberKind.TheVariants.{VarU32}
 
 -- whether the bytes suffice

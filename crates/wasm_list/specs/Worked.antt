@@ -1,12 +1,11 @@
 -- Worked streams, and what is read of them.
-use Rattle.std.specs.Prelude.{◌≡◌, ℕ, List, [], ◌∷◌, ◌++◌, flat_map, Some}
+use Rattle.std.specs.Prelude.{ℕ, List, [], ◌∷◌, ◌++◌, flat_map, Some}
 use Rattle.wasm_base.specs.FaultAt.{at_offset}
 use Rattle.wasm_base.specs.declared.fault.Fault.TheVariants.{OutOfOrder, FunctionWithoutCode, FunctionCodeDiffer, CodeWithoutFunction, DataCountWithoutData, DataCountDiffer, StartContent, DataCountContent, SectionTooLarge, MalformedSectionId, TrailingCode, UnexpectedEof, MagicAtSection, BadMagic, UnknownVersion, NumberTooLong, NumberTooLarge, StringSize}
 use Rattle.wasm_base.specs.declared.fault.NumberKind.TheVariants.{VarU32}
-use Rattle.wasm_list.specs.Content.{Ending, fault, ended, Kind, custom, items, data_count}
-use Rattle.wasm_list.specs.Grammar.{Shape, header, section, code_head, body, Tile, Verdict, tile, final, verdict, header_grammar}
+use Rattle.wasm_list.specs.Content.{Ending, fault, ended}
+use Rattle.wasm_list.specs.Grammar.{Tile}
 use Rattle.wasm_list.specs.Reading.{version, counted, start_section, data_count_section, code_start, code_entry, custom_section, unknown_section, ending, window_over, Told, Event, Reads, Reading}
-use Rattle.wasm_list.specs.Tiling.{grammar}
 use Rattle.wasm_list.specs.declared.payload.Encoding.TheVariants.{Module, Component}
 
 -- a module's header

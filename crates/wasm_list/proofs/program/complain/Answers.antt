@@ -1,4 +1,4 @@
-use Rattle.std.proofs.Common.{◌≡◌, ℕ, Bool, true, false, List, Option, length, take, Result, Ok, Err, OnOk, OnErr, is_ok, if◌then◌else◌, subst, sym, le_refl, take_all}
+use Rattle.std.proofs.Common.{◌≡◌, ℕ, Bool, true, List, Option, length, take, Result, Ok, Err, OnOk, OnErr, is_ok, if◌then◌else◌, subst, sym, le_refl, take_all}
 use Rattle.std.specs.Io.KnownBytes.{Appends}
 use Rattle.wasm_list.specs.Runs.{Says}
 use Rattle.wasm_list.specs.declared.source.Failed.{Failed}

@@ -1,4 +1,4 @@
-use Rattle.std.proofs.Common.{◌≡◌, ◌<◌, Ok, Option, List, ℕ, Bool, [], refl, sym, arith, eqb-true}
+use Rattle.std.proofs.Common.{Ok, Option, List, ℕ, Bool, [], refl, sym, arith, eqb-true}
 use Rattle.std.proofs.KnownBytes.{Appends-nil}
 use Rattle.wasm_list.specs.Runs.{Says}
 use Rattle.wasm_list.specs.declared.listing.Ended.TheVariants.{End, Fault}
