@@ -1,5 +1,5 @@
 -- What a run of the program does.
-use Rattle.std.specs.Prelude.{◌≡◌, ℕ, ◌<◌, Bool, false, List, [], take, codes, Option, Result, Ok, Err}
+use Rattle.std.specs.Prelude.{◌≡◌, ◌⊎◌, ℕ, ◌<◌, Bool, true, false, List, [], take, codes, Option, Result, Ok, Err}
 use Rattle.std.specs.Io.KnownBytes.{Appends}
 use Rattle.wasm_list.specs.Lists.{Lists, input_failed, output_failed}
 use Rattle.wasm_list.specs.declared.listing.Ended.{Ended}
@@ -59,3 +59,8 @@ pub record RunsUsage (input output errors : Device) (status : ℕ) : Type 0 wher
 pub record Runs (arguments : ℕ) (input output errors : Device) (status : ℕ) : Type 0 where
   pub lists : arguments ≡ 0 → RunsListing input output errors status
   pub refuses : 0 < arguments → RunsUsage input output errors status
+
+-- The output handed on what it kept, or a status of 0 or 1 became 3 since that failed; this is the status behind it, and
+-- whether the output has failed.
+abbrev pub Finishes : (status : ℕ) (had_failed has_failed : Bool) (result : ℕ) → Type 0
+Finishes status had_failed has_failed result = ((result ≡ status) × (has_failed ≡ had_failed)) ⊎ ((status < 2) × (result ≡ 3) × (has_failed ≡ true))

@@ -1,6 +1,6 @@
 // The program, over any devices.
 ghost use Rattle.std.specs.Prelude.{◌≡◌, length};
-ghost use Rattle.wasm_list.specs.Runs.{Runs, Says, complaint_of};
+ghost use Rattle.wasm_list.specs.Runs.{Finishes, Runs, Says, complaint_of};
 
 use crate::listing::{Ended, ListError, list};
 use crate::sink::{Sink, WriteSink, write_all};
@@ -58,7 +58,9 @@ fn message(error: ListError) -> &'static [u8]
 }
 
 /// Hands on all that was written, after a status of 0 or 1, and answers the status that then holds.
-pub fn finish<W: Write, E: Sink>(status: u8, output: &mut WriteSink<W>, errors: &mut E) -> u8 {
+pub fn finish<W: Write, E: Sink>(status: u8, output: &mut WriteSink<W>, errors: &mut E) -> u8
+    ensures { Finishes status output.old.failed output.new.failed result }
+{
     if status < 2 && output.flush().is_err() {
         complain(errors, b"output failed\n");
         return 3;
