@@ -66,12 +66,13 @@ fn the_end_again_and_again(rt: HostRuntime) -> Result<(), Fail> {
 #[test]
 fn a_custom_section(rt: HostRuntime) -> Result<(), Fail> {
     let mut parser = behind_header(0)?;
-    match parser.parse(b"\0\x01\0", true)? {
+    let chunk = parser.parse(b"\0\x01\0", true)?;
+    match &chunk {
         Chunk::Parsed {
             consumed,
             payload: Payload::CustomSection(section),
         } => {
-            assert_eq!(rt; consumed, 3);
+            assert_eq!(rt; *consumed, 3);
             assert_eq!(rt; section.name(), "");
             assert_eq!(rt; section.data_offset(), 11);
             assert_eq!(rt; section.range(), 10..11);

@@ -1,0 +1,328 @@
+#!/usr/bin/env python3
+"""Lists random streams with the built program, and compares the listings with those of a model.
+
+    compare_listings.py [SEED] [COUNT] [--model PATH --stage N] [--show N]
+
+The model is the one below, which knows the rules of framing and nothing of the program, or another one: a Python
+file with `reading(stream, offset, changed_bodies, stage)`, which gives the lines of a listing. A listing that ends
+neither with an end nor with a fault stopped before a section that isn't read yet.
+"""
+import importlib.util
+import os
+import random
+import subprocess
+import sys
+from concurrent.futures import ThreadPoolExecutor
+
+TOP = os.path.dirname(os.path.dirname(os.path.abspath(__file__)))
+
+MODULE = b"\0asm\x01\0\0\0"
+COMPONENT = b"\0asm\x0d\0\x01\0"
+
+# The ids of a module's sections, in the order in which they may stand.
+ORDER = [1, 2, 3, 4, 5, 13, 6, 7, 8, 9, 12, 10, 11]
+# Those that are read, beside custom and unknown ones.
+READ = {3, 8, 12}
+
+EOF = "unexpected end-of-file"
+TOO_LONG = "invalid var_u32: integer representation too long"
+TOO_LARGE = "invalid var_u32: integer too large"
+
+
+# ---- the model
+
+
+class Stop(Exception):
+    """A fault: its offset and its message."""
+
+
+class NotYet(Exception):
+    """A section that isn't read yet."""
+
+
+def number(data, start, end):
+    """A u32 in LEB128 that begins at `start`, in bytes that end at `end`, and the place behind it."""
+    value = 0
+    for place in range(start, start + 5):
+        if place >= end:
+            raise Stop(end, EOF)
+        byte = data[place]
+        last = place == start + 4
+        if last and byte >= 128:
+            raise Stop(place, TOO_LONG)
+        if last and byte >= 16:
+            raise Stop(place, TOO_LARGE)
+        value |= (byte & 127) << (7 * (place - start))
+        if byte < 128:
+            return value, place + 1
+    raise AssertionError
+
+
+def header(data):
+    """The line of the header, and whether it is a module's."""
+    if len(data) < 4:
+        raise Stop(0, EOF)
+    if data[:4] != MODULE[:4]:
+        raise Stop(0, "magic header not detected: bad magic number")
+    if len(data) < 8:
+        raise Stop(4, EOF)
+    if data[:8] == MODULE:
+        return "version 0 8 1 module", True
+    if data[:8] == COMPONENT:
+        return "version 0 8 13 component", False
+    raise Stop(4, "unknown binary version: %d" % int.from_bytes(data[4:8], "little"))
+
+
+def custom(data, start, end):
+    """The line of a custom section: its name must be there, and be a text."""
+    size, text = number(data, start, end)
+    if size > 100000:
+        raise Stop(text - 1, "string size out of bounds")
+    if size > end - text:
+        raise Stop(text, EOF)
+    try:
+        data[text : text + size].decode("utf-8")
+    except UnicodeDecodeError:
+        raise Stop(text + size - 1, "malformed UTF-8 encoding") from None
+    return "custom %d %d %d" % (start, end, text + size)
+
+
+def single(data, start, end, word, called):
+    """The line of a section that is one number, and the number."""
+    value, behind = number(data, start, end)
+    if behind < end:
+        raise Stop(behind, "unexpected content in the %s section" % called)
+    return "%s %d %d %d" % (word, start, end, value), value
+
+
+def section(data, place, is_module, counts, rank):
+    """The line of the section that begins at `place`, its end, and the greatest rank so far."""
+    if data[place : place + 4] == MODULE[:4]:
+        raise Stop(place, "expected section, got wasm magic number")
+    ident = data[place]
+    if ident >= 128:
+        raise Stop(place, "malformed section id")
+    size, start = number(data, place + 1, len(data))
+    end = start + size
+    ranked = is_module and ident in ORDER
+    if ranked:
+        if ident not in READ:
+            raise NotYet(ident)
+        if ORDER.index(ident) <= rank:
+            raise Stop(start, "section out of order")
+        rank = ORDER.index(ident)
+    if end > len(data):
+        raise Stop(start, EOF)
+    if ident == 0:
+        return custom(data, start, end), end, rank
+    if not ranked:
+        return "unknown %d %d %d" % (ident, start, end), end, rank
+    if ident == 3:
+        counts[3], _ = number(data, start, end)
+        return "section 3 %d %d %d" % (start, end, counts[3]), end, rank
+    if ident == 8:
+        return single(data, start, end, "start", "start")[0], end, rank
+    line, counts[12] = single(data, start, end, "datacount", "data count")
+    return line, end, rank
+
+
+def model(data):
+    """The lines of the listing."""
+    lines = []
+    try:
+        line, is_module = header(data)
+        lines.append(line)
+        place, counts, rank = 8, {3: 0, 12: 0}, -1
+        while place < len(data):
+            line, place, rank = section(data, place, is_module, counts, rank)
+            lines.append(line)
+        if counts[3] > 0:
+            raise Stop(place, "function section has non-zero count but code section is absent")
+        if counts[12] > 0:
+            raise Stop(place, "data count is non-zero but data section is absent")
+        lines.append("end %d" % place)
+    except Stop as stop:
+        lines.append("fault %d %s" % stop.args)
+    except NotYet:
+        pass
+    return lines
+
+
+def status(lines):
+    """The exit status of a program that writes these lines."""
+    if lines and lines[-1].startswith("end "):
+        return 0
+    return 1 if lines and lines[-1].startswith("fault ") else 3
+
+
+# ---- random streams
+
+
+def leb(rng, value):
+    """A u32 in LEB128, now and then with more bytes than it needs."""
+    out = bytearray()
+    while value >= 128:
+        out.append(value & 127 | 128)
+        value >>= 7
+    out.append(value)
+    while len(out) < 5 and rng.random() < 0.08:
+        out[-1] |= 128
+        out.append(0)
+    return bytes(out)
+
+
+def some_number(rng):
+    return rng.choice([0, 0, 0, 1, 1, 2, 3, 127, 128, 300, 16384, 2**32 - 1, rng.getrandbits(32)])
+
+
+def some_name(rng):
+    text = rng.choice([b"", b"a", b"name", "\u00e9".encode(), "\U0001f600".encode(), b"\xc3\x28", b"\xff", b"x" * 130])
+    size = len(text) if rng.random() < 0.9 else rng.choice([0, len(text) + 1, 100000, 100001])
+    return leb(rng, size) + text
+
+
+def some_content(rng, ident):
+    if ident == 0:
+        return some_name(rng) + rng.randbytes(rng.choice([0, 0, 1, 5]))
+    if ident in (8, 12):
+        return leb(rng, some_number(rng)) + (b"\0" if rng.random() < 0.08 else b"")
+    if ident == 3:
+        count = rng.choice([0, 0, 0, 1, 2, 5])
+        return leb(rng, count) + b"".join(leb(rng, rng.randrange(300)) for _ in range(count))
+    return rng.randbytes(rng.choice([0, 1, 2, 7]))
+
+
+def some_section(rng, ident):
+    content = some_content(rng, ident)
+    if rng.random() < 0.04:
+        content = content[: rng.randrange(len(content) + 1)]
+    size = len(content)
+    if rng.random() < 0.04:
+        size = rng.choice([size + 1, max(size - 1, 0), some_number(rng)])
+    return bytes([ident]) + leb(rng, size) + content
+
+
+def some_ids(rng):
+    """Ids of sections: those that are read mostly in their order, with custom, unknown and unread ones among them."""
+    ids = [ident for ident in (3, 8, 12) if rng.random() < 0.6]
+    if rng.random() < 0.2:
+        rng.shuffle(ids)
+    if ids and rng.random() < 0.1:
+        ids.append(rng.choice(ids))
+    for _ in range(rng.choice([0, 0, 1, 2, 3])):
+        ids.insert(rng.randrange(len(ids) + 1), rng.choice([0, 0, 0, 14, 50, 127]))
+    if rng.random() < 0.12:
+        ids.insert(rng.randrange(len(ids) + 1), rng.choice([1, 2, 4, 5, 6, 7, 9, 10, 11, 13]))
+    if rng.random() < 0.03:
+        ids.insert(rng.randrange(len(ids) + 1), rng.choice([128, 200, 255]))
+    return ids
+
+
+def some_header(rng):
+    kind = rng.random()
+    if kind < 0.82:
+        return MODULE
+    if kind < 0.97:
+        return COMPONENT
+    return rng.choice([MODULE[:4] + rng.randbytes(4), MODULE[:6] + b"\x01\0", rng.randbytes(8)])
+
+
+def some_stream(rng):
+    kind = rng.random()
+    if kind < 0.03:
+        return rng.randbytes(rng.randrange(40))
+    if kind < 0.08:
+        return MODULE + bytes(rng.choice(b"\0\x01\x03\x08\x0c\x0eas\x80\xff") for _ in range(rng.randrange(14)))
+    data = bytearray(some_header(rng))
+    for ident in some_ids(rng):
+        data += some_section(rng, ident)
+    if rng.random() < 0.02:
+        data += MODULE[: rng.randrange(9)]
+    if rng.random() < 0.15:
+        for _ in range(rng.choice([1, 1, 2])):
+            place = rng.randrange(len(data))
+            data[place] = rng.choice([0, 1, 3, 8, 12, 127, 128, 255, rng.randrange(256), data[place] ^ 1 << rng.randrange(8)])
+    if rng.random() < 0.12:
+        del data[rng.randrange(len(data) + 1) :]
+    return bytes(data)
+
+
+# ---- comparing
+
+
+def program_path():
+    built = os.path.join(TOP, "crates", "wasm_list", "out", "wasm_list")
+    return built if os.access(built, os.X_OK) else os.path.join(TOP, "wasm_list")
+
+
+def list_with(program, data):
+    """The lines that the program writes, and its status."""
+    done = subprocess.run([program], input=data, capture_output=True, timeout=60, check=False)
+    text = done.stdout.decode("ascii")
+    assert text == "" or text.endswith("\n"), text
+    return text.splitlines(), done.returncode, done.stderr
+
+
+def load(path, stage):
+    """The listing by another model."""
+    spec = importlib.util.spec_from_file_location("other_model", path)
+    other = importlib.util.module_from_spec(spec)
+    spec.loader.exec_module(other)
+    return lambda data: other.reading(data, 0, False, stage)
+
+
+def compare(program, listing, data):
+    """None where both agree, and what they say where they don't."""
+    expected = listing(data)
+    lines, code, errors = list_with(program, data)
+    complaint = b"not yet\n" if status(expected) == 3 else b""
+    if (lines, code, errors) == (expected, status(expected), complaint):
+        return None
+    return "%s\n  program %r, status %d, %r\n  model   %r" % (data.hex(), lines, code, errors, expected)
+
+
+def last_word(lines):
+    """What a listing ends with, to tell how many there were of each kind."""
+    return lines[-1].split(" ", 2)[2] if lines and lines[-1].startswith("fault ") else ("end" if status(lines) == 0 else "not yet")
+
+
+def arguments(words):
+    """Seed, count, model and how many differences are shown."""
+    plain, path, stage, show = [], None, 2, 10
+    words = list(words)
+    while words:
+        word = words.pop(0)
+        if word == "--model":
+            path = words.pop(0)
+        elif word == "--stage":
+            stage = int(words.pop(0))
+        elif word == "--show":
+            show = int(words.pop(0))
+        else:
+            plain.append(int(word))
+    seed = plain[0] if plain else 1
+    count = plain[1] if len(plain) > 1 else 10000
+    return seed, count, load(path, stage) if path else model, show
+
+
+def main():
+    seed, count, listing, show = arguments(sys.argv[1:])
+    rng = random.Random(seed)
+    program = program_path()
+    streams = [some_stream(rng) for _ in range(count)]
+    with ThreadPoolExecutor(2) as pool:
+        found = [text for text in pool.map(lambda data: compare(program, listing, data), streams) if text]
+    kinds = {}
+    for data in streams:
+        word = last_word(listing(data))
+        kinds[word] = kinds.get(word, 0) + 1
+    for word in sorted(kinds, key=lambda word: -kinds[word])[:20]:
+        print("%7d %s" % (kinds[word], word))
+    for text in found[:show]:
+        print("DIFFERS", text)
+    print("%d compared, %d differ (seed %d)" % (count, len(found), seed))
+    return 1 if found else 0
+
+
+if __name__ == "__main__":
+    sys.exit(main())
