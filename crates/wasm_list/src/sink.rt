@@ -3,7 +3,7 @@ ghost use Rattle.std.specs.Prelude.{◌≡◌, ℕ, ◌≤◌, ◌<◌, Bool, tr
 ghost use Rattle.std.specs.Io.KnownBytes.{WriteAppends, Appends};
 
 use crate::source::Failed;
-use std::alloc::{AllocError, Global};
+use std::alloc::{AllocError, Allocator, Global};
 use std::io::Write;
 
 /// Takes bytes, a few at a time.
@@ -39,6 +39,14 @@ pub(crate) fn write_all<W: Sink>(output: &mut W, bytes: &[u8]) -> Result<(), Fai
     Ok(())
 }
 
+// An empty list with room for so many bytes.
+pub(crate) fn room<A: Allocator>(alloc: A, size: usize) -> Result<Vec<u8, A>, AllocError>
+    ensures empty { IfOk result (λ bytes. bytes.items ≡ []) }
+    ensures room { IfOk result (λ bytes. size ≤ vec_capacity bytes) }
+{
+    Vec::with_capacity(alloc, size)
+}
+
 /// A sink that keeps up to `size` bytes in memory, and fails only when it is full.
 #[derive(Drop)]
 pub struct BoundedSink {
@@ -57,7 +65,7 @@ impl BoundedSink {
         ensures failed { IfOk result (λ s. s.failed ≡ false) }
     {
         Ok(BoundedSink {
-            bytes: Vec::with_capacity(alloc, size)?,
+            bytes: room(alloc, size)?,
             size,
             failed: false,
         })

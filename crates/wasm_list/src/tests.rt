@@ -1,5 +1,6 @@
 // Worked examples, and devices that fail or go short.
 mod devices;
+mod heap;
 mod parsing;
 mod runs;
 
