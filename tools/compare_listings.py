@@ -159,7 +159,9 @@ def status(lines):
 
 
 def leb(rng, value):
-    """A u32 in LEB128, now and then with more bytes than it needs."""
+    """A u32 in LEB128, now and then with more bytes than it needs, and seldom with more than it may have."""
+    if rng.random() < 0.01:
+        return rng.choice([b"\x80\x80\x80\x80\x10", b"\xff\xff\xff\xff\x7f", b"\x80\x80\x80\x80\x80", b"\x80\x80"])
     out = bytearray()
     while value >= 128:
         out.append(value & 127 | 128)
@@ -281,9 +283,12 @@ def compare(program, listing, data):
     return "%s\n  program %r, status %d, %r\n  model   %r" % (data.hex(), lines, code, errors, expected)
 
 
-def last_word(lines):
+def ending(lines):
     """What a listing ends with, to tell how many there were of each kind."""
-    return lines[-1].split(" ", 2)[2] if lines and lines[-1].startswith("fault ") else ("end" if status(lines) == 0 else "not yet")
+    if status(lines) == 1:
+        message = lines[-1].split(" ", 2)[2]
+        return "unknown binary version" if message.startswith("unknown binary version") else message
+    return "end" if status(lines) == 0 else "not yet"
 
 
 def arguments(words):
@@ -314,9 +319,9 @@ def main():
         found = [text for text in pool.map(lambda data: compare(program, listing, data), streams) if text]
     kinds = {}
     for data in streams:
-        word = last_word(listing(data))
+        word = ending(listing(data))
         kinds[word] = kinds.get(word, 0) + 1
-    for word in sorted(kinds, key=lambda word: -kinds[word])[:20]:
+    for word in sorted(kinds, key=lambda word: -kinds[word]):
         print("%7d %s" % (kinds[word], word))
     for text in found[:show]:
         print("DIFFERS", text)
