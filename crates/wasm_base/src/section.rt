@@ -17,7 +17,7 @@ use std::fmt;
 use std::marker::{Model, PhantomData};
 use std::ops::Range;
 
-/// A window that begins with a count of items.
+/// A window that begins with a count of items (core specification, Binary format, Modules, Sections).
 ///
 /// `new` reads the count alone: each item is read when an iterator comes to it. A loop takes the items, and the first
 /// fault in their place:

@@ -155,7 +155,8 @@ pub(crate) fn list_in<A: Allocator + Copy, R: Source, W: Sink>(
 /// Reads the input, at most `piece` bytes at once, and writes its listing: a line for each event of the reading of the
 /// stream, whose offsets count from 0.
 ///
-/// An error leaves a beginning of the listing written: `Input` where the source failed, `Output` where the sink did.
+/// An error leaves a beginning of the listing written: `Input` where the source failed, `Output` where the sink did,
+/// `Memory` where a growth was refused.
 /// `NotYet` comes before a section that isn't read yet, and leaves the lines of the events before it.
 pub fn list<R: Source, W: Sink>(
     alloc: Global,
