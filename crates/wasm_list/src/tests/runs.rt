@@ -3,6 +3,7 @@ use super::devices::Failing;
 use crate::program::{finish, run};
 use crate::sink::{BoundedSink, Sink, WriteSink};
 use crate::source::{SliceSource, Source};
+use std::io::{self, Write};
 use std::test::Fail;
 
 const MODULE: &[u8] = b"\0asm\x01\0\0\0\0\x02\x01a";
@@ -106,5 +107,37 @@ fn finishes_by_flushing(rt: HostRuntime) -> Result<(), Fail> {
         assert_eq!(rt; finish(status, &mut output, &mut errors), status);
     }
     assert_eq!(rt; errors.written(), b"".as_slice());
+    Ok(())
+}
+
+/// A writer that takes all bytes, and cannot hand them on.
+#[derive(Drop)]
+struct Stuck;
+
+impl Write for Stuck {
+    fn write(&mut self, buf: &[u8]) -> io::Result<usize> {
+        Ok(buf.len())
+    }
+
+    fn flush(&mut self) -> io::Result<()> {
+        Err(io::Error::from(io::ErrorKind::WriteZero))
+    }
+}
+
+#[test]
+fn a_flush_that_fails(rt: HostRuntime) -> Result<(), Fail> {
+    let rows: [(u8, u8, &[u8]); 4] = [
+        (0, 3, b"output failed\n"),
+        (1, 3, b"output failed\n"),
+        (2, 2, b""),
+        (3, 3, b""),
+    ];
+    for (status, answer, said) in rows {
+        let mut output = WriteSink::new(Stuck);
+        let mut errors = BoundedSink::new(rt.alloc(), 20)?;
+        assert_eq!(rt; finish(status, &mut output, &mut errors), answer);
+        assert_eq!(rt; errors.written(), said);
+        assert_eq!(rt; output.failed(), status < 2);
+    }
     Ok(())
 }
