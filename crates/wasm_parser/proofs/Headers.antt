@@ -1,0 +1,110 @@
+-- What is read of a header.
+use Rattle.std.proofs.Common.{◌≡◌, ℕ, ◌+◌, ◌/◌, ◌%◌, ◌≤◌, Bool, true, false, cond, not, List, length, take, drop, Some, None, Result, Ok, Err, nat_lt, refl, sym, ap, subst, ◌∙◌, ltb-true, ltb-false}
+use Rattle.wasm_base.specs.FaultAt.{fault_at, at_offset}
+use Rattle.wasm_base.specs.Header.{magic, agree, header_version_at}
+use Rattle.wasm_base.specs.Name.{of_four, u32_at}
+use Rattle.wasm_base.specs.Outcome.{Outcome, ◌>>=◌}
+use Rattle.wasm_base.specs.Window.{Place, advanced}
+use Rattle.wasm_base.specs.declared.error.Error.{Error}
+use Rattle.wasm_base.specs.declared.fault.Fault.TheVariants.{UnexpectedEof, BadMagic, UnknownVersion}
+use Rattle.wasm_parser.specs.Answers.{told_by, IsTold}
+use Rattle.wasm_parser.specs.Content.{when}
+use Rattle.wasm_parser.specs.Grammar.{header, verdict, encoding_named, version_of, header_grammar}
+use Rattle.wasm_parser.specs.Reading.{told_of}
+use Rattle.wasm_parser.specs.declared.payload.Encoding.{Encoding}
+use Rattle.wasm_parser.specs.declared.payload.Payload.{Payload}
+use Rattle.wasm_parser.proofs.Telling.{told_bytes, told_missing, told_wrong, told_right, told_whole, told_stops}
+
+abbrev Bits : Type 0
+Bits = Outcome ℕ
+
+-- four bytes, or too few
+abbrev four_at : Bool → Place → Outcome (List ℕ)
+four_at b p = cond b (Err (at_offset UnexpectedEof p.offset)) (Ok (take 4 p.rest, advanced 4 p))
+
+abbrev bits_at : Bool → Place → Bits
+bits_at b p = four_at b p >>= (λ bytes. let x : Bits = Ok (of_four bytes.0, bytes.1) in x)
+
+-- the magic and four bytes, by three tests
+abbrev version_steps : (few other fewer : Bool) → Place → Bits
+version_steps true other fewer p = Err (at_offset UnexpectedEof p.offset)
+version_steps false false fewer p = Err (at_offset BadMagic p.offset)
+version_steps false true fewer p = bits_at fewer (advanced 4 p)
+
+steps_at : (few : Bool) (p : Place) → nat_lt (length p.rest) 4 ≡ few
+    → header_version_at p ≡ version_steps few (agree (take 4 p.rest) magic) (nat_lt (length (drop 4 p.rest)) 4) p
+unfolding header_version_at u32_at
+steps_at true p e = rw e refl
+steps_at false p e = rw e (by_magic (agree (take 4 p.rest) magic))
+  where
+    by_magic : (b : Bool) → (let x : Bits = cond b (bits_at (nat_lt (length (drop 4 p.rest)) 4) (advanced 4 p)) (Err (at_offset BadMagic p.offset)) in x) ≡ version_steps false b (nat_lt (length (drop 4 p.rest)) 4) p
+    by_magic true = refl
+    by_magic false = refl
+
+steps : (p : Place) → header_version_at p ≡ version_steps (nat_lt (length p.rest) 4) (agree (take 4 p.rest) magic) (nat_lt (length (drop 4 p.rest)) 4) p
+steps p = steps_at (nat_lt (length p.rest) 4) p refl
+
+-- a header that was read
+pub record ReadHeader (p : Place) (bits : ℕ) (q : Place) : Type 0 where
+  pub there : 4 ≤ length p.rest
+  pub begins : agree (take 4 p.rest) magic ≡ true
+  pub behind : 4 ≤ length (drop 4 p.rest)
+  pub four : of_four (take 4 (drop 4 p.rest)) ≡ bits
+  pub place : q ≡ advanced 4 (advanced 4 p)
+
+read_at : (few other fewer : Bool) (p : Place) (bits : ℕ) (q : Place) → nat_lt (length p.rest) 4 ≡ few → agree (take 4 p.rest) magic ≡ other → nat_lt (length (drop 4 p.rest)) 4 ≡ fewer
+    → version_steps few other fewer p ≡ Ok (bits, q) → ReadHeader p bits q
+read_at true other fewer p bits q a b c h = cc
+read_at false false fewer p bits q a b c h = cc
+read_at false true true p bits q a b c h = cc
+read_at false true false p bits q a b c h =
+    let z : (of_four (take 4 (drop 4 p.rest)), advanced 4 (advanced 4 p)) ≡ (bits, q) = cc in
+    record { there = ltb-false _ _ a; begins = b; behind = ltb-false _ _ c; four = ap (λ (x : ℕ × Place). x.0) z; place = sym (ap (λ (x : ℕ × Place). x.1) z) }
+
+pub header_read : (p : Place) (bits : ℕ) (q : Place) → header_version_at p ≡ Ok (bits, q) → ReadHeader p bits q
+header_read p bits q h = read_at (nat_lt (length p.rest) 4) (agree (take 4 p.rest) magic) (nat_lt (length (drop 4 p.rest)) 4) p bits q refl refl refl (sym (steps p) ∙ h)
+
+-- what stands behind the eight bytes
+told_eight : (s : ℕ) (p : Place) (bits : ℕ) (q : Place) (r : Result Payload Error) (a : Place) → ReadHeader p bits q → IsTold s q (verdict (version_of p.offset bits) q.rest) r a → IsTold s p (verdict (header_grammar p.offset) p.rest) r a
+unfolding header_grammar
+told_eight s p bits q r a h t =
+    let m : when (not (agree (take 4 p.rest) magic)) (at_offset BadMagic p.offset) ≡ None = rw h.begins refl in
+    let v : IsTold s (advanced 4 (advanced 4 p)) (verdict (version_of p.offset bits) (drop 4 (drop 4 p.rest))) r a = subst (λ (x : Place). IsTold s x (verdict (version_of p.offset bits) x.rest) r a) h.place t in
+    let w : IsTold s (advanced 4 (advanced 4 p)) (verdict (version_of p.offset (of_four (take 4 (drop 4 p.rest)))) (drop 4 (drop 4 p.rest))) r a = subst (λ (x : ℕ). IsTold s (advanced 4 (advanced 4 p)) (verdict (version_of p.offset x) (drop 4 (drop 4 p.rest))) r a) (sym h.four) v in
+    told_bytes s p 4 p.offset _ r a h.there (
+    told_right s (advanced 4 p) (when (not (agree (take 4 p.rest) magic)) (at_offset BadMagic p.offset)) _ r a m (
+    told_bytes s (advanced 4 p) 4 (p.offset + 4) (λ four. version_of p.offset (of_four four)) r a h.behind w))
+
+-- a header of a known version
+pub header_told : (p : Place) (bits : ℕ) (q : Place) (e : Encoding) (payload : Payload) → header_version_at p ≡ Ok (bits, q) → Some e ≡ encoding_named (bits % 65536) (bits / 65536)
+    → told_by payload ≡ Some (told_of q.features p.offset q.offset (header (bits % 65536) e)) → IsTold p.offset p (verdict (header_grammar p.offset) p.rest) (Ok payload) q
+header_told p bits q e payload h n t =
+    told_eight p.offset p bits q (Ok payload) q (header_read p bits q h) (rw (← n) (told_whole p.offset q (header (bits % 65536) e) payload q refl t))
+
+-- one of an unknown version
+pub header_unnamed : (p : Place) (bits : ℕ) (q : Place) (e : Error) → header_version_at p ≡ Ok (bits, q) → None ≡ encoding_named (bits % 65536) (bits / 65536)
+    → fault_at e ≡ record { fault = UnknownVersion; offset = p.offset + 4; number = Some bits } → IsTold p.offset p (verdict (header_grammar p.offset) p.rest) (Err e) q
+header_unnamed p bits q e h n f =
+    told_eight p.offset p bits q (Err e) q (header_read p bits q h) (rw (← n) (told_stops p.offset q (record { fault = UnknownVersion; offset = p.offset + 4; number = Some bits }) e q f))
+
+-- none
+refused_at : (few other fewer : Bool) (p : Place) (e : Error) (a : Place) → nat_lt (length p.rest) 4 ≡ few → agree (take 4 p.rest) magic ≡ other → nat_lt (length (drop 4 p.rest)) 4 ≡ fewer
+    → version_steps few other fewer p ≡ Err (fault_at e) → IsTold p.offset p (verdict (header_grammar p.offset) p.rest) (Err e) a
+unfolding header_grammar
+refused_at true other fewer p e a x y z h =
+    let f : at_offset UnexpectedEof p.offset ≡ fault_at e = cc in
+    told_missing p.offset p 4 p.offset _ e a (ltb-true _ _ x) (sym f)
+refused_at false false fewer p e a x y z h =
+    let f : at_offset BadMagic p.offset ≡ fault_at e = cc in
+    let m : when (not (agree (take 4 p.rest) magic)) (at_offset BadMagic p.offset) ≡ Some (fault_at e) = rw y (ap Some f) in
+    told_bytes p.offset p 4 p.offset _ (Err e) a (ltb-false _ _ x) (told_wrong p.offset (advanced 4 p) (when (not (agree (take 4 p.rest) magic)) (at_offset BadMagic p.offset)) _ e a m)
+refused_at false true true p e a x y z h =
+    let f : at_offset UnexpectedEof (p.offset + 4) ≡ fault_at e = cc in
+    let m : when (not (agree (take 4 p.rest) magic)) (at_offset BadMagic p.offset) ≡ None = rw y refl in
+    told_bytes p.offset p 4 p.offset _ (Err e) a (ltb-false _ _ x) (
+    told_right p.offset (advanced 4 p) (when (not (agree (take 4 p.rest) magic)) (at_offset BadMagic p.offset)) _ (Err e) a m (
+    told_missing p.offset (advanced 4 p) 4 (p.offset + 4) _ e a (ltb-true _ _ z) (sym f)))
+refused_at false true false p e a x y z h = cc
+
+pub header_refused : (p : Place) (e : Error) (a : Place) → header_version_at p ≡ Err (fault_at e) → IsTold p.offset p (verdict (header_grammar p.offset) p.rest) (Err e) a
+header_refused p e a h = refused_at (nat_lt (length p.rest) 4) (agree (take 4 p.rest) magic) (nat_lt (length (drop 4 p.rest)) 4) p e a refl refl refl (sym (steps p) ∙ h)

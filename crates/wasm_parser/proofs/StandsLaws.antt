@@ -1,0 +1,274 @@
+-- What a parser knows is what the tiles before it say.
+use Rattle.std.proofs.Common.{◌≡◌, ℕ, zero, suc, ◌+◌, ◌<◌, max, Bool, true, false, cond, not, ◌&&◌, List, [], ◌∷◌, ◌++◌, length, option_to_list, Option, Some, None, nat_lt, nat_eq, refl, sym, ap, subst, ◌∙◌, arith, length-append, add-zero, lit<, nat_le, take, drop, ltb-true, eqb-true, lt-ltb, slice_index}
+use Rattle.std.specs.List.{list_all}
+use Rattle.std.proofs.lemmas.Bool.{and_parts}
+use Rattle.std.proofs.lemmas.Bool.Decides.{nat_tests}
+use mathlib.Core.Path.{fun_ext}
+use Rattle.wasm_parser.specs.declared.payload.Encoding.{Encoding}
+use Rattle.wasm_base.specs.FaultAt.{FaultAt}
+use Rattle.wasm_base.specs.Number.{Number, read, bad, short, number as number_at}
+use Rattle.wasm_parser.specs.Content.{Kind, items, data_count, custom, index, code, unknown, rank_of, ranks, count_of, kind_of, Ending, when}
+use Rattle.wasm_parser.specs.Grammar.{Shape, header, section, code_head, body, Tile, Verdict, tile, final, behind, behind_number, Past, Grammar, takes, stops, refuse, number, bytes, section_start, verdict, header_grammar, section_grammar, body_grammar, content_grammar, header_of}
+use Rattle.wasm_parser.specs.Tiling.{front, grammar, past, inside, encoding_of, encoding_in, tile_rank, count_in, counts, bodies_left, bytes_left, bodies_after, bytes_after}
+use Rattle.wasm_parser.specs.Stands.{Stand, greatest, is_start, Stands, past_of, grammar_of, count_after, rank_after, passed}
+use Rattle.wasm_base.specs.declared.fault.NumberKind.TheVariants.{VarU32}
+use Rattle.wasm_parser.proofs.GrammarLaws.{behind-tile}
+use Rattle.wasm_parser.proofs.ReadingLaws.{Grown, grows}
+
+max_lt : (a g r : ℕ) → nat_lt (max a g) r ≡ (nat_lt a r && nat_lt g r)
+max_lt a g r = grind (arith, nat_tests)
+
+one_lt : (a r : ℕ) → nat_lt (max a 0) r ≡ (nat_lt a r && true)
+one_lt a r = grind (arith, nat_tests)
+
+-- above the greatest rank is above each
+pub may_same : (t : Tile) (ts : List Tile) (r : ℕ) → nat_lt (greatest (t ∷ ts)) r ≡ list_all (λ (u : Tile). nat_lt (tile_rank u.shape) r) (t ∷ ts)
+may_same t [] r = one_lt (tile_rank t.shape) r
+may_same t (u ∷ ts) r = max_lt (tile_rank t.shape) (greatest (u ∷ ts)) r ∙ ap (λ (b : Bool). nat_lt (tile_rank t.shape) r && b) (may_same u ts r)
+
+past_same : (p : Stand) (start : ℕ) (covered : List ℕ) (s : Stands p start covered) (t : Tile) (ts : List Tile) → s.tiles ≡ t ∷ ts → past_of p ≡ past (t ∷ ts)
+past_same p start covered s t ts z =
+    let f : (λ (r : ℕ). nat_lt p.rank r) ≡ (λ (r : ℕ). list_all (λ (u : Tile). nat_lt (tile_rank u.shape) r) (t ∷ ts)) =
+    fun_ext (λ (r : ℕ). ap (λ (x : ℕ). nat_lt x r) (s.rank ∙ ap greatest z) ∙ may_same t ts r) in
+    let e : p.encoding ≡ encoding_of (t ∷ ts) = s.encoding ∙ ap encoding_of z in
+    let a : option_to_list p.functions ≡ counts 3 (t ∷ ts) = s.functions ∙ ap (counts 3) z in
+    let b : option_to_list p.codes ≡ counts 10 (t ∷ ts) = s.codes ∙ ap (counts 10) z in
+    let c : option_to_list p.datas ≡ counts 11 (t ∷ ts) = s.datas ∙ ap (counts 11) z in
+    let d : option_to_list p.data_counts ≡ counts 12 (t ∷ ts) = s.data_counts ∙ ap (counts 12) z in
+    λ i. record { encoding = e i; may_follow = f i; functions = a i; codes = b i; datas = c i; data_counts = d i }
+
+grammar_at : (p : Stand) (start : ℕ) (covered : List ℕ) (s : Stands p start covered) (ts : List Tile) → s.tiles ≡ ts → grammar_of p ≡ grammar start ts
+grammar_at p start covered s [] z =
+    let h : p.expects_header ≡ true = s.expects_header ∙ ap is_start z in
+    let c : covered ≡ [] = sym s.covers ∙ ap front z in
+    let o : p.offset ≡ start = s.offset ∙ (ap (λ (x : List ℕ). start + length x) c ∙ add-zero start) in
+    rw h (ap header_grammar o)
+grammar_at p start covered s (t ∷ ts) z =
+    let h : p.expects_header ≡ false = s.expects_header ∙ ap is_start z in
+    let o : p.offset ≡ start + length (front (t ∷ ts)) = s.offset ∙ ap (λ (x : List ℕ). start + length x) (sym s.covers ∙ ap front z) in
+    let m : p.bodies ≡ bodies_left (t ∷ ts) = s.bodies ∙ ap bodies_left z in
+    let l : p.left ≡ bytes_left (t ∷ ts) = s.left ∙ ap bytes_left z in
+    let q : past_of p ≡ past (t ∷ ts) = past_same p start covered s t ts z in
+    rw h (λ i. inside (q i) (m i) (l i) (o i))
+
+-- what may stand behind a front is what the parser that stands there expects
+pub grammar_same : (p : Stand) (start : ℕ) (covered : List ℕ) (s : Stands p start covered) → grammar_of p ≡ grammar start s.tiles
+grammar_same p start covered s = grammar_at p start covered s s.tiles refl
+
+-- what each tile of a grammar is known to be
+abbrev pub Each : (Shape → Type 0) → Grammar → Type 0
+Each P (takes s) = P s
+Each P (stops e) = Unit {0}
+Each P (refuse e next) = e ≡ None → Each P next
+Each P (number offset next) = (v k : ℕ) → Each P (next v k)
+Each P (bytes count offset next) = (b : List ℕ) → Each P (next b)
+Each P (section_start offset e next) = (id : ℕ) → Each P (next id)
+
+each_behind : (P : Shape → Type 0) (f : List ℕ) (v : Verdict) (t : Tile) → ((s : Tile) → v ≡ tile s → P s.shape) → behind f v ≡ tile t → P t.shape
+each_behind P f v t h e = let (s, r, q) = behind-tile f v t e in subst (λ (x : Tile). P x.shape) (sym q) (h s r)
+
+each_number : (P : Shape → Type 0) (o : ℕ) (xs : List ℕ) (n : Number) (next : ℕ → ℕ → Verdict) (t : Tile) → ((v k : ℕ) (s : Tile) → next v k ≡ tile s → P s.shape) → behind_number o xs n next ≡ tile t → P t.shape
+each_number P o xs (read v k) next t h e = each_behind P _ (next v k) t (h v k) e
+each_number P o xs (bad f p) next t h e = cc
+each_number P o xs short next t h e = cc
+
+each_test : (P : Shape → Type 0) (b : Bool) (v : Verdict) (e : Ending) (t : Tile) → (v ≡ tile t → P t.shape) → cond b v (final e) ≡ tile t → P t.shape
+each_test P true v e t h w = h w
+each_test P false v e t h w = cc
+
+each_test' : (P : Shape → Type 0) (b : Bool) (v : Verdict) (e : Ending) (t : Tile) → (v ≡ tile t → P t.shape) → cond b (final e) v ≡ tile t → P t.shape
+each_test' P true v e t h w = cc
+each_test' P false v e t h w = h w
+
+pub each_tile : (P : Shape → Type 0) (g : Grammar) → Each P g → (xs : List ℕ) (t : Tile) → verdict g xs ≡ tile t → P t.shape
+unfolding verdict
+each_tile P (takes s) h xs t e = let z : s ≡ t.shape = shape_is s t e in subst P z h
+  where
+    shape_is : (s : Shape) (t : Tile) → tile (record { shape = s; bytes = [] }) ≡ tile t → s ≡ t.shape
+    shape_is s t e = let z : record { shape = s; bytes = [] } ≡ t = cc in ap (λ (x : Tile). x.shape) z
+each_tile P (stops e) h xs t w = cc
+each_tile P (refuse (Some e) next) h xs t w = cc
+each_tile P (refuse None next) h xs t w = each_tile P next (h refl) xs t w
+each_tile P (number o next) h xs t w = each_number P o xs (number_at VarU32 xs) (λ v k. verdict (next v k) (drop k xs)) t (λ v k. each_tile P (next v k) (h v k) (drop k xs)) w
+each_tile P (bytes n o next) h xs t w = each_test P (nat_le n (length xs)) _ _ t (each_behind P (take n xs) (verdict (next (take n xs)) (drop n xs)) t (each_tile P (next (take n xs)) (h (take n xs)) (drop n xs))) w
+each_tile P (section_start o z next) h [] t w = cc
+each_tile P (section_start o z next) h (id ∷ xs) t w = each_test' P _ _ _ t (each_behind P (id ∷ []) (verdict (next id) xs) t (each_tile P (next id) (h id) xs)) w
+
+-- a section of this rank may follow
+abbrev pub Follows : Past → ℕ → Type 0
+Follows p r = (nat_lt 0 r && not (p.may_follow r)) ≡ false
+
+-- the tile is a section that may follow, or its head
+abbrev pub Placed : Past → Shape → Type 0
+Placed p (section kind id content) = Follows p (rank_of kind id)
+Placed p (code_head count width size) = Follows p (rank_of code 10)
+Placed p (header version encoding) = ⊥
+Placed p (body content) = ⊥
+
+-- a test that finds nothing wrong fails
+pub none_when : (b : Bool) (e : FaultAt) → when b e ≡ None → b ≡ false
+none_when true e h = cc
+none_when false e h = refl
+
+placed_content : (p : Past) (kind : Kind) (id o n : ℕ) → Follows p (rank_of kind id) → Each (Placed p) (content_grammar p kind id o n)
+placed_content p custom id o n f = λ b x y. f
+placed_content p items id o n f = λ b x y. f
+placed_content p index id o n f = λ b x y. f
+placed_content p data_count id o n f = λ b x y. f
+placed_content p unknown id o n f = λ b x y. f
+placed_content p code id o n f = λ v k x y. f
+
+pub placed : (p : Past) (o : ℕ) (xs : List ℕ) (t : Tile) → verdict (section_grammar p o) xs ≡ tile t → Placed p t.shape
+unfolding section_grammar
+placed p o xs t e = each_tile (Placed p) (section_grammar p o)
+    (λ id x n k y z. placed_content p (kind_of p.encoding id) id (o + 1 + k) n (none_when _ _ z)) xs t e
+
+-- the tile is a body
+abbrev pub IsBody : Shape → Type 0
+IsBody (body content) = Unit {0}
+IsBody (section kind id content) = ⊥
+IsBody (code_head count width size) = ⊥
+IsBody (header version encoding) = ⊥
+
+pub bodied : (m l o : ℕ) (xs : List ℕ) (t : Tile) → verdict (body_grammar m l o) xs ≡ tile t → IsBody t.shape
+unfolding body_grammar
+bodied zero l o xs t e = each_tile IsBody (body_grammar zero l o) tt xs t e
+bodied (suc m) l o xs t e = each_tile IsBody (body_grammar (suc m) l o) (λ v k b x. tt) xs t e
+
+-- the tile is a header
+abbrev pub IsHeader : Shape → Type 0
+IsHeader (header version encoding) = Unit {0}
+IsHeader (section kind id content) = ⊥
+IsHeader (code_head count width size) = ⊥
+IsHeader (body content) = ⊥
+
+header_each : (o bits : ℕ) (e : Option Encoding) → Each IsHeader (header_of o bits e)
+header_each o bits (Some e) = tt
+header_each o bits None = tt
+
+pub headed : (o : ℕ) (xs : List ℕ) (t : Tile) → verdict (header_grammar o) xs ≡ tile t → IsHeader t.shape
+unfolding header_grammar
+headed o xs t e = each_tile IsHeader (header_grammar o) (λ a x b. header_each o _ _) xs t e
+
+-- where this holds of a tile's rank, it ranks above each tile before it
+abbrev pub Fresh : List Tile → Shape → Type 0
+Fresh ts s = 0 < tile_rank s → list_all (λ (u : Tile). nat_lt (tile_rank u.shape) (tile_rank s)) ts ≡ true
+
+-- where a section of a rank may follow, each tile ranks below it
+pub follows_all : (r : ℕ) (b : Bool) → (nat_lt 0 r && not b) ≡ false → 0 < r → b ≡ true
+follows_all r true e h = refl
+follows_all r false e h = let z : nat_lt 0 r ≡ true = lt-ltb 0 r h in absurd (true_false (rw z at e))
+  where
+    true_false : (true && not false) ≡ false → ⊥
+    true_false e = cc
+
+fresh_placed : (ts : List Tile) (s : Shape) → Placed (past ts) s → Fresh ts s
+fresh_placed ts (section kind id content) f h = follows_all (rank_of kind id) _ f h
+fresh_placed ts (code_head count width size) f h = follows_all (rank_of code 10) _ f h
+fresh_placed ts (header version encoding) f h = absurd f
+fresh_placed ts (body content) f h = absurd f
+
+fresh_body : (ts : List Tile) (s : Shape) → IsBody s → Fresh ts s
+fresh_body ts (body content) f h = absurd (omega arith)
+fresh_body ts (section kind id content) f h = absurd f
+fresh_body ts (code_head count width size) f h = absurd f
+fresh_body ts (header version encoding) f h = absurd f
+
+fresh_at : (b : Bool) (ts : List Tile) (m l o : ℕ) (d : List ℕ) (t : Tile) → verdict (cond b (section_grammar (past ts) o) (body_grammar m l o)) d ≡ tile t → Fresh ts t.shape
+fresh_at true ts m l o d t e = fresh_placed ts t.shape (placed (past ts) o d t e)
+fresh_at false ts m l o d t e = fresh_body ts t.shape (bodied m l o d t e)
+
+pub fresh : (start : ℕ) (ts : List Tile) (d : List ℕ) (t : Tile) → verdict (grammar start ts) d ≡ tile t → Fresh ts t.shape
+fresh start [] d t e = λ h. refl
+fresh start (u ∷ ts) d t e = fresh_at (nat_eq (bodies_left (u ∷ ts) + bytes_left (u ∷ ts)) 0) (u ∷ ts) (bodies_left (u ∷ ts)) (bytes_left (u ∷ ts)) (start + length (front (u ∷ ts))) d t e
+
+below_self : (r s : ℕ) → nat_lt s r ≡ true → s ≡ r → ⊥
+below_self r s e z = let l : s < r = ltb-true s r e in omega arith
+
+none_cons : (b : Bool) (c : ℕ) (xs : List ℕ) → b ≡ false → xs ≡ [] → cond b (c ∷ xs) xs ≡ []
+none_cons true c xs e f = cc
+none_cons false c xs e f = f
+
+not_true : (b : Bool) → (b ≡ true → ⊥) → b ≡ false
+not_true true h = absurd (h refl)
+not_true false h = refl
+
+-- below the rank of a section there is none of them
+none_in : (n : ℕ) (s : Shape) (xs : List ℕ) → nat_lt (tile_rank s) (slice_index ranks n) ≡ true → xs ≡ [] → count_in n s xs ≡ []
+none_in n (section items id content) xs e f = none_cons (nat_eq id n) _ xs (not_true _ (λ z. below_self (slice_index ranks n) (slice_index ranks id) e (ap (slice_index ranks) (eqb-true id n z)))) f
+none_in n (section data_count id content) xs e f = none_cons (nat_eq id n) _ xs (not_true _ (λ z. below_self (slice_index ranks n) (slice_index ranks id) e (ap (slice_index ranks) (eqb-true id n z)))) f
+none_in n (section custom id content) xs e f = f
+none_in n (section index id content) xs e f = f
+none_in n (section code id content) xs e f = f
+none_in n (section unknown id content) xs e f = f
+none_in n (code_head count width size) xs e f = none_cons (nat_eq 10 n) _ xs (not_true _ (λ z. below_self (slice_index ranks n) (slice_index ranks 10) e (ap (slice_index ranks) (eqb-true 10 n z)))) f
+none_in n (header version encoding) xs e f = f
+none_in n (body content) xs e f = f
+
+pub counts_none : (n : ℕ) (ts : List Tile) → list_all (λ (u : Tile). nat_lt (tile_rank u.shape) (slice_index ranks n)) ts ≡ true → counts n ts ≡ []
+counts_none n [] e = refl
+counts_none n (t ∷ ts) e =
+    let q : ((nat_lt (tile_rank t.shape) (slice_index ranks n) ≡ true) × (list_all (λ (u : Tile). nat_lt (tile_rank u.shape) (slice_index ranks n)) ts ≡ true)) = and_parts _ _ e in
+    none_in n t.shape (counts n ts) q.0 (counts_none n ts q.1)
+
+one_count : (b : Bool) (c : ℕ) (old : Option ℕ) (xs : List ℕ) → option_to_list old ≡ xs → (b ≡ true → xs ≡ []) → option_to_list (cond b (Some c) old) ≡ cond b (c ∷ xs) xs
+one_count true c old xs e f = ap (λ (x : List ℕ). c ∷ x) (sym (f refl))
+one_count false c old xs e f = e
+
+none_of_rank : (n id : ℕ) (ts : List Tile) → 0 < slice_index ranks n → (0 < slice_index ranks id → list_all (λ (u : Tile). nat_lt (tile_rank u.shape) (slice_index ranks id)) ts ≡ true) → nat_eq id n ≡ true → counts n ts ≡ []
+none_of_rank n id ts h f z =
+    let q : id ≡ n = eqb-true id n z in
+    let r : 0 < slice_index ranks id = rw q h in
+    counts_none n ts (subst (λ (x : ℕ). list_all (λ (u : Tile). nat_lt (tile_rank u.shape) (slice_index ranks x)) ts ≡ true) q (f r))
+
+-- a parser keeps the one count that there is
+count_same : (n : ℕ) (s : Shape) (old : Option ℕ) (ts : List Tile) → 0 < slice_index ranks n → option_to_list old ≡ counts n ts → Fresh ts s → option_to_list (count_after n s old) ≡ count_in n s (counts n ts)
+count_same n (section items id content) old ts h e f = one_count (nat_eq id n) (count_of content) old (counts n ts) e (none_of_rank n id ts h f)
+count_same n (section data_count id content) old ts h e f = one_count (nat_eq id n) (count_of content) old (counts n ts) e (none_of_rank n id ts h f)
+count_same n (section custom id content) old ts h e f = e
+count_same n (section index id content) old ts h e f = e
+count_same n (section code id content) old ts h e f = e
+count_same n (section unknown id content) old ts h e f = e
+count_same n (code_head count width size) old ts h e f = one_count (nat_eq 10 n) count old (counts n ts) e (none_of_rank n 10 ts h f)
+count_same n (header version encoding) old ts h e f = e
+count_same n (body content) old ts h e f = e
+
+greatest_lt : (r : ℕ) (ts : List Tile) → 0 < r → list_all (λ (u : Tile). nat_lt (tile_rank u.shape) r) ts ≡ true → greatest ts < r
+greatest_lt r [] h e = h
+greatest_lt r (t ∷ ts) h e =
+    let q : ((nat_lt (tile_rank t.shape) r ≡ true) × (list_all (λ (u : Tile). nat_lt (tile_rank u.shape) r) ts ≡ true)) = and_parts _ _ e in
+    let a : tile_rank t.shape < r = ltb-true _ _ q.0 in
+    let b : greatest ts < r = greatest_lt r ts h q.1 in
+    omega arith
+
+rank_grows : (r old g : ℕ) → old ≡ g → (0 < r → g < r) → rank_after r old ≡ max r g
+rank_grows zero old g e f = omega arith
+rank_grows (suc r) old g e f = let l : g < suc r = f (omega arith) in omega arith
+
+-- a parser that moves on by what stands behind it stands behind that
+pub stands_on : (p : Stand) (start : ℕ) (covered : List ℕ) (s : Stands p start covered) (d : List ℕ) (t : Tile) → verdict (grammar_of p) d ≡ tile t → Stands (passed p t) start (covered ++ t.bytes)
+stands_on p start covered s d t e =
+    let v : verdict (grammar start s.tiles) d ≡ tile t = subst (λ (g : Grammar). verdict g d ≡ tile t) (grammar_same p start covered s) e in
+    let g : Grown start s.tiles d t = grows start s.tiles d t s.faultless v in
+    let f : Fresh s.tiles t.shape = fresh start s.tiles d t v in
+    let o : p.offset ≡ start + length covered = s.offset in
+    record {
+      tiles = t ∷ s.tiles;
+      faultless = g.faultless;
+      covers = ap (λ (x : List ℕ). x ++ t.bytes) s.covers;
+      offset = omega (arith, length-append covered t.bytes);
+      expects_header = refl;
+      encoding = ap (encoding_in t.shape) s.encoding;
+      rank = rank_grows (tile_rank t.shape) p.rank (greatest s.tiles) s.rank (λ h. greatest_lt (tile_rank t.shape) s.tiles h (f h));
+      functions = count_same 3 t.shape p.functions s.tiles (lit< tt) s.functions f;
+      codes = count_same 10 t.shape p.codes s.tiles (lit< tt) s.codes f;
+      datas = count_same 11 t.shape p.datas s.tiles (lit< tt) s.datas f;
+      data_counts = count_same 12 t.shape p.data_counts s.tiles (lit< tt) s.data_counts f;
+      bodies = ap (bodies_after t.shape) s.bodies;
+      left = ap (bytes_after t t.shape) s.left;
+    }
+
+-- its tiles are one more
+pub stands_on-tiles : (p : Stand) (start : ℕ) (covered : List ℕ) (s : Stands p start covered) (d : List ℕ) (t : Tile) (e : verdict (grammar_of p) d ≡ tile t) → (stands_on p start covered s d t e).tiles ≡ t ∷ s.tiles
+unfolding stands_on
+stands_on-tiles p start covered s d t e = refl

@@ -1,0 +1,80 @@
+-- Nothing is wrong with a section's content exactly if it is good.
+use Rattle.std.proofs.Common.{◌≡◌, ℕ, zero, suc, ◌+◌, ◌≤◌, List, length, Some, None, nat_lt, refl, ap, subst, arith, le-ltb, ltb-false}
+use Rattle.wasm_base.specs.FaultAt.{at_offset}
+use Rattle.wasm_base.specs.Name.{Name, named, refused, name_limit, name}
+use Rattle.wasm_base.specs.Number.{Number, read, bad, short, number}
+use Rattle.wasm_base.specs.declared.fault.Fault.{Fault}
+use Rattle.wasm_base.specs.declared.fault.Fault.TheVariants.{StartContent, DataCountContent}
+use Rattle.wasm_base.specs.declared.fault.NumberKind.TheVariants.{VarU32}
+use Rattle.wasm_base.proofs.NumberLaws.{number-used, Used}
+use Rattle.wasm_parser.specs.declared.payload.Encoding.{Encoding}
+use Rattle.wasm_parser.specs.declared.payload.Encoding.TheVariants.{Module, Component}
+use Rattle.wasm_parser.specs.Content.{Kind, custom, items, index, data_count, code, unknown, kind_of, wrong_name, wrong_number, wrong_single, wrong_content}
+use Rattle.wasm_parser.specs.Accepted.{IsNumber, IsGood}
+use Rattle.wasm_parser.proofs.StandsLaws.{none_when}
+use Rattle.wasm_parser.proofs.TextbookTiles.{IsWhole}
+
+-- nothing is wrong with content that is one number
+single_to : (left : Fault) (o n : ℕ) (content : List ℕ) → IsNumber content n → wrong_single left o content (number VarU32 content) ≡ None
+single_to left o n content e = rw e (rw (le-ltb (length content) (length content) (omega arith)) refl)
+
+-- good content has no fault
+pub good_to : (kind : Kind) (o : ℕ) (content : List ℕ) → IsWhole kind → IsGood kind content → wrong_content kind o content ≡ None
+unfolding wrong_content
+good_to custom o content w g = ap (wrong_name o) g.2
+good_to items o content w g = ap (wrong_number o content) g.2
+good_to index o content w g = single_to StartContent o g.0 content g.1
+good_to data_count o content w g = single_to DataCountContent o g.0 content g.1
+good_to unknown o content w g = refl
+good_to code o content w g = absurd w
+
+-- content with no fault in its name has a name
+named_from : (o : ℕ) (content : List ℕ) (n : Name) → name (Some name_limit) content ≡ n → wrong_name o n ≡ None → IsGood custom content
+named_from o content (named text used) e h = (text, used, e)
+named_from o content (refused f place) e h = cc
+
+-- content with no fault in its number has a number
+read_from : (o : ℕ) (content : List ℕ) (n : Number) → number VarU32 content ≡ n → wrong_number o content n ≡ None → IsGood items content
+read_from o content (read v k) e h = (v, k, e)
+read_from o content (bad f place) e h = cc
+read_from o content short e h = cc
+
+-- content with no fault as one number is one number
+single_from : (left : Fault) (o : ℕ) (content : List ℕ) (n : Number) → number VarU32 content ≡ n → wrong_single left o content n ≡ None → (v : ℕ) × IsNumber content v
+single_from left o content (read v k) e h =
+    let u : Used VarU32 content v k = number-used VarU32 content v k e in
+    let l : length content ≤ k = ltb-false k (length content) (none_when (nat_lt k (length content)) (at_offset left (o + k)) h) in
+    let z : k ≡ length content = omega (arith, u.there) in
+    (v, subst (λ (x : ℕ). number VarU32 content ≡ read v x) z e)
+single_from left o content (bad f place) e h = cc
+single_from left o content short e h = cc
+
+-- content with no fault is good
+pub good_from : (kind : Kind) (o : ℕ) (content : List ℕ) → IsWhole kind → wrong_content kind o content ≡ None → IsGood kind content
+unfolding wrong_content
+good_from custom o content w h = named_from o content (name (Some name_limit) content) refl h
+good_from items o content w h = read_from o content (number VarU32 content) refl h
+good_from index o content w h = single_from StartContent o content (number VarU32 content) refl h
+good_from data_count o content w h = single_from DataCountContent o content (number VarU32 content) refl h
+good_from unknown o content w h = tt
+good_from code o content w h = absurd w
+
+-- a code section is a module's, with the id 10
+pub code_id : (encoding : Encoding) (id : ℕ) → kind_of encoding id ≡ code → (encoding ≡ Module) × (id ≡ 10)
+code_id Module zero e = cc
+code_id Module (suc zero) e = cc
+code_id Module (suc (suc zero)) e = cc
+code_id Module (suc (suc (suc zero))) e = cc
+code_id Module (suc (suc (suc (suc zero)))) e = cc
+code_id Module (suc (suc (suc (suc (suc zero))))) e = cc
+code_id Module (suc (suc (suc (suc (suc (suc zero)))))) e = cc
+code_id Module (suc (suc (suc (suc (suc (suc (suc zero))))))) e = cc
+code_id Module (suc (suc (suc (suc (suc (suc (suc (suc zero)))))))) e = cc
+code_id Module (suc (suc (suc (suc (suc (suc (suc (suc (suc zero))))))))) e = cc
+code_id Module (suc (suc (suc (suc (suc (suc (suc (suc (suc (suc zero)))))))))) e = (refl, refl)
+code_id Module (suc (suc (suc (suc (suc (suc (suc (suc (suc (suc (suc zero))))))))))) e = cc
+code_id Module (suc (suc (suc (suc (suc (suc (suc (suc (suc (suc (suc (suc zero)))))))))))) e = cc
+code_id Module (suc (suc (suc (suc (suc (suc (suc (suc (suc (suc (suc (suc (suc zero))))))))))))) e = cc
+code_id Module (suc (suc (suc (suc (suc (suc (suc (suc (suc (suc (suc (suc (suc (suc id)))))))))))))) e = cc
+code_id Component zero e = cc
+code_id Component (suc id) e = cc

@@ -1,0 +1,145 @@
+-- What tiles say of the frames that they make, tile by tile.
+use Rattle.std.proofs.Common.{◌≡◌, ℕ, zero, suc, ◌+◌, ◌⊎◌, inl, inr, Bool, true, false, cond, ◌&&◌, List, [], ◌∷◌, ◌++◌, length, refl, sym, ap, subst, ◌∙◌, nat_lt, nat_eq, eqb-true, lt-ltb}
+use Rattle.std.specs.List.{list_all}
+use Rattle.std.proofs.lemmas.Bool.{and_from}
+use Rattle.std.proofs.Math.Bool.{and_comm}
+use Rattle.std.proofs.lemmas.List.Folds.{list_all-append}
+use Rattle.wasm_parser.specs.declared.payload.Encoding.{Encoding}
+use Rattle.wasm_parser.specs.declared.payload.Encoding.TheVariants.{Module, Component}
+use Rattle.wasm_parser.specs.Content.{Kind, custom, items, index, data_count, code, unknown, kind_of, rank_of, count_of}
+use Rattle.wasm_parser.specs.Grammar.{header, section, code_head, body, Tile, Grammar, section_grammar, body_grammar}
+use Rattle.wasm_parser.specs.Tiling.{front, grammar, past, tile_rank, count_in, counts, bodies_left, bytes_left}
+use Rattle.wasm_parser.specs.Stands.{is_start}
+use Rattle.wasm_parser.specs.Accepted.{Frame, frame_count, frame_rank}
+use Rattle.wasm_parser.proofs.TextbookCounts.{one_count, counts_of, counts_push, Knows}
+use Rattle.wasm_parser.proofs.TextbookTiles.{made, IsWhole, header_version}
+
+-- what may stand behind tiles that are at the end of a section
+pub grammar_closed : (start : ℕ) (ts : List Tile) → is_start ts ≡ false → nat_eq (bodies_left ts + bytes_left ts) 0 ≡ true
+    → grammar start ts ≡ section_grammar (past ts) (start + length (front ts))
+grammar_closed start [] b e = cc
+grammar_closed start (t ∷ ts) b e = closed_at (nat_eq (bodies_left (t ∷ ts) + bytes_left (t ∷ ts)) 0) _ _ e
+  where
+    closed_at : (b : Bool) (g h : Grammar) → b ≡ true → cond b g h ≡ g
+    closed_at true g h e = refl
+    closed_at false g h e = cc
+
+-- what may stand behind tiles that are within a code section
+pub grammar_open : (start : ℕ) (ts : List Tile) → is_start ts ≡ false → nat_eq (bodies_left ts + bytes_left ts) 0 ≡ false
+    → grammar start ts ≡ body_grammar (bodies_left ts) (bytes_left ts) (start + length (front ts))
+grammar_open start [] b e = cc
+grammar_open start (t ∷ ts) b e = open_at (nat_eq (bodies_left (t ∷ ts) + bytes_left (t ∷ ts)) 0) _ _ e
+  where
+    open_at : (b : Bool) (g h : Grammar) → b ≡ false → cond b g h ≡ h
+    open_at true g h e = cc
+    open_at false g h e = refl
+
+-- behind a header there is no frame yet
+pub knows_header : (encoding : Encoding) (bytes : List ℕ) → Knows encoding [] (past (made (header (header_version encoding) encoding) bytes ∷ []))
+knows_header encoding bytes = record {
+  named = refl;
+  ranks = λ r l. and_from (nat_lt 0 r) true (lt-ltb 0 r l) refl;
+  functions = refl;
+  codes = refl;
+  datas = refl;
+  data_counts = refl;
+}
+
+-- a body says nothing
+pub knows_body : (encoding : Encoding) (fs : List Frame) (ts : List Tile) (content bytes : List ℕ) → Knows encoding fs (past ts) → Knows encoding fs (past (made (body content) bytes ∷ ts))
+knows_body encoding fs ts content bytes k = record {
+  named = k.named;
+  ranks = λ r l. ap (λ (b : Bool). b && list_all (λ (t : Tile). nat_lt (tile_rank t.shape) r) ts) (lt-ltb 0 r l) ∙ k.ranks r l;
+  functions = k.functions;
+  codes = k.codes;
+  datas = k.datas;
+  data_counts = k.data_counts;
+}
+
+-- one more frame passes a test with the others
+all_push : (p : Frame → Bool) (fs : List Frame) (f : Frame) → list_all p (fs ++ f ∷ []) ≡ (p f && list_all p fs)
+all_push p fs f = list_all-append p fs (f ∷ []) ∙ (and_comm (list_all p fs) (p f && true) ∙ ap (λ (b : Bool). b && list_all p fs) (and_comm (p f) true))
+
+-- a section of this kind has a count
+abbrev pub IsCounting : Kind → Type 0
+IsCounting custom = ⊥
+IsCounting items = Unit {0}
+IsCounting index = ⊥
+IsCounting data_count = Unit {0}
+IsCounting code = ⊥
+IsCounting unknown = ⊥
+
+-- a section with another id adds no count
+other_count : (n id : ℕ) (k : Kind) (content others : List ℕ) → nat_eq id n ≡ false → count_in n (section k id content) others ≡ others
+other_count n id custom content others e = refl
+other_count n id items content others e = rw e refl
+other_count n id index content others e = refl
+other_count n id data_count content others e = rw e refl
+other_count n id code content others e = refl
+other_count n id unknown content others e = refl
+
+-- a section with this id adds its count
+this_count : (n id : ℕ) (k : Kind) (content others : List ℕ) → nat_eq id n ≡ true → IsCounting k → count_in n (section k id content) others ≡ count_of content ∷ others
+this_count n id custom content others e c = absurd c
+this_count n id items content others e c = rw e refl
+this_count n id index content others e c = absurd c
+this_count n id data_count content others e c = rw e refl
+this_count n id code content others e c = absurd c
+this_count n id unknown content others e c = absurd c
+
+-- a component's section adds no count
+component_count : (n id : ℕ) (content others : List ℕ) → count_in n (section (kind_of Component id) id content) others ≡ others
+component_count n zero content others = refl
+component_count n (suc id) content others = refl
+
+-- a module's section adds its count exactly if it has this id
+module_count : (n id : ℕ) (content others : List ℕ) → IsCounting (kind_of Module n) ⊎ (kind_of Module n ≡ code) → IsWhole (kind_of Module id)
+    → (b : Bool) → nat_eq id n ≡ b → count_in n (section (kind_of Module id) id content) others ≡ cond b (count_of content ∷ []) [] ++ others
+module_count n id content others (inl c) w true e =
+    this_count n id (kind_of Module id) content others e (subst (λ (x : ℕ). IsCounting (kind_of Module x)) (sym (eqb-true id n e)) c)
+module_count n id content others (inr c) w true e =
+    absurd (subst IsWhole (ap (kind_of Module) (eqb-true id n e) ∙ c) w)
+module_count n id content others c w false e = other_count n id (kind_of Module id) content others e
+
+-- a section's tile has the count of its frame
+section_count : (n : ℕ) → IsCounting (kind_of Module n) ⊎ (kind_of Module n ≡ code) → (encoding : Encoding) (f : Frame) (others : List ℕ) → IsWhole (kind_of encoding f.id)
+    → count_in n (section (kind_of encoding f.id) f.id f.sized.content) others ≡ one_count encoding n f ++ others
+section_count n c Module f others w = module_count n f.id f.sized.content others c w (nat_eq f.id n) refl
+section_count n c Component f others w = component_count n f.id f.sized.content others
+
+-- counts with those of one more frame are the counts of all frames
+counts_more : (encoding : Encoding) (n : ℕ) (fs : List Frame) (f : Frame) (old new : List ℕ) → old ≡ counts_of encoding n fs → new ≡ one_count encoding n f ++ old → new ≡ counts_of encoding n (fs ++ f ∷ [])
+counts_more encoding n fs f old new e h = h ∙ (ap (λ (x : List ℕ). one_count encoding n f ++ x) e ∙ sym (counts_push encoding n fs f))
+
+-- a section that is one tile says what its frame says
+pub knows_section : (encoding : Encoding) (fs : List Frame) (ts : List Tile) (f : Frame) (bytes : List ℕ) → IsWhole (kind_of encoding f.id) → Knows encoding fs (past ts)
+    → Knows encoding (fs ++ f ∷ []) (past (made (section (kind_of encoding f.id) f.id f.sized.content) bytes ∷ ts))
+knows_section encoding fs ts f bytes w k = record {
+  named = k.named;
+  ranks = λ r l.
+      ap (λ (b : Bool). nat_lt (frame_rank encoding f) r && b) (k.ranks r l) ∙ sym (all_push (λ (g : Frame). nat_lt (frame_rank encoding g) r) fs f);
+  functions = counts_more encoding 3 fs f (counts 3 ts) _ k.functions (section_count 3 (inl tt) encoding f (counts 3 ts) w);
+  codes = counts_more encoding 10 fs f (counts 10 ts) _ k.codes (section_count 10 (inr refl) encoding f (counts 10 ts) w);
+  datas = counts_more encoding 11 fs f (counts 11 ts) _ k.datas (section_count 11 (inl tt) encoding f (counts 11 ts) w);
+  data_counts = counts_more encoding 12 fs f (counts 12 ts) _ k.data_counts (section_count 12 (inl tt) encoding f (counts 12 ts) w);
+}
+
+-- the head of a code section adds its count exactly if that is asked for
+code_count : (b d : Bool) (c count : ℕ) (others : List ℕ) → d ≡ b → c ≡ count → cond b (count ∷ others) others ≡ cond d (c ∷ []) [] ++ others
+code_count true d c count others e z = rw (e, z) refl
+code_count false d c count others e z = rw e refl
+
+-- the head of a code section says what its frame says
+pub knows_code : (fs : List Frame) (ts : List Tile) (f : Frame) (count width size : ℕ) (bytes : List ℕ) → f.id ≡ 10 → frame_count f ≡ count → Knows Module fs (past ts)
+    → Knows Module (fs ++ f ∷ []) (past (made (code_head count width size) bytes ∷ ts))
+knows_code fs ts f count width size bytes z c k = record {
+  named = k.named;
+  ranks = λ r l.
+      ap (λ (b : Bool). nat_lt (rank_of code 10) r && b) (k.ranks r l)
+      ∙ (ap (λ (x : ℕ). nat_lt (rank_of (kind_of Module x) x) r && list_all (λ (g : Frame). nat_lt (frame_rank Module g) r) fs) (sym z)
+      ∙ sym (all_push (λ (g : Frame). nat_lt (frame_rank Module g) r) fs f));
+  functions = counts_more Module 3 fs f (counts 3 ts) _ k.functions (code_count false (nat_eq f.id 3) (frame_count f) count (counts 3 ts) (ap (λ (x : ℕ). nat_eq x 3) z) c);
+  codes = counts_more Module 10 fs f (counts 10 ts) _ k.codes (code_count true (nat_eq f.id 10) (frame_count f) count (counts 10 ts) (ap (λ (x : ℕ). nat_eq x 10) z) c);
+  datas = counts_more Module 11 fs f (counts 11 ts) _ k.datas (code_count false (nat_eq f.id 11) (frame_count f) count (counts 11 ts) (ap (λ (x : ℕ). nat_eq x 11) z) c);
+  data_counts = counts_more Module 12 fs f (counts 12 ts) _ k.data_counts (code_count false (nat_eq f.id 12) (frame_count f) count (counts 12 ts) (ap (λ (x : ℕ). nat_eq x 12) z) c);
+}

@@ -1,0 +1,174 @@
+-- An accepted stream's reading ends at its end.
+use Rattle.std.proofs.Common.{◌≡◌, ℕ, ◌+◌, ◌-◌, ◌^◌, ◌<◌, ◌≤◌, inl, inr, true, false, List, [], ◌∷◌, ◌++◌, length, nat_eq, refl, sym, ap, subst, ◌∙◌, arith, length-append, append-nil, append_assoc}
+use Rattle.std.specs.List.{All, flat_map}
+use Rattle.std.proofs.lemmas.List.{flat_map_more}
+use Rattle.std.proofs.lemmas.Grind.{flat_map-append}
+use Rattle.std.proofs.lemmas.List.Elements.{All-head, All-tail}
+use Rattle.wasm_parser.specs.declared.payload.Encoding.{Encoding}
+use Rattle.wasm_parser.specs.declared.payload.Encoding.TheVariants.{Module, Component}
+use Rattle.wasm_parser.specs.Content.{Kind, code, kind_of, ended}
+use Rattle.wasm_parser.specs.Grammar.{header, section, code_head, Tile, tile, final, Past, Grammar, verdict, end_of, section_grammar}
+use Rattle.wasm_parser.specs.Tiling.{front, grammar, Faultless, past, bodies_left, bytes_left}
+use Rattle.wasm_parser.specs.Reading.{Reads}
+use Rattle.wasm_parser.specs.Stands.{is_start}
+use Rattle.wasm_parser.specs.Accepted.{sized_bytes, Frame, frame_bytes, IsFrame, IsGood, FitsAfter, CodeDivision, IsAccepted, header_bytes}
+use Rattle.wasm_parser.proofs.TextbookCounts.{Knows}
+use Rattle.wasm_parser.proofs.TextbookContents.{code_id}
+use Rattle.wasm_parser.proofs.TextbookEnds.{end_to}
+use Rattle.wasm_parser.proofs.TextbookTiles.{made, IsWhole, whole_or_code, header_version, header_tile}
+use Rattle.wasm_parser.proofs.TextbookKnows.{grammar_closed, knows_header, knows_section, knows_code}
+use Rattle.wasm_parser.proofs.TextbookSteps.{section_step, code_step, division_count, division_length, Through, bodies_walk}
+
+-- the bytes of a header and these frames
+abbrev pub stream_of : Encoding → List Frame → List ℕ
+stream_of encoding fs = header_bytes encoding ++ flat_map frame_bytes fs
+
+-- tiles that are a header and whole sections: these frames
+pub record Closed (start : ℕ) (encoding : Encoding) (fs : List Frame) (tiles : List Tile) : Type 0 where
+  pub begun : is_start tiles ≡ false
+  pub faultless : Faultless start tiles
+  pub covers : front tiles ≡ stream_of encoding fs
+  pub knows : Knows encoding fs (past tiles)
+  pub closed : nat_eq (bodies_left tiles + bytes_left tiles) 0 ≡ true
+
+-- some tiles are
+pub record Reached (start : ℕ) (encoding : Encoding) (fs : List Frame) : Type 0 where
+  pub tiles : List Tile
+  pub there : Closed start encoding fs tiles
+
+-- a section behind them, as it stands in the stream
+closed_verdict : (start : ℕ) (encoding : Encoding) (fs : List Frame) (ts : List Tile) (c : Closed start encoding fs ts) (bytes : List ℕ) (t : Tile)
+    → verdict (section_grammar (past ts) (start + length (front ts))) bytes ≡ tile t → verdict (grammar start ts) bytes ≡ tile t
+closed_verdict start encoding fs ts c bytes t h = subst (λ (g : Grammar). verdict g bytes ≡ tile t) (sym (grammar_closed start ts c.begun c.closed)) h
+
+-- the bytes of one more frame
+pub stream_more : (encoding : Encoding) (fs : List Frame) (f : Frame) (covered : List ℕ) → covered ≡ stream_of encoding fs → covered ++ frame_bytes f ≡ stream_of encoding (fs ++ f ∷ [])
+stream_more encoding fs f covered e = ap (λ (x : List ℕ). x ++ frame_bytes f) e ∙ flat_map_more frame_bytes (header_bytes encoding) fs f
+
+-- one more frame ends below 2^64
+room_for : (start : ℕ) (encoding : Encoding) (fs : List Frame) (f : Frame) (covered : List ℕ) → covered ≡ stream_of encoding fs → start + length (stream_of encoding (fs ++ f ∷ [])) < 2 ^ 64
+    → (start + length covered) + length (frame_bytes f) < 2 ^ 64
+room_for start encoding fs f covered e r =
+    let l : length covered + length (frame_bytes f) ≡ length (stream_of encoding (fs ++ f ∷ [])) = sym (length-append covered (frame_bytes f)) ∙ ap (λ (x : List ℕ). length x) (stream_more encoding fs f covered e) in
+    omega arith
+
+-- one more frame that fits and is no code section
+whole_step : (start : ℕ) (encoding : Encoding) (fs : List Frame) (f : Frame) → Reached start encoding fs → start + length (stream_of encoding (fs ++ f ∷ [])) < 2 ^ 64 → IsFrame encoding f → FitsAfter encoding fs f
+    → IsWhole (kind_of encoding f.id) → Reached start encoding (fs ++ f ∷ [])
+whole_step start encoding fs f q r i a w =
+    let ts : List Tile = q.tiles in
+    let c : Closed start encoding fs ts = q.there in
+    let v : verdict (grammar start ts) (frame_bytes f) ≡ tile (made (section (kind_of encoding f.id) f.id f.sized.content) (frame_bytes f)) =
+    closed_verdict start encoding fs ts c _ _ (section_step encoding (past ts) fs (start + length (front ts)) f (room_for start encoding fs f (front ts) c.covers r) c.knows i a w) in
+    record {
+      tiles = made (section (kind_of encoding f.id) f.id f.sized.content) (frame_bytes f) ∷ ts;
+      there = record {
+        begun = refl;
+        faultless = (c.faultless, v);
+        covers = stream_more encoding fs f (front ts) c.covers;
+        knows = knows_section encoding fs ts f (frame_bytes f) w c.knows;
+        closed = refl;
+      };
+    }
+
+-- the bytes of a code section's head and bodies are the section's
+code_bytes : (f : Frame) (d : CodeDivision f.sized.content) → f.id ≡ 10 → (covered : List ℕ) → (covered ++ 10 ∷ (f.sized.field ++ d.field)) ++ flat_map sized_bytes d.bodies ≡ covered ++ frame_bytes f
+code_bytes f d z covered =
+    append_assoc covered (10 ∷ (f.sized.field ++ d.field)) (flat_map sized_bytes d.bodies)
+    ∙ (ap (λ (x : List ℕ). covered ++ 10 ∷ x) (append_assoc f.sized.field d.field (flat_map sized_bytes d.bodies))
+    ∙ (ap (λ (x : List ℕ). covered ++ 10 ∷ (f.sized.field ++ x)) (sym d.whole)
+    ∙ ap (λ (n : ℕ). covered ++ n ∷ (f.sized.field ++ f.sized.content)) (sym z)))
+
+-- one more code section that fits
+module_step : (start : ℕ) (fs : List Frame) (f : Frame) → f.id ≡ 10 → CodeDivision f.sized.content → Reached start Module fs → start + length (stream_of Module (fs ++ f ∷ [])) < 2 ^ 64 → IsFrame Module f → FitsAfter Module fs f
+    → Reached start Module (fs ++ f ∷ [])
+module_step start fs f z d q r i a =
+    let ts : List Tile = q.tiles in
+    let c : Closed start Module fs ts = q.there in
+    let n : ℕ = length f.sized.content - length d.field in
+    let hb : List ℕ = 10 ∷ (f.sized.field ++ d.field) in
+    let h : Tile = made (code_head (length d.bodies) (length d.field) n) hb in
+    let v : verdict (grammar start ts) hb ≡ tile h =
+    closed_verdict start Module fs ts c hb h (code_step (past ts) fs (start + length (front ts)) f d z (room_for start Module fs f (front ts) c.covers r) c.knows i a) in
+    let l : length f.sized.content ≡ length d.field + length (flat_map sized_bytes d.bodies) = division_length f d in
+    let t : Through start (h ∷ ts) d.bodies = bodies_walk start d.bodies (h ∷ ts) refl (c.faultless, v) d.each refl (omega arith) in
+    record {
+      tiles = t.tiles;
+      there = record {
+        begun = t.begun;
+        faultless = t.faultless;
+        covers = t.covers ∙ (code_bytes f d z (front ts) ∙ stream_more Module fs f (front ts) c.covers);
+        knows = t.knows Module (fs ++ f ∷ []) (knows_code fs ts f (length d.bodies) (length d.field) n hb z (division_count f d) c.knows);
+        closed = t.closed;
+      };
+    }
+
+-- the same in any encoding
+code_frame : (start : ℕ) (encoding : Encoding) (fs : List Frame) (f : Frame) → encoding ≡ Module → Reached start encoding fs → start + length (stream_of encoding (fs ++ f ∷ [])) < 2 ^ 64 → IsFrame encoding f → FitsAfter encoding fs f
+    → kind_of encoding f.id ≡ code → Reached start encoding (fs ++ f ∷ [])
+code_frame start Module fs f e q r i a k =
+    module_step start fs f (code_id Module f.id k).1 (subst (λ (x : Kind). IsGood x f.sized.content) k i.content) q r i a
+code_frame start Component fs f e q r i a k = cc
+
+-- one more frame that fits
+frame_step : (start : ℕ) (encoding : Encoding) (fs : List Frame) (f : Frame) → Reached start encoding fs → start + length (stream_of encoding (fs ++ f ∷ [])) < 2 ^ 64 → IsFrame encoding f → FitsAfter encoding fs f
+    → Reached start encoding (fs ++ f ∷ [])
+frame_step start encoding fs f q r i a =
+    elim (whole_or_code (kind_of encoding f.id)) [
+      | inl w ↦ whole_step start encoding fs f q r i a w
+      | inr k ↦ code_frame start encoding fs f (code_id encoding f.id k).0 q r i a k
+    ]
+
+-- the first frames are no longer than all
+stream_front : (encoding : Encoding) (fs later : List Frame) → length (stream_of encoding fs) ≤ length (stream_of encoding (fs ++ later))
+stream_front encoding fs later =
+    let e : flat_map frame_bytes (fs ++ later) ≡ flat_map frame_bytes fs ++ flat_map frame_bytes later = flat_map-append frame_bytes fs later in
+    rw e (omega (arith, length-append (header_bytes encoding) (flat_map frame_bytes fs), length-append (header_bytes encoding) (flat_map frame_bytes fs ++ flat_map frame_bytes later), length-append (flat_map frame_bytes fs) (flat_map frame_bytes later)))
+
+-- all frames, from some on
+frames_walk : (start : ℕ) (encoding : Encoding) (all : List Frame) → start + length (stream_of encoding all) < 2 ^ 64
+    → ((earlier later : List Frame) (f : Frame) → all ≡ earlier ++ f ∷ later → FitsAfter encoding earlier f)
+    → (later earlier : List Frame) → earlier ++ later ≡ all → All (IsFrame encoding) later → Reached start encoding earlier → Reached start encoding all
+frames_walk start encoding all r order [] earlier e a q = subst (Reached start encoding) (sym (append-nil earlier) ∙ e) q
+frames_walk start encoding all r order (f ∷ later) earlier e a q =
+    let w : (earlier ++ f ∷ []) ++ later ≡ all = append_assoc earlier (f ∷ []) later ∙ e in
+    let l : length (stream_of encoding (earlier ++ f ∷ [])) ≤ length (stream_of encoding all) = subst (λ (x : List Frame). length (stream_of encoding (earlier ++ f ∷ [])) ≤ length (stream_of encoding x)) w (stream_front encoding (earlier ++ f ∷ []) later) in
+    frames_walk start encoding all r order later (earlier ++ f ∷ []) w (All-tail (IsFrame encoding) f later a)
+    (frame_step start encoding earlier f q (omega arith) (All-head (IsFrame encoding) f later a) (order earlier later f (sym e)))
+
+-- a header is no frame yet
+begins : (start : ℕ) (encoding : Encoding) → Reached start encoding []
+begins start encoding = record {
+  tiles = made (header (header_version encoding) encoding) (header_bytes encoding) ∷ [];
+  there = record {
+    begun = refl;
+    faultless = (tt, header_tile start encoding);
+    covers = sym (append-nil (header_bytes encoding));
+    knows = knows_header encoding (header_bytes encoding);
+    closed = refl;
+  };
+}
+
+-- where a stream may end and nothing follows it ends
+end_verdict : (p : Past) (o : ℕ) → end_of p o ≡ ended o → verdict (section_grammar p o) [] ≡ final (ended o)
+unfolding verdict section_grammar
+end_verdict p o e = ap final e
+
+-- an accepted stream's reading ends at its end
+pub accepted_reads : (stream : List ℕ) (start : ℕ) → start + length stream < 2 ^ 64 → IsAccepted stream → (tiles : List Tile) × Reads stream start tiles (ended (start + length stream))
+accepted_reads stream start r a =
+    let q : Reached start a.encoding a.frames =
+    frames_walk start a.encoding a.frames (subst (λ (x : List ℕ). start + length x < 2 ^ 64) a.whole r) a.order a.frames [] refl a.each (begins start a.encoding) in
+    let c : Closed start a.encoding a.frames q.tiles = q.there in
+    let w : front q.tiles ≡ stream = c.covers ∙ sym a.whole in
+    let o : ℕ = start + length (front q.tiles) in
+    let v : verdict (grammar start q.tiles) [] ≡ final (ended o) =
+    subst (λ (g : Grammar). verdict g [] ≡ final (ended o)) (sym (grammar_closed start q.tiles c.begun c.closed)) (end_verdict (past q.tiles) o (end_to a.encoding a.frames (past q.tiles) c.knows o a.functions a.segments)) in (
+      q.tiles,
+      record {
+        rest = [];
+        whole = sym w ∙ sym (append-nil (front q.tiles));
+        faultless = c.faultless;
+        stops = v ∙ ap (λ (x : List ℕ). final (ended (start + length x))) w;
+      },
+    )

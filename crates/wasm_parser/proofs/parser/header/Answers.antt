@@ -1,0 +1,24 @@
+use Rattle.std.proofs.Common.{◌+◌, Some, ap, arith, ◌∙◌, refl}
+use Rattle.std.proofs.lemmas.Result.{err_from_is_err_and}
+use Rattle.wasm_base.specs.FaultAt.{at_offset}
+use Rattle.wasm_base.specs.Window.{place}
+use Rattle.wasm_base.specs.declared.fault.Fault.TheVariants.{UnknownVersion}
+use Rattle.wasm_parser.proofs.Headers.{ReadHeader, header_read, header_told, header_unnamed, header_refused}
+use Rattle.wasm_parser.proofs.parser.header.Goals as goal
+
+pub returns-in_err-bits : goal.returns-in_err-bits
+returns-in_err-bits c =
+    let e = err_from_is_err_and c.from_residual.result c.from_residual.ensures.1 in
+    rw (e.1, e.2) (header_refused (place c.args.reader.now) _ _ c.in_err-bits.ensures.gives)
+
+pub overflow_add-start : goal.overflow_add-start
+overflow_add-start c =
+    let h : ReadHeader (place c.args.reader.now) c.in_ok-bits.bits _ = header_read (place c.args.reader.now) c.in_ok-bits.bits _ c.in_ok-bits.ensures.gives in
+    omega (arith, h.there, c.original_position-start.ensures.fits)
+
+pub returns-in-Some : goal.returns-in-Some
+returns-in-Some c = header_told (place c.args.reader.now) c.in_ok-bits.bits (place c.read_header_version.new.self) c.in-Some.encoding _ c.in_ok-bits.ensures.gives c.in-Some.ensures (rw (c.original_position-start.ensures.offset, c.original_position.ensures.offset) refl)
+
+pub returns-in-None : goal.returns-in-None
+returns-in-None c = header_unnamed (place c.args.reader.now) c.in_ok-bits.bits (place c.read_header_version.new.self) c.with_number.result c.in_ok-bits.ensures.gives c.in-None.ensures
+    (c.with_number.ensures.told ∙ (λ i. record { fault = (c.new.ensures.told i).fault; offset = ((c.new.ensures.told ∙ ap (λ o. at_offset UnknownVersion (o + 4)) c.original_position-start.ensures.offset) i).offset; number = Some (c.from.ensures i) }))

@@ -1,0 +1,93 @@
+-- The streams that have no fault: a header, and then nothing but sections. Core specification, Binary format, Modules.
+use Rattle.std.specs.Prelude.{◌≡◌, ℕ, ◌<◌, ◌⊎◌, List, [], ◌∷◌, ◌++◌, length, All, Any, flat_map, Some}
+use Rattle.wasm_base.specs.Name.{named, name_limit, name}
+use Rattle.wasm_base.specs.Number.{read, number}
+use Rattle.wasm_base.specs.declared.fault.NumberKind.TheVariants.{VarU32}
+use Rattle.wasm_parser.specs.Content.{Kind, custom, items, index, data_count, code, unknown, kind_of, rank_of, count_of}
+use Rattle.wasm_parser.specs.declared.payload.Encoding.{Encoding}
+use Rattle.wasm_parser.specs.declared.payload.Encoding.TheVariants.{Module, Component}
+
+-- the eight bytes that begin a stream
+abbrev pub header_bytes : Encoding → List ℕ
+header_bytes Module = 0x00 ∷ 0x61 ∷ 0x73 ∷ 0x6d ∷ 0x01 ∷ 0x00 ∷ 0x00 ∷ 0x00 ∷ []
+header_bytes Component = 0x00 ∷ 0x61 ∷ 0x73 ∷ 0x6d ∷ 0x0d ∷ 0x00 ∷ 0x01 ∷ 0x00 ∷ []
+
+-- These bytes are one u32 with this value.
+abbrev pub IsNumber : List ℕ → ℕ → Type 0
+IsNumber field n = number VarU32 field ≡ read n (length field)
+
+-- bytes behind the field that says how many they are: a body, or a section's content
+pub record Sized : Type 0 where
+  pub field : List ℕ
+  pub content : List ℕ
+
+abbrev pub sized_bytes : Sized → List ℕ
+sized_bytes s = s.field ++ s.content
+
+abbrev pub IsSized : Sized → Type 0
+IsSized s = IsNumber s.field (length s.content)
+
+-- a section: its id, and its length and content
+pub record Frame : Type 0 where
+  pub id : ℕ
+  pub sized : Sized
+
+abbrev pub frame_bytes : Frame → List ℕ
+frame_bytes f = f.id ∷ sized_bytes f.sized
+
+-- The content of a code section is a count and that many bodies, and nothing else.
+pub record CodeDivision (content : List ℕ) : Type 0 where
+  pub field : List ℕ
+  pub bodies : List Sized
+  pub whole : content ≡ field ++ flat_map sized_bytes bodies
+  pub count : IsNumber field (length bodies)
+  pub each : All IsSized bodies
+
+-- The content begins as its kind wants, and is no longer where its kind is one number.
+abbrev pub IsGood : Kind → List ℕ → Type 0
+IsGood custom content = (text : List ℕ) × (used : ℕ) × (name (Some name_limit) content ≡ named text used)
+IsGood items content = (n : ℕ) × (used : ℕ) × (number VarU32 content ≡ read n used)
+IsGood index content = (n : ℕ) × IsNumber content n
+IsGood data_count content = (n : ℕ) × IsNumber content n
+IsGood code content = CodeDivision content
+IsGood unknown content = Unit {0}
+
+-- a good section
+pub record IsFrame (encoding : Encoding) (f : Frame) : Type 0 where
+  pub id : f.id < 128
+  pub sized : IsSized f.sized
+  pub content : IsGood (kind_of encoding f.id) f.sized.content
+
+-- the count or index that a section begins with
+abbrev pub frame_count : Frame → ℕ
+frame_count f = count_of f.sized.content
+
+-- its rank, or 0
+abbrev pub frame_rank : Encoding → Frame → ℕ
+frame_rank encoding f = rank_of (kind_of encoding f.id) f.id
+
+-- a module's section with this id
+abbrev pub IsSection : Encoding → ℕ → Frame → Type 0
+IsSection encoding id f = (encoding ≡ Module) × (f.id ≡ id)
+
+-- The section may stand behind these earlier ones: it ranks above each of them, if it has a rank; a code section has
+-- as many bodies as there are functions, and a data section as many segments as were announced.
+pub record FitsAfter (encoding : Encoding) (earlier : List Frame) (f : Frame) : Type 0 where
+  pub ranks : 0 < frame_rank encoding f → All (λ g. frame_rank encoding g < frame_rank encoding f) earlier
+  pub bodies : IsSection encoding 10 f → All (λ g. IsSection encoding 3 g → frame_count g ≡ frame_count f) earlier
+  pub functions : IsSection encoding 10 f → Any (IsSection encoding 3) earlier ⊎ (frame_count f ≡ 0)
+  pub segments : IsSection encoding 11 f → All (λ g. IsSection encoding 12 g → frame_count g ≡ frame_count f) earlier
+
+-- No section with this id has a count above 0, unless there is a section with the other id.
+abbrev pub IsMatched : Encoding → (id other : ℕ) → List Frame → Type 0
+IsMatched encoding id other frames = All (λ f. IsSection encoding id f → 0 < frame_count f → Any (IsSection encoding other) frames) frames
+
+-- a header, and then nothing but good sections in their order, none of which misses its other section
+pub record IsAccepted (stream : List ℕ) : Type 0 where
+  pub encoding : Encoding
+  pub frames : List Frame
+  pub whole : stream ≡ header_bytes encoding ++ flat_map frame_bytes frames
+  pub each : All (IsFrame encoding) frames
+  pub order : (earlier later : List Frame) (f : Frame) → frames ≡ earlier ++ f ∷ later → FitsAfter encoding earlier f
+  pub functions : IsMatched encoding 3 10 frames
+  pub segments : IsMatched encoding 12 11 frames

@@ -1,0 +1,90 @@
+-- Sections by their id, and what their contents begin with. Core specification, Binary format, Modules, Sections.
+use Rattle.std.specs.Prelude.{ℕ, ◌+◌, Bool, true, false, List, [], ◌∷◌, length, slice_index, slice_index_or, Option, Some, None, nat_lt}
+use Rattle.wasm_base.specs.FaultAt.{FaultAt, at_offset}
+use Rattle.wasm_base.specs.Name.{Name, named, refused, name_limit, name}
+use Rattle.wasm_base.specs.Number.{Number, read, bad, short, number}
+use Rattle.wasm_base.specs.declared.fault.Fault.{Fault}
+use Rattle.wasm_base.specs.declared.fault.Fault.TheVariants.{UnexpectedEof, StartContent, DataCountContent}
+use Rattle.wasm_base.specs.declared.fault.NumberKind.TheVariants.{VarU32}
+use Rattle.wasm_parser.specs.declared.payload.Encoding.{Encoding}
+use Rattle.wasm_parser.specs.declared.payload.Encoding.TheVariants.{Module, Component}
+
+-- the forms of a section
+pub data Kind : Type 0 where
+  -- a name, then any bytes
+  custom : Kind
+  -- a count, then so many items
+  items : Kind
+  -- one index
+  index : Kind
+  -- one count
+  data_count : Kind
+  -- a count, then so many bodies
+  code : Kind
+  -- any bytes
+  unknown : Kind
+
+-- the kind of the section with this id: a module has 0 to 13, a component only 0
+abbrev pub kind_of : Encoding → ℕ → Kind
+kind_of Module id = slice_index_or (custom ∷ items ∷ items ∷ items ∷ items ∷ items ∷ items ∷ items ∷ index ∷ items ∷ code ∷ items ∷ data_count ∷ items ∷ []) id unknown
+kind_of Component id = slice_index_or (custom ∷ []) id unknown
+
+-- by id, the places of the sections in their order, counted from 1: type, import, function, table, memory, tag,
+-- global, export, start, element, data count, code, data. Section 0 stands anywhere.
+abbrev pub ranks : List ℕ
+ranks = 0 ∷ 1 ∷ 2 ∷ 3 ∷ 4 ∷ 5 ∷ 7 ∷ 8 ∷ 9 ∷ 10 ∷ 12 ∷ 13 ∷ 11 ∷ 6 ∷ []
+
+-- the rank of a section of this kind, or 0: it may stand anywhere
+abbrev pub rank_of : Kind → ℕ → ℕ
+rank_of custom id = 0
+rank_of unknown id = 0
+rank_of items id = slice_index ranks id
+rank_of index id = slice_index ranks id
+rank_of data_count id = slice_index ranks id
+rank_of code id = slice_index ranks 10
+
+-- how a stream ends: at a fault, or at its end
+pub data Ending : Type 0 where
+  fault : FaultAt → Ending
+  ended : (offset : ℕ) → Ending
+
+-- this fault, if the test holds
+abbrev pub when : Bool → FaultAt → Option FaultAt
+when true e = Some e
+when false e = None
+
+-- what is wrong with a number that begins at this offset, in bytes that end behind it
+abbrev pub wrong_number : (offset : ℕ) (bytes : List ℕ) → Number → Option FaultAt
+wrong_number offset bytes (read value used) = None
+wrong_number offset bytes (bad f place) = Some (at_offset f (offset + place))
+wrong_number offset bytes short = Some (at_offset UnexpectedEof (offset + length bytes))
+
+-- the same for content that is one number, and this if bytes are left
+abbrev pub wrong_single : Fault → (offset : ℕ) (bytes : List ℕ) → Number → Option FaultAt
+wrong_single left offset bytes (read value used) = when (nat_lt used (length bytes)) (at_offset left (offset + used))
+wrong_single left offset bytes (bad f place) = Some (at_offset f (offset + place))
+wrong_single left offset bytes short = Some (at_offset UnexpectedEof (offset + length bytes))
+
+-- the same for a name
+abbrev pub wrong_name : (offset : ℕ) → Name → Option FaultAt
+wrong_name offset (named text used) = None
+wrong_name offset (refused f place) = Some (at_offset f (offset + place))
+
+-- what is wrong with a section's content, which begins at this offset
+unfoldable pub wrong_content : Kind → (offset : ℕ) (content : List ℕ) → Option FaultAt
+wrong_content custom offset content = wrong_name offset (name (Some name_limit) content)
+wrong_content items offset content = wrong_number offset content (number VarU32 content)
+wrong_content index offset content = wrong_single StartContent offset content (number VarU32 content)
+wrong_content data_count offset content = wrong_single DataCountContent offset content (number VarU32 content)
+wrong_content code offset content = None
+wrong_content unknown offset content = None
+
+-- the value of a number, or 0
+abbrev pub value_of : Number → ℕ
+value_of (read value used) = value
+value_of (bad f place) = 0
+value_of short = 0
+
+-- the count or index that content begins with
+abbrev pub count_of : List ℕ → ℕ
+count_of content = value_of (number VarU32 content)

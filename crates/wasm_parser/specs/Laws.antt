@@ -1,0 +1,64 @@
+-- Laws of the definitions of framing.
+use Rattle.std.specs.Prelude.{◌≡◌, ℕ, ◌+◌, ◌<◌, ◌≤◌, ◌↔◌, List, [], ◌∷◌, ◌++◌, length}
+use Rattle.wasm_parser.specs.Accepted.{IsAccepted}
+use Rattle.wasm_base.specs.FaultAt.{FaultAt}
+use Rattle.wasm_parser.specs.Content.{Ending, fault, ended}
+use Rattle.wasm_parser.specs.Grammar.{Tile, tile, verdict}
+use Rattle.wasm_parser.specs.Moved.{moved_events, PassesTheTop}
+use Rattle.wasm_parser.specs.Reading.{Event, events_of, last_event, Reads, Reading}
+use Rattle.wasm_parser.specs.Spans.{consumed_by, EndToEnd}
+use Rattle.wasm_parser.specs.Stands.{Stand, Stands, grammar_of, passed}
+use Rattle.wasm_parser.specs.Stream.{Stream}
+use Rattle.wasm_parser.specs.Tiling.{front, grammar, Faultless}
+
+-- two readings of one stream are one
+abbrev pub OneReading : Type 0
+OneReading = (stream : List ℕ) (start features : ℕ) (xs ys : List Event) → Reading stream start features xs → Reading stream start features ys → xs ≡ ys
+
+-- every stream has a reading
+abbrev pub SomeReading : Type 0
+SomeReading = (stream : List ℕ) (start features : ℕ) → (events : List Event) × Reading stream start features events
+
+-- what a tile is depends on its own bytes alone, of which there is at least one
+abbrev pub TilesStandAlone : Type 0
+TilesStandAlone = (start : ℕ) (tiles : List Tile) (rest : List ℕ) (t : Tile) → Faultless start tiles → verdict (grammar start tiles) rest ≡ tile t
+    → (0 < length t.bytes) × ((more : List ℕ) → verdict (grammar start tiles) (t.bytes ++ more) ≡ tile t) × ((others : List ℕ) × (rest ≡ t.bytes ++ others))
+
+-- what may stand behind a front depends on what a parser that stands there knows, and a parser that passes what stands
+-- there stands behind it
+abbrev pub ParserSuffices : Type 0
+ParserSuffices = (parser : Stand) (start : ℕ) (covered : List ℕ) (s : Stands parser start covered) →
+    (grammar_of parser ≡ grammar start s.tiles)
+    × ((rest : List ℕ) (t : Tile) → verdict (grammar_of parser) rest ≡ tile t → Stands (passed parser t) start (covered ++ t.bytes))
+
+-- the reading of a stream ends at its end exactly if the stream is accepted
+abbrev pub AcceptedEnds : Type 0
+AcceptedEnds = (stream : List ℕ) (start : ℕ) → Stream stream start
+    → IsAccepted stream ↔ ((tiles : List Tile) × Reads stream start tiles (ended (start + length stream)))
+
+-- the reading of a stream ends with a fault exactly if the stream is not accepted
+abbrev pub FaultEnds : Type 0
+FaultEnds = (stream : List ℕ) (start : ℕ) → Stream stream start
+    → (¬ IsAccepted stream) ↔ ((tiles : List Tile) × (f : FaultAt) × Reads stream start tiles (fault f))
+
+-- a fault lies in the stream, or at its end
+abbrev pub FaultLiesWithin : Type 0
+FaultLiesWithin = (stream : List ℕ) (start : ℕ) (tiles : List Tile) (f : FaultAt) → Reads stream start tiles (fault f)
+    → (start + length (front tiles) ≤ f.offset) × (f.offset ≤ start + length stream)
+
+-- the tiles of a reading are the longest faultless tiling of its stream: every other is a beginning of it
+abbrev pub LongestTiling : Type 0
+LongestTiling = (stream : List ℕ) (start : ℕ) (tiles others : List Tile) (end : Ending) (rest : List ℕ) → Reads stream start tiles end → Faultless start others → stream ≡ front others ++ rest
+    → (later : List Tile) × (tiles ≡ later ++ others)
+
+-- events stand end to end in their stream, and their windows are its parts; what they consumed, joined, is the stream
+-- up to where the reading stops
+abbrev pub EventsLieEndToEnd : Type 0
+EventsLieEndToEnd = (stream : List ℕ) (start features : ℕ) (tiles : List Tile) (end : Ending) → Reads stream start tiles end
+    → EndToEnd stream start start (events_of start features tiles ++ last_event end ∷ []) × (consumed_by (events_of start features tiles ++ last_event end ∷ []) ≡ front tiles)
+
+-- the start offset only moves offsets: the reading of a stream that starts so much later has the same events with
+-- every offset moved, unless a section passes the top of the offsets there
+abbrev pub StartOnlyMoves : Type 0
+StartOnlyMoves = (stream : List ℕ) (start by features : ℕ) (xs ys : List Event) (x : Reading stream start features xs) (y : Reading stream (start + by) features ys) → ¬ PassesTheTop y.end
+    → ys ≡ moved_events by xs

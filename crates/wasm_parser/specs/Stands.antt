@@ -1,0 +1,107 @@
+-- Where a parser stands in a stream.
+use Rattle.std.specs.Prelude.{◌≡◌, ℕ, zero, suc, ◌+◌, max, Bool, true, false, List, [], ◌∷◌, length, option_to_list, Option, Some, None, nat_lt, nat_eq, if◌then◌else◌}
+use Rattle.wasm_parser.specs.declared.payload.Encoding.{Encoding}
+use Rattle.wasm_parser.specs.declared.payload.Encoding.TheVariants.{Module}
+use Rattle.wasm_parser.specs.Content.{items, data_count, custom, index, code, unknown, count_of}
+use Rattle.wasm_parser.specs.Grammar.{Shape, header, section, code_head, body, Tile, Past, Grammar, header_grammar}
+use Rattle.wasm_parser.specs.Tiling.{front, Faultless, inside, encoding_of, encoding_in, tile_rank, counts, bodies_left, bytes_left, bodies_after, bytes_after}
+
+-- the greatest rank of these tiles
+abbrev pub greatest : List Tile → ℕ
+greatest [] = 0
+greatest (t ∷ earlier) = max (tile_rank t.shape) (greatest earlier)
+
+-- whether there are none
+abbrev pub is_start : List Tile → Bool
+is_start [] = true
+is_start (t ∷ earlier) = false
+
+-- what a parser knows of the part of a stream that it has passed
+pub record Stand : Type 0 where
+  pub offset : ℕ
+  pub features : ℕ
+  pub expects_header : Bool
+  pub encoding : Encoding
+  -- the greatest rank of a section, or 0
+  pub rank : ℕ
+  -- the counts of the function, code, data and data count sections
+  pub functions : Option ℕ
+  pub codes : Option ℕ
+  pub datas : Option ℕ
+  pub data_counts : Option ℕ
+  -- the bodies and bytes that a code section still misses
+  pub bodies : ℕ
+  pub left : ℕ
+
+-- a parser that has passed no code section and no data section
+abbrev pub stand_before_code : (offset features : ℕ) → Bool → Encoding → (rank : ℕ) (functions data_counts : Option ℕ) → Stand
+stand_before_code offset features expects_header encoding rank functions data_counts =
+    record { offset = offset; features = features; expects_header = expects_header; encoding = encoding; rank = rank; functions = functions; codes = None; datas = None; data_counts = data_counts; bodies = 0; left = 0 }
+
+-- a parser that has passed nothing of a stream
+abbrev pub new_stand : (offset features : ℕ) → Stand
+new_stand offset features = stand_before_code offset features true Module 0 None None
+
+-- The parser stands behind this front of a stream that starts at this offset.
+pub record Stands (p : Stand) (start : ℕ) (covered : List ℕ) : Type 0 where
+  pub tiles : List Tile
+  pub faultless : Faultless start tiles
+  pub covers : front tiles ≡ covered
+  pub offset : p.offset ≡ start + length covered
+  pub expects_header : p.expects_header ≡ is_start tiles
+  pub encoding : p.encoding ≡ encoding_of tiles
+  pub rank : p.rank ≡ greatest tiles
+  pub functions : option_to_list p.functions ≡ counts 3 tiles
+  pub codes : option_to_list p.codes ≡ counts 10 tiles
+  pub datas : option_to_list p.datas ≡ counts 11 tiles
+  pub data_counts : option_to_list p.data_counts ≡ counts 12 tiles
+  pub bodies : p.bodies ≡ bodies_left tiles
+  pub left : p.left ≡ bytes_left tiles
+
+-- what a parser knows of the tiles before
+abbrev pub past_of : Stand → Past
+past_of p = record {
+  encoding = p.encoding;
+  may_follow = λ r. nat_lt p.rank r;
+  functions = option_to_list p.functions;
+  codes = option_to_list p.codes;
+  datas = option_to_list p.datas;
+  data_counts = option_to_list p.data_counts;
+}
+
+-- what may stand where the parser stands
+abbrev pub grammar_of : Stand → Grammar
+grammar_of p = if p.expects_header then header_grammar p.offset else inside (past_of p) p.bodies p.left p.offset
+
+-- the count that is known of the section with this id, behind one more tile
+abbrev pub count_after : ℕ → Shape → Option ℕ → Option ℕ
+count_after n (section items id content) old = if nat_eq id n then Some (count_of content) else old
+count_after n (section data_count id content) old = if nat_eq id n then Some (count_of content) else old
+count_after n (section custom id content) old = old
+count_after n (section index id content) old = old
+count_after n (section code id content) old = old
+count_after n (section unknown id content) old = old
+count_after n (code_head count width size) old = if nat_eq 10 n then Some count else old
+count_after n (header version encoding) old = old
+count_after n (body content) old = old
+
+-- the greatest rank, behind one more tile
+abbrev pub rank_after : ℕ → ℕ → ℕ
+rank_after zero old = old
+rank_after (suc r) old = suc r
+
+-- the parser behind one more tile
+abbrev pub passed : Stand → Tile → Stand
+passed p t = record {
+  offset = p.offset + length t.bytes;
+  features = p.features;
+  expects_header = false;
+  encoding = encoding_in t.shape p.encoding;
+  rank = rank_after (tile_rank t.shape) p.rank;
+  functions = count_after 3 t.shape p.functions;
+  codes = count_after 10 t.shape p.codes;
+  datas = count_after 11 t.shape p.datas;
+  data_counts = count_after 12 t.shape p.data_counts;
+  bodies = bodies_after t.shape p.bodies;
+  left = bytes_after t t.shape p.left;
+}

@@ -1,0 +1,97 @@
+-- The tiles of a stream.
+use Rattle.std.specs.Prelude.{◌≡◌, ℕ, ◌+◌, ◌-◌, List, [], ◌∷◌, ◌++◌, length, nat_lt, nat_eq, if◌then◌else◌}
+use Rattle.std.specs.List.{list_all}
+use Rattle.wasm_parser.specs.Content.{items, data_count, custom, index, code, unknown, rank_of, count_of}
+use Rattle.wasm_parser.specs.Grammar.{Shape, header, section, code_head, body, Tile, tile, Past, Grammar, verdict, header_grammar, section_grammar, body_grammar}
+use Rattle.wasm_parser.specs.declared.payload.Encoding.{Encoding}
+use Rattle.wasm_parser.specs.declared.payload.Encoding.TheVariants.{Module}
+
+-- Tiles are listed from the newest to the oldest: `t ∷ earlier` is a tile and all those before it.
+
+-- the bytes that they cover
+abbrev pub front : List Tile → List ℕ
+front [] = []
+front (t ∷ earlier) = front earlier ++ t.bytes
+
+-- the encoding that the header names
+abbrev pub encoding_in : Shape → Encoding → Encoding
+encoding_in (header version encoding) other = encoding
+encoding_in (section kind id content) other = other
+encoding_in (code_head count width size) other = other
+encoding_in (body content) other = other
+
+abbrev pub encoding_of : List Tile → Encoding
+encoding_of [] = Module
+encoding_of (t ∷ earlier) = encoding_in t.shape (encoding_of earlier)
+
+-- the rank of a tile, where it has one
+abbrev pub tile_rank : Shape → ℕ
+tile_rank (section kind id content) = rank_of kind id
+tile_rank (code_head count width size) = rank_of code 10
+tile_rank (header version encoding) = 0
+tile_rank (body content) = 0
+
+-- the count of a section with this id, before other counts
+abbrev pub count_in : ℕ → Shape → List ℕ → List ℕ
+count_in n (section items id content) others = if nat_eq id n then count_of content ∷ others else others
+count_in n (section data_count id content) others = if nat_eq id n then count_of content ∷ others else others
+count_in n (section custom id content) others = others
+count_in n (section index id content) others = others
+count_in n (section code id content) others = others
+count_in n (section unknown id content) others = others
+count_in n (code_head count width size) others = if nat_eq 10 n then count ∷ others else others
+count_in n (header version encoding) others = others
+count_in n (body content) others = others
+
+-- the counts of the sections with this id
+abbrev pub counts : ℕ → List Tile → List ℕ
+counts n [] = []
+counts n (t ∷ earlier) = count_in n t.shape (counts n earlier)
+
+-- the bodies that a code section still misses, and the bytes
+abbrev pub bodies_after : Shape → ℕ → ℕ
+bodies_after (code_head count width size) earlier = count
+bodies_after (body content) earlier = earlier - 1
+bodies_after (header version encoding) earlier = 0
+bodies_after (section kind id content) earlier = 0
+
+abbrev pub bytes_after : Tile → Shape → ℕ → ℕ
+bytes_after t (code_head count width size) earlier = size
+bytes_after t (body content) earlier = earlier - length t.bytes
+bytes_after t (header version encoding) earlier = 0
+bytes_after t (section kind id content) earlier = 0
+
+abbrev pub bodies_left : List Tile → ℕ
+bodies_left [] = 0
+bodies_left (t ∷ earlier) = bodies_after t.shape (bodies_left earlier)
+
+abbrev pub bytes_left : List Tile → ℕ
+bytes_left [] = 0
+bytes_left (t ∷ earlier) = bytes_after t t.shape (bytes_left earlier)
+
+-- what the tiles say to a section behind them: it ranks above each of them, and the counts agree
+abbrev pub past : List Tile → Past
+past tiles = record {
+  encoding = encoding_of tiles;
+  may_follow = λ r. list_all (λ t. nat_lt (tile_rank t.shape) r) tiles;
+  functions = counts 3 tiles;
+  codes = counts 10 tiles;
+  datas = counts 11 tiles;
+  data_counts = counts 12 tiles;
+}
+
+-- what may stand at this offset: a body where a code section isn't at its end, a section elsewhere
+abbrev pub inside : Past → (bodies left offset : ℕ) → Grammar
+inside before bodies left offset =
+    if nat_eq (bodies + left) 0 then section_grammar before offset else body_grammar bodies left offset
+
+-- what may stand behind these tiles of a stream that starts at this offset
+abbrev pub grammar : (start : ℕ) → List Tile → Grammar
+grammar start [] = header_grammar start
+grammar start (t ∷ earlier) =
+    inside (past (t ∷ earlier)) (bodies_left (t ∷ earlier)) (bytes_left (t ∷ earlier)) (start + length (front (t ∷ earlier)))
+
+-- each tile is what its bytes are, behind the earlier ones
+abbrev pub Faultless : (start : ℕ) → List Tile → Type 0
+Faultless start [] = Unit {0}
+Faultless start (t ∷ earlier) = Faultless start earlier × (verdict (grammar start earlier) t.bytes ≡ tile t)

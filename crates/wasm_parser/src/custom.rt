@@ -1,0 +1,97 @@
+// Custom sections.
+ghost use Rattle.std.specs.Prelude.{◌≡◌, ◌+◌, length};
+ghost use Rattle.wasm_base.specs.Window.{place, whole_window};
+
+use std::fmt;
+use std::marker::Model;
+use std::ops::Range;
+use wasm_base::{BinaryReader, Result};
+
+/// A custom section: its name, and its data behind it (core specification, Binary format, Custom Section).
+#[derive(Clone, Drop)]
+pub(crate) struct CustomSectionReader<'a> {
+    name: &'a str,
+    reader: BinaryReader<'a>,
+}
+
+impl<'a> Model for CustomSectionReader<'a> {
+    ghost use Rattle.wasm_parser.specs.Custom.{Custom};
+
+    ghost Value = { Custom };
+
+    ghost view = { λ s. record { name = s.name.now; reader = s.reader } };
+}
+
+impl<'a> CustomSectionReader<'a> {
+    ghost use Rattle.wasm_parser.specs.Custom.{ReadsCustom};
+
+    /// Reads the name; what is left is the data. The faults are those of a name.
+    pub(crate) fn new(mut reader: BinaryReader<'a>) -> Result<Self>
+        ensures { ReadsCustom reader.entry result }
+    {
+        let name = reader.read_string()?;
+        Ok(CustomSectionReader { name, reader })
+    }
+
+    /// The section's name.
+    pub(crate) fn name(&self) -> &'a str
+        ensures { result.now ≡ self.now.name }
+    {
+        self.name
+    }
+
+    /// The bytes behind the name.
+    pub(crate) fn data(&self) -> &'a [u8]
+        ensures { result.now ≡ (place self.now.reader).rest }
+    {
+        self.reader.remaining_buffer()
+    }
+
+    /// The stream offset at which the data begins.
+    pub(crate) fn data_offset(&self) -> u64
+        ensures { result ≡ (place self.now.reader).offset }
+    {
+        self.reader.original_position()
+    }
+
+    /// The stream offsets of the data.
+    pub(crate) fn data_range(&self) -> Range<u64>
+        ensures { result ≡ record { start = (place self.now.reader).offset; end = self.now.reader.start + length self.now.reader.bytes } }
+    {
+        self.reader.remaining_range()
+    }
+
+    /// The stream offsets of the name, its size and the data.
+    pub(crate) fn range(&self) -> Range<u64>
+        ensures { result ≡ record { start = self.now.reader.start; end = self.now.reader.start + length self.now.reader.bytes } }
+    {
+        self.reader.range()
+    }
+
+    /// A reader of the data.
+    pub(crate) fn data_reader(&self) -> BinaryReader<'a>
+        ensures { result ≡ whole_window (place self.now.reader) }
+    {
+        self.reader.shrink()
+    }
+}
+
+/// A text that stands for bytes that are not printed.
+pub(crate) struct Dots;
+
+impl fmt::Debug for Dots {
+    fn fmt<W: fmt::Write>(&self, f: &mut fmt::Formatter<W>) -> fmt::Result {
+        f.write_str("\"...\"")
+    }
+}
+
+impl<'a> fmt::Debug for CustomSectionReader<'a> {
+    fn fmt<W: fmt::Write>(&self, f: &mut fmt::Formatter<W>) -> fmt::Result {
+        f.debug_struct("CustomSectionReader")
+            .field("name", &self.name)
+            .field("data_offset", &self.data_offset())
+            .field("data", &Dots)
+            .field("range", &self.range())
+            .finish()
+    }
+}

@@ -1,0 +1,68 @@
+//! Laws of the definitions of framing, each the contract of a function that does nothing.
+ghost use Rattle.wasm_parser.specs.Laws.{AcceptedEnds, EventsLieEndToEnd, FaultEnds, FaultLiesWithin, LongestTiling, OneReading, ParserSuffices, SomeReading, StartOnlyMoves, TilesStandAlone};
+ghost use Rattle.wasm_parser.specs.Worked.{EdgesOfRules, WorkedStreams};
+
+/// Two readings of one stream are one.
+pub fn one_reading()
+    ensures { OneReading }
+{}
+
+/// Every stream has a reading.
+pub fn some_reading()
+    ensures { SomeReading }
+{}
+
+/// The reading of a stream ends at its end exactly if the stream is accepted: a header, and then nothing but good
+/// sections in their order.
+pub fn accepted_ends()
+    ensures { AcceptedEnds }
+{}
+
+/// The reading of a stream ends with a fault exactly if the stream is not accepted.
+pub fn fault_ends()
+    ensures { FaultEnds }
+{}
+
+/// A fault lies in the stream behind the tiles before it, or at its end.
+pub fn fault_lies_within()
+    ensures { FaultLiesWithin }
+{}
+
+/// The tiles of a reading are the longest faultless tiling of its stream: every other is a beginning of it.
+pub fn longest_tiling()
+    ensures { LongestTiling }
+{}
+
+/// The events of a reading stand end to end in its stream, and their windows are its parts at their own offsets; the
+/// bytes that they consumed, joined, are the stream up to where the reading stops.
+pub fn events_lie_end_to_end()
+    ensures { EventsLieEndToEnd }
+{}
+
+/// The start offset only moves offsets: the reading of a stream that starts later has the same events with every offset
+/// moved, unless a section passes the top of the offsets there.
+pub fn start_only_moves()
+    ensures { StartOnlyMoves }
+{}
+
+/// What a tile is depends on its own bytes alone: it stands behind the same tiles in every stream that has its bytes
+/// there.
+pub fn tiles_stand_alone()
+    ensures { TilesStandAlone }
+{}
+
+/// What may stand behind a front of a stream depends on what a parser that stands there knows, and a parser that
+/// passes what stands there stands behind it.
+pub fn parser_suffices()
+    ensures { ParserSuffices }
+{}
+
+/// Worked streams have the readings that were computed by hand.
+pub fn worked_streams()
+    ensures { WorkedStreams }
+{}
+
+/// Streams at the edges of the rules have the readings, or end as they do, by hand.
+pub fn edges_of_rules()
+    ensures { EdgesOfRules }
+{}
