@@ -1,5 +1,5 @@
 -- Contents that are one number, or begin with a count.
-use Rattle.std.proofs.Common.{◌≡◌, ℕ, ◌+◌, ◌<◌, true, false, length, take, drop, Some, None, Result, Ok, Err, nat_lt, nat_eq, refl, sym, ap, subst, ◌∙◌, arith, add-zero, lt-ltb, le-ltb, length-drop}
+use Rattle.std.proofs.Common.{◌≡◌, ℕ, ◌+◌, ◌<◌, Bool, true, false, List, length, take, drop, Option, Some, None, IfSome, Result, Ok, Err, nat_lt, nat_eq, refl, sym, ap, subst, ◌∙◌, arith, add-zero, lt-ltb, le-ltb, length-drop}
 use Rattle.std.proofs.lemmas.Bool.Decides.{nat_tests}
 use Rattle.std.proofs.lemmas.List.{length-take-le}
 use Rattle.wasm_base.specs.FaultAt.{FaultAt, fault_at, at_offset}
@@ -8,17 +8,18 @@ use Rattle.wasm_base.specs.Section.{Section}
 use Rattle.wasm_base.specs.Window.{Window, Place, place, advanced, KeepsWindow}
 use Rattle.wasm_base.specs.declared.error.Error.{Error}
 use Rattle.wasm_base.specs.declared.fault.Fault.{Fault}
-use Rattle.wasm_base.specs.declared.fault.Fault.TheVariants.{UnexpectedEof, StartContent, DataCountContent}
+use Rattle.wasm_base.specs.declared.fault.Fault.TheVariants.{UnexpectedEof, StartContent, DataCountContent, DataCountDiffer}
 use Rattle.wasm_base.specs.declared.fault.NumberKind.TheVariants.{VarU32}
-use Rattle.wasm_parser.specs.Answers.{told_by, StandsThere}
-use Rattle.wasm_parser.specs.Content.{items, index, data_count, wrong_number, wrong_single, wrong_content, value_of, count_of}
+use Rattle.wasm_parser.specs.Answers.{unread, counted_by, told_by, BeginsBehindCount, items_in, ItemsBegin, IsPayload, StandsThere}
+use Rattle.wasm_parser.specs.Content.{items, index, data_count, wrong_number, wrong_single, when, wrong_content, value_of, count_of}
 use Rattle.wasm_parser.specs.ContentAt.{content_at}
-use Rattle.wasm_parser.specs.Grammar.{Past, whole_grammar}
-use Rattle.wasm_parser.specs.Reading.{counted, start_section, data_count_section, window_over}
+use Rattle.wasm_parser.specs.Counts.{IsCounted, IsCountedAs, ReadsCounted, is_miscounted_by}
+use Rattle.wasm_parser.specs.Grammar.{Past, whole_grammar, wrong_data}
+use Rattle.wasm_parser.specs.Reading.{Told, counted, start_section, data_count_section, window_over}
 use Rattle.wasm_parser.specs.Single.{ReadsSingle}
 use Rattle.wasm_parser.specs.declared.payload.Payload.{Payload}
-use Rattle.wasm_parser.specs.declared.payload.Payload.TheVariants.{FunctionSection}
-use Rattle.wasm_parser.proofs.Framed.{HasContent, has_content, whole_good, whole_bad}
+use Rattle.wasm_parser.specs.declared.payload.Payload.TheVariants.{Version, TypeSection, ImportSection, FunctionSection, TableSection, MemorySection, TagSection, GlobalSection, ExportSection, StartSection, ElementSection, DataCountSection, DataSection, CodeSectionStart, CodeSectionEntry, CustomSection, UnknownSection, End}
+use Rattle.wasm_parser.proofs.Framed.{HasContent, has_content, whole_good, whole_bad, whole_miscounted}
 
 -- ---- numbers
 
@@ -93,59 +94,139 @@ at_content size p w e =
     let z : place (window_over p.features p.offset (take size p.rest)) ≡ content_place size p = λ i. record { features = p.features; offset = o i; rest = take size p.rest } in
     ap place e ∙ z
 
--- a function section whose count was read, and one whose count was refused
-pub functions_read : (past : Past) (size : ℕ) (p : Place) (w : Window) (q : Place) (s : Section) → content_at size p ≡ Ok (w, q) → unsigned_at VarU32 (place w) ≡ Ok (s.count, place s.reader) → KeepsWindow w s.reader
-    → StandsThere None (whole_grammar past items 3 p.offset size) p (Ok (FunctionSection s)) q
+-- a number that was read of the whole window
+count_read : (size : ℕ) (p : Place) (w : Window) (q : Place) (v : ℕ) (behind : Place) → content_at size p ≡ Ok (w, q) → unsigned_at VarU32 (place w) ≡ Ok (v, behind)
+    → (wrong_content items p.offset (take size p.rest) ≡ None) × (count_of (take size p.rest) ≡ v)
 unfolding unsigned_at wrong_content
-functions_read past size p w q s h n keeps =
+count_read size p w q v behind h n =
     let k : HasContent size p w q = has_content size p w q h in
-    let at : place w ≡ content_place size p = at_content size p w k.window in
-    let g = number_good (content_place size p) s.count (place s.reader) (number VarU32 (take size p.rest)) (subst (λ (x : Place). in_window x (number VarU32 x.rest) ≡ Ok (s.count, place s.reader)) at n) in
-    let f : s.reader.features ≡ p.features = keeps.features ∙ ap (λ (x : Window). x.features) k.window in
-    let o : s.reader.start ≡ p.offset = keeps.start ∙ ap (λ (x : Window). x.start) k.window in
-    let b : s.reader.bytes ≡ take size p.rest = keeps.bytes ∙ ap (λ (x : Window). x.bytes) k.window in
-    let told : counted 3 s.count (record s.reader { position = 0 }) ≡ counted 3 (count_of (take size p.rest)) (window_over p.features p.offset (take size p.rest)) =
-    λ i. counted 3 (sym g.1 i) (record { features = f i; start = o i; bytes = b i; position = 0 }) in
-    whole_good past items 3 size p w q (FunctionSection s) refl h g.0 (ap Some told)
+    number_good (content_place size p) v behind (number VarU32 (take size p.rest)) (subst (λ (x : Place). in_window x (number VarU32 x.rest) ≡ Ok (v, behind)) (at_content size p w k.window) n)
 
-pub functions_refused : (past : Past) (size : ℕ) (p : Place) (w : Window) (q : Place) (e : Error) (a : Place) → content_at size p ≡ Ok (w, q) → unsigned_at VarU32 (place w) ≡ Err (fault_at e)
-    → StandsThere None (whole_grammar past items 3 p.offset size) p (Err e) a
+-- what is told of a section with this id that was made of the window
+told_counted : (id size : ℕ) (p : Place) (w : Window) (q : Place) (s : Section) → content_at size p ≡ Ok (w, q) → IsCounted w s
+    → (counted_by id s ≡ counted id (count_of (take size p.rest)) (window_over p.features p.offset (take size p.rest))) × BeginsBehindCount s
+told_counted id size p w q s h n =
+    let k : HasContent size p w q = has_content size p w q h in
+    let g = count_read size p w q s.count (place s.reader) h n.gives in
+    let f : s.reader.features ≡ p.features = n.keeps.features ∙ ap (λ (x : Window). x.features) k.window in
+    let o : s.reader.start ≡ p.offset = n.keeps.start ∙ ap (λ (x : Window). x.start) k.window in
+    let b : s.reader.bytes ≡ take size p.rest = n.keeps.bytes ∙ ap (λ (x : Window). x.bytes) k.window in
+    let same : w ≡ unread s.reader = k.window ∙ (λ i. record { features = sym f i; start = sym o i; bytes = sym b i; position = 0 }) in (
+      λ i. counted id (sym g.1 i) (record { features = f i; start = o i; bytes = b i; position = 0 }),
+      subst (λ (x : Window). unsigned_at VarU32 (place x) ≡ Ok (s.count, place s.reader)) same n.gives,
+    )
+
+same_items : (id : ℕ) (s : Section) (x : ℕ × Section) → Some (id, s) ≡ Some x → counted_by id s ≡ counted_by x.0 x.1
+same_items id s x e =
+    let z : (id, s) ≡ x = cc in
+    λ i. counted_by (z i).0 (z i).1
+
+-- what a payload tells that holds this section
+told_items : (payload : Payload) (x : ℕ × Section) → items_in payload ≡ Some x → told_by payload ≡ counted_by x.0 x.1
+told_items (TypeSection s) x e = same_items 1 s x e
+told_items (ImportSection s) x e = same_items 2 s x e
+told_items (FunctionSection s) x e = same_items 3 s x e
+told_items (TableSection s) x e = same_items 4 s x e
+told_items (MemorySection s) x e = same_items 5 s x e
+told_items (TagSection s) x e = same_items 13 s x e
+told_items (GlobalSection s) x e = same_items 6 s x e
+told_items (ExportSection s) x e = same_items 7 s x e
+told_items (ElementSection s) x e = same_items 9 s x e
+told_items (DataSection s) x e = same_items 11 s x e
+told_items (Version num encoding range) x e = cc
+told_items (StartSection func range) x e = cc
+told_items (DataCountSection count range) x e = cc
+told_items (CodeSectionStart count unchecked_range size) x e = cc
+told_items (CodeSectionEntry body) x e = cc
+told_items (CustomSection s) x e = cc
+told_items (UnknownSection id contents range) x e = cc
+told_items (End at) x e = cc
+
+-- a payload that holds a section with this id, made of the window
+pub record HoldsItems (id : ℕ) (w : Window) (payload : Payload) : Type 0 where
+  pub s : Section
+  pub counted : IsCounted w s
+  pub told : told_by payload ≡ counted_by id s
+  pub begins : BeginsBehindCount s → ItemsBegin payload
+
+holds_at : (id : ℕ) (w : Window) (payload : Payload) (o : Option (ℕ × Section)) → items_in payload ≡ o → IsCountedAs id w o → HoldsItems id w payload
+holds_at id w payload None e c = absurd c
+holds_at id w payload (Some x) e c = record {
+  s = x.1;
+  counted = c.1;
+  told = told_items payload x e ∙ ap (λ (i : ℕ). counted_by i x.1) c.0;
+  begins = λ b. subst (λ (o : Option (ℕ × Section)). IfSome o (λ y. BeginsBehindCount y.1)) (sym e) b;
+}
+
+holds_items : (id : ℕ) (w : Window) (payload : Payload) → ReadsCounted id w (Ok payload) → HoldsItems id w payload
+holds_items id w payload c = holds_at id w payload (items_in payload) refl c
+
+-- the data that was announced
+data_wrong : (past : Past) (id end : ℕ) (content : List ℕ) (s : Section) (told : Told) (b : Bool) → told ≡ counted_by id s → count_of content ≡ s.count → b ≡ is_miscounted_by past.data_counts told
+    → wrong_data past items id end content ≡ when b (at_offset DataCountDiffer end)
+data_wrong past id end content s told b t c m =
+    let x : b ≡ is_miscounted_by past.data_counts (counted_by id s) = m ∙ ap (is_miscounted_by past.data_counts) t in
+    rw (x, c) refl
+
+-- a section of items whose count was read
+pub items_read : (past : Past) (id size : ℕ) (p : Place) (w : Window) (q : Place) (payload : Payload) → content_at size p ≡ Ok (w, q) → ReadsCounted id w (Ok payload) → false ≡ is_miscounted_by past.data_counts (told_by payload)
+    → StandsThere (whole_grammar past items id p.offset size) p (Ok payload) q
+items_read past id size p w q payload h n m =
+    let i : HoldsItems id w payload = holds_items id w payload n in
+    let g = count_read size p w q i.s.count (place i.s.reader) h i.counted.gives in
+    let t = told_counted id size p w q i.s h i.counted in
+    whole_good past items id size p w q payload h g.0 (data_wrong past id (p.offset + size) (take size p.rest) i.s (told_by payload) false i.told g.1 m) (i.told ∙ t.0, i.begins t.1)
+
+-- one whose count is not the one that was announced
+pub items_miscounted : (past : Past) (id size : ℕ) (p : Place) (w : Window) (q : Place) (payload : Payload) (e : Error) (a : Place) → content_at size p ≡ Ok (w, q) → ReadsCounted id w (Ok payload) → true ≡ is_miscounted_by past.data_counts (told_by payload)
+    → fault_at e ≡ at_offset DataCountDiffer q.offset → StandsThere (whole_grammar past items id p.offset size) p (Err e) a
+items_miscounted past id size p w q payload e a h n m f =
+    let i : HoldsItems id w payload = holds_items id w payload n in
+    let k : HasContent size p w q = has_content size p w q h in
+    let g = count_read size p w q i.s.count (place i.s.reader) h i.counted.gives in
+    let o : q.offset ≡ p.offset + size = ap (λ (x : Place). x.offset) k.behind in
+    let d = data_wrong past id (p.offset + size) (take size p.rest) i.s (told_by payload) true i.told g.1 m in
+    whole_miscounted past items id size p w q e a h g.0 (d ∙ ap Some (sym (f ∙ ap (at_offset DataCountDiffer) o)))
+
+-- one whose count was refused
+pub items_refused : (past : Past) (id size : ℕ) (p : Place) (w : Window) (q : Place) (e : Error) (a : Place) → content_at size p ≡ Ok (w, q) → unsigned_at VarU32 (place w) ≡ Err (fault_at e)
+    → StandsThere (whole_grammar past items id p.offset size) p (Err e) a
 unfolding unsigned_at wrong_content
-functions_refused past size p w q e a h n =
+items_refused past id size p w q e a h n =
     let k : HasContent size p w q = has_content size p w q h in
     let at : place w ≡ content_place size p = at_content size p w k.window in
-    whole_bad past items 3 size p w q e a h (number_refused (content_place size p) (fault_at e) (number VarU32 (take size p.rest)) (subst (λ (x : Place). in_window x (number VarU32 x.rest) ≡ Err (fault_at e)) at n))
+    whole_bad past items id size p w q e a h (number_refused (content_place size p) (fault_at e) (number VarU32 (take size p.rest)) (subst (λ (x : Place). in_window x (number VarU32 x.rest) ≡ Err (fault_at e)) at n))
 
 -- the same for content that is one number
 pub start_read : (past : Past) (id size : ℕ) (p : Place) (w : Window) (q : Place) (v : ℕ) (payload : Payload) → content_at size p ≡ Ok (w, q) → ReadsSingle StartContent (place w) (Ok v)
-    → told_by payload ≡ Some (start_section v w.start (w.start + length w.bytes)) → StandsThere None (whole_grammar past index id p.offset size) p (Ok payload) q
+    → IsPayload (start_section v w.start (w.start + length w.bytes)) payload → StandsThere (whole_grammar past index id p.offset size) p (Ok payload) q
 unfolding wrong_content
 start_read past id size p w q v payload h n told =
     let k : HasContent size p w q = has_content size p w q h in
     let l : length (take size p.rest) ≡ size = length-take-le size p.rest k.there in
     let g : ReadsSingle StartContent (content_place size p) (Ok v) = subst (λ (x : Place). ReadsSingle StartContent x (Ok v)) (at_content size p w k.window) n in
-    let at_w : told_by payload ≡ Some (start_section v p.offset (p.offset + length (take size p.rest))) = subst (λ (x : Window). told_by payload ≡ Some (start_section v x.start (x.start + length x.bytes))) k.window told in
-    whole_good past index id size p w q payload refl h g.0 (at_w ∙ (λ i. Some (start_section (sym g.1 i) p.offset (p.offset + l i))))
+    let at_w : IsPayload (start_section v p.offset (p.offset + length (take size p.rest))) payload = subst (λ (x : Window). IsPayload (start_section v x.start (x.start + length x.bytes)) payload) k.window told in
+    whole_good past index id size p w q payload h g.0 refl (at_w.0 ∙ (λ i. start_section (sym g.1 i) p.offset (p.offset + l i)), at_w.1)
 
 pub start_refused : (past : Past) (id size : ℕ) (p : Place) (w : Window) (q : Place) (e : Error) (a : Place) → content_at size p ≡ Ok (w, q) → ReadsSingle StartContent (place w) (Err e)
-    → StandsThere None (whole_grammar past index id p.offset size) p (Err e) a
+    → StandsThere (whole_grammar past index id p.offset size) p (Err e) a
 unfolding wrong_content
 start_refused past id size p w q e a h n =
     let k : HasContent size p w q = has_content size p w q h in
     whole_bad past index id size p w q e a h (subst (λ (x : Place). ReadsSingle StartContent x (Err e)) (at_content size p w k.window) n)
 
 pub data_count_read : (past : Past) (id size : ℕ) (p : Place) (w : Window) (q : Place) (v : ℕ) (payload : Payload) → content_at size p ≡ Ok (w, q) → ReadsSingle DataCountContent (place w) (Ok v)
-    → told_by payload ≡ Some (data_count_section v w.start (w.start + length w.bytes)) → StandsThere None (whole_grammar past data_count id p.offset size) p (Ok payload) q
+    → IsPayload (data_count_section v w.start (w.start + length w.bytes)) payload → StandsThere (whole_grammar past data_count id p.offset size) p (Ok payload) q
 unfolding wrong_content
 data_count_read past id size p w q v payload h n told =
     let k : HasContent size p w q = has_content size p w q h in
     let l : length (take size p.rest) ≡ size = length-take-le size p.rest k.there in
     let g : ReadsSingle DataCountContent (content_place size p) (Ok v) = subst (λ (x : Place). ReadsSingle DataCountContent x (Ok v)) (at_content size p w k.window) n in
-    let at_w : told_by payload ≡ Some (data_count_section v p.offset (p.offset + length (take size p.rest))) = subst (λ (x : Window). told_by payload ≡ Some (data_count_section v x.start (x.start + length x.bytes))) k.window told in
-    whole_good past data_count id size p w q payload refl h g.0 (at_w ∙ (λ i. Some (data_count_section (sym g.1 i) p.offset (p.offset + l i))))
+    let at_w : IsPayload (data_count_section v p.offset (p.offset + length (take size p.rest))) payload = subst (λ (x : Window). IsPayload (data_count_section v x.start (x.start + length x.bytes)) payload) k.window told in
+    whole_good past data_count id size p w q payload h g.0 refl (at_w.0 ∙ (λ i. data_count_section (sym g.1 i) p.offset (p.offset + l i)), at_w.1)
 
 pub data_count_refused : (past : Past) (id size : ℕ) (p : Place) (w : Window) (q : Place) (e : Error) (a : Place) → content_at size p ≡ Ok (w, q) → ReadsSingle DataCountContent (place w) (Err e)
-    → StandsThere None (whole_grammar past data_count id p.offset size) p (Err e) a
+    → StandsThere (whole_grammar past data_count id p.offset size) p (Err e) a
 unfolding wrong_content
 data_count_refused past id size p w q e a h n =
     let k : HasContent size p w q = has_content size p w q h in

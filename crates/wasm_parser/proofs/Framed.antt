@@ -11,130 +11,87 @@ use Rattle.wasm_base.specs.Window.{Window, Place, place, advanced, KeepsWindow}
 use Rattle.wasm_base.specs.declared.error.Error.{Error}
 use Rattle.wasm_base.specs.declared.fault.Fault.TheVariants.{UnexpectedEof, MagicAtSection, MalformedSectionId, SectionTooLarge, OutOfOrder}
 use Rattle.wasm_base.specs.declared.fault.NumberKind.TheVariants.{VarU32}
-use Rattle.wasm_parser.specs.Answers.{told_by, IsTold, IsToldOrUnread, StandsThere}
+use Rattle.wasm_parser.specs.Answers.{IsPayload, IsTold, StandsThere}
 use Rattle.wasm_parser.specs.Content.{Kind, custom, items, index, data_count, code, unknown, kind_of, rank_of, when, wrong_content, wrong_name}
 use Rattle.wasm_parser.specs.ContentAt.{content_at}
 use Rattle.wasm_parser.specs.Custom.{Custom, IsCustom}
-use Rattle.wasm_parser.specs.Grammar.{section, behind, Past, Grammar, number, verdict, whole_grammar, wrong_data, content_grammar, sized, framed, section_grammar}
+use Rattle.wasm_parser.specs.Grammar.{section, behind, Past, Grammar, refuse, number, verdict, whole_grammar, wrong_data, content_grammar, sized, framed, section_grammar}
 use Rattle.wasm_parser.specs.Reading.{told_section, told_custom, window_over, custom_section, unknown_section}
-use Rattle.wasm_parser.specs.Unread.{is_unread, unread_ending, unread_sized, unread_framed, unread_at}
 use Rattle.wasm_parser.specs.declared.payload.Encoding.{Encoding}
 use Rattle.wasm_parser.specs.declared.payload.Payload.{Payload}
-use Rattle.wasm_parser.specs.declared.payload.Payload.TheVariants.{NotYet, CustomSection}
+use Rattle.wasm_parser.specs.declared.payload.Payload.TheVariants.{CustomSection}
 use Rattle.wasm_parser.proofs.GrammarLaws.{agree_same}
-use Rattle.wasm_parser.proofs.Telling.{told_at, told_bytes, told_missing, told_number, told_no_number, told_wrong, told_right, told_whole, unless_unread, nothing_unread, same_unread, ReadNumber, read_number}
+use Rattle.wasm_parser.proofs.Telling.{told_at, told_bytes, told_missing, told_number, told_no_number, told_wrong, told_right, told_whole, ReadNumber, read_number}
 
 -- behind an id of 128 or more
-pub framed_bad : (past : Past) (start id : ℕ) (p : Place) (e : Error) (a : Place) → 128 ≤ id → fault_at e ≡ at_offset MalformedSectionId start
-    → StandsThere (unread_framed past.encoding id (start + 1) p.rest) (framed past start id) p (Err e) a
+pub framed_bad : (past : Past) (start id : ℕ) (p : Place) (e : Error) (a : Place) → 128 ≤ id → fault_at e ≡ at_offset MalformedSectionId start → StandsThere (framed past start id) p (Err e) a
 framed_bad past start id p e a h f =
     let t : nat_le 128 id ≡ true = le-leb 128 id h in
     let w : when (nat_le 128 id) (at_offset MalformedSectionId start) ≡ Some (fault_at e) = rw t (ap Some (sym f)) in
-    let u : unread_framed past.encoding id (start + 1) p.rest ≡ None = rw t refl in
-    λ s. nothing_unread (unread_framed past.encoding id (start + 1) p.rest) s p _ (Err e) a u (told_wrong s p (when (nat_le 128 id) (at_offset MalformedSectionId start)) _ e a w)
-
--- whatever number is not read, no section is left unread behind it
-no_number_unread : (p : Place) (encoding : Encoding) (id o : ℕ) (f : FaultAt) (n : Number) → in_window p n ≡ Err f → unread_sized encoding id o n ≡ None
-no_number_unread p encoding id o f (read v k) h = cc
-no_number_unread p encoding id o f (bad g i) h = refl
-no_number_unread p encoding id o f short h = refl
+    λ s. told_wrong s p (when (nat_le 128 id) (at_offset MalformedSectionId start)) _ e a w
 
 good_id : (start id : ℕ) → id < 128 → when (nat_le 128 id) (at_offset MalformedSectionId start) ≡ None
 good_id start id h = rw (lt-leb 128 id h) refl
 
 -- behind a good id, where no length is read
-pub framed_no_size : (past : Past) (start id : ℕ) (p : Place) (e : Error) (a : Place) → id < 128 → start + 1 ≡ p.offset → unsigned_at VarU32 p ≡ Err (fault_at e)
-    → StandsThere (unread_framed past.encoding id (start + 1) p.rest) (framed past start id) p (Err e) a
-unfolding unsigned_at
+pub framed_no_size : (past : Past) (start id : ℕ) (p : Place) (e : Error) (a : Place) → id < 128 → start + 1 ≡ p.offset → unsigned_at VarU32 p ≡ Err (fault_at e) → StandsThere (framed past start id) p (Err e) a
 framed_no_size past start id p e a h o n =
-    let t : nat_le 128 id ≡ false = lt-leb 128 id h in
-    let m : unread_sized past.encoding id (start + 1) (number_at VarU32 p.rest) ≡ None = no_number_unread p past.encoding id (start + 1) (fault_at e) (number_at VarU32 p.rest) n in
-    let u : unread_framed past.encoding id (start + 1) p.rest ≡ None = rw t m in
     let next : ℕ → ℕ → ℕ → Grammar = λ x size width. sized past (kind_of past.encoding id) id x (x + width) size in
     let r : (s : ℕ) → IsTold s p (verdict (number (start + 1) (next (start + 1))) p.rest) (Err e) a = λ s. subst (λ (x : ℕ). IsTold s p (verdict (number x (next x)) p.rest) (Err e) a) (sym o) (told_no_number s p (next p.offset) e a n) in
-    λ s. nothing_unread (unread_framed past.encoding id (start + 1) p.rest) s p _ (Err e) a u (told_right s p (when (nat_le 128 id) (at_offset MalformedSectionId start)) _ (Err e) a (good_id start id h) (r s))
+    λ s. told_right s p (when (nat_le 128 id) (at_offset MalformedSectionId start)) _ (Err e) a (good_id start id h) (r s)
 
 -- behind a good id and a length
 pub framed_sized : (past : Past) (start id : ℕ) (p q : Place) (v : ℕ) (r : Result Payload Error) (a : Place) → id < 128 → start + 1 ≡ p.offset → unsigned_at VarU32 p ≡ Ok (v, q)
-    → StandsThere (unread_ending (kind_of past.encoding id) id (q.offset + v)) (sized past (kind_of past.encoding id) id p.offset q.offset v) q r a
-    → StandsThere (unread_framed past.encoding id (start + 1) p.rest) (framed past start id) p r a
+    → StandsThere (sized past (kind_of past.encoding id) id p.offset q.offset v) q r a → StandsThere (framed past start id) p r a
 framed_sized past start id p q v r a h o n next =
-    let t : nat_le 128 id ≡ false = lt-leb 128 id h in
     let m : ReadNumber p v q = read_number p v q n in
-    let k : ℕ = m.used in
-    let kind : Kind = kind_of past.encoding id in
-    let e : number_at VarU32 p.rest ≡ read v m.used = m.reads in
-    let u : unread_framed past.encoding id (start + 1) p.rest ≡ unread_ending (kind_of past.encoding id) id (p.offset + m.used + v) = rw t (rw e (ap (λ (x : ℕ). unread_ending (kind_of past.encoding id) id (x + m.used + v)) o)) in
-    let at_q : (s : ℕ) → IsToldOrUnread (unread_ending (kind_of past.encoding id) id (p.offset + m.used + v)) s (advanced m.used p) (verdict (sized past (kind_of past.encoding id) id p.offset (p.offset + m.used) v) (drop m.used p.rest)) r a =
-    λ s. subst (λ (x : Place). IsToldOrUnread (unread_ending (kind_of past.encoding id) id (x.offset + v)) s x (verdict (sized past (kind_of past.encoding id) id p.offset x.offset v) x.rest) r a) m.behind (next s) in
-    let step : (s : ℕ) → IsTold s (advanced m.used p) (verdict (sized past (kind_of past.encoding id) id p.offset (p.offset + m.used) v) (drop m.used p.rest)) r a → IsTold s p (verdict (framed past start id) p.rest) r a =
-    λ s x. told_right s p (when (nat_le 128 id) (at_offset MalformedSectionId start)) _ r a (good_id start id h) (
+    let at_q : (s : ℕ) → IsTold s (advanced m.used p) (verdict (sized past (kind_of past.encoding id) id p.offset (p.offset + m.used) v) (drop m.used p.rest)) r a =
+    λ s. subst (λ (x : Place). IsTold s x (verdict (sized past (kind_of past.encoding id) id p.offset x.offset v) x.rest) r a) m.behind (next s) in
+    λ s. told_right s p (when (nat_le 128 id) (at_offset MalformedSectionId start)) _ r a (good_id start id h) (
     subst (λ (y : ℕ). IsTold s p (verdict (number y (λ size width. sized past (kind_of past.encoding id) id y (y + width) size)) p.rest) r a) (sym o)
-    (told_number s p p.offset (λ size width. sized past (kind_of past.encoding id) id p.offset (p.offset + width) size) r a v m.used e x)) in
-    λ s. same_unread (unread_framed past.encoding id (start + 1) p.rest) (unread_ending (kind_of past.encoding id) id (p.offset + m.used + v)) s p _ r a u
-    (unless_unread (unread_ending (kind_of past.encoding id) id (p.offset + m.used + v)) s s (advanced m.used p) p (verdict (sized past (kind_of past.encoding id) id p.offset (p.offset + m.used) v) (drop m.used p.rest)) (verdict (framed past start id) p.rest) r a (step s) (at_q s))
+    (told_number s p p.offset (λ size width. sized past (kind_of past.encoding id) id p.offset (p.offset + width) size) r a v m.used m.reads (at_q s)))
 
 -- a content that would end past the top of the offsets
 pub sized_large : (past : Past) (kind : Kind) (id field size : ℕ) (p : Place) (e : Error) (a : Place) → 2 ^ 64 - 1 < p.offset + size → fault_at e ≡ record { fault = SectionTooLarge; offset = field; number = Some size }
-    → StandsThere (unread_ending kind id (p.offset + size)) (sized past kind id field p.offset size) p (Err e) a
+    → StandsThere (sized past kind id field p.offset size) p (Err e) a
 sized_large past kind id field size p e a h f =
     let t : nat_lt (2 ^ 64 - 1) (p.offset + size) ≡ true = lt-ltb (2 ^ 64 - 1) (p.offset + size) h in
     let x : FaultAt = record { fault = SectionTooLarge; offset = field; number = Some size } in
     let w : when (nat_lt (2 ^ 64 - 1) (p.offset + size)) x ≡ Some (fault_at e) = rw t (ap Some (sym f)) in
-    let u : unread_ending kind id (p.offset + size) ≡ None = rw t refl in
-    λ s. nothing_unread (unread_ending kind id (p.offset + size)) s p _ (Err e) a u (told_wrong s p (when (nat_lt (2 ^ 64 - 1) (p.offset + size)) x) _ e a w)
-
--- one that isn't read yet
-pub sized_unread : (past : Past) (kind : Kind) (id field size : ℕ) (p : Place) (r : Result Payload Error) (a : Place) → p.offset + size ≤ 2 ^ 64 - 1 → is_unread kind id ≡ true → r ≡ Ok (NotYet id)
-    → StandsThere (unread_ending kind id (p.offset + size)) (sized past kind id field p.offset size) p r a
-sized_unread past kind id field size p r a h u e =
-    let t : nat_lt (2 ^ 64 - 1) (p.offset + size) ≡ false = le-ltb (2 ^ 64 - 1) (p.offset + size) h in
-    let w : unread_ending kind id (p.offset + size) ≡ Some id = rw t (rw u refl) in
-    λ s. same_unread (unread_ending kind id (p.offset + size)) (Some id) s p _ r a w e
+    λ s. told_wrong s p (when (nat_lt (2 ^ 64 - 1) (p.offset + size)) x) _ e a w
 
 -- whether a section of this kind and id may not stand behind others, for its rank
 abbrev pub is_disordered : Past → Kind → ℕ → Bool
 is_disordered past kind id = nat_lt 0 (rank_of kind id) && not (past.may_follow (rank_of kind id))
 
--- one that ranks no higher than one before it
-pub sized_disordered : (past : Past) (kind : Kind) (id field size : ℕ) (p : Place) (e : Error) (a : Place) → p.offset + size ≤ 2 ^ 64 - 1 → is_unread kind id ≡ false → is_disordered past kind id ≡ true → fault_at e ≡ at_offset OutOfOrder p.offset
-    → StandsThere (unread_ending kind id (p.offset + size)) (sized past kind id field p.offset size) p (Err e) a
-sized_disordered past kind id field size p e a h u k f =
-    let t : nat_lt (2 ^ 64 - 1) (p.offset + size) ≡ false = le-ltb (2 ^ 64 - 1) (p.offset + size) h in
+-- what stands behind a length that fits
+fitting : (past : Past) (kind : Kind) (id field size : ℕ) (p : Place) (r : Result Payload Error) (a : Place) → p.offset + size ≤ 2 ^ 64 - 1
+    → StandsThere (refuse (when (is_disordered past kind id) (at_offset OutOfOrder p.offset)) (content_grammar past kind id p.offset size)) p r a → StandsThere (sized past kind id field p.offset size) p r a
+fitting past kind id field size p r a h next =
     let x : FaultAt = record { fault = SectionTooLarge; offset = field; number = Some size } in
+    let fits : when (nat_lt (2 ^ 64 - 1) (p.offset + size)) x ≡ None = rw (le-ltb (2 ^ 64 - 1) (p.offset + size) h) refl in
+    λ s. told_right s p (when (nat_lt (2 ^ 64 - 1) (p.offset + size)) x) _ r a fits (next s)
+
+-- one that ranks no higher than one before it
+pub sized_disordered : (past : Past) (kind : Kind) (id field size : ℕ) (p : Place) (e : Error) (a : Place) → p.offset + size ≤ 2 ^ 64 - 1 → is_disordered past kind id ≡ true → fault_at e ≡ at_offset OutOfOrder p.offset
+    → StandsThere (sized past kind id field p.offset size) p (Err e) a
+sized_disordered past kind id field size p e a h k f =
     let y : FaultAt = at_offset OutOfOrder p.offset in
-    let fits : when (nat_lt (2 ^ 64 - 1) (p.offset + size)) x ≡ None = rw t refl in
     let ranks : when (is_disordered past kind id) y ≡ Some (fault_at e) = rw k (ap Some (sym f)) in
-    let w : unread_ending kind id (p.offset + size) ≡ None = rw t (rw u refl) in
-    λ s. nothing_unread (unread_ending kind id (p.offset + size)) s p _ (Err e) a w (told_right s p (when (nat_lt (2 ^ 64 - 1) (p.offset + size)) x) _ (Err e) a fits
-    (told_wrong s p (when (is_disordered past kind id) y) _ e a ranks))
+    fitting past kind id field size p (Err e) a h (λ s. told_wrong s p (when (is_disordered past kind id) y) _ e a ranks)
 
 -- one that is in its place
-pub sized_ordered : (past : Past) (kind : Kind) (id field size : ℕ) (p : Place) (r : Result Payload Error) (a : Place) → p.offset + size ≤ 2 ^ 64 - 1 → is_unread kind id ≡ false → is_disordered past kind id ≡ false
-    → StandsThere None (content_grammar past kind id p.offset size) p r a → StandsThere (unread_ending kind id (p.offset + size)) (sized past kind id field p.offset size) p r a
-sized_ordered past kind id field size p r a h u k next =
-    let t : nat_lt (2 ^ 64 - 1) (p.offset + size) ≡ false = le-ltb (2 ^ 64 - 1) (p.offset + size) h in
-    let x : FaultAt = record { fault = SectionTooLarge; offset = field; number = Some size } in
+pub sized_ordered : (past : Past) (kind : Kind) (id field size : ℕ) (p : Place) (r : Result Payload Error) (a : Place) → p.offset + size ≤ 2 ^ 64 - 1 → is_disordered past kind id ≡ false
+    → StandsThere (content_grammar past kind id p.offset size) p r a → StandsThere (sized past kind id field p.offset size) p r a
+sized_ordered past kind id field size p r a h k next =
     let y : FaultAt = at_offset OutOfOrder p.offset in
-    let fits : when (nat_lt (2 ^ 64 - 1) (p.offset + size)) x ≡ None = rw t refl in
     let ranks : when (is_disordered past kind id) y ≡ None = rw k refl in
-    let w : unread_ending kind id (p.offset + size) ≡ None = rw t (rw u refl) in
-    λ s. nothing_unread (unread_ending kind id (p.offset + size)) s p _ r a w (told_right s p (when (nat_lt (2 ^ 64 - 1) (p.offset + size)) x) _ r a fits
-    (told_right s p (when (is_disordered past kind id) y) _ r a ranks (next s)))
+    fitting past kind id field size p r a h (λ s. told_right s p (when (is_disordered past kind id) y) _ r a ranks (next s))
 
 -- the same for the kind that was found
 pub sized_as : (past : Past) (found kind : Kind) (id field size : ℕ) (p : Place) (r : Result Payload Error) (a : Place) → found ≡ kind
-    → StandsThere (unread_ending found id (p.offset + size)) (sized past found id field p.offset size) p r a → StandsThere (unread_ending kind id (p.offset + size)) (sized past kind id field p.offset size) p r a
-sized_as past found kind id field size p r a same next = subst (λ (k : Kind). StandsThere (unread_ending k id (p.offset + size)) (sized past k id field p.offset size) p r a) same next
-
--- content that isn't all there
-content_missing : (b : Bool) (past : Past) (kind : Kind) (id size : ℕ) (p : Place) (e : Error) (a : Place) → nat_lt (length p.rest) size ≡ b
-    → (let x : Result (Window × Place) FaultAt = cond b (Err (at_offset UnexpectedEof p.offset)) (Ok (window_over p.features p.offset (take size p.rest), advanced size p)) in x) ≡ Err (fault_at e)
-    → (s : ℕ) → IsTold s p (verdict (whole_grammar past kind id p.offset size) p.rest) (Err e) a
-content_missing true past kind id size p e a t h s =
-    let z : at_offset UnexpectedEof p.offset ≡ fault_at e = cc in
-    told_missing s p size p.offset _ e a (ltb-true _ _ t) (sym z)
-content_missing false past kind id size p e a t h s = cc
+    → StandsThere (sized past found id field p.offset size) p r a → StandsThere (sized past kind id field p.offset size) p r a
+sized_as past found kind id field size p r a same next = subst (λ (k : Kind). StandsThere (sized past k id field p.offset size) p r a) same next
 
 content_steps : (b : Bool) (size : ℕ) (p : Place)
     → (let x : Result (List ℕ × Place) FaultAt = cond b (Err (at_offset UnexpectedEof p.offset)) (Ok (take size p.rest, advanced size p)) in x >>= (λ bytes. let y : Result (Window × Place) FaultAt = Ok (window_over p.features p.offset bytes.0, bytes.1) in y))
@@ -142,10 +99,24 @@ content_steps : (b : Bool) (size : ℕ) (p : Place)
 content_steps true size p = refl
 content_steps false size p = refl
 
-pub whole_missing : (past : Past) (kind : Kind) (id size : ℕ) (p : Place) (e : Error) (a : Place) → content_at size p ≡ Err (fault_at e)
-    → StandsThere None (whole_grammar past kind id p.offset size) p (Err e) a
+-- fewer bytes than are wanted
+too_few_at : (b : Bool) (size : ℕ) (p : Place) (f : FaultAt) → nat_lt (length p.rest) size ≡ b
+    → (let x : Result (Window × Place) FaultAt = cond b (Err (at_offset UnexpectedEof p.offset)) (Ok (window_over p.features p.offset (take size p.rest), advanced size p)) in x) ≡ Err f
+    → (length p.rest < size) × (f ≡ at_offset UnexpectedEof p.offset)
+too_few_at true size p f t h =
+    let z : at_offset UnexpectedEof p.offset ≡ f = cc in
+    (ltb-true _ _ t, sym z)
+too_few_at false size p f t h = cc
+
+pub too_few : (size : ℕ) (p : Place) (f : FaultAt) → content_at size p ≡ Err f → (length p.rest < size) × (f ≡ at_offset UnexpectedEof p.offset)
 unfolding content_at
-whole_missing past kind id size p e a h = content_missing (nat_lt (length p.rest) size) past kind id size p e a refl (sym (content_steps (nat_lt (length p.rest) size) size p) ∙ h)
+too_few size p f h = too_few_at (nat_lt (length p.rest) size) size p f refl (sym (content_steps (nat_lt (length p.rest) size) size p) ∙ h)
+
+-- content that isn't all there
+pub whole_missing : (past : Past) (kind : Kind) (id size : ℕ) (p : Place) (e : Error) (a : Place) → content_at size p ≡ Err (fault_at e) → StandsThere (whole_grammar past kind id p.offset size) p (Err e) a
+whole_missing past kind id size p e a h =
+    let t = too_few size p (fault_at e) h in
+    λ s. told_missing s p size p.offset _ e a t.0 t.1
 
 -- content that is
 pub record HasContent (size : ℕ) (p : Place) (w : Window) (q : Place) : Type 0 where
@@ -165,44 +136,36 @@ pub has_content : (size : ℕ) (p : Place) (w : Window) (q : Place) → content_
 unfolding content_at
 has_content size p w q h = content_there (nat_lt (length p.rest) size) size p w q refl (sym (content_steps (nat_lt (length p.rest) size) size p) ∙ h)
 
--- of counted items a function section is read
-is_three : (b : Bool) (id : ℕ) → nat_eq id 3 ≡ b → not b ≡ false → id ≡ 3
-is_three true id e u = eqb-true id 3 e
-is_three false id e u = cc
-
-pub read_items : (id : ℕ) → is_unread items id ≡ false → id ≡ 3
-read_items id u = is_three (nat_eq id 3) id refl u
-
--- counts are compared only of data sections
-no_data : (past : Past) (kind : Kind) (id offset : ℕ) (content : List ℕ) → is_unread kind id ≡ false → wrong_data past kind id offset content ≡ None
-no_data past custom id offset content u = refl
-no_data past unknown id offset content u = refl
-no_data past items id offset content u = subst (λ (i : ℕ). wrong_data past items i offset content ≡ None) (sym (read_items id u)) refl
-no_data past index id offset content u = refl
-no_data past data_count id offset content u = refl
-no_data past code id offset content u = cc
-
 -- good content, told by a payload
-pub whole_good : (past : Past) (kind : Kind) (id size : ℕ) (p : Place) (w : Window) (q : Place) (payload : Payload) → is_unread kind id ≡ false → content_at size p ≡ Ok (w, q) → wrong_content kind p.offset (take size p.rest) ≡ None
-    → told_by payload ≡ Some (told_section p.features p.offset (p.offset + size) kind id (take size p.rest))
-    → StandsThere None (whole_grammar past kind id p.offset size) p (Ok payload) q
-whole_good past kind id size p w q payload u h good told =
+pub whole_good : (past : Past) (kind : Kind) (id size : ℕ) (p : Place) (w : Window) (q : Place) (payload : Payload) → content_at size p ≡ Ok (w, q) → wrong_content kind p.offset (take size p.rest) ≡ None
+    → wrong_data past kind id (p.offset + size) (take size p.rest) ≡ None → IsPayload (told_section p.features p.offset (p.offset + size) kind id (take size p.rest)) payload
+    → StandsThere (whole_grammar past kind id p.offset size) p (Ok payload) q
+whole_good past kind id size p w q payload h good counts told =
     let c : HasContent size p w q = has_content size p w q h in
     let content : List ℕ = take size p.rest in
     let l : length (take size p.rest) ≡ size = length-take-le size p.rest c.there in
     let from : p.offset + size - length (take size p.rest) ≡ p.offset = omega arith in
-    let said : told_by payload ≡ Some (told_section p.features (p.offset + size - length (take size p.rest)) (p.offset + size) kind id (take size p.rest)) = rw from told in
+    let said : IsPayload (told_section p.features (p.offset + size - length (take size p.rest)) (p.offset + size) kind id (take size p.rest)) payload = rw from told in
     λ s. told_bytes s p size p.offset _ (Ok payload) q c.there (
     told_right s (advanced size p) (wrong_content kind p.offset (take size p.rest)) _ (Ok payload) q good (
-    told_right s (advanced size p) (wrong_data past kind id (p.offset + size) (take size p.rest)) _ (Ok payload) q (no_data past kind id (p.offset + size) (take size p.rest) u) (
+    told_right s (advanced size p) (wrong_data past kind id (p.offset + size) (take size p.rest)) _ (Ok payload) q counts (
     told_whole s (advanced size p) (section kind id (take size p.rest)) payload q c.behind said)))
 
 -- bad content
 pub whole_bad : (past : Past) (kind : Kind) (id size : ℕ) (p : Place) (w : Window) (q : Place) (e : Error) (a : Place) → content_at size p ≡ Ok (w, q) → wrong_content kind p.offset (take size p.rest) ≡ Some (fault_at e)
-    → StandsThere None (whole_grammar past kind id p.offset size) p (Err e) a
+    → StandsThere (whole_grammar past kind id p.offset size) p (Err e) a
 whole_bad past kind id size p w q e a h wrong =
     let c : HasContent size p w q = has_content size p w q h in
     λ s. told_bytes s p size p.offset _ (Err e) a c.there (told_wrong s (advanced size p) (wrong_content kind p.offset (take size p.rest)) _ e a wrong)
+
+-- good content whose count differs from the one that was announced
+pub whole_miscounted : (past : Past) (kind : Kind) (id size : ℕ) (p : Place) (w : Window) (q : Place) (e : Error) (a : Place) → content_at size p ≡ Ok (w, q) → wrong_content kind p.offset (take size p.rest) ≡ None
+    → wrong_data past kind id (p.offset + size) (take size p.rest) ≡ Some (fault_at e) → StandsThere (whole_grammar past kind id p.offset size) p (Err e) a
+whole_miscounted past kind id size p w q e a h good wrong =
+    let c : HasContent size p w q = has_content size p w q h in
+    λ s. told_bytes s p size p.offset _ (Err e) a c.there (
+    told_right s (advanced size p) (wrong_content kind p.offset (take size p.rest)) _ (Err e) a good (
+    told_wrong s (advanced size p) (wrong_data past kind id (p.offset + size) (take size p.rest)) _ e a wrong))
 
 -- what a custom section's reader says of its content
 pub record GoodCustom (features offset to : ℕ) (content : List ℕ) (c : Custom) : Type 0 where
@@ -246,60 +209,56 @@ good_unknown offset content = refl
 
 -- a custom section that was read, and one whose name was refused
 pub custom_read : (past : Past) (id size : ℕ) (p : Place) (w : Window) (q : Place) (c : Custom) → content_at size p ≡ Ok (w, q) → IsCustom w c
-    → StandsThere None (whole_grammar past custom id p.offset size) p (Ok (CustomSection c)) q
+    → StandsThere (whole_grammar past custom id p.offset size) p (Ok (CustomSection c)) q
 custom_read past id size p w q c h is =
     let k : HasContent size p w q = has_content size p w q h in
     let g : GoodCustom p.features p.offset (p.offset + size) (take size p.rest) c = good_custom p.features p.offset (p.offset + size) (take size p.rest) c (subst (λ (x : Window). IsCustom x c) k.window is) in
-    whole_good past custom id size p w q (CustomSection c) refl h g.good (ap Some (sym g.told))
+    whole_good past custom id size p w q (CustomSection c) h g.good refl (sym g.told, tt)
 
 pub custom_refused : (past : Past) (id size : ℕ) (p : Place) (w : Window) (q : Place) (e : Error) (a : Place) → content_at size p ≡ Ok (w, q) → text_at (Some name_limit) (place w) ≡ Err (fault_at e)
-    → StandsThere None (whole_grammar past custom id p.offset size) p (Err e) a
+    → StandsThere (whole_grammar past custom id p.offset size) p (Err e) a
 custom_refused past id size p w q e a h wrong =
     let k : HasContent size p w q = has_content size p w q h in
     whole_bad past custom id size p w q e a h (bad_custom p.features p.offset (take size p.rest) (fault_at e) (subst (λ (x : Window). text_at (Some name_limit) (place x) ≡ Err (fault_at e)) k.window wrong))
 
 -- an unknown section
 pub unknown_read : (past : Past) (id size : ℕ) (p : Place) (w : Window) (q : Place) (payload : Payload) → content_at size p ≡ Ok (w, q)
-    → told_by payload ≡ Some (unknown_section id (place w).rest w.start (w.start + length w.bytes))
-    → StandsThere None (whole_grammar past unknown id p.offset size) p (Ok payload) q
+    → IsPayload (unknown_section id (place w).rest w.start (w.start + length w.bytes)) payload
+    → StandsThere (whole_grammar past unknown id p.offset size) p (Ok payload) q
 unknown_read past id size p w q payload h told =
     let k : HasContent size p w q = has_content size p w q h in
     let l : length (take size p.rest) ≡ size = length-take-le size p.rest k.there in
-    let at_w : told_by payload ≡ Some (unknown_section id (take size p.rest) p.offset (p.offset + length (take size p.rest))) = subst (λ (x : Window). told_by payload ≡ Some (unknown_section id (place x).rest x.start (x.start + length x.bytes))) k.window told in
-    whole_good past unknown id size p w q payload refl h (good_unknown p.offset (take size p.rest)) (rw l at at_w)
+    let at_w : IsPayload (unknown_section id (take size p.rest) p.offset (p.offset + length (take size p.rest))) payload = subst (λ (x : Window). IsPayload (unknown_section id (place x).rest x.start (x.start + length x.bytes)) payload) k.window told in
+    whole_good past unknown id size p w q payload h (good_unknown p.offset (take size p.rest)) refl (rw l at at_w)
 
 -- a magic where a section may start
 magic_at : (xs : List ℕ) (past : Past) (p : Place) (e : Error) (a : Place) → true ≡ (agree xs magic && nat_le 4 (length xs)) → 0 < length xs → fault_at e ≡ at_offset MagicAtSection p.offset
-    → (s : ℕ) → IsToldOrUnread (unread_at past.encoding p.offset xs) s p (verdict (section_grammar past p.offset) xs) (Err e) a
-unfolding unread_at section_grammar verdict
+    → (s : ℕ) → IsTold s p (verdict (section_grammar past p.offset) xs) (Err e) a
+unfolding section_grammar verdict
 magic_at [] past p e a m l f s = absurd (omega arith)
 magic_at (id ∷ xs) past p e a m l f s = rw (← m) f
 
 pub section_magic : (past : Past) (p : Place) (e : Error) (a : Place) → true ≡ (agree p.rest magic && nat_le 4 (length p.rest)) → 0 < length p.rest → fault_at e ≡ at_offset MagicAtSection p.offset
-    → StandsThere (unread_at past.encoding p.offset p.rest) (section_grammar past p.offset) p (Err e) a
+    → StandsThere (section_grammar past p.offset) p (Err e) a
 section_magic past p e a m l f = magic_at p.rest past p e a m l f
 
 -- a section behind its id
 framed_at : (xs : List ℕ) (past : Past) (p q : Place) (id : ℕ) (r : Result Payload Error) (a : Place) → p.rest ≡ xs → false ≡ (agree xs magic && nat_le 4 (length xs)) → first_of p xs ≡ Ok (id, q)
-    → StandsThere (unread_framed past.encoding id (p.offset + 1) q.rest) (framed past p.offset id) q r a
-    → (s : ℕ) → IsToldOrUnread (unread_at past.encoding p.offset xs) s p (verdict (section_grammar past p.offset) xs) r a
-unfolding unread_at section_grammar verdict
+    → StandsThere (framed past p.offset id) q r a → (s : ℕ) → IsTold s p (verdict (section_grammar past p.offset) xs) r a
+unfolding section_grammar verdict
 framed_at [] past p q id r a z m b next s = cc
 framed_at (x ∷ xs) past p q id r a z m b next s =
     let y : (x, advanced 1 p) ≡ (id, q) = cc in
     let i : x ≡ id = ap (λ (w : ℕ × Place). w.0) y in
     let j : advanced 1 p ≡ q = ap (λ (w : ℕ × Place). w.1) y in
     let k : drop 1 p.rest ≡ xs = ap (drop 1) z in
-    let here : IsToldOrUnread (unread_framed past.encoding x (p.offset + 1) (drop 1 p.rest)) s (advanced 1 p) (verdict (framed past p.offset x) (drop 1 p.rest)) r a =
-    subst₂ (λ (w : ℕ) (v : Place). IsToldOrUnread (unread_framed past.encoding w (p.offset + 1) v.rest) s v (verdict (framed past p.offset w) v.rest) r a) (sym i) (sym j) (next s) in
-    let there : IsToldOrUnread (unread_framed past.encoding x (p.offset + 1) xs) s (advanced 1 p) (verdict (framed past p.offset x) xs) r a =
-    subst (λ (w : List ℕ). IsToldOrUnread (unread_framed past.encoding x (p.offset + 1) w) s (advanced 1 p) (verdict (framed past p.offset x) w) r a) k here in
-    rw (← m) (unless_unread (unread_framed past.encoding x (p.offset + 1) xs) s s (advanced 1 p) p (verdict (framed past p.offset x) xs) (behind (x ∷ []) (verdict (framed past p.offset x) xs)) r a
-    (told_at s p 1 (x ∷ []) (verdict (framed past p.offset x) xs) r a refl) there)
+    let here : IsTold s (advanced 1 p) (verdict (framed past p.offset x) (drop 1 p.rest)) r a =
+    subst₂ (λ (w : ℕ) (v : Place). IsTold s v (verdict (framed past p.offset w) v.rest) r a) (sym i) (sym j) (next s) in
+    let there : IsTold s (advanced 1 p) (verdict (framed past p.offset x) xs) r a = subst (λ (w : List ℕ). IsTold s (advanced 1 p) (verdict (framed past p.offset x) w) r a) k here in
+    rw (← m) (told_at s p 1 (x ∷ []) (verdict (framed past p.offset x) xs) r a refl there)
 
 pub section_framed : (past : Past) (p q : Place) (id : ℕ) (r : Result Payload Error) (a : Place) → false ≡ (agree p.rest magic && nat_le 4 (length p.rest)) → byte_at p ≡ Ok (id, q)
-    → StandsThere (unread_framed past.encoding id (p.offset + 1) q.rest) (framed past p.offset id) q r a
-    → StandsThere (unread_at past.encoding p.offset p.rest) (section_grammar past p.offset) p r a
+    → StandsThere (framed past p.offset id) q r a → StandsThere (section_grammar past p.offset) p r a
 section_framed past p q id r a m b next = framed_at p.rest past p q id r a refl m b next
 
 -- four bytes say whether the magic is there

@@ -7,7 +7,7 @@ use Rattle.wasm_base.specs.Outcome.{Outcome, ◌>>=◌}
 use Rattle.wasm_base.specs.Window.{Place, advanced}
 use Rattle.wasm_base.specs.declared.error.Error.{Error}
 use Rattle.wasm_base.specs.declared.fault.Fault.TheVariants.{UnexpectedEof, BadMagic, UnknownVersion}
-use Rattle.wasm_parser.specs.Answers.{told_by, IsTold}
+use Rattle.wasm_parser.specs.Answers.{IsPayload, IsTold}
 use Rattle.wasm_parser.specs.Content.{when}
 use Rattle.wasm_parser.specs.Grammar.{header, verdict, encoding_named, version_of, header_grammar}
 use Rattle.wasm_parser.specs.Reading.{told_of}
@@ -77,7 +77,7 @@ told_eight s p bits q r a h t =
 
 -- a header of a known version
 pub header_told : (p : Place) (bits : ℕ) (q : Place) (e : Encoding) (payload : Payload) → header_version_at p ≡ Ok (bits, q) → Some e ≡ encoding_named (bits % 65536) (bits / 65536)
-    → told_by payload ≡ Some (told_of q.features p.offset q.offset (header (bits % 65536) e)) → IsTold p.offset p (verdict (header_grammar p.offset) p.rest) (Ok payload) q
+    → IsPayload (told_of q.features p.offset q.offset (header (bits % 65536) e)) payload → IsTold p.offset p (verdict (header_grammar p.offset) p.rest) (Ok payload) q
 header_told p bits q e payload h n t =
     told_eight p.offset p bits q (Ok payload) q (header_read p bits q h) (rw (← n) (told_whole p.offset q (header (bits % 65536) e) payload q refl t))
 

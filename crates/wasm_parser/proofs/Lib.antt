@@ -1,4 +1,5 @@
 pub mod Accepting
+pub mod Bodies
 pub mod Bounds
 pub mod Counted
 pub mod Endings

@@ -1,45 +1,57 @@
 -- What a call of the parser answers.
-use Rattle.std.proofs.Common.{◌≡◌, ℕ, zero, suc, ◌+◌, ◌-◌, ◌^◌, ◌<◌, Bool, true, false, cond, List, [], length, option_to_list, Option, Some, Ok, Err, nat_lt, nat_eq, refl, sym, ap, subst, ◌∙◌, arith}
+use Rattle.std.proofs.Common.{◌≡◌, ℕ, zero, suc, ◌+◌, ◌-◌, ◌^◌, ◌<◌, Bool, true, false, cond, ◌&&◌, List, [], length, option_to_list, Option, Some, Result, Ok, Err, nat_lt, nat_eq, refl, sym, ap, subst, ◌∙◌, arith}
 use Rattle.std.specs.List.{list_any}
 use Rattle.wasm_base.specs.FaultAt.{fault_at, at_offset}
 use Rattle.wasm_base.specs.Name.{Name, named, refused, name_limit, name}
-use Rattle.wasm_base.specs.Window.{place}
 use Rattle.wasm_base.specs.declared.error.Error.{Error}
 use Rattle.wasm_base.specs.declared.fault.Fault.TheVariants.{FunctionWithoutCode, DataCountWithoutData}
-use Rattle.wasm_parser.specs.Answers.{told_by, Passes, Parses}
-use Rattle.wasm_parser.specs.Content.{Kind, custom, items, index, data_count, code, unknown, kind_of, count_of}
-use Rattle.wasm_parser.specs.Grammar.{Shape, header, section, code_head, body, Tile, tile, Past, section_grammar, body_grammar, content_grammar, header_grammar, verdict}
-use Rattle.wasm_parser.specs.Reading.{Told, version, counted, start_section, data_count_section, code_start, code_entry, custom_section, unknown_section, stopped, ending, told_of, told_custom}
-use Rattle.wasm_parser.specs.Stands.{Stand, stand_before_code, past_of, passed}
+use Rattle.wasm_parser.specs.Answers.{told_by, Answers, Passes, Parses}
+use Rattle.wasm_parser.specs.Behind.{behind_told}
+use Rattle.wasm_parser.specs.Content.{Kind, custom, items, index, data_count, code, unknown, kind_of, Ending, fault, ended}
+use Rattle.wasm_parser.specs.Grammar.{Shape, header, section, code_head, body, Tile, Verdict, tile, final, Past, end_of, section_grammar, body_grammar, content_grammar, header_grammar, verdict}
+use Rattle.wasm_parser.specs.Reading.{Told, ending, told_of, told_custom}
+use Rattle.wasm_parser.specs.Stands.{Stand, past_of, grammar_of, passed}
 use Rattle.wasm_parser.specs.Tiling.{inside}
-use Rattle.wasm_parser.specs.Unread.{unread_at}
 use Rattle.wasm_parser.specs.declared.payload.Encoding.{Encoding}
 use Rattle.wasm_parser.specs.declared.payload.Encoding.TheVariants.{Module, Component}
 use Rattle.wasm_parser.specs.declared.payload.Payload.{Payload}
 use Rattle.wasm_parser.specs.declared.payload.Payload.TheVariants.{End}
+use Rattle.wasm_parser.specs.declared.payload.Chunk.{Chunk}
 use Rattle.wasm_parser.specs.declared.payload.Chunk.TheVariants.{Parsed}
 use Rattle.wasm_parser.proofs.StandsLaws.{Each, each_tile, IsHeader, headed, IsBody, bodied}
-use Rattle.wasm_parser.proofs.Telling.{same_told}
 
 -- ---- how the stream ends where a section may start
 
+-- the whole rest is nothing
+at_end : (p : Stand) → p.expects_header ≡ false → nat_eq (p.bodies + p.left) 0 ≡ true → verdict (grammar_of p) [] ≡ final (end_of (past_of p) p.offset)
+unfolding section_grammar verdict
+at_end p h c = rw (h, c) refl
+
+-- whether a count above 0 lacks its other section
+abbrev pub is_lacking : Option ℕ → Option ℕ → Bool
+is_lacking count other = list_any (nat_lt 0) (option_to_list count) && nat_eq (length (option_to_list other)) 0
+
+-- an answer to nothing, by what the end is
+ends_as : (p : Stand) (e : Ending) (r : Result Chunk Error) → p.offset < 2 ^ 64 → p.expects_header ≡ false → nat_eq (p.bodies + p.left) 0 ≡ true → end_of (past_of p) p.offset ≡ e → Answers p (final e) r p → Parses p [] r p
+ends_as p e r l h c x a = record {
+  past_the_top = λ k. absurd (omega arith);
+  within = λ k. subst (λ (v : Verdict). Answers p v r p) (sym (at_end p h c ∙ ap final x)) a;
+}
+
 -- functions with no code
-pub functions_alone : (o f : ℕ) (e : Encoding) (r : ℕ) (fs ds : Option ℕ) (x : Error) → o < 2 ^ 64 → true ≡ list_any (nat_lt 0) (option_to_list fs) → fault_at x ≡ at_offset FunctionWithoutCode o
-    → Parses (stand_before_code o f false e r fs ds) [] (Err x) (stand_before_code o f false e r fs ds)
-unfolding unread_at section_grammar verdict
-functions_alone o f e r fs ds x l a h = record { past_the_top = λ k. absurd (omega arith); within = λ k. rw (← a) (h, refl) }
+pub functions_alone : (p : Stand) (x : Error) → p.offset < 2 ^ 64 → p.expects_header ≡ false → nat_eq (p.bodies + p.left) 0 ≡ true → true ≡ is_lacking p.functions p.codes → fault_at x ≡ at_offset FunctionWithoutCode p.offset
+    → Parses p [] (Err x) p
+functions_alone p x l h c a f = ends_as p (fault (at_offset FunctionWithoutCode p.offset)) (Err x) l h c (rw (← a) refl) (f, refl)
 
 -- data that is announced and missing
-pub data_count_alone : (o f : ℕ) (e : Encoding) (r : ℕ) (fs ds : Option ℕ) (x : Error) → o < 2 ^ 64 → false ≡ list_any (nat_lt 0) (option_to_list fs) → true ≡ list_any (nat_lt 0) (option_to_list ds) → fault_at x ≡ at_offset DataCountWithoutData o
-    → Parses (stand_before_code o f false e r fs ds) [] (Err x) (stand_before_code o f false e r fs ds)
-unfolding unread_at section_grammar verdict
-data_count_alone o f e r fs ds x l a b h = record { past_the_top = λ k. absurd (omega arith); within = λ k. rw (← a, ← b) (h, refl) }
+pub data_count_alone : (p : Stand) (x : Error) → p.offset < 2 ^ 64 → p.expects_header ≡ false → nat_eq (p.bodies + p.left) 0 ≡ true → false ≡ is_lacking p.functions p.codes → true ≡ is_lacking p.data_counts p.datas
+    → fault_at x ≡ at_offset DataCountWithoutData p.offset → Parses p [] (Err x) p
+data_count_alone p x l h c a b f = ends_as p (fault (at_offset DataCountWithoutData p.offset)) (Err x) l h c (rw (← a, ← b) refl) (f, refl)
 
--- no count above 0
-pub nothing_alone : (o f : ℕ) (e : Encoding) (r : ℕ) (fs ds : Option ℕ) → o < 2 ^ 64 → false ≡ list_any (nat_lt 0) (option_to_list fs) → false ≡ list_any (nat_lt 0) (option_to_list ds)
-    → Parses (stand_before_code o f false e r fs ds) [] (Ok (Parsed 0 (End o))) (stand_before_code o f false e r fs ds)
-unfolding unread_at section_grammar verdict
-nothing_alone o f e r fs ds l a b = record { past_the_top = λ k. absurd (omega arith); within = λ k. rw (← a, ← b) (refl, refl, refl) }
+-- nothing is lacking
+pub nothing_lacks : (p : Stand) (o : ℕ) → o ≡ p.offset → p.offset < 2 ^ 64 → p.expects_header ≡ false → nat_eq (p.bodies + p.left) 0 ≡ true → false ≡ is_lacking p.functions p.codes → false ≡ is_lacking p.data_counts p.datas
+    → Parses p [] (Ok (Parsed 0 (End o))) p
+nothing_lacks p o e l h c a b = ends_as p (ended p.offset) (Ok (Parsed 0 (End o))) l h c (rw (← a, ← b) refl) (refl, (ap ending e, tt), refl)
 
 -- ---- what a tile's kind says of its id
 
@@ -117,44 +129,32 @@ tile_id false p xs t e = inside_id (nat_eq (p.bodies + p.left) 0) (past_of p) p.
 
 -- ---- what a parser knows behind what it told
 
--- the parser behind what was told, which ends at this offset
-abbrev pub Behind : Stand → (to : ℕ) → Told → Stand → Type 0
-Behind p to (version num encoding start end) new = new ≡ record p { offset = to; expects_header = false; encoding = encoding; bodies = 0; left = 0 }
-Behind p to (counted id count window) new = (id ≡ 3) × (new ≡ record p { offset = to; expects_header = false; rank = 3; functions = Some count; bodies = 0; left = 0 })
-Behind p to (start_section func start end) new = new ≡ record p { offset = to; expects_header = false; rank = 9; bodies = 0; left = 0 }
-Behind p to (data_count_section count start end) new = new ≡ record p { offset = to; expects_header = false; rank = 11; data_counts = Some count; bodies = 0; left = 0 }
-Behind p to (custom_section name data_offset window) new = new ≡ record p { offset = to; expects_header = false; bodies = 0; left = 0 }
-Behind p to (unknown_section id contents start end) new = new ≡ record p { offset = to; expects_header = false; bodies = 0; left = 0 }
-Behind p to (code_start count start end size) new = ⊥
-Behind p to (code_entry window) new = ⊥
-Behind p to (stopped f) new = ⊥
-Behind p to (ending offset) new = ⊥
-
 -- a tile of these bytes
 abbrev tile_of : Shape → List ℕ → Tile
 tile_of shape bytes = record { shape = shape; bytes = bytes }
 
-behind_custom : (p new : Stand) (from to : ℕ) (content bytes : List ℕ) (n : Name) → to ≡ p.offset + length bytes → Behind p to (told_custom p.features from to content n) new → new ≡ record p { offset = p.offset + length bytes; expects_header = false; bodies = 0; left = 0 }
-behind_custom p new from to content bytes (named text used) l b = b ∙ ap (λ (o : ℕ). record p { offset = o; expects_header = false; bodies = 0; left = 0 }) l
-behind_custom p new from to content bytes (refused f place) l b = b ∙ ap (λ (o : ℕ). record p { offset = o; expects_header = false; bodies = 0; left = 0 }) l
+-- the parser behind a tile that is told at this offset
+abbrev behind_tile : Stand → ℕ → Shape → Stand
+behind_tile p to shape = behind_told p to (told_of p.features p.offset to shape)
 
-behind_is : (p new : Stand) (to : ℕ) (shape : Shape) (bytes : List ℕ) → HasItsId shape → to ≡ p.offset + length bytes → Behind p to (told_of p.features p.offset to shape) new → new ≡ passed p (tile_of shape bytes)
-behind_is p new to (header num encoding) bytes h l b = b ∙ ap (λ (o : ℕ). record p { offset = o; expects_header = false; encoding = encoding; bodies = 0; left = 0 }) l
-behind_is p new to (section items id content) bytes h l b =
-    b.1 ∙ (ap (λ (o : ℕ). record p { offset = o; expects_header = false; rank = 3; functions = Some (count_of content); bodies = 0; left = 0 }) l ∙ ap (λ (i : ℕ). passed p (tile_of (section items i content) bytes)) (sym b.0))
-behind_is p new to (section index id content) bytes h l b =
-    b ∙ (ap (λ (o : ℕ). record p { offset = o; expects_header = false; rank = 9; bodies = 0; left = 0 }) l ∙ ap (λ (i : ℕ). passed p (tile_of (section index i content) bytes)) (sym h))
-behind_is p new to (section data_count id content) bytes h l b =
-    b ∙ (ap (λ (o : ℕ). record p { offset = o; expects_header = false; rank = 11; data_counts = Some (count_of content); bodies = 0; left = 0 }) l ∙ ap (λ (i : ℕ). passed p (tile_of (section data_count i content) bytes)) (sym h))
-behind_is p new to (section custom id content) bytes h l b = behind_custom p new (to - length content) to content bytes (name (Some name_limit) content) l b
-behind_is p new to (section code id content) bytes h l b = absurd h
-behind_is p new to (section unknown id content) bytes h l b = b ∙ ap (λ (o : ℕ). record p { offset = o; expects_header = false; bodies = 0; left = 0 }) l
-behind_is p new to (code_head count width size) bytes h l b = absurd b
-behind_is p new to (body content) bytes h l b = absurd b
+behind_custom : (p : Stand) (from to : ℕ) (content : List ℕ) (n : Name) → behind_told p to (told_custom p.features from to content n) ≡ record p { offset = to; expects_header = false; bodies = 0; left = 0 }
+behind_custom p from to content (named text used) = refl
+behind_custom p from to content (refused f place) = refl
 
--- a payload that is told, and what is known behind it
-pub passes : (p old : Stand) (payload : Payload) (told : Told) (to : ℕ) (new : Stand) → p ≡ old → told_by payload ≡ Some told → Behind p to told new → Passes old payload to new
-passes p old payload told to new same e b =
-    let here : Passes p payload to new = λ rest t v l h.
-    behind_is p new to t.shape t.bytes (tile_id p.expects_header p rest t v) l (subst (λ (x : Told). Behind p to x new) (same_told told _ (sym e ∙ h)) b) in
-    subst (λ (x : Stand). Passes x payload to new) same here
+behind_at : (p : Stand) (shape : Shape) (bytes : List ℕ) → HasItsId shape → behind_tile p (p.offset + length bytes) shape ≡ passed p (tile_of shape bytes)
+behind_at p (header num encoding) bytes h = refl
+behind_at p (section items id content) bytes h = refl
+behind_at p (section index id content) bytes h = ap (λ (i : ℕ). passed p (tile_of (section index i content) bytes)) (sym h)
+behind_at p (section data_count id content) bytes h = ap (λ (i : ℕ). passed p (tile_of (section data_count i content) bytes)) (sym h)
+behind_at p (section custom id content) bytes h = behind_custom p (p.offset + length bytes - length content) (p.offset + length bytes) content (name (Some name_limit) content)
+behind_at p (section code id content) bytes h = absurd h
+behind_at p (section unknown id content) bytes h = refl
+behind_at p (code_head count width size) bytes h = refl
+behind_at p (body content) bytes h =
+    let t : p.offset + length bytes - p.offset ≡ length bytes = omega arith in
+    rw t refl
+
+-- a payload that was read is passed
+pub passes : (p new : Stand) (payload : Payload) (to : ℕ) → new ≡ behind_told p to (told_by payload) → Passes p payload to new
+passes p new payload to e rest t v l h =
+    e ∙ (ap (behind_told p to) h.0 ∙ (ap (λ (o : ℕ). behind_tile p o t.shape) l ∙ behind_at p t.shape t.bytes (tile_id p.expects_header p rest t v)))

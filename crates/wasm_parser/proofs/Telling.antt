@@ -10,7 +10,7 @@ use Rattle.wasm_base.specs.declared.fault.Fault.TheVariants.{UnexpectedEof}
 use Rattle.wasm_base.specs.declared.fault.NumberKind.TheVariants.{VarU32}
 use Rattle.wasm_base.proofs.NumberLaws.{Used, number-used}
 use Rattle.wasm_base.proofs.Texts.{advanced_twice}
-use Rattle.wasm_parser.specs.Answers.{told_by, IsTold, IsToldOrUnread}
+use Rattle.wasm_parser.specs.Answers.{IsPayload, IsTold}
 use Rattle.wasm_parser.specs.Content.{fault, ended}
 use Rattle.wasm_parser.specs.Grammar.{Shape, Verdict, tile, final, behind, behind_number, Grammar, takes, stops, refuse, number, bytes, verdict}
 use Rattle.wasm_parser.specs.Reading.{Told, told_of}
@@ -22,7 +22,7 @@ told_behind s p f (tile t) (Ok payload) a h =
     let n : length f + length t.bytes ≡ length (f ++ t.bytes) = sym (length-append f t.bytes) in
     let to : p.offset + length f + length t.bytes ≡ p.offset + length (f ++ t.bytes) = omega arith in (
       h.0 ∙ (advanced_twice (length f) (length t.bytes) p ∙ ap (λ (k : ℕ). advanced k p) n),
-      subst (λ (k : ℕ). told_by payload ≡ Some (told_of p.features s k t.shape)) to h.1,
+      subst (λ (k : ℕ). IsPayload (told_of p.features s k t.shape) payload) to h.1,
     )
 told_behind s p f (tile t) (Err e) a h = h
 told_behind s p f (final (fault x)) (Ok payload) a h = h
@@ -78,28 +78,16 @@ told_right s p None next r a h k = k
 told_right s p (Some x) next r a h k = cc
 
 -- the tile is whole
-pub told_whole : (s : ℕ) (p : Place) (shape : Shape) (payload : Payload) (a : Place) → a ≡ p → told_by payload ≡ Some (told_of p.features s p.offset shape) → IsTold s p (verdict (takes shape) p.rest) (Ok payload) a
+pub told_whole : (s : ℕ) (p : Place) (shape : Shape) (payload : Payload) (a : Place) → a ≡ p → IsPayload (told_of p.features s p.offset shape) payload → IsTold s p (verdict (takes shape) p.rest) (Ok payload) a
 unfolding verdict
 told_whole s p shape payload a e h =
     let o : p.offset ≡ p.offset + 0 = sym (add-zero p.offset) in
     let z : p ≡ advanced 0 p = λ i. record { features = p.features; offset = o i; rest = p.rest } in
-    (e ∙ z, subst (λ (k : ℕ). told_by payload ≡ Some (told_of p.features s k shape)) o h)
+    (e ∙ z, subst (λ (k : ℕ). IsPayload (told_of p.features s k shape) payload) o h)
 
 pub told_stops : (s : ℕ) (p : Place) (f : FaultAt) (e : Error) (a : Place) → fault_at e ≡ f → IsTold s p (verdict (stops f) p.rest) (Err e) a
 unfolding verdict
 told_stops s p f e a h = h
-
--- the same where a section may not be read yet
-pub unless_unread : (u : Option ℕ) (s t : ℕ) (p q : Place) (v w : Verdict) (r : Result Payload Error) (a : Place) → (IsTold s p v r a → IsTold t q w r a) → IsToldOrUnread u s p v r a → IsToldOrUnread u t q w r a
-unless_unread None s t p q v w r a f h = f h
-unless_unread (Some id) s t p q v w r a f h = h
-
-pub nothing_unread : (u : Option ℕ) (s : ℕ) (p : Place) (v : Verdict) (r : Result Payload Error) (a : Place) → u ≡ None → IsTold s p v r a → IsToldOrUnread u s p v r a
-nothing_unread None s p v r a e h = h
-nothing_unread (Some id) s p v r a e h = cc
-
-pub same_unread : (u w : Option ℕ) (s : ℕ) (p : Place) (v : Verdict) (r : Result Payload Error) (a : Place) → u ≡ w → IsToldOrUnread w s p v r a → IsToldOrUnread u s p v r a
-same_unread u w s p v r a e h = subst (λ (o : Option ℕ). IsToldOrUnread o s p v r a) (sym e) h
 
 -- what was read of a number
 pub record ReadNumber (p : Place) (v : ℕ) (q : Place) : Type 0 where
@@ -120,7 +108,3 @@ read_number_at p v q short e h = cc
 pub read_number : (p : Place) (v : ℕ) (q : Place) → unsigned_at VarU32 p ≡ Ok (v, q) → ReadNumber p v q
 unfolding unsigned_at
 read_number p v q h = read_number_at p v q (number_at VarU32 p.rest) refl h
-
--- what is told once is told alike
-pub same_told : (x y : Told) → Some x ≡ Some y → x ≡ y
-same_told x y e = cc

@@ -1,67 +1,111 @@
 -- What one call of a parser answers.
-use Rattle.std.specs.Prelude.{◌≡◌, ℕ, ◌+◌, ◌≤◌, ◌<◌, ◌^◌, List, length, Option, Some, None, Result, Ok, Err}
+use Rattle.std.specs.Prelude.{◌≡◌, ℕ, ◌+◌, ◌≤◌, ◌<◌, ◌^◌, List, length, Option, Some, None, IfSome, Result, Ok, Err}
 use Rattle.wasm_base.specs.FaultAt.{FaultAt, fault_at, at_offset}
-use Rattle.wasm_base.specs.Window.{Place, place, advanced}
+use Rattle.wasm_base.specs.Number.{unsigned_at}
+use Rattle.wasm_base.specs.Section.{Section}
+use Rattle.wasm_base.specs.Window.{Window, Place, place, advanced, whole_window}
 use Rattle.wasm_base.specs.declared.error.Error.{Error}
 use Rattle.wasm_base.specs.declared.fault.Fault.TheVariants.{OffsetRange}
+use Rattle.wasm_base.specs.declared.fault.NumberKind.TheVariants.{VarU32}
 use Rattle.wasm_parser.specs.Content.{fault, ended}
 use Rattle.wasm_parser.specs.Grammar.{Tile, Verdict, tile, final, Grammar, verdict}
-use Rattle.wasm_parser.specs.Reading.{Told, version, counted, start_section, data_count_section, custom_section, unknown_section, ending, told_of, told_ending}
+use Rattle.wasm_parser.specs.Reading.{Told, version, counted, start_section, data_count_section, code_start, code_entry, custom_section, unknown_section, ending, told_of, told_ending}
 use Rattle.wasm_parser.specs.Stands.{Stand, grammar_of, passed}
-use Rattle.wasm_parser.specs.Unread.{unread_in}
 use Rattle.wasm_parser.specs.declared.payload.Payload.{Payload}
-use Rattle.wasm_parser.specs.declared.payload.Payload.TheVariants.{Version, FunctionSection, StartSection, DataCountSection, CustomSection, UnknownSection, NotYet, End}
+use Rattle.wasm_parser.specs.declared.payload.Payload.TheVariants.{Version, TypeSection, ImportSection, FunctionSection, TableSection, MemorySection, TagSection, GlobalSection, ExportSection, StartSection, ElementSection, DataCountSection, DataSection, CodeSectionStart, CodeSectionEntry, CustomSection, UnknownSection, End}
 use Rattle.wasm_parser.specs.declared.payload.Chunk.{Chunk}
 use Rattle.wasm_parser.specs.declared.payload.Chunk.TheVariants.{NeedMoreData, Parsed}
 
--- what a payload tells; a section that isn't read yet tells nothing
-abbrev pub told_by : Payload → Option Told
-told_by (Version num encoding range) = Some (version num encoding range.start range.end)
-told_by (FunctionSection s) = Some (counted 3 s.count (record s.reader { position = 0 }))
-told_by (StartSection func range) = Some (start_section func range.start range.end)
-told_by (DataCountSection count range) = Some (data_count_section count range.start range.end)
-told_by (CustomSection s) = Some (custom_section s.name (place s.reader).offset (record s.reader { position = 0 }))
-told_by (UnknownSection id contents range) = Some (unknown_section id contents.now range.start range.end)
-told_by (NotYet id) = None
-told_by (End at) = Some (ending at)
+-- the window that a reader reads, from its first byte
+abbrev pub unread : Window → Window
+unread w = record w { position = 0 }
+
+-- a section with this id that begins with a count
+abbrev pub counted_by : ℕ → Section → Told
+counted_by id s = counted id s.count (unread s.reader)
+
+-- what a payload tells
+abbrev pub told_by : Payload → Told
+told_by (Version num encoding range) = version num encoding range.start range.end
+told_by (TypeSection s) = counted_by 1 s
+told_by (ImportSection s) = counted_by 2 s
+told_by (FunctionSection s) = counted_by 3 s
+told_by (TableSection s) = counted_by 4 s
+told_by (MemorySection s) = counted_by 5 s
+told_by (TagSection s) = counted_by 13 s
+told_by (GlobalSection s) = counted_by 6 s
+told_by (ExportSection s) = counted_by 7 s
+told_by (StartSection func range) = start_section func range.start range.end
+told_by (ElementSection s) = counted_by 9 s
+told_by (DataCountSection count range) = data_count_section count range.start range.end
+told_by (DataSection s) = counted_by 11 s
+told_by (CodeSectionStart count unchecked_range size) = code_start count unchecked_range.start unchecked_range.end size
+told_by (CodeSectionEntry body) = code_entry body.reader
+told_by (CustomSection s) = custom_section s.name (place s.reader).offset (unread s.reader)
+told_by (UnknownSection id contents range) = unknown_section id contents.now range.start range.end
+told_by (End at) = ending at
+
+-- The section's items begin behind its count.
+abbrev pub BeginsBehindCount : Section → Type 0
+BeginsBehindCount s = unsigned_at VarU32 (place (unread s.reader)) ≡ Ok (s.count, place s.reader)
+
+-- the id and the section of a payload that begins with a count of items
+abbrev pub items_in : Payload → Option (ℕ × Section)
+items_in (TypeSection s) = Some (1, s)
+items_in (ImportSection s) = Some (2, s)
+items_in (FunctionSection s) = Some (3, s)
+items_in (TableSection s) = Some (4, s)
+items_in (MemorySection s) = Some (5, s)
+items_in (TagSection s) = Some (13, s)
+items_in (GlobalSection s) = Some (6, s)
+items_in (ExportSection s) = Some (7, s)
+items_in (ElementSection s) = Some (9, s)
+items_in (DataSection s) = Some (11, s)
+items_in (Version num encoding range) = None
+items_in (StartSection func range) = None
+items_in (DataCountSection count range) = None
+items_in (CodeSectionStart count unchecked_range size) = None
+items_in (CodeSectionEntry body) = None
+items_in (CustomSection s) = None
+items_in (UnknownSection id contents range) = None
+items_in (End at) = None
+
+-- The reader in a payload stands where the items begin.
+abbrev pub ItemsBegin : Payload → Type 0
+ItemsBegin payload = IfSome (items_in payload) (λ x. BeginsBehindCount x.1)
+
+-- The payload tells this, and what it holds is read from the right place on.
+abbrev pub IsPayload : Told → Payload → Type 0
+IsPayload told payload = (told_by payload ≡ told) × ItemsBegin payload
 
 -- what a payload that was read says of the tile that begins at this offset, or behind it
 abbrev pub IsTold : (start : ℕ) (before : Place) → Verdict → Result Payload Error → (after : Place) → Type 0
-IsTold start before (tile t) (Ok payload) after = (after ≡ advanced (length t.bytes) before) × (told_by payload ≡ Some (told_of before.features start (before.offset + length t.bytes) t.shape))
+IsTold start before (tile t) (Ok payload) after = (after ≡ advanced (length t.bytes) before) × IsPayload (told_of before.features start (before.offset + length t.bytes) t.shape) payload
 IsTold start before (tile t) (Err e) after = ⊥
 IsTold start before (final (fault f)) (Ok payload) after = ⊥
 IsTold start before (final (fault f)) (Err e) after = fault_at e ≡ f
 IsTold start before (final (ended offset)) (Ok payload) after = ⊥
 IsTold start before (final (ended offset)) (Err e) after = ⊥
 
-abbrev pub IsToldOrUnread : Option ℕ → (start : ℕ) (before : Place) → Verdict → Result Payload Error → (after : Place) → Type 0
-IsToldOrUnread (Some id) start before v result after = result ≡ Ok (NotYet id)
-IsToldOrUnread None start before v result after = IsTold start before v result after
-
 -- What was read at a place is what may stand there by this grammar, a tile or a fault, and the reader stands behind
--- the tile; or it is a section with this id that isn't read yet.
-abbrev pub StandsThere : Option ℕ → Grammar → (before : Place) → Result Payload Error → (after : Place) → Type 0
-StandsThere unread g before result after = (start : ℕ) → IsToldOrUnread unread start before (verdict g before.rest) result after
+-- the tile.
+abbrev pub StandsThere : Grammar → (before : Place) → Result Payload Error → (after : Place) → Type 0
+StandsThere g before result after = (start : ℕ) → IsTold start before (verdict g before.rest) result after
 
 -- The parser answers what stands next, and has passed it; at the end of the stream and at a fault it stays.
 abbrev pub Answers : Stand → Verdict → Result Chunk Error → Stand → Type 0
 Answers old v (Ok (NeedMoreData hint)) new = ⊥
 Answers old (tile t) (Ok (Parsed consumed payload)) new =
-    (consumed ≡ length t.bytes) × (told_by payload ≡ Some (told_of old.features old.offset (old.offset + length t.bytes) t.shape)) × (new ≡ passed old t)
+    (consumed ≡ length t.bytes) × IsPayload (told_of old.features old.offset (old.offset + length t.bytes) t.shape) payload × (new ≡ passed old t)
 Answers old (tile t) (Err e) new = ⊥
-Answers old (final e) (Ok (Parsed consumed payload)) new = (consumed ≡ 0) × (told_by payload ≡ Some (told_ending e)) × (new ≡ old)
+Answers old (final e) (Ok (Parsed consumed payload)) new = (consumed ≡ 0) × IsPayload (told_ending e) payload × (new ≡ old)
 Answers old (final (fault f)) (Err e) new = (fault_at e ≡ f) × (new ≡ old)
 Answers old (final (ended offset)) (Err e) new = ⊥
-
--- the same, but for a section that isn't read yet
-abbrev pub AnswersOrUnread : Option ℕ → Stand → Verdict → Result Chunk Error → Stand → Type 0
-AnswersOrUnread (Some id) old v result new = (result ≡ Ok (Parsed 0 (NotYet id))) × (new ≡ old)
-AnswersOrUnread None old v result new = Answers old v result new
 
 -- The parser has passed the tile that this payload tells of, and that ends at this offset.
 abbrev pub Passes : Stand → Payload → (to : ℕ) → Stand → Type 0
 Passes old payload to new = (rest : List ℕ) (t : Tile) → verdict (grammar_of old) rest ≡ tile t → to ≡ old.offset + length t.bytes
-    → told_by payload ≡ Some (told_of old.features old.offset to t.shape) → new ≡ passed old t
+    → IsPayload (told_of old.features old.offset to t.shape) payload → new ≡ passed old t
 
 -- an answer that is this fault and changes nothing
 abbrev pub IsFaultAlone : FaultAt → Stand → Result Chunk Error → Stand → Type 0
@@ -71,4 +115,4 @@ IsFaultAlone f old (Err e) new = (fault_at e ≡ f) × (new ≡ old)
 -- what one call answers on all the rest of a stream
 pub record Parses (old : Stand) (rest : List ℕ) (result : Result Chunk Error) (new : Stand) : Type 0 where
   pub past_the_top : 2 ^ 64 ≤ old.offset + length rest → IsFaultAlone (at_offset OffsetRange old.offset) old result new
-  pub within : old.offset + length rest < 2 ^ 64 → AnswersOrUnread (unread_in old rest) old (verdict (grammar_of old) rest) result new
+  pub within : old.offset + length rest < 2 ^ 64 → Answers old (verdict (grammar_of old) rest) result new

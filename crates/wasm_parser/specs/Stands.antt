@@ -33,14 +33,9 @@ pub record Stand : Type 0 where
   pub bodies : ℕ
   pub left : ℕ
 
--- a parser that has passed no code section and no data section
-abbrev pub stand_before_code : (offset features : ℕ) → Bool → Encoding → (rank : ℕ) (functions data_counts : Option ℕ) → Stand
-stand_before_code offset features expects_header encoding rank functions data_counts =
-    record { offset = offset; features = features; expects_header = expects_header; encoding = encoding; rank = rank; functions = functions; codes = None; datas = None; data_counts = data_counts; bodies = 0; left = 0 }
-
 -- a parser that has passed nothing of a stream
 abbrev pub new_stand : (offset features : ℕ) → Stand
-new_stand offset features = stand_before_code offset features true Module 0 None None
+new_stand offset features = record { offset = offset; features = features; expects_header = true; encoding = Module; rank = 0; functions = None; codes = None; datas = None; data_counts = None; bodies = 0; left = 0 }
 
 -- The parser stands behind this front of a stream that starts at this offset.
 pub record Stands (p : Stand) (start : ℕ) (covered : List ℕ) : Type 0 where

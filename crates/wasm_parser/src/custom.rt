@@ -9,7 +9,7 @@ use wasm_base::{BinaryReader, Result};
 
 /// A custom section: its name, and its data behind it (core specification, Binary format, Custom Section).
 #[derive(Clone, Drop)]
-pub(crate) struct CustomSectionReader<'a> {
+pub struct CustomSectionReader<'a> {
     name: &'a str,
     reader: BinaryReader<'a>,
 }
@@ -26,7 +26,7 @@ impl<'a> CustomSectionReader<'a> {
     ghost use Rattle.wasm_parser.specs.Custom.{ReadsCustom};
 
     /// Reads the name; what is left is the data. The faults are those of a name.
-    pub(crate) fn new(mut reader: BinaryReader<'a>) -> Result<Self>
+    pub fn new(mut reader: BinaryReader<'a>) -> Result<Self>
         ensures { ReadsCustom reader.entry result }
     {
         let name = reader.read_string()?;
@@ -34,42 +34,42 @@ impl<'a> CustomSectionReader<'a> {
     }
 
     /// The section's name.
-    pub(crate) fn name(&self) -> &'a str
+    pub fn name(&self) -> &'a str
         ensures { result.now ≡ self.now.name }
     {
         self.name
     }
 
     /// The bytes behind the name.
-    pub(crate) fn data(&self) -> &'a [u8]
+    pub fn data(&self) -> &'a [u8]
         ensures { result.now ≡ (place self.now.reader).rest }
     {
         self.reader.remaining_buffer()
     }
 
     /// The stream offset at which the data begins.
-    pub(crate) fn data_offset(&self) -> u64
+    pub fn data_offset(&self) -> u64
         ensures { result ≡ (place self.now.reader).offset }
     {
         self.reader.original_position()
     }
 
     /// The stream offsets of the data.
-    pub(crate) fn data_range(&self) -> Range<u64>
+    pub fn data_range(&self) -> Range<u64>
         ensures { result ≡ record { start = (place self.now.reader).offset; end = self.now.reader.start + length self.now.reader.bytes } }
     {
         self.reader.remaining_range()
     }
 
     /// The stream offsets of the name, its size and the data.
-    pub(crate) fn range(&self) -> Range<u64>
+    pub fn range(&self) -> Range<u64>
         ensures { result ≡ record { start = self.now.reader.start; end = self.now.reader.start + length self.now.reader.bytes } }
     {
         self.reader.range()
     }
 
     /// A reader of the data.
-    pub(crate) fn data_reader(&self) -> BinaryReader<'a>
+    pub fn data_reader(&self) -> BinaryReader<'a>
         ensures { result ≡ whole_window (place self.now.reader) }
     {
         self.reader.shrink()
@@ -77,7 +77,7 @@ impl<'a> CustomSectionReader<'a> {
 }
 
 /// A text that stands for bytes that are not printed.
-pub(crate) struct Dots;
+struct Dots;
 
 impl fmt::Debug for Dots {
     fn fmt<W: fmt::Write>(&self, f: &mut fmt::Formatter<W>) -> fmt::Result {

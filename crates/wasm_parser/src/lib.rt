@@ -1,6 +1,7 @@
 //! The parser of WebAssembly modules and of components' headers.
 #![tactic(auto)]
 
+mod behind;
 mod custom;
 pub mod laws;
 mod parser;
@@ -9,4 +10,6 @@ mod sections;
 #[cfg(test)]
 mod tests;
 
-pub use payload::Encoding;
+pub use custom::CustomSectionReader;
+pub use parser::Parser;
+pub use payload::{Chunk, Encoding, Payload};

@@ -1,46 +1,53 @@
 // The parser of a stream.
-ghost use Rattle.std.specs.List.{list_any};
-ghost use Rattle.std.specs.Prelude.{◌≡◌, ◌+◌, ◌-◌, ◌<◌, ◌^◌, ◌==◌, ◌&&◌, not, IsTrue, IfOk, None, false, [], length, nat_lt, nat_le, option_to_list};
+ghost use Rattle.std.specs.List.{list_all, list_any};
+ghost use Rattle.std.specs.Prelude.{◌≡◌, ◌+◌, ◌-◌, ◌<◌, ◌^◌, ◌==◌, ◌&&◌, not, IsTrue, IfOk, true, false, [], length, nat_lt, nat_le, nat_eq, option_to_list};
 ghost use Rattle.wasm_base.specs.Header.{magic, agree};
 ghost use Rattle.wasm_base.specs.Outcome.{Gives};
-ghost use Rattle.wasm_base.specs.Window.{place};
-ghost use Rattle.wasm_parser.specs.ContentAt.{content_at};
-ghost use Rattle.wasm_parser.specs.Answers.{IsTold, IsToldOrUnread, StandsThere, Passes, Parses};
+ghost use Rattle.wasm_base.specs.Window.{place, KeepsWindow};
+ghost use Rattle.wasm_parser.specs.Answers.{told_by, IsTold, StandsThere, Passes, Parses};
 ghost use Rattle.wasm_parser.specs.Content.{custom, items, index, data_count, unknown, kind_of as form_of};
-ghost use Rattle.wasm_parser.specs.Grammar.{verdict, header_grammar, section_grammar, framed as framed_grammar, sized as sized_grammar, content_grammar, whole_grammar, encoding_named as named};
+ghost use Rattle.wasm_parser.specs.ContentAt.{content_at};
+ghost use Rattle.wasm_parser.specs.Counts.{kind_of_module, ReadsCounted, is_miscounted_by};
+ghost use Rattle.wasm_parser.specs.Grammar.{verdict, header_grammar, section_grammar, framed as framed_grammar, sized as sized_grammar, content_grammar, whole_grammar, code_grammar, body_grammar, encoding_named as named};
 ghost use Rattle.wasm_parser.specs.Kinds.{kind_is};
 ghost use Rattle.wasm_parser.specs.Reading.{window_over};
 ghost use Rattle.wasm_parser.specs.Single.{ReadsSingle};
 ghost use Rattle.wasm_parser.specs.Stands.{new_stand, past_of, grammar_of};
-ghost use Rattle.wasm_parser.specs.Unread.{unread_at, unread_framed, unread_ending, unread_in, is_unread as unread};
 
+use crate::behind::{bodies_after, count_after, encoding_after, left_after, rank_after};
 use crate::custom::CustomSectionReader;
 use crate::payload::{Chunk, Encoding, Payload};
-use crate::sections::{Kind, is_unread, kind_of, rank_of};
+use crate::sections::{Kind, kind_of, rank_of};
 use bitflags::Flags;
 use std::marker::Model;
 use wasm_base::{BinaryReader, Error, Fault, Result, SectionLimited, WasmFeatures, fits};
+use wasm_items::FunctionBody;
 
 /// Where the reading of a stream stands.
-#[derive(Drop)]
-pub(crate) struct Parser {
+#[derive(Clone, Debug, Drop)]
+pub struct Parser {
     offset: u64,
     features: WasmFeatures,
     expects_header: bool,
     encoding: Encoding,
     // The greatest rank of a section, or 0.
     rank: u8,
-    // The counts of the function and the data count section.
+    // The counts of the function, code, data and data count sections.
     functions: Option<u32>,
+    codes: Option<u32>,
+    datas: Option<u32>,
     data_counts: Option<u32>,
+    // The bodies and the bytes that a code section still misses.
+    bodies: u32,
+    left: u32,
 }
 
 impl Model for Parser {
-    ghost use Rattle.wasm_parser.specs.Stands.{Stand, stand_before_code};
+    ghost use Rattle.wasm_parser.specs.Stands.{Stand};
 
     ghost Value = { Stand };
 
-    ghost view = { λ p. stand_before_code p.offset p.features.0 p.expects_header p.encoding p.rank p.functions p.data_counts };
+    ghost view = { λ p. record { offset = p.offset; features = p.features.0; expects_header = p.expects_header; encoding = p.encoding; rank = p.rank; functions = p.functions; codes = p.codes; datas = p.datas; data_counts = p.data_counts; bodies = p.bodies; left = p.left } };
 }
 
 // The encoding that a header's version and kind name.
@@ -93,7 +100,7 @@ fn is_magic(front: &[u8]) -> bool
 
 impl Parser {
     /// A parser of a stream that begins at this offset, with all features.
-    pub(crate) fn new(offset: u64) -> Self
+    pub fn new(offset: u64) -> Self
         ensures { result ≡ new_stand offset 3 }
     {
         Parser {
@@ -103,12 +110,16 @@ impl Parser {
             encoding: Encoding::Module,
             rank: 0,
             functions: None,
+            codes: None,
+            datas: None,
             data_counts: None,
+            bodies: 0,
+            left: 0,
         }
     }
 
     /// The stream offset of what comes next.
-    pub(crate) fn offset(&self) -> u64
+    pub fn offset(&self) -> u64
         ensures { result ≡ self.now.offset }
     {
         self.offset
@@ -124,6 +135,13 @@ impl Parser {
         ensures { result ≡ self.now.expects_header }
     {
         self.expects_header
+    }
+
+    // Whether a code section isn't at its end.
+    fn in_code(&self) -> bool
+        ensures { result ≡ not (nat_eq (self.now.bodies + self.now.left) 0) }
+    {
+        self.bodies > 0 || self.left > 0
     }
 
     // A reader of bytes that begin where the parser stands.
@@ -144,7 +162,7 @@ impl Parser {
     // What stands where a section may start, and bytes are left.
     fn section<'a>(&self, reader: &mut BinaryReader<'a>) -> Result<Payload<'a>>
         requires { 0 < length (place reader.old).rest }
-        ensures { StandsThere (unread_at self.now.encoding (place reader.old).offset (place reader.old).rest) (section_grammar (past_of self.now) (place reader.old).offset) (place reader.old) result (place reader.new) }
+        ensures { StandsThere (section_grammar (past_of self.now) (place reader.old).offset) (place reader.old) result (place reader.new) }
     {
         let start = reader.original_position();
         if magic_follows(reader) {
@@ -157,7 +175,7 @@ impl Parser {
     // A section with this id, which stands at this offset, just before the reader.
     fn framed<'a>(&self, start: u64, id: u8, reader: &mut BinaryReader<'a>) -> Result<Payload<'a>>
         requires { start + 1 ≡ (place reader.old).offset }
-        ensures { StandsThere (unread_framed self.now.encoding id (start + 1) (place reader.old).rest) (framed_grammar (past_of self.now) start id) (place reader.old) result (place reader.new) }
+        ensures { StandsThere (framed_grammar (past_of self.now) start id) (place reader.old) result (place reader.new) }
     {
         if id >= 128 {
             return Err(Error::new(Fault::MalformedSectionId, start));
@@ -175,22 +193,19 @@ impl Parser {
         size: u32,
         reader: &mut BinaryReader<'a>,
     ) -> Result<Payload<'a>>
-        ensures { StandsThere (unread_ending (form_of self.now.encoding id) id ((place reader.old).offset + size)) (sized_grammar (past_of self.now) (form_of self.now.encoding id) id field (place reader.old).offset size) (place reader.old) result (place reader.new) }
+        ensures { StandsThere (sized_grammar (past_of self.now) (form_of self.now.encoding id) id field (place reader.old).offset size) (place reader.old) result (place reader.new) }
     {
         if u64::from(size) > u64::MAX - reader.original_position() {
             return Err(Error::new(Fault::SectionTooLarge, field).with_number(u64::from(size)));
         }
         let kind = kind_of(self.encoding(), id);
-        if is_unread(kind, id) {
-            return Ok(Payload::NotYet(id));
-        }
         if self.is_out_of_order(rank_of(kind, id)) {
             return Err(Error::new(Fault::OutOfOrder, reader.original_position()));
         }
         self.content(kind, id, size, reader)
     }
 
-    // The content of a section of this kind, which is one that is read.
+    // The content of a section of this kind.
     fn content<'a>(
         &self,
         kind: Kind,
@@ -198,42 +213,46 @@ impl Parser {
         size: u32,
         reader: &mut BinaryReader<'a>,
     ) -> Result<Payload<'a>>
-        requires { unread (kind_is kind) id ≡ false }
-        ensures { StandsThere None (content_grammar (past_of self.now) (kind_is kind) id (place reader.old).offset size) (place reader.old) result (place reader.new) }
+        requires known { kind_is kind ≡ form_of self.now.encoding id }
+        requires fits { (place reader.old).offset + size < 2 ^ 64 }
+        ensures { StandsThere (content_grammar (past_of self.now) (kind_is kind) id (place reader.old).offset size) (place reader.old) result (place reader.new) }
     {
         match kind {
             Kind::Custom => self.custom(id, size, reader),
-            Kind::Items => self.functions(id, size, reader),
+            Kind::Items => self.items(id, size, reader),
             Kind::Index => self.start(id, size, reader),
             Kind::DataCount => self.data_count(id, size, reader),
-            Kind::Code => unreachable!(),
+            Kind::Code => self.code(size, reader),
             Kind::Unknown => self.unknown(id, size, reader),
         }
     }
 
-    // What stands where the parser stands, if bytes are left there or a header is expected.
+    // What stands where the parser stands, if bytes are left there, or a header or a body is expected.
     fn read<'a>(&self, reader: &mut BinaryReader<'a>) -> Result<Payload<'a>>
         requires starts { (place reader.old).offset ≡ self.now.offset }
-        requires some { self.now.expects_header ≡ false → 0 < length (place reader.old).rest }
-        ensures { IsToldOrUnread (unread_in self.now (place reader.old).rest) self.now.offset (place reader.old) (verdict (grammar_of self.now) (place reader.old).rest) result (place reader.new) }
+        requires some { self.now.expects_header ≡ false → nat_eq (self.now.bodies + self.now.left) 0 ≡ true → 0 < length (place reader.old).rest }
+        ensures { IsTold self.now.offset (place reader.old) (verdict (grammar_of self.now) (place reader.old).rest) result (place reader.new) }
     {
         if self.expects_header {
             header(reader)
+        } else if self.in_code() {
+            self.body(reader)
         } else {
             self.section(reader)
         }
     }
 
-    // How the stream ends where the parser stands: each count above 0 wants its other section, which isn't read yet.
+    // How the stream ends where the parser stands: each count above 0 wants its other section.
     fn end<'a>(&self) -> Result<Chunk<'a>>
-        requires { self.now.expects_header ≡ false }
+        requires header { self.now.expects_header ≡ false }
+        requires code { nat_eq (self.now.bodies + self.now.left) 0 ≡ true }
         ensures { Parses self.now [] result self.now }
     {
         let end = self.offset();
-        if is_above_zero(self.functions) {
+        if lacks(self.functions, self.codes) {
             return Err(Error::new(Fault::FunctionWithoutCode, end));
         }
-        if is_above_zero(self.data_counts) {
+        if lacks(self.data_counts, self.datas) {
             return Err(Error::new(Fault::DataCountWithoutData, end));
         }
         Ok(Chunk::Parsed {
@@ -246,28 +265,24 @@ impl Parser {
     fn pass(&mut self, payload: &Payload, end: u64)
         ensures { Passes self.old payload.now end self.new }
     {
+        let taken = end.saturating_sub(self.offset);
         self.offset = end;
         self.expects_header = false;
-        match payload {
-            Payload::Version { encoding, .. } => self.encoding = *encoding,
-            Payload::FunctionSection(section) => {
-                self.rank = rank_of(Kind::Items, 3);
-                self.functions = Some(section.count());
-            }
-            Payload::StartSection { .. } => self.rank = rank_of(Kind::Index, 8),
-            Payload::DataCountSection { count, .. } => {
-                self.rank = rank_of(Kind::DataCount, 12);
-                self.data_counts = Some(*count);
-            }
-            _ => {}
-        }
+        self.encoding = encoding_after(payload, self.encoding);
+        self.rank = rank_after(payload, self.rank);
+        self.functions = count_after(payload, 3, self.functions);
+        self.codes = count_after(payload, 10, self.codes);
+        self.datas = count_after(payload, 11, self.datas);
+        self.data_counts = count_after(payload, 12, self.data_counts);
+        self.bodies = bodies_after(payload, self.bodies);
+        self.left = left_after(payload, taken, self.left);
     }
 
     /// Reads what comes next in the stream of which these bytes are all the rest.
     ///
-    /// The parser then stands behind it. After a fault, and before a section that isn't read yet, it is unchanged.
+    /// The parser then stands behind it. After a fault it is unchanged.
     /// `OffsetRange` at the parser's offset, where the bytes pass the offsets of a stream.
-    pub(crate) fn parse<'a>(&mut self, bytes: &'a [u8], eof: bool) -> Result<Chunk<'a>>
+    pub fn parse<'a>(&mut self, bytes: &'a [u8], eof: bool) -> Result<Chunk<'a>>
         requires { IsTrue eof }
         ensures { Parses self.old bytes.now result self.new }
     {
@@ -275,17 +290,11 @@ impl Parser {
         if !fits(start, bytes.len()) {
             return Err(Error::new(Fault::OffsetRange, start));
         }
-        if bytes.is_empty() && !self.expects_header() {
+        if bytes.is_empty() && !self.expects_header() && !self.in_code() {
             return self.end();
         }
         let mut reader = self.reader(bytes);
         let payload = self.read(&mut reader)?;
-        if let Payload::NotYet(_) = payload {
-            return Ok(Chunk::Parsed {
-                consumed: 0,
-                payload,
-            });
-        }
         let end = reader.original_position();
         self.pass(&payload, end);
         Ok(Chunk::Parsed {
@@ -296,24 +305,38 @@ impl Parser {
 
     // The content of a custom section.
     fn custom<'a>(&self, id: u8, size: u32, reader: &mut BinaryReader<'a>) -> Result<Payload<'a>>
-        ensures { StandsThere None (whole_grammar (past_of self.now) custom id (place reader.old).offset size) (place reader.old) result (place reader.new) }
+        ensures { StandsThere (whole_grammar (past_of self.now) custom id (place reader.old).offset size) (place reader.old) result (place reader.new) }
     {
         let window = window(size, reader)?;
         Ok(Payload::CustomSection(CustomSectionReader::new(window)?))
     }
 
-    // The content of a function section: a count, and so many type indices.
-    fn functions<'a>(&self, id: u8, size: u32, reader: &mut BinaryReader<'a>) -> Result<Payload<'a>>
-        requires { id ≡ 3 }
-        ensures { StandsThere None (whole_grammar (past_of self.now) items id (place reader.old).offset size) (place reader.old) result (place reader.new) }
+    // The content of a section that is a count, and so many items. The data section has as many as were announced.
+    fn items<'a>(&self, id: u8, size: u32, reader: &mut BinaryReader<'a>) -> Result<Payload<'a>>
+        requires { kind_of_module id ≡ items }
+        ensures { StandsThere (whole_grammar (past_of self.now) items id (place reader.old).offset size) (place reader.old) result (place reader.new) }
     {
         let window = window(size, reader)?;
-        Ok(Payload::FunctionSection(SectionLimited::new(window)?))
+        let payload = counted(id, window)?;
+        if self.is_miscounted(&payload) {
+            return Err(Error::new(Fault::DataCountDiffer, reader.original_position()));
+        }
+        Ok(payload)
+    }
+
+    // Whether another count of data segments was announced.
+    fn is_miscounted(&self, payload: &Payload) -> bool
+        ensures { result ≡ is_miscounted_by (option_to_list self.now.data_counts) (told_by payload.now) }
+    {
+        match payload {
+            Payload::DataSection(section) => differs(self.data_counts, section.count()),
+            _ => false,
+        }
     }
 
     // The content of a start section: the index of a function.
     fn start<'a>(&self, id: u8, size: u32, reader: &mut BinaryReader<'a>) -> Result<Payload<'a>>
-        ensures { StandsThere None (whole_grammar (past_of self.now) index id (place reader.old).offset size) (place reader.old) result (place reader.new) }
+        ensures { StandsThere (whole_grammar (past_of self.now) index id (place reader.old).offset size) (place reader.old) result (place reader.new) }
     {
         let window = window(size, reader)?;
         let range = window.range();
@@ -328,7 +351,7 @@ impl Parser {
         size: u32,
         reader: &mut BinaryReader<'a>,
     ) -> Result<Payload<'a>>
-        ensures { StandsThere None (whole_grammar (past_of self.now) data_count id (place reader.old).offset size) (place reader.old) result (place reader.new) }
+        ensures { StandsThere (whole_grammar (past_of self.now) data_count id (place reader.old).offset size) (place reader.old) result (place reader.new) }
     {
         let window = window(size, reader)?;
         let range = window.range();
@@ -336,9 +359,50 @@ impl Parser {
         Ok(Payload::DataCountSection { count, range })
     }
 
+    // The head of a code section: a count of bodies, each of which has its function.
+    fn code<'a>(&self, size: u32, reader: &mut BinaryReader<'a>) -> Result<Payload<'a>>
+        requires { (place reader.old).offset + size < 2 ^ 64 }
+        ensures { StandsThere (code_grammar (past_of self.now) (place reader.old).offset size) (place reader.old) result (place reader.new) }
+    {
+        let start = reader.original_position();
+        let end = start + u64::from(size);
+        let count = reader.read_var_u32()?;
+        let behind = reader.original_position();
+        if end < behind {
+            return Err(Error::new(Fault::UnexpectedEof, start));
+        }
+        if differs(self.functions, count) {
+            return Err(Error::new(Fault::FunctionCodeDiffer, start));
+        }
+        if lacks(Some(count), self.functions) {
+            return Err(Error::new(Fault::CodeWithoutFunction, start));
+        }
+        Ok(Payload::CodeSectionStart {
+            count,
+            unchecked_range: start..end,
+            size: (end - behind) as u32,
+        })
+    }
+
+    // A body of a code section that isn't at its end.
+    fn body<'a>(&self, reader: &mut BinaryReader<'a>) -> Result<Payload<'a>>
+        ensures { StandsThere (body_grammar self.now.bodies self.now.left (place reader.old).offset) (place reader.old) result (place reader.new) }
+    {
+        let start = reader.original_position();
+        if self.bodies == 0 {
+            return Err(Error::new(Fault::TrailingCode, start));
+        }
+        let size = reader.read_var_u32()?;
+        let window = window(size, reader)?;
+        if reader.original_position() - start > u64::from(self.left) {
+            return Err(Error::new(Fault::UnexpectedEof, start));
+        }
+        Ok(Payload::CodeSectionEntry(FunctionBody::new(window)))
+    }
+
     // The content of an unknown section.
     fn unknown<'a>(&self, id: u8, size: u32, reader: &mut BinaryReader<'a>) -> Result<Payload<'a>>
-        ensures { StandsThere None (whole_grammar (past_of self.now) unknown id (place reader.old).offset size) (place reader.old) result (place reader.new) }
+        ensures { StandsThere (whole_grammar (past_of self.now) unknown id (place reader.old).offset size) (place reader.old) result (place reader.new) }
     {
         let window = window(size, reader)?;
         Ok(Payload::UnknownSection {
@@ -353,10 +417,31 @@ impl Parser {
 #[tactic(auto, unfolding(crate::specs::ContentAt::content_at))]
 fn window<'a>(size: u32, reader: &mut BinaryReader<'a>) -> Result<BinaryReader<'a>>
     ensures gives { Gives (λ window. window) result (place reader.new) (content_at size (place reader.old)) }
+    ensures keeps { KeepsWindow reader.old reader.new }
 {
     let start = reader.original_position();
     let bytes = reader.read_bytes(size as usize)?;
     Ok(BinaryReader::new_features(bytes, start, reader.features()))
+}
+
+// The section with this id, whose content begins with a count.
+fn counted<'a>(id: u8, window: BinaryReader<'a>) -> Result<Payload<'a>>
+    requires { kind_of_module id ≡ items }
+    ensures { ReadsCounted id window.entry result }
+{
+    Ok(match id {
+        1 => Payload::TypeSection(SectionLimited::new(window)?),
+        2 => Payload::ImportSection(SectionLimited::new(window)?),
+        3 => Payload::FunctionSection(SectionLimited::new(window)?),
+        4 => Payload::TableSection(SectionLimited::new(window)?),
+        5 => Payload::MemorySection(SectionLimited::new(window)?),
+        6 => Payload::GlobalSection(SectionLimited::new(window)?),
+        7 => Payload::ExportSection(SectionLimited::new(window)?),
+        9 => Payload::ElementSection(SectionLimited::new(window)?),
+        11 => Payload::DataSection(SectionLimited::new(window)?),
+        13 => Payload::TagSection(SectionLimited::new(window)?),
+        _ => unreachable!(),
+    })
 }
 
 // The one number that the rest of a window is. A byte behind the number is this fault.
@@ -370,12 +455,22 @@ fn single(mut window: BinaryReader, left: Fault) -> Result<u32>
     Ok(number)
 }
 
-// Whether there is a count, and it is above 0.
-fn is_above_zero(count: Option<u32>) -> bool
-    ensures { result ≡ list_any (nat_lt 0) (option_to_list count) }
+// Whether a count is known, and is not this one.
+fn differs(known: Option<u32>, count: u32) -> bool
+    ensures { result ≡ not (list_all (nat_eq count) (option_to_list known)) }
+{
+    match known {
+        Some(known) => known != count,
+        None => false,
+    }
+}
+
+// Whether there is a count above 0, and not the other one that it wants.
+fn lacks(count: Option<u32>, other: Option<u32>) -> bool
+    ensures { result ≡ (list_any (nat_lt 0) (option_to_list count) && nat_eq (length (option_to_list other)) 0) }
 {
     match count {
-        Some(count) => count > 0,
+        Some(count) => count > 0 && other.is_none(),
         None => false,
     }
 }

@@ -1,52 +1,151 @@
 // What a parser tells of a stream.
-use crate::custom::{CustomSectionReader, Dots};
+ghost use Rattle.std.specs.Prelude.{◌≡◌};
+ghost use Rattle.wasm_parser.specs.Answers.{told_by};
+ghost use Rattle.wasm_parser.specs.Sections.{section_of};
+
+use crate::custom::CustomSectionReader;
 use std::fmt;
 use std::ops::Range;
-use wasm_base::SectionLimited;
+use wasm_items::{
+    DataSectionReader, ElementSectionReader, ExportSectionReader, FunctionBody,
+    FunctionSectionReader, GlobalSectionReader, ImportSectionReader, MemorySectionReader,
+    TableSectionReader, TagSectionReader, TypeSectionReader,
+};
 
-/// What a header announces.
+/// What a header announces (core specification, Binary format, Modules; the component's header is the component
+/// model's).
 #[derive(Clone, Copy, Debug, PartialEq, Eq)]
 pub enum Encoding {
+    /// A core module.
     Module,
+    /// A component.
     Component,
 }
 
-/// One part of a stream. Ranges and offsets count bytes from the start of the stream.
+/// One part of a stream (core specification, Binary format, Modules).
+///
+/// Ranges and offsets count bytes from the start of the stream. The readers borrow the bytes that were parsed, and have
+/// the parser's features.
 #[derive(Drop)]
-pub(crate) enum Payload<'a> {
+pub enum Payload<'a> {
+    /// The header: its version, and what it announces.
     Version {
         num: u16,
         encoding: Encoding,
         range: Range<u64>,
     },
-    FunctionSection(SectionLimited<'a, u32>),
-    StartSection {
-        func: u32,
-        range: Range<u64>,
-    },
-    DataCountSection {
+    /// The types of a module.
+    TypeSection(TypeSectionReader<'a>),
+    /// What a module imports.
+    ImportSection(ImportSectionReader<'a>),
+    /// The type indices of a module's functions.
+    FunctionSection(FunctionSectionReader<'a>),
+    /// The tables of a module.
+    TableSection(TableSectionReader<'a>),
+    /// The memories of a module.
+    MemorySection(MemorySectionReader<'a>),
+    /// The tags of a module.
+    TagSection(TagSectionReader<'a>),
+    /// The globals of a module.
+    GlobalSection(GlobalSectionReader<'a>),
+    /// What a module exports.
+    ExportSection(ExportSectionReader<'a>),
+    /// The index of the function that starts a module; the range is that of the index.
+    StartSection { func: u32, range: Range<u64> },
+    /// The element segments of a module.
+    ElementSection(ElementSectionReader<'a>),
+    /// How many data segments are to come; the range is that of the count.
+    DataCountSection { count: u32, range: Range<u64> },
+    /// The data segments of a module.
+    DataSection(DataSectionReader<'a>),
+    /// The start of a code section: how many bodies follow, the offsets of its content, of which not all needs to be
+    /// there yet, and how many bytes of that content stand behind the count.
+    CodeSectionStart {
         count: u32,
-        range: Range<u64>,
+        unchecked_range: Range<u64>,
+        size: u32,
     },
+    /// One body of a code section.
+    CodeSectionEntry(FunctionBody<'a>),
+    /// A custom section.
     CustomSection(CustomSectionReader<'a>),
+    /// A section with an id that isn't known: its content, and the offsets of that.
     UnknownSection {
         id: u8,
         contents: &'a [u8],
         range: Range<u64>,
     },
-    /// A section of a module that isn't read yet, by its id. It consumes nothing.
-    NotYet(u8),
+    /// The end of the stream, at this offset.
     End(u64),
 }
 
 /// What a call of `parse` answers.
 #[derive(Debug, Drop)]
-pub(crate) enum Chunk<'a> {
+pub enum Chunk<'a> {
+    /// More bytes are wanted, about so many; nothing was consumed.
     NeedMoreData(usize),
+    /// So many bytes were consumed, and are this.
     Parsed {
         consumed: usize,
         payload: Payload<'a>,
     },
+}
+
+impl<'a> Payload<'a> {
+    /// The id of the section that this is, and the offsets of its content in the whole stream: from the first byte
+    /// behind its length up to its end. A header, a body and the end are none; a code section is its start.
+    pub fn as_section(&self) -> Option<(u8, Range<u64>)>
+        ensures { result ≡ section_of (told_by self.now) }
+    {
+        match self {
+            Payload::Version { .. } => None,
+            Payload::TypeSection(section) => Some((1, section.range())),
+            Payload::ImportSection(section) => Some((2, section.range())),
+            Payload::FunctionSection(section) => Some((3, section.range())),
+            Payload::TableSection(section) => Some((4, section.range())),
+            Payload::MemorySection(section) => Some((5, section.range())),
+            Payload::TagSection(section) => Some((13, section.range())),
+            Payload::GlobalSection(section) => Some((6, section.range())),
+            Payload::ExportSection(section) => Some((7, section.range())),
+            Payload::StartSection { range, .. } => Some((8, range.start..range.end)),
+            Payload::ElementSection(section) => Some((9, section.range())),
+            Payload::DataCountSection { range, .. } => Some((12, range.start..range.end)),
+            Payload::DataSection(section) => Some((11, section.range())),
+            Payload::CodeSectionStart {
+                unchecked_range, ..
+            } => Some((10, unchecked_range.start..unchecked_range.end)),
+            Payload::CodeSectionEntry(_) => None,
+            Payload::CustomSection(section) => Some((0, section.range())),
+            Payload::UnknownSection { id, range, .. } => Some((*id, range.start..range.end)),
+            Payload::End(_) => None,
+        }
+    }
+}
+
+// A text that stands for what is not printed.
+struct Dots;
+
+impl fmt::Debug for Dots {
+    fn fmt<W: fmt::Write>(&self, f: &mut fmt::Formatter<W>) -> fmt::Result {
+        f.write_str("\"...\"")
+    }
+}
+
+// The name of a payload whose content is not printed.
+fn elided(payload: &Payload) -> &'static str {
+    match payload {
+        Payload::TypeSection(_) => "TypeSection",
+        Payload::ImportSection(_) => "ImportSection",
+        Payload::FunctionSection(_) => "FunctionSection",
+        Payload::TableSection(_) => "TableSection",
+        Payload::MemorySection(_) => "MemorySection",
+        Payload::TagSection(_) => "TagSection",
+        Payload::GlobalSection(_) => "GlobalSection",
+        Payload::ExportSection(_) => "ExportSection",
+        Payload::ElementSection(_) => "ElementSection",
+        Payload::DataSection(_) => "DataSection",
+        _ => "CodeSectionEntry",
+    }
 }
 
 impl<'a> fmt::Debug for Payload<'a> {
@@ -62,7 +161,6 @@ impl<'a> fmt::Debug for Payload<'a> {
                 .field("encoding", encoding)
                 .field("range", range)
                 .finish(),
-            Payload::FunctionSection(_) => f.debug_tuple("FunctionSection").field(&Dots).finish(),
             Payload::StartSection { func, range } => f
                 .debug_struct("StartSection")
                 .field("func", func)
@@ -73,6 +171,16 @@ impl<'a> fmt::Debug for Payload<'a> {
                 .field("count", count)
                 .field("range", range)
                 .finish(),
+            Payload::CodeSectionStart {
+                count,
+                unchecked_range,
+                size,
+            } => f
+                .debug_struct("CodeSectionStart")
+                .field("count", count)
+                .field("unchecked_range", unchecked_range)
+                .field("size", size)
+                .finish(),
             Payload::CustomSection(section) => f
                 .debug_tuple("CustomSection")
                 .field(section)
@@ -82,8 +190,8 @@ impl<'a> fmt::Debug for Payload<'a> {
                 .field("id", id)
                 .field("range", range)
                 .finish(),
-            Payload::NotYet(id) => f.debug_tuple("NotYet").field(id).finish(),
             Payload::End(at) => f.debug_tuple("End").field(at).finish(),
+            _ => f.debug_tuple(elided(self)).field(&Dots).finish(),
         }
     }
 }

@@ -2,7 +2,6 @@
 ghost use Rattle.std.specs.Prelude.{◌≡◌, slice_index};
 ghost use Rattle.wasm_parser.specs.Content.{kind_of as form_of, rank_of as rank_in, ranks};
 ghost use Rattle.wasm_parser.specs.Kinds.{kind_is};
-ghost use Rattle.wasm_parser.specs.Unread.{is_unread as unread};
 
 use crate::payload::Encoding;
 
@@ -37,8 +36,8 @@ pub(crate) fn kind_of(encoding: Encoding, id: u8) -> Kind
     }
 }
 
-// The place of the section with this id in the order of sections, or 0.
-fn place_of(id: u8) -> u8
+/// The place of a module's section with this id in the order of sections, or 0.
+pub(crate) fn place_of(id: u8) -> u8
     ensures { result ≡ slice_index ranks id }
 {
     if id < 14 { RANKS[id as usize] } else { 0 }
@@ -52,16 +51,5 @@ pub(crate) fn rank_of(kind: Kind, id: u8) -> u8
         Kind::Custom | Kind::Unknown => 0,
         Kind::Items | Kind::Index | Kind::DataCount => place_of(id),
         Kind::Code => place_of(10),
-    }
-}
-
-/// Whether a section of this kind isn't read yet. Of those that are counted items only a function section is.
-pub(crate) fn is_unread(kind: Kind, id: u8) -> bool
-    ensures { result ≡ unread (kind_is kind) id }
-{
-    match kind {
-        Kind::Custom | Kind::Index | Kind::DataCount | Kind::Unknown => false,
-        Kind::Items => id != 3,
-        Kind::Code => true,
     }
 }

@@ -200,23 +200,6 @@ fn unknown_sections_of_a_component(rt: HostRuntime) -> Result<(), Fail> {
 }
 
 #[test]
-fn sections_not_read_yet(rt: HostRuntime) -> Result<(), Fail> {
-    let mut parser = behind_header(0)?;
-    parser.parse(b"\x08\x01\0", true)?;
-    for section in [1, 2, 4, 5, 6, 7, 9, 10, 11, 13] {
-        match parser.parse(&[section, 3], true)? {
-            Chunk::Parsed {
-                consumed,
-                payload: Payload::NotYet(id),
-            } => assert_eq!(rt; (consumed, id), (0, section)),
-            _other => assert!(rt; false),
-        }
-    }
-    assert_eq!(rt; parser.offset(), 11);
-    Ok(())
-}
-
-#[test]
 fn near_the_top_of_the_offsets(rt: HostRuntime) -> Result<(), Fail> {
     let mut parser = behind_header(18446744073709551600)?;
     let large = Error::new(Fault::SectionTooLarge, 18446744073709551609).with_number(6);

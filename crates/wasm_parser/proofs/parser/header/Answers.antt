@@ -17,7 +17,7 @@ overflow_add-start c =
     omega (arith, h.there, c.original_position-start.ensures.fits)
 
 pub returns-in-Some : goal.returns-in-Some
-returns-in-Some c = header_told (place c.args.reader.now) c.in_ok-bits.bits (place c.read_header_version.new.self) c.in-Some.encoding _ c.in_ok-bits.ensures.gives c.in-Some.ensures (rw (c.original_position-start.ensures.offset, c.original_position.ensures.offset) refl)
+returns-in-Some c = header_told (place c.args.reader.now) c.in_ok-bits.bits (place c.read_header_version.new.self) c.in-Some.encoding _ c.in_ok-bits.ensures.gives c.in-Some.ensures (rw (c.original_position-start.ensures.offset, c.original_position.ensures.offset) (refl, tt))
 
 pub returns-in-None : goal.returns-in-None
 returns-in-None c = header_unnamed (place c.args.reader.now) c.in_ok-bits.bits (place c.read_header_version.new.self) c.with_number.result c.in_ok-bits.ensures.gives c.in-None.ensures

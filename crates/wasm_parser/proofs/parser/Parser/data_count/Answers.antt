@@ -18,4 +18,4 @@ returns-in_err-count c =
     rw (e.1, e.2) (data_count_refused (past_of c.args.self.now) c.args.id c.args.size (place c.args.reader.now) c.in_ok-window.window _ _ _ c.in_ok-window.ensures.gives c.in_err-count.ensures)
 
 pub returns : goal.returns
-returns c = data_count_read (past_of c.args.self.now) c.args.id c.args.size (place c.args.reader.now) c.in_ok-window.window _ c.in_ok-count.count _ c.in_ok-window.ensures.gives c.in_ok-count.ensures (rw c.range-range.ensures refl)
+returns c = data_count_read (past_of c.args.self.now) c.args.id c.args.size (place c.args.reader.now) c.in_ok-window.window _ c.in_ok-count.count _ c.in_ok-window.ensures.gives c.in_ok-count.ensures (rw c.range-range.ensures (refl, tt))

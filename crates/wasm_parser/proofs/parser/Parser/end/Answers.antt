@@ -1,34 +1,25 @@
-use Rattle.std.proofs.Common.{[], Ok, Err, ap, sym, subst, ◌∙◌, arith}
-use Rattle.wasm_parser.specs.Answers.{Parses}
-use Rattle.wasm_parser.specs.Stands.{Stand, stand_before_code}
-use Rattle.wasm_parser.specs.declared.payload.Payload.TheVariants.{End}
-use Rattle.wasm_parser.specs.declared.payload.Chunk.TheVariants.{Parsed}
-use Rattle.wasm_parser.proofs.Parsing.{functions_alone, data_count_alone, nothing_alone}
+use Rattle.std.proofs.Common.{Ok, Err, [], sym, ap, subst, ◌∙◌, ◌≡◌, ◌<◌, ◌^◌, arith}
+use Rattle.wasm_base.specs.FaultAt.{at_offset}
+use Rattle.wasm_base.specs.declared.fault.Fault.TheVariants.{FunctionWithoutCode, DataCountWithoutData}
+use Rattle.wasm_parser.specs.Stands.{Stand}
+use Rattle.wasm_parser.proofs.Parsing.{is_lacking, functions_alone, data_count_alone, nothing_lacks}
 use Rattle.wasm_parser.proofs.parser.Parser.end.Goals as goal
 
-pub returns-then-is_above_zero : goal.returns-then-is_above_zero
-returns-then-is_above_zero c =
-    let p = c.self.inside in
-    let o = c.offset-end.result in
-    let at = c.offset-end.ensures ∙ sym (ap (λ (s : Stand). s.offset) c.self.view_is) in
-    let no_header = sym (ap (λ (s : Stand). s.expects_header) c.self.view_is ∙ c.requires) in
-    let e = (λ i. stand_before_code (at i) p.features.0 (no_header i) p.encoding p.rank p.functions p.data_counts) ∙ c.self.view_is in
-    subst (λ (old : Stand). Parses old [] (Err c.new.result) old) e (functions_alone o p.features.0 p.encoding p.rank p.functions p.data_counts c.new.result (omega arith) c.if-is_above_zero.ensures c.new.ensures.told)
+pub returns-then-lacks : goal.returns-then-lacks
+returns-then-lacks c =
+    let v = c.self.view_is in
+    let at = c.offset-end.ensures in
+    functions_alone c.args.self.now c.new.result (omega (arith, at)) c.requires.header c.requires.code (c.if-lacks.ensures ∙ ap (λ (s : Stand). is_lacking s.functions s.codes) v) (c.new.ensures.told ∙ ap (at_offset FunctionWithoutCode) at)
 
-pub returns-then-is_above_zero-2 : goal.returns-then-is_above_zero-2
-returns-then-is_above_zero-2 c =
-    let p = c.self.inside in
-    let o = c.offset-end.result in
-    let at = c.offset-end.ensures ∙ sym (ap (λ (s : Stand). s.offset) c.self.view_is) in
-    let no_header = sym (ap (λ (s : Stand). s.expects_header) c.self.view_is ∙ c.requires) in
-    let e = (λ i. stand_before_code (at i) p.features.0 (no_header i) p.encoding p.rank p.functions p.data_counts) ∙ c.self.view_is in
-    subst (λ (old : Stand). Parses old [] (Err c.new-then-is_above_zero-2.result) old) e (data_count_alone o p.features.0 p.encoding p.rank p.functions p.data_counts c.new-then-is_above_zero-2.result (omega arith) c.if-is_above_zero.ensures c.if-is_above_zero-2.ensures c.new-then-is_above_zero-2.ensures.told)
+pub returns-then-lacks-2 : goal.returns-then-lacks-2
+returns-then-lacks-2 c =
+    let v = c.self.view_is in
+    let at = c.offset-end.ensures in
+    data_count_alone c.args.self.now c.new-then-lacks-2.result (omega (arith, at)) c.requires.header c.requires.code (c.if-lacks.ensures ∙ ap (λ (s : Stand). is_lacking s.functions s.codes) v)
+    (c.if-lacks-2.ensures ∙ ap (λ (s : Stand). is_lacking s.data_counts s.datas) v) (c.new-then-lacks-2.ensures.told ∙ ap (at_offset DataCountWithoutData) at)
 
 pub returns : goal.returns
 returns c =
-    let p = c.self.inside in
-    let o = c.offset-end.result in
-    let at = c.offset-end.ensures ∙ sym (ap (λ (s : Stand). s.offset) c.self.view_is) in
-    let no_header = sym (ap (λ (s : Stand). s.expects_header) c.self.view_is ∙ c.requires) in
-    let e = (λ i. stand_before_code (at i) p.features.0 (no_header i) p.encoding p.rank p.functions p.data_counts) ∙ c.self.view_is in
-    subst (λ (old : Stand). Parses old [] (Ok (Parsed 0 (End o))) old) e (nothing_alone o p.features.0 p.encoding p.rank p.functions p.data_counts (omega arith) c.if-is_above_zero.ensures c.if-is_above_zero-2.ensures)
+    let v = c.self.view_is in
+    let at = c.offset-end.ensures in
+    nothing_lacks c.args.self.now c.offset-end.result at (omega (arith, at)) c.requires.header c.requires.code (c.if-lacks.ensures ∙ ap (λ (s : Stand). is_lacking s.functions s.codes) v) (c.if-lacks-2.ensures ∙ ap (λ (s : Stand). is_lacking s.data_counts s.datas) v)

@@ -18,4 +18,4 @@ returns-in_err-func c =
     rw (e.1, e.2) (start_refused (past_of c.args.self.now) c.args.id c.args.size (place c.args.reader.now) c.in_ok-window.window _ _ _ c.in_ok-window.ensures.gives c.in_err-func.ensures)
 
 pub returns : goal.returns
-returns c = start_read (past_of c.args.self.now) c.args.id c.args.size (place c.args.reader.now) c.in_ok-window.window _ c.in_ok-func.func _ c.in_ok-window.ensures.gives c.in_ok-func.ensures (rw c.range-range.ensures refl)
+returns c = start_read (past_of c.args.self.now) c.args.id c.args.size (place c.args.reader.now) c.in_ok-window.window _ c.in_ok-func.func _ c.in_ok-window.ensures.gives c.in_ok-func.ensures (rw c.range-range.ensures (refl, tt))

@@ -12,4 +12,4 @@ returns-in_err-window c =
     rw (e.1, e.2) (whole_missing (past_of c.args.self.now) unknown c.args.id c.args.size (place c.args.reader.now) _ _ c.in_err-window.ensures.gives)
 
 pub returns : goal.returns
-returns c = unknown_read (past_of c.args.self.now) c.args.id c.args.size (place c.args.reader.now) c.in_ok-window.window _ _ c.in_ok-window.ensures.gives (rw (c.remaining_buffer.ensures, c.range.ensures) refl)
+returns c = unknown_read (past_of c.args.self.now) c.args.id c.args.size (place c.args.reader.now) c.in_ok-window.window _ _ c.in_ok-window.ensures.gives (rw (c.remaining_buffer.ensures, c.range.ensures) (refl, tt))
