@@ -28,4 +28,5 @@ pub mod TextbookSteps
 pub mod TextbookTiles
 pub mod TextbookWalks
 pub mod TileLaws
+pub mod Turning
 pub mod WorkedLaws

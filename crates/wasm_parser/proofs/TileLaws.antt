@@ -127,7 +127,7 @@ unfolding body_grammar
 Guarded-body zero l o = tt
 Guarded-body (suc m) l o = λ v k b. tt
 
-Guarded-inside_at : (b : Bool) (p : Past) (m l o : ℕ) → Guarded (cond b (section_grammar p o) (body_grammar m l o))
+pub Guarded-inside_at : (b : Bool) (p : Past) (m l o : ℕ) → Guarded (cond b (section_grammar p o) (body_grammar m l o))
 Guarded-inside_at true p m l o = Guarded-section p o
 Guarded-inside_at false p m l o = Guarded-body m l o
 
@@ -156,11 +156,11 @@ least_section : (p : Past) (o : ℕ) (xs : List ℕ) (t : Tile) → verdict (sec
 unfolding section_grammar
 least_section p o xs t e = least_start o _ _ xs t e
 
-least_header : (o : ℕ) (xs : List ℕ) (t : Tile) → verdict (header_grammar o) xs ≡ tile t → 0 < length t.bytes
+pub least_header : (o : ℕ) (xs : List ℕ) (t : Tile) → verdict (header_grammar o) xs ≡ tile t → 0 < length t.bytes
 unfolding header_grammar
 least_header o xs t e = let l : 4 ≤ length t.bytes = bytes_least 4 o _ xs t e in omega arith
 
-least_inside : (b : Bool) (p : Past) (m l o : ℕ) (xs : List ℕ) (t : Tile) → verdict (cond b (section_grammar p o) (body_grammar m l o)) xs ≡ tile t → 0 < length t.bytes
+pub least_inside : (b : Bool) (p : Past) (m l o : ℕ) (xs : List ℕ) (t : Tile) → verdict (cond b (section_grammar p o) (body_grammar m l o)) xs ≡ tile t → 0 < length t.bytes
 least_inside true p m l o xs t e = least_section p o xs t e
 least_inside false p m l o xs t e = least_body m l o xs t e
 

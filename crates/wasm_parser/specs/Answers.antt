@@ -1,5 +1,5 @@
 -- What one call of a parser answers.
-use Rattle.std.specs.Prelude.{◌≡◌, ℕ, ◌+◌, ◌≤◌, ◌<◌, ◌^◌, List, length, Option, Some, None, IfSome, Result, Ok, Err}
+use Rattle.std.specs.Prelude.{◌≡◌, ℕ, ◌+◌, ◌≤◌, ◌<◌, ◌^◌, Bool, true, false, List, length, nat_eq, Option, Some, None, IfSome, Result, Ok, Err}
 use Rattle.wasm_base.specs.FaultAt.{FaultAt, fault_at, at_offset}
 use Rattle.wasm_base.specs.Number.{unsigned_at}
 use Rattle.wasm_base.specs.Section.{Section}
@@ -9,7 +9,7 @@ use Rattle.wasm_base.specs.declared.fault.Fault.TheVariants.{OffsetRange}
 use Rattle.wasm_base.specs.declared.fault.NumberKind.TheVariants.{VarU32}
 use Rattle.wasm_parser.specs.Content.{fault, ended}
 use Rattle.wasm_parser.specs.Grammar.{Tile, Verdict, tile, final, Grammar, verdict}
-use Rattle.wasm_parser.specs.Reading.{Told, version, counted, start_section, data_count_section, code_start, code_entry, custom_section, unknown_section, ending, told_of, told_ending}
+use Rattle.wasm_parser.specs.Reading.{Told, version, counted, start_section, data_count_section, code_start, code_entry, custom_section, unknown_section, stopped, ending, told_of}
 use Rattle.wasm_parser.specs.Stands.{Stand, grammar_of, passed}
 use Rattle.wasm_parser.specs.declared.payload.Payload.{Payload}
 use Rattle.wasm_parser.specs.declared.payload.Payload.TheVariants.{Version, TypeSection, ImportSection, FunctionSection, TableSection, MemorySection, TagSection, GlobalSection, ExportSection, StartSection, ElementSection, DataCountSection, DataSection, CodeSectionStart, CodeSectionEntry, CustomSection, UnknownSection, End}
@@ -98,9 +98,29 @@ Answers old v (Ok (NeedMoreData hint)) new = ⊥
 Answers old (tile t) (Ok (Parsed consumed payload)) new =
     (consumed ≡ length t.bytes) × IsPayload (told_of old.features old.offset (old.offset + length t.bytes) t.shape) payload × (new ≡ passed old t)
 Answers old (tile t) (Err e) new = ⊥
-Answers old (final e) (Ok (Parsed consumed payload)) new = (consumed ≡ 0) × IsPayload (told_ending e) payload × (new ≡ old)
+Answers old (final (ended offset)) (Ok (Parsed consumed payload)) new = (consumed ≡ 0) × IsPayload (ending offset) payload × (new ≡ old)
+Answers old (final (fault f)) (Ok (Parsed consumed payload)) new = ⊥
 Answers old (final (fault f)) (Err e) new = (fault_at e ≡ f) × (new ≡ old)
 Answers old (final (ended offset)) (Err e) new = ⊥
+
+-- whether the end is told
+abbrev pub is_end : Told → Bool
+is_end (ending offset) = true
+is_end (version num encoding from to) = false
+is_end (counted id count window) = false
+is_end (start_section func from to) = false
+is_end (data_count_section count from to) = false
+is_end (code_start count from to size) = false
+is_end (code_entry window) = false
+is_end (custom_section name data_offset window) = false
+is_end (unknown_section id contents from to) = false
+is_end (stopped f) = false
+
+-- The bytes that are consumed are there, and there are some of them but at the end.
+abbrev pub Consumes : List ℕ → Result Chunk Error → Type 0
+Consumes rest (Ok (Parsed consumed payload)) = (consumed ≤ length rest) × (nat_eq consumed 0 ≡ is_end (told_by payload))
+Consumes rest (Ok (NeedMoreData hint)) = Unit {0}
+Consumes rest (Err e) = Unit {0}
 
 -- The parser has passed the tile that this payload tells of, and that ends at this offset.
 abbrev pub Passes : Stand → Payload → (to : ℕ) → Stand → Type 0

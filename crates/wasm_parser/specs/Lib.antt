@@ -1,5 +1,6 @@
 pub mod Accepted
 pub mod Answers
+pub mod BeginsWithHeader
 pub mod Behind
 pub mod Content
 pub mod ContentAt
@@ -16,5 +17,6 @@ pub mod Spans
 pub mod Stands
 pub mod Stream
 pub mod Tiling
+pub mod Turns
 pub mod Waiting
 pub mod Worked

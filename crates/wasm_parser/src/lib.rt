@@ -1,6 +1,7 @@
 //! The parser of WebAssembly modules and of components' headers.
 #![tactic(auto)]
 
+mod all;
 mod behind;
 mod custom;
 pub mod laws;
@@ -10,6 +11,7 @@ mod sections;
 #[cfg(test)]
 mod tests;
 
+pub use all::ParseAll;
 pub use custom::CustomSectionReader;
 pub use parser::Parser;
 pub use payload::{Chunk, Encoding, Payload};

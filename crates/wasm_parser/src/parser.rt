@@ -4,7 +4,7 @@ ghost use Rattle.std.specs.Prelude.{◌≡◌, ◌+◌, ◌-◌, ◌<◌, ◌^�
 ghost use Rattle.wasm_base.specs.Header.{magic, agree};
 ghost use Rattle.wasm_base.specs.Outcome.{Gives};
 ghost use Rattle.wasm_base.specs.Window.{place, KeepsWindow};
-ghost use Rattle.wasm_parser.specs.Answers.{told_by, IsTold, StandsThere, Passes, Parses};
+ghost use Rattle.wasm_parser.specs.Answers.{told_by, IsTold, StandsThere, Passes, Consumes, Parses};
 ghost use Rattle.wasm_parser.specs.Content.{custom, items, index, data_count, unknown, kind_of as form_of};
 ghost use Rattle.wasm_parser.specs.ContentAt.{content_at};
 ghost use Rattle.wasm_parser.specs.Counts.{kind_of_module, ReadsCounted, is_miscounted_by};
@@ -12,8 +12,12 @@ ghost use Rattle.wasm_parser.specs.Grammar.{verdict, header_grammar, section_gra
 ghost use Rattle.wasm_parser.specs.Kinds.{kind_is};
 ghost use Rattle.wasm_parser.specs.Reading.{window_over};
 ghost use Rattle.wasm_parser.specs.Single.{ReadsSingle};
+ghost use Rattle.wasm_parser.specs.BeginsWithHeader.{begins_with_header};
 ghost use Rattle.wasm_parser.specs.Stands.{new_stand, past_of, grammar_of};
+ghost use Rattle.wasm_parser.specs.Turns.{walk_over};
+ghost use Rattle.wasm_parser.specs.declared.payload.Encoding.TheVariants.{Module, Component};
 
+use crate::all::ParseAll;
 use crate::behind::{bodies_after, count_after, encoding_after, left_after, rank_after};
 use crate::custom::CustomSectionReader;
 use crate::payload::{Chunk, Encoding, Payload};
@@ -49,6 +53,12 @@ impl Model for Parser {
 
     ghost view = { λ p. record { offset = p.offset; features = p.features.0; expects_header = p.expects_header; encoding = p.encoding; rank = p.rank; functions = p.functions; codes = p.codes; datas = p.datas; data_counts = p.data_counts; bodies = p.bodies; left = p.left } };
 }
+
+// The eight bytes that begin a core module.
+const CORE_HEADER: [u8; 8] = *b"\0asm\x01\0\0\0";
+
+// The eight bytes that begin a component.
+const COMPONENT_HEADER: [u8; 8] = *b"\0asm\x0d\0\x01\0";
 
 // The encoding that a header's version and kind name.
 fn encoding_named(version: u16, kind: u16) -> Option<Encoding>
@@ -123,6 +133,58 @@ impl Parser {
         ensures { result ≡ self.now.offset }
     {
         self.offset
+    }
+
+    /// The features of the windows of every payload.
+    pub fn features(&self) -> WasmFeatures
+        ensures { result.0 ≡ self.now.features }
+    {
+        self.features
+    }
+
+    /// Gives the windows of the payloads to come these features.
+    pub fn set_features(&mut self, features: WasmFeatures)
+        ensures { self.new ≡ record self.old { features = features.0 } }
+    {
+        self.features = features;
+    }
+
+    /// A reader of these bytes, which begin at this offset of the whole stream, with the parser's features.
+    pub fn binary_reader<'a>(&self, bytes: &'a [u8], offset: u64) -> BinaryReader<'a>
+        requires { offset + length bytes.now < 2 ^ 64 }
+        ensures { result ≡ window_over self.now.features offset bytes.now }
+    {
+        BinaryReader::new_features(bytes, offset, self.features)
+    }
+
+    /// Whether these bytes begin as a core module does: with the eight bytes of its header.
+    pub fn is_core_wasm(bytes: &[u8]) -> bool
+        ensures { result ≡ begins_with_header Module bytes.now }
+    {
+        bytes.starts_with(CORE_HEADER.as_slice())
+    }
+
+    /// Whether these bytes begin as a component does: with the eight bytes of its header.
+    pub fn is_component(bytes: &[u8]) -> bool
+        ensures { result ≡ begins_with_header Component bytes.now }
+    {
+        bytes.starts_with(COMPONENT_HEADER.as_slice())
+    }
+
+    /// The payloads of the stream that these bytes are, up to its end or its first fault.
+    ///
+    /// ```text
+    /// for payload in Parser::new(0).parse_all(bytes) {
+    ///     match payload? {
+    ///         Payload::CustomSection(section) => ..,
+    ///         _ => {}
+    ///     }
+    /// }
+    /// ```
+    pub fn parse_all<'a>(self, bytes: &'a [u8]) -> ParseAll<'a>
+        ensures walks { result ≡ walk_over self bytes.now }
+    {
+        ParseAll::over(self, bytes)
     }
 
     fn encoding(&self) -> Encoding
@@ -280,10 +342,34 @@ impl Parser {
 
     /// Reads what comes next in the stream of which these bytes are all the rest.
     ///
-    /// The parser then stands behind it. After a fault it is unchanged.
-    /// `OffsetRange` at the parser's offset, where the bytes pass the offsets of a stream.
+    /// The parser then stands behind it, `consumed` bytes further; a caller hands in the bytes behind those:
+    ///
+    /// ```text
+    /// loop {
+    ///     match parser.parse(rest, true)? {
+    ///         Chunk::Parsed { payload: Payload::End(_), .. } => break,
+    ///         Chunk::Parsed { consumed, payload } => {
+    ///             // payload borrows rest
+    ///             rest = &rest[consumed..];
+    ///         }
+    ///         Chunk::NeedMoreData(_) => unreachable!(),
+    ///     }
+    /// }
+    /// ```
+    ///
+    /// A fault is told at its offset in the whole stream, and leaves the parser unchanged: the faults of a header, of a
+    /// section's id, length, order and first fields, of a body's size, and of counts that don't match. `OffsetRange` at
+    /// the parser's offset, where the bytes pass the offsets of a stream.
     pub fn parse<'a>(&mut self, bytes: &'a [u8], eof: bool) -> Result<Chunk<'a>>
         requires { IsTrue eof }
+        ensures answers { Parses self.old bytes.now result self.new }
+        ensures consumes { Consumes bytes.now result }
+    {
+        self.answer(bytes)
+    }
+
+    // What stands next in the stream of which these bytes are all the rest, and is then passed.
+    fn answer<'a>(&mut self, bytes: &'a [u8]) -> Result<Chunk<'a>>
         ensures { Parses self.old bytes.now result self.new }
     {
         let start = self.offset();

@@ -1,0 +1,88 @@
+-- How far a call of the parser, and a walk over a whole stream, go.
+use Rattle.std.proofs.Common.{◌≡◌, ℕ, zero, suc, ◌+◌, ◌-◌, ◌<◌, ◌≤◌, ◌^◌, Bool, true, false, cond, List, ◌++◌, length, drop, Option, Some, None, Result, Ok, Err, nat_eq, nat_lt, ltb-true, ltb-false, refl, sym, ap, subst, ◌∙◌, arith, length-append, length-drop}
+use Rattle.std.proofs.lemmas.Bool.Decides.{nat_tests}
+use Rattle.wasm_base.specs.FaultAt.{FaultAt, at_offset}
+use Rattle.wasm_base.specs.declared.error.Error.{Error}
+use Rattle.wasm_base.specs.declared.fault.Fault.TheVariants.{OffsetRange}
+use Rattle.wasm_parser.specs.Answers.{told_by, IsPayload, is_end, Consumes, Answers, IsFaultAlone, Parses}
+use Rattle.wasm_parser.specs.Content.{Kind, custom, items, index, data_count, code, unknown, fault, ended}
+use Rattle.wasm_parser.specs.Grammar.{Shape, header, section, code_head, body, Tile, Verdict, tile, final, Grammar, header_grammar, section_grammar, verdict}
+use Rattle.wasm_parser.specs.Reading.{Told, told_of, told_custom, told_ending}
+use Rattle.wasm_parser.specs.Stands.{Stand, past_of, grammar_of}
+use Rattle.wasm_parser.specs.Tiling.{inside}
+use Rattle.wasm_parser.specs.declared.payload.Payload.{Payload}
+use Rattle.wasm_parser.specs.declared.payload.Chunk.{Chunk}
+use Rattle.wasm_parser.specs.declared.payload.Chunk.TheVariants.{NeedMoreData, Parsed}
+use Rattle.wasm_base.specs.Name.{Name, named, refused, name_limit, name}
+use Rattle.wasm_parser.proofs.GrammarLaws.{Cut, verdict-cut}
+use Rattle.wasm_parser.proofs.TileLaws.{Guarded-header, Guarded-inside_at, least_header, least_inside}
+
+-- ---- tiles
+
+-- bytes that a tile takes, and there are some
+pub record Takes (xs : List ℕ) (t : Tile) : Type 0 where
+  pub some : 0 < length t.bytes
+  pub rest : List ℕ
+  pub split : xs ≡ t.bytes ++ rest
+
+takes_at : (h : Bool) (p : Stand) (xs : List ℕ) (t : Tile) → verdict (cond h (header_grammar p.offset) (inside (past_of p) p.bodies p.left p.offset)) xs ≡ tile t → Takes xs t
+takes_at true p xs t e =
+    let c : Cut (header_grammar p.offset) xs t = verdict-cut (header_grammar p.offset) (Guarded-header p.offset) xs t e in
+    record { some = least_header p.offset xs t e; rest = c.rest; split = c.split }
+takes_at false p xs t e =
+    let b : Bool = nat_eq (p.bodies + p.left) 0 in
+    let c : Cut (inside (past_of p) p.bodies p.left p.offset) xs t = verdict-cut (inside (past_of p) p.bodies p.left p.offset) (Guarded-inside_at (nat_eq (p.bodies + p.left) 0) (past_of p) p.bodies p.left p.offset) xs t e in
+    record { some = least_inside (nat_eq (p.bodies + p.left) 0) (past_of p) p.bodies p.left p.offset xs t e; rest = c.rest; split = c.split }
+
+pub tile_takes : (p : Stand) (xs : List ℕ) (t : Tile) → verdict (grammar_of p) xs ≡ tile t → Takes xs t
+tile_takes p xs t e = takes_at p.expects_header p xs t e
+
+-- ---- what is told of a tile is no end
+
+custom_goes_on : (features from to : ℕ) (content : List ℕ) (n : Name) → is_end (told_custom features from to content n) ≡ false
+custom_goes_on features from to content (named text used) = refl
+custom_goes_on features from to content (refused f place) = refl
+
+goes_on : (features from to : ℕ) (shape : Shape) → is_end (told_of features from to shape) ≡ false
+goes_on features from to (header num encoding) = refl
+goes_on features from to (section items id content) = refl
+goes_on features from to (section index id content) = refl
+goes_on features from to (section data_count id content) = refl
+goes_on features from to (section custom id content) = custom_goes_on features (to - length content) to content (name (Some name_limit) content)
+goes_on features from to (section code id content) = refl
+goes_on features from to (section unknown id content) = refl
+goes_on features from to (code_head count width size) = refl
+goes_on features from to (body content) = refl
+
+not_zero : (n : ℕ) → 0 < n → nat_eq n 0 ≡ false
+not_zero n l = grind (arith, nat_tests)
+
+-- ---- what a call consumes
+
+consumes_at : (p new : Stand) (rest : List ℕ) (consumed : ℕ) (payload : Payload) (v : Verdict) → verdict (grammar_of p) rest ≡ v → Answers p v (Ok (Parsed consumed payload)) new
+    → (consumed ≤ length rest) × (nat_eq consumed 0 ≡ is_end (told_by payload))
+consumes_at p new rest consumed payload (tile t) e a =
+    let k : Takes rest t = tile_takes p rest t e in
+    let n : length rest ≡ length t.bytes + length k.rest = ap (λ (x : List ℕ). length x) k.split ∙ length-append t.bytes k.rest in (
+      omega (arith, a.0, n),
+      not_zero consumed (omega (arith, a.0, k.some)) ∙ sym (ap is_end a.1.0 ∙ goes_on p.features p.offset (p.offset + length t.bytes) t.shape),
+    )
+consumes_at p new rest consumed payload (final (fault f)) e a = absurd a
+consumes_at p new rest consumed payload (final (ended o)) e a = let z : consumed ≡ 0 = a.0 in (omega (arith, z), ap (λ (n : ℕ). nat_eq n 0) z ∙ sym (ap is_end a.1.0))
+
+-- what the answers of a parser consume
+consumes_any : (p new : Stand) (rest : List ℕ) (r : Result Chunk Error) → Answers p (verdict (grammar_of p) rest) r new → Consumes rest r
+consumes_any p new rest (Ok (Parsed consumed payload)) a = consumes_at p new rest consumed payload (verdict (grammar_of p) rest) refl a
+consumes_any p new rest (Ok (NeedMoreData hint)) a = tt
+consumes_any p new rest (Err e) a = tt
+
+alone_consumes : (f : FaultAt) (p new : Stand) (rest : List ℕ) (r : Result Chunk Error) → IsFaultAlone f p r new → Consumes rest r
+alone_consumes f p new rest (Ok chunk) a = absurd a
+alone_consumes f p new rest (Err e) a = tt
+
+consumes_by : (b : Bool) (p new : Stand) (rest : List ℕ) (r : Result Chunk Error) → nat_lt (p.offset + length rest) (2 ^ 64) ≡ b → Parses p rest r new → Consumes rest r
+consumes_by true p new rest r t h = consumes_any p new rest r (h.within (ltb-true _ _ t))
+consumes_by false p new rest r t h = alone_consumes (at_offset OffsetRange p.offset) p new rest r (h.past_the_top (ltb-false _ _ t))
+
+pub consumes : (p new : Stand) (rest : List ℕ) (r : Result Chunk Error) → Parses p rest r new → Consumes rest r
+consumes p new rest r h = consumes_by (nat_lt (p.offset + length rest) (2 ^ 64)) p new rest r refl h

@@ -1,0 +1,62 @@
+-- A walk over the payloads of a whole stream.
+use Rattle.std.specs.Prelude.{◌≡◌, ◌↔◌, ℕ, ◌+◌, ◌-◌, ◌<◌, ◌^◌, Bool, true, false, List, [], ◌∷◌, length, drop, map, Option, Some, None, Result, Ok, Err, if◌then◌else◌}
+use Rattle.std.specs.Iterator.{Drains}
+use Rattle.wasm_base.specs.FaultAt.{fault_at}
+use Rattle.wasm_base.specs.declared.error.Error.{Error}
+use Rattle.wasm_parser.specs.Accepted.{IsAccepted}
+use Rattle.wasm_parser.specs.Answers.{told_by, is_end, Parses}
+use Rattle.wasm_parser.specs.Reading.{Told, stopped, ending, Event, Reading}
+use Rattle.wasm_parser.specs.Stands.{Stand, new_stand}
+use Rattle.wasm_parser.specs.Stream.{Stream}
+use Rattle.wasm_parser.specs.declared.payload.Chunk.TheVariants.{Parsed}
+use Rattle.wasm_parser.specs.declared.payload.Payload.{Payload}
+
+-- where a walk stands: its parser, the bytes that are left, and whether it is over
+pub record Walk : Type 0 where
+  pub stand : Stand
+  pub bytes : List ℕ
+  pub ended : Bool
+
+-- a walk that has not begun
+abbrev pub walk_over : Stand → List ℕ → Walk
+walk_over p bytes = record { stand = p; bytes = bytes; ended = false }
+
+-- how many payloads and faults may still come: each takes a byte, and then the end comes
+abbrev pub most_payloads : Walk → ℕ
+most_payloads s = if s.ended then 0 else length s.bytes + 1
+
+-- how many bytes a step consumed
+abbrev pub consumed_between : Walk → Walk → ℕ
+consumed_between s t = length s.bytes - length t.bytes
+
+-- The parser's answer is given, and the walk stands behind it; behind the end and behind a fault it is over.
+abbrev pub GivesAnswer : Walk → Option (Result Payload Error) → Walk → Type 0
+GivesAnswer s None t = ⊥
+GivesAnswer s (Some (Ok payload)) t =
+    Parses s.stand s.bytes (Ok (Parsed (consumed_between s t) payload)) t.stand × (t.bytes ≡ drop (consumed_between s t) s.bytes) × (t.ended ≡ is_end (told_by payload))
+GivesAnswer s (Some (Err e)) t = Parses s.stand s.bytes (Err e) t.stand × (t.bytes ≡ s.bytes) × (t.ended ≡ true)
+
+-- one call of `next`
+pub record NextPayload (s : Walk) (given : Option (Result Payload Error)) (t : Walk) : Type 0 where
+  pub over : s.ended ≡ true → (given ≡ None) × (t ≡ s)
+  pub going : s.ended ≡ false → GivesAnswer s given t
+
+-- what a payload tells, or a fault
+abbrev pub told_item : Result Payload Error → Told
+told_item (Ok payload) = told_by payload
+told_item (Err e) = stopped (fault_at e)
+
+abbrev pub told_event : Event → Told
+told_event e = e.told
+
+-- The last of these is the end at this offset.
+abbrev pub EndsAt : (offset : ℕ) → List Told → Type 0
+EndsAt offset [] = ⊥
+EndsAt offset (x ∷ []) = x ≡ ending offset
+EndsAt offset (x ∷ (y ∷ ys)) = EndsAt offset (y ∷ ys)
+
+-- What a walk over these bytes gives, up to the first `None`, is the reading of a stream that starts at this offset;
+-- its last is the end exactly if the stream is accepted; and there is no more behind that `None`.
+pub record GivesReading (start features : ℕ) (bytes : List ℕ) : Type 0 where
+  pub reading : (given : List (Result Payload Error)) → Drains NextPayload (walk_over (new_stand start features) bytes) given → (events : List Event) → Reading bytes start features events → map told_item given ≡ map told_event events
+  pub accepted : (given : List (Result Payload Error)) → Drains NextPayload (walk_over (new_stand start features) bytes) given → IsAccepted bytes ↔ EndsAt (start + length bytes) (map told_item given)

@@ -1,0 +1,68 @@
+// All payloads of a stream.
+use crate::parser::Parser;
+use crate::payload::{Chunk, Payload};
+use std::marker::Model;
+use wasm_base::Result;
+
+/// The payloads of a whole stream, in its order.
+///
+/// Behind `End`, and behind a fault, nothing comes.
+#[derive(Drop)]
+pub struct ParseAll<'a> {
+    parser: Parser,
+    bytes: &'a [u8],
+    ended: bool,
+}
+
+impl<'a> Model for ParseAll<'a> {
+    ghost use Rattle.wasm_parser.specs.Turns.{Walk};
+
+    ghost Value = { Walk };
+
+    ghost view = { λ s. record { stand = s.parser; bytes = s.bytes.now; ended = s.ended } };
+}
+
+impl<'a> ParseAll<'a> {
+    ghost use Rattle.std.specs.Prelude.{◌≡◌};
+    ghost use Rattle.wasm_parser.specs.Turns.{walk_over};
+
+    // A walk over these bytes, from where the parser stands.
+    pub(crate) fn over(parser: Parser, bytes: &'a [u8]) -> Self
+        ensures { result ≡ walk_over parser bytes.now }
+    {
+        ParseAll {
+            parser,
+            bytes,
+            ended: false,
+        }
+    }
+}
+
+impl<'a> Iterator for ParseAll<'a> {
+    ghost use Rattle.std.specs.Iterator.{at_most};
+    ghost use Rattle.wasm_parser.specs.Turns.{NextPayload, most_payloads};
+
+    type Item = Result<Payload<'a>>;
+
+    ghost next_gives = { NextPayload };
+
+    ghost remaining = { λ s. at_most (most_payloads s) };
+
+    fn next(&mut self) -> Option<Result<Payload<'a>>> {
+        if self.ended {
+            return None;
+        }
+        match self.parser.parse(self.bytes, true) {
+            Ok(Chunk::Parsed { consumed, payload }) => {
+                self.bytes = &self.bytes[consumed..];
+                self.ended = consumed == 0;
+                Some(Ok(payload))
+            }
+            Ok(Chunk::NeedMoreData(_)) => unreachable!(),
+            Err(e) => {
+                self.ended = true;
+                Some(Err(e))
+            }
+        }
+    }
+}
