@@ -5,27 +5,25 @@ use Rattle.std.specs.Io.KnownBytes.{Appends}
 use Rattle.std.proofs.KnownBytes.{Appends-nil, Appends-trans}
 use Rattle.wasm_base.specs.FaultAt.{FaultAt, fault_at}
 use Rattle.wasm_base.specs.declared.error.Error.{Error}
-use Rattle.wasm_list.specs.Answers.{told_by, Answers, AnswersOrUnread, Parses}
-use Rattle.wasm_list.specs.Content.{custom, items, index, data_count, code, unknown, Ending, fault, ended}
+use Rattle.wasm_parser.specs.Answers.{told_by, Answers, Parses}
+use Rattle.wasm_parser.specs.Content.{custom, items, index, data_count, code, unknown, Ending, fault, ended}
 use Rattle.wasm_base.specs.Name.{Name, named, refused, name_limit, name}
-use Rattle.wasm_list.specs.Grammar.{Shape, header, section, code_head, body, Tile, Verdict, tile, final, Grammar, verdict}
-use Rattle.wasm_list.specs.Listing.{line_of, line_if, event_line, listing_of}
-use Rattle.wasm_list.specs.Lists.{all_features, IsEndedBy, unread_behind, AllRead, IsListed, IsListedBefore, IsBeginning, Writes, IsCutShort, ListsBytes, Lists}
-use Rattle.wasm_list.specs.Reading.{ending, stopped, Event, told_of, told_custom, told_ending, event_of, events_of, last_event, Reads, Reading}
-use Rattle.wasm_list.specs.Stands.{Stand, new_stand, Stands, grammar_of, passed, is_start}
-use Rattle.wasm_list.specs.Tiling.{front, grammar, Faultless, encoding_of}
-use Rattle.wasm_list.specs.Unread.{unread_at, unread_in}
+use Rattle.wasm_parser.specs.Grammar.{Shape, header, section, code_head, body, Tile, Verdict, tile, final, Grammar, verdict}
+use Rattle.wasm_list.specs.Listing.{line_of, event_line, listing_of}
+use Rattle.wasm_list.specs.Lists.{all_features, IsEndedBy, IsListed, IsBeginning, Writes, IsCutShort, ListsBytes, Lists}
+use Rattle.wasm_parser.specs.Reading.{ending, stopped, Event, told_of, told_custom, told_ending, event_of, events_of, last_event, Reads, Reading}
+use Rattle.wasm_parser.specs.Stands.{Stand, new_stand, Stands, grammar_of, passed, is_start}
+use Rattle.wasm_parser.specs.Tiling.{front, grammar, Faultless, encoding_of}
 use Rattle.wasm_list.specs.declared.listing.Ended.{Ended}
 use Rattle.wasm_list.specs.declared.listing.Ended.TheVariants.{End, Fault}
 use Rattle.wasm_list.specs.declared.listing.ListError.{ListError}
-use Rattle.wasm_list.specs.declared.listing.ListError.TheVariants.{Input, Output, Memory, NotYet}
-use Rattle.wasm_list.specs.declared.payload.Chunk.{Chunk}
-use Rattle.wasm_list.specs.declared.payload.Chunk.TheVariants.{Parsed}
-use Rattle.wasm_list.specs.declared.payload.Payload.{Payload}
-use Rattle.wasm_list.specs.declared.payload.Payload.TheVariants as payloads
-use Rattle.wasm_list.proofs.ReadingLaws.{Grown, grows}
-use Rattle.wasm_list.proofs.StandsLaws.{grammar_same, stands_on, stands_on-tiles}
-use Rattle.wasm_list.proofs.Telling.{same_told}
+use Rattle.wasm_list.specs.declared.listing.ListError.TheVariants.{Input, Output, Memory}
+use Rattle.wasm_parser.specs.declared.payload.Chunk.{Chunk}
+use Rattle.wasm_parser.specs.declared.payload.Chunk.TheVariants.{Parsed}
+use Rattle.wasm_parser.specs.declared.payload.Payload.{Payload}
+use Rattle.wasm_parser.specs.declared.payload.Payload.TheVariants as payloads
+use Rattle.wasm_parser.proofs.ReadingLaws.{Grown, grows}
+use Rattle.wasm_parser.proofs.StandsLaws.{grammar_same, stands_on, stands_on-tiles}
 
 -- The lines of a beginning of the stream are written, and the parser stands behind it.
 pub record Progress (stream : List ℕ) (taken written : Option (List ℕ)) (p : Stand) (rest : List ℕ) : Type 0 where
@@ -33,7 +31,6 @@ pub record Progress (stream : List ℕ) (taken written : Option (List ℕ)) (p :
   pub stands : Stands p 0 covered
   pub whole : stream ≡ covered ++ rest
   pub features : p.features ≡ all_features
-  pub all_read : AllRead stands.tiles rest
   pub listed : Appends taken written (listing_of (events_of 0 all_features stands.tiles))
 
 pub begun : (stream : List ℕ) (taken : Option (List ℕ)) → Progress stream taken taken (new_stand 0 all_features) stream
@@ -42,7 +39,6 @@ begun stream taken = record {
   stands = record { tiles = []; faultless = tt; covers = refl; offset = refl; expects_header = refl; encoding = refl; rank = refl; functions = refl; codes = refl; datas = refl; data_counts = refl; bodies = refl; left = refl };
   whole = refl;
   features = refl;
-  all_read = tt;
   listed = Appends-nil taken;
 }
 
@@ -60,21 +56,6 @@ written_more a b c es e p q = subst (Appends a c) (sym (one_more es e)) (Appends
 
 -- ---- what stands next
 
--- what the parser knows suffices to tell whether the next section isn't read yet
-unread_at_tiles : (p : Stand) (covered rest : List ℕ) (s : Stands p 0 covered) (ts : List Tile) → s.tiles ≡ ts → unread_in p rest ≡ unread_behind ts rest
-unread_at_tiles p covered rest s [] z =
-    let h : p.expects_header ≡ true = s.expects_header ∙ ap is_start z in
-    rw h refl
-unread_at_tiles p covered rest s (t ∷ ts) z =
-    let h : p.expects_header ≡ false = s.expects_header ∙ ap is_start z in
-    let e : p.encoding ≡ encoding_of (t ∷ ts) = s.encoding ∙ ap encoding_of z in
-    let c : covered ≡ front (t ∷ ts) = sym s.covers ∙ ap front z in
-    let o : p.offset ≡ length (front (t ∷ ts)) = s.offset ∙ (zero-add (length covered) ∙ ap (λ (x : List ℕ). length x) c) in
-    rw h (λ i. unread_at (e i) (o i) rest)
-
-unread_same : (p : Stand) (covered rest : List ℕ) (s : Stands p 0 covered) → unread_in p rest ≡ unread_behind s.tiles rest
-unread_same p covered rest s = unread_at_tiles p covered rest s s.tiles refl
-
 -- what stands next is what the tiles say
 verdict_same : (p : Stand) (covered rest : List ℕ) (s : Stands p 0 covered) → verdict (grammar_of p) rest ≡ verdict (grammar 0 s.tiles) rest
 verdict_same p covered rest s = ap (λ (g : Grammar). verdict g rest) (grammar_same p 0 covered s)
@@ -88,48 +69,38 @@ offset_is stream taken written p rest g =
 
 -- what parse answered with a payload: a tile, or the end
 pub data Came (p : Stand) (rest : List ℕ) (consumed : ℕ) (payload : Payload) (p' : Stand) : Type 0 where
-  tile_came : (t : Tile) → verdict (grammar_of p) rest ≡ tile t → consumed ≡ length t.bytes → told_by payload ≡ Some (told_of p.features p.offset (p.offset + length t.bytes) t.shape) → p' ≡ passed p t → Came p rest consumed payload p'
-  end_came : (e : Ending) → verdict (grammar_of p) rest ≡ final e → told_by payload ≡ Some (told_ending e) → Came p rest consumed payload p'
+  tile_came : (t : Tile) → verdict (grammar_of p) rest ≡ tile t → consumed ≡ length t.bytes → told_by payload ≡ told_of p.features p.offset (p.offset + length t.bytes) t.shape → p' ≡ passed p t → Came p rest consumed payload p'
+  end_came : (offset : ℕ) → verdict (grammar_of p) rest ≡ final (ended offset) → told_by payload ≡ ending offset → Came p rest consumed payload p'
 
 came_at : (p : Stand) (rest : List ℕ) (consumed : ℕ) (payload : Payload) (p' : Stand) (v : Verdict) → verdict (grammar_of p) rest ≡ v → Answers p v (Ok (Parsed consumed payload)) p' → Came p rest consumed payload p'
-came_at p rest consumed payload p' (tile t) e a = tile_came t e a.0 a.1 a.2
-came_at p rest consumed payload p' (final x) e a = end_came x e a.1
+came_at p rest consumed payload p' (tile t) e a = tile_came t e a.0 a.1.0 a.2
+came_at p rest consumed payload p' (final (fault f)) e a = absurd a
+came_at p rest consumed payload p' (final (ended o)) e a = end_came o e a.1.0
 
-came_unless : (p : Stand) (rest : List ℕ) (consumed : ℕ) (payload : Payload) (p' : Stand) (u : Option ℕ) → ((id : ℕ) → payload ≡ payloads.NotYet id → ⊥)
-    → AnswersOrUnread u p (verdict (grammar_of p) rest) (Ok (Parsed consumed payload)) p' → Came p rest consumed payload p' × (u ≡ None)
-came_unless p rest consumed payload p' None n a = (came_at p rest consumed payload p' (verdict (grammar_of p) rest) refl a, refl)
-came_unless p rest consumed payload p' (Some id) n a = absurd (n id (same consumed payload id a.0))
-  where
-    same : (k : ℕ) (x : Payload) (id : ℕ) → (let a : Result Chunk Error = Ok (Parsed k x) in a) ≡ Ok (Parsed 0 (payloads.NotYet id)) → x ≡ payloads.NotYet id
-    same k x id e = cc
-
--- a payload of a section that is read
 pub came : (stream : List ℕ) (taken written : Option (List ℕ)) (p : Stand) (rest : List ℕ) (consumed : ℕ) (payload : Payload) (p' : Stand) (g : Progress stream taken written p rest) → length stream < 2 ^ 64
-    → Parses p rest (Ok (Parsed consumed payload)) p' → ((id : ℕ) → payload ≡ payloads.NotYet id → ⊥) → Came p rest consumed payload p' × (unread_in p rest ≡ None)
-came stream taken written p rest consumed payload p' g l a n =
+    → Parses p rest (Ok (Parsed consumed payload)) p' → Came p rest consumed payload p'
+came stream taken written p rest consumed payload p' g l a =
     let o : p.offset + length rest ≡ length stream = offset_is stream taken written p rest g in
-    came_unless p rest consumed payload p' (unread_in p rest) n (a.within (omega arith))
+    came_at p rest consumed payload p' (verdict (grammar_of p) rest) refl (a.within (omega arith))
 
 -- the line of a tile's payload is the line of its event
-told_line : (ts : List Tile) (t : Tile) (p : Stand) (payload : Payload) → p.features ≡ all_features → p.offset ≡ 0 + length (front ts) → told_by payload ≡ Some (told_of p.features p.offset (p.offset + length t.bytes) t.shape)
-    → line_if (told_by payload) ≡ event_line (event_of all_features (0 + length (front ts)) t)
-told_line ts t p payload f o h = ap line_if h ∙ (λ i. line_of (told_of (f i) (o i) (o i + length t.bytes) t.shape))
+told_line : (ts : List Tile) (t : Tile) (p : Stand) (payload : Payload) → p.features ≡ all_features → p.offset ≡ 0 + length (front ts) → told_by payload ≡ told_of p.features p.offset (p.offset + length t.bytes) t.shape
+    → line_of (told_by payload) ≡ event_line (event_of all_features (0 + length (front ts)) t)
+told_line ts t p payload f o h = ap line_of h ∙ (λ i. line_of (told_of (f i) (o i) (o i + length t.bytes) t.shape))
 
 stands_offset : (p : Stand) (covered : List ℕ) (s : Stands p 0 covered) → p.offset ≡ 0 + length (front s.tiles)
 stands_offset p covered s = s.offset ∙ ap (λ (x : List ℕ). 0 + length x) (sym s.covers)
 
 -- a tile whose line is written is one more of the listing
 pub one_tile : (stream : List ℕ) (taken written written' : Option (List ℕ)) (p p' : Stand) (rest : List ℕ) (consumed : ℕ) (payload : Payload) (t : Tile) → Progress stream taken written p rest
-    → unread_in p rest ≡ None → verdict (grammar_of p) rest ≡ tile t → consumed ≡ length t.bytes → told_by payload ≡ Some (told_of p.features p.offset (p.offset + length t.bytes) t.shape) → p' ≡ passed p t
-    → Appends written written' (line_if (told_by payload)) → Progress stream taken written' p' (drop consumed rest)
-one_tile stream taken written written' p p' rest consumed payload t g u v k h e w =
+    → verdict (grammar_of p) rest ≡ tile t → consumed ≡ length t.bytes → told_by payload ≡ told_of p.features p.offset (p.offset + length t.bytes) t.shape → p' ≡ passed p t
+    → Appends written written' (line_of (told_by payload)) → Progress stream taken written' p' (drop consumed rest)
+one_tile stream taken written written' p p' rest consumed payload t g v k h e w =
     let v' : verdict (grammar 0 g.stands.tiles) rest ≡ tile t = sym (verdict_same p g.covered rest g.stands) ∙ v in
     let gr : Grown 0 g.stands.tiles rest t = grows 0 g.stands.tiles rest t g.stands.faultless v' in
     let d : drop consumed rest ≡ gr.rest = ap (λ (n : ℕ). drop n rest) k ∙ (ap (drop (length t.bytes)) gr.split ∙ drop_at t.bytes gr.rest (length t.bytes) refl) in
-    let u' : unread_behind g.stands.tiles rest ≡ None = sym (unread_same p g.covered rest g.stands) ∙ u in
-    let line : line_if (told_by payload) ≡ event_line (event_of all_features (0 + length (front g.stands.tiles)) t) = told_line g.stands.tiles t p payload g.features (stands_offset p g.covered g.stands) h in
+    let line : line_of (told_by payload) ≡ event_line (event_of all_features (0 + length (front g.stands.tiles)) t) = told_line g.stands.tiles t p payload g.features (stands_offset p g.covered g.stands) h in
     let more : (stands_on p 0 g.covered g.stands rest t v).tiles ≡ t ∷ g.stands.tiles = stands_on-tiles p 0 g.covered g.stands rest t v in
-    let read : AllRead (t ∷ g.stands.tiles) gr.rest = (subst (AllRead g.stands.tiles) gr.split g.all_read, subst (λ (x : List ℕ). unread_behind g.stands.tiles x ≡ None) gr.split u') in
     let lines : Appends taken written' (listing_of (events_of 0 all_features (t ∷ g.stands.tiles))) =
     written_more taken written written' (events_of 0 all_features g.stands.tiles) (event_of all_features (0 + length (front g.stands.tiles)) t) g.listed (subst (Appends written written') line w) in
     let behind : Progress stream taken written' (passed p t) gr.rest = record {
@@ -137,7 +108,6 @@ one_tile stream taken written written' p p' rest consumed payload t g u v k h e 
       stands = stands_on p 0 g.covered g.stands rest t v;
       whole = g.whole ∙ (ap (λ (x : List ℕ). g.covered ++ x) gr.split ∙ sym (append_assoc g.covered t.bytes gr.rest));
       features = g.features;
-      all_read = subst (λ (x : List Tile). AllRead x gr.rest) (sym more) read;
       listed = subst (λ (x : List Tile). Appends taken written' (listing_of (events_of 0 all_features x))) (sym more) lines;
     } in
     subst₂ (λ (x : Stand) (y : List ℕ). Progress stream taken written' x y) (sym e) (sym d) behind
@@ -160,33 +130,13 @@ reads_now stream taken written p rest end g v = record {
 }
 
 -- the end, whose line is written
-pub at_the_end : (stream : List ℕ) (taken written written' : Option (List ℕ)) (p : Stand) (rest : List ℕ) (end : Ending) (how : Ended) → Progress stream taken written p rest → unread_in p rest ≡ None
-    → verdict (grammar_of p) rest ≡ final end → IsEndedBy how end → Appends written written' (event_line (last_event end)) → IsListed stream taken written' how
-at_the_end stream taken written written' p rest end how g u v h w = record {
-  tiles = g.stands.tiles;
-  end = end;
-  reads = record {
-    rest = rest;
-    whole = g.whole ∙ ap (λ (x : List ℕ). x ++ rest) (sym g.stands.covers);
-    faultless = g.stands.faultless;
-    stops = sym (verdict_same p g.covered rest g.stands) ∙ v;
-  };
-  all_read = g.all_read;
-  last_read = sym (unread_same p g.covered rest g.stands) ∙ u;
+pub at_the_end : (stream : List ℕ) (taken written written' : Option (List ℕ)) (p : Stand) (rest : List ℕ) (end : Ending) (how : Ended) → Progress stream taken written p rest → verdict (grammar_of p) rest ≡ final end → IsEndedBy how end
+    → Appends written written' (event_line (last_event end)) → IsListed stream taken written' how
+at_the_end stream taken written written' p rest end how g v h w = record {
+  events = events_of 0 all_features g.stands.tiles ++ last_event end ∷ [];
+  reading = record { tiles = g.stands.tiles; end = end; reads = reads_now stream taken written p rest end g v; listed = refl };
   listed = written_more taken written written' (events_of 0 all_features g.stands.tiles) (last_event end) g.listed w;
   ends = h;
-}
-
--- a section that isn't read yet
-pub before_unread : (stream : List ℕ) (taken written : Option (List ℕ)) (p : Stand) (rest : List ℕ) (id : ℕ) → Progress stream taken written p rest → unread_in p rest ≡ Some id → IsListedBefore stream taken written id
-before_unread stream taken written p rest id g u = record {
-  tiles = g.stands.tiles;
-  rest = rest;
-  faultless = g.stands.faultless;
-  whole = g.whole ∙ ap (λ (x : List ℕ). x ++ rest) (sym g.stands.covers);
-  all_read = g.all_read;
-  unread = sym (unread_same p g.covered rest g.stands) ∙ u;
-  listed = g.listed;
 }
 
 -- ---- a beginning of the listing
@@ -275,54 +225,54 @@ told_no_ending f s to (section custom id content) o h = by_name (to - length con
 told_no_ending f s to (code_head count width size) o h = cc
 told_no_ending f s to (body content) o h = cc
 
--- what a payload tells at the end is that end
-only_end : (payload : Payload) (e : Ending) → told_by payload ≡ Some (told_ending e) → (o : ℕ) × (payload ≡ payloads.End o) × (e ≡ ended o)
-only_end (payloads.Version num encoding range) (fault f) h = cc
-only_end (payloads.Version num encoding range) (ended o) h = cc
-only_end (payloads.FunctionSection s) (fault f) h = cc
-only_end (payloads.FunctionSection s) (ended o) h = cc
-only_end (payloads.StartSection func range) (fault f) h = cc
-only_end (payloads.StartSection func range) (ended o) h = cc
-only_end (payloads.DataCountSection count range) (fault f) h = cc
-only_end (payloads.DataCountSection count range) (ended o) h = cc
-only_end (payloads.CustomSection s) (fault f) h = cc
-only_end (payloads.CustomSection s) (ended o) h = cc
-only_end (payloads.UnknownSection id contents range) (fault f) h = cc
-only_end (payloads.UnknownSection id contents range) (ended o) h = cc
-only_end (payloads.NotYet id) e h = cc
-only_end (payloads.End at) (fault f) h = cc
-only_end (payloads.End at) (ended o) h = (at, refl, cc)
+-- a payload that tells an end is one
+only_end : (payload : Payload) (o : ℕ) → told_by payload ≡ ending o → (at : ℕ) × (payload ≡ payloads.End at)
+only_end (payloads.Version num encoding range) o h = cc
+only_end (payloads.TypeSection s) o h = cc
+only_end (payloads.ImportSection s) o h = cc
+only_end (payloads.FunctionSection s) o h = cc
+only_end (payloads.TableSection s) o h = cc
+only_end (payloads.MemorySection s) o h = cc
+only_end (payloads.TagSection s) o h = cc
+only_end (payloads.GlobalSection s) o h = cc
+only_end (payloads.ExportSection s) o h = cc
+only_end (payloads.StartSection func range) o h = cc
+only_end (payloads.ElementSection s) o h = cc
+only_end (payloads.DataCountSection count range) o h = cc
+only_end (payloads.DataSection s) o h = cc
+only_end (payloads.CodeSectionStart count unchecked_range size) o h = cc
+only_end (payloads.CodeSectionEntry entry) o h = cc
+only_end (payloads.CustomSection s) o h = cc
+only_end (payloads.UnknownSection id contents range) o h = cc
+only_end (payloads.End at) o h = (at, refl)
 
 -- the last line is written
 pub ends_listed : (stream : List ℕ) (taken written written' : Option (List ℕ)) (p p' : Stand) (rest : List ℕ) (consumed : ℕ) (payload : Payload) (o : ℕ) → Progress stream taken written p rest
-    → Came p rest consumed payload p' × (unread_in p rest ≡ None) → payload ≡ payloads.End o → Appends written written' (line_if (told_by payload)) → IsListed stream taken written' End
-ends_listed stream taken written written' p p' rest consumed payload o g (tile_came t v k h e, u) is w =
-    let z : told_of p.features p.offset (p.offset + length t.bytes) t.shape ≡ ending o = same_told _ _ (sym h ∙ ap told_by is) in
+    → Came p rest consumed payload p' → payload ≡ payloads.End o → Appends written written' (line_of (told_by payload)) → IsListed stream taken written' End
+ends_listed stream taken written written' p p' rest consumed payload o g (tile_came t v k h e) is w =
+    let z : told_of p.features p.offset (p.offset + length t.bytes) t.shape ≡ ending o = sym h ∙ ap told_by is in
     absurd (told_no_ending p.features p.offset (p.offset + length t.bytes) t.shape o z)
-ends_listed stream taken written written' p p' rest consumed payload o g (end_came e v h, u) is w =
-    let z = only_end payload e h in
-    let how : IsEndedBy End e = subst (IsEndedBy End) (sym z.2) tt in
-    at_the_end stream taken written written' p rest e End g u v how (subst (Appends written written') (ap line_if h) w)
+ends_listed stream taken written written' p p' rest consumed payload o g (end_came x v h) is w = at_the_end stream taken written written' p rest (ended x) End g v tt (subst (Appends written written') (ap line_of h) w)
 
 -- a tile was listed, and there is less to read
 pub goes_on : (stream : List ℕ) (taken written written' : Option (List ℕ)) (p p' : Stand) (rest : List ℕ) (consumed : ℕ) (payload : Payload) → Progress stream taken written p rest
-    → Came p rest consumed payload p' × (unread_in p rest ≡ None) → ((o : ℕ) → payload ≡ payloads.End o → ⊥) → Appends written written' (line_if (told_by payload))
+    → Came p rest consumed payload p' → ((o : ℕ) → payload ≡ payloads.End o → ⊥) → Appends written written' (line_of (told_by payload))
     → Progress stream taken written' p' (drop consumed rest) × (consumed ≤ length rest) × (0 < consumed)
-goes_on stream taken written written' p p' rest consumed payload g (tile_came t v k h e, u) n w =
+goes_on stream taken written written' p p' rest consumed payload g (tile_came t v k h e) n w =
     let l : (0 < length t.bytes) × (length t.bytes ≤ length rest) = tile_takes stream taken written p rest t g v in
-    (one_tile stream taken written written' p p' rest consumed payload t g u v k h e w, omega (arith, k, l.1), omega (arith, k, l.0))
-goes_on stream taken written written' p p' rest consumed payload g (end_came e v h, u) n w = let z = only_end payload e h in absurd (n z.0 z.1)
+    (one_tile stream taken written written' p p' rest consumed payload t g v k h e w, omega (arith, k, l.1), omega (arith, k, l.0))
+goes_on stream taken written written' p p' rest consumed payload g (end_came x v h) n w = let z = only_end payload x h in absurd (n z.0 z.1)
 
 -- the line that the payload has in the reading
 came_reading : (stream : List ℕ) (taken written : Option (List ℕ)) (p p' : Stand) (rest : List ℕ) (consumed : ℕ) (payload : Payload) (g : Progress stream taken written p rest) → Came p rest consumed payload p'
-    → (e : Event) × ReadingFrom stream (events_of 0 all_features g.stands.tiles ++ e ∷ []) × (line_if (told_by payload) ≡ event_line e)
+    → (e : Event) × ReadingFrom stream (events_of 0 all_features g.stands.tiles ++ e ∷ []) × (line_of (told_by payload) ≡ event_line e)
 came_reading stream taken written p p' rest consumed payload g (tile_came t v k h e) =
     let v' : verdict (grammar 0 g.stands.tiles) rest ≡ tile t = sym (verdict_same p g.covered rest g.stands) ∙ v in
     let gr : Grown 0 g.stands.tiles rest t = grows 0 g.stands.tiles rest t g.stands.faultless v' in
     let whole : stream ≡ front g.stands.tiles ++ rest = g.whole ∙ ap (λ (x : List ℕ). x ++ rest) (sym g.stands.covers) in
     let r : ReadingFrom stream (events_of 0 all_features (t ∷ g.stands.tiles)) = reading_from stream (t ∷ g.stands.tiles) gr.rest gr.faultless (whole ∙ (ap (λ (x : List ℕ). front g.stands.tiles ++ x) gr.split ∙ sym (append_assoc (front g.stands.tiles) t.bytes gr.rest))) in
     (event_of all_features (0 + length (front g.stands.tiles)) t, r, told_line g.stands.tiles t p payload g.features (stands_offset p g.covered g.stands) h)
-came_reading stream taken written p p' rest consumed payload g (end_came e v h) = (last_event e, ends_reading stream taken written p rest e g v, ap line_if h)
+came_reading stream taken written p p' rest consumed payload g (end_came x v h) = (last_event (ended x), ends_reading stream taken written p rest (ended x) g v, ap line_of h)
 
 -- a line that was refused
 pub cut_by : (stream : List ℕ) (taken written written' : Option (List ℕ)) (first : List Event) (e : Event) (line : List ℕ) (x : ListError) → ReadingFrom stream (first ++ e ∷ []) → Appends taken written (listing_of first) → line ≡ event_line e
@@ -330,13 +280,12 @@ pub cut_by : (stream : List ℕ) (taken written written' : Option (List ℕ)) (f
 cut_by stream taken written written' first e line Output r p l (n, w) = line_cut stream taken written written' first e n r p (subst (λ (y : List ℕ). Appends written written' (take n y)) l w)
 cut_by stream taken written written' first e line Memory r p l (n, w) = line_cut stream taken written written' first e n r p (subst (λ (y : List ℕ). Appends written written' (take n y)) l w)
 cut_by stream taken written written' first e line Input r p l w = absurd w
-cut_by stream taken written written' first e line (NotYet id) r p l w = absurd w
 
 pub stops_listing : (stream : List ℕ) (taken written written' : Option (List ℕ)) (p p' : Stand) (rest : List ℕ) (consumed : ℕ) (payload : Payload) (x : ListError) → Progress stream taken written p rest
-    → Came p rest consumed payload p' × (unread_in p rest ≡ None) → Writes written written' (line_if (told_by payload)) (Err x) → ListsBytes stream taken written' (Err x)
-stops_listing stream taken written written' p p' rest consumed payload x g (c, u) w =
+    → Came p rest consumed payload p' → Writes written written' (line_of (told_by payload)) (Err x) → ListsBytes stream taken written' (Err x)
+stops_listing stream taken written written' p p' rest consumed payload x g c w =
     let r = came_reading stream taken written p p' rest consumed payload g c in
-    cut_by stream taken written written' (events_of 0 all_features g.stands.tiles) r.0 (line_if (told_by payload)) x r.1 g.listed r.2 w
+    cut_by stream taken written written' (events_of 0 all_features g.stands.tiles) r.0 (line_of (told_by payload)) x r.1 g.listed r.2 w
 
 -- what parse refused stands there
 refused_at : (p : Stand) (rest : List ℕ) (e : Error) (p' : Stand) (v : Verdict) → verdict (grammar_of p) rest ≡ v → Answers p v (Err e) p' → verdict (grammar_of p) rest ≡ final (fault (fault_at e))
@@ -344,54 +293,27 @@ refused_at p rest e p' (tile t) q a = absurd a
 refused_at p rest e p' (final (fault f)) q a = q ∙ ap (λ (x : FaultAt). final (fault x)) (sym a.0)
 refused_at p rest e p' (final (ended o)) q a = absurd a
 
-refused_unless : (p : Stand) (rest : List ℕ) (e : Error) (p' : Stand) (u : Option ℕ) → AnswersOrUnread u p (verdict (grammar_of p) rest) (Err e) p' → (verdict (grammar_of p) rest ≡ final (fault (fault_at e))) × (u ≡ None)
-refused_unless p rest e p' None a = (refused_at p rest e p' (verdict (grammar_of p) rest) refl a, refl)
-refused_unless p rest e p' (Some id) a = absurd (no_chunk e id a.0)
-  where
-    no_chunk : (e : Error) (id : ℕ) → (let a : Result Chunk Error = Err e in a) ≡ Ok (Parsed 0 (payloads.NotYet id)) → ⊥
-    no_chunk e id h = cc
-
 pub refused_here : (stream : List ℕ) (taken written : Option (List ℕ)) (p : Stand) (rest : List ℕ) (e : Error) (p' : Stand) (g : Progress stream taken written p rest) → length stream < 2 ^ 64
-    → Parses p rest (Err e) p' → (verdict (grammar_of p) rest ≡ final (fault (fault_at e))) × (unread_in p rest ≡ None)
+    → Parses p rest (Err e) p' → verdict (grammar_of p) rest ≡ final (fault (fault_at e))
 refused_here stream taken written p rest e p' g l a =
     let o : p.offset + length rest ≡ length stream = offset_is stream taken written p rest g in
-    refused_unless p rest e p' (unread_in p rest) (a.within (omega arith))
+    refused_at p rest e p' (verdict (grammar_of p) rest) refl (a.within (omega arith))
 
 -- the line of the fault is written, or refused
 pub fault_listed : (stream : List ℕ) (taken written written' : Option (List ℕ)) (p p' : Stand) (rest : List ℕ) (e : Error) → Progress stream taken written p rest → length stream < 2 ^ 64 → Parses p rest (Err e) p'
     → Appends written written' (line_of (stopped (fault_at e))) → IsListed stream taken written' (Fault e)
 fault_listed stream taken written written' p p' rest e g l a w =
     let r = refused_here stream taken written p rest e p' g l a in
-    at_the_end stream taken written written' p rest (fault (fault_at e)) (Fault e) g r.1 r.0 refl w
+    at_the_end stream taken written written' p rest (fault (fault_at e)) (Fault e) g r refl w
 
 pub fault_cut : (stream : List ℕ) (taken written written' : Option (List ℕ)) (p p' : Stand) (rest : List ℕ) (e : Error) (x : ListError) → Progress stream taken written p rest → length stream < 2 ^ 64 → Parses p rest (Err e) p'
     → Writes written written' (line_of (stopped (fault_at e))) (Err x) → ListsBytes stream taken written' (Err x)
 fault_cut stream taken written written' p p' rest e x g l a w =
     let r = refused_here stream taken written p rest e p' g l a in
-    cut_by stream taken written written' (events_of 0 all_features g.stands.tiles) (last_event (fault (fault_at e))) (line_of (stopped (fault_at e))) x (ends_reading stream taken written p rest (fault (fault_at e)) g r.0) g.listed refl w
-
--- a section that isn't read yet
-unread_unless : (p : Stand) (rest : List ℕ) (consumed : ℕ) (id : ℕ) (p' : Stand) (u : Option ℕ) → AnswersOrUnread u p (verdict (grammar_of p) rest) (Ok (Parsed consumed (payloads.NotYet id))) p' → u ≡ Some id
-unread_unless p rest consumed id p' None a = absurd (by_verdict (verdict (grammar_of p) rest) a)
-  where
-    by_verdict : (v : Verdict) → Answers p v (Ok (Parsed consumed (payloads.NotYet id))) p' → ⊥
-    by_verdict (tile t) a = let h = a.1 in cc
-    by_verdict (final e) a = let h = a.1 in cc
-unread_unless p rest consumed id p' (Some i) a = same consumed id i a.0
-  where
-    same : (k id i : ℕ) → (let a : Result Chunk Error = Ok (Parsed k (payloads.NotYet id)) in a) ≡ Ok (Parsed 0 (payloads.NotYet i)) → Some i ≡ Some id
-    same k id i e = cc
-
-pub not_yet : (stream : List ℕ) (taken written : Option (List ℕ)) (p p' : Stand) (rest : List ℕ) (consumed : ℕ) (payload : Payload) (id : ℕ) → Progress stream taken written p rest → length stream < 2 ^ 64
-    → Parses p rest (Ok (Parsed consumed payload)) p' → payload ≡ payloads.NotYet id → IsListedBefore stream taken written id
-not_yet stream taken written p p' rest consumed payload id g l a is =
-    let o : p.offset + length rest ≡ length stream = offset_is stream taken written p rest g in
-    let b : Parses p rest (Ok (Parsed consumed (payloads.NotYet id))) p' = subst (λ (x : Payload). Parses p rest (Ok (Parsed consumed x)) p') is a in
-    before_unread stream taken written p rest id g (unread_unless p rest consumed id p' (unread_in p rest) (b.within (omega arith)))
+    cut_by stream taken written written' (events_of 0 all_features g.stands.tiles) (last_event (fault (fault_at e))) (line_of (stopped (fault_at e))) x (ends_reading stream taken written p rest (fault (fault_at e)) g r) g.listed refl w
 
 -- a source that was not read to its end: nothing is written
 pub not_gathered : (left rest taken : Option (List ℕ)) (x : ListError) → IsCutShort left rest x → Lists left rest taken taken (Err x)
 not_gathered left rest taken Input h = (h.0, h.1, nothing_yet h.0 taken)
 not_gathered left rest taken Memory h = (h.0, h.1, nothing_yet h.0 taken)
 not_gathered left rest taken Output h = absurd h
-not_gathered left rest taken (NotYet id) h = absurd h

@@ -3,9 +3,9 @@ use Rattle.std.specs.Prelude.{ℕ, ◌+◌, List, [], ◌++◌, length, codes, d
 use Rattle.std.specs.List.{flat_map}
 use Rattle.wasm_base.specs.Message.{message_of}
 use Rattle.wasm_base.specs.Window.{Window}
-use Rattle.wasm_list.specs.Reading.{Told, version, counted, start_section, data_count_section, code_start, code_entry, custom_section, unknown_section, stopped, ending, Event}
-use Rattle.wasm_list.specs.declared.payload.Encoding.{Encoding}
-use Rattle.wasm_list.specs.declared.payload.Encoding.TheVariants.{Module, Component}
+use Rattle.wasm_parser.specs.Reading.{Told, version, counted, start_section, data_count_section, code_start, code_entry, custom_section, unknown_section, stopped, ending, Event}
+use Rattle.wasm_parser.specs.declared.payload.Encoding.{Encoding}
+use Rattle.wasm_parser.specs.declared.payload.Encoding.TheVariants.{Module, Component}
 
 -- a blank and a number, before the rest of a line
 abbrev pub field : ℕ → List ℕ → List ℕ
@@ -37,13 +37,10 @@ line_of (unknown_section id contents from to) = codes "unknown" ++ field id (fie
 line_of (stopped f) = codes "fault" ++ field f.offset (codes " " ++ (message_of f.fault ++ fault_number f.number (codes "\n")))
 line_of (ending offset) = codes "end" ++ field offset (codes "\n")
 
--- the line of what a payload tells, if it tells anything
-abbrev pub line_if : Option Told → List ℕ
-line_if None = []
-line_if (Some told) = line_of told
-
+-- the line of an event
 abbrev pub event_line : Event → List ℕ
 event_line e = line_of e.told
 
+-- the listing of events: a line for each
 abbrev pub listing_of : List Event → List ℕ
 listing_of events = flat_map event_line events

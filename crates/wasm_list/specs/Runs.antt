@@ -5,7 +5,7 @@ use Rattle.wasm_list.specs.Lists.{Lists, input_failed, output_failed}
 use Rattle.wasm_list.specs.declared.listing.Ended.{Ended}
 use Rattle.wasm_list.specs.declared.listing.Ended.TheVariants.{End, Fault}
 use Rattle.wasm_list.specs.declared.listing.ListError.{ListError}
-use Rattle.wasm_list.specs.declared.listing.ListError.TheVariants.{Input, Output, Memory, NotYet}
+use Rattle.wasm_list.specs.declared.listing.ListError.TheVariants.{Input, Output, Memory}
 
 -- the exit status of a listing
 abbrev pub status_of : Result Ended ListError → ℕ
@@ -18,7 +18,6 @@ abbrev pub complaint_of : ListError → List ℕ
 complaint_of Input = codes "input failed\n"
 complaint_of Output = codes "output failed\n"
 complaint_of Memory = codes "out of memory\n"
-complaint_of (NotYet id) = codes "not yet\n"
 
 abbrev pub message_of : Result Ended ListError → List ℕ
 message_of (Ok how) = []

@@ -1,14 +1,13 @@
 // The lines of a listing.
 ghost use Rattle.std.specs.Prelude.{◌≡◌, ◌++◌, Some, IfOk, codes, string_bytes};
 ghost use Rattle.wasm_base.specs.FaultAt.{fault_at};
-ghost use Rattle.wasm_list.specs.Answers.{told_by};
-ghost use Rattle.wasm_list.specs.Listing.{encoding_name as name_of, field, line_of, line_if};
-ghost use Rattle.wasm_list.specs.Reading.{stopped};
+ghost use Rattle.wasm_parser.specs.Answers.{told_by};
+ghost use Rattle.wasm_list.specs.Listing.{encoding_name as name_of, field, line_of};
+ghost use Rattle.wasm_parser.specs.Reading.{stopped};
 
-use crate::payload::{Encoding, Payload};
 use std::alloc::{AllocError, Allocator};
 use std::ops::Range;
-use wasm_base::Error;
+use wasm_parser::{Encoding, Error, Payload};
 
 fn encoding_name(encoding: Encoding) -> &'static str
     ensures { result.now ≡ name_of encoding }
@@ -32,13 +31,13 @@ fn counted_line<A: Allocator>(
     format!(in alloc; "section {id} {start} {end} {count}\n")
 }
 
-/// The line of a payload. A section that isn't read yet has none.
+/// The line of a payload.
 #[tactic(auto, unfolding(crate::specs::Listing::line_of))]
 pub(crate) fn payload_line<A: Allocator>(
     alloc: A,
     payload: &Payload,
 ) -> Result<String<A>, AllocError>
-    ensures { IfOk result (λ line. string_bytes line ≡ line_if (told_by payload.now)) }
+    ensures { IfOk result (λ line. string_bytes line ≡ line_of (told_by payload.now)) }
 {
     match payload {
         Payload::Version {
@@ -49,16 +48,36 @@ pub(crate) fn payload_line<A: Allocator>(
             let (start, end, name) = (range.start, range.end, encoding_name(*encoding));
             format!(in alloc; "version {start} {end} {num} {name}\n")
         }
-        Payload::FunctionSection(section) => {
-            counted_line(alloc, 3, section.range(), section.count())
-        }
+        Payload::TypeSection(section) => counted_line(alloc, 1, section.range(), section.count()),
+        Payload::ImportSection(section) => counted_line(alloc, 2, section.range(), section.count()),
+        Payload::FunctionSection(section) => counted_line(alloc, 3, section.range(), section.count()),
+        Payload::TableSection(section) => counted_line(alloc, 4, section.range(), section.count()),
+        Payload::MemorySection(section) => counted_line(alloc, 5, section.range(), section.count()),
+        Payload::TagSection(section) => counted_line(alloc, 13, section.range(), section.count()),
+        Payload::GlobalSection(section) => counted_line(alloc, 6, section.range(), section.count()),
+        Payload::ExportSection(section) => counted_line(alloc, 7, section.range(), section.count()),
         Payload::StartSection { func, range } => {
             let (start, end) = (range.start, range.end);
             format!(in alloc; "start {start} {end} {func}\n")
         }
+        Payload::ElementSection(section) => counted_line(alloc, 9, section.range(), section.count()),
         Payload::DataCountSection { count, range } => {
             let (start, end) = (range.start, range.end);
             format!(in alloc; "datacount {start} {end} {count}\n")
+        }
+        Payload::DataSection(section) => counted_line(alloc, 11, section.range(), section.count()),
+        Payload::CodeSectionStart {
+            count,
+            unchecked_range,
+            size,
+        } => {
+            let (start, end) = (unchecked_range.start, unchecked_range.end);
+            format!(in alloc; "code {start} {end} {count} {size}\n")
+        }
+        Payload::CodeSectionEntry(body) => {
+            let range = body.range();
+            let (start, end) = (range.start, range.end);
+            format!(in alloc; "body {start} {end}\n")
         }
         Payload::CustomSection(section) => {
             let (range, data_offset) = (section.range(), section.data_offset());
@@ -69,7 +88,6 @@ pub(crate) fn payload_line<A: Allocator>(
             let (start, end) = (range.start, range.end);
             format!(in alloc; "unknown {id} {start} {end}\n")
         }
-        Payload::NotYet(_) => Ok(String::new(alloc)),
         Payload::End(offset) => format!(in alloc; "end {offset}\n"),
     }
 }

@@ -1,18 +1,16 @@
 // The listing of a stream.
 ghost use Rattle.std.specs.Prelude.{◌≡◌, ◌≤◌, ◌<◌};
 ghost use Rattle.wasm_base.specs.FaultAt.{fault_at};
-ghost use Rattle.wasm_list.specs.Answers.{told_by};
-ghost use Rattle.wasm_list.specs.Listing.{line_of, line_if};
+ghost use Rattle.wasm_parser.specs.Answers.{told_by};
+ghost use Rattle.wasm_list.specs.Listing.{line_of};
 ghost use Rattle.wasm_list.specs.Lists.{Writes, Gathers, ListsBytes, Lists, input_failed, output_failed};
-ghost use Rattle.wasm_list.specs.Reading.{stopped};
+ghost use Rattle.wasm_parser.specs.Reading.{stopped};
 
 use crate::lines::{fault_line, payload_line};
-use crate::parser::Parser;
-use crate::payload::{Chunk, Payload};
 use crate::sink::{Sink, write_all};
 use crate::source::Source;
 use std::alloc::{AllocError, Allocator, Global};
-use wasm_base::Error;
+use wasm_parser::{Chunk, Error, Parser, Payload};
 
 /// How a stream that was listed ended.
 #[derive(Clone, Copy, Debug, PartialEq, Eq)]
@@ -32,8 +30,6 @@ pub enum ListError {
     Output,
     /// No memory was left.
     Memory,
-    /// A section with this id isn't read yet.
-    NotYet(u8),
 }
 
 impl From<AllocError> for ListError {
@@ -60,7 +56,7 @@ fn write_line<W: Sink>(output: &mut W, line: &str) -> Result<(), ListError>
 
 // Writes the line of a payload.
 fn tell<A: Allocator, W: Sink>(alloc: A, output: &mut W, payload: &Payload) -> Result<(), ListError>
-    ensures writes { Writes (W.taken output.old) (W.taken output.new) (line_if (told_by payload.now)) result }
+    ensures writes { Writes (W.taken output.old) (W.taken output.new) (line_of (told_by payload.now)) result }
     ensures failed { W.has_failed output.new ≡ output_failed result (W.has_failed output.old) }
 {
     let line = payload_line(alloc, payload)?;
@@ -116,9 +112,6 @@ fn list_bytes<A: Allocator + Copy, W: Sink>(
     'events: loop {
         match parser.parse(rest, true) {
             Ok(Chunk::Parsed { consumed, payload }) => {
-                if let Payload::NotYet(id) = payload {
-                    return Err(ListError::NotYet(id));
-                }
                 tell(alloc, output, &payload)?;
                 if let Payload::End(_) = payload {
                     return Ok(Ended::End);
@@ -157,7 +150,6 @@ pub(crate) fn list_in<A: Allocator + Copy, R: Source, W: Sink>(
 ///
 /// An error leaves a beginning of the listing written: `Input` where the source failed, `Output` where the sink did,
 /// `Memory` where a growth was refused.
-/// `NotYet` comes before a section that isn't read yet, and leaves the lines of the events before it.
 pub fn list<R: Source, W: Sink>(
     alloc: Global,
     input: &mut R,

@@ -1,14 +1,9 @@
 //! Lists the sections of the WebAssembly stream on standard input.
 #![tactic(auto)]
 
-mod custom;
-mod laws;
 mod lines;
 mod listing;
-mod parser;
-mod payload;
 mod program;
-mod sections;
 mod sink;
 mod source;
 #[cfg(test)]

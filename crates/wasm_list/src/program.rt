@@ -19,7 +19,7 @@ fn complain<E: Sink>(errors: &mut E, message: &[u8])
 }
 
 /// Lists the input, and answers the exit status: 0 at the end of the stream, 1 at a fault of it, 2 for arguments, 3
-/// where the input, the output or memory failed, or at a section that isn't read yet.
+/// where the input, the output or memory failed.
 ///
 /// A message goes to `errors` for the last two. Whether it could be written changes no status.
 pub fn run<R: Source, W: Sink, E: Sink>(
@@ -53,7 +53,6 @@ fn message(error: ListError) -> &'static [u8]
         ListError::Input => b"input failed\n",
         ListError::Output => b"output failed\n",
         ListError::Memory => b"out of memory\n",
-        ListError::NotYet(_) => b"not yet\n",
     }
 }
 

@@ -15,3 +15,7 @@ pub use all::ParseAll;
 pub use custom::CustomSectionReader;
 pub use parser::Parser;
 pub use payload::{Chunk, Encoding, Payload};
+pub use wasm_base::{
+    BinaryReader, CoreStart, Error, Fault, FromReader, Lead, NumberKind, Result, SectionLimited,
+    SectionLimitedIntoIter, SectionLimitedIntoIterWithOffsets, WasmFeatures, fits,
+};

@@ -24,10 +24,10 @@ fn runs_over_slices(rt: HostRuntime) -> Result<(), Fail> {
             b"",
         ),
         (
-            b"\0asm\x01\0\0\0\x0a\x01\0",
-            3,
-            b"version 0 8 1 module\n",
-            b"not yet\n",
+            b"\0asm\x01\0\0\0\x03\x02\x01\0",
+            1,
+            b"version 0 8 1 module\nsection 3 10 12 1\nfault 12 function section has non-zero count but code section is absent\n",
+            b"",
         ),
     ];
     for (stream, status, lines, complaint) in rows {
