@@ -219,7 +219,7 @@ end_to_end_more stream start at [] e low l h s = (subst (λ (x : ℕ). StandsBet
 end_to_end_more stream start at (x ∷ es) e low l h s =
     (h.0, end_to_end_more stream start (at + length x.consumed) es e low (omega (arith, length-append x.consumed (consumed_by es))) h.1 s)
 
-tiles_consume : (start features : ℕ) (ts : List Tile) → consumed_by (events_of start features ts) ≡ front ts
+pub tiles_consume : (start features : ℕ) (ts : List Tile) → consumed_by (events_of start features ts) ≡ front ts
 tiles_consume start features [] = refl
 tiles_consume start features (t ∷ ts) =
     consumed_more (events_of start features ts) (event_of features (start + length (front ts)) t) ∙ ap (λ (l : List ℕ). l ++ t.bytes) (tiles_consume start features ts)

@@ -4,6 +4,7 @@ pub mod Bounds
 pub mod Counted
 pub mod Endings
 pub mod Ends
+pub mod Following
 pub mod Framed
 pub mod GrammarLaws
 pub mod Headers

@@ -16,6 +16,7 @@ pub mod Single
 pub mod Spans
 pub mod Stands
 pub mod Stream
+pub mod TellsNext
 pub mod Tiling
 pub mod Turns
 pub mod Waiting

@@ -14,6 +14,7 @@ ghost use Rattle.wasm_parser.specs.Reading.{window_over};
 ghost use Rattle.wasm_parser.specs.Single.{ReadsSingle};
 ghost use Rattle.wasm_parser.specs.BeginsWithHeader.{begins_with_header};
 ghost use Rattle.wasm_parser.specs.Stands.{new_stand, past_of, grammar_of};
+ghost use Rattle.wasm_parser.specs.TellsNext.{TellsNext};
 ghost use Rattle.wasm_parser.specs.Turns.{walk_over};
 ghost use Rattle.wasm_parser.specs.declared.payload.Encoding.TheVariants.{Module, Component};
 
@@ -363,6 +364,7 @@ impl Parser {
     pub fn parse<'a>(&mut self, bytes: &'a [u8], eof: bool) -> Result<Chunk<'a>>
         requires { IsTrue eof }
         ensures answers { Parses self.old bytes.now result self.new }
+        ensures tells { TellsNext self.old bytes.now result self.new }
         ensures consumes { Consumes bytes.now result }
     {
         self.answer(bytes)

@@ -1,5 +1,9 @@
+use Rattle.wasm_parser.proofs.Following.{tells_next}
 use Rattle.wasm_parser.proofs.Turning.{consumes}
 use Rattle.wasm_parser.proofs.parser.Parser.parse.Goals as goal
 
 pub returns-clause-consumes : goal.returns-clause-consumes
 returns-clause-consumes c = consumes c.args.self.now c.answer.new.self c.args.bytes.now c.answer.result c.answer.ensures
+
+pub returns-clause-tells : goal.returns-clause-tells
+returns-clause-tells c = tells_next c.args.self.now c.answer.new.self c.args.bytes.now c.answer.result c.answer.ensures
