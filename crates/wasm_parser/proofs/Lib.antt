@@ -30,4 +30,5 @@ pub mod TextbookTiles
 pub mod TextbookWalks
 pub mod TileLaws
 pub mod Turning
+pub mod Walking
 pub mod WorkedLaws

@@ -43,7 +43,7 @@ custom_goes_on : (features from to : ℕ) (content : List ℕ) (n : Name) → is
 custom_goes_on features from to content (named text used) = refl
 custom_goes_on features from to content (refused f place) = refl
 
-goes_on : (features from to : ℕ) (shape : Shape) → is_end (told_of features from to shape) ≡ false
+pub goes_on : (features from to : ℕ) (shape : Shape) → is_end (told_of features from to shape) ≡ false
 goes_on features from to (header num encoding) = refl
 goes_on features from to (section items id content) = refl
 goes_on features from to (section index id content) = refl

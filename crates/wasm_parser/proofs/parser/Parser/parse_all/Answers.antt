@@ -1,0 +1,9 @@
+use Rattle.std.proofs.Common.{ℕ, ◌<◌, arith}
+use Rattle.std.proofs.lemmas.List.Elements.{All-from_get_or}
+use Rattle.wasm_parser.specs.Stream.{Stream}
+use Rattle.wasm_parser.proofs.Walking.{gives_reading}
+use Rattle.wasm_parser.proofs.parser.Parser.parse_all.Goals as goal
+
+pub returns-clause-reading : goal.returns-clause-reading
+returns-clause-reading c = λ start features same fits.
+    gives_reading start features c.args.bytes.now (record { each = All-from_get_or (λ b. b < 256) c.args.bytes.now 0 (λ i l. let h = c.type_inv.bytes i in omega (arith, h)); fits = fits })
