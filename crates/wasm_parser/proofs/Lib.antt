@@ -1,4 +1,5 @@
 pub mod Accepting
+pub mod BodyCounts
 pub mod Bounds
 pub mod Counted
 pub mod Endings
@@ -11,6 +12,7 @@ pub mod Moves
 pub mod Parsing
 pub mod Places
 pub mod ReadingLaws
+pub mod SectionRanks
 pub mod StandsLaws
 pub mod Telling
 pub mod TextbookContents
@@ -27,4 +29,5 @@ pub mod TextbookSteps
 pub mod TextbookTiles
 pub mod TextbookWalks
 pub mod TileLaws
+pub mod ToldSections
 pub mod WorkedLaws
