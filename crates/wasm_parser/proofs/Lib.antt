@@ -5,6 +5,7 @@ pub mod Counted
 pub mod Endings
 pub mod Ends
 pub mod Framed
+pub mod FramesSame
 pub mod GrammarLaws
 pub mod Headers
 pub mod Longest
@@ -12,6 +13,7 @@ pub mod Moves
 pub mod Parsing
 pub mod Places
 pub mod ReadingLaws
+pub mod SectionPlaces
 pub mod SectionRanks
 pub mod StandsLaws
 pub mod Telling

@@ -1,8 +1,16 @@
 -- Laws of the sections that a reading tells.
 use Rattle.std.specs.Prelude.{◌≡◌, ℕ, List, ◌∷◌, ◌++◌, AllPairs}
 use Rattle.wasm_parser.specs.declared.payload.Encoding.{Encoding}
+use Rattle.wasm_parser.specs.Accepted.{IsAccepted}
 use Rattle.wasm_parser.specs.Reading.{code_start, Event, Reading}
-use Rattle.wasm_parser.specs.Sections.{sections_of, BeginsAs, RanksBelow, BodiesFollow}
+use Rattle.wasm_parser.specs.Sections.{sections_of, TiledBySections, BeginsAs, RanksBelow, BodiesFollow}
+use Rattle.wasm_parser.specs.Stream.{Stream}
+
+-- an accepted stream is its header and then the sections that its reading tells, in their order: of each its id, its
+-- length, and the bytes of its range
+abbrev pub SectionsTile : Type 0
+SectionsTile = (stream : List ℕ) (start features : ℕ) (events : List Event) → Stream stream start → (a : IsAccepted stream) → Reading stream start features events
+    → TiledBySections stream start events a.encoding a.frames
 
 -- of two sections of a reading that have a rank in the encoding of its header, the later one has the higher rank
 abbrev pub RanksAscend : Type 0

@@ -1,9 +1,10 @@
 -- The sections that a reading tells. Core specification, Binary format, Modules, Sections.
 use Rattle.std.specs.declared.ops.Range.{Range}
-use Rattle.std.specs.Prelude.{◌≡◌, ℕ, ◌+◌, ◌<◌, ◌⊎◌, List, [], ◌∷◌, ◌++◌, length, filter_map, All, Option, Some, None}
+use Rattle.std.specs.Prelude.{◌≡◌, ℕ, ◌+◌, ◌-◌, ◌<◌, ◌⊎◌, List, [], ◌∷◌, ◌++◌, length, take, drop, map, filter_map, flat_map, All, Option, Some, None}
 use Rattle.wasm_base.specs.FaultAt.{FaultAt}
 use Rattle.wasm_base.specs.Window.{Window}
 use Rattle.wasm_parser.specs.declared.payload.Encoding.{Encoding}
+use Rattle.wasm_parser.specs.Accepted.{header_bytes, Frame, frame_bytes, IsSized}
 use Rattle.wasm_parser.specs.Content.{kind_of, rank_of}
 use Rattle.wasm_parser.specs.Reading.{Told, version, counted, start_section, data_count_section, code_start, code_entry, custom_section, unknown_section, stopped, ending, Event}
 
@@ -28,6 +29,35 @@ section_of (ending offset) = None
 -- the sections that events tell, in their order
 abbrev pub sections_of : List Event → List (ℕ × Range ℕ)
 sections_of events = filter_map (λ e. section_of e.told) events
+
+-- the bytes of a stream, which starts at this offset, in a range of its offsets
+abbrev pub bytes_in : (stream : List ℕ) (start : ℕ) → Range ℕ → List ℕ
+bytes_in stream start range = take (range.end - range.start) (drop (range.start - start) stream)
+
+-- a section's id, and the bytes of its range
+abbrev pub id_and_bytes : (stream : List ℕ) (start : ℕ) → ℕ × Range ℕ → ℕ × List ℕ
+id_and_bytes stream start s = (s.0, bytes_in stream start s.1)
+
+-- the same of a section with its bytes
+abbrev pub id_and_content : Frame → ℕ × List ℕ
+id_and_content f = (f.id, f.sized.content)
+
+-- where sections stand of which the first begins at this offset: the id of each, and the offsets of its content
+abbrev pub places_of : (offset : ℕ) → List Frame → List (ℕ × Range ℕ)
+places_of offset [] = []
+places_of offset (f ∷ frames) =
+    (f.id, record { start = offset + 1 + length f.sized.field; end = offset + length (frame_bytes f) }) ∷ places_of (offset + length (frame_bytes f)) frames
+
+-- The stream is a header and then the sections that the events tell, and nothing between them or behind: of each its
+-- id, its length, and the bytes of its range.
+pub record TiledBySections (stream : List ℕ) (start : ℕ) (events : List Event) (encoding : Encoding) (frames : List Frame) : Type 0 where
+  pub whole : stream ≡ header_bytes encoding ++ flat_map frame_bytes frames
+  -- the length field of each says how long its content is
+  pub sized : All (λ f. IsSized f.sized) frames
+  -- they are the sections that are told, and stand where it is told
+  pub places : sections_of events ≡ places_of (start + length (header_bytes encoding)) frames
+  -- the content of each is the bytes of its range
+  pub contents : map (id_and_bytes stream start) (sections_of events) ≡ map id_and_content frames
 
 -- The first event is a header, which names this encoding.
 pub record BeginsAs (encoding : Encoding) (events : List Event) : Type 0 where
