@@ -1,12 +1,12 @@
 -- A stream ends at its end if it is accepted, and otherwise with a fault.
-use Rattle.std.proofs.Common.{◌≡◌, ℕ, ◌+◌, List, length, subst}
+use Rattle.std.proofs.Common.{◌≡◌, ℕ, ◌+◌, List, [], length, subst}
 use Rattle.wasm_base.specs.FaultAt.{FaultAt}
 use Rattle.wasm_parser.specs.Content.{Ending, fault, ended}
 use Rattle.wasm_parser.specs.Grammar.{Tile}
 use Rattle.wasm_parser.specs.Laws.{AcceptedEnds, FaultEnds}
 use Rattle.wasm_parser.specs.Reading.{Reads}
 use Rattle.wasm_parser.proofs.Ends.{ends_behind_all}
-use Rattle.wasm_parser.proofs.ReadingLaws.{Rest, reads_all, reads_same}
+use Rattle.wasm_parser.proofs.ReadingLaws.{Onward, reads_all, reads_same}
 use Rattle.wasm_parser.proofs.TextbookFrames.{reads_accepted}
 use Rattle.wasm_parser.proofs.TextbookWalks.{accepted_reads}
 
@@ -25,5 +25,5 @@ accepted_ends stream start s = (λ a. accepted_reads stream start s.fits a, λ r
 pub fault_ends : FaultEnds
 fault_ends stream start s =
     let (ends, accepted) = accepted_ends stream start s in
-    let r : Rest stream start = reads_all stream start in
+    let r : Onward stream start [] = reads_all stream start in
     (λ n. faulty stream start r.tiles r.end r.reads (λ e. n (accepted e)), λ (ts, f, p) a. no_end stream start ts (ends a).0 f (start + length stream) p (ends a).1)

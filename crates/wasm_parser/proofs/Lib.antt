@@ -1,11 +1,13 @@
 pub mod Accepting
 pub mod Bodies
+pub mod BodyCounts
 pub mod Bounds
 pub mod Counted
 pub mod Endings
 pub mod Ends
 pub mod Following
 pub mod Framed
+pub mod FramesSame
 pub mod GrammarLaws
 pub mod Headers
 pub mod Longest
@@ -13,6 +15,8 @@ pub mod Moves
 pub mod Parsing
 pub mod Places
 pub mod ReadingLaws
+pub mod SectionPlaces
+pub mod SectionRanks
 pub mod StandsLaws
 pub mod Telling
 pub mod TextbookContents
@@ -29,6 +33,7 @@ pub mod TextbookSteps
 pub mod TextbookTiles
 pub mod TextbookWalks
 pub mod TileLaws
+pub mod ToldSections
 pub mod Turning
 pub mod Walking
 pub mod WorkedLaws

@@ -2,6 +2,7 @@
 use Rattle.std.proofs.Common.{◌≡◌, ℕ, zero, suc, ◌+◌, ◌-◌, ◌^◌, Bool, true, false, cond, ◌&&◌, not, List, [], ◌∷◌, ◌++◌, length, take, drop, Option, Some, None, option_map, nat_lt, nat_le, nat_eq, ◌⊎◌, inl, inr, refl, sym, ap, subst, subst₂, ◌∙◌, arith, length-append, ltb-true, ltb-false}
 use Rattle.std.specs.List.{list_all, list_any}
 use Rattle.std.proofs.lemmas.List.{map-append}
+use Rattle.std.proofs.lemmas.Option.{same_Some}
 use Rattle.wasm_base.specs.FaultAt.{FaultAt, at_offset}
 use Rattle.wasm_base.specs.Header.{magic, agree}
 use Rattle.wasm_base.specs.Name.{Name, named, refused, name_limit, name, of_four}
@@ -62,15 +63,12 @@ behind_moves : (front : List ℕ) (by : ℕ) (v w : Verdict) → Moves by v w �
 behind_moves front by v w (inl p) = inl (ap (behind front) p ∙ behind_moved front by v)
 behind_moves front by v w (inr s) = inr (behind_top front w s)
 
-some_same : (f g : FaultAt) → Some f ≡ Some g → f ≡ g
-some_same f g e = cc
-
 moved_same : (kind : Fault) (o p by : ℕ) → at_offset kind (o + by + p) ≡ moved_fault by (at_offset kind (o + p))
 moved_same kind o p by = ap (at_offset kind) (omega arith)
 
 refuse_moves : (by : ℕ) (e f : Option FaultAt) (next then : Grammar) (xs : List ℕ) → MovesFault by e f → Moves by (verdict next xs) (verdict then xs) → Moves by (verdict (refuse e next) xs) (verdict (refuse f then) xs)
 unfolding verdict
-refuse_moves by (Some e) (Some f) next then xs (inl z) ih = inl (ap (λ (x : FaultAt). final (fault x)) (some_same f (moved_fault by e) z))
+refuse_moves by (Some e) (Some f) next then xs (inl z) ih = inl (ap (λ (x : FaultAt). final (fault x)) (same_Some f (moved_fault by e) z))
 refuse_moves by (Some e) (Some f) next then xs (inr s) ih = inr s
 refuse_moves by (Some e) None next then xs (inl z) ih = cc
 refuse_moves by (Some e) None next then xs (inr s) ih = absurd s

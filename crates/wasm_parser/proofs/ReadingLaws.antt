@@ -88,31 +88,47 @@ reading_same stream start features xs ys p q =
     ap₂' : (ts us : List Tile) (e f : Ending) → ts ≡ us → e ≡ f → events_of start features ts ++ last_event e ∷ [] ≡ events_of start features us ++ last_event f ∷ []
     ap₂' ts us e f s k = subst₂ (λ (x : List Tile) (y : Ending). events_of start features ts ++ last_event e ∷ [] ≡ events_of start features x ++ last_event y ∷ []) s k refl
 
--- a stream's reading from a faultless tiling on
-pub record Rest (stream : List ℕ) (start : ℕ) : Type 0 where
+-- a reading whose tiles begin with these
+pub record Onward (stream : List ℕ) (start : ℕ) (first : List Tile) : Type 0 where
   pub tiles : List Tile
   pub end : Ending
   pub reads : Reads stream start tiles end
+  pub later : List Tile
+  pub begins : tiles ≡ later ++ first
 
-go_on : (stream : List ℕ) (start fuel : ℕ) (ts : List Tile) (rest : List ℕ) → length rest ≤ fuel → Faultless start ts → stream ≡ front ts ++ rest
-    → ((t : Tile) (r : List ℕ) → length r < length rest → Faultless start (t ∷ ts) → stream ≡ front (t ∷ ts) ++ r → Rest stream start)
-    → (v : Verdict) → verdict (grammar start ts) rest ≡ v → Rest stream start
-go_on stream start fuel ts rest l f w next (final e) q = record { tiles = ts; end = e; reads = record { rest = rest; whole = w; faultless = f; stops = q } }
-go_on stream start fuel ts rest l f w next (tile t) q =
+-- one tile fewer
+shorter : (stream : List ℕ) (start : ℕ) (first : List Tile) (t : Tile) → Onward stream start (t ∷ first) → Onward stream start first
+shorter stream start first t o = record {
+  tiles = o.tiles;
+  end = o.end;
+  reads = o.reads;
+  later = o.later ++ t ∷ [];
+  begins = o.begins ∙ sym (append_assoc o.later (t ∷ []) first);
+}
+
+onward_at : (stream : List ℕ) (start : ℕ) (ts : List Tile) (rest : List ℕ) → Faultless start ts → stream ≡ front ts ++ rest
+    → ((t : Tile) (r : List ℕ) → length r < length rest → Faultless start (t ∷ ts) → stream ≡ front (t ∷ ts) ++ r → Onward stream start (t ∷ ts))
+    → (v : Verdict) → verdict (grammar start ts) rest ≡ v → Onward stream start ts
+onward_at stream start ts rest f w next (final e) q =
+    record { tiles = ts; end = e; reads = record { rest = rest; whole = w; faultless = f; stops = q }; later = []; begins = refl }
+onward_at stream start ts rest f w next (tile t) q =
     let g : Grown start ts rest t = grows start ts rest t f q in
     let n : length rest ≡ length t.bytes + length g.rest = ap (λ (x : List ℕ). length x) g.split ∙ length-append t.bytes g.rest in
     let s : 0 < length t.bytes = g.some in
-    next t g.rest (omega arith) g.faultless (w ∙ (ap (λ (x : List ℕ). front ts ++ x) g.split ∙ sym (append_assoc (front ts) t.bytes g.rest)))
+    shorter stream start ts t (next t g.rest (omega arith) g.faultless (w ∙ (ap (λ (x : List ℕ). front ts ++ x) g.split ∙ sym (append_assoc (front ts) t.bytes g.rest))))
 
-reads_on : (stream : List ℕ) (start fuel : ℕ) (ts : List Tile) (rest : List ℕ) → length rest ≤ fuel → Faultless start ts → stream ≡ front ts ++ rest → Rest stream start
-reads_on stream start zero ts rest l f w =
-    go_on stream start zero ts rest l f w (λ t r s. absurd (omega arith)) (verdict (grammar start ts) rest) refl
-reads_on stream start (suc fuel) ts rest l f w =
-    go_on stream start (suc fuel) ts rest l f w (λ t r s g z. reads_on stream start fuel (t ∷ ts) r (omega arith) g z) (verdict (grammar start ts) rest) refl
+onward_for : (stream : List ℕ) (start fuel : ℕ) (ts : List Tile) (rest : List ℕ) → length rest ≤ fuel → Faultless start ts → stream ≡ front ts ++ rest → Onward stream start ts
+onward_for stream start zero ts rest l f w = onward_at stream start ts rest f w (λ t r s. absurd (omega arith)) (verdict (grammar start ts) rest) refl
+onward_for stream start (suc fuel) ts rest l f w =
+    onward_at stream start ts rest f w (λ t r s g z. onward_for stream start fuel (t ∷ ts) r (omega arith) g z) (verdict (grammar start ts) rest) refl
+
+-- each faultless tiling of a front of a stream begins a reading
+pub onward : (stream : List ℕ) (start : ℕ) (ts : List Tile) (rest : List ℕ) → Faultless start ts → stream ≡ front ts ++ rest → Onward stream start ts
+onward stream start ts rest f w = onward_for stream start (length rest) ts rest (le_refl (length rest)) f w
 
 -- every stream has a reading
-pub reads_all : (stream : List ℕ) (start : ℕ) → Rest stream start
-reads_all stream start = reads_on stream start (length stream) [] stream (le_refl (length stream)) tt refl
+pub reads_all : (stream : List ℕ) (start : ℕ) → Onward stream start []
+reads_all stream start = onward stream start [] stream tt refl
 
 -- nothing more stands where no bytes are left
 stops_at : (start : ℕ) (ts : List Tile) → Faultless start ts → (v : Verdict) → verdict (grammar start ts) [] ≡ v → Reads (front ts) start ts (ending_of v)

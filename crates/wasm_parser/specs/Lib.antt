@@ -11,6 +11,7 @@ pub mod Kinds
 pub mod Laws
 pub mod Moved
 pub mod Reading
+pub mod SectionLaws
 pub mod Sections
 pub mod Single
 pub mod Spans

@@ -1,26 +1,97 @@
--- Sections by what is told of them.
-use Rattle.std.specs.Prelude.{ℕ, ◌+◌, length, Option, Some, None}
+-- The sections that a reading tells. Core specification, Binary format, Modules, Sections.
 use Rattle.std.specs.declared.ops.Range.{Range}
+use Rattle.std.specs.Prelude.{◌≡◌, ℕ, ◌+◌, ◌-◌, ◌<◌, ◌⊎◌, List, [], ◌∷◌, ◌++◌, length, take, drop, map, filter_map, flat_map, All, Option, Some, None}
+use Rattle.wasm_base.specs.FaultAt.{FaultAt}
 use Rattle.wasm_base.specs.Window.{Window}
-use Rattle.wasm_parser.specs.Reading.{Told, version, counted, start_section, data_count_section, code_start, code_entry, custom_section, unknown_section, stopped, ending}
+use Rattle.wasm_parser.specs.declared.payload.Encoding.{Encoding}
+use Rattle.wasm_parser.specs.Accepted.{header_bytes, Frame, frame_bytes, IsSized}
+use Rattle.wasm_parser.specs.Content.{kind_of, rank_of}
+use Rattle.wasm_parser.specs.Reading.{Told, version, counted, start_section, data_count_section, code_start, code_entry, custom_section, unknown_section, stopped, ending, Event}
 
--- the offsets of a window
+-- the offsets of a window's bytes
 abbrev pub window_range : Window → Range ℕ
 window_range w = record { start = w.start; end = w.start + length w.bytes }
 
--- the offsets from here up to there
-abbrev pub between : (from to : ℕ) → Range ℕ
-between from to = record { start = from; end = to }
-
--- the id of a section, and the offsets of its content
+-- the section that is told: its id, and the offsets of its content. A code section is told at its start, with all its
+-- content; its bodies are no sections.
 abbrev pub section_of : Told → Option (ℕ × Range ℕ)
-section_of (counted id count window) = Some (id, window_range window)
-section_of (start_section func from to) = Some (8, between from to)
-section_of (data_count_section count from to) = Some (12, between from to)
-section_of (code_start count from to size) = Some (10, between from to)
-section_of (custom_section name data_offset window) = Some (0, window_range window)
-section_of (unknown_section id contents from to) = Some (id, between from to)
 section_of (version num encoding from to) = None
+section_of (counted id count window) = Some (id, window_range window)
+section_of (start_section func from to) = Some (8, record { start = from; end = to })
+section_of (data_count_section count from to) = Some (12, record { start = from; end = to })
+section_of (code_start count from to size) = Some (10, record { start = from; end = to })
 section_of (code_entry window) = None
+section_of (custom_section name data_offset window) = Some (0, window_range window)
+section_of (unknown_section id contents from to) = Some (id, record { start = from; end = to })
 section_of (stopped f) = None
 section_of (ending offset) = None
+
+-- the sections that events tell, in their order
+abbrev pub sections_of : List Event → List (ℕ × Range ℕ)
+sections_of events = filter_map (λ e. section_of e.told) events
+
+-- the bytes of a stream, which starts at this offset, in a range of its offsets
+abbrev pub bytes_in : (stream : List ℕ) (start : ℕ) → Range ℕ → List ℕ
+bytes_in stream start range = take (range.end - range.start) (drop (range.start - start) stream)
+
+-- a section's id, and the bytes of its range
+abbrev pub id_and_bytes : (stream : List ℕ) (start : ℕ) → ℕ × Range ℕ → ℕ × List ℕ
+id_and_bytes stream start s = (s.0, bytes_in stream start s.1)
+
+-- the same of a section with its bytes
+abbrev pub id_and_content : Frame → ℕ × List ℕ
+id_and_content f = (f.id, f.sized.content)
+
+-- where sections stand of which the first begins at this offset: the id of each, and the offsets of its content
+abbrev pub places_of : (offset : ℕ) → List Frame → List (ℕ × Range ℕ)
+places_of offset [] = []
+places_of offset (f ∷ frames) =
+    (f.id, record { start = offset + 1 + length f.sized.field; end = offset + length (frame_bytes f) }) ∷ places_of (offset + length (frame_bytes f)) frames
+
+-- The stream is a header and then the sections that the events tell, and nothing between them or behind: of each its
+-- id, its length, and the bytes of its range.
+pub record TiledBySections (stream : List ℕ) (start : ℕ) (events : List Event) (encoding : Encoding) (frames : List Frame) : Type 0 where
+  pub whole : stream ≡ header_bytes encoding ++ flat_map frame_bytes frames
+  -- the length field of each says how long its content is
+  pub sized : All (λ f. IsSized f.sized) frames
+  -- they are the sections that are told, and stand where it is told
+  pub places : sections_of events ≡ places_of (start + length (header_bytes encoding)) frames
+  -- the content of each is the bytes of its range
+  pub contents : map (id_and_bytes stream start) (sections_of events) ≡ map id_and_content frames
+
+-- The first event is a header, which names this encoding.
+pub record BeginsAs (encoding : Encoding) (events : List Event) : Type 0 where
+  pub num : ℕ
+  pub from : ℕ
+  pub to : ℕ
+  pub first : Event
+  pub later : List Event
+  pub whole : events ≡ first ∷ later
+  pub told : first.told ≡ version num encoding from to
+
+-- the rank of the section with this id, or 0
+abbrev pub rank_in : Encoding → ℕ → ℕ
+rank_in encoding id = rank_of (kind_of encoding id) id
+
+-- If both sections have a rank, the first has the lower one.
+abbrev pub RanksBelow : Encoding → (ℕ × Range ℕ) → (ℕ × Range ℕ) → Type 0
+RanksBelow encoding s t = 0 < rank_in encoding s.0 → 0 < rank_in encoding t.0 → rank_in encoding s.0 < rank_in encoding t.0
+
+-- A body is told.
+abbrev pub TellsBody : Event → Type 0
+TellsBody e = (window : Window) × (e.told ≡ code_entry window)
+
+-- A fault is told.
+abbrev pub TellsFault : Event → Type 0
+TellsFault e = (f : FaultAt) × (e.told ≡ stopped f)
+
+-- These events follow the start of a code section of so many bodies: all its bodies, and then another event; or fewer,
+-- and then a fault, which is told last.
+pub record BodiesFollow (count : ℕ) (behind : List Event) : Type 0 where
+  pub bodies : List Event
+  pub next : Event
+  pub later : List Event
+  pub whole : behind ≡ bodies ++ next ∷ later
+  pub each : All TellsBody bodies
+  pub other : ¬ TellsBody next
+  pub many : (length bodies ≡ count) ⊎ ((length bodies < count) × TellsFault next × (later ≡ []))

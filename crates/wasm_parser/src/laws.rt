@@ -1,5 +1,6 @@
 //! Laws of the definitions of framing, each the contract of a function that does nothing.
 ghost use Rattle.wasm_parser.specs.Laws.{AcceptedEnds, EventsLieEndToEnd, FaultEnds, FaultLiesWithin, LongestTiling, OneReading, ParserSuffices, SomeReading, StartOnlyMoves, TilesStandAlone};
+ghost use Rattle.wasm_parser.specs.SectionLaws.{BodiesFollowTheirCount, RanksAscend, SectionsTile};
 ghost use Rattle.wasm_parser.specs.Worked.{EdgesOfRules, WorkedStreams};
 
 /// Two readings of one stream are one.
@@ -65,4 +66,22 @@ pub fn worked_streams()
 /// Streams at the edges of the rules have the readings, or end as they do, by hand.
 pub fn edges_of_rules()
     ensures { EdgesOfRules }
+{}
+
+/// An accepted stream is its header and then the sections that its reading tells, in their order, and nothing between
+/// them or behind: of each its id, its length, and its content, which is the bytes of the range that is told.
+pub fn sections_tile_an_accepted_stream()
+    ensures { SectionsTile }
+{}
+
+/// Of two sections of a reading the later one has the higher rank, if both have a rank in the encoding that the stream's
+/// header names: a module's sections ascend.
+pub fn ranks_ascend()
+    ensures { RanksAscend }
+{}
+
+/// Behind the start of a code section a reading has as many bodies as the section counts, and then another event; or
+/// fewer bodies, and then a fault, which is its last event.
+pub fn bodies_follow_their_count()
+    ensures { BodiesFollowTheirCount }
 {}

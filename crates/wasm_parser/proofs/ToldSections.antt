@@ -1,0 +1,165 @@
+-- The sections that tiles tell.
+use Rattle.std.specs.declared.ops.Range.{Range}
+use Rattle.std.proofs.Common.{◌≡◌, ℕ, zero, suc, ◌+◌, ◌-◌, Bool, true, false, cond, List, [], ◌∷◌, ◌++◌, length, Option, Some, None, option_to_list, nat_eq, refl, sym, ap, subst, ◌∙◌, arith, length-append, append-nil}
+use Rattle.std.specs.List.{cons_option}
+use Rattle.std.proofs.lemmas.List.Elements.{filter_map-append}
+use Rattle.wasm_base.specs.Name.{Name, named, refused, name_limit, name}
+use Rattle.wasm_parser.specs.declared.payload.Encoding.{Encoding}
+use Rattle.wasm_parser.specs.declared.payload.Encoding.TheVariants.{Module, Component}
+use Rattle.wasm_parser.specs.Content.{Kind, custom, items, index, data_count, code, unknown, kind_of, Ending, fault, ended}
+use Rattle.wasm_parser.specs.Grammar.{Shape, header, section, code_head, body, Tile, tile, Past, verdict, section_grammar, body_grammar, content_grammar}
+use Rattle.wasm_parser.specs.Reading.{Event, told_custom, told_section, told_of, event_of, last_event, events_of}
+use Rattle.wasm_parser.specs.Sections.{section_of, sections_of}
+use Rattle.wasm_parser.specs.Tiling.{front, past, grammar, encoding_of, bodies_left, bytes_left}
+use Rattle.wasm_parser.proofs.Ends.{Closes, tile_closes}
+use Rattle.wasm_parser.proofs.StandsLaws.{Each, each_tile, IsBody, bodied, IsHeader, headed}
+use Rattle.wasm_parser.proofs.TextbookContents.{code_id}
+
+-- ---- a tile of an encoding
+
+-- the tile's kind is that of its id, and a code section's head is in a module
+abbrev pub Kinded : Encoding → Shape → Type 0
+Kinded encoding (section kind id content) = kind ≡ kind_of encoding id
+Kinded encoding (code_head count width size) = encoding ≡ Module
+Kinded encoding (body content) = Unit {0}
+Kinded encoding (header version other) = ⊥
+
+kinded_content : (p : Past) (kind : Kind) (id o n : ℕ) → kind ≡ kind_of p.encoding id → Each (Kinded p.encoding) (content_grammar p kind id o n)
+kinded_content p custom id o n e = λ b x y. e
+kinded_content p items id o n e = λ b x y. e
+kinded_content p index id o n e = λ b x y. e
+kinded_content p data_count id o n e = λ b x y. e
+kinded_content p unknown id o n e = λ b x y. e
+kinded_content p code id o n e = λ v k x y. (code_id p.encoding id (sym e)).0
+
+kinded_section : (p : Past) (o : ℕ) (xs : List ℕ) (t : Tile) → verdict (section_grammar p o) xs ≡ tile t → Kinded p.encoding t.shape
+unfolding section_grammar
+kinded_section p o xs t e = each_tile (Kinded p.encoding) (section_grammar p o)
+    (λ id x n k y z. kinded_content p (kind_of p.encoding id) id (o + 1 + k) n refl) xs t e
+
+kinded_body : (encoding : Encoding) (s : Shape) → IsBody s → Kinded encoding s
+kinded_body encoding (body content) b = tt
+kinded_body encoding (section kind id content) b = absurd b
+kinded_body encoding (code_head count width size) b = absurd b
+kinded_body encoding (header version other) b = absurd b
+
+kinded_at : (b : Bool) (p : Past) (m l o : ℕ) (xs : List ℕ) (t : Tile) → verdict (cond b (section_grammar p o) (body_grammar m l o)) xs ≡ tile t → Kinded p.encoding t.shape
+kinded_at true p m l o xs t e = kinded_section p o xs t e
+kinded_at false p m l o xs t e = kinded_body p.encoding t.shape (bodied m l o xs t e)
+
+-- each tile behind a header is
+pub kinded : (start : ℕ) (u : Tile) (ts : List Tile) (xs : List ℕ) (t : Tile) → verdict (grammar start (u ∷ ts)) xs ≡ tile t → Kinded (encoding_of (u ∷ ts)) t.shape
+kinded start u ts xs t e =
+    kinded_at (nat_eq (bodies_left (u ∷ ts) + bytes_left (u ∷ ts)) 0) (past (u ∷ ts)) (bodies_left (u ∷ ts)) (bytes_left (u ∷ ts)) (start + length (front (u ∷ ts))) xs t e
+
+encoding_kept : (t : Tile) (ts : List Tile) (s : Shape) → t.shape ≡ s → Kinded (encoding_of ts) s → encoding_of (t ∷ ts) ≡ encoding_of ts
+encoding_kept t ts (section kind id content) e k = rw e refl
+encoding_kept t ts (code_head count width size) e k = rw e refl
+encoding_kept t ts (body content) e k = rw e refl
+encoding_kept t ts (header version other) e k = absurd k
+
+-- it names no other encoding
+pub same_encoding : (t : Tile) (ts : List Tile) → Kinded (encoding_of ts) t.shape → encoding_of (t ∷ ts) ≡ encoding_of ts
+same_encoding t ts k = encoding_kept t ts t.shape refl k
+
+-- ---- what is told of a tile
+
+-- the section that is told of a tile that ends at this offset
+abbrev pub section_at : (high : ℕ) → Shape → Option (ℕ × Range ℕ)
+section_at high (section kind id content) = Some (id, record { start = high - length content; end = high })
+section_at high (code_head count width size) = Some (10, record { start = high - width; end = high + size })
+section_at high (body content) = None
+section_at high (header version encoding) = None
+
+-- the id that is told of a section of this kind
+abbrev id_told : Kind → ℕ → ℕ
+id_told custom id = 0
+id_told items id = id
+id_told index id = 8
+id_told data_count id = 12
+id_told code id = id
+id_told unknown id = id
+
+-- it is the section's
+id_same : (encoding : Encoding) (id : ℕ) → id_told (kind_of encoding id) id ≡ id
+id_same Module zero = refl
+id_same Module (suc zero) = refl
+id_same Module (suc (suc zero)) = refl
+id_same Module (suc (suc (suc zero))) = refl
+id_same Module (suc (suc (suc (suc zero)))) = refl
+id_same Module (suc (suc (suc (suc (suc zero))))) = refl
+id_same Module (suc (suc (suc (suc (suc (suc zero)))))) = refl
+id_same Module (suc (suc (suc (suc (suc (suc (suc zero))))))) = refl
+id_same Module (suc (suc (suc (suc (suc (suc (suc (suc zero)))))))) = refl
+id_same Module (suc (suc (suc (suc (suc (suc (suc (suc (suc zero))))))))) = refl
+id_same Module (suc (suc (suc (suc (suc (suc (suc (suc (suc (suc zero)))))))))) = refl
+id_same Module (suc (suc (suc (suc (suc (suc (suc (suc (suc (suc (suc zero))))))))))) = refl
+id_same Module (suc (suc (suc (suc (suc (suc (suc (suc (suc (suc (suc (suc zero)))))))))))) = refl
+id_same Module (suc (suc (suc (suc (suc (suc (suc (suc (suc (suc (suc (suc (suc zero))))))))))))) = refl
+id_same Module (suc (suc (suc (suc (suc (suc (suc (suc (suc (suc (suc (suc (suc (suc id)))))))))))))) = refl
+id_same Component zero = refl
+id_same Component (suc id) = refl
+
+-- the range of a section
+abbrev over : (id from to : ℕ) → Option (ℕ × Range ℕ)
+over id from to = Some (id, record { start = from; end = to })
+
+told_name : (features from to : ℕ) (content : List ℕ) (n : Name) → from + length content ≡ to → section_of (told_custom features from to content n) ≡ over 0 from to
+told_name features from to content (named text used) e = ap (over 0 from) e
+told_name features from to content (refused f place) e = refl
+
+told_kind : (features from to : ℕ) (kind : Kind) (id : ℕ) (content : List ℕ) → from + length content ≡ to → section_of (told_section features from to kind id content) ≡ over (id_told kind id) from to
+told_kind features from to custom id content e = told_name features from to content (name (Some name_limit) content) e
+told_kind features from to items id content e = ap (over id from) e
+told_kind features from to index id content e = refl
+told_kind features from to data_count id content e = refl
+told_kind features from to code id content e = ap (over id from) e
+told_kind features from to unknown id content e = refl
+
+told_shape : (encoding : Encoding) (features low : ℕ) (bytes : List ℕ) (s : Shape) → Kinded encoding s → Closes s bytes → section_of (told_of features low (low + length bytes) s) ≡ section_at (low + length bytes) s
+told_shape encoding features low bytes (section kind id content) k (before, c) =
+    let n : length bytes ≡ length before + length content = ap (λ (x : List ℕ). length x) c ∙ length-append before content in
+    let i : id_told kind id ≡ id = subst (λ (x : Kind). id_told x id ≡ id) (sym k) (id_same encoding id) in
+    told_kind features (low + length bytes - length content) (low + length bytes) kind id content (omega arith)
+    ∙ ap (λ (x : ℕ). over x (low + length bytes - length content) (low + length bytes)) i
+told_shape encoding features low bytes (code_head count width size) k c = refl
+told_shape encoding features low bytes (body content) k c = refl
+told_shape encoding features low bytes (header version other) k c = absurd k
+
+-- what is told of a tile behind a header
+pub told_behind : (start features low : ℕ) (u : Tile) (ts : List Tile) (t : Tile) → verdict (grammar start (u ∷ ts)) t.bytes ≡ tile t → section_of (event_of features low t).told ≡ section_at (low + length t.bytes) t.shape
+told_behind start features low u ts t e = told_shape (encoding_of (u ∷ ts)) features low t.bytes t.shape (kinded start u ts t.bytes t e) (tile_closes start (u ∷ ts) t.bytes t e)
+
+told_header : (features low high : ℕ) (s : Shape) → IsHeader s → section_of (told_of features low high s) ≡ None
+told_header features low high (header version other) h = refl
+told_header features low high (section kind id content) h = absurd h
+told_header features low high (code_head count width size) h = absurd h
+told_header features low high (body content) h = absurd h
+
+-- ---- what is told of all tiles
+
+cons_one : (o : Option (ℕ × Range ℕ)) → cons_option o [] ≡ option_to_list o
+cons_one (Some x) = refl
+cons_one None = refl
+
+sections_push : (es : List Event) (e : Event) → sections_of (es ++ e ∷ []) ≡ sections_of es ++ option_to_list (section_of e.told)
+sections_push es e = filter_map-append (λ (x : Event). section_of x.told) es (e ∷ []) ∙ ap (λ (x : List (ℕ × Range ℕ)). sections_of es ++ x) (cons_one (section_of e.told))
+
+-- one tile more behind a header
+pub sections_more : (start features : ℕ) (u : Tile) (ts : List Tile) (t : Tile) → verdict (grammar start (u ∷ ts)) t.bytes ≡ tile t
+    → sections_of (events_of start features (t ∷ u ∷ ts)) ≡ sections_of (events_of start features (u ∷ ts)) ++ option_to_list (section_at (start + length (front (u ∷ ts)) + length t.bytes) t.shape)
+sections_more start features u ts t e =
+    sections_push (events_of start features (u ∷ ts)) (event_of features (start + length (front (u ∷ ts))) t)
+    ∙ ap (λ (x : Option (ℕ × Range ℕ)). sections_of (events_of start features (u ∷ ts)) ++ option_to_list x) (told_behind start features (start + length (front (u ∷ ts))) u ts t e)
+
+-- a header alone
+pub sections_first : (start features : ℕ) (t : Tile) → verdict (grammar start []) t.bytes ≡ tile t → sections_of (events_of start features (t ∷ [])) ≡ []
+sections_first start features t e = ap (λ (x : Option (ℕ × Range ℕ)). cons_option x []) (told_header features (start + 0) (start + 0 + length t.bytes) t.shape (headed start t.bytes t e))
+
+told_last : (e : Ending) → section_of (last_event e).told ≡ None
+told_last (fault f) = refl
+told_last (ended o) = refl
+
+-- how a stream ends is no section
+pub sections_all : (es : List Event) (e : Ending) → sections_of (es ++ last_event e ∷ []) ≡ sections_of es
+sections_all es e = sections_push es (last_event e) ∙ (ap (λ (x : Option (ℕ × Range ℕ)). sections_of es ++ option_to_list x) (told_last e) ∙ append-nil (sections_of es))
