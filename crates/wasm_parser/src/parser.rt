@@ -1,6 +1,6 @@
 // The parser of a stream.
 ghost use Rattle.std.specs.List.{list_all, list_any};
-ghost use Rattle.std.specs.Prelude.{◌≡◌, ℕ, ◌+◌, ◌-◌, ◌<◌, ◌^◌, ◌==◌, ◌&&◌, not, IsTrue, IfOk, true, false, [], length, nat_lt, nat_le, nat_eq, option_to_list};
+ghost use Rattle.std.specs.Prelude.{⊤, ◌≡◌, ℕ, ◌+◌, ◌-◌, ◌<◌, ◌^◌, ◌==◌, ◌&&◌, not, IsTrue, IfOk, true, false, [], length, nat_lt, nat_le, nat_eq, option_to_list};
 ghost use Rattle.wasm_base.specs.Header.{magic, agree};
 ghost use Rattle.wasm_base.specs.Outcome.{Gives};
 ghost use Rattle.wasm_base.specs.Window.{place, KeepsWindow};
@@ -24,12 +24,19 @@ use crate::custom::CustomSectionReader;
 use crate::payload::{Chunk, Encoding, Payload};
 use crate::sections::{Kind, kind_of, rank_of};
 use bitflags::Flags;
+use std::alloc::AllocError;
 use std::marker::Model;
 use wasm_base::{BinaryReader, Error, Fault, Result, SectionLimited, WasmFeatures, fits};
 use wasm_items::FunctionBody;
 
-/// Where the reading of a stream stands.
-#[derive(Clone, Debug, Drop)]
+/// Reads a module, or the header of a component, part by part (core specification, Binary format, Modules).
+///
+/// A parser holds no bytes: it knows where it stands in the stream, and what of the parts before that the next one
+/// must fit. `parse` is handed the rest of the stream and answers the part that stands next there; `parse_all` walks
+/// over a whole stream. Offsets count bytes from the start of the stream, which itself may begin at any offset.
+///
+/// A `default` parser, and a copy, are told apart by nothing from `Parser::new(0)` and from the parser that was copied.
+#[derive(Debug, Drop)]
 pub struct Parser {
     offset: u64,
     features: WasmFeatures,
@@ -53,6 +60,36 @@ impl Model for Parser {
     ghost Value = { Stand };
 
     ghost view = { λ p. record { offset = p.offset; features = p.features.0; expects_header = p.expects_header; encoding = p.encoding; rank = p.rank; functions = p.functions; codes = p.codes; datas = p.datas; data_counts = p.data_counts; bodies = p.bodies; left = p.left } };
+}
+
+impl Clone for Parser {
+    ghost is_clone = { λ parser copy. copy ≡ parser };
+
+    ghost is_infallible = { λ _. ⊤ };
+
+    fn clone(&self) -> std::result::Result<Self, AllocError> {
+        Ok(Parser {
+            offset: self.offset,
+            features: self.features,
+            expects_header: self.expects_header,
+            encoding: self.encoding,
+            rank: self.rank,
+            functions: self.functions,
+            codes: self.codes,
+            datas: self.datas,
+            data_counts: self.data_counts,
+            bodies: self.bodies,
+            left: self.left,
+        })
+    }
+}
+
+impl Default for Parser {
+    ghost is_default = { λ parser. parser ≡ new_stand 0 3 };
+
+    fn default() -> Self {
+        Parser::new(0)
+    }
 }
 
 // The eight bytes that begin a core module.
