@@ -1,0 +1,34 @@
+//! The items of a module's sections: types, imports, tables, memories, tags, globals, exports, segments, constant
+//! expressions and bodies of functions. Only their shapes stand here, not how they are read.
+#![tactic(auto)]
+
+mod code;
+mod data;
+mod elements;
+mod exports;
+mod functions;
+mod globals;
+mod imports;
+mod init;
+mod memories;
+mod tables;
+mod tags;
+#[cfg(test)]
+mod tests;
+mod types;
+
+pub use code::FunctionBody;
+pub use data::{Data, DataKind, DataSectionReader};
+pub use elements::{Element, ElementItems, ElementKind, ElementSectionReader};
+pub use exports::{Export, ExportSectionReader, ExternalKind};
+pub use functions::FunctionSectionReader;
+pub use globals::{Global, GlobalSectionReader};
+pub use imports::{Import, ImportItemCompact, ImportSectionReader, Imports, TypeRef};
+pub use init::ConstExpr;
+pub use memories::MemorySectionReader;
+pub use tables::{Table, TableInit, TableSectionReader};
+pub use tags::TagSectionReader;
+pub use types::{
+    CompositeType, FieldType, FuncType, GlobalType, HeapType, MemoryType, RecGroup, RefType,
+    StorageType, SubType, TableType, TagKind, TagType, TypeSectionReader, ValType,
+};
