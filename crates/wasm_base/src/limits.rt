@@ -1,4 +1,5 @@
-// Limits of modules, which are checked where a module is validated and not where it is read.
+// Limits of modules, which the core specification leaves to implementations (Appendix, Implementation Limitations).
+// They are for whoever validates a module: of what is read here only names have such a limit.
 ghost use Rattle.std.specs.Int.{IsPowerOfTwo};
 ghost use Rattle.std.specs.Prelude.{◌≡◌, ◌↔◌, ◌≤◌, IsTrue};
 ghost use Rattle.wasm_base.specs.Limits.{is_page_size, most_pages};

@@ -4,7 +4,7 @@ ghost use Rattle.std.specs.Prelude.{◌≡◌, ◌+◌, length};
 use std::ops::Range;
 use wasm_base::BinaryReader;
 
-/// The window of a function's body, behind its size (core specification, Binary Format, Modules, Code Section).
+/// The window of a function's body, behind its size (core specification, Binary format, Modules, Code Section).
 ///
 /// Its locals and instructions stay unread.
 #[derive(Clone, Debug, Drop)]

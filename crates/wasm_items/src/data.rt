@@ -3,10 +3,10 @@ use crate::init::ConstExpr;
 use std::ops::Range;
 use wasm_base::SectionLimited;
 
-/// The data section: its segments (core specification, Binary Format, Modules, Data Section).
+/// The data section: its segments (core specification, Binary format, Modules, Data Section).
 pub type DataSectionReader<'a> = SectionLimited<'a, Data<'a>>;
 
-/// A data segment (core specification, Binary Format, Modules, Data Section).
+/// A data segment (core specification, Binary format, Modules, Data Section).
 #[derive(Clone, Debug, Drop)]
 pub struct Data<'a> {
     /// What becomes of it.
@@ -17,7 +17,7 @@ pub struct Data<'a> {
     pub range: Range<u64>,
 }
 
-/// What becomes of a data segment (core specification, Binary Format, Modules, Data Section).
+/// What becomes of a data segment (core specification, Binary format, Modules, Data Section).
 #[derive(Clone, Debug, Drop)]
 pub enum DataKind<'a> {
     /// Instructions copy it to memories.

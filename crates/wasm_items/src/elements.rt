@@ -4,10 +4,10 @@ use crate::types::RefType;
 use std::ops::Range;
 use wasm_base::SectionLimited;
 
-/// The element section: its segments (core specification, Binary Format, Modules, Element Section).
+/// The element section: its segments (core specification, Binary format, Modules, Element Section).
 pub type ElementSectionReader<'a> = SectionLimited<'a, Element<'a>>;
 
-/// An element segment (core specification, Binary Format, Modules, Element Section).
+/// An element segment (core specification, Binary format, Modules, Element Section).
 #[derive(Clone, Drop)]
 pub struct Element<'a> {
     /// What becomes of it.
@@ -18,7 +18,7 @@ pub struct Element<'a> {
     pub range: Range<u64>,
 }
 
-/// What becomes of an element segment (core specification, Binary Format, Modules, Element Section).
+/// What becomes of an element segment (core specification, Binary format, Modules, Element Section).
 #[derive(Clone, Drop)]
 pub enum ElementKind<'a> {
     /// Instructions copy it to tables.
@@ -34,7 +34,7 @@ pub enum ElementKind<'a> {
     Declared,
 }
 
-/// The elements of a segment (core specification, Binary Format, Modules, Element Section).
+/// The elements of a segment (core specification, Binary format, Modules, Element Section).
 #[derive(Clone, Drop)]
 pub enum ElementItems<'a> {
     /// The indices of functions.

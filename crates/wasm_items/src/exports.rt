@@ -1,10 +1,10 @@
 // Exports.
 use wasm_base::SectionLimited;
 
-/// The export section: its exports (core specification, Binary Format, Modules, Export Section).
+/// The export section: its exports (core specification, Binary format, Modules, Export Section).
 pub type ExportSectionReader<'a> = SectionLimited<'a, Export<'a>>;
 
-/// What can be imported or exported (core specification, Binary Format, Modules, Export Section).
+/// What can be imported or exported (core specification, Binary format, Modules, Export Section).
 #[derive(Clone, Copy, Debug, PartialEq, Eq)]
 pub enum ExternalKind {
     /// A function.
@@ -21,7 +21,7 @@ pub enum ExternalKind {
     FuncExact,
 }
 
-/// An export (core specification, Binary Format, Modules, Export Section).
+/// An export (core specification, Binary format, Modules, Export Section).
 #[derive(Clone, Copy, Debug, PartialEq, Eq)]
 pub struct Export<'a> {
     /// Its name.

@@ -3,10 +3,10 @@ use crate::init::ConstExpr;
 use crate::types::GlobalType;
 use wasm_base::SectionLimited;
 
-/// The global section: its globals (core specification, Binary Format, Modules, Global Section).
+/// The global section: its globals (core specification, Binary format, Modules, Global Section).
 pub type GlobalSectionReader<'a> = SectionLimited<'a, Global<'a>>;
 
-/// A global (core specification, Binary Format, Modules, Global Section).
+/// A global (core specification, Binary format, Modules, Global Section).
 #[derive(Clone, Debug, Drop)]
 pub struct Global<'a> {
     /// Its type.

@@ -2,10 +2,10 @@
 use crate::types::{GlobalType, MemoryType, TableType, TagType};
 use wasm_base::SectionLimited;
 
-/// The import section: its imports and groups of imports (core specification, Binary Format, Modules, Import Section).
+/// The import section: its imports and groups of imports (core specification, Binary format, Modules, Import Section).
 pub type ImportSectionReader<'a> = SectionLimited<'a, Imports<'a>>;
 
-/// What is imported, with its type (core specification, Binary Format, Types, External Types).
+/// What is imported, with its type (core specification, Binary format, Types, External Types).
 #[derive(Clone, Copy, Debug, PartialEq, Eq)]
 pub enum TypeRef {
     /// A function, with the index of its type.
@@ -22,7 +22,7 @@ pub enum TypeRef {
     FuncExact(u32),
 }
 
-/// An import (core specification, Binary Format, Modules, Import Section).
+/// An import (core specification, Binary format, Modules, Import Section).
 #[derive(Clone, Copy, Debug, PartialEq, Eq)]
 pub struct Import<'a> {
     /// The module that it comes from.
@@ -44,7 +44,7 @@ pub struct ImportItemCompact<'a> {
 
 /// An item of an import section: an import, or a group of imports from one module.
 ///
-/// The single import is that of the core specification (Binary Format, Modules, Import Section); the groups are those
+/// The single import is that of the core specification (Binary format, Modules, Import Section); the groups are those
 /// of the proposal for compact imports.
 #[derive(Clone, Debug, Drop)]
 pub enum Imports<'a> {

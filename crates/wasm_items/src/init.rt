@@ -4,7 +4,7 @@ ghost use Rattle.std.specs.Prelude.{◌≡◌, ◌+◌, length};
 use std::ops::Range;
 use wasm_base::BinaryReader;
 
-/// The window of a constant expression, its end instruction included (core specification, Binary Format, Instructions,
+/// The window of a constant expression, its end instruction included (core specification, Binary format, Instructions,
 /// Expressions).
 #[derive(Clone, Debug, Drop)]
 pub struct ConstExpr<'a> {

@@ -3,10 +3,10 @@ use crate::init::ConstExpr;
 use crate::types::TableType;
 use wasm_base::SectionLimited;
 
-/// The table section: its tables (core specification, Binary Format, Modules, Table Section).
+/// The table section: its tables (core specification, Binary format, Modules, Table Section).
 pub type TableSectionReader<'a> = SectionLimited<'a, Table<'a>>;
 
-/// A table (core specification, Binary Format, Modules, Table Section).
+/// A table (core specification, Binary format, Modules, Table Section).
 #[derive(Clone, Debug, Drop)]
 pub struct Table<'a> {
     /// Its type.
@@ -15,7 +15,7 @@ pub struct Table<'a> {
     pub init: TableInit<'a>,
 }
 
-/// What each element of a table is at first (core specification, Binary Format, Modules, Table Section).
+/// What each element of a table is at first (core specification, Binary format, Modules, Table Section).
 #[derive(Clone, Debug, Drop)]
 pub enum TableInit<'a> {
     /// A null reference.

@@ -2,5 +2,5 @@
 use crate::types::TagType;
 use wasm_base::SectionLimited;
 
-/// The tag section: the types of its tags (core specification, Binary Format, Modules, Tag Section).
+/// The tag section: the types of its tags (core specification, Binary format, Modules, Tag Section).
 pub type TagSectionReader<'a> = SectionLimited<'a, TagType>;

@@ -1,10 +1,10 @@
 // Types.
 use wasm_base::SectionLimited;
 
-/// The type section: its groups of types (core specification, Binary Format, Modules, Type Section).
+/// The type section: its groups of types (core specification, Binary format, Modules, Type Section).
 pub type TypeSectionReader<'a> = SectionLimited<'a, RecGroup>;
 
-/// The type of a value (core specification, Binary Format, Types, Value Types).
+/// The type of a value (core specification, Binary format, Types, Value Types).
 #[derive(Clone, Copy, Debug, PartialEq, Eq, Hash)]
 pub enum ValType {
     /// A 32-bit integer.
@@ -21,7 +21,7 @@ pub enum ValType {
     Ref(RefType),
 }
 
-/// The type of a reference (core specification, Binary Format, Types, Reference Types).
+/// The type of a reference (core specification, Binary format, Types, Reference Types).
 #[derive(Clone, Copy, Debug, PartialEq, Eq, Hash)]
 pub struct RefType {
     /// Whether the reference may be null.
@@ -38,7 +38,7 @@ impl RefType {
     };
 }
 
-/// What a reference refers to (core specification, Binary Format, Types, Heap Types).
+/// What a reference refers to (core specification, Binary format, Types, Heap Types).
 #[derive(Clone, Copy, Debug, PartialEq, Eq, Hash)]
 pub enum HeapType {
     /// Any function.
@@ -69,7 +69,7 @@ pub enum HeapType {
     Concrete(u32),
 }
 
-/// Types that may refer to each other (core specification, Binary Format, Types, Recursive Types).
+/// Types that may refer to each other (core specification, Binary format, Types, Recursive Types).
 #[derive(Debug, PartialEq, Eq, Drop)]
 pub struct RecGroup {
     /// Whether the group is written as one. If not, it is a single type.
@@ -78,7 +78,7 @@ pub struct RecGroup {
     pub types: Vec<SubType>,
 }
 
-/// A type and the type that it extends (core specification, Binary Format, Types, Recursive Types).
+/// A type and the type that it extends (core specification, Binary format, Types, Recursive Types).
 #[derive(Debug, PartialEq, Eq, Drop)]
 pub struct SubType {
     /// Whether no type may extend this one.
@@ -89,7 +89,7 @@ pub struct SubType {
     pub composite: CompositeType,
 }
 
-/// The type of functions, arrays or structures (core specification, Binary Format, Types, Composite Types).
+/// The type of functions, arrays or structures (core specification, Binary format, Types, Composite Types).
 #[derive(Debug, PartialEq, Eq, Drop)]
 pub enum CompositeType {
     /// Functions with these parameters and results.
@@ -100,7 +100,7 @@ pub enum CompositeType {
     Struct(Vec<FieldType>),
 }
 
-/// The type of a function (core specification, Binary Format, Types, Composite Types).
+/// The type of a function (core specification, Binary format, Types, Composite Types).
 #[derive(Debug, PartialEq, Eq, Drop)]
 pub struct FuncType {
     /// The types of its parameters.
@@ -109,7 +109,7 @@ pub struct FuncType {
     pub results: Vec<ValType>,
 }
 
-/// The type of a field of a structure, or of an array's element (core specification, Binary Format, Types, Composite
+/// The type of a field of a structure, or of an array's element (core specification, Binary format, Types, Composite
 /// Types).
 #[derive(Clone, Copy, Debug, PartialEq, Eq, Hash)]
 pub struct FieldType {
@@ -119,7 +119,7 @@ pub struct FieldType {
     pub mutable: bool,
 }
 
-/// What a field holds (core specification, Binary Format, Types, Composite Types).
+/// What a field holds (core specification, Binary format, Types, Composite Types).
 #[derive(Clone, Copy, Debug, PartialEq, Eq, Hash)]
 pub enum StorageType {
     /// An integer of 8 bits.
@@ -130,7 +130,7 @@ pub enum StorageType {
     Val(ValType),
 }
 
-/// The type of a table (core specification, Binary Format, Types, Table Types).
+/// The type of a table (core specification, Binary format, Types, Table Types).
 #[derive(Clone, Copy, Debug, PartialEq, Eq, Hash)]
 pub struct TableType {
     /// The type of its elements.
@@ -145,7 +145,7 @@ pub struct TableType {
     pub shared: bool,
 }
 
-/// The type of a memory (core specification, Binary Format, Types, Memory Types).
+/// The type of a memory (core specification, Binary format, Types, Memory Types).
 #[derive(Clone, Copy, Debug, PartialEq, Eq, Hash)]
 pub struct MemoryType {
     /// Whether its addresses have 64 bits.
@@ -160,7 +160,7 @@ pub struct MemoryType {
     pub page_size_log2: Option<u32>,
 }
 
-/// The type of a global (core specification, Binary Format, Types, Global Types).
+/// The type of a global (core specification, Binary format, Types, Global Types).
 #[derive(Clone, Copy, Debug, PartialEq, Eq, Hash)]
 pub struct GlobalType {
     /// The type of its value.
@@ -171,7 +171,7 @@ pub struct GlobalType {
     pub shared: bool,
 }
 
-/// The type of a tag (core specification, Binary Format, Types, Tag Types).
+/// The type of a tag (core specification, Binary format, Types, Tag Types).
 #[derive(Clone, Copy, Debug, PartialEq, Eq, Hash)]
 pub struct TagType {
     /// What the tag is for.
@@ -180,7 +180,7 @@ pub struct TagType {
     pub func_type_idx: u32,
 }
 
-/// What a tag is for (core specification, Binary Format, Types, Tag Types).
+/// What a tag is for (core specification, Binary format, Types, Tag Types).
 #[derive(Clone, Copy, Debug, PartialEq, Eq, Hash)]
 pub enum TagKind {
     /// Exceptions.
