@@ -3,6 +3,7 @@ pub mod Found
 pub mod Groups
 pub mod Header
 pub mod Item
+pub mod Limits
 pub mod Message
 pub mod Name
 pub mod Number

@@ -7,6 +7,7 @@ mod fault;
 mod features;
 mod item;
 pub mod laws;
+mod limits;
 mod number;
 mod reader;
 mod section;
@@ -17,5 +18,15 @@ pub use error::{Error, Result};
 pub use fault::{CoreStart, Fault, Lead, NumberKind};
 pub use features::WasmFeatures;
 pub use item::FromReader;
+pub use limits::{
+    _MAX_WASM_TABLE_SIZE, DEFAULT_WASM_PAGE_SIZE, MAX_WASM_BR_TABLE_SIZE, MAX_WASM_CATCHES,
+    MAX_WASM_DATA_SEGMENTS, MAX_WASM_ELEMENT_SEGMENTS, MAX_WASM_EXPORTS, MAX_WASM_FUNCTION_LOCALS,
+    MAX_WASM_FUNCTION_PARAMS, MAX_WASM_FUNCTION_RETURNS, MAX_WASM_FUNCTION_SIZE,
+    MAX_WASM_FUNCTIONS, MAX_WASM_GLOBALS, MAX_WASM_HANDLERS, MAX_WASM_IMPORTS, MAX_WASM_MEMORIES,
+    MAX_WASM_MODULES_AND_COMPONENTS, MAX_WASM_SELECT_RESULT_SIZE, MAX_WASM_STRING_SIZE,
+    MAX_WASM_STRUCT_FIELDS, MAX_WASM_SUBTYPING_DEPTH, MAX_WASM_SUPERTYPES, MAX_WASM_TABLE_ENTRIES,
+    MAX_WASM_TABLES, MAX_WASM_TAGS, MAX_WASM_TYPE_SIZE, MAX_WASM_TYPES, is_page_size,
+    max_wasm_memory32_pages, max_wasm_memory64_pages,
+};
 pub use reader::{BinaryReader, fits};
 pub use section::{SectionLimited, SectionLimitedIntoIter, SectionLimitedIntoIterWithOffsets};

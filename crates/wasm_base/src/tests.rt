@@ -1,4 +1,5 @@
 // Worked examples, and each public call once.
+mod limits;
 mod sections;
 
 use crate::{BinaryReader, CoreStart, Error, Fault, Lead, NumberKind, WasmFeatures, fits};

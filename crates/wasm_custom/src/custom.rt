@@ -1,0 +1,117 @@
+// Custom sections.
+ghost use Rattle.std.specs.Prelude.{⊤, ◌≡◌, ◌+◌, length};
+ghost use Rattle.wasm_base.specs.Window.{place, whole_window};
+
+use std::alloc::AllocError;
+use std::fmt;
+use std::marker::Model;
+use std::ops::Range;
+use wasm_base::{BinaryReader, Result};
+
+/// A custom section: its name, and its data behind it (core specification, Binary format, Modules, Custom Section).
+///
+/// Offsets count bytes from the start of the whole stream.
+#[derive(Drop)]
+pub struct CustomSectionReader<'a> {
+    name: &'a str,
+    reader: BinaryReader<'a>,
+}
+
+impl<'a> Model for CustomSectionReader<'a> {
+    ghost use Rattle.wasm_custom.specs.Custom.{Custom};
+
+    ghost Value = { Custom };
+
+    ghost view = { λ s. record { name = s.name.now; reader = s.reader } };
+}
+
+impl<'a> Clone for CustomSectionReader<'a> {
+    ghost is_clone = { λ section copy. copy ≡ section };
+
+    ghost is_infallible = { λ _. ⊤ };
+
+    fn clone(&self) -> std::result::Result<Self, AllocError> {
+        Ok(CustomSectionReader {
+            name: self.name,
+            reader: self.reader.clone()?,
+        })
+    }
+}
+
+impl<'a> CustomSectionReader<'a> {
+    ghost use Rattle.wasm_custom.specs.Custom.{ReadsCustom};
+
+    /// Reads the name, a text of at most 100,000 bytes; what is left of the window is the data.
+    ///
+    /// The faults are those of `BinaryReader::read_string`: those of the name's size; `StringSize` at the size's last
+    /// byte, where it is above 100,000; `UnexpectedEof` behind the size, where the window ends before the name does;
+    /// `MalformedUtf8` at the name's last byte.
+    pub fn new(mut reader: BinaryReader<'a>) -> Result<Self>
+        ensures { ReadsCustom reader.entry result }
+    {
+        let name = reader.read_string()?;
+        Ok(CustomSectionReader { name, reader })
+    }
+
+    /// The section's name.
+    pub fn name(&self) -> &'a str
+        ensures { result.now ≡ self.now.name }
+    {
+        self.name
+    }
+
+    /// The bytes behind the name.
+    pub fn data(&self) -> &'a [u8]
+        ensures { result.now ≡ (place self.now.reader).rest }
+    {
+        self.reader.remaining_buffer()
+    }
+
+    /// The offset at which the data begins.
+    pub fn data_offset(&self) -> u64
+        ensures { result ≡ (place self.now.reader).offset }
+    {
+        self.reader.original_position()
+    }
+
+    /// The offsets of the data.
+    pub fn data_range(&self) -> Range<u64>
+        ensures { result ≡ record { start = (place self.now.reader).offset; end = self.now.reader.start + length self.now.reader.bytes } }
+    {
+        self.reader.remaining_range()
+    }
+
+    /// The offsets of the whole window: the name's size, the name and the data.
+    pub fn range(&self) -> Range<u64>
+        ensures { result ≡ record { start = self.now.reader.start; end = self.now.reader.start + length self.now.reader.bytes } }
+    {
+        self.reader.range()
+    }
+
+    /// A reader of the data, with the window's features.
+    pub fn data_reader(&self) -> BinaryReader<'a>
+        ensures { result ≡ whole_window (place self.now.reader) }
+    {
+        self.reader.shrink()
+    }
+}
+
+// A text that stands for bytes that are not printed.
+struct Dots;
+
+impl fmt::Debug for Dots {
+    fn fmt<W: fmt::Write>(&self, f: &mut fmt::Formatter<W>) -> fmt::Result {
+        f.write_str("\"...\"")
+    }
+}
+
+impl<'a> fmt::Debug for CustomSectionReader<'a> {
+    fn fmt<W: fmt::Write>(&self, f: &mut fmt::Formatter<W>) -> fmt::Result {
+        f.debug_struct("CustomSectionReader")
+            .field("name", &self.name)
+            .field("data_offset", &self.data_offset())
+            .field("data", &Dots)
+            .field("range", &self.range())
+            .finish()
+    }
+}

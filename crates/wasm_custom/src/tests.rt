@@ -1,0 +1,61 @@
+// Custom sections on worked bytes.
+use crate::CustomSectionReader;
+use std::test::Fail;
+use wasm_base::{BinaryReader, Error, Fault, WasmFeatures};
+
+#[test]
+fn a_section_with_no_name_and_no_data(rt: HostRuntime) -> Result<(), Fail> {
+    let section = CustomSectionReader::new(BinaryReader::new(&[0], 10))?;
+    assert_eq!(rt; section.name(), "");
+    assert_eq!(rt; section.data(), b"".as_slice());
+    assert_eq!(rt; section.data_offset(), 11);
+    assert_eq!(rt; section.data_range(), 11..11);
+    assert_eq!(rt; section.range(), 10..11);
+    assert!(rt; section.data_reader().eof());
+    Ok(())
+}
+
+#[test]
+fn a_section_with_a_name_and_data(rt: HostRuntime) -> Result<(), Fail> {
+    let window = BinaryReader::new_features(b"\x04name\x00\x07", 1000, WasmFeatures::MEMORY64);
+    let section = CustomSectionReader::new(window)?.clone()?;
+    assert_eq!(rt; section.name(), "name");
+    assert_eq!(rt; section.data(), [0, 7].as_slice());
+    assert_eq!(rt; section.data_offset(), 1005);
+    assert_eq!(rt; section.data_range(), 1005..1007);
+    assert_eq!(rt; section.range(), 1000..1007);
+    let mut data = section.data_reader();
+    assert_eq!(rt; data.range(), 1005..1007);
+    assert_eq!(rt; data.features(), WasmFeatures::MEMORY64);
+    assert_eq!(rt; data.read_u8(), Ok(0));
+    assert_eq!(rt; data.original_position(), 1006);
+    Ok(())
+}
+
+#[test]
+fn faults_of_the_name(rt: HostRuntime) -> Result<(), Fail> {
+    let rows: [(&[u8], Fault, u64); 6] = [
+        (b"", Fault::UnexpectedEof, 10),
+        (b"\x01", Fault::UnexpectedEof, 11),
+        (b"\xa0\x8d\x06", Fault::UnexpectedEof, 13),
+        (b"\xa1\x8d\x06", Fault::StringSize, 12),
+        (b"\x02\xc3\x28", Fault::MalformedUtf8, 12),
+        (b"\x80\x80\x80\x80", Fault::UnexpectedEof, 14),
+    ];
+    for (bytes, fault, offset) in rows {
+        let refused = CustomSectionReader::new(BinaryReader::new(bytes, 10)).err();
+        assert_eq!(rt; refused, Some(Error::new(fault, offset)));
+    }
+    Ok(())
+}
+
+#[test]
+fn a_section_as_debug_text(rt: HostRuntime) -> Result<(), Fail> {
+    let section = CustomSectionReader::new(BinaryReader::new(b"\x01a\x07\x08", 10))?;
+    let text = format!(in rt.alloc(); "{section:?}")?;
+    assert_eq!(rt;
+        text.as_str(),
+        "CustomSectionReader { name: \"a\", data_offset: 12, data: \"...\", range: 10..14 }"
+    );
+    Ok(())
+}

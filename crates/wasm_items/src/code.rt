@@ -1,0 +1,36 @@
+// Bodies of functions.
+ghost use Rattle.std.specs.Prelude.{◌≡◌, ◌+◌, length};
+
+use std::ops::Range;
+use wasm_base::BinaryReader;
+
+/// The window of a function's body, behind its size (core specification, Binary format, Modules, Code Section).
+///
+/// Its locals and instructions stay unread.
+#[derive(Clone, Debug, Drop)]
+pub struct FunctionBody<'a> {
+    reader: BinaryReader<'a>,
+}
+
+impl<'a> FunctionBody<'a> {
+    /// The body in a reader's window. No byte of it is looked at.
+    pub fn new(reader: BinaryReader<'a>) -> Self
+        ensures { result ≡ record { reader = reader.entry } }
+    {
+        FunctionBody { reader }
+    }
+
+    /// The reader that the body was made of, where it stood then.
+    pub fn get_binary_reader(&self) -> BinaryReader<'a>
+        ensures { result ≡ self.now.reader }
+    {
+        self.reader.clone().unwrap()
+    }
+
+    /// The offsets of the body, in bytes from the start of the whole stream.
+    pub fn range(&self) -> Range<u64>
+        ensures { result ≡ record { start = self.now.reader.start; end = self.now.reader.start + length self.now.reader.bytes } }
+    {
+        self.reader.range()
+    }
+}

@@ -1,0 +1,35 @@
+// Constant expressions.
+ghost use Rattle.std.specs.Prelude.{◌≡◌, ◌+◌, length};
+
+use std::ops::Range;
+use wasm_base::BinaryReader;
+
+/// The window of a constant expression, its end instruction included (core specification, Binary format, Instructions,
+/// Expressions).
+#[derive(Clone, Debug, Drop)]
+pub struct ConstExpr<'a> {
+    reader: BinaryReader<'a>,
+}
+
+impl<'a> ConstExpr<'a> {
+    /// The expression in a reader's window. No instruction is looked at.
+    pub fn new(reader: BinaryReader<'a>) -> Self
+        ensures { result ≡ record { reader = reader.entry } }
+    {
+        ConstExpr { reader }
+    }
+
+    /// The reader that the expression was made of, where it stood then.
+    pub fn get_binary_reader(&self) -> BinaryReader<'a>
+        ensures { result ≡ self.now.reader }
+    {
+        self.reader.clone().unwrap()
+    }
+
+    /// The offsets of the expression, in bytes from the start of the whole stream.
+    pub fn range(&self) -> Range<u64>
+        ensures { result ≡ record { start = self.now.reader.start; end = self.now.reader.start + length self.now.reader.bytes } }
+    {
+        self.reader.range()
+    }
+}
