@@ -14,7 +14,7 @@ use Rattle.wasm_base.specs.declared.fault.NumberKind.TheVariants.{VarU32}
 use Rattle.wasm_parser.specs.Answers.{IsPayload, IsTold, StandsThere}
 use Rattle.wasm_parser.specs.Content.{Kind, custom, items, index, data_count, code, unknown, kind_of, rank_of, when, wrong_content, wrong_name}
 use Rattle.wasm_parser.specs.ContentAt.{content_at}
-use Rattle.wasm_parser.specs.Custom.{Custom, IsCustom}
+use Rattle.wasm_custom.specs.Custom.{Custom, IsCustom}
 use Rattle.wasm_parser.specs.Grammar.{section, behind, Past, Grammar, refuse, number, verdict, whole_grammar, wrong_data, content_grammar, sized, framed, section_grammar}
 use Rattle.wasm_parser.specs.Reading.{told_section, told_custom, window_over, custom_section, unknown_section}
 use Rattle.wasm_parser.specs.declared.payload.Encoding.{Encoding}

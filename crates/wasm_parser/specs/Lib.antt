@@ -5,7 +5,6 @@ pub mod Behind
 pub mod Content
 pub mod ContentAt
 pub mod Counts
-pub mod Custom
 pub mod Grammar
 pub mod Kinds
 pub mod Laws

@@ -20,7 +20,7 @@ ghost use Rattle.wasm_parser.specs.declared.payload.Encoding.TheVariants.{Module
 
 use crate::all::ParseAll;
 use crate::behind::{bodies_after, count_after, encoding_after, left_after, rank_after};
-use crate::custom::CustomSectionReader;
+use wasm_custom::CustomSectionReader;
 use crate::payload::{Chunk, Encoding, Payload};
 use crate::sections::{Kind, kind_of, rank_of};
 use bitflags::Flags;

@@ -3,7 +3,7 @@ ghost use Rattle.std.specs.Prelude.{◌≡◌};
 ghost use Rattle.wasm_parser.specs.Answers.{told_by};
 ghost use Rattle.wasm_parser.specs.Sections.{section_of};
 
-use crate::custom::CustomSectionReader;
+use wasm_custom::CustomSectionReader;
 use std::fmt;
 use std::ops::Range;
 use wasm_items::{
