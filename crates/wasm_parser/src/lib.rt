@@ -3,6 +3,8 @@
 
 mod all;
 mod behind;
+mod contents;
+mod header;
 pub mod laws;
 mod parser;
 mod payload;

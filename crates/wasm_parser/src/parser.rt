@@ -20,13 +20,14 @@ ghost use Rattle.wasm_parser.specs.declared.payload.Encoding.TheVariants.{Module
 
 use crate::all::ParseAll;
 use crate::behind::{bodies_after, count_after, encoding_after, left_after, rank_after};
-use wasm_custom::CustomSectionReader;
+use crate::contents::{counted, custom, data_count, start, unknown, window};
+use crate::header::{magic_follows, read_header};
 use crate::payload::{Chunk, Encoding, Payload};
 use crate::sections::{Kind, kind_of, rank_of};
 use bitflags::Flags;
 use std::alloc::AllocError;
 use std::marker::Model;
-use wasm_base::{BinaryReader, Error, Fault, Result, SectionLimited, WasmFeatures, fits};
+use wasm_base::{BinaryReader, Error, Fault, Result, WasmFeatures, fits};
 use wasm_items::FunctionBody;
 
 /// Reads a module, or the header of a component, part by part (core specification, Binary format, Modules).
@@ -97,54 +98,6 @@ const CORE_HEADER: [u8; 8] = *b"\0asm\x01\0\0\0";
 
 // The eight bytes that begin a component.
 const COMPONENT_HEADER: [u8; 8] = *b"\0asm\x0d\0\x01\0";
-
-// The encoding that a header's version and kind name.
-fn encoding_named(version: u16, kind: u16) -> Option<Encoding>
-    ensures { result ≡ named version kind }
-{
-    if version == 1 && kind == 0 {
-        Some(Encoding::Module)
-    } else if version == 13 && kind == 1 {
-        Some(Encoding::Component)
-    } else {
-        None
-    }
-}
-
-// A header.
-fn header<'a>(reader: &mut BinaryReader<'a>) -> Result<Payload<'a>>
-    ensures { IsTold (place reader.old).offset (place reader.old) (verdict (header_grammar (place reader.old).offset) (place reader.old).rest) result (place reader.new) }
-{
-    let start = reader.original_position();
-    let bits = reader.read_header_version()?;
-    let (num, kind) = ((bits % 65536) as u16, (bits / 65536) as u16);
-    match encoding_named(num, kind) {
-        Some(encoding) => Ok(Payload::Version {
-            num,
-            encoding,
-            range: start..reader.original_position(),
-        }),
-        None => Err(Error::new(Fault::UnknownVersion, start + 4).with_number(u64::from(bits))),
-    }
-}
-
-// Whether a header's magic stands here.
-fn magic_follows(reader: &BinaryReader) -> bool
-    ensures { result ≡ (agree (place reader.now).rest magic && nat_le 4 (length (place reader.now).rest)) }
-{
-    match reader.peek_bytes(4) {
-        Ok(front) => is_magic(front),
-        Err(_) => false,
-    }
-}
-
-// Whether four bytes are the magic of a header.
-fn is_magic(front: &[u8]) -> bool
-    requires { length front.now ≡ 4 }
-    ensures { result ≡ agree front.now magic }
-{
-    front[0] == 0x00 && front[1] == 0x61 && front[2] == 0x73 && front[3] == 0x6d
-}
 
 impl Parser {
     /// A parser of a stream that begins at this offset, with all features.
@@ -319,12 +272,12 @@ impl Parser {
         ensures { StandsThere (content_grammar (past_of self.now) (kind_is kind) id (place reader.old).offset size) (place reader.old) result (place reader.new) }
     {
         match kind {
-            Kind::Custom => self.custom(id, size, reader),
+            Kind::Custom => custom(id, size, reader),
             Kind::Items => self.items(id, size, reader),
-            Kind::Index => self.start(id, size, reader),
-            Kind::DataCount => self.data_count(id, size, reader),
+            Kind::Index => start(id, size, reader),
+            Kind::DataCount => data_count(id, size, reader),
             Kind::Code => self.code(size, reader),
-            Kind::Unknown => self.unknown(id, size, reader),
+            Kind::Unknown => unknown(id, size, reader),
         }
     }
 
@@ -335,7 +288,7 @@ impl Parser {
         ensures { IsTold self.now.offset (place reader.old) (verdict (grammar_of self.now) (place reader.old).rest) result (place reader.new) }
     {
         if self.expects_header {
-            header(reader)
+            read_header(reader)
         } else if self.in_code() {
             self.body(reader)
         } else {
@@ -429,14 +382,6 @@ impl Parser {
         })
     }
 
-    // The content of a custom section.
-    fn custom<'a>(&self, id: u8, size: u32, reader: &mut BinaryReader<'a>) -> Result<Payload<'a>>
-        ensures { StandsThere (whole_grammar (past_of self.now) custom id (place reader.old).offset size) (place reader.old) result (place reader.new) }
-    {
-        let window = window(size, reader)?;
-        Ok(Payload::CustomSection(CustomSectionReader::new(window)?))
-    }
-
     // The content of a section that is a count, and so many items. The data section has as many as were announced.
     fn items<'a>(&self, id: u8, size: u32, reader: &mut BinaryReader<'a>) -> Result<Payload<'a>>
         requires { kind_of_module id ≡ items }
@@ -458,31 +403,6 @@ impl Parser {
             Payload::DataSection(section) => differs(self.data_counts, section.count()),
             _ => false,
         }
-    }
-
-    // The content of a start section: the index of a function.
-    fn start<'a>(&self, id: u8, size: u32, reader: &mut BinaryReader<'a>) -> Result<Payload<'a>>
-        ensures { StandsThere (whole_grammar (past_of self.now) index id (place reader.old).offset size) (place reader.old) result (place reader.new) }
-    {
-        let window = window(size, reader)?;
-        let range = window.range();
-        let func = single(window, Fault::StartContent)?;
-        Ok(Payload::StartSection { func, range })
-    }
-
-    // The content of a data count section: the count of data segments.
-    fn data_count<'a>(
-        &self,
-        id: u8,
-        size: u32,
-        reader: &mut BinaryReader<'a>,
-    ) -> Result<Payload<'a>>
-        ensures { StandsThere (whole_grammar (past_of self.now) data_count id (place reader.old).offset size) (place reader.old) result (place reader.new) }
-    {
-        let window = window(size, reader)?;
-        let range = window.range();
-        let count = single(window, Fault::DataCountContent)?;
-        Ok(Payload::DataCountSection { count, range })
     }
 
     // The head of a code section: a count of bodies, each of which has its function.
@@ -526,59 +446,6 @@ impl Parser {
         Ok(Payload::CodeSectionEntry(FunctionBody::new(window)))
     }
 
-    // The content of an unknown section.
-    fn unknown<'a>(&self, id: u8, size: u32, reader: &mut BinaryReader<'a>) -> Result<Payload<'a>>
-        ensures { StandsThere (whole_grammar (past_of self.now) unknown id (place reader.old).offset size) (place reader.old) result (place reader.new) }
-    {
-        let window = window(size, reader)?;
-        Ok(Payload::UnknownSection {
-            id,
-            contents: window.remaining_buffer(),
-            range: window.range(),
-        })
-    }
-}
-
-// So many bytes as a window of their own.
-#[tactic(auto, unfolding(crate::specs::ContentAt::content_at))]
-fn window<'a>(size: u32, reader: &mut BinaryReader<'a>) -> Result<BinaryReader<'a>>
-    ensures gives { Gives (λ window. window) result (place reader.new) (content_at size (place reader.old)) }
-    ensures keeps { KeepsWindow reader.old reader.new }
-{
-    let start = reader.original_position();
-    let bytes = reader.read_bytes(size as usize)?;
-    Ok(BinaryReader::new_features(bytes, start, reader.features()))
-}
-
-// The section with this id, whose content begins with a count.
-fn counted<'a>(id: u8, window: BinaryReader<'a>) -> Result<Payload<'a>>
-    requires { kind_of_module id ≡ items }
-    ensures { ReadsCounted id window.entry result }
-{
-    Ok(match id {
-        1 => Payload::TypeSection(SectionLimited::new(window)?),
-        2 => Payload::ImportSection(SectionLimited::new(window)?),
-        3 => Payload::FunctionSection(SectionLimited::new(window)?),
-        4 => Payload::TableSection(SectionLimited::new(window)?),
-        5 => Payload::MemorySection(SectionLimited::new(window)?),
-        6 => Payload::GlobalSection(SectionLimited::new(window)?),
-        7 => Payload::ExportSection(SectionLimited::new(window)?),
-        9 => Payload::ElementSection(SectionLimited::new(window)?),
-        11 => Payload::DataSection(SectionLimited::new(window)?),
-        13 => Payload::TagSection(SectionLimited::new(window)?),
-        _ => unreachable!(),
-    })
-}
-
-// The one number that the rest of a window is. A byte behind the number is this fault.
-fn single(mut window: BinaryReader, left: Fault) -> Result<u32>
-    ensures { ReadsSingle left (place window.entry) result }
-{
-    let number = window.read_var_u32()?;
-    if !window.eof() {
-        return Err(Error::new(left, window.original_position()));
-    }
-    Ok(number)
 }
 
 // Whether a count is known, and is not this one.

@@ -3,7 +3,7 @@ use Rattle.std.proofs.lemmas.Result.{err_from_is_err_and}
 use Rattle.wasm_base.specs.FaultAt.{at_offset}
 use Rattle.wasm_base.specs.Window.{place}
 use Rattle.wasm_parser.proofs.Counted.{single_refused, single_left, single_read}
-use Rattle.wasm_parser.proofs.parser.single.Goals as goal
+use Rattle.wasm_parser.proofs.contents.single.Goals as goal
 
 pub returns-in_err-number : goal.returns-in_err-number
 returns-in_err-number c =

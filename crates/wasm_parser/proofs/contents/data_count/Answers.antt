@@ -2,20 +2,19 @@ use Rattle.std.proofs.Common.{refl}
 use Rattle.std.proofs.lemmas.Result.{err_from_is_err_and}
 use Rattle.wasm_base.specs.Window.{place}
 use Rattle.wasm_parser.specs.Content.{data_count}
-use Rattle.wasm_parser.specs.Stands.{past_of}
 use Rattle.wasm_parser.proofs.Counted.{data_count_read, data_count_refused}
 use Rattle.wasm_parser.proofs.Framed.{whole_missing}
-use Rattle.wasm_parser.proofs.parser.Parser.data_count.Goals as goal
+use Rattle.wasm_parser.proofs.contents.data_count.Goals as goal
 
 pub returns-in_err-window : goal.returns-in_err-window
 returns-in_err-window c =
     let e = err_from_is_err_and c.from_residual.result c.from_residual.ensures.1 in
-    rw (e.1, e.2) (whole_missing (past_of c.args.self.now) data_count c.args.id c.args.size (place c.args.reader.now) _ _ c.in_err-window.ensures.gives)
+    λ past. rw (e.1, e.2) (whole_missing past data_count c.args.id c.args.size (place c.args.reader.now) _ _ c.in_err-window.ensures.gives)
 
 pub returns-in_err-count : goal.returns-in_err-count
 returns-in_err-count c =
     let e = err_from_is_err_and c.from_residual-in_err-count.result c.from_residual-in_err-count.ensures.1 in
-    rw (e.1, e.2) (data_count_refused (past_of c.args.self.now) c.args.id c.args.size (place c.args.reader.now) c.in_ok-window.window _ _ _ c.in_ok-window.ensures.gives c.in_err-count.ensures)
+    λ past. rw (e.1, e.2) (data_count_refused past c.args.id c.args.size (place c.args.reader.now) c.in_ok-window.window _ _ _ c.in_ok-window.ensures.gives c.in_err-count.ensures)
 
 pub returns : goal.returns
-returns c = data_count_read (past_of c.args.self.now) c.args.id c.args.size (place c.args.reader.now) c.in_ok-window.window _ c.in_ok-count.count _ c.in_ok-window.ensures.gives c.in_ok-count.ensures (rw c.range-range.ensures (refl, tt))
+returns c = λ past. data_count_read past c.args.id c.args.size (place c.args.reader.now) c.in_ok-window.window _ c.in_ok-count.count _ c.in_ok-window.ensures.gives c.in_ok-count.ensures (rw c.range-range.ensures (refl, tt))

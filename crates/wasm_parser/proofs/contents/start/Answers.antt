@@ -2,20 +2,19 @@ use Rattle.std.proofs.Common.{refl}
 use Rattle.std.proofs.lemmas.Result.{err_from_is_err_and}
 use Rattle.wasm_base.specs.Window.{place}
 use Rattle.wasm_parser.specs.Content.{index}
-use Rattle.wasm_parser.specs.Stands.{past_of}
 use Rattle.wasm_parser.proofs.Counted.{start_read, start_refused}
 use Rattle.wasm_parser.proofs.Framed.{whole_missing}
-use Rattle.wasm_parser.proofs.parser.Parser.start.Goals as goal
+use Rattle.wasm_parser.proofs.contents.start.Goals as goal
 
 pub returns-in_err-window : goal.returns-in_err-window
 returns-in_err-window c =
     let e = err_from_is_err_and c.from_residual.result c.from_residual.ensures.1 in
-    rw (e.1, e.2) (whole_missing (past_of c.args.self.now) index c.args.id c.args.size (place c.args.reader.now) _ _ c.in_err-window.ensures.gives)
+    λ past. rw (e.1, e.2) (whole_missing past index c.args.id c.args.size (place c.args.reader.now) _ _ c.in_err-window.ensures.gives)
 
 pub returns-in_err-func : goal.returns-in_err-func
 returns-in_err-func c =
     let e = err_from_is_err_and c.from_residual-in_err-func.result c.from_residual-in_err-func.ensures.1 in
-    rw (e.1, e.2) (start_refused (past_of c.args.self.now) c.args.id c.args.size (place c.args.reader.now) c.in_ok-window.window _ _ _ c.in_ok-window.ensures.gives c.in_err-func.ensures)
+    λ past. rw (e.1, e.2) (start_refused past c.args.id c.args.size (place c.args.reader.now) c.in_ok-window.window _ _ _ c.in_ok-window.ensures.gives c.in_err-func.ensures)
 
 pub returns : goal.returns
-returns c = start_read (past_of c.args.self.now) c.args.id c.args.size (place c.args.reader.now) c.in_ok-window.window _ c.in_ok-func.func _ c.in_ok-window.ensures.gives c.in_ok-func.ensures (rw c.range-range.ensures (refl, tt))
+returns c = λ past. start_read past c.args.id c.args.size (place c.args.reader.now) c.in_ok-window.window _ c.in_ok-func.func _ c.in_ok-window.ensures.gives c.in_ok-func.ensures (rw c.range-range.ensures (refl, tt))

@@ -4,7 +4,7 @@ use Rattle.wasm_base.specs.FaultAt.{at_offset}
 use Rattle.wasm_base.specs.Window.{place}
 use Rattle.wasm_base.specs.declared.fault.Fault.TheVariants.{UnknownVersion}
 use Rattle.wasm_parser.proofs.Headers.{ReadHeader, header_read, header_told, header_unnamed, header_refused}
-use Rattle.wasm_parser.proofs.parser.header.Goals as goal
+use Rattle.wasm_parser.proofs.header.read_header.Goals as goal
 
 pub returns-in_err-bits : goal.returns-in_err-bits
 returns-in_err-bits c =

@@ -1,0 +1,100 @@
+// What the content of a section begins with.
+ghost use Rattle.std.specs.Prelude.{◌≡◌};
+ghost use Rattle.wasm_base.specs.Outcome.{Gives};
+ghost use Rattle.wasm_base.specs.Window.{place, KeepsWindow};
+ghost use Rattle.wasm_parser.specs.Answers.{StandsThere};
+ghost use Rattle.wasm_parser.specs.Content.{custom, items, index, data_count, unknown};
+ghost use Rattle.wasm_parser.specs.ContentAt.{content_at};
+ghost use Rattle.wasm_parser.specs.Counts.{kind_of_module, ReadsCounted};
+ghost use Rattle.wasm_parser.specs.Grammar.{Past, whole_grammar};
+ghost use Rattle.wasm_parser.specs.Single.{ReadsSingle};
+
+use crate::payload::Payload;
+use wasm_base::{BinaryReader, Error, Fault, Result, SectionLimited};
+use wasm_custom::CustomSectionReader;
+
+/// The content of a custom section.
+pub(crate) fn custom<'a>(id: u8, size: u32, reader: &mut BinaryReader<'a>) -> Result<Payload<'a>>
+    ensures { (past : Past) → StandsThere (whole_grammar past custom id (place reader.old).offset size) (place reader.old) result (place reader.new) }
+{
+    let window = window(size, reader)?;
+    Ok(Payload::CustomSection(CustomSectionReader::new(window)?))
+}
+
+/// The content of a start section: the index of a function.
+pub(crate) fn start<'a>(id: u8, size: u32, reader: &mut BinaryReader<'a>) -> Result<Payload<'a>>
+    ensures { (past : Past) → StandsThere (whole_grammar past index id (place reader.old).offset size) (place reader.old) result (place reader.new) }
+{
+    let window = window(size, reader)?;
+    let range = window.range();
+    let func = single(window, Fault::StartContent)?;
+    Ok(Payload::StartSection { func, range })
+}
+
+/// The content of a data count section: the count of data segments.
+pub(crate) fn data_count<'a>(
+    id: u8,
+    size: u32,
+    reader: &mut BinaryReader<'a>,
+) -> Result<Payload<'a>>
+    ensures { (past : Past) → StandsThere (whole_grammar past data_count id (place reader.old).offset size) (place reader.old) result (place reader.new) }
+{
+    let window = window(size, reader)?;
+    let range = window.range();
+    let count = single(window, Fault::DataCountContent)?;
+    Ok(Payload::DataCountSection { count, range })
+}
+
+/// The content of an unknown section.
+pub(crate) fn unknown<'a>(id: u8, size: u32, reader: &mut BinaryReader<'a>) -> Result<Payload<'a>>
+    ensures { (past : Past) → StandsThere (whole_grammar past unknown id (place reader.old).offset size) (place reader.old) result (place reader.new) }
+{
+    let window = window(size, reader)?;
+    Ok(Payload::UnknownSection {
+        id,
+        contents: window.remaining_buffer(),
+        range: window.range(),
+    })
+}
+
+/// So many bytes as a window of their own.
+#[tactic(auto, unfolding(crate::specs::ContentAt::content_at))]
+pub(crate) fn window<'a>(size: u32, reader: &mut BinaryReader<'a>) -> Result<BinaryReader<'a>>
+    ensures gives { Gives (λ window. window) result (place reader.new) (content_at size (place reader.old)) }
+    ensures keeps { KeepsWindow reader.old reader.new }
+{
+    let start = reader.original_position();
+    let bytes = reader.read_bytes(size as usize)?;
+    Ok(BinaryReader::new_features(bytes, start, reader.features()))
+}
+
+/// The section with this id, whose content begins with a count.
+pub(crate) fn counted<'a>(id: u8, window: BinaryReader<'a>) -> Result<Payload<'a>>
+    requires { kind_of_module id ≡ items }
+    ensures { ReadsCounted id window.entry result }
+{
+    Ok(match id {
+        1 => Payload::TypeSection(SectionLimited::new(window)?),
+        2 => Payload::ImportSection(SectionLimited::new(window)?),
+        3 => Payload::FunctionSection(SectionLimited::new(window)?),
+        4 => Payload::TableSection(SectionLimited::new(window)?),
+        5 => Payload::MemorySection(SectionLimited::new(window)?),
+        6 => Payload::GlobalSection(SectionLimited::new(window)?),
+        7 => Payload::ExportSection(SectionLimited::new(window)?),
+        9 => Payload::ElementSection(SectionLimited::new(window)?),
+        11 => Payload::DataSection(SectionLimited::new(window)?),
+        13 => Payload::TagSection(SectionLimited::new(window)?),
+        _ => unreachable!(),
+    })
+}
+
+// The one number that the rest of a window is. A byte behind the number is this fault.
+fn single(mut window: BinaryReader, left: Fault) -> Result<u32>
+    ensures { ReadsSingle left (place window.entry) result }
+{
+    let number = window.read_var_u32()?;
+    if !window.eof() {
+        return Err(Error::new(left, window.original_position()));
+    }
+    Ok(number)
+}
