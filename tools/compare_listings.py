@@ -1,11 +1,10 @@
 #!/usr/bin/env python3
 """Lists random streams with the built program, and compares the listings with those of a model.
 
-    compare_listings.py [SEED] [COUNT] [--model PATH --stage N] [--show N]
+    compare_listings.py [SEED] [COUNT] [--model PATH] [--show N]
 
 The model is the one below, which knows the rules of framing and nothing of the program, or another one: a Python
-file with `reading(stream, offset, changed_bodies, stage)`, which gives the lines of a listing. A listing that ends
-neither with an end nor with a fault stopped before a section that isn't read yet.
+file with `reading(stream, offset)`, which gives the lines of a listing.
 """
 import importlib.util
 import os
@@ -21,8 +20,6 @@ COMPONENT = b"\0asm\x0d\0\x01\0"
 
 # The ids of a module's sections, in the order in which they may stand.
 ORDER = [1, 2, 3, 4, 5, 13, 6, 7, 8, 9, 12, 10, 11]
-# Those that are read, beside custom and unknown ones.
-READ = {3, 8, 12}
 
 EOF = "unexpected end-of-file"
 TOO_LONG = "invalid var_u32: integer representation too long"
@@ -34,10 +31,6 @@ TOO_LARGE = "invalid var_u32: integer too large"
 
 class Stop(Exception):
     """A fault: its offset and its message."""
-
-
-class NotYet(Exception):
-    """A section that isn't read yet."""
 
 
 def number(data, start, end):
@@ -95,64 +88,97 @@ def single(data, start, end, word, called):
     return "%s %d %d %d" % (word, start, end, value), value
 
 
-def section(data, place, is_module, counts, rank):
-    """The line of the section that begins at `place`, its end, and the greatest rank so far."""
+def code(data, start, end, counts):
+    """The lines of a code section and its bodies."""
+    count, place = number(data, start, len(data))
+    if place > end:
+        raise Stop(start, EOF)
+    if 3 in counts and counts[3] != count:
+        raise Stop(start, "function and code section have inconsistent lengths")
+    if 3 not in counts and count > 0:
+        raise Stop(start, "function section is absent but code section has non-zero count")
+    counts[10] = count
+    yield "code %d %d %d %d" % (start, end, count, end - place)
+    for _ in range(count):
+        size, body = number(data, place, len(data))
+        if body + size > len(data):
+            raise Stop(body, EOF)
+        if body + size > end:
+            raise Stop(place, EOF)
+        place = body + size
+        yield "body %d %d" % (body, place)
+    if place < end:
+        raise Stop(place, "trailing bytes at end of section")
+
+
+def items(data, ident, start, end, counts):
+    """The line of a section that begins with a count."""
+    count, _ = number(data, start, end)
+    if ident == 11 and counts.get(12, count) != count:
+        raise Stop(end, "data count and data section have inconsistent lengths")
+    counts[ident] = count
+    return "section %d %d %d %d" % (ident, start, end, count)
+
+
+def frame(data, place, is_module, rank):
+    """The id of the section that begins at `place`, its content's start and end, and the greatest rank so far."""
     if data[place : place + 4] == MODULE[:4]:
         raise Stop(place, "expected section, got wasm magic number")
     ident = data[place]
     if ident >= 128:
         raise Stop(place, "malformed section id")
     size, start = number(data, place + 1, len(data))
-    end = start + size
-    ranked = is_module and ident in ORDER
-    if ranked:
-        if ident not in READ:
-            raise NotYet(ident)
+    if is_module and ident in ORDER:
         if ORDER.index(ident) <= rank:
             raise Stop(start, "section out of order")
         rank = ORDER.index(ident)
-    if end > len(data):
+    if start + size > len(data) and not (is_module and ident == 10):
         raise Stop(start, EOF)
-    if ident == 0:
-        return custom(data, start, end), end, rank
-    if not ranked:
-        return "unknown %d %d %d" % (ident, start, end), end, rank
-    if ident == 3:
-        counts[3], _ = number(data, start, end)
-        return "section 3 %d %d %d" % (start, end, counts[3]), end, rank
-    if ident == 8:
-        return single(data, start, end, "start", "start")[0], end, rank
-    line, counts[12] = single(data, start, end, "datacount", "data count")
-    return line, end, rank
+    return ident, start, start + size, rank
+
+
+def sections(data, is_module, counts):
+    """The lines of all sections."""
+    place, rank = 8, -1
+    while place < len(data):
+        ident, start, end, rank = frame(data, place, is_module, rank)
+        place = end
+        if ident == 0:
+            yield custom(data, start, end)
+        elif not is_module or ident not in ORDER:
+            yield "unknown %d %d %d" % (ident, start, end)
+        elif ident == 8:
+            yield single(data, start, end, "start", "start")[0]
+        elif ident == 12:
+            line, counts[12] = single(data, start, end, "datacount", "data count")
+            yield line
+        elif ident == 10:
+            yield from code(data, start, end, counts)
+        else:
+            yield items(data, ident, start, end, counts)
 
 
 def model(data):
     """The lines of the listing."""
-    lines = []
+    lines, counts = [], {}
     try:
         line, is_module = header(data)
         lines.append(line)
-        place, counts, rank = 8, {3: 0, 12: 0}, -1
-        while place < len(data):
-            line, place, rank = section(data, place, is_module, counts, rank)
+        for line in sections(data, is_module, counts):
             lines.append(line)
-        if counts[3] > 0:
-            raise Stop(place, "function section has non-zero count but code section is absent")
-        if counts[12] > 0:
-            raise Stop(place, "data count is non-zero but data section is absent")
-        lines.append("end %d" % place)
+        if counts.get(3, 0) > 0 and 10 not in counts:
+            raise Stop(len(data), "function section has non-zero count but code section is absent")
+        if counts.get(12, 0) > 0 and 11 not in counts:
+            raise Stop(len(data), "data count is non-zero but data section is absent")
+        lines.append("end %d" % len(data))
     except Stop as stop:
         lines.append("fault %d %s" % stop.args)
-    except NotYet:
-        pass
     return lines
 
 
 def status(lines):
     """The exit status of a program that writes these lines."""
-    if lines and lines[-1].startswith("end "):
-        return 0
-    return 1 if lines and lines[-1].startswith("fault ") else 3
+    return 0 if lines[-1].startswith("end ") else 1
 
 
 # ---- random streams
@@ -183,39 +209,66 @@ def some_name(rng):
     return leb(rng, size) + text
 
 
-def some_content(rng, ident):
+def some_bodies(rng, count):
+    """Bodies, mostly as many as are wanted."""
+    if rng.random() < 0.05:
+        count = max(0, count + rng.choice([-1, 1]))
+    out = b""
+    for _ in range(count):
+        body = rng.randbytes(rng.choice([0, 1, 2, 2, 9]))
+        size = len(body) if rng.random() < 0.96 else rng.choice([len(body) + 1, some_number(rng)])
+        out += leb(rng, size) + body
+    return out
+
+
+def some_content(rng, ident, functions, segments):
     if ident == 0:
         return some_name(rng) + rng.randbytes(rng.choice([0, 0, 1, 5]))
-    if ident in (8, 12):
+    if ident == 8:
         return leb(rng, some_number(rng)) + (b"\0" if rng.random() < 0.08 else b"")
+    if ident == 12:
+        return leb(rng, segments) + (b"\0" if rng.random() < 0.05 else b"")
     if ident == 3:
-        count = rng.choice([0, 0, 0, 1, 2, 5])
-        return leb(rng, count) + b"".join(leb(rng, rng.randrange(300)) for _ in range(count))
+        return leb(rng, functions) + b"".join(leb(rng, rng.randrange(300)) for _ in range(functions))
+    if ident == 10:
+        announced = functions if rng.random() < 0.95 else rng.choice([0, 1, some_number(rng)])
+        return leb(rng, announced) + some_bodies(rng, announced if announced < 9 else functions) + (b"\0" if rng.random() < 0.04 else b"")
+    if ident == 11:
+        return leb(rng, segments if rng.random() < 0.95 else some_number(rng)) + rng.randbytes(rng.choice([0, 1, 4]))
+    if ident in ORDER:
+        return leb(rng, some_number(rng)) + rng.randbytes(rng.choice([0, 1, 2, 7]))
     return rng.randbytes(rng.choice([0, 1, 2, 7]))
 
 
-def some_section(rng, ident):
-    content = some_content(rng, ident)
-    if rng.random() < 0.04:
+def some_section(rng, ident, functions, segments):
+    content = some_content(rng, ident, functions, segments)
+    if rng.random() < 0.03:
         content = content[: rng.randrange(len(content) + 1)]
     size = len(content)
-    if rng.random() < 0.04:
+    if rng.random() < 0.03:
         size = rng.choice([size + 1, max(size - 1, 0), some_number(rng)])
     return bytes([ident]) + leb(rng, size) + content
 
 
 def some_ids(rng):
-    """Ids of sections: those that are read mostly in their order, with custom, unknown and unread ones among them."""
-    ids = [ident for ident in (3, 8, 12) if rng.random() < 0.6]
-    if rng.random() < 0.2:
-        rng.shuffle(ids)
-    if ids and rng.random() < 0.1:
-        ids.append(rng.choice(ids))
+    """Ids of sections: a module's mostly in their order, with custom and unknown ones among them."""
+    often = rng.choice([0.3, 0.6, 1.0])
+    ids = [ident for ident in ORDER if rng.random() < often]
+    if rng.random() < 0.6:
+        # The sections whose counts must match come and go together.
+        for pair in ((3, 10), (12, 11)):
+            if pair[0] in ids and pair[1] not in ids:
+                ids = [ident for ident in ORDER if ident in ids or ident == pair[1]]
+            if pair == (3, 10) and 10 in ids and 3 not in ids:
+                ids = [ident for ident in ORDER if ident in ids or ident == 3]
+    if len(ids) > 1 and rng.random() < 0.08:
+        first, second = rng.randrange(len(ids)), rng.randrange(len(ids))
+        ids[first], ids[second] = ids[second], ids[first]
+    if ids and rng.random() < 0.05:
+        ids.insert(rng.randrange(len(ids) + 1), rng.choice(ids))
     for _ in range(rng.choice([0, 0, 1, 2, 3])):
         ids.insert(rng.randrange(len(ids) + 1), rng.choice([0, 0, 0, 14, 50, 127]))
-    if rng.random() < 0.12:
-        ids.insert(rng.randrange(len(ids) + 1), rng.choice([1, 2, 4, 5, 6, 7, 9, 10, 11, 13]))
-    if rng.random() < 0.03:
+    if rng.random() < 0.02:
         ids.insert(rng.randrange(len(ids) + 1), rng.choice([128, 200, 255]))
     return ids
 
@@ -234,16 +287,17 @@ def some_stream(rng):
     if kind < 0.03:
         return rng.randbytes(rng.randrange(40))
     if kind < 0.08:
-        return MODULE + bytes(rng.choice(b"\0\x01\x03\x08\x0c\x0eas\x80\xff") for _ in range(rng.randrange(14)))
+        return MODULE + bytes(rng.choice(b"\0\x01\x03\x08\x0a\x0b\x0c\x0eas\x80\xff") for _ in range(rng.randrange(14)))
     data = bytearray(some_header(rng))
+    functions, segments = rng.choice([0, 0, 1, 2, 5]), rng.choice([0, 0, 1, 3])
     for ident in some_ids(rng):
-        data += some_section(rng, ident)
+        data += some_section(rng, ident, functions, segments)
     if rng.random() < 0.02:
         data += MODULE[: rng.randrange(9)]
     if rng.random() < 0.15:
         for _ in range(rng.choice([1, 1, 2])):
             place = rng.randrange(len(data))
-            data[place] = rng.choice([0, 1, 3, 8, 12, 127, 128, 255, rng.randrange(256), data[place] ^ 1 << rng.randrange(8)])
+            data[place] = rng.choice([0, 1, 3, 8, 10, 11, 12, 127, 128, 255, rng.randrange(256), data[place] ^ 1 << rng.randrange(8)])
     if rng.random() < 0.12:
         del data[rng.randrange(len(data) + 1) :]
     return bytes(data)
@@ -265,49 +319,46 @@ def list_with(program, data):
     return text.splitlines(), done.returncode, done.stderr
 
 
-def load(path, stage):
+def load(path):
     """The listing by another model."""
     spec = importlib.util.spec_from_file_location("other_model", path)
     other = importlib.util.module_from_spec(spec)
     spec.loader.exec_module(other)
-    return lambda data: other.reading(data, 0, False, stage)
+    return lambda data: other.reading(data, 0)
 
 
 def compare(program, listing, data):
     """None where both agree, and what they say where they don't."""
     expected = listing(data)
     lines, code, errors = list_with(program, data)
-    complaint = b"not yet\n" if status(expected) == 3 else b""
-    if (lines, code, errors) == (expected, status(expected), complaint):
+    if (lines, code, errors) == (expected, status(expected), b""):
         return None
     return "%s\n  program %r, status %d, %r\n  model   %r" % (data.hex(), lines, code, errors, expected)
 
 
 def ending(lines):
     """What a listing ends with, to tell how many there were of each kind."""
-    if status(lines) == 1:
-        message = lines[-1].split(" ", 2)[2]
-        return "unknown binary version" if message.startswith("unknown binary version") else message
-    return "end" if status(lines) == 0 else "not yet"
+    if status(lines) == 0:
+        return "end"
+    message = lines[-1].split(" ", 2)[2]
+    return "unknown binary version" if message.startswith("unknown binary version") else message
 
 
 def arguments(words):
     """Seed, count, model and how many differences are shown."""
-    plain, path, stage, show = [], None, 2, 10
+    plain, path, show = [], None, 10
     words = list(words)
     while words:
         word = words.pop(0)
         if word == "--model":
             path = words.pop(0)
-        elif word == "--stage":
-            stage = int(words.pop(0))
         elif word == "--show":
             show = int(words.pop(0))
         else:
             plain.append(int(word))
     seed = plain[0] if plain else 1
     count = plain[1] if len(plain) > 1 else 10000
-    return seed, count, load(path, stage) if path else model, show
+    return seed, count, load(path) if path else model, show
 
 
 def main():

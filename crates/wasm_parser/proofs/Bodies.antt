@@ -1,10 +1,10 @@
 -- What stands in a code section: its head and its bodies.
-use Rattle.std.proofs.Common.{◌≡◌, ℕ, zero, suc, ◌+◌, ◌-◌, ◌<◌, ◌≤◌, Bool, true, false, cond, not, ◌&&◌, ◌||◌, length, take, drop, option_to_list, Option, Some, None, Result, Ok, Err, nat_lt, nat_eq, refl, sym, ap, subst, ◌∙◌, arith, lt-ltb, le-ltb}
+use Rattle.std.proofs.Common.{◌≡◌, ℕ, zero, suc, ◌+◌, ◌-◌, ◌<◌, ◌≤◌, Bool, true, false, not, ◌&&◌, ◌||◌, length, take, drop, option_to_list, Some, None, Result, Ok, Err, nat_lt, nat_eq, refl, sym, ap, subst, ◌∙◌, arith, lt-ltb, le-ltb}
 use Rattle.std.proofs.lemmas.List.{length-take-le}
 use Rattle.std.specs.List.{list_all, list_any}
 use Rattle.wasm_base.specs.FaultAt.{FaultAt, fault_at, at_offset}
 use Rattle.wasm_base.specs.Number.{unsigned_at}
-use Rattle.wasm_base.specs.Window.{Window, Place, place, advanced}
+use Rattle.wasm_base.specs.Window.{Window, Place, advanced}
 use Rattle.wasm_base.specs.declared.error.Error.{Error}
 use Rattle.wasm_base.specs.declared.fault.Fault.TheVariants.{UnexpectedEof, FunctionCodeDiffer, CodeWithoutFunction, TrailingCode}
 use Rattle.wasm_base.specs.declared.fault.NumberKind.TheVariants.{VarU32}
@@ -13,9 +13,7 @@ use Rattle.wasm_parser.specs.Content.{when}
 use Rattle.wasm_parser.specs.ContentAt.{content_at}
 use Rattle.wasm_parser.specs.Grammar.{Past, Grammar, takes, refuse, number, code_head, body, verdict, wrong_count, code_grammar, body_of, body_grammar}
 use Rattle.wasm_parser.specs.Reading.{code_start, code_entry, window_over}
-use Rattle.wasm_parser.specs.Stands.{Stand, past_of}
 use Rattle.wasm_parser.specs.declared.payload.Payload.{Payload}
-use Rattle.wasm_parser.specs.declared.payload.Payload.TheVariants.{CodeSectionStart, CodeSectionEntry}
 use Rattle.wasm_parser.proofs.Framed.{HasContent, has_content, too_few}
 use Rattle.wasm_parser.proofs.Telling.{told_bytes, told_missing, told_number, told_no_number, told_wrong, told_right, told_whole, told_stops, ReadNumber, read_number}
 

@@ -1,15 +1,14 @@
 -- What a call of a parser says of the reading of a stream.
-use Rattle.std.proofs.Common.{◌≡◌, ℕ, zero, suc, ◌+◌, ◌<◌, ◌≤◌, ◌^◌, List, [], ◌∷◌, ◌++◌, length, take, Result, Ok, Err, refl, sym, ap, subst, subst₂, ◌∙◌, arith, length-append, append_assoc, append-nil, inl, inr}
+use Rattle.std.proofs.Common.{◌≡◌, ℕ, ◌+◌, ◌<◌, List, [], ◌∷◌, ◌++◌, length, take, Result, Ok, Err, refl, sym, ap, subst, subst₂, ◌∙◌, arith, length-append, append_assoc, append-nil, inl, inr}
 use Rattle.std.proofs.lemmas.List.{append_cancel_left, take_at}
 use Rattle.std.specs.Prelude.{◌⊎◌}
-use Rattle.wasm_base.specs.FaultAt.{FaultAt, fault_at, at_offset}
 use Rattle.wasm_base.specs.declared.error.Error.{Error}
 use Rattle.wasm_parser.specs.Answers.{IsPayload, Answers, Parses}
 use Rattle.wasm_parser.specs.Content.{Ending, fault, ended}
 use Rattle.wasm_parser.specs.Grammar.{Tile, Verdict, tile, final, Grammar, verdict}
 use Rattle.wasm_parser.specs.Reading.{Event, stopped, told_of, event_of, events_of, last_event, Reads, Reading}
 use Rattle.wasm_parser.specs.Spans.{consumed_by}
-use Rattle.wasm_parser.specs.Stands.{Stand, Stands, grammar_of, passed}
+use Rattle.wasm_parser.specs.Stands.{Stand, Stands, grammar_of}
 use Rattle.wasm_parser.specs.TellsNext.{Tells, TellsNext}
 use Rattle.wasm_parser.specs.Tiling.{front, grammar, Faultless}
 use Rattle.wasm_parser.specs.declared.payload.Chunk.{Chunk}
@@ -135,11 +134,11 @@ tells_last p new start covered rest s (fault f) (Ok (NeedMoreData hint)) a = abs
 tells_last p new start covered rest s (ended o) (Ok (NeedMoreData hint)) a = absurd a
 tells_last p new start covered rest s (fault f) (Ok (Parsed consumed payload)) a = absurd a
 tells_last p new start covered rest s (ended o) (Ok (Parsed consumed payload)) a = (
-      a.1,
-      a.0,
-      subst (λ (n : ℕ). take n rest ≡ []) (sym a.0) refl,
-      subst₂ (λ (q : Stand) (x : List ℕ). Stands q start x) (sym a.2) (sym (append-nil covered)) s,
-    )
+  a.1,
+  a.0,
+  subst (λ (n : ℕ). take n rest ≡ []) (sym a.0) refl,
+  subst₂ (λ (q : Stand) (x : List ℕ). Stands q start x) (sym a.2) (sym (append-nil covered)) s,
+)
 tells_last p new start covered rest s (fault f) (Err e) a = (ap stopped (sym a.0), refl, a.1)
 tells_last p new start covered rest s (ended o) (Err e) a = absurd a
 

@@ -9,7 +9,7 @@ use Rattle.wasm_parser.specs.Answers.{told_by, Answers, Passes, Parses}
 use Rattle.wasm_parser.specs.Behind.{behind_told}
 use Rattle.wasm_parser.specs.Content.{Kind, custom, items, index, data_count, code, unknown, kind_of, Ending, fault, ended}
 use Rattle.wasm_parser.specs.Grammar.{Shape, header, section, code_head, body, Tile, Verdict, tile, final, Past, end_of, section_grammar, body_grammar, content_grammar, header_grammar, verdict}
-use Rattle.wasm_parser.specs.Reading.{Told, ending, told_of, told_custom}
+use Rattle.wasm_parser.specs.Reading.{ending, told_of, told_custom}
 use Rattle.wasm_parser.specs.Stands.{Stand, past_of, grammar_of, passed}
 use Rattle.wasm_parser.specs.Tiling.{inside}
 use Rattle.wasm_parser.specs.declared.payload.Encoding.{Encoding}

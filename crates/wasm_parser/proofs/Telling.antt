@@ -13,7 +13,7 @@ use Rattle.wasm_base.proofs.Texts.{advanced_twice}
 use Rattle.wasm_parser.specs.Answers.{IsPayload, IsTold}
 use Rattle.wasm_parser.specs.Content.{fault, ended}
 use Rattle.wasm_parser.specs.Grammar.{Shape, Verdict, tile, final, behind, behind_number, Grammar, takes, stops, refuse, number, bytes, verdict}
-use Rattle.wasm_parser.specs.Reading.{Told, told_of}
+use Rattle.wasm_parser.specs.Reading.{told_of}
 use Rattle.wasm_parser.specs.declared.payload.Payload.{Payload}
 
 -- a tile that begins with these bytes

@@ -1,13 +1,13 @@
 -- How far a call of the parser, and a walk over a whole stream, go.
-use Rattle.std.proofs.Common.{◌≡◌, ℕ, zero, suc, ◌+◌, ◌-◌, ◌<◌, ◌≤◌, ◌^◌, Bool, true, false, cond, List, ◌++◌, length, drop, Option, Some, None, Result, Ok, Err, nat_eq, nat_lt, ltb-true, ltb-false, refl, sym, ap, subst, ◌∙◌, arith, length-append, length-drop}
+use Rattle.std.proofs.Common.{◌≡◌, ℕ, ◌+◌, ◌-◌, ◌<◌, ◌≤◌, ◌^◌, Bool, true, false, cond, List, ◌++◌, length, Some, Result, Ok, Err, nat_eq, nat_lt, ltb-true, ltb-false, refl, sym, ap, ◌∙◌, arith, length-append}
 use Rattle.std.proofs.lemmas.Bool.Decides.{nat_tests}
 use Rattle.wasm_base.specs.FaultAt.{FaultAt, at_offset}
 use Rattle.wasm_base.specs.declared.error.Error.{Error}
 use Rattle.wasm_base.specs.declared.fault.Fault.TheVariants.{OffsetRange}
-use Rattle.wasm_parser.specs.Answers.{told_by, IsPayload, is_end, Consumes, Answers, IsFaultAlone, Parses}
-use Rattle.wasm_parser.specs.Content.{Kind, custom, items, index, data_count, code, unknown, fault, ended}
-use Rattle.wasm_parser.specs.Grammar.{Shape, header, section, code_head, body, Tile, Verdict, tile, final, Grammar, header_grammar, section_grammar, verdict}
-use Rattle.wasm_parser.specs.Reading.{Told, told_of, told_custom, told_ending}
+use Rattle.wasm_parser.specs.Answers.{told_by, is_end, Consumes, Answers, IsFaultAlone, Parses}
+use Rattle.wasm_parser.specs.Content.{custom, items, index, data_count, code, unknown, fault, ended}
+use Rattle.wasm_parser.specs.Grammar.{Shape, header, section, code_head, body, Tile, Verdict, tile, final, header_grammar, verdict}
+use Rattle.wasm_parser.specs.Reading.{told_of, told_custom}
 use Rattle.wasm_parser.specs.Stands.{Stand, past_of, grammar_of}
 use Rattle.wasm_parser.specs.Tiling.{inside}
 use Rattle.wasm_parser.specs.declared.payload.Payload.{Payload}

@@ -1,23 +1,26 @@
 -- What a walk over a whole stream gives.
-use Rattle.std.proofs.Common.{◌≡◌, ℕ, zero, suc, ◌+◌, ◌-◌, ◌<◌, ◌^◌, true, false, List, [], ◌∷◌, ◌++◌, length, drop, Option, Some, None, Result, Ok, Err, refl, sym, ap, subst, subst₂, ◌∙◌, arith, length-append, append_assoc}
+use Rattle.std.proofs.Common.{◌≡◌, ℕ, ◌+◌, ◌<◌, ◌^◌, true, false, List, [], ◌∷◌, ◌++◌, length, drop, Option, None, Result, Ok, Err, refl, sym, ap, subst, ◌∙◌, arith, length-append, append_assoc}
 use Rattle.std.proofs.lemmas.List.{drop_at}
-use Rattle.std.specs.Prelude.{◌↔◌, map}
+use Rattle.std.specs.declared.ops.Range.{Range}
+use Rattle.std.specs.List.{cons_option}
+use Rattle.std.specs.Prelude.{◌↔◌, map, filter_map}
 use Rattle.std.specs.Iterator.{Yields, Drains}
-use Rattle.wasm_base.specs.FaultAt.{FaultAt, fault_at}
+use Rattle.wasm_base.specs.FaultAt.{fault_at}
 use Rattle.wasm_base.specs.declared.error.Error.{Error}
-use Rattle.wasm_parser.specs.Accepted.{IsAccepted}
-use Rattle.wasm_parser.specs.Answers.{told_by, is_end, Answers, Parses}
+use Rattle.wasm_parser.specs.Answers.{told_by, is_end, Answers}
 use Rattle.wasm_parser.specs.Content.{Ending, fault, ended}
 use Rattle.wasm_parser.specs.Grammar.{Tile, Verdict, tile, final, Grammar, verdict}
 use Rattle.wasm_parser.specs.Reading.{Told, stopped, ending, told_of, told_ending, Event, event_of, events_of, last_event, Reads, Reading}
-use Rattle.wasm_parser.specs.Stands.{Stand, Stands, new_stand, grammar_of, passed}
+use Rattle.wasm_parser.specs.Sections.{section_of, sections_of, TiledBySections}
+use Rattle.wasm_parser.specs.Stands.{Stands, new_stand, grammar_of, passed}
 use Rattle.wasm_parser.specs.Stream.{Stream}
 use Rattle.wasm_parser.specs.Tiling.{front, grammar, Faultless}
-use Rattle.wasm_parser.specs.Turns.{Walk, walk_over, consumed_between, GivesAnswer, NextPayload, told_item, told_event, EndsAt, GivesReading}
+use Rattle.wasm_parser.specs.Turns.{Walk, walk_over, consumed_between, GivesAnswer, NextPayload, sections_given, told_item, told_event, EndsAt, GivesReading}
 use Rattle.wasm_parser.specs.declared.payload.Chunk.TheVariants.{Parsed}
 use Rattle.wasm_parser.specs.declared.payload.Payload.{Payload}
 use Rattle.wasm_parser.proofs.Accepting.{accepted_ends}
 use Rattle.wasm_parser.proofs.ReadingLaws.{Grown, grows, reads_same, reading_same}
+use Rattle.wasm_parser.proofs.SectionPlaces.{sections_tile}
 use Rattle.wasm_parser.proofs.StandsLaws.{grammar_same, stands_on, stands_on-tiles}
 use Rattle.wasm_parser.proofs.Turning.{goes_on}
 
@@ -169,23 +172,35 @@ told_end : (o : ℕ) (e : Ending) → told_ending e ≡ ending o → e ≡ ended
 told_end o (fault f) h = cc
 told_end o (ended x) h = let z : x ≡ o = cc in ap ended z
 
+-- what is given of the images of a list
+mapped : {X Y Z : Type 0} (f : X → Y) (h : Y → Option Z) (xs : List X) → filter_map (λ x. h (f x)) xs ≡ filter_map h (map f xs)
+mapped f h [] = refl
+mapped f h (x ∷ xs) = ap (cons_option (h (f x))) (mapped f h xs)
+
+-- sections by what is told of them
+same_sections : (given : List (Result Payload Error)) (events : List Event) → map told_item given ≡ map told_event events → sections_of events ≡ sections_given given
+same_sections given events e = mapped told_event section_of events ∙ (ap (filter_map section_of) (sym e) ∙ sym (mapped told_item section_of given))
+
 pub gives_reading : (start features : ℕ) (bytes : List ℕ) → Stream bytes start → GivesReading start features bytes
 gives_reading start features bytes stream = record {
   reading = λ given run events r.
-    let w : ReadsOn start features bytes [] (map told_item given) = walk_reads start features bytes stream.fits given run in
-    w.tells ∙ ap (map told_event) (reading_same bytes start features w.events events w.reading r);
+      let w : ReadsOn start features bytes [] (map told_item given) = walk_reads start features bytes stream.fits given run in
+      w.tells ∙ ap (map told_event) (reading_same bytes start features w.events events w.reading r);
   accepted = λ given run.
-    let w : ReadsOn start features bytes [] (map told_item given) = walk_reads start features bytes stream.fits given run in
-    let a = accepted_ends bytes start stream in
-    let l : map told_item given ≡ map told_event (events_of start features w.reading.tiles) ++ told_ending w.reading.end ∷ [] =
-    w.tells ∙ (ap (map told_event) w.reading.listed ∙ map_append (events_of start features w.reading.tiles) (last_event w.reading.end ∷ [])) in
-    let e = ends_append (start + length bytes) (map told_event (events_of start features w.reading.tiles)) (told_ending w.reading.end) in (
-      λ h.
-      let (ts, reads) = a.0 h in
-      let same : w.reading.end ≡ ended (start + length bytes) = (reads_same bytes start w.reading.tiles ts w.reading.end (ended (start + length bytes)) w.reading.reads reads).1 in
-      subst (EndsAt (start + length bytes)) (sym l) (e.1 (ap told_ending same)),
-      λ h.
-      let same : w.reading.end ≡ ended (start + length bytes) = told_end (start + length bytes) w.reading.end (e.0 (subst (EndsAt (start + length bytes)) l h)) in
-      a.1 (w.reading.tiles, subst (Reads bytes start w.reading.tiles) same w.reading.reads),
-    );
+      let w : ReadsOn start features bytes [] (map told_item given) = walk_reads start features bytes stream.fits given run in
+      let a = accepted_ends bytes start stream in
+      let l : map told_item given ≡ map told_event (events_of start features w.reading.tiles) ++ told_ending w.reading.end ∷ [] =
+      w.tells ∙ (ap (map told_event) w.reading.listed ∙ map_append (events_of start features w.reading.tiles) (last_event w.reading.end ∷ [])) in
+      let e = ends_append (start + length bytes) (map told_event (events_of start features w.reading.tiles)) (told_ending w.reading.end) in (
+        λ h.
+            let (ts, reads) = a.0 h in
+            let same : w.reading.end ≡ ended (start + length bytes) = (reads_same bytes start w.reading.tiles ts w.reading.end (ended (start + length bytes)) w.reading.reads reads).1 in
+            subst (EndsAt (start + length bytes)) (sym l) (e.1 (ap told_ending same)),
+        λ h.
+            let same : w.reading.end ≡ ended (start + length bytes) = told_end (start + length bytes) w.reading.end (e.0 (subst (EndsAt (start + length bytes)) l h)) in
+            a.1 (w.reading.tiles, subst (Reads bytes start w.reading.tiles) same w.reading.reads),
+      );
+  sections = λ given run a.
+      let w : ReadsOn start features bytes [] (map told_item given) = walk_reads start features bytes stream.fits given run in
+      subst (λ (y : List (ℕ × Range ℕ)). TiledBySections bytes start y a.encoding a.frames) (same_sections given w.events w.tells) (sections_tile bytes start features w.events stream a w.reading);
 }

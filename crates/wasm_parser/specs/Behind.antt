@@ -1,5 +1,5 @@
 -- What a parser knows behind what it told.
-use Rattle.std.specs.Prelude.{ℕ, zero, suc, ◌-◌, false, Option, Some, None, nat_eq, slice_index, if◌then◌else◌}
+use Rattle.std.specs.Prelude.{ℕ, ◌-◌, false, Option, Some, None, nat_eq, slice_index, if◌then◌else◌}
 use Rattle.wasm_parser.specs.Content.{ranks}
 use Rattle.wasm_parser.specs.Reading.{Told, version, counted, start_section, data_count_section, code_start, code_entry, custom_section, unknown_section, stopped, ending}
 use Rattle.wasm_parser.specs.Stands.{Stand, rank_after}

@@ -10,7 +10,7 @@ use Rattle.wasm_parser.specs.Stream.{Stream}
 -- length, and the bytes of its range
 abbrev pub SectionsTile : Type 0
 SectionsTile = (stream : List ℕ) (start features : ℕ) (events : List Event) → Stream stream start → (a : IsAccepted stream) → Reading stream start features events
-    → TiledBySections stream start events a.encoding a.frames
+    → TiledBySections stream start (sections_of events) a.encoding a.frames
 
 -- of two sections of a reading that have a rank in the encoding of its header, the later one has the higher rank
 abbrev pub RanksAscend : Type 0

@@ -48,16 +48,16 @@ places_of offset [] = []
 places_of offset (f ∷ frames) =
     (f.id, record { start = offset + 1 + length f.sized.field; end = offset + length (frame_bytes f) }) ∷ places_of (offset + length (frame_bytes f)) frames
 
--- The stream is a header and then the sections that the events tell, and nothing between them or behind: of each its
--- id, its length, and the bytes of its range.
-pub record TiledBySections (stream : List ℕ) (start : ℕ) (events : List Event) (encoding : Encoding) (frames : List Frame) : Type 0 where
+-- The stream is a header and then these sections, and nothing between them or behind: of each its id, its length, and the
+-- bytes of its range.
+pub record TiledBySections (stream : List ℕ) (start : ℕ) (sections : List (ℕ × Range ℕ)) (encoding : Encoding) (frames : List Frame) : Type 0 where
   pub whole : stream ≡ header_bytes encoding ++ flat_map frame_bytes frames
   -- the length field of each says how long its content is
   pub sized : All (λ f. IsSized f.sized) frames
-  -- they are the sections that are told, and stand where it is told
-  pub places : sections_of events ≡ places_of (start + length (header_bytes encoding)) frames
+  -- they are the sections, and stand in their ranges
+  pub places : sections ≡ places_of (start + length (header_bytes encoding)) frames
   -- the content of each is the bytes of its range
-  pub contents : map (id_and_bytes stream start) (sections_of events) ≡ map id_and_content frames
+  pub contents : map (id_and_bytes stream start) sections ≡ map id_and_content frames
 
 -- The first event is a header, which names this encoding.
 pub record BeginsAs (encoding : Encoding) (events : List Event) : Type 0 where

@@ -1,13 +1,14 @@
 -- A walk over the payloads of a whole stream.
-use Rattle.std.specs.Prelude.{◌≡◌, ◌↔◌, ℕ, ◌+◌, ◌-◌, ◌<◌, ◌^◌, Bool, true, false, List, [], ◌∷◌, length, drop, map, Option, Some, None, Result, Ok, Err, if◌then◌else◌}
+use Rattle.std.specs.Prelude.{◌≡◌, ◌↔◌, ℕ, ◌+◌, ◌-◌, Bool, true, false, List, [], ◌∷◌, length, drop, map, filter_map, Option, Some, None, Result, Ok, Err, if◌then◌else◌}
+use Rattle.std.specs.declared.ops.Range.{Range}
 use Rattle.std.specs.Iterator.{Drains}
 use Rattle.wasm_base.specs.FaultAt.{fault_at}
 use Rattle.wasm_base.specs.declared.error.Error.{Error}
 use Rattle.wasm_parser.specs.Accepted.{IsAccepted}
 use Rattle.wasm_parser.specs.Answers.{told_by, is_end, Parses}
 use Rattle.wasm_parser.specs.Reading.{Told, stopped, ending, Event, Reading}
+use Rattle.wasm_parser.specs.Sections.{section_of, TiledBySections}
 use Rattle.wasm_parser.specs.Stands.{Stand, new_stand}
-use Rattle.wasm_parser.specs.Stream.{Stream}
 use Rattle.wasm_parser.specs.declared.payload.Chunk.TheVariants.{Parsed}
 use Rattle.wasm_parser.specs.declared.payload.Payload.{Payload}
 
@@ -55,8 +56,13 @@ EndsAt offset [] = ⊥
 EndsAt offset (x ∷ []) = x ≡ ending offset
 EndsAt offset (x ∷ (y ∷ ys)) = EndsAt offset (y ∷ ys)
 
+-- the sections that payloads are: of each its id, and the offsets of its content
+abbrev pub sections_given : List (Result Payload Error) → List (ℕ × Range ℕ)
+sections_given given = filter_map (λ x. section_of (told_item x)) given
+
 -- What a walk over these bytes gives, up to the first `None`, is the reading of a stream that starts at this offset;
--- its last is the end exactly if the stream is accepted; and there is no more behind that `None`.
+-- its last is the end exactly if the stream is accepted, which then is a header and the sections that the payloads are.
 pub record GivesReading (start features : ℕ) (bytes : List ℕ) : Type 0 where
   pub reading : (given : List (Result Payload Error)) → Drains NextPayload (walk_over (new_stand start features) bytes) given → (events : List Event) → Reading bytes start features events → map told_item given ≡ map told_event events
   pub accepted : (given : List (Result Payload Error)) → Drains NextPayload (walk_over (new_stand start features) bytes) given → IsAccepted bytes ↔ EndsAt (start + length bytes) (map told_item given)
+  pub sections : (given : List (Result Payload Error)) → Drains NextPayload (walk_over (new_stand start features) bytes) given → (a : IsAccepted bytes) → TiledBySections bytes start (sections_given given) a.encoding a.frames

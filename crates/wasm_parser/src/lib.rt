@@ -13,7 +13,6 @@ mod sections;
 mod tests;
 
 pub use all::ParseAll;
-pub use wasm_custom::CustomSectionReader;
 pub use parser::Parser;
 pub use payload::{Chunk, Encoding, Payload};
 pub use wasm_base::{
@@ -23,12 +22,12 @@ pub use wasm_base::{
     MAX_WASM_FUNCTION_PARAMS, MAX_WASM_FUNCTION_RETURNS, MAX_WASM_FUNCTION_SIZE,
     MAX_WASM_FUNCTIONS, MAX_WASM_GLOBALS, MAX_WASM_HANDLERS, MAX_WASM_IMPORTS, MAX_WASM_MEMORIES,
     MAX_WASM_MODULES_AND_COMPONENTS, MAX_WASM_SELECT_RESULT_SIZE, MAX_WASM_STRING_SIZE,
-    MAX_WASM_STRUCT_FIELDS, MAX_WASM_SUBTYPING_DEPTH, MAX_WASM_SUPERTYPES,
-    MAX_WASM_TABLE_ENTRIES, MAX_WASM_TABLES, MAX_WASM_TAGS, MAX_WASM_TYPE_SIZE, MAX_WASM_TYPES,
-    NumberKind, Result, SectionLimited, SectionLimitedIntoIter,
-    SectionLimitedIntoIterWithOffsets, WasmFeatures, fits, is_page_size,
-    max_wasm_memory32_pages, max_wasm_memory64_pages,
+    MAX_WASM_STRUCT_FIELDS, MAX_WASM_SUBTYPING_DEPTH, MAX_WASM_SUPERTYPES, MAX_WASM_TABLE_ENTRIES,
+    MAX_WASM_TABLES, MAX_WASM_TAGS, MAX_WASM_TYPE_SIZE, MAX_WASM_TYPES, NumberKind, Result,
+    SectionLimited, SectionLimitedIntoIter, SectionLimitedIntoIterWithOffsets, WasmFeatures, fits,
+    is_page_size, max_wasm_memory32_pages, max_wasm_memory64_pages,
 };
+pub use wasm_custom::CustomSectionReader;
 pub use wasm_items::{
     CompositeType, ConstExpr, Data, DataKind, DataSectionReader, Element, ElementItems,
     ElementKind, ElementSectionReader, Export, ExportSectionReader, ExternalKind, FieldType,

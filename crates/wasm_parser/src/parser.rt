@@ -445,7 +445,6 @@ impl Parser {
         }
         Ok(Payload::CodeSectionEntry(FunctionBody::new(window)))
     }
-
 }
 
 // Whether a count is known, and is not this one.

@@ -3,9 +3,9 @@ ghost use Rattle.std.specs.Prelude.{◌≡◌};
 ghost use Rattle.wasm_parser.specs.Answers.{told_by};
 ghost use Rattle.wasm_parser.specs.Sections.{section_of};
 
-use wasm_custom::CustomSectionReader;
 use std::fmt;
 use std::ops::Range;
+use wasm_custom::CustomSectionReader;
 use wasm_items::{
     DataSectionReader, ElementSectionReader, ExportSectionReader, FunctionBody,
     FunctionSectionReader, GlobalSectionReader, ImportSectionReader, MemorySectionReader,
@@ -51,11 +51,17 @@ pub enum Payload<'a> {
     /// What a module exports.
     ExportSection(ExportSectionReader<'a>),
     /// The index of the function that starts a module; the range is that of the index.
-    StartSection { func: u32, range: Range<u64> },
+    StartSection {
+        func: u32,
+        range: Range<u64>,
+    },
     /// The element segments of a module.
     ElementSection(ElementSectionReader<'a>),
     /// How many data segments are to come; the range is that of the count.
-    DataCountSection { count: u32, range: Range<u64> },
+    DataCountSection {
+        count: u32,
+        range: Range<u64>,
+    },
     /// The data segments of a module.
     DataSection(DataSectionReader<'a>),
     /// The start of a code section: how many bodies follow, the offsets of its content, of which not all needs to be
@@ -112,7 +118,8 @@ impl<'a> Payload<'a> {
             Payload::DataCountSection { range, .. } => Some((12, range.start..range.end)),
             Payload::DataSection(section) => Some((11, section.range())),
             Payload::CodeSectionStart {
-                unchecked_range, ..
+                unchecked_range,
+                ..
             } => Some((10, unchecked_range.start..unchecked_range.end)),
             Payload::CodeSectionEntry(_) => None,
             Payload::CustomSection(section) => Some((0, section.range())),

@@ -1,2 +1,6 @@
 // Worked examples.
+mod code;
+mod debug;
 mod parsing;
+mod surface;
+mod walking;

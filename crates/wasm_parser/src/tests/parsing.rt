@@ -1,19 +1,17 @@
 // Calls of the parser.
-use crate::parser::Parser;
-use crate::payload::{Chunk, Encoding, Payload};
+use crate::{Chunk, Encoding, Error, Fault, Parser, Payload};
 use std::test::Fail;
-use wasm_base::{Error, Fault};
 
-const HEADER: &[u8] = b"\0asm\x01\0\0\0";
+pub(super) const HEADER: &[u8] = b"\0asm\x01\0\0\0";
 
 // A parser that stands behind a module's header.
-fn behind_header(offset: u64) -> Result<Parser, Error> {
+pub(super) fn behind_header(offset: u64) -> Result<Parser, Error> {
     let mut parser = Parser::new(offset);
     parser.parse(HEADER, true)?;
     Ok(parser)
 }
 
-fn refusal(parser: &mut Parser, bytes: &[u8]) -> Option<Error> {
+pub(super) fn refusal(parser: &mut Parser, bytes: &[u8]) -> Option<Error> {
     parser.parse(bytes, true).err()
 }
 
@@ -215,44 +213,6 @@ fn near_the_top_of_the_offsets(rt: HostRuntime) -> Result<(), Fail> {
             ..
         } => assert_eq!(rt; at, 18446744073709551615),
         _other => assert!(rt; false),
-    }
-    Ok(())
-}
-
-#[test]
-fn payloads_as_debug_text(rt: HostRuntime) -> Result<(), Fail> {
-    let mut parser = Parser::new(0);
-    let rows: [(&[u8], &str); 7] = [
-        (
-            HEADER,
-            "Parsed { consumed: 8, payload: Version { num: 1, encoding: Module, range: 0..8 } }",
-        ),
-        (
-            b"\0\x02\x01a",
-            "Parsed { consumed: 4, payload: CustomSection(CustomSectionReader { name: \"a\", data_offset: 12, data: \"...\", range: 10..12 }) }",
-        ),
-        (
-            b"\x0e\0",
-            "Parsed { consumed: 2, payload: UnknownSection { id: 14, range: 14..14 } }",
-        ),
-        (
-            b"\x03\x01\0",
-            "Parsed { consumed: 3, payload: FunctionSection(\"...\") }",
-        ),
-        (
-            b"\x08\x01\x01",
-            "Parsed { consumed: 3, payload: StartSection { func: 1, range: 19..20 } }",
-        ),
-        (
-            b"\x0c\x01\0",
-            "Parsed { consumed: 3, payload: DataCountSection { count: 0, range: 22..23 } }",
-        ),
-        (b"", "Parsed { consumed: 0, payload: End(23) }"),
-    ];
-    for (bytes, text) in rows {
-        let chunk = parser.parse(bytes, true)?;
-        let debug = format!(in rt.alloc(); "{chunk:?}")?;
-        assert_eq!(rt; debug.as_str(), text);
     }
     Ok(())
 }

@@ -1,4 +1,4 @@
-use Rattle.std.proofs.Common.{Ok, Err, [], sym, ap, subst, ◌∙◌, ◌≡◌, ◌<◌, ◌^◌, arith}
+use Rattle.std.proofs.Common.{ap, ◌∙◌, arith}
 use Rattle.wasm_base.specs.FaultAt.{at_offset}
 use Rattle.wasm_base.specs.declared.fault.Fault.TheVariants.{FunctionWithoutCode, DataCountWithoutData}
 use Rattle.wasm_parser.specs.Stands.{Stand}

@@ -1,6 +1,5 @@
-use Rattle.std.proofs.Common.{ℕ, ◌<◌, arith}
+use Rattle.std.proofs.Common.{◌<◌, arith}
 use Rattle.std.proofs.lemmas.List.Elements.{All-from_get_or}
-use Rattle.wasm_parser.specs.Stream.{Stream}
 use Rattle.wasm_parser.proofs.Walking.{gives_reading}
 use Rattle.wasm_parser.proofs.parser.Parser.parse_all.Goals as goal
 

@@ -1,4 +1,4 @@
-use Rattle.std.proofs.Common.{Some, refl, sym, ap, arith, ◌∙◌}
+use Rattle.std.proofs.Common.{Some, sym, ap, arith, ◌∙◌}
 use Rattle.wasm_base.specs.FaultAt.{at_offset}
 use Rattle.wasm_base.specs.Window.{place}
 use Rattle.wasm_base.specs.declared.fault.Fault.TheVariants.{OutOfOrder}

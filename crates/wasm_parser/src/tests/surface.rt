@@ -1,0 +1,90 @@
+// The calls of a parser beside `parse`, and the ids of payloads.
+use super::parsing::{HEADER, behind_header};
+use crate::{Chunk, Parser, Payload, WasmFeatures};
+use bitflags::Flags;
+use std::test::Fail;
+
+#[test]
+fn headers_are_told_apart(rt: HostRuntime) -> Result<(), Fail> {
+    let component: &[u8] = b"\0asm\x0d\0\x01\0";
+    assert!(rt; Parser::is_core_wasm(HEADER));
+    assert!(rt; Parser::is_core_wasm(b"\0asm\x01\0\0\0\0"));
+    assert!(rt; !Parser::is_core_wasm(&HEADER[..7]));
+    assert!(rt; !Parser::is_core_wasm(component));
+    assert!(rt; !Parser::is_core_wasm(b""));
+    assert!(rt; Parser::is_component(component));
+    assert!(rt; Parser::is_component(b"\0asm\x0d\0\x01\0\xff"));
+    assert!(rt; !Parser::is_component(HEADER));
+    assert!(rt; !Parser::is_component(&component[..7]));
+    Ok(())
+}
+
+#[test]
+fn windows_have_the_parsers_features(rt: HostRuntime) -> Result<(), Fail> {
+    let mut parser = Parser::default();
+    assert_eq!(rt; parser.features(), WasmFeatures::all());
+    parser.set_features(WasmFeatures::MEMORY64);
+    assert_eq!(rt; parser.features(), WasmFeatures::MEMORY64);
+    let reader = parser.binary_reader(b"abc", 7);
+    assert_eq!(rt; reader.features(), WasmFeatures::MEMORY64);
+    assert_eq!(rt; reader.range(), 7..10);
+    parser.parse(HEADER, true)?;
+    let chunk = parser.parse(b"\0\x02\x01a", true)?;
+    match &chunk {
+        Chunk::Parsed {
+            payload: Payload::CustomSection(section),
+            ..
+        } => assert_eq!(rt; section.data_reader().features(), WasmFeatures::MEMORY64),
+        _other => assert!(rt; false),
+    }
+    assert_eq!(rt; parser.features(), WasmFeatures::MEMORY64);
+    Ok(())
+}
+
+#[test]
+fn a_copy_goes_its_own_way(rt: HostRuntime) -> Result<(), Fail> {
+    let mut parser = behind_header(0)?;
+    parser.parse(b"\x03\x02\x01\0", true)?;
+    let mut copy = parser.clone()?;
+    copy.parse(b"\x0a\x03\x01\x01", true)?;
+    copy.parse(b"\x01\0", true)?;
+    assert_eq!(rt; (parser.offset(), copy.offset()), (12, 17));
+    copy.parse(b"", true)?;
+    assert!(rt; parser.parse(b"", true).is_err());
+    Ok(())
+}
+
+#[test]
+fn sections_by_their_payloads(rt: HostRuntime) -> Result<(), Fail> {
+    let stream: &[u8] =
+        b"\0asm\x01\0\0\0\x01\x01\0\x02\x01\0\x03\x02\x01\0\x04\x01\0\x05\x01\0\x0d\x01\0\x06\x01\0\x07\x01\0\x08\x01\0\x09\x01\0\x0c\x01\0\x0a\x04\x01\x02\0\x0b\x0b\x01\0\0\x01\0\x0e\0";
+    let wanted = [
+        None,
+        Some((1, 10..11)),
+        Some((2, 13..14)),
+        Some((3, 16..18)),
+        Some((4, 20..21)),
+        Some((5, 23..24)),
+        Some((13, 26..27)),
+        Some((6, 29..30)),
+        Some((7, 32..33)),
+        Some((8, 35..36)),
+        Some((9, 38..39)),
+        Some((12, 41..42)),
+        Some((10, 44..48)),
+        None,
+        Some((11, 50..51)),
+        Some((0, 53..54)),
+        Some((14, 56..56)),
+        None,
+    ];
+    let mut count = 0usize;
+    for payload in Parser::new(0).parse_all(stream) {
+        let section = payload?.as_section();
+        assert!(rt; count < wanted.len());
+        assert!(rt; section == wanted[count], "{count}");
+        count += 1;
+    }
+    assert_eq!(rt; count, wanted.len());
+    Ok(())
+}

@@ -1,0 +1,79 @@
+// Walks over whole streams.
+use super::parsing::HEADER;
+use crate::{Error, Fault, Parser, Payload};
+use std::test::Fail;
+
+#[test]
+fn a_walk_ends_behind_the_end(rt: HostRuntime) -> Result<(), Fail> {
+    let mut walk = Parser::new(0).parse_all(b"\0asm\x01\0\0\0\x0c\x01\0");
+    match walk.next() {
+        Some(Ok(Payload::Version { range, .. })) => assert_eq!(rt; range, 0..8),
+        _other => assert!(rt; false),
+    }
+    match walk.next() {
+        Some(Ok(Payload::DataCountSection { count, range })) => {
+            assert_eq!(rt; count, 0);
+            assert_eq!(rt; range, 10..11);
+        }
+        _other => assert!(rt; false),
+    }
+    match walk.next() {
+        Some(Ok(Payload::End(at))) => assert_eq!(rt; at, 11),
+        _other => assert!(rt; false),
+    }
+    assert!(rt; walk.next().is_none());
+    assert!(rt; walk.next().is_none());
+    Ok(())
+}
+
+#[test]
+fn a_walk_ends_behind_a_fault(rt: HostRuntime) -> Result<(), Fail> {
+    let mut walk = Parser::new(0).parse_all(b"\0asm\x01\0\0\0\x0c\x01\x01\x0b\x02\x02\0\0\0");
+    assert!(rt; walk.next().is_some());
+    assert!(rt; walk.next().is_some());
+    match walk.next() {
+        Some(Err(error)) => assert_eq!(rt; error, Error::new(Fault::DataCountDiffer, 15)),
+        _other => assert!(rt; false),
+    }
+    assert!(rt; walk.next().is_none());
+    assert!(rt; walk.next().is_none());
+    Ok(())
+}
+
+#[test]
+fn a_walk_near_the_top_of_the_offsets(rt: HostRuntime) -> Result<(), Fail> {
+    let mut walk = Parser::new(18446744073709551608).parse_all(HEADER);
+    match walk.next() {
+        Some(Err(error)) => {
+            assert_eq!(rt; error, Error::new(Fault::OffsetRange, 18446744073709551608));
+        }
+        _other => assert!(rt; false),
+    }
+    assert!(rt; walk.next().is_none());
+    let mut walk = Parser::new(18446744073709551607).parse_all(HEADER);
+    assert!(rt; walk.next().is_some());
+    match walk.next() {
+        Some(Ok(Payload::End(at))) => assert_eq!(rt; at, 18446744073709551615),
+        _other => assert!(rt; false),
+    }
+    Ok(())
+}
+
+#[test]
+fn items_of_a_section_begin_behind_its_count(rt: HostRuntime) -> Result<(), Fail> {
+    let stream = b"\0asm\x01\0\0\0\x03\x04\x02\x05\x80\x01";
+    let mut walk = Parser::new(100).parse_all(stream);
+    assert!(rt; walk.next().is_some());
+    let mut indices = Vec::new(rt.alloc());
+    match walk.next() {
+        Some(Ok(Payload::FunctionSection(section))) => {
+            assert_eq!(rt; section.range(), 110..114);
+            for item in section.into_iter_with_offsets() {
+                indices.push(item?)?;
+            }
+        }
+        _other => assert!(rt; false),
+    }
+    assert_eq!(rt; indices.as_slice(), [(111, 5), (112, 128)].as_slice());
+    Ok(())
+}
