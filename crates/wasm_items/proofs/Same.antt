@@ -55,11 +55,11 @@ pub told : {A : Type 0} {compare : A → A → Bool} → Tells compare → Tells
 told {A = A} {compare = compare} t one other =
     (t.same one other, λ is. subst (λ (x : A). compare one x ≡ true) is (t.itself one))
 
-both_of : {s t : Bool} → (s && t) ≡ true → (s ≡ true) × (t ≡ true)
+pub both_of : {s t : Bool} → (s && t) ≡ true → (s ≡ true) × (t ≡ true)
 both_of {s = true} {t = t} h = (refl, h)
 both_of {s = false} {t = t} h = cc
 
-number : Tells nat_eq
+pub number : Tells nat_eq
 number = record { same = eqb-true; itself = λ n. eq-eqb n n refl }
 
 truth_same : (one other : Bool) → (Truth.ghosts).eq one other ≡ true → one ≡ other
@@ -71,7 +71,7 @@ truth_itself : (one : Bool) → (Truth.ghosts).eq one one ≡ true
 truth_itself true = refl
 truth_itself false = refl
 
-truth : Tells (Truth.ghosts).eq
+pub truth : Tells (Truth.ghosts).eq
 truth = record { same = truth_same; itself = truth_itself }
 
 option_same : {A : Type 0} {compare : A → A → Bool} → Tells compare → (one other : Option A) → option_eq compare one other ≡ true → one ≡ other
@@ -83,7 +83,7 @@ option_itself : {A : Type 0} {compare : A → A → Bool} → Tells compare → 
 option_itself t None = refl
 option_itself t (Some one) = t.itself one
 
-option : {A : Type 0} {compare : A → A → Bool} → Tells compare → Tells (option_eq compare)
+pub option : {A : Type 0} {compare : A → A → Bool} → Tells compare → Tells (option_eq compare)
 option t = record { same = option_same t; itself = option_itself t }
 
 heap_same : (one other : HeapType) → (HeapTypeCompared.ghosts).eq one other ≡ true → one ≡ other
@@ -276,7 +276,7 @@ exported_itself Exported.FuncExact = refl
 pub exported : Tells (ExternalKindCompared.ghosts).eq
 exported = record { same = exported_same; itself = exported_itself }
 
-back : {A : Type 0} {compare : A → A → Bool} → Tells compare → {one other : A} → one ≡ other → compare one other ≡ true
+pub back : {A : Type 0} {compare : A → A → Bool} → Tells compare → {one other : A} → one ≡ other → compare one other ≡ true
 back {A = A} {compare = compare} t {one = one} is = subst (λ (x : A). compare one x ≡ true) is (t.itself one)
 
 text_same : (one other : List ℕ) → pointwise nat_eq one other ≡ true → one ≡ other

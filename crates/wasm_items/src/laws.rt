@@ -1,6 +1,6 @@
 //! What comparing items tells.
 ghost use Rattle.wasm_items.specs.Copy.{CopiesSame, CopiesAlways};
-ghost use Rattle.wasm_items.specs.Same.{TellsWhether, TellsSame, IsSameImport, IsSameItem, IsSameExport};
+ghost use Rattle.wasm_items.specs.Same.{TellsWhether, TellsSame, IsSameImport, IsSameItem, IsSameExport, IsSameFunction, IsSameComposite, IsSameSubtype, IsSameGroup};
 
 use crate::code::FunctionBody;
 use crate::data::{Data, DataKind};
@@ -11,8 +11,8 @@ use crate::imports::{Import, ImportItemCompact, Imports, TypeRef};
 use crate::init::ConstExpr;
 use crate::tables::{Table, TableInit};
 use crate::types::{
-    FieldType, GlobalType, HeapType, MemoryType, RefType, StorageType, TableType, TagKind, TagType,
-    ValType,
+    CompositeType, FieldType, FuncType, GlobalType, HeapType, MemoryType, RecGroup, RefType,
+    StorageType, SubType, TableType, TagKind, TagType, ValType,
 };
 
 /// Two types that own no list are equal exactly if they are the same.
@@ -31,6 +31,14 @@ pub fn equal_types_are_the_same()
     ensures external { TellsSame ⟦<TypeRef as PartialEq>⟧.eq }
 {}
 
+/// Two types that own lists are equal exactly if all that they have is the same, whatever the capacity of the lists.
+pub fn equal_groups_are_the_same()
+    ensures function { TellsWhether IsSameFunction ⟦<FuncType as PartialEq>⟧.eq }
+    ensures composite { TellsWhether IsSameComposite ⟦<CompositeType as PartialEq>⟧.eq }
+    ensures subtype { TellsWhether IsSameSubtype ⟦<SubType as PartialEq>⟧.eq }
+    ensures group { TellsWhether IsSameGroup ⟦<RecGroup as PartialEq>⟧.eq }
+{}
+
 /// Two imports, or two exports, are equal exactly if all that they have is the same, names as texts.
 pub fn equal_imports_and_exports_are_the_same<'a>()
     ensures import { TellsWhether IsSameImport ⟦<Import<'a> as PartialEq>⟧.eq }
@@ -38,7 +46,7 @@ pub fn equal_imports_and_exports_are_the_same<'a>()
     ensures export { TellsWhether IsSameExport ⟦<Export<'a> as PartialEq>⟧.eq }
 {}
 
-/// A copy of an item that holds windows is the item itself.
+/// A copy of an item is the item itself.
 pub fn copies_are_the_same<'a>()
     ensures expression { CopiesSame ⟦<ConstExpr<'a> as Clone>⟧.is_clone }
     ensures body { CopiesSame ⟦<FunctionBody<'a> as Clone>⟧.is_clone }
@@ -51,9 +59,24 @@ pub fn copies_are_the_same<'a>()
     ensures element_items { CopiesSame ⟦<ElementItems<'a> as Clone>⟧.is_clone }
     ensures segment { CopiesSame ⟦<Data<'a> as Clone>⟧.is_clone }
     ensures segment_kind { CopiesSame ⟦<DataKind<'a> as Clone>⟧.is_clone }
+    ensures value { CopiesSame ⟦<ValType as Clone>⟧.is_clone }
+    ensures reference { CopiesSame ⟦<RefType as Clone>⟧.is_clone }
+    ensures heap { CopiesSame ⟦<HeapType as Clone>⟧.is_clone }
+    ensures field { CopiesSame ⟦<FieldType as Clone>⟧.is_clone }
+    ensures storage { CopiesSame ⟦<StorageType as Clone>⟧.is_clone }
+    ensures table_type { CopiesSame ⟦<TableType as Clone>⟧.is_clone }
+    ensures memory { CopiesSame ⟦<MemoryType as Clone>⟧.is_clone }
+    ensures global_type { CopiesSame ⟦<GlobalType as Clone>⟧.is_clone }
+    ensures tag { CopiesSame ⟦<TagType as Clone>⟧.is_clone }
+    ensures tag_kind { CopiesSame ⟦<TagKind as Clone>⟧.is_clone }
+    ensures external_kind { CopiesSame ⟦<ExternalKind as Clone>⟧.is_clone }
+    ensures external { CopiesSame ⟦<TypeRef as Clone>⟧.is_clone }
+    ensures import { CopiesSame ⟦<Import<'a> as Clone>⟧.is_clone }
+    ensures item { CopiesSame ⟦<ImportItemCompact<'a> as Clone>⟧.is_clone }
+    ensures export { CopiesSame ⟦<Export<'a> as Clone>⟧.is_clone }
 {}
 
-/// An item that holds windows can always be copied.
+/// An item that can be copied can always be copied: it takes no memory.
 pub fn copies_are_always_made<'a>()
     ensures expression { CopiesAlways ⟦<ConstExpr<'a> as Clone>⟧.is_infallible }
     ensures body { CopiesAlways ⟦<FunctionBody<'a> as Clone>⟧.is_infallible }
@@ -66,4 +89,19 @@ pub fn copies_are_always_made<'a>()
     ensures element_items { CopiesAlways ⟦<ElementItems<'a> as Clone>⟧.is_infallible }
     ensures segment { CopiesAlways ⟦<Data<'a> as Clone>⟧.is_infallible }
     ensures segment_kind { CopiesAlways ⟦<DataKind<'a> as Clone>⟧.is_infallible }
+    ensures value { CopiesAlways ⟦<ValType as Clone>⟧.is_infallible }
+    ensures reference { CopiesAlways ⟦<RefType as Clone>⟧.is_infallible }
+    ensures heap { CopiesAlways ⟦<HeapType as Clone>⟧.is_infallible }
+    ensures field { CopiesAlways ⟦<FieldType as Clone>⟧.is_infallible }
+    ensures storage { CopiesAlways ⟦<StorageType as Clone>⟧.is_infallible }
+    ensures table_type { CopiesAlways ⟦<TableType as Clone>⟧.is_infallible }
+    ensures memory { CopiesAlways ⟦<MemoryType as Clone>⟧.is_infallible }
+    ensures global_type { CopiesAlways ⟦<GlobalType as Clone>⟧.is_infallible }
+    ensures tag { CopiesAlways ⟦<TagType as Clone>⟧.is_infallible }
+    ensures tag_kind { CopiesAlways ⟦<TagKind as Clone>⟧.is_infallible }
+    ensures external_kind { CopiesAlways ⟦<ExternalKind as Clone>⟧.is_infallible }
+    ensures external { CopiesAlways ⟦<TypeRef as Clone>⟧.is_infallible }
+    ensures import { CopiesAlways ⟦<Import<'a> as Clone>⟧.is_infallible }
+    ensures item { CopiesAlways ⟦<ImportItemCompact<'a> as Clone>⟧.is_infallible }
+    ensures export { CopiesAlways ⟦<Export<'a> as Clone>⟧.is_infallible }
 {}
