@@ -1,0 +1,2 @@
+pub mod Copy
+pub mod Same

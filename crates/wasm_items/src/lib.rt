@@ -10,6 +10,7 @@ mod functions;
 mod globals;
 mod imports;
 mod init;
+pub mod laws;
 mod memories;
 mod tables;
 mod tags;

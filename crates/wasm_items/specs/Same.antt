@@ -1,0 +1,59 @@
+-- Comparisons that tell whether two values are the same.
+use Rattle.std.specs.List.{AllZip}
+use Rattle.std.specs.Prelude.{◌≡◌, ◌↔◌, Bool, IsTrue}
+use Rattle.wasm_items.specs.declared.exports.Export.{Export}
+use Rattle.wasm_items.specs.declared.imports.Import.{Import}
+use Rattle.wasm_items.specs.declared.imports.ImportItemCompact.{ImportItemCompact}
+use Rattle.wasm_items.specs.declared.types.CompositeType.{CompositeType}
+use Rattle.wasm_items.specs.declared.types.CompositeType.TheVariants.{Func, Array, Struct}
+use Rattle.wasm_items.specs.declared.types.FuncType.{FuncType}
+use Rattle.wasm_items.specs.declared.types.RecGroup.{RecGroup}
+use Rattle.wasm_items.specs.declared.types.SubType.{SubType}
+
+-- The comparison is true of two values exactly if they are so.
+abbrev pub TellsWhether : {A : Type 0} → (A → A → Type 0) → (A → A → Bool) → Type 0
+TellsWhether {A = A} same compare = (one other : A) → IsTrue (compare one other) ↔ same one other
+
+-- The comparison is true of two values exactly if they are the same.
+abbrev pub TellsSame : {A : Type 0} → (A → A → Bool) → Type 0
+TellsSame compare = TellsWhether (λ one other. one ≡ other) compare
+
+-- Two imports have the same names and the same type.
+pub record IsSameImport (one other : Import) : Type 0 where
+  pub from : one.module.now ≡ other.module.now
+  pub name : one.name.now ≡ other.name.now
+  pub ty : one.ty ≡ other.ty
+
+-- Two imports of a group have the same name and the same type.
+pub record IsSameItem (one other : ImportItemCompact) : Type 0 where
+  pub name : one.name.now ≡ other.name.now
+  pub ty : one.ty ≡ other.ty
+
+-- Two exports have the same name, kind and index.
+pub record IsSameExport (one other : Export) : Type 0 where
+  pub name : one.name.now ≡ other.name.now
+  pub kind : one.kind ≡ other.kind
+  pub index : one.index ≡ other.index
+
+-- Two types of functions have the same parameters and the same results.
+pub record IsSameFunction (one other : FuncType) : Type 0 where
+  pub params : one.params.items ≡ other.params.items
+  pub results : one.results.items ≡ other.results.items
+
+-- Two composite types are of the same kind, and have the same parts.
+abbrev pub IsSameComposite : CompositeType → CompositeType → Type 0
+IsSameComposite (Func one) (Func other) = IsSameFunction one other
+IsSameComposite (Array one) (Array other) = one ≡ other
+IsSameComposite (Struct one) (Struct other) = one.items ≡ other.items
+IsSameComposite one other = ⊥
+
+-- Two subtypes extend the same type, if any, are both final or both not, and have the same composite type.
+pub record IsSameSubtype (one other : SubType) : Type 0 where
+  pub final : one.is_final ≡ other.is_final
+  pub supertype : one.supertype ≡ other.supertype
+  pub composite : IsSameComposite one.composite other.composite
+
+-- Two groups are both explicit or both not, and have the same types.
+pub record IsSameGroup (one other : RecGroup) : Type 0 where
+  pub explicit : one.explicit ≡ other.explicit
+  pub types : AllZip IsSameSubtype one.types.items other.types.items

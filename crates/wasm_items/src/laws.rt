@@ -1,0 +1,107 @@
+//! What comparing items tells.
+ghost use Rattle.wasm_items.specs.Copy.{CopiesSame, CopiesAlways};
+ghost use Rattle.wasm_items.specs.Same.{TellsWhether, TellsSame, IsSameImport, IsSameItem, IsSameExport, IsSameFunction, IsSameComposite, IsSameSubtype, IsSameGroup};
+
+use crate::code::FunctionBody;
+use crate::data::{Data, DataKind};
+use crate::elements::{Element, ElementItems, ElementKind};
+use crate::exports::{Export, ExternalKind};
+use crate::globals::Global;
+use crate::imports::{Import, ImportItemCompact, Imports, TypeRef};
+use crate::init::ConstExpr;
+use crate::tables::{Table, TableInit};
+use crate::types::{
+    CompositeType, FieldType, FuncType, GlobalType, HeapType, MemoryType, RecGroup, RefType,
+    StorageType, SubType, TableType, TagKind, TagType, ValType,
+};
+
+/// Two types that own no list are equal exactly if they are the same.
+pub fn equal_types_are_the_same()
+    ensures value { TellsSame ⟦<ValType as PartialEq>⟧.eq }
+    ensures reference { TellsSame ⟦<RefType as PartialEq>⟧.eq }
+    ensures heap { TellsSame ⟦<HeapType as PartialEq>⟧.eq }
+    ensures field { TellsSame ⟦<FieldType as PartialEq>⟧.eq }
+    ensures storage { TellsSame ⟦<StorageType as PartialEq>⟧.eq }
+    ensures table { TellsSame ⟦<TableType as PartialEq>⟧.eq }
+    ensures memory { TellsSame ⟦<MemoryType as PartialEq>⟧.eq }
+    ensures global { TellsSame ⟦<GlobalType as PartialEq>⟧.eq }
+    ensures tag { TellsSame ⟦<TagType as PartialEq>⟧.eq }
+    ensures tag_kind { TellsSame ⟦<TagKind as PartialEq>⟧.eq }
+    ensures external_kind { TellsSame ⟦<ExternalKind as PartialEq>⟧.eq }
+    ensures external { TellsSame ⟦<TypeRef as PartialEq>⟧.eq }
+{}
+
+/// Two types that own lists are equal exactly if all that they have is the same, whatever the capacity of the lists.
+pub fn equal_groups_are_the_same()
+    ensures function { TellsWhether IsSameFunction ⟦<FuncType as PartialEq>⟧.eq }
+    ensures composite { TellsWhether IsSameComposite ⟦<CompositeType as PartialEq>⟧.eq }
+    ensures subtype { TellsWhether IsSameSubtype ⟦<SubType as PartialEq>⟧.eq }
+    ensures group { TellsWhether IsSameGroup ⟦<RecGroup as PartialEq>⟧.eq }
+{}
+
+/// Two imports, or two exports, are equal exactly if all that they have is the same, names as texts.
+pub fn equal_imports_and_exports_are_the_same<'a>()
+    ensures import { TellsWhether IsSameImport ⟦<Import<'a> as PartialEq>⟧.eq }
+    ensures item { TellsWhether IsSameItem ⟦<ImportItemCompact<'a> as PartialEq>⟧.eq }
+    ensures export { TellsWhether IsSameExport ⟦<Export<'a> as PartialEq>⟧.eq }
+{}
+
+/// A copy of an item is the item itself.
+pub fn copies_are_the_same<'a>()
+    ensures expression { CopiesSame ⟦<ConstExpr<'a> as Clone>⟧.is_clone }
+    ensures body { CopiesSame ⟦<FunctionBody<'a> as Clone>⟧.is_clone }
+    ensures imports { CopiesSame ⟦<Imports<'a> as Clone>⟧.is_clone }
+    ensures table { CopiesSame ⟦<Table<'a> as Clone>⟧.is_clone }
+    ensures table_init { CopiesSame ⟦<TableInit<'a> as Clone>⟧.is_clone }
+    ensures global { CopiesSame ⟦<Global<'a> as Clone>⟧.is_clone }
+    ensures element { CopiesSame ⟦<Element<'a> as Clone>⟧.is_clone }
+    ensures element_kind { CopiesSame ⟦<ElementKind<'a> as Clone>⟧.is_clone }
+    ensures element_items { CopiesSame ⟦<ElementItems<'a> as Clone>⟧.is_clone }
+    ensures segment { CopiesSame ⟦<Data<'a> as Clone>⟧.is_clone }
+    ensures segment_kind { CopiesSame ⟦<DataKind<'a> as Clone>⟧.is_clone }
+    ensures value { CopiesSame ⟦<ValType as Clone>⟧.is_clone }
+    ensures reference { CopiesSame ⟦<RefType as Clone>⟧.is_clone }
+    ensures heap { CopiesSame ⟦<HeapType as Clone>⟧.is_clone }
+    ensures field { CopiesSame ⟦<FieldType as Clone>⟧.is_clone }
+    ensures storage { CopiesSame ⟦<StorageType as Clone>⟧.is_clone }
+    ensures table_type { CopiesSame ⟦<TableType as Clone>⟧.is_clone }
+    ensures memory { CopiesSame ⟦<MemoryType as Clone>⟧.is_clone }
+    ensures global_type { CopiesSame ⟦<GlobalType as Clone>⟧.is_clone }
+    ensures tag { CopiesSame ⟦<TagType as Clone>⟧.is_clone }
+    ensures tag_kind { CopiesSame ⟦<TagKind as Clone>⟧.is_clone }
+    ensures external_kind { CopiesSame ⟦<ExternalKind as Clone>⟧.is_clone }
+    ensures external { CopiesSame ⟦<TypeRef as Clone>⟧.is_clone }
+    ensures import { CopiesSame ⟦<Import<'a> as Clone>⟧.is_clone }
+    ensures item { CopiesSame ⟦<ImportItemCompact<'a> as Clone>⟧.is_clone }
+    ensures export { CopiesSame ⟦<Export<'a> as Clone>⟧.is_clone }
+{}
+
+/// An item that can be copied can always be copied: it takes no memory.
+pub fn copies_are_always_made<'a>()
+    ensures expression { CopiesAlways ⟦<ConstExpr<'a> as Clone>⟧.is_infallible }
+    ensures body { CopiesAlways ⟦<FunctionBody<'a> as Clone>⟧.is_infallible }
+    ensures imports { CopiesAlways ⟦<Imports<'a> as Clone>⟧.is_infallible }
+    ensures table { CopiesAlways ⟦<Table<'a> as Clone>⟧.is_infallible }
+    ensures table_init { CopiesAlways ⟦<TableInit<'a> as Clone>⟧.is_infallible }
+    ensures global { CopiesAlways ⟦<Global<'a> as Clone>⟧.is_infallible }
+    ensures element { CopiesAlways ⟦<Element<'a> as Clone>⟧.is_infallible }
+    ensures element_kind { CopiesAlways ⟦<ElementKind<'a> as Clone>⟧.is_infallible }
+    ensures element_items { CopiesAlways ⟦<ElementItems<'a> as Clone>⟧.is_infallible }
+    ensures segment { CopiesAlways ⟦<Data<'a> as Clone>⟧.is_infallible }
+    ensures segment_kind { CopiesAlways ⟦<DataKind<'a> as Clone>⟧.is_infallible }
+    ensures value { CopiesAlways ⟦<ValType as Clone>⟧.is_infallible }
+    ensures reference { CopiesAlways ⟦<RefType as Clone>⟧.is_infallible }
+    ensures heap { CopiesAlways ⟦<HeapType as Clone>⟧.is_infallible }
+    ensures field { CopiesAlways ⟦<FieldType as Clone>⟧.is_infallible }
+    ensures storage { CopiesAlways ⟦<StorageType as Clone>⟧.is_infallible }
+    ensures table_type { CopiesAlways ⟦<TableType as Clone>⟧.is_infallible }
+    ensures memory { CopiesAlways ⟦<MemoryType as Clone>⟧.is_infallible }
+    ensures global_type { CopiesAlways ⟦<GlobalType as Clone>⟧.is_infallible }
+    ensures tag { CopiesAlways ⟦<TagType as Clone>⟧.is_infallible }
+    ensures tag_kind { CopiesAlways ⟦<TagKind as Clone>⟧.is_infallible }
+    ensures external_kind { CopiesAlways ⟦<ExternalKind as Clone>⟧.is_infallible }
+    ensures external { CopiesAlways ⟦<TypeRef as Clone>⟧.is_infallible }
+    ensures import { CopiesAlways ⟦<Import<'a> as Clone>⟧.is_infallible }
+    ensures item { CopiesAlways ⟦<ImportItemCompact<'a> as Clone>⟧.is_infallible }
+    ensures export { CopiesAlways ⟦<Export<'a> as Clone>⟧.is_infallible }
+{}
