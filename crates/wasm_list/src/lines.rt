@@ -2,12 +2,12 @@
 ghost use Rattle.std.specs.Prelude.{◌≡◌, ◌++◌, Some, IfOk, codes, string_bytes};
 ghost use Rattle.wasm_base.specs.FaultAt.{fault_at};
 ghost use Rattle.wasm_parser.specs.Answers.{told_by};
-ghost use Rattle.wasm_list.specs.Listing.{encoding_name as name_of, field, line_of};
+ghost use Rattle.wasm_list.specs.Listing.{encoding_name as name_of, field, window_fields, line_of};
 ghost use Rattle.wasm_parser.specs.Reading.{stopped};
 
 use std::alloc::{AllocError, Allocator};
 use std::ops::Range;
-use wasm_parser::{Encoding, Error, Payload};
+use wasm_parser::{Encoding, Error, Payload, SectionLimited};
 
 fn encoding_name(encoding: Encoding) -> &'static str
     ensures { result.now ≡ name_of encoding }
@@ -18,17 +18,43 @@ fn encoding_name(encoding: Encoding) -> &'static str
     }
 }
 
-// The line of a section with this id that begins with a count.
-fn counted_line<A: Allocator>(
+// The line of a section with this id.
+fn counted_line<A: Allocator, T>(
     alloc: A,
     id: u8,
-    range: Range<u64>,
-    count: u32,
+    section: &SectionLimited<'_, T>,
 ) -> Result<String<A>, AllocError>
-    ensures { IfOk result (λ line. string_bytes line ≡ codes "section" ++ field id (field range.start (field range.end (field count (codes "\n"))))) }
+    ensures { IfOk result (λ line. string_bytes line ≡ codes "section" ++ field id (window_fields section.now.reader (field section.now.count (codes "\n")))) }
 {
+    let (range, count) = (section.range(), section.count());
     let (start, end) = (range.start, range.end);
     format!(in alloc; "section {id} {start} {end} {count}\n")
+}
+
+// The line of what has this word, a range and a number.
+fn number_line<A: Allocator>(
+    alloc: A,
+    word: &str,
+    range: &Range<u64>,
+    number: u32,
+) -> Result<String<A>, AllocError>
+    ensures { IfOk result (λ line. string_bytes line ≡ word.now ++ field range.now.start (field range.now.end (field number (codes "\n")))) }
+{
+    let (start, end) = (range.start, range.end);
+    format!(in alloc; "{word} {start} {end} {number}\n")
+}
+
+// The line of the start of a code section.
+fn code_line<A: Allocator>(
+    alloc: A,
+    range: &Range<u64>,
+    count: u32,
+    size: u32,
+) -> Result<String<A>, AllocError>
+    ensures { IfOk result (λ line. string_bytes line ≡ codes "code" ++ field range.now.start (field range.now.end (field count (field size (codes "\n"))))) }
+{
+    let (start, end) = (range.start, range.end);
+    format!(in alloc; "code {start} {end} {count} {size}\n")
 }
 
 /// The line of a payload.
@@ -48,35 +74,30 @@ pub(crate) fn payload_line<A: Allocator>(
             let (start, end, name) = (range.start, range.end, encoding_name(*encoding));
             format!(in alloc; "version {start} {end} {num} {name}\n")
         }
-        Payload::TypeSection(section) => counted_line(alloc, 1, section.range(), section.count()),
-        Payload::ImportSection(section) => counted_line(alloc, 2, section.range(), section.count()),
-        Payload::FunctionSection(section) => counted_line(alloc, 3, section.range(), section.count()),
-        Payload::TableSection(section) => counted_line(alloc, 4, section.range(), section.count()),
-        Payload::MemorySection(section) => counted_line(alloc, 5, section.range(), section.count()),
-        Payload::TagSection(section) => counted_line(alloc, 13, section.range(), section.count()),
-        Payload::GlobalSection(section) => counted_line(alloc, 6, section.range(), section.count()),
-        Payload::ExportSection(section) => counted_line(alloc, 7, section.range(), section.count()),
-        Payload::StartSection { func, range } => {
-            let (start, end) = (range.start, range.end);
-            format!(in alloc; "start {start} {end} {func}\n")
-        }
-        Payload::ElementSection(section) => counted_line(alloc, 9, section.range(), section.count()),
-        Payload::DataCountSection { count, range } => {
-            let (start, end) = (range.start, range.end);
-            format!(in alloc; "datacount {start} {end} {count}\n")
-        }
-        Payload::DataSection(section) => counted_line(alloc, 11, section.range(), section.count()),
+        Payload::TypeSection(section) => counted_line(alloc, 1, section),
+        Payload::ImportSection(section) => counted_line(alloc, 2, section),
+        Payload::FunctionSection(section) => counted_line(alloc, 3, section),
+        Payload::TableSection(section) => counted_line(alloc, 4, section),
+        Payload::MemorySection(section) => counted_line(alloc, 5, section),
+        Payload::TagSection(section) => counted_line(alloc, 13, section),
+        Payload::GlobalSection(section) => counted_line(alloc, 6, section),
+        Payload::ExportSection(section) => counted_line(alloc, 7, section),
+        Payload::StartSection { func, range } => number_line(alloc, "start", range, *func),
+        Payload::ElementSection(section) => counted_line(alloc, 9, section),
+        Payload::DataCountSection { count, range } => number_line(
+            alloc,
+            "datacount",
+            range,
+            *count,
+        ),
+        Payload::DataSection(section) => counted_line(alloc, 11, section),
         Payload::CodeSectionStart {
             count,
             unchecked_range,
             size,
-        } => {
-            let (start, end) = (unchecked_range.start, unchecked_range.end);
-            format!(in alloc; "code {start} {end} {count} {size}\n")
-        }
+        } => code_line(alloc, unchecked_range, *count, *size),
         Payload::CodeSectionEntry(body) => {
-            let range = body.range();
-            let (start, end) = (range.start, range.end);
+            let (start, end) = (body.range().start, body.range().end);
             format!(in alloc; "body {start} {end}\n")
         }
         Payload::CustomSection(section) => {

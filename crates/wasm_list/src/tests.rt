@@ -109,14 +109,8 @@ const LISTINGS: [(&[u8], &[u8]); 46] = [
         b"\x01\x01\0\x01\x01",
         b"section 1 10 11 0\nfault 13 section out of order\n",
     ),
-    (
-        b"\x0a\x02\x80\0",
-        b"code 10 12 0 0\nend 12\n",
-    ),
-    (
-        b"\x0a\0\0",
-        b"fault 10 unexpected end-of-file\n",
-    ),
+    (b"\x0a\x02\x80\0", b"code 10 12 0 0\nend 12\n"),
+    (b"\x0a\0\0", b"fault 10 unexpected end-of-file\n"),
     (
         b"\x0a\x02\x01\0",
         b"fault 10 function section is absent but code section has non-zero count\n",
@@ -137,10 +131,7 @@ const LISTINGS: [(&[u8], &[u8]); 46] = [
         b"\x03\x02\x02\0\x0a\x02\x02\0",
         b"section 3 10 12 2\ncode 14 16 2 1\nbody 16 16\nfault 16 unexpected end-of-file\n",
     ),
-    (
-        b"\x0b\x01\0",
-        b"section 11 10 11 0\nend 11\n",
-    ),
+    (b"\x0b\x01\0", b"section 11 10 11 0\nend 11\n"),
     (
         b"\x0c\x01\x01\x0b\x02\x02\0",
         b"datacount 10 11 1\nfault 15 data count and data section have inconsistent lengths\n",

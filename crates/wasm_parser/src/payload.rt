@@ -155,6 +155,20 @@ fn elided(payload: &Payload) -> &'static str {
     }
 }
 
+// A payload that is a number in a range.
+fn fmt_number<W: fmt::Write>(
+    f: &mut fmt::Formatter<W>,
+    name: &str,
+    field: &str,
+    number: &u32,
+    range: &Range<u64>,
+) -> fmt::Result {
+    f.debug_struct(name)
+        .field(field, number)
+        .field("range", range)
+        .finish()
+}
+
 impl<'a> fmt::Debug for Payload<'a> {
     fn fmt<W: fmt::Write>(&self, f: &mut fmt::Formatter<W>) -> fmt::Result {
         match self {
@@ -168,16 +182,12 @@ impl<'a> fmt::Debug for Payload<'a> {
                 .field("encoding", encoding)
                 .field("range", range)
                 .finish(),
-            Payload::StartSection { func, range } => f
-                .debug_struct("StartSection")
-                .field("func", func)
-                .field("range", range)
-                .finish(),
-            Payload::DataCountSection { count, range } => f
-                .debug_struct("DataCountSection")
-                .field("count", count)
-                .field("range", range)
-                .finish(),
+            Payload::StartSection { func, range } => {
+                fmt_number(f, "StartSection", "func", func, range)
+            }
+            Payload::DataCountSection { count, range } => {
+                fmt_number(f, "DataCountSection", "count", count, range)
+            }
             Payload::CodeSectionStart {
                 count,
                 unchecked_range,
