@@ -1,1 +1,5 @@
+pub mod ByHand
+pub mod Moves
+pub mod Resting
+pub mod Stepping
 pub mod Sums

@@ -1,2 +1,6 @@
 pub mod Careless
+pub mod Feed
+pub mod Step
+pub mod Taken
 pub mod Totals
+pub mod Turned

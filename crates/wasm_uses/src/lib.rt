@@ -2,9 +2,11 @@
 #![tactic(auto)]
 
 mod careless;
+mod feeder;
 #[cfg(test)]
 mod tests;
 mod walks;
 
 pub use careless::{AnyByte, Nothing};
+pub use feeder::{Feeder, Step, Turned};
 pub use walks::{check, total};
