@@ -1,3 +1,4 @@
+pub mod BodySums
 pub mod ByHand
 pub mod Moves
 pub mod Resting

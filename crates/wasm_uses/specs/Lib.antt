@@ -1,3 +1,4 @@
+pub mod Bodies
 pub mod Careless
 pub mod Feed
 pub mod Step

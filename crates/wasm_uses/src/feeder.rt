@@ -9,9 +9,11 @@ use wasm_base::Result;
 use wasm_parser::{Chunk, Parser, Payload};
 
 /// What one step of a feeder gives.
-#[derive(Drop)]
+#[derive(Debug, Drop)]
 pub enum Step<'a> {
+    /// More bytes are wanted, about so many.
     NeedMoreData(usize),
+    /// These bytes were consumed, and are this.
     Parsed {
         bytes: &'a [u8],
         payload: Payload<'a>,
