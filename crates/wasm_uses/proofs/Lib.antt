@@ -1,1 +1,6 @@
+pub mod BodySums
+pub mod ByHand
+pub mod Moves
+pub mod Resting
+pub mod Stepping
 pub mod Sums

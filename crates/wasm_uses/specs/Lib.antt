@@ -1,2 +1,7 @@
+pub mod Bodies
 pub mod Careless
+pub mod Feed
+pub mod Step
+pub mod Taken
 pub mod Totals
+pub mod Turned

@@ -1,10 +1,14 @@
 //! Callers of the readers, as users write them, each proved.
 #![tactic(auto)]
 
+mod bodies;
 mod careless;
+mod feeder;
 #[cfg(test)]
 mod tests;
 mod walks;
 
+pub use bodies::size_of_bodies;
 pub use careless::{AnyByte, Nothing};
+pub use feeder::{Feeder, Step, Turned};
 pub use walks::{check, total};

@@ -1,4 +1,6 @@
 // Worked examples.
+mod steps;
+
 ghost use Rattle.std.specs.Prelude.{◌+◌, ◌<◌, ◌^◌, length};
 
 use crate::{AnyByte, Nothing, check, total};

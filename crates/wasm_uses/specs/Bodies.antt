@@ -1,0 +1,53 @@
+-- The bytes that the bodies of a stream take.
+use Rattle.std.specs.Prelude.{◌≡◌, ℕ, ◌+◌, ◌<◌, ◌≤◌, ◌^◌, List, [], ◌∷◌, ◌++◌, length, Option, Some, None, Result, Ok, Err}
+use Rattle.wasm_base.specs.FaultAt.{FaultAt, fault_at}
+use Rattle.wasm_base.specs.declared.error.Error.{Error}
+use Rattle.wasm_parser.specs.Reading.{Told, version, counted, start_section, data_count_section, code_start, code_entry, custom_section, unknown_section, stopped, ending, Event, Reading}
+use Rattle.wasm_parser.specs.Spans.{consumed_by}
+use Rattle.wasm_parser.specs.Stands.{Stand, Stands}
+use Rattle.wasm_uses.specs.Feed.{Feed}
+use Rattle.wasm_uses.specs.Totals.{plus}
+
+-- of so many bytes those that are a body, unless this is the end
+abbrev pub size_told : ℕ → Told → Option ℕ
+size_told n (code_entry window) = Some n
+size_told n (ending offset) = None
+size_told n (version num encoding from to) = Some 0
+size_told n (counted id count window) = Some 0
+size_told n (start_section func from to) = Some 0
+size_told n (data_count_section count from to) = Some 0
+size_told n (code_start count from to size) = Some 0
+size_told n (custom_section name data_offset window) = Some 0
+size_told n (unknown_section id contents from to) = Some 0
+size_told n (stopped f) = Some 0
+
+-- an event that took so many bytes, before what comes of the later ones
+abbrev pub adds : ℕ → Told → Result ℕ FaultAt → Result ℕ FaultAt
+adds n (code_entry window) later = plus n later
+adds n (ending offset) later = Ok 0
+adds n (stopped f) later = Err f
+adds n (version num encoding from to) later = later
+adds n (counted id count window) later = later
+adds n (start_section func from to) later = later
+adds n (data_count_section count from to) later = later
+adds n (code_start count from to size) later = later
+adds n (custom_section name data_offset window) later = later
+adds n (unknown_section id contents from to) later = later
+
+-- the bytes that bodies take in these events, up to the end; or the fault
+abbrev pub bodies_in : List Event → Result ℕ FaultAt
+bodies_in [] = Ok 0
+bodies_in (e ∷ events) = adds (length e.consumed) e.told (bodies_in events)
+
+-- Wherever the parser stands in a stream whose rest this is, so much is the sum of the bodies in the events from there on.
+abbrev pub SumIs : Stand → (rest : List ℕ) → Result ℕ FaultAt → Type 0
+SumIs p rest sum =
+    (start : ℕ) (covered : List ℕ) → Stands p start covered → start + length covered + length rest < 2 ^ 64
+    → (before later : List Event) (e : Event) → Reading (covered ++ rest) start p.features (before ++ e ∷ later) → consumed_by before ≡ covered → bodies_in (e ∷ later) ≡ sum
+
+-- One step gave so much of the sum, and the rest of the bytes gives the rest of it; or the sum ends here, or a fault ends it.
+abbrev pub Adds : Feed → Result (Option ℕ) Error → Feed → Type 0
+Adds old (Ok (Some n)) new =
+    (n + length new.held ≤ length old.held) × (length new.held < length old.held) × ((sum : Result ℕ FaultAt) → SumIs new.stand new.held sum → SumIs old.stand old.held (plus n sum))
+Adds old (Ok None) new = SumIs old.stand old.held (Ok 0)
+Adds old (Err e) new = SumIs old.stand old.held (Err (fault_at e))

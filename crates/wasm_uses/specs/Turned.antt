@@ -1,0 +1,10 @@
+-- A feeder behind a turn.
+use Rattle.std.specs.Prelude.{◌≡◌, length}
+use Rattle.wasm_uses.specs.Feed.{Feed, HasMoved}
+use Rattle.wasm_uses.specs.declared.feeder.Turned.{Turned}
+
+pub record HasTurned (old : Feed) (result : Turned) (new : Feed) : Type 0 where
+  pub before : new.before ≡ old.stand
+  pub from : result.from ≡ length old.spent
+  pub here : result.feeder.now ≡ new
+  pub moved : HasMoved old new

@@ -1,0 +1,43 @@
+// The bytes that the bodies of a stream take.
+ghost use Rattle.std.specs.Prelude.{◌≡◌, List, length, Ok, Err, MatchResult};
+ghost use Rattle.wasm_base.specs.FaultAt.{fault_at};
+ghost use Rattle.wasm_parser.specs.Answers.{told_by};
+ghost use Rattle.wasm_parser.specs.Reading.{Event, Reading};
+ghost use Rattle.wasm_uses.specs.Bodies.{size_told, bodies_in, Adds};
+
+use crate::feeder::{Feeder, Step};
+use wasm_base::Result;
+use wasm_parser::Payload;
+
+/// How many bytes the bodies of a stream take, with their sizes; or the fault at which the stream stops.
+pub fn size_of_bodies(bytes: Vec<u8>) -> Result<u64>
+    ensures { (events : List Event) → Reading bytes.items 0 3 events → MatchResult result (λ n. bodies_in events ≡ Ok n) (λ e. bodies_in events ≡ Err (fault_at e)) }
+{
+    let mut feeder = Feeder::new(bytes, 0);
+    let mut total = 0;
+    while let Some(size) = next_size(&mut feeder)? {
+        total += size;
+    }
+    Ok(total)
+}
+
+// The bytes of the body that stands next, or 0 where something else does. None at the end.
+fn next_size(feeder: &mut Feeder) -> Result<Option<u64>>
+    ensures { Adds feeder.old result feeder.new }
+{
+    match feeder.turned().step()? {
+        Step::NeedMoreData(_) => unreachable!(),
+        Step::Parsed { bytes, payload } => Ok(size_in(bytes, payload)),
+    }
+}
+
+// How many of these bytes are a body, unless they are the end.
+fn size_in(bytes: &[u8], payload: Payload<'_>) -> Option<u64>
+    ensures { result ≡ size_told (length bytes.now) (told_by payload.entry) }
+{
+    match payload {
+        Payload::CodeSectionEntry(_) => Some(bytes.len() as u64),
+        Payload::End(_) => None,
+        _ => Some(0),
+    }
+}
