@@ -15,7 +15,7 @@ use crate::types::{
     StorageType, SubType, TableType, TagKind, TagType, ValType,
 };
 
-/// Two types that own no list are equal exactly if they are the same.
+/// Two types, kinds or externals, which own no list, are equal exactly if they are the same.
 pub fn equal_types_are_the_same()
     ensures value { TellsSame ⟦<ValType as PartialEq>⟧.eq }
     ensures reference { TellsSame ⟦<RefType as PartialEq>⟧.eq }

@@ -6,7 +6,7 @@ use crate::{ConstExpr, FunctionBody, HeapType, RefType, ValType};
 use std::test::Fail;
 use wasm_base::{BinaryReader, WasmFeatures};
 
-// A window of two bytes at 102, with no features.
+// A window of two bytes at 102, with one feature.
 fn window() -> BinaryReader<'static> {
     BinaryReader::new_features(&[0, 0x0b], 102, WasmFeatures::MEMORY64)
 }
