@@ -13,23 +13,25 @@ pub struct FunctionBody<'a> {
 }
 
 impl<'a> FunctionBody<'a> {
+    ghost use Rattle.wasm_items.specs.Held.{body_window};
+
     /// The body in a reader's window. No byte of it is looked at.
     pub fn new(reader: BinaryReader<'a>) -> Self
-        ensures { result ≡ record { reader = reader.entry } }
+        ensures { body_window result ≡ reader.entry }
     {
         FunctionBody { reader }
     }
 
     /// The reader that the body was made of, where it stood then.
     pub fn get_binary_reader(&self) -> BinaryReader<'a>
-        ensures { result ≡ self.now.reader }
+        ensures { result ≡ body_window self.now }
     {
         self.reader.clone().unwrap()
     }
 
     /// The offsets of the body, in bytes from the start of the whole stream.
     pub fn range(&self) -> Range<u64>
-        ensures { result ≡ record { start = self.now.reader.start; end = self.now.reader.start + length self.now.reader.bytes } }
+        ensures { let window = body_window self.now in result ≡ record { start = window.start; end = window.start + length window.bytes } }
     {
         self.reader.range()
     }

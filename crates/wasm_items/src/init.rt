@@ -12,23 +12,25 @@ pub struct ConstExpr<'a> {
 }
 
 impl<'a> ConstExpr<'a> {
+    ghost use Rattle.wasm_items.specs.Held.{expression_window};
+
     /// The expression in a reader's window. No instruction is looked at.
     pub fn new(reader: BinaryReader<'a>) -> Self
-        ensures { result ≡ record { reader = reader.entry } }
+        ensures { expression_window result ≡ reader.entry }
     {
         ConstExpr { reader }
     }
 
     /// The reader that the expression was made of, where it stood then.
     pub fn get_binary_reader(&self) -> BinaryReader<'a>
-        ensures { result ≡ self.now.reader }
+        ensures { result ≡ expression_window self.now }
     {
         self.reader.clone().unwrap()
     }
 
     /// The offsets of the expression, in bytes from the start of the whole stream.
     pub fn range(&self) -> Range<u64>
-        ensures { result ≡ record { start = self.now.reader.start; end = self.now.reader.start + length self.now.reader.bytes } }
+        ensures { let window = expression_window self.now in result ≡ record { start = window.start; end = window.start + length window.bytes } }
     {
         self.reader.range()
     }
