@@ -88,3 +88,18 @@ fn sections_by_their_payloads(rt: HostRuntime) -> Result<(), Fail> {
     assert_eq!(rt; count, wanted.len());
     Ok(())
 }
+
+#[test]
+fn sections_of_a_module_with_a_body(rt: HostRuntime) -> Result<(), Fail> {
+    let stream: &[u8] = b"\0asm\x01\0\0\0\x03\x02\x01\0\x0a\x04\x01\x02\0\x0b";
+    let wanted = [None, Some((3, 10..12)), Some((10, 14..18)), None, None];
+    let mut count = 0usize;
+    for payload in Parser::new(0).parse_all(stream) {
+        let section = payload?.as_section();
+        assert!(rt; count < wanted.len());
+        assert!(rt; section == wanted[count], "{count}");
+        count += 1;
+    }
+    assert_eq!(rt; count, wanted.len());
+    Ok(())
+}
