@@ -3,7 +3,7 @@ use Rattle.std.proofs.Common.{◌≡◌, ℕ, ◌+◌, ◌<◌, ◌^◌, true, f
 use Rattle.std.proofs.lemmas.List.{drop_at}
 use Rattle.std.specs.declared.ops.Range.{Range}
 use Rattle.std.specs.List.{cons_option}
-use Rattle.std.specs.Prelude.{◌↔◌, map, filter_map}
+use Rattle.std.specs.Prelude.{◌↔◌, map, filter_map, All}
 use Rattle.std.specs.Iterator.{Yields, Drains}
 use Rattle.wasm_base.specs.FaultAt.{fault_at}
 use Rattle.wasm_base.specs.declared.error.Error.{Error}
@@ -12,10 +12,10 @@ use Rattle.wasm_parser.specs.Content.{Ending, fault, ended}
 use Rattle.wasm_parser.specs.Grammar.{Tile, Verdict, tile, final, Grammar, verdict}
 use Rattle.wasm_parser.specs.Reading.{Told, stopped, ending, told_of, told_ending, Event, event_of, events_of, last_event, Reads, Reading}
 use Rattle.wasm_parser.specs.Sections.{section_of, sections_of, TiledBySections}
-use Rattle.wasm_parser.specs.Stands.{Stands, new_stand, grammar_of, passed}
+use Rattle.wasm_parser.specs.Stands.{Stand, Stands, new_stand, grammar_of, passed}
 use Rattle.wasm_parser.specs.Stream.{Stream}
 use Rattle.wasm_parser.specs.Tiling.{front, grammar, Faultless}
-use Rattle.wasm_parser.specs.Turns.{Walk, walk_over, consumed_between, GivesAnswer, NextPayload, sections_given, told_item, told_event, EndsAt, GivesReading}
+use Rattle.wasm_parser.specs.Turns.{Walk, walk_over, consumed_between, GivesAnswer, NextPayload, sections_given, told_item, told_event, EndsAt, GivesReading, WalksWhole}
 use Rattle.wasm_parser.specs.declared.payload.Chunk.TheVariants.{Parsed}
 use Rattle.wasm_parser.specs.declared.payload.Payload.{Payload}
 use Rattle.wasm_parser.proofs.Accepting.{accepted_ends}
@@ -181,7 +181,7 @@ mapped f h (x ∷ xs) = ap (cons_option (h (f x))) (mapped f h xs)
 same_sections : (given : List (Result Payload Error)) (events : List Event) → map told_item given ≡ map told_event events → sections_of events ≡ sections_given given
 same_sections given events e = mapped told_event section_of events ∙ (ap (filter_map section_of) (sym e) ∙ sym (mapped told_item section_of given))
 
-pub gives_reading : (start features : ℕ) (bytes : List ℕ) → Stream bytes start → GivesReading start features bytes
+gives_reading : (start features : ℕ) (bytes : List ℕ) → Stream bytes start → GivesReading start features bytes (walk_over (new_stand start features) bytes)
 gives_reading start features bytes stream = record {
   reading = λ given run events r.
       let w : ReadsOn start features bytes [] (map told_item given) = walk_reads start features bytes stream.fits given run in
@@ -204,3 +204,8 @@ gives_reading start features bytes stream = record {
       let w : ReadsOn start features bytes [] (map told_item given) = walk_reads start features bytes stream.fits given run in
       subst (λ (y : List (ℕ × Range ℕ)). TiledBySections bytes start y a.encoding a.frames) (same_sections given w.events w.tells) (sections_tile bytes start features w.events stream a w.reading);
 }
+
+-- the walk of a parser that has passed nothing
+pub walks_whole : (p : Stand) (bytes : List ℕ) (walk : Walk) → All (λ b. b < 256) bytes → walk ≡ walk_over p bytes → WalksWhole p bytes walk
+walks_whole p bytes walk each w start features same fits =
+    subst (GivesReading start features bytes) (sym (w ∙ ap (λ (q : Stand). walk_over q bytes) same)) (gives_reading start features bytes (record { each = each; fits = fits }))

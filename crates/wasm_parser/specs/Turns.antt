@@ -1,5 +1,5 @@
 -- A walk over the payloads of a whole stream.
-use Rattle.std.specs.Prelude.{◌≡◌, ◌↔◌, ℕ, ◌+◌, ◌-◌, Bool, true, false, List, [], ◌∷◌, length, drop, map, filter_map, Option, Some, None, Result, Ok, Err, if◌then◌else◌}
+use Rattle.std.specs.Prelude.{◌≡◌, ◌↔◌, ℕ, ◌+◌, ◌-◌, ◌<◌, ◌^◌, Bool, true, false, List, [], ◌∷◌, length, drop, map, filter_map, Option, Some, None, Result, Ok, Err, if◌then◌else◌}
 use Rattle.std.specs.declared.ops.Range.{Range}
 use Rattle.std.specs.Iterator.{Drains}
 use Rattle.wasm_base.specs.FaultAt.{fault_at}
@@ -60,9 +60,13 @@ EndsAt offset (x ∷ (y ∷ ys)) = EndsAt offset (y ∷ ys)
 abbrev pub sections_given : List (Result Payload Error) → List (ℕ × Range ℕ)
 sections_given given = filter_map (λ x. section_of (told_item x)) given
 
--- What a walk over these bytes gives, up to the first `None`, is the reading of a stream that starts at this offset;
--- its last is the end exactly if the stream is accepted, which then is a header and the sections that the payloads are.
-pub record GivesReading (start features : ℕ) (bytes : List ℕ) : Type 0 where
-  pub reading : (given : List (Result Payload Error)) → Drains NextPayload (walk_over (new_stand start features) bytes) given → (events : List Event) → Reading bytes start features events → map told_item given ≡ map told_event events
-  pub accepted : (given : List (Result Payload Error)) → Drains NextPayload (walk_over (new_stand start features) bytes) given → IsAccepted bytes ↔ EndsAt (start + length bytes) (map told_item given)
-  pub sections : (given : List (Result Payload Error)) → Drains NextPayload (walk_over (new_stand start features) bytes) given → (a : IsAccepted bytes) → TiledBySections bytes start (sections_given given) a.encoding a.frames
+-- What a walk gives up to its first `None` is the reading of this stream, which starts at this offset; its last is the end
+-- exactly if the stream is accepted, which then is a header and the sections that the payloads are.
+pub record GivesReading (start features : ℕ) (bytes : List ℕ) (walk : Walk) : Type 0 where
+  pub reading : (given : List (Result Payload Error)) → Drains NextPayload walk given → (events : List Event) → Reading bytes start features events → map told_item given ≡ map told_event events
+  pub accepted : (given : List (Result Payload Error)) → Drains NextPayload walk given → IsAccepted bytes ↔ EndsAt (start + length bytes) (map told_item given)
+  pub sections : (given : List (Result Payload Error)) → Drains NextPayload walk given → (a : IsAccepted bytes) → TiledBySections bytes start (sections_given given) a.encoding a.frames
+
+-- The same of the walk of a parser that has passed nothing, wherever its stream starts and whatever its features are.
+abbrev pub WalksWhole : Stand → List ℕ → Walk → Type 0
+WalksWhole p bytes walk = (start features : ℕ) → p ≡ new_stand start features → start + length bytes < 2 ^ 64 → GivesReading start features bytes walk

@@ -1,6 +1,6 @@
 // The parser of a stream.
 ghost use Rattle.std.specs.List.{list_all, list_any};
-ghost use Rattle.std.specs.Prelude.{⊤, ◌≡◌, ℕ, ◌+◌, ◌-◌, ◌<◌, ◌^◌, ◌==◌, ◌&&◌, not, IsTrue, IfOk, true, false, [], length, nat_lt, nat_le, nat_eq, option_to_list};
+ghost use Rattle.std.specs.Prelude.{⊤, ◌≡◌, ◌+◌, ◌-◌, ◌<◌, ◌^◌, ◌==◌, ◌&&◌, not, IsTrue, IfOk, true, false, [], length, nat_lt, nat_le, nat_eq, option_to_list};
 ghost use Rattle.wasm_base.specs.Header.{magic, agree};
 ghost use Rattle.wasm_base.specs.Outcome.{Gives};
 ghost use Rattle.wasm_base.specs.Window.{place, KeepsWindow};
@@ -15,7 +15,7 @@ ghost use Rattle.wasm_parser.specs.Single.{ReadsSingle};
 ghost use Rattle.wasm_parser.specs.BeginsWithHeader.{begins_with_header};
 ghost use Rattle.wasm_parser.specs.Stands.{new_stand, past_of, grammar_of};
 ghost use Rattle.wasm_parser.specs.TellsNext.{TellsNext};
-ghost use Rattle.wasm_parser.specs.Turns.{walk_over, GivesReading};
+ghost use Rattle.wasm_parser.specs.Turns.{walk_over, WalksWhole};
 ghost use Rattle.wasm_parser.specs.declared.payload.Encoding.TheVariants.{Module, Component};
 
 use crate::all::ParseAll;
@@ -174,7 +174,7 @@ impl Parser {
     /// ```
     pub fn parse_all<'a>(self, bytes: &'a [u8]) -> ParseAll<'a>
         ensures walks { result ≡ walk_over self bytes.now }
-        ensures reading { (start features : ℕ) → self ≡ new_stand start features → start + length bytes.now < 2 ^ 64 → GivesReading start features bytes.now }
+        ensures reading { WalksWhole self bytes.now result }
     {
         ParseAll::over(self, bytes)
     }
