@@ -1,5 +1,5 @@
 // What a parser knows behind what it told.
-ghost use Rattle.std.specs.Prelude.{◌≡◌, slice_index, nat_eq};
+ghost use Rattle.std.specs.Prelude.{◌≡◌};
 ghost use Rattle.wasm_parser.specs.Answers.{told_by};
 ghost use Rattle.wasm_parser.specs.Behind.{encoding_behind, rank_told, count_told, count_behind, bodies_behind, left_behind};
 ghost use Rattle.wasm_parser.specs.Stands.{rank_after as rank_behind};

@@ -1,17 +1,14 @@
 // The parser of a stream.
 ghost use Rattle.std.specs.List.{list_all, list_any};
-ghost use Rattle.std.specs.Prelude.{⊤, ◌≡◌, ◌+◌, ◌-◌, ◌<◌, ◌^◌, ◌==◌, ◌&&◌, not, IsTrue, IfOk, true, false, [], length, nat_lt, nat_le, nat_eq, option_to_list};
-ghost use Rattle.wasm_base.specs.Header.{magic, agree};
+ghost use Rattle.std.specs.Prelude.{⊤, ◌≡◌, ◌+◌, ◌-◌, ◌<◌, ◌^◌, ◌==◌, ◌&&◌, not, IsTrue, true, false, [], length, nat_lt, nat_eq, option_to_list};
 ghost use Rattle.wasm_base.specs.Outcome.{Gives};
-ghost use Rattle.wasm_base.specs.Window.{place, KeepsWindow};
+ghost use Rattle.wasm_base.specs.Window.{place};
 ghost use Rattle.wasm_parser.specs.Answers.{told_by, IsTold, StandsThere, Passes, Consumes, Parses};
-ghost use Rattle.wasm_parser.specs.Content.{custom, items, index, data_count, unknown, kind_of as form_of};
-ghost use Rattle.wasm_parser.specs.ContentAt.{content_at};
-ghost use Rattle.wasm_parser.specs.Counts.{kind_of_module, ReadsCounted, is_miscounted_by};
-ghost use Rattle.wasm_parser.specs.Grammar.{verdict, header_grammar, section_grammar, framed as framed_grammar, sized as sized_grammar, content_grammar, whole_grammar, code_grammar, body_grammar, encoding_named as named};
+ghost use Rattle.wasm_parser.specs.Content.{custom, items, data_count, unknown, kind_of as form_of};
+ghost use Rattle.wasm_parser.specs.Counts.{kind_of_module, is_miscounted_by};
+ghost use Rattle.wasm_parser.specs.Grammar.{verdict, section_grammar, framed as framed_grammar, sized as sized_grammar, content_grammar, whole_grammar, code_grammar, body_grammar};
 ghost use Rattle.wasm_parser.specs.Kinds.{kind_is};
 ghost use Rattle.wasm_parser.specs.Reading.{window_over};
-ghost use Rattle.wasm_parser.specs.Single.{ReadsSingle};
 ghost use Rattle.wasm_parser.specs.BeginsWithHeader.{begins_with_header};
 ghost use Rattle.wasm_parser.specs.Stands.{new_stand, past_of, grammar_of};
 ghost use Rattle.wasm_parser.specs.TellsNext.{TellsNext};
@@ -34,9 +31,7 @@ use wasm_items::FunctionBody;
 ///
 /// A parser holds no bytes: it knows where it stands in the stream, and what of the parts before that the next one
 /// must fit. `parse` is handed the rest of the stream and answers the part that stands next there; `parse_all` walks
-/// over a whole stream. Offsets count bytes from the start of the stream, which itself may begin at any offset.
-///
-/// A `default` parser, and a copy, are told apart by nothing from `Parser::new(0)` and from the parser that was copied.
+/// over a whole stream. Offsets count bytes from the start of the whole stream, which may begin at any offset.
 #[derive(Debug, Drop)]
 pub struct Parser {
     offset: u64,
@@ -85,6 +80,7 @@ impl Clone for Parser {
     }
 }
 
+/// A parser of a stream that begins at offset 0.
 impl Default for Parser {
     ghost is_default = { λ parser. parser ≡ new_stand 0 3 };
 
@@ -140,7 +136,8 @@ impl Parser {
         self.features = features;
     }
 
-    /// A reader of these bytes, which begin at this offset of the whole stream, with the parser's features.
+    /// A reader of these bytes, which begin at this offset of the whole stream, with the parser's features. The offset and
+    /// the length together must not pass 2^64 - 1, as `fits` tells.
     pub fn binary_reader<'a>(&self, bytes: &'a [u8], offset: u64) -> BinaryReader<'a>
         requires { offset + length bytes.now < 2 ^ 64 }
         ensures { result ≡ window_over self.now.features offset bytes.now }
