@@ -335,13 +335,17 @@ impl Parser {
     ///
     /// ```text
     /// loop {
-    ///     match parser.parse(rest, true)? {
-    ///         Chunk::Parsed { payload: Payload::End(_), .. } => break,
-    ///         Chunk::Parsed { consumed, payload } => {
-    ///             // payload borrows rest
-    ///             rest = &rest[consumed..];
+    ///     match parser.parse(rest, true) {
+    ///         Ok(Chunk::Parsed { consumed, payload }) => {
+    ///             if let Payload::End(_) = payload {
+    ///                 return Ok(());
+    ///             }
+    ///             look_at(&payload);
+    ///             drop(payload);
+    ///             rest = rest.split_at(consumed).1;
     ///         }
-    ///         Chunk::NeedMoreData(_) => unreachable!(),
+    ///         Ok(Chunk::NeedMoreData(_)) => unreachable!(),
+    ///         Err(error) => return Err(error),
     ///     }
     /// }
     /// ```
