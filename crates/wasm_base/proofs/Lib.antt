@@ -3,5 +3,7 @@ pub mod Numbers
 pub mod OneOutcome
 pub mod Pages
 pub mod Runs
+pub mod SameFaults
+pub mod Telling
 pub mod Texts
 pub mod Walks

@@ -1,3 +1,4 @@
+pub mod Comparing
 pub mod FaultAt
 pub mod Found
 pub mod Groups

@@ -1,8 +1,16 @@
-//! What holds of whole runs of the iterators over a section, whatever its items are.
+//! What holds of whole runs of the iterators over a section, whatever its items are, and what comparing and copying
+//! tell.
+ghost use Rattle.std.specs.Prelude.{◌≡◌};
+ghost use Rattle.wasm_base.specs.Comparing.{TellsWhether, TellsSame, CopiesSame, CopiesAlways};
+ghost use Rattle.wasm_base.specs.FaultAt.{fault_at};
 ghost use Rattle.wasm_base.specs.Item.{AllowsOne, Determines};
 ghost use Rattle.wasm_base.specs.Section.{Section, Items, AtItsOffset, GivesItems, GivesTheSame, GivesEqual, told, told_item};
 
+use crate::error::Error;
+use crate::fault::{CoreStart, Fault, Lead, NumberKind};
+use crate::features::WasmFeatures;
 use crate::item::FromReader;
+use crate::reader::BinaryReader;
 use crate::section::{SectionLimited, SectionLimitedIntoIter, SectionLimitedIntoIterWithOffsets};
 
 /// Calls of `next` up to the first `None` give the items of the window, and nothing comes behind that `None`. The
@@ -42,4 +50,40 @@ pub fn these_allow_one_outcome<'a, T: FromReader<'a>, U: FromReader<'a>>()
     ensures name { AllowsOne ⟦<&'a str as FromReader<'a>>⟧.meaning }
     ensures pair { AllowsOne T.meaning → AllowsOne U.meaning → AllowsOne ⟦<(T, U) as FromReader<'a>>⟧.meaning }
     ensures determined_pair { Determines T.meaning → Determines U.meaning → Determines ⟦<(T, U) as FromReader<'a>>⟧.meaning }
+{}
+
+/// Two faults, sorts within faults or sets of features are equal exactly if they are the same.
+pub fn equal_faults_are_the_same()
+    ensures number_kind { TellsSame ⟦<NumberKind as PartialEq>⟧.eq }
+    ensures lead { TellsSame ⟦<Lead as PartialEq>⟧.eq }
+    ensures core_start { TellsSame ⟦<CoreStart as PartialEq>⟧.eq }
+    ensures fault { TellsSame ⟦<Fault as PartialEq>⟧.eq }
+    ensures features { TellsSame ⟦<WasmFeatures as PartialEq>⟧.eq }
+{}
+
+/// Two errors are equal exactly if they tell the same: fault, offset and number. The hint is not compared.
+pub fn equal_errors_tell_the_same()
+    ensures { TellsWhether (λ one other. fault_at one ≡ fault_at other) ⟦<Error as PartialEq>⟧.eq }
+{}
+
+/// A copy of a fault, of an error, its hint with it, of a set of features or of a reader is the same.
+pub fn copies_are_the_same<'a>()
+    ensures error { CopiesSame ⟦<Error as Clone>⟧.is_clone }
+    ensures fault { CopiesSame ⟦<Fault as Clone>⟧.is_clone }
+    ensures number_kind { CopiesSame ⟦<NumberKind as Clone>⟧.is_clone }
+    ensures lead { CopiesSame ⟦<Lead as Clone>⟧.is_clone }
+    ensures core_start { CopiesSame ⟦<CoreStart as Clone>⟧.is_clone }
+    ensures features { CopiesSame ⟦<WasmFeatures as Clone>⟧.is_clone }
+    ensures reader { CopiesSame ⟦<BinaryReader<'a> as Clone>⟧.is_clone }
+{}
+
+/// Faults, errors, sets of features and readers can always be copied: it takes no memory.
+pub fn copies_are_always_made<'a>()
+    ensures error { CopiesAlways ⟦<Error as Clone>⟧.is_infallible }
+    ensures fault { CopiesAlways ⟦<Fault as Clone>⟧.is_infallible }
+    ensures number_kind { CopiesAlways ⟦<NumberKind as Clone>⟧.is_infallible }
+    ensures lead { CopiesAlways ⟦<Lead as Clone>⟧.is_infallible }
+    ensures core_start { CopiesAlways ⟦<CoreStart as Clone>⟧.is_infallible }
+    ensures features { CopiesAlways ⟦<WasmFeatures as Clone>⟧.is_infallible }
+    ensures reader { CopiesAlways ⟦<BinaryReader<'a> as Clone>⟧.is_infallible }
 {}

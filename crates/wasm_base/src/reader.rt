@@ -17,14 +17,12 @@ use crate::error::{Error, Result};
 use crate::fault::{Fault, NumberKind};
 use crate::features::WasmFeatures;
 use crate::item::FromReader;
+use crate::limits::MAX_WASM_STRING_SIZE;
 use crate::number::{Found, number_in};
 use bitflags::Flags;
 use std::alloc::AllocError;
 use std::marker::Model;
 use std::ops::Range;
-
-/// The most bytes of a name.
-const NAME_LIMIT: u32 = 100_000;
 
 /// A window of the stream, and a place in it.
 ///
@@ -322,11 +320,11 @@ impl<'a> BinaryReader<'a> {
         ensures gives { Gives (λ text. text.now) result (place self.new) (text_at (Some name_limit) (place self.old)) }
         ensures keeps { KeepsWindow self.old self.new }
     {
-        let size = self.read_var_u32()?;
-        if size > NAME_LIMIT {
+        let size = self.read_var_u32()? as usize;
+        if size > MAX_WASM_STRING_SIZE {
             return Err(Error::new(Fault::StringSize, self.last_offset()));
         }
-        self.read_text(size as usize)
+        self.read_text(size)
     }
 
     /// Reads a size, a u32, and a window of so many bytes, with the same features. `UnexpectedEof` behind the size,

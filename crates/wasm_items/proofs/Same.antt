@@ -1,14 +1,12 @@
 -- Derived comparisons tell whether two values are the same.
-use Rattle.std.proofs.Common.{◌≡◌, ℕ, Bool, true, false, ◌&&◌, Option, List, nat_eq, refl, ap, subst, sym}
+use Rattle.std.proofs.Common.{◌≡◌, ℕ, true, List, nat_eq, refl, ap, subst, sym}
 use lib.Pointwise.{pointwise}
-use Rattle.std.specs.Prelude.{Some, None}
-use Rattle.std.proofs.lemmas.Bool.{eqb-true, eq-eqb}
 use Rattle.std.specs.Cmp.Derive.{both_true}
-use Rattle.std.specs.Option.{option_eq}
-use Rattle.std.specs.contracts.prelude.BoolPartialEq.TheImpl as Truth
 use Rattle.std.specs.Cmp.Lexicographic.{same_text}
 use Rattle.std.proofs.lemmas.Cmp.{nat_list_eq_equiv}
-use Rattle.wasm_items.specs.Same.{TellsSame, TellsWhether, IsSameImport, IsSameItem, IsSameExport}
+use Rattle.wasm_base.proofs.Telling.{Tells, back, both_of, number, truth, option}
+use Rattle.wasm_base.specs.Comparing.{TellsWhether}
+use Rattle.wasm_items.specs.Same.{IsSameImport, IsSameItem, IsSameExport}
 use Rattle.wasm_items.specs.contracts.types.HeapTypePartialEq.TheImpl as HeapTypeCompared
 use Rattle.wasm_items.specs.contracts.types.RefTypePartialEq.TheImpl as RefTypeCompared
 use Rattle.wasm_items.specs.contracts.types.ValTypePartialEq.TheImpl as ValTypeCompared
@@ -45,46 +43,6 @@ use Rattle.wasm_items.specs.declared.types.StorageType.TheVariants as Storage
 use Rattle.wasm_items.specs.declared.types.TagKind.TheVariants as Kind
 use Rattle.wasm_items.specs.declared.imports.TypeRef.TheVariants as External
 use Rattle.wasm_items.specs.declared.exports.ExternalKind.TheVariants as Exported
-
--- a comparison that is true of a value and itself, and of no others
-pub record Tells {A : Type 0} (compare : A → A → Bool) : Type 0 where
-  pub same : (one other : A) → compare one other ≡ true → one ≡ other
-  pub itself : (one : A) → compare one one ≡ true
-
-pub told : {A : Type 0} {compare : A → A → Bool} → Tells compare → TellsSame compare
-told {A = A} {compare = compare} t one other =
-    (t.same one other, λ is. subst (λ (x : A). compare one x ≡ true) is (t.itself one))
-
-pub both_of : {s t : Bool} → (s && t) ≡ true → (s ≡ true) × (t ≡ true)
-both_of {s = true} {t = t} h = (refl, h)
-both_of {s = false} {t = t} h = cc
-
-pub number : Tells nat_eq
-number = record { same = eqb-true; itself = λ n. eq-eqb n n refl }
-
-truth_same : (one other : Bool) → (Truth.ghosts).eq one other ≡ true → one ≡ other
-truth_same true true h = refl
-truth_same false false h = refl
-truth_same one other h = cc
-
-truth_itself : (one : Bool) → (Truth.ghosts).eq one one ≡ true
-truth_itself true = refl
-truth_itself false = refl
-
-pub truth : Tells (Truth.ghosts).eq
-truth = record { same = truth_same; itself = truth_itself }
-
-option_same : {A : Type 0} {compare : A → A → Bool} → Tells compare → (one other : Option A) → option_eq compare one other ≡ true → one ≡ other
-option_same t None None h = refl
-option_same t (Some one) (Some other) h = ap Some (t.same one other h)
-option_same t one other h = cc
-
-option_itself : {A : Type 0} {compare : A → A → Bool} → Tells compare → (one : Option A) → option_eq compare one one ≡ true
-option_itself t None = refl
-option_itself t (Some one) = t.itself one
-
-pub option : {A : Type 0} {compare : A → A → Bool} → Tells compare → Tells (option_eq compare)
-option t = record { same = option_same t; itself = option_itself t }
 
 heap_same : (one other : HeapType) → (HeapTypeCompared.ghosts).eq one other ≡ true → one ≡ other
 heap_same Heap.Func Heap.Func h = refl
@@ -275,9 +233,6 @@ exported_itself Exported.FuncExact = refl
 
 pub exported : Tells (ExternalKindCompared.ghosts).eq
 exported = record { same = exported_same; itself = exported_itself }
-
-pub back : {A : Type 0} {compare : A → A → Bool} → Tells compare → {one other : A} → one ≡ other → compare one other ≡ true
-back {A = A} {compare = compare} t {one = one} is = subst (λ (x : A). compare one x ≡ true) is (t.itself one)
 
 text_same : (one other : List ℕ) → pointwise nat_eq one other ≡ true → one ≡ other
 text_same one other h = same_text one other (sym h)

@@ -3,8 +3,10 @@ use Rattle.std.proofs.Common.{◌≡◌, Bool, true, List, [], ◌∷◌, refl}
 use lib.Pointwise.{pointwise}
 use Rattle.std.specs.Cmp.Derive.{both_true}
 use Rattle.std.specs.List.{AllZip}
-use Rattle.wasm_items.proofs.Same.{Tells, both_of, back, truth, number, option, value, field}
-use Rattle.wasm_items.specs.Same.{TellsWhether, IsSameFunction, IsSameComposite, IsSameSubtype, IsSameGroup}
+use Rattle.wasm_base.proofs.Telling.{Tells, both_of, back, truth, number, option}
+use Rattle.wasm_base.specs.Comparing.{TellsWhether}
+use Rattle.wasm_items.proofs.Same.{value, field}
+use Rattle.wasm_items.specs.Same.{IsSameFunction, IsSameComposite, IsSameSubtype, IsSameGroup}
 use Rattle.wasm_items.specs.contracts.types.FuncTypePartialEq.TheImpl as FuncTypeCompared
 use Rattle.wasm_items.specs.contracts.types.CompositeTypePartialEq.TheImpl as CompositeTypeCompared
 use Rattle.wasm_items.specs.contracts.types.SubTypePartialEq.TheImpl as SubTypeCompared

@@ -1,6 +1,6 @@
--- Comparisons that tell whether two values are the same.
+-- When two items are the same.
 use Rattle.std.specs.List.{AllZip}
-use Rattle.std.specs.Prelude.{◌≡◌, ◌↔◌, Bool, IsTrue}
+use Rattle.std.specs.Prelude.{◌≡◌}
 use Rattle.wasm_items.specs.declared.exports.Export.{Export}
 use Rattle.wasm_items.specs.declared.imports.Import.{Import}
 use Rattle.wasm_items.specs.declared.imports.ImportItemCompact.{ImportItemCompact}
@@ -9,14 +9,6 @@ use Rattle.wasm_items.specs.declared.types.CompositeType.TheVariants.{Func, Arra
 use Rattle.wasm_items.specs.declared.types.FuncType.{FuncType}
 use Rattle.wasm_items.specs.declared.types.RecGroup.{RecGroup}
 use Rattle.wasm_items.specs.declared.types.SubType.{SubType}
-
--- The comparison is true of two values exactly if they are so.
-abbrev pub TellsWhether : {A : Type 0} → (A → A → Type 0) → (A → A → Bool) → Type 0
-TellsWhether {A = A} same compare = (one other : A) → IsTrue (compare one other) ↔ same one other
-
--- The comparison is true of two values exactly if they are the same.
-abbrev pub TellsSame : {A : Type 0} → (A → A → Bool) → Type 0
-TellsSame compare = TellsWhether (λ one other. one ≡ other) compare
 
 -- Two imports have the same names and the same type.
 pub record IsSameImport (one other : Import) : Type 0 where

@@ -1,6 +1,6 @@
 //! What comparing items tells.
-ghost use Rattle.wasm_items.specs.Copy.{CopiesSame, CopiesAlways};
-ghost use Rattle.wasm_items.specs.Same.{TellsWhether, TellsSame, IsSameImport, IsSameItem, IsSameExport, IsSameFunction, IsSameComposite, IsSameSubtype, IsSameGroup};
+ghost use Rattle.wasm_base.specs.Comparing.{TellsWhether, TellsSame, CopiesSame, CopiesAlways};
+ghost use Rattle.wasm_items.specs.Same.{IsSameImport, IsSameItem, IsSameExport, IsSameFunction, IsSameComposite, IsSameSubtype, IsSameGroup};
 
 use crate::code::FunctionBody;
 use crate::data::{Data, DataKind};

@@ -1,7 +1,11 @@
-//! Laws of the definitions of framing, each the contract of a function that does nothing.
+//! Laws of the definitions of framing, and what comparing and copying encodings tells, each the contract of a function
+//! that does nothing.
+ghost use Rattle.wasm_base.specs.Comparing.{TellsSame, CopiesSame, CopiesAlways};
 ghost use Rattle.wasm_parser.specs.Laws.{AcceptedEnds, EventsLieEndToEnd, FaultEnds, FaultLiesWithin, LongestTiling, OneReading, ParserSuffices, SomeReading, StartOnlyMoves, TilesStandAlone};
 ghost use Rattle.wasm_parser.specs.SectionLaws.{BodiesFollowTheirCount, RanksAscend, SectionsTile};
 ghost use Rattle.wasm_parser.specs.Worked.{EdgesOfRules, WorkedStreams};
+
+use crate::payload::Encoding;
 
 /// Two readings of one stream are one.
 pub fn one_reading()
@@ -84,4 +88,11 @@ pub fn ranks_ascend()
 /// fewer bodies, and then a fault, which is its last event.
 pub fn bodies_follow_their_count()
     ensures { BodiesFollowTheirCount }
+{}
+
+/// Two encodings are equal exactly if they are the same. A copy of an encoding is the same, and can always be made.
+pub fn equal_encodings_are_the_same()
+    ensures equal { TellsSame ⟦<Encoding as PartialEq>⟧.eq }
+    ensures copy { CopiesSame ⟦<Encoding as Clone>⟧.is_clone }
+    ensures copied { CopiesAlways ⟦<Encoding as Clone>⟧.is_infallible }
 {}

@@ -1,4 +1,5 @@
-use Rattle.wasm_items.proofs.Same.{told, value, reference, field, storage, table, memory, global, external, heap}
+use Rattle.wasm_base.proofs.Telling.{told}
+use Rattle.wasm_items.proofs.Same.{value, reference, field, storage, table, memory, global, external, heap}
 use Rattle.wasm_items.proofs.laws.equal_types_are_the_same.Goals as goal
 
 pub returns-clause-value : goal.returns-clause-value

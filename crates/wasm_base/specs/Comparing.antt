@@ -1,0 +1,18 @@
+-- What comparisons and copies say of values of any type.
+use Rattle.std.specs.Prelude.{◌≡◌, ◌↔◌, Bool, IsTrue}
+
+-- The comparison is true of two values exactly if they are so.
+abbrev pub TellsWhether : {A : Type 0} → (A → A → Type 0) → (A → A → Bool) → Type 0
+TellsWhether {A = A} same compare = (one other : A) → IsTrue (compare one other) ↔ same one other
+
+-- The comparison is true of two values exactly if they are the same.
+abbrev pub TellsSame : {A : Type 0} → (A → A → Bool) → Type 0
+TellsSame compare = TellsWhether (λ one other. one ≡ other) compare
+
+-- What counts as a copy of a value is the value itself.
+abbrev pub CopiesSame : {A : Type 0} → (A → A → Type 0) → Type 0
+CopiesSame {A = A} is_clone = (one copy : A) → is_clone one copy → copy ≡ one
+
+-- A copy can always be made.
+abbrev pub CopiesAlways : {A : Type 0} → (A → Type 0) → Type 0
+CopiesAlways {A = A} is_infallible = (one : A) → is_infallible one
