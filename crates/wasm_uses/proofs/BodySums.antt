@@ -22,6 +22,7 @@ use Rattle.wasm_uses.specs.Totals.{plus}
 use Rattle.wasm_uses.specs.declared.feeder.Step.{Step}
 use Rattle.wasm_uses.specs.declared.feeder.Step.TheVariants.{Parsed}
 use Rattle.wasm_uses.proofs.Moves.{moves}
+use Rattle.wasm_uses.proofs.Sums.{plus_twice}
 
 -- ---- what a payload adds
 
@@ -170,10 +171,6 @@ fault_adds old new f s start covered stands fits before later e reading c =
     ap (λ (x : Told). adds (length e.consumed) x (bodies_in later)) t.0
 
 -- ---- the whole stream
-
-plus_twice : (m n : ℕ) (r : Result ℕ FaultAt) → plus m (plus n r) ≡ plus (m + n) r
-plus_twice m n (Ok k) = ap Ok (omega arith)
-plus_twice m n (Err e) = refl
 
 -- So much of a stream's sum was found, and the rest of it is that of the bytes that are left.
 pub record Counted (stream : List ℕ) (total : ℕ) (feed : Feed) : Type 0 where

@@ -13,7 +13,7 @@ use Rattle.wasm_base.specs.declared.fault.NumberKind.TheVariants.{VarU32}
 use Rattle.wasm_base.proofs.Walks.{item_came, fault_came}
 use Rattle.wasm_uses.specs.Totals.{total_at, plus}
 
-plus_twice : (m n : ℕ) (r : Result ℕ FaultAt) → plus m (plus n r) ≡ plus (m + n) r
+pub plus_twice : (m n : ℕ) (r : Result ℕ FaultAt) → plus m (plus n r) ≡ plus (m + n) r
 plus_twice m n (Ok k) = ap Ok (omega arith)
 plus_twice m n (Err e) = refl
 
