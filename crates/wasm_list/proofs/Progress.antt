@@ -1,5 +1,5 @@
 -- How far a listing has come, and what each step does to it.
-use Rattle.std.proofs.Common.{◌≡◌, ℕ, ◌+◌, ◌-◌, ◌^◌, ◌<◌, ◌≤◌, true, false, List, [], ◌∷◌, ◌++◌, length, take, drop, Option, Some, None, Result, Ok, Err, zero, suc, refl, sym, ap, subst, subst₂, ◌∙◌, arith, le_refl, append_assoc, append-nil, length-append, zero-add}
+use Rattle.std.proofs.Common.{◌≡◌, ℕ, ◌+◌, ◌-◌, ◌^◌, ◌<◌, ◌≤◌, List, [], ◌∷◌, ◌++◌, length, take, drop, Option, Some, Ok, Err, zero, suc, refl, sym, ap, subst, subst₂, ◌∙◌, arith, le_refl, append_assoc, append-nil, length-append}
 use Rattle.std.proofs.lemmas.List.{drop_at, take-append-drop}
 use Rattle.std.specs.Io.KnownBytes.{Appends}
 use Rattle.std.proofs.KnownBytes.{Appends-nil, Appends-trans}
@@ -11,14 +11,13 @@ use Rattle.wasm_base.specs.Name.{Name, named, refused, name_limit, name}
 use Rattle.wasm_parser.specs.Grammar.{Shape, header, section, code_head, body, Tile, Verdict, tile, final, Grammar, verdict}
 use Rattle.wasm_list.specs.Listing.{line_of, event_line, listing_of}
 use Rattle.wasm_list.specs.Lists.{all_features, IsEndedBy, IsListed, IsBeginning, Writes, IsCutShort, ListsBytes, Lists}
-use Rattle.wasm_parser.specs.Reading.{ending, stopped, Event, told_of, told_custom, told_ending, event_of, events_of, last_event, Reads, Reading}
-use Rattle.wasm_parser.specs.Stands.{Stand, new_stand, Stands, grammar_of, passed, is_start}
-use Rattle.wasm_parser.specs.Tiling.{front, grammar, Faultless, encoding_of}
+use Rattle.wasm_parser.specs.Reading.{ending, stopped, Event, told_of, told_custom, event_of, events_of, last_event, Reads, Reading}
+use Rattle.wasm_parser.specs.Stands.{Stand, new_stand, Stands, grammar_of, passed}
+use Rattle.wasm_parser.specs.Tiling.{front, grammar, Faultless}
 use Rattle.wasm_list.specs.declared.listing.Ended.{Ended}
 use Rattle.wasm_list.specs.declared.listing.Ended.TheVariants.{End, Fault}
 use Rattle.wasm_list.specs.declared.listing.ListError.{ListError}
 use Rattle.wasm_list.specs.declared.listing.ListError.TheVariants.{Input, Output, Memory}
-use Rattle.wasm_parser.specs.declared.payload.Chunk.{Chunk}
 use Rattle.wasm_parser.specs.declared.payload.Chunk.TheVariants.{Parsed}
 use Rattle.wasm_parser.specs.declared.payload.Payload.{Payload}
 use Rattle.wasm_parser.specs.declared.payload.Payload.TheVariants as payloads

@@ -1,5 +1,5 @@
 -- The listing of a reading: a line for each event.
-use Rattle.std.specs.Prelude.{ℕ, ◌+◌, List, [], ◌++◌, length, codes, decimal, Option, Some, None}
+use Rattle.std.specs.Prelude.{ℕ, ◌+◌, List, ◌++◌, length, codes, decimal, Option, Some, None}
 use Rattle.std.specs.List.{flat_map}
 use Rattle.wasm_base.specs.Message.{message_of}
 use Rattle.wasm_base.specs.Window.{Window}
