@@ -1,5 +1,5 @@
 -- The bytes that the bodies of a stream take.
-use Rattle.std.specs.Prelude.{◌≡◌, ℕ, ◌+◌, ◌<◌, ◌≤◌, ◌^◌, List, [], ◌∷◌, ◌++◌, length, Option, Some, None, Result, Ok, Err}
+use Rattle.std.specs.Prelude.{◌≡◌, ℕ, ◌+◌, ◌<◌, ◌≤◌, ◌^◌, List, [], ◌∷◌, ◌++◌, length, Option, Some, None, Result, Ok, Err, MatchResult}
 use Rattle.wasm_base.specs.FaultAt.{FaultAt, fault_at}
 use Rattle.wasm_base.specs.declared.error.Error.{Error}
 use Rattle.wasm_parser.specs.Reading.{Told, version, counted, start_section, data_count_section, code_start, code_entry, custom_section, unknown_section, stopped, ending, Event, Reading}
@@ -38,6 +38,11 @@ adds n (unknown_section id contents from to) later = later
 abbrev pub bodies_in : List Event → Result ℕ FaultAt
 bodies_in [] = Ok 0
 bodies_in (e ∷ events) = adds (length e.consumed) e.told (bodies_in events)
+
+-- The bodies of the stream take so many bytes by its reading, with all features and from offset 0; or this is the fault
+-- at which the reading stops.
+abbrev pub IsSizeOfBodies : List ℕ → Result ℕ Error → Type 0
+IsSizeOfBodies stream result = (events : List Event) → Reading stream 0 3 events → MatchResult result (λ n. bodies_in events ≡ Ok n) (λ e. bodies_in events ≡ Err (fault_at e))
 
 -- Wherever the parser stands in a stream whose rest this is, so much is the sum of the bodies in the events from there on.
 abbrev pub SumIs : Stand → (rest : List ℕ) → Result ℕ FaultAt → Type 0

@@ -1,9 +1,7 @@
 // The bytes that the bodies of a stream take.
-ghost use Rattle.std.specs.Prelude.{◌≡◌, List, length, Ok, Err, MatchResult};
-ghost use Rattle.wasm_base.specs.FaultAt.{fault_at};
+ghost use Rattle.std.specs.Prelude.{◌≡◌, length, Ok};
 ghost use Rattle.wasm_parser.specs.Answers.{told_by};
-ghost use Rattle.wasm_parser.specs.Reading.{Event, Reading};
-ghost use Rattle.wasm_uses.specs.Bodies.{size_told, bodies_in, Adds};
+ghost use Rattle.wasm_uses.specs.Bodies.{size_told, IsSizeOfBodies, Adds};
 
 use crate::feeder::{Feeder, Step};
 use wasm_base::Result;
@@ -11,7 +9,7 @@ use wasm_parser::Payload;
 
 /// How many bytes the bodies of a stream take, with their sizes; or the fault at which the stream stops.
 pub fn size_of_bodies(bytes: Vec<u8>) -> Result<u64>
-    ensures { (events : List Event) → Reading bytes.items 0 3 events → MatchResult result (λ n. bodies_in events ≡ Ok n) (λ e. bodies_in events ≡ Err (fault_at e)) }
+    ensures { IsSizeOfBodies bytes.items result }
 {
     let mut feeder = Feeder::new(bytes, 0);
     let mut total = 0;

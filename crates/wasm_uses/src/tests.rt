@@ -1,7 +1,7 @@
 // Worked examples.
 mod steps;
 
-ghost use Rattle.std.specs.Prelude.{◌+◌, ◌<◌, ◌^◌, length};
+ghost use Rattle.std.specs.Prelude.{◌<◌, ◌^◌, length};
 
 use crate::{AnyByte, Nothing, check, total};
 use std::test::Fail;
