@@ -96,21 +96,12 @@ impl<'a> CustomSectionReader<'a> {
     }
 }
 
-// A text that stands for bytes that are not printed.
-struct Dots;
-
-impl fmt::Debug for Dots {
-    fn fmt<W: fmt::Write>(&self, f: &mut fmt::Formatter<W>) -> fmt::Result {
-        f.write_str("\"...\"")
-    }
-}
-
 impl<'a> fmt::Debug for CustomSectionReader<'a> {
     fn fmt<W: fmt::Write>(&self, f: &mut fmt::Formatter<W>) -> fmt::Result {
         f.debug_struct("CustomSectionReader")
             .field("name", &self.name)
             .field("data_offset", &self.data_offset())
-            .field("data", &Dots)
+            .field("data", &"...")
             .field("range", &self.range())
             .finish()
     }

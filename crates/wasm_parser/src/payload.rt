@@ -129,15 +129,6 @@ impl<'a> Payload<'a> {
     }
 }
 
-// A text that stands for what is not printed.
-struct Dots;
-
-impl fmt::Debug for Dots {
-    fn fmt<W: fmt::Write>(&self, f: &mut fmt::Formatter<W>) -> fmt::Result {
-        f.write_str("\"...\"")
-    }
-}
-
 // The name of a payload whose content is not printed.
 fn elided(payload: &Payload) -> &'static str {
     match payload {
@@ -208,7 +199,7 @@ impl<'a> fmt::Debug for Payload<'a> {
                 .field("range", range)
                 .finish(),
             Payload::End(at) => f.debug_tuple("End").field(at).finish(),
-            _ => f.debug_tuple(elided(self)).field(&Dots).finish(),
+            _ => f.debug_tuple(elided(self)).field(&"...").finish(),
         }
     }
 }
