@@ -13,6 +13,7 @@ use Rattle.wasm_base.proofs.NumberLaws.{Used, number-used}
 use Rattle.wasm_parser.specs.Content.{Kind, custom, items, index, data_count, code, unknown, kind_of, Ending, fault, ended, when, wrong_number, wrong_single, wrong_name, wrong_content}
 use Rattle.wasm_parser.specs.Grammar.{Tile, Verdict, final, Grammar, takes, stops, refuse, number, bytes, section_start, behind, behind_number, verdict, Past, header_of, header_grammar, end_of, wrong_count, code_grammar, wrong_data, whole_grammar, content_grammar, sized, section_grammar, body_grammar}
 use Rattle.wasm_parser.specs.Laws.{FaultLiesWithin}
+use Rattle.wasm_parser.specs.Stands.{Stand, past_of, grammar_of}
 use Rattle.wasm_parser.specs.Tiling.{past, grammar, bodies_left, bytes_left, front}
 use Rattle.wasm_parser.specs.declared.payload.Encoding.{Encoding}
 use Rattle.wasm_parser.proofs.Endings.{behind_final}
@@ -259,3 +260,11 @@ fault_lies_within stream start tiles f r =
     let (a, b) = verdict_lies _ _ (grammar start tiles) r.rest f (Within-grammar start tiles) r.stops in
     let n : length stream ≡ length (front tiles) + length r.rest = ap (λ (x : List ℕ). length x) r.whole ∙ length-append (front tiles) r.rest in
     (a, omega arith)
+
+Within-any : (h b : Bool) (p : Past) (bodies left o : ℕ) → Within o o (cond h (header_grammar o) (cond b (section_grammar p o) (body_grammar bodies left o)))
+Within-any true b p bodies left o = Within-header o
+Within-any false b p bodies left o = Within-inside b p bodies left o
+
+-- the same of a parser, wherever it stands
+pub stand_lies : (p : Stand) (rest : List ℕ) (f : FaultAt) → verdict (grammar_of p) rest ≡ final (fault f) → Between p.offset (p.offset + length rest) f.offset
+stand_lies p rest f v = verdict_lies p.offset p.offset (grammar_of p) rest f (Within-any p.expects_header (nat_eq (p.bodies + p.left) 0) (past_of p) p.bodies p.left p.offset) v

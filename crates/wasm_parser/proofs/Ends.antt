@@ -14,7 +14,7 @@ use Rattle.wasm_parser.specs.Content.{Kind, custom, items, index, data_count, co
 use Rattle.wasm_parser.specs.Grammar.{Shape, header, section, code_head, body, Tile, Verdict, tile, final, Grammar, takes, stops, refuse, number, bytes, section_start, behind, behind_number, verdict, Past, header_of, header_grammar, end_of, content_grammar, section_grammar, body_grammar}
 use Rattle.wasm_parser.specs.Laws.{EventsLieEndToEnd}
 use Rattle.wasm_parser.specs.Reading.{Event, window_over, told_custom, told_section, told_of, event_of, told_ending, last_event, events_of, Reads}
-use Rattle.wasm_parser.specs.Spans.{consumed_by, IsPart, LiesIn, StandsBetween, EndToEnd}
+use Rattle.wasm_parser.specs.Spans.{consumed_by, IsPart, LiesIn, StandsBetween, AtOffsets, EndToEnd}
 use Rattle.wasm_parser.specs.Tiling.{past, grammar, bodies_left, bytes_left, front, Faultless}
 use Rattle.wasm_parser.specs.declared.payload.Encoding.{Encoding}
 use Rattle.wasm_parser.proofs.Endings.{header_end, inside_end}
@@ -175,8 +175,8 @@ placed stream earlier front content rest start low high w l h =
     }
 
 -- a window over content
-part_is : (stream : List ℕ) (start low high : ℕ) (content : List ℕ) (features : ℕ) → Placed stream start low high content → IsPart stream start (window_over features (high - length content) content)
-part_is stream start low high content features p = record { behind = p.behind_start; bytes = p.part; unread = refl }
+part_is : (stream : List ℕ) (start low high : ℕ) (content : List ℕ) (features : ℕ) → Placed stream start low high content → IsPart stream start features (window_over features (high - length content) content)
+part_is stream start low high content features p = record { has = refl; behind = p.behind_start; bytes = p.part; unread = refl }
 
 range_is : (stream : List ℕ) (start low high : ℕ) (content : List ℕ) → Placed stream start low high content → LiesIn (high - length content) ((high - length content) + length content) low high
 range_is stream start low high content p = let z : (high - length content) + length content ≡ high = p.ends in record { above = p.above; order = omega arith; below = omega arith }
@@ -184,14 +184,14 @@ range_is stream start low high content p = let z : (high - length content) + len
 whole_range : (stream : List ℕ) (start low high : ℕ) (content : List ℕ) → Placed stream start low high content → LiesIn (high - length content) high low high
 whole_range stream start low high content p = let z : (high - length content) + length content ≡ high = p.ends in record { above = p.above; order = omega arith; below = le_refl high }
 
-custom_stands : (stream : List ℕ) (start low high features : ℕ) (content : List ℕ) (n : Name) → name (Some name_limit) content ≡ n → Placed stream start low high content → StandsBetween stream start low high (told_custom features (high - length content) high content n)
+custom_stands : (stream : List ℕ) (start low high features : ℕ) (content : List ℕ) (n : Name) → name (Some name_limit) content ≡ n → Placed stream start low high content → StandsBetween stream start features low high (told_custom features (high - length content) high content n)
 custom_stands stream start low high features content (named text used) e p =
     let u : used ≤ length content = name_used (Some name_limit) content text used e in
     let z : (high - length content) + length content ≡ high = p.ends in
     (part_is stream start low high content features p, range_is stream start low high content p, p.ends, record { above = omega arith; order = omega arith; below = le_refl high })
 custom_stands stream start low high features content (refused g i) e p = (whole_range stream start low high content p, refl, p.part, p.ends)
 
-section_stands : (stream : List ℕ) (start low high features : ℕ) (kind : Kind) (id : ℕ) (content : List ℕ) → Placed stream start low high content → StandsBetween stream start low high (told_section features (high - length content) high kind id content)
+section_stands : (stream : List ℕ) (start low high features : ℕ) (kind : Kind) (id : ℕ) (content : List ℕ) → Placed stream start low high content → StandsBetween stream start features low high (told_section features (high - length content) high kind id content)
 section_stands stream start low high features custom id content p = custom_stands stream start low high features content (name (Some name_limit) content) refl p
 section_stands stream start low high features items id content p = (part_is stream start low high content features p, range_is stream start low high content p, p.ends)
 section_stands stream start low high features index id content p = (whole_range stream start low high content p, refl)
@@ -200,7 +200,7 @@ section_stands stream start low high features code id content p = (part_is strea
 section_stands stream start low high features unknown id content p = (whole_range stream start low high content p, refl, p.part, p.ends)
 
 stands_between : (stream earlier passed rest : List ℕ) (start low high features : ℕ) (shape : Shape) → stream ≡ earlier ++ (passed ++ rest) → low ≡ start + length earlier → high ≡ low + length passed → Closes shape passed
-    → StandsBetween stream start low high (told_of features low high shape)
+    → StandsBetween stream start features low high (told_of features low high shape)
 stands_between stream earlier passed rest start low high features (header version encoding) w l h c = (refl, refl)
 stands_between stream earlier passed rest start low high features (section kind id content) w l h (before, c) =
     section_stands stream start low high features kind id content (placed stream earlier before content rest start low high (w ∙ ap (λ (x : List ℕ). earlier ++ (x ++ rest)) c) l (h ∙ ap (λ (x : List ℕ). low + length x) c))
@@ -214,34 +214,35 @@ stands_between stream earlier passed rest start low high features (body content)
 consumed_more : (es : List Event) (e : Event) → consumed_by (es ++ e ∷ []) ≡ consumed_by es ++ e.consumed
 consumed_more es e = flat_map-append (λ x. x.consumed) es (e ∷ []) ∙ ap (λ (l : List ℕ). consumed_by es ++ l) (append-nil e.consumed)
 
-end_to_end_more : (stream : List ℕ) (start at : ℕ) (es : List Event) (e : Event) (low : ℕ) → low ≡ at + length (consumed_by es) → EndToEnd stream start at es → StandsBetween stream start low (low + length e.consumed) e.told → EndToEnd stream start at (es ++ e ∷ [])
-end_to_end_more stream start at [] e low l h s = (subst (λ (x : ℕ). StandsBetween stream start x (x + length e.consumed) e.told) (omega arith) s, tt)
-end_to_end_more stream start at (x ∷ es) e low l h s =
-    (h.0, end_to_end_more stream start (at + length x.consumed) es e low (omega (arith, length-append x.consumed (consumed_by es))) h.1 s)
+-- what holds of events and of one more event holds of all
+pub at_offsets_more : (P : ℕ → Event → Type 0) (at : ℕ) (es : List Event) (e : Event) (low : ℕ) → low ≡ at + length (consumed_by es) → AtOffsets P at es → P low e → AtOffsets P at (es ++ e ∷ [])
+at_offsets_more P at [] e low l h s = (subst (λ (x : ℕ). P x e) (omega arith) s, tt)
+at_offsets_more P at (x ∷ es) e low l h s =
+    (h.0, at_offsets_more P (at + length x.consumed) es e low (omega (arith, length-append x.consumed (consumed_by es))) h.1 s)
 
 pub tiles_consume : (start features : ℕ) (ts : List Tile) → consumed_by (events_of start features ts) ≡ front ts
 tiles_consume start features [] = refl
 tiles_consume start features (t ∷ ts) =
     consumed_more (events_of start features ts) (event_of features (start + length (front ts)) t) ∙ ap (λ (l : List ℕ). l ++ t.bytes) (tiles_consume start features ts)
 
-tiles_lie : (stream : List ℕ) (start features : ℕ) (ts : List Tile) (rest : List ℕ) → Faultless start ts → stream ≡ front ts ++ rest → EndToEnd stream start start (events_of start features ts)
+tiles_lie : (stream : List ℕ) (start features : ℕ) (ts : List Tile) (rest : List ℕ) → Faultless start ts → stream ≡ front ts ++ rest → EndToEnd stream start features start (events_of start features ts)
 tiles_lie stream start features [] rest f w = tt
 tiles_lie stream start features (t ∷ ts) rest f w =
     let z : stream ≡ front ts ++ (t.bytes ++ rest) = w ∙ append_assoc (front ts) t.bytes rest in
-    end_to_end_more stream start start (events_of start features ts) (event_of features (start + length (front ts)) t) (start + length (front ts))
+    at_offsets_more (λ low e. StandsBetween stream start features low (low + length e.consumed) e.told) start (events_of start features ts) (event_of features (start + length (front ts)) t) (start + length (front ts))
     (ap (λ (l : List ℕ). start + length l) (sym (tiles_consume start features ts)))
     (tiles_lie stream start features ts (t.bytes ++ rest) f.0 z)
     (stands_between stream (front ts) t.bytes rest start (start + length (front ts)) (start + length (front ts) + length t.bytes) features t.shape z refl refl (tile_closes start ts t.bytes t f.1))
 
-last_stands : (stream : List ℕ) (start : ℕ) (ts : List Tile) (end : Ending) → Reads stream start ts end → StandsBetween stream start (start + length (front ts)) (start + length (front ts) + 0) (told_ending end)
-last_stands stream start ts (fault f) r = tt
-last_stands stream start ts (ended x) r = let z : x ≡ start + length (front ts) = (ends_behind_all stream start ts x r).1 in (z, omega arith)
+last_stands : (stream : List ℕ) (start features : ℕ) (ts : List Tile) (end : Ending) → Reads stream start ts end → StandsBetween stream start features (start + length (front ts)) (start + length (front ts) + 0) (told_ending end)
+last_stands stream start features ts (fault f) r = tt
+last_stands stream start features ts (ended x) r = let z : x ≡ start + length (front ts) = (ends_behind_all stream start ts x r).1 in (z, omega arith)
 
 pub events_lie_end_to_end : EventsLieEndToEnd
 events_lie_end_to_end stream start features ts end r =
     let n : consumed_by (events_of start features ts) ≡ front ts = tiles_consume start features ts in (
-      end_to_end_more stream start start (events_of start features ts) (last_event end) (start + length (front ts)) (ap (λ (l : List ℕ). start + length l) (sym n))
+      at_offsets_more (λ low e. StandsBetween stream start features low (low + length e.consumed) e.told) start (events_of start features ts) (last_event end) (start + length (front ts)) (ap (λ (l : List ℕ). start + length l) (sym n))
           (tiles_lie stream start features ts r.rest r.faultless r.whole)
-          (last_stands stream start ts end r),
+          (last_stands stream start features ts end r),
       consumed_more (events_of start features ts) (last_event end) ∙ (append-nil (consumed_by (events_of start features ts)) ∙ n),
     )

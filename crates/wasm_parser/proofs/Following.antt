@@ -9,6 +9,8 @@ use Rattle.wasm_parser.specs.Grammar.{Tile, Verdict, tile, final, Grammar, verdi
 use Rattle.wasm_parser.specs.Reading.{Event, stopped, told_of, event_of, events_of, last_event, Reads, Reading}
 use Rattle.wasm_parser.specs.Spans.{consumed_by}
 use Rattle.wasm_parser.specs.Stands.{Stand, Stands, grammar_of}
+use Rattle.wasm_parser.specs.Laws.{SomeNextEvent}
+use Rattle.wasm_parser.specs.NextEvent.{NextEvent}
 use Rattle.wasm_parser.specs.TellsNext.{Tells, TellsNext}
 use Rattle.wasm_parser.specs.Tiling.{front, grammar, Faultless}
 use Rattle.wasm_parser.specs.declared.payload.Chunk.{Chunk}
@@ -126,6 +128,7 @@ tells_tile p new start covered rest f t v (Ok (Parsed consumed payload)) a =
       a.0,
       subst₂ (λ (n : ℕ) (x : List ℕ). take n x ≡ t.bytes) (sym a.0) (sym g.split) (take_at t.bytes g.rest (length t.bytes) refl),
       subst (λ (q : Stand). Stands q start (covered ++ t.bytes)) (sym a.2) (stands_on p start covered f.s rest t v),
+      ap (λ (q : Stand). q.features) a.2,
     )
 tells_tile p new start covered rest f t v (Err e) a = absurd a
 
@@ -138,6 +141,7 @@ tells_last p new start covered rest s (ended o) (Ok (Parsed consumed payload)) a
   a.0,
   subst (λ (n : ℕ). take n rest ≡ []) (sym a.0) refl,
   subst₂ (λ (q : Stand) (x : List ℕ). Stands q start x) (sym a.2) (sym (append-nil covered)) s,
+  ap (λ (q : Stand). q.features) a.2,
 )
 tells_last p new start covered rest s (fault f) (Err e) a = (ap stopped (sym a.0), refl, a.1)
 tells_last p new start covered rest s (ended o) (Err e) a = absurd a
@@ -150,6 +154,20 @@ tells_at p new start covered rest f r (final end) q a before later e reading c =
     subst (λ (x : Event). Tells x p start covered rest r new) (sym (next_last p start covered rest f end q before later e reading c)) (tells_last p new start covered rest f.s end r a)
 
 pub tells_next : (p new : Stand) (rest : List ℕ) (r : Result Chunk Error) → Parses p rest r new → TellsNext p rest r new
-tells_next p new rest r h start covered s l before later e reading c =
-    let o : p.offset ≡ start + length covered = s.offset in
-    tells_at p new start covered rest (fronted p start covered rest s) r (verdict (grammar_of p) rest) refl (h.within (omega arith)) before later e reading c
+tells_next p new rest r h start prefix s l events reading next =
+    let o : p.offset ≡ start + length prefix = s.offset in
+    let read : Reading (prefix ++ rest) start p.features (next.before ++ next.event ∷ next.later) = subst (Reading (prefix ++ rest) start p.features) next.whole reading in
+    tells_at p new start prefix rest (fronted p start prefix rest s) r (verdict (grammar_of p) rest) refl (h.within (omega arith)) next.before next.later next.event read next.consumed
+
+-- ---- there is a next event
+
+pub some_next_event : SomeNextEvent
+some_next_event p start features prefix rest events s r =
+    let l = longest (prefix ++ rest) start r.tiles s.tiles r.end rest r.reads s.faultless (ap (λ (x : List ℕ). x ++ rest) (sym s.covers)) in
+    let m : MoreEvents (events_of start features s.tiles) (events_of start features (l.0 ++ s.tiles)) = events_later start features l.0 s.tiles in
+    at m.more (r.listed ∙ (ap (λ (y : List Tile). events_of start features y ++ last_event r.end ∷ []) l.1 ∙ (ap (λ (y : List Event). y ++ last_event r.end ∷ []) m.parts
+    ∙ append_assoc (events_of start features s.tiles) m.more (last_event r.end ∷ []))))
+  where
+    at : (more : List Event) → events ≡ events_of start features s.tiles ++ (more ++ last_event r.end ∷ []) → NextEvent events prefix
+    at [] e = record { before = events_of start features s.tiles; event = last_event r.end; later = []; whole = e; consumed = tiles_consume start features s.tiles ∙ s.covers }
+    at (x ∷ more) e = record { before = events_of start features s.tiles; event = x; later = more ++ last_event r.end ∷ []; whole = e; consumed = tiles_consume start features s.tiles ∙ s.covers }

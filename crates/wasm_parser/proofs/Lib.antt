@@ -15,6 +15,7 @@ pub mod Moves
 pub mod Parsing
 pub mod Places
 pub mod ReadingLaws
+pub mod SectionEvents
 pub mod SectionPlaces
 pub mod SectionRanks
 pub mod StandsLaws

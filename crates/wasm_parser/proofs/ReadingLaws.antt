@@ -4,8 +4,7 @@ use Rattle.std.proofs.lemmas.List.{append_cancel_left}
 use Rattle.wasm_parser.specs.Content.{Ending, ended}
 use Rattle.wasm_parser.specs.Grammar.{Tile, Verdict, tile, final, verdict}
 use Rattle.wasm_parser.specs.Tiling.{front, grammar, Faultless}
-use Rattle.wasm_parser.specs.Reading.{Reads, Reading, NextEvent, Event, events_of, last_event}
-use Rattle.wasm_parser.specs.Waiting.{enough, waiting}
+use Rattle.wasm_parser.specs.Reading.{Reads, Reading, Event, events_of, last_event}
 use Rattle.wasm_parser.proofs.GrammarLaws.{Cut, verdict-more, verdict-cut}
 use Rattle.wasm_parser.proofs.TileLaws.{Guarded-grammar, tile_least}
 
@@ -146,23 +145,3 @@ tiling_same start ts us f g e =
     let q : Reads (front us) start us (ending_of (verdict (grammar start us) [])) = stops_at start us g (verdict (grammar start us) []) refl in
     let q' : Reads (front ts) start us (ending_of (verdict (grammar start us) [])) = subst (λ (x : List ℕ). Reads x start us (ending_of (verdict (grammar start us) []))) (sym e) q in
     (reads_same (front ts) start ts us _ _ p q').0
-
--- what follows a front is one
-pub next_same : (start : ℕ) (covered stream : List ℕ) (v w : Verdict) → NextEvent start covered stream v → NextEvent start covered stream w → v ≡ w
-next_same start covered stream v w p q =
-    let z : p.tiles ≡ q.tiles = tiling_same start p.tiles q.tiles p.faultless q.faultless (p.covers ∙ sym q.covers) in
-    let r : p.rest ≡ q.rest = append_cancel_left covered p.rest q.rest (sym p.whole ∙ q.whole) in
-    sym p.stands ∙ (subst₂ (λ (x : List Tile) (y : List ℕ). verdict (grammar start p.tiles) p.rest ≡ verdict (grammar start x) y) z r refl ∙ q.stands)
-
--- what bytes that suffice decide behind a front stays so in every stream that goes on
-pub next_more : (start : ℕ) (covered d more : List ℕ) (v : Verdict) (n : NextEvent start covered (covered ++ d) v) → waiting (grammar start n.tiles) n.rest ≡ enough → NextEvent start covered (covered ++ (d ++ more)) v
-next_more start covered d more v n w =
-    let r : d ≡ n.rest = append_cancel_left covered d n.rest n.whole in
-    record {
-      tiles = n.tiles;
-      rest = n.rest ++ more;
-      faultless = n.faultless;
-      covers = n.covers;
-      whole = ap (λ (x : List ℕ). covered ++ (x ++ more)) r;
-      stands = verdict-more (grammar start n.tiles) n.rest more w ∙ n.stands;
-    }

@@ -4,7 +4,7 @@ use Rattle.std.proofs.lemmas.Bool.Decides.{nat_tests}
 use Rattle.wasm_base.specs.FaultAt.{FaultAt, at_offset}
 use Rattle.wasm_base.specs.declared.error.Error.{Error}
 use Rattle.wasm_base.specs.declared.fault.Fault.TheVariants.{OffsetRange}
-use Rattle.wasm_parser.specs.Answers.{told_by, is_end, Consumes, Answers, IsFaultAlone, Parses}
+use Rattle.wasm_parser.specs.Answers.{told_by, is_end, Consumes, Answers, IsFaultAlone, Parses, FaultsWithin, IsUnchanged, ItemsBegin}
 use Rattle.wasm_parser.specs.Content.{custom, items, index, data_count, code, unknown, fault, ended}
 use Rattle.wasm_parser.specs.Grammar.{Shape, header, section, code_head, body, Tile, Verdict, tile, final, header_grammar, verdict}
 use Rattle.wasm_parser.specs.Reading.{told_of, told_custom}
@@ -14,6 +14,7 @@ use Rattle.wasm_parser.specs.declared.payload.Payload.{Payload}
 use Rattle.wasm_parser.specs.declared.payload.Chunk.{Chunk}
 use Rattle.wasm_parser.specs.declared.payload.Chunk.TheVariants.{NeedMoreData, Parsed}
 use Rattle.wasm_base.specs.Name.{Name, named, refused, name_limit, name}
+use Rattle.wasm_parser.proofs.Bounds.{stand_lies}
 use Rattle.wasm_parser.proofs.GrammarLaws.{Cut, verdict-cut}
 use Rattle.wasm_parser.proofs.TileLaws.{Guarded-header, Guarded-inside_at, least_header, least_inside}
 
@@ -86,3 +87,60 @@ consumes_by false p new rest r t h = alone_consumes (at_offset OffsetRange p.off
 
 pub consumes : (p new : Stand) (rest : List ℕ) (r : Result Chunk Error) → Parses p rest r new → Consumes rest r
 consumes p new rest r h = consumes_by (nat_lt (p.offset + length rest) (2 ^ 64)) p new rest r refl h
+
+-- ---- where its faults stand
+
+faults_at : (p new : Stand) (rest : List ℕ) (e : Error) (v : Verdict) → verdict (grammar_of p) rest ≡ v → Answers p v (Err e) new → FaultsWithin p rest (Err e)
+faults_at p new rest e (tile t) q a = absurd a
+faults_at p new rest e (final (fault f)) q a =
+    let (l, m) = stand_lies p rest f q in
+    let z = ap (λ (x : FaultAt). x.offset) a.0 in
+    (omega (arith, l, z), omega (arith, m, z))
+faults_at p new rest e (final (ended o)) q a = absurd a
+
+faults_by : (b : Bool) (p new : Stand) (rest : List ℕ) (r : Result Chunk Error) → nat_lt (p.offset + length rest) (2 ^ 64) ≡ b → Parses p rest r new → FaultsWithin p rest r
+faults_by b p new rest (Ok chunk) t h = tt
+faults_by true p new rest (Err e) t h = faults_at p new rest e (verdict (grammar_of p) rest) refl (h.within (ltb-true _ _ t))
+faults_by false p new rest (Err e) t h =
+    let a = h.past_the_top (ltb-false _ _ t) in
+    let z = ap (λ (x : FaultAt). x.offset) a.0 in
+    (omega (arith, z), omega (arith, z))
+
+pub faults_within : (p new : Stand) (rest : List ℕ) (r : Result Chunk Error) → Parses p rest r new → FaultsWithin p rest r
+faults_within p new rest r h = faults_by (nat_lt (p.offset + length rest) (2 ^ 64)) p new rest r refl h
+
+-- ---- what a fault leaves
+
+unchanged_at : (p new : Stand) (e : Error) (v : Verdict) → Answers p v (Err e) new → new ≡ p
+unchanged_at p new e (tile t) a = absurd a
+unchanged_at p new e (final (fault f)) a = a.1
+unchanged_at p new e (final (ended o)) a = absurd a
+
+asks_never : (p new : Stand) (hint : ℕ) (v : Verdict) → Answers p v (Ok (NeedMoreData hint)) new → ⊥
+asks_never p new hint (tile t) a = a
+asks_never p new hint (final (fault f)) a = a
+asks_never p new hint (final (ended o)) a = a
+
+unchanged_by : (b : Bool) (p new : Stand) (rest : List ℕ) (r : Result Chunk Error) → nat_lt (p.offset + length rest) (2 ^ 64) ≡ b → Parses p rest r new → IsUnchanged p r new
+unchanged_by b p new rest (Ok (Parsed consumed payload)) t h = tt
+unchanged_by true p new rest (Ok (NeedMoreData hint)) t h = absurd (asks_never p new hint (verdict (grammar_of p) rest) (h.within (ltb-true _ _ t)))
+unchanged_by false p new rest (Ok (NeedMoreData hint)) t h = absurd (h.past_the_top (ltb-false _ _ t))
+unchanged_by true p new rest (Err e) t h = unchanged_at p new e (verdict (grammar_of p) rest) (h.within (ltb-true _ _ t))
+unchanged_by false p new rest (Err e) t h = (h.past_the_top (ltb-false _ _ t)).1
+
+pub unchanged : (p new : Stand) (rest : List ℕ) (r : Result Chunk Error) → Parses p rest r new → IsUnchanged p r new
+unchanged p new rest r h = unchanged_by (nat_lt (p.offset + length rest) (2 ^ 64)) p new rest r refl h
+
+-- ---- what its payloads hold
+
+holds_at : (p new : Stand) (consumed : ℕ) (payload : Payload) (v : Verdict) → Answers p v (Ok (Parsed consumed payload)) new → ItemsBegin payload
+holds_at p new consumed payload (tile t) a = a.1.1
+holds_at p new consumed payload (final (fault f)) a = absurd a
+holds_at p new consumed payload (final (ended o)) a = a.1.1
+
+holds_by : (b : Bool) (p new : Stand) (rest : List ℕ) (consumed : ℕ) (payload : Payload) → nat_lt (p.offset + length rest) (2 ^ 64) ≡ b → Parses p rest (Ok (Parsed consumed payload)) new → ItemsBegin payload
+holds_by true p new rest consumed payload t h = holds_at p new consumed payload (verdict (grammar_of p) rest) (h.within (ltb-true _ _ t))
+holds_by false p new rest consumed payload t h = absurd (h.past_the_top (ltb-false _ _ t))
+
+pub holds_items : (p new : Stand) (rest : List ℕ) (consumed : ℕ) (payload : Payload) → Parses p rest (Ok (Parsed consumed payload)) new → ItemsBegin payload
+holds_items p new rest consumed payload h = holds_by (nat_lt (p.offset + length rest) (2 ^ 64)) p new rest consumed payload refl h

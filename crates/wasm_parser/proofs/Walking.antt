@@ -1,6 +1,7 @@
 -- What a walk over a whole stream gives.
-use Rattle.std.proofs.Common.{◌≡◌, ℕ, ◌+◌, ◌<◌, ◌^◌, true, false, List, [], ◌∷◌, ◌++◌, length, drop, Option, None, Result, Ok, Err, refl, sym, ap, subst, ◌∙◌, arith, length-append, append_assoc}
+use Rattle.std.proofs.Common.{◌≡◌, ℕ, ◌+◌, ◌<◌, ◌^◌, Bool, true, false, List, [], ◌∷◌, ◌++◌, length, drop, Option, Some, None, Result, Ok, Err, refl, sym, ap, subst, ◌∙◌, arith, length-append, append_assoc}
 use Rattle.std.proofs.lemmas.List.{drop_at}
+use Rattle.std.proofs.lemmas.List.Elements.{All-nil, All-cons}
 use Rattle.std.specs.declared.ops.Range.{Range}
 use Rattle.std.specs.List.{cons_option}
 use Rattle.std.specs.Prelude.{◌↔◌, map, filter_map, All}
@@ -15,14 +16,14 @@ use Rattle.wasm_parser.specs.Sections.{section_of, sections_of, TiledBySections}
 use Rattle.wasm_parser.specs.Stands.{Stand, Stands, new_stand, grammar_of, passed}
 use Rattle.wasm_parser.specs.Stream.{Stream}
 use Rattle.wasm_parser.specs.Tiling.{front, grammar, Faultless}
-use Rattle.wasm_parser.specs.Turns.{Walk, walk_over, consumed_between, GivesAnswer, NextPayload, sections_given, told_item, told_event, EndsAt, GivesReading, WalksWhole}
+use Rattle.wasm_parser.specs.Turns.{HoldsItems, Walk, walk_over, consumed_between, GivesAnswer, NextPayload, sections_given, told_item, told_event, EndsAt, GivesReading, WalksWhole}
 use Rattle.wasm_parser.specs.declared.payload.Chunk.TheVariants.{Parsed}
 use Rattle.wasm_parser.specs.declared.payload.Payload.{Payload}
 use Rattle.wasm_parser.proofs.Accepting.{accepted_ends}
 use Rattle.wasm_parser.proofs.ReadingLaws.{Grown, grows, reads_same, reading_same}
 use Rattle.wasm_parser.proofs.SectionPlaces.{sections_tile}
 use Rattle.wasm_parser.proofs.StandsLaws.{grammar_same, stands_on, stands_on-tiles}
-use Rattle.wasm_parser.proofs.Turning.{goes_on}
+use Rattle.wasm_parser.proofs.Turning.{goes_on, holds_items}
 
 -- ---- one step
 
@@ -181,11 +182,22 @@ mapped f h (x ∷ xs) = ap (cons_option (h (f x))) (mapped f h xs)
 same_sections : (given : List (Result Payload Error)) (events : List Event) → map told_item given ≡ map told_event events → sections_of events ≡ sections_given given
 same_sections given events e = mapped told_event section_of events ∙ (ap (filter_map section_of) (sym e) ∙ sym (mapped told_item section_of given))
 
+-- each payload that a walk gives holds its items
+holds_one : (b : Bool) (s t : Walk) (x : Result Payload Error) → s.ended ≡ b → NextPayload s (Some x) t → HoldsItems x
+holds_one true s t x e n = absurd (let z = (n.over e).0 in cc)
+holds_one false s t (Ok payload) e n = holds_items s.stand t.stand s.bytes (consumed_between s t) payload (n.going e).0
+holds_one false s t (Err f) e n = tt
+
+holds_all : (given : List (Result Payload Error)) (s t : Walk) → Yields NextPayload s given t → All HoldsItems given
+holds_all [] s t run = All-nil HoldsItems
+holds_all (x ∷ given) s t run = All-cons HoldsItems x given (holds_one s.ended s run.0 x refl run.1) (holds_all given run.0 t run.2)
+
 gives_reading : (start features : ℕ) (bytes : List ℕ) → Stream bytes start → GivesReading start features bytes (walk_over (new_stand start features) bytes)
 gives_reading start features bytes stream = record {
   reading = λ given run events r.
       let w : ReadsOn start features bytes [] (map told_item given) = walk_reads start features bytes stream.fits given run in
       w.tells ∙ ap (map told_event) (reading_same bytes start features w.events events w.reading r);
+  items = λ given run. holds_all given (walk_over (new_stand start features) bytes) run.1.0 run.1.1;
   accepted = λ given run.
       let w : ReadsOn start features bytes [] (map told_item given) = walk_reads start features bytes stream.fits given run in
       let a = accepted_ends bytes start stream in

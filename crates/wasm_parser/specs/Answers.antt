@@ -10,6 +10,7 @@ use Rattle.wasm_base.specs.declared.fault.NumberKind.TheVariants.{VarU32}
 use Rattle.wasm_parser.specs.Content.{fault, ended}
 use Rattle.wasm_parser.specs.Grammar.{Tile, Verdict, tile, final, Grammar, verdict}
 use Rattle.wasm_parser.specs.Reading.{Told, version, counted, start_section, data_count_section, code_start, code_entry, custom_section, unknown_section, stopped, ending, told_of}
+use Rattle.wasm_items.specs.Held.{body_window}
 use Rattle.wasm_parser.specs.Stands.{Stand, grammar_of, passed}
 use Rattle.wasm_parser.specs.declared.payload.Payload.{Payload}
 use Rattle.wasm_parser.specs.declared.payload.Payload.TheVariants.{Version, TypeSection, ImportSection, FunctionSection, TableSection, MemorySection, TagSection, GlobalSection, ExportSection, StartSection, ElementSection, DataCountSection, DataSection, CodeSectionStart, CodeSectionEntry, CustomSection, UnknownSection, End}
@@ -40,7 +41,7 @@ told_by (ElementSection s) = counted_by 9 s
 told_by (DataCountSection count range) = data_count_section count range.start range.end
 told_by (DataSection s) = counted_by 11 s
 told_by (CodeSectionStart count unchecked_range size) = code_start count unchecked_range.start unchecked_range.end size
-told_by (CodeSectionEntry body) = code_entry body.reader
+told_by (CodeSectionEntry body) = code_entry (body_window body)
 told_by (CustomSection s) = custom_section s.name (place s.reader).offset (unread s.reader)
 told_by (UnknownSection id contents range) = unknown_section id contents.now range.start range.end
 told_by (End at) = ending at
@@ -136,3 +137,14 @@ IsFaultAlone f old (Err e) new = (fault_at e ≡ f) × (new ≡ old)
 pub record Parses (old : Stand) (rest : List ℕ) (result : Result Chunk Error) (new : Stand) : Type 0 where
   pub past_the_top : 2 ^ 64 ≤ old.offset + length rest → IsFaultAlone (at_offset OffsetRange old.offset) old result new
   pub within : old.offset + length rest < 2 ^ 64 → Answers old (verdict (grammar_of old) rest) result new
+
+-- A fault stands between the parser and the end of the bytes.
+abbrev pub FaultsWithin : Stand → List ℕ → Result Chunk Error → Type 0
+FaultsWithin p rest (Ok chunk) = Unit {0}
+FaultsWithin p rest (Err e) = (p.offset ≤ (fault_at e).offset) × ((fault_at e).offset ≤ p.offset + length rest)
+
+-- After a fault, or a request for more, the parser is what it was.
+abbrev pub IsUnchanged : (old : Stand) → Result Chunk Error → (new : Stand) → Type 0
+IsUnchanged old (Ok (Parsed consumed payload)) new = Unit {0}
+IsUnchanged old (Ok (NeedMoreData hint)) new = new ≡ old
+IsUnchanged old (Err e) new = new ≡ old

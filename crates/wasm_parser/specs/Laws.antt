@@ -6,7 +6,9 @@ use Rattle.wasm_parser.specs.Content.{Ending, fault, ended}
 use Rattle.wasm_parser.specs.Grammar.{Tile, tile, verdict}
 use Rattle.wasm_parser.specs.Moved.{moved_events, PassesTheTop}
 use Rattle.wasm_parser.specs.Reading.{Event, events_of, last_event, Reads, Reading}
-use Rattle.wasm_parser.specs.Spans.{consumed_by, EndToEnd}
+use Rattle.wasm_parser.specs.NextEvent.{NextEvent}
+use Rattle.wasm_parser.specs.SectionEvents.{SaysItsBytes}
+use Rattle.wasm_parser.specs.Spans.{consumed_by, AtOffsets, EndToEnd}
 use Rattle.wasm_parser.specs.Stands.{Stand, Stands, grammar_of, passed}
 use Rattle.wasm_parser.specs.Stream.{Stream}
 use Rattle.wasm_parser.specs.Tiling.{front, grammar, Faultless}
@@ -51,14 +53,22 @@ abbrev pub LongestTiling : Type 0
 LongestTiling = (stream : List ℕ) (start : ℕ) (tiles others : List Tile) (end : Ending) (rest : List ℕ) → Reads stream start tiles end → Faultless start others → stream ≡ front others ++ rest
     → (later : List Tile) × (tiles ≡ later ++ others)
 
--- events stand end to end in their stream, and their windows are its parts; what they consumed, joined, is the stream
--- up to where the reading stops
+-- events stand end to end in their stream, and their windows are its parts, with the features that are set; what they
+-- consumed, joined, is the stream up to where the reading stops
 abbrev pub EventsLieEndToEnd : Type 0
 EventsLieEndToEnd = (stream : List ℕ) (start features : ℕ) (tiles : List Tile) (end : Ending) → Reads stream start tiles end
-    → EndToEnd stream start start (events_of start features tiles ++ last_event end ∷ []) × (consumed_by (events_of start features tiles ++ last_event end ∷ []) ≡ front tiles)
+    → EndToEnd stream start features start (events_of start features tiles ++ last_event end ∷ []) × (consumed_by (events_of start features tiles ++ last_event end ∷ []) ≡ front tiles)
 
 -- the start offset only moves offsets: the reading of a stream that starts so much later has the same events with
 -- every offset moved, unless a section passes the top of the offsets there
 abbrev pub StartOnlyMoves : Type 0
 StartOnlyMoves = (stream : List ℕ) (start by features : ℕ) (xs ys : List Event) (x : Reading stream start features xs) (y : Reading stream (start + by) features ys) → ¬ PassesTheTop y.end
     → ys ≡ moved_events by xs
+
+-- wherever a parser stands in a stream, the reading of that stream has a next event
+abbrev pub SomeNextEvent : Type 0
+SomeNextEvent = (p : Stand) (start features : ℕ) (prefix rest : List ℕ) (events : List Event) → Stands p start prefix → Reading (prefix ++ rest) start features events → NextEvent events prefix
+
+-- what the events of a reading say of sections and bodies is what the bytes that they consumed are
+abbrev pub EventsSayTheirBytes : Type 0
+EventsSayTheirBytes = (stream : List ℕ) (start features : ℕ) (events : List Event) → Reading stream start features events → AtOffsets (SaysItsBytes features) start events

@@ -9,7 +9,9 @@ pub mod Grammar
 pub mod Kinds
 pub mod Laws
 pub mod Moved
+pub mod NextEvent
 pub mod Reading
+pub mod SectionEvents
 pub mod SectionLaws
 pub mod Sections
 pub mod Single

@@ -4,7 +4,7 @@ use Rattle.wasm_base.specs.FaultAt.{FaultAt}
 use Rattle.wasm_base.specs.Name.{Name, named, refused, name_limit, name}
 use Rattle.wasm_base.specs.Window.{Window}
 use Rattle.wasm_parser.specs.Content.{Kind, items, data_count, custom, index, code, unknown, count_of, Ending, fault, ended}
-use Rattle.wasm_parser.specs.Grammar.{Shape, header, section, code_head, body, Tile, Verdict, final, verdict}
+use Rattle.wasm_parser.specs.Grammar.{Shape, header, section, code_head, body, Tile, final, verdict}
 use Rattle.wasm_parser.specs.Tiling.{front, grammar, Faultless}
 use Rattle.wasm_parser.specs.declared.payload.Encoding.{Encoding}
 
@@ -83,12 +83,3 @@ pub record Reading (stream : List ℕ) (start features : ℕ) (events : List Eve
   pub end : Ending
   pub reads : Reads stream start tiles end
   pub listed : events ≡ events_of start features tiles ++ last_event end ∷ []
-
--- The front of a stream that these tiles cover is followed by this verdict in that stream.
-pub record NextEvent (start : ℕ) (covered stream : List ℕ) (next : Verdict) : Type 0 where
-  pub tiles : List Tile
-  pub rest : List ℕ
-  pub faultless : Faultless start tiles
-  pub covers : front tiles ≡ covered
-  pub whole : stream ≡ covered ++ rest
-  pub stands : verdict (grammar start tiles) rest ≡ next

@@ -1,11 +1,11 @@
 -- A walk over the payloads of a whole stream.
-use Rattle.std.specs.Prelude.{◌≡◌, ◌↔◌, ℕ, ◌+◌, ◌-◌, ◌<◌, ◌^◌, Bool, true, false, List, [], ◌∷◌, length, drop, map, filter_map, Option, Some, None, Result, Ok, Err, if◌then◌else◌}
+use Rattle.std.specs.Prelude.{◌≡◌, ◌↔◌, ℕ, ◌+◌, ◌-◌, ◌<◌, ◌^◌, Bool, true, false, List, [], ◌∷◌, length, drop, map, filter_map, All, Option, Some, None, Result, Ok, Err, if◌then◌else◌}
 use Rattle.std.specs.declared.ops.Range.{Range}
 use Rattle.std.specs.Iterator.{Drains}
 use Rattle.wasm_base.specs.FaultAt.{fault_at}
 use Rattle.wasm_base.specs.declared.error.Error.{Error}
 use Rattle.wasm_parser.specs.Accepted.{IsAccepted}
-use Rattle.wasm_parser.specs.Answers.{told_by, is_end, Parses}
+use Rattle.wasm_parser.specs.Answers.{told_by, is_end, ItemsBegin, Parses}
 use Rattle.wasm_parser.specs.Reading.{Told, stopped, ending, Event, Reading}
 use Rattle.wasm_parser.specs.Sections.{section_of, TiledBySections}
 use Rattle.wasm_parser.specs.Stands.{Stand, new_stand}
@@ -60,10 +60,16 @@ EndsAt offset (x ∷ (y ∷ ys)) = EndsAt offset (y ∷ ys)
 abbrev pub sections_given : List (Result Payload Error) → List (ℕ × Range ℕ)
 sections_given given = filter_map (λ x. section_of (told_item x)) given
 
+-- The reader in a payload stands where its items begin.
+abbrev pub HoldsItems : Result Payload Error → Type 0
+HoldsItems (Ok payload) = ItemsBegin payload
+HoldsItems (Err e) = Unit {0}
+
 -- What a walk gives up to its first `None` is the reading of this stream, which starts at this offset; its last is the end
 -- exactly if the stream is accepted, which then is a header and the sections that the payloads are.
 pub record GivesReading (start features : ℕ) (bytes : List ℕ) (walk : Walk) : Type 0 where
   pub reading : (given : List (Result Payload Error)) → Drains NextPayload walk given → (events : List Event) → Reading bytes start features events → map told_item given ≡ map told_event events
+  pub items : (given : List (Result Payload Error)) → Drains NextPayload walk given → All HoldsItems given
   pub accepted : (given : List (Result Payload Error)) → Drains NextPayload walk given → IsAccepted bytes ↔ EndsAt (start + length bytes) (map told_item given)
   pub sections : (given : List (Result Payload Error)) → Drains NextPayload walk given → (a : IsAccepted bytes) → TiledBySections bytes start (sections_given given) a.encoding a.frames
 

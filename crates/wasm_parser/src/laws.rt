@@ -1,7 +1,7 @@
 //! Laws of the definitions of framing, and what comparing and copying encodings tells, each the contract of a function
 //! that does nothing.
 ghost use Rattle.wasm_base.specs.Comparing.{TellsSame, CopiesSame, CopiesAlways};
-ghost use Rattle.wasm_parser.specs.Laws.{AcceptedEnds, EventsLieEndToEnd, FaultEnds, FaultLiesWithin, LongestTiling, OneReading, ParserSuffices, SomeReading, StartOnlyMoves, TilesStandAlone};
+ghost use Rattle.wasm_parser.specs.Laws.{AcceptedEnds, EventsLieEndToEnd, FaultEnds, EventsSayTheirBytes, FaultLiesWithin, LongestTiling, OneReading, ParserSuffices, SomeNextEvent, SomeReading, StartOnlyMoves, TilesStandAlone};
 ghost use Rattle.wasm_parser.specs.SectionLaws.{BodiesFollowTheirCount, RanksAscend, SectionsTile};
 ghost use Rattle.wasm_parser.specs.Worked.{EdgesOfRules, WorkedStreams};
 
@@ -95,4 +95,16 @@ pub fn equal_encodings_are_the_same()
     ensures equal { TellsSame ⟦<Encoding as PartialEq>⟧.eq }
     ensures copy { CopiesSame ⟦<Encoding as Clone>⟧.is_clone }
     ensures copied { CopiesAlways ⟦<Encoding as Clone>⟧.is_infallible }
+{}
+
+/// Wherever a parser stands in a stream, the reading of that stream has a next event.
+pub fn some_next_event()
+    ensures { SomeNextEvent }
+{}
+
+/// What the events of a reading, accepted or not, say of sections and bodies is what the bytes that they consumed are: of
+/// a section its id, a length field and the content, which are the bytes of its range and begin with the count, index
+/// or name that is told (of a code section only the content up to its count); of a body a size field and its window.
+pub fn events_say_their_bytes()
+    ensures { EventsSayTheirBytes }
 {}

@@ -3,7 +3,7 @@ ghost use Rattle.std.specs.List.{list_all, list_any};
 ghost use Rattle.std.specs.Prelude.{⊤, ◌≡◌, ◌+◌, ◌-◌, ◌<◌, ◌^◌, ◌==◌, ◌&&◌, not, IsTrue, true, false, [], length, nat_lt, nat_eq, option_to_list};
 ghost use Rattle.wasm_base.specs.Outcome.{Gives};
 ghost use Rattle.wasm_base.specs.Window.{place};
-ghost use Rattle.wasm_parser.specs.Answers.{told_by, IsTold, StandsThere, Passes, Consumes, Parses};
+ghost use Rattle.wasm_parser.specs.Answers.{told_by, IsTold, StandsThere, Passes, Consumes, Parses, FaultsWithin, IsUnchanged};
 ghost use Rattle.wasm_parser.specs.Content.{custom, items, data_count, unknown, kind_of as form_of};
 ghost use Rattle.wasm_parser.specs.Counts.{kind_of_module, is_miscounted_by};
 ghost use Rattle.wasm_parser.specs.Grammar.{verdict, section_grammar, framed as framed_grammar, sized as sized_grammar, content_grammar, whole_grammar, code_grammar, body_grammar};
@@ -358,6 +358,8 @@ impl Parser {
         ensures answers { Parses self.old bytes.now result self.new }
         ensures tells { TellsNext self.old bytes.now result self.new }
         ensures consumes { Consumes bytes.now result }
+        ensures faults { FaultsWithin self.old bytes.now result }
+        ensures unchanged { IsUnchanged self.old result self.new }
     {
         self.answer(bytes)
     }

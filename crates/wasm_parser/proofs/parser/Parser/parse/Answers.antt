@@ -1,5 +1,5 @@
 use Rattle.wasm_parser.proofs.Following.{tells_next}
-use Rattle.wasm_parser.proofs.Turning.{consumes}
+use Rattle.wasm_parser.proofs.Turning.{consumes, faults_within, unchanged}
 use Rattle.wasm_parser.proofs.parser.Parser.parse.Goals as goal
 
 pub returns-clause-consumes : goal.returns-clause-consumes
@@ -7,3 +7,9 @@ returns-clause-consumes c = consumes c.args.self.now c.answer.new.self c.args.by
 
 pub returns-clause-tells : goal.returns-clause-tells
 returns-clause-tells c = tells_next c.args.self.now c.answer.new.self c.args.bytes.now c.answer.result c.answer.ensures
+
+pub returns-clause-faults : goal.returns-clause-faults
+returns-clause-faults c = faults_within c.args.self.now c.answer.new.self c.args.bytes.now c.answer.result c.answer.ensures
+
+pub returns-clause-unchanged : goal.returns-clause-unchanged
+returns-clause-unchanged c = unchanged c.args.self.now c.answer.new.self c.args.bytes.now c.answer.result c.answer.ensures
