@@ -1,5 +1,6 @@
 pub mod Comparing
 pub mod FaultAt
+pub mod Features
 pub mod Found
 pub mod Groups
 pub mod Header

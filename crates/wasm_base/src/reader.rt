@@ -2,6 +2,7 @@
 ghost use Rattle.std.specs.Prelude.{⊤, ◌≡◌, ◌+◌, ◌<◌, ◌≤◌, ◌^◌, ◌==◌, ◌↔◌, IsTrue, IfOk, OnOk, Some, None, length};
 ghost use Rattle.std.specs.Int.RustNames.{bit_and};
 ghost use Rattle.wasm_base.specs.FaultAt.{fault_at, at_offset};
+ghost use Rattle.wasm_base.specs.Features.{feature_bits};
 ghost use Rattle.wasm_base.specs.Groups.{sum_bound};
 ghost use Rattle.wasm_base.specs.Header.{agree, magic, header_version_at};
 ghost use Rattle.wasm_base.specs.Item.{Means};
@@ -38,11 +39,12 @@ pub struct BinaryReader<'a> {
 
 impl<'a> Model for BinaryReader<'a> {
     ghost use Rattle.std.specs.Prelude.{◌+◌, ◌≤◌, ◌<◌, ◌^◌, length};
+    ghost use Rattle.wasm_base.specs.Features.{feature_bits};
     ghost use Rattle.wasm_base.specs.Window.{Window};
 
     ghost Value = { Window };
 
-    ghost view = { λ r. record { features = r.features.0; start = r.start; bytes = r.bytes.now; position = r.position } };
+    ghost view = { λ r. record { features = feature_bits r.features; start = r.start; bytes = r.bytes.now; position = r.position } };
 
     ghost invariant = { λ r. (r.position ≤ length r.bytes.now) × (r.start + length r.bytes.now < 2 ^ 64) };
 }
@@ -81,7 +83,7 @@ impl<'a> BinaryReader<'a> {
     /// A reader of bytes that begin at this offset of the stream. `fits` tells whether they may.
     pub fn new_features(bytes: &'a [u8], offset: u64, features: WasmFeatures) -> Self
         requires { offset + length bytes.now < 2 ^ 64 }
-        ensures { result ≡ record { features = features.0; start = offset; bytes = bytes.now; position = 0 } }
+        ensures { result ≡ record { features = feature_bits features; start = offset; bytes = bytes.now; position = 0 } }
     {
         BinaryReader {
             bytes,
@@ -156,7 +158,7 @@ impl<'a> BinaryReader<'a> {
 
     /// The features that its reads take.
     pub fn features(&self) -> WasmFeatures
-        ensures { result.0 ≡ self.now.features }
+        ensures { feature_bits result ≡ self.now.features }
     {
         self.features
     }
