@@ -38,3 +38,4 @@ pub mod ToldSections
 pub mod Turning
 pub mod Walking
 pub mod WorkedLaws
+pub mod WorkedFieldsLaws

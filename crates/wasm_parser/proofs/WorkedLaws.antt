@@ -9,13 +9,13 @@ use Rattle.wasm_parser.specs.Grammar.{header, section, code_head, body, Tile, ve
 use Rattle.wasm_parser.specs.Worked.{m, component, EdgesOfRules, WorkedStreams}
 use Rattle.wasm_parser.specs.declared.payload.Encoding.TheVariants.{Module, Component}
 
-abbrev head : Tile
+abbrev pub head : Tile
 head = record { shape = header 1 Module; bytes = m }
 
-abbrev component_head : Tile
+abbrev pub component_head : Tile
 component_head = record { shape = header 13 Component; bytes = component }
 
-abbrev section_tile : Kind → ℕ → List ℕ → Tile
+abbrev pub section_tile : Kind → ℕ → List ℕ → Tile
 section_tile kind id content = record { shape = section kind id content; bytes = id ∷ length content ∷ content }
 
 abbrev functions : ℕ → Tile
@@ -28,10 +28,10 @@ abbrev body_tile : List ℕ → Tile
 body_tile content = record { shape = body content; bytes = length content ∷ content }
 
 -- a section whose content is one byte, 0
-abbrev small_tile : Kind → ℕ → Tile
+abbrev pub small_tile : Kind → ℕ → Tile
 small_tile kind id = section_tile kind id (0 ∷ [])
 
-empty_name : is_utf8 [] ≡ true
+pub empty_name : is_utf8 [] ≡ true
 empty_name = is_utf8-from_IsUtf8 [] IsUtf8-nil
 
 pub worked_streams : WorkedStreams

@@ -23,3 +23,4 @@ pub mod Tiling
 pub mod Turns
 pub mod Waiting
 pub mod Worked
+pub mod WorkedFields

@@ -19,9 +19,13 @@ component = 0x00 ∷ 0x61 ∷ 0x73 ∷ 0x6d ∷ 0x0d ∷ 0x00 ∷ 0x01 ∷ 0x00 
 abbrev pub event : Told → List ℕ → Event
 event told consumed = record { told = told; consumed = consumed }
 
--- The reading of this stream at offset 0, with all features, ends so.
+-- The reading of this stream, which starts at this offset, ends so.
+abbrev pub EndsFrom : (start : ℕ) → List ℕ → Ending → Type 0
+EndsFrom start stream end = (tiles : List Tile) × Reads stream start tiles end
+
+-- The reading of this stream, which starts at offset 0, ends so.
 abbrev pub EndsSo : List ℕ → Ending → Type 0
-EndsSo stream end = (tiles : List Tile) × Reads stream 0 tiles end
+EndsSo stream end = EndsFrom 0 stream end
 
 -- a function section and a code section with its one body
 abbrev pub ABody : Type 0
@@ -72,7 +76,7 @@ pub record WorkedStreams : Type 0 where
   pub code_of_none : EndsSo (m ++ small 10) (ended 11)
   pub trailing : EndsSo (m ++ 3 ∷ 2 ∷ 1 ∷ 0 ∷ 10 ∷ 3 ∷ 1 ∷ 0 ∷ 0 ∷ []) (fault (at_offset TrailingCode 16))
   pub past_the_section : EndsSo (m ++ 3 ∷ 2 ∷ 2 ∷ 0 ∷ 10 ∷ 2 ∷ 2 ∷ 0 ∷ 0 ∷ []) (fault (at_offset UnexpectedEof 16))
-  pub too_large : (tiles : List Tile) × Reads (m ++ 0 ∷ 6 ∷ []) 18446744073709551600 tiles (fault (record { fault = SectionTooLarge; offset = 18446744073709551609; number = Some 6 }))
+  pub too_large : EndsFrom 18446744073709551600 (m ++ 0 ∷ 6 ∷ []) (fault (record { fault = SectionTooLarge; offset = 18446744073709551609; number = Some 6 }))
 
 -- streams at the edges of the rules, by what each has
 pub record EdgesOfRules : Type 0 where
@@ -88,7 +92,7 @@ pub record EdgesOfRules : Type 0 where
   pub length_cut : EndsSo (m ++ 1 ∷ 0x80 ∷ []) (fault (at_offset UnexpectedEof 10))
   pub length_too_long : EndsSo (m ++ 1 ∷ 0x80 ∷ 0x80 ∷ 0x80 ∷ 0x80 ∷ 0x80 ∷ []) (fault (at_offset (NumberTooLong VarU32) 13))
   pub section_cut : EndsSo (m ++ 1 ∷ 2 ∷ 0 ∷ []) (fault (at_offset UnexpectedEof 10))
-  pub at_the_top : (tiles : List Tile) × Reads (m ++ small 0) 18446744073709551604 tiles (ended 18446744073709551615)
+  pub at_the_top : EndsFrom 18446744073709551604 (m ++ small 0) (ended 18446744073709551615)
   pub count_too_large : EndsSo (m ++ 1 ∷ 5 ∷ 0xff ∷ 0xff ∷ 0xff ∷ 0xff ∷ 0x1f ∷ []) (fault (at_offset (NumberTooLarge VarU32) 14))
   pub count_cut : EndsSo (m ++ 1 ∷ 1 ∷ 0x80 ∷ []) (fault (at_offset UnexpectedEof 11))
   pub types_behind_custom : EndsSo (m ++ small 1 ++ small 0 ++ small 1) (fault (at_offset OutOfOrder 16))

@@ -4,6 +4,7 @@ ghost use Rattle.wasm_base.specs.Comparing.{TellsSame, CopiesSame, CopiesAlways}
 ghost use Rattle.wasm_parser.specs.Laws.{AcceptedEnds, EventsLieEndToEnd, FaultEnds, EventsSayTheirBytes, FaultLiesWithin, LongestTiling, OneReading, ParserSuffices, SomeNextEvent, SomeReading, StartOnlyMoves, TilesStandAlone};
 ghost use Rattle.wasm_parser.specs.SectionLaws.{BodiesFollowTheirCount, RanksAscend, SectionsTile};
 ghost use Rattle.wasm_parser.specs.Worked.{EdgesOfRules, WorkedStreams};
+ghost use Rattle.wasm_parser.specs.WorkedFields.{LongFields, TwoFaults, WholeReadings};
 
 use crate::payload::Encoding;
 
@@ -107,4 +108,19 @@ pub fn some_next_event()
 /// or name that is told (of a code section only the content up to its count); of a body a size field and its window.
 pub fn events_say_their_bytes()
     ensures { EventsSayTheirBytes }
+{}
+
+/// Streams that start elsewhere, with other features, names and all ids, have the readings that were computed by hand.
+pub fn whole_readings()
+    ensures { WholeReadings }
+{}
+
+/// Streams whose fields take several bytes before a fault end at that fault, by hand.
+pub fn long_fields()
+    ensures { LongFields }
+{}
+
+/// Streams in which two checks can fail end at the first of them, by hand.
+pub fn two_faults()
+    ensures { TwoFaults }
 {}

@@ -1,6 +1,7 @@
 // The parser of a stream.
 ghost use Rattle.std.specs.List.{list_all, list_any};
 ghost use Rattle.std.specs.Prelude.{⊤, ◌≡◌, ◌+◌, ◌-◌, ◌<◌, ◌^◌, ◌==◌, ◌&&◌, not, IsTrue, true, false, [], length, nat_lt, nat_eq, option_to_list};
+ghost use Rattle.wasm_base.specs.Features.{feature_bits};
 ghost use Rattle.wasm_base.specs.Outcome.{Gives};
 ghost use Rattle.wasm_base.specs.Window.{place};
 ghost use Rattle.wasm_parser.specs.Answers.{told_by, IsTold, StandsThere, Passes, Consumes, Parses, FaultsWithin, IsUnchanged};
@@ -51,11 +52,12 @@ pub struct Parser {
 }
 
 impl Model for Parser {
+    ghost use Rattle.wasm_base.specs.Features.{feature_bits};
     ghost use Rattle.wasm_parser.specs.Stands.{Stand};
 
     ghost Value = { Stand };
 
-    ghost view = { λ p. record { offset = p.offset; features = p.features.0; expects_header = p.expects_header; encoding = p.encoding; rank = p.rank; functions = p.functions; codes = p.codes; datas = p.datas; data_counts = p.data_counts; bodies = p.bodies; left = p.left } };
+    ghost view = { λ p. record { offset = p.offset; features = feature_bits p.features; expects_header = p.expects_header; encoding = p.encoding; rank = p.rank; functions = p.functions; codes = p.codes; datas = p.datas; data_counts = p.data_counts; bodies = p.bodies; left = p.left } };
 }
 
 impl Clone for Parser {
@@ -124,14 +126,14 @@ impl Parser {
 
     /// The features of the windows of every payload.
     pub fn features(&self) -> WasmFeatures
-        ensures { result.0 ≡ self.now.features }
+        ensures { feature_bits result ≡ self.now.features }
     {
         self.features
     }
 
     /// Gives the windows of the payloads to come these features.
     pub fn set_features(&mut self, features: WasmFeatures)
-        ensures { self.new ≡ record self.old { features = features.0 } }
+        ensures { self.new ≡ record self.old { features = feature_bits features } }
     {
         self.features = features;
     }
