@@ -1,7 +1,24 @@
 // Payloads as debug text.
 use super::parsing::HEADER;
 use crate::Parser;
+use std::alloc::Global;
+use std::process::Abort;
 use std::test::Fail;
+
+// What the parser answers on these bytes is printed so, behind its first words.
+fn is_printed(
+    rt: &impl Abort,
+    alloc: Global,
+    parser: &mut Parser,
+    bytes: &[u8],
+    text: &str,
+) -> Result<(), Fail> {
+    let chunk = parser.parse(bytes, true)?;
+    let debug = format!(in alloc; "{chunk:?}")?;
+    let wanted = format!(in alloc; "Parsed {{ consumed: {text}")?;
+    assert_eq!(rt; debug.as_str(), wanted.as_str());
+    Ok(())
+}
 
 #[test]
 fn payloads_as_debug_text(rt: HostRuntime) -> Result<(), Fail> {
@@ -45,10 +62,60 @@ fn payloads_as_debug_text(rt: HostRuntime) -> Result<(), Fail> {
         (b"", "0, payload: End(57) }"),
     ];
     for (bytes, text) in rows {
-        let chunk = parser.parse(bytes, true)?;
-        let debug = format!(in rt.alloc(); "{chunk:?}")?;
-        let wanted = format!(in rt.alloc(); "Parsed {{ consumed: {text}")?;
-        assert_eq!(rt; debug.as_str(), wanted.as_str());
+        is_printed(&rt, rt.alloc(), &mut parser, bytes, text)?;
+    }
+    Ok(())
+}
+
+#[test]
+fn large_numbers_as_debug_text(rt: HostRuntime) -> Result<(), Fail> {
+    let mut parser = Parser::new(1000);
+    let rows: [(&[u8], &str); 6] = [
+        (
+            HEADER,
+            "8, payload: Version { num: 1, encoding: Module, range: 1000..1008 } }",
+        ),
+        (b"\x03\x02\xac\x02", "4, payload: FunctionSection(\"...\") }"),
+        (
+            b"\x08\x02\xac\x02",
+            "4, payload: StartSection { func: 300, range: 1014..1016 } }",
+        ),
+        (
+            b"\x0c\x02\xad\x02",
+            "4, payload: DataCountSection { count: 301, range: 1018..1020 } }",
+        ),
+        (
+            b"\x0a\xaf\x02\xac\x02",
+            "5, payload: CodeSectionStart { count: 300, unchecked_range: 1023..1326, size: 301 } }",
+        ),
+        (b"\x02\0\x0b", "3, payload: CodeSectionEntry(\"...\") }"),
+    ];
+    for (bytes, text) in rows {
+        is_printed(&rt, rt.alloc(), &mut parser, bytes, text)?;
+    }
+    Ok(())
+}
+
+#[test]
+fn a_components_payloads_as_debug_text(rt: HostRuntime) -> Result<(), Fail> {
+    let mut parser = Parser::new(1000);
+    let rows: [(&[u8], &str); 4] = [
+        (
+            b"\0asm\x0d\0\x01\0",
+            "8, payload: Version { num: 13, encoding: Component, range: 1000..1008 } }",
+        ),
+        (
+            b"\x01\x83\0\0\0\0",
+            "6, payload: UnknownSection { id: 1, range: 1011..1014 } }",
+        ),
+        (
+            b"\0\x83\0\x01a\0",
+            "6, payload: CustomSection(CustomSectionReader { name: \"a\", data_offset: 1019, data: \"...\", range: 1017..1020 }) }",
+        ),
+        (b"", "0, payload: End(1020) }"),
+    ];
+    for (bytes, text) in rows {
+        is_printed(&rt, rt.alloc(), &mut parser, bytes, text)?;
     }
     Ok(())
 }

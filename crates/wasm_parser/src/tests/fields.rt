@@ -1,0 +1,378 @@
+// Streams with fields of several bytes, other starts, other features, and two faults at once.
+use crate::{Error, Fault, FunctionBody, NumberKind, Parser, Payload, Result, WasmFeatures};
+use std::test::Fail;
+
+// The fault at which a stream ends, if it does.
+fn fault_of(stream: &[u8], start: u64) -> Option<Error> {
+    for payload in Parser::new(start).parse_all(stream) {
+        if let Err(error) = payload {
+            return Some(error);
+        }
+    }
+    None
+}
+
+#[test]
+fn long_fields_of_sections(rt: HostRuntime) {
+    let rows: [(&[u8], u64, Fault, u64); 10] = [
+        (
+            b"\0\x61\x73\x6d\x01\0\0\0\x03\x01\0\x01\x81\0\0",
+            0,
+            Fault::OutOfOrder,
+            14,
+        ),
+        (
+            b"\0\x61\x73\x6d\x01\0\0\0\x01\x81\x80\0\0\x01\x81\x80\x80\0\0",
+            100,
+            Fault::OutOfOrder,
+            118,
+        ),
+        (
+            b"\0\x61\x73\x6d\x01\0\0\0\x01\x83\0\0",
+            0,
+            Fault::UnexpectedEof,
+            11,
+        ),
+        (
+            b"\0\x61\x73\x6d\x01\0\0\0\x01\xff\xff\xff\xff\x1f",
+            7,
+            Fault::NumberTooLarge(NumberKind::VarU32),
+            20,
+        ),
+        (
+            b"\0\x61\x73\x6d\x01\0\0\0\x01\x82\0\x80\x80",
+            0,
+            Fault::UnexpectedEof,
+            13,
+        ),
+        (
+            b"\0\x61\x73\x6d\x01\0\0\0\x02\x86\0\x80\x80\x80\x80\x80\0",
+            100,
+            Fault::NumberTooLong(NumberKind::VarU32),
+            115,
+        ),
+        (
+            b"\0\x61\x73\x6d\x01\0\0\0\0\x82\0\x85\0",
+            0,
+            Fault::UnexpectedEof,
+            13,
+        ),
+        (
+            b"\0\x61\x73\x6d\x01\0\0\0\0\x84\0\xa1\x8d\x86\0",
+            0,
+            Fault::StringSize,
+            14,
+        ),
+        (
+            b"\0\x61\x73\x6d\x01\0\0\0\0\x84\0\x82\0\xc3\x28",
+            0,
+            Fault::MalformedUtf8,
+            14,
+        ),
+        (
+            b"\0\x61\x73\x6d\x01\0\0\0\x08\x83\0\x81\0\0",
+            0,
+            Fault::StartContent,
+            13,
+        ),
+    ];
+    for (stream, start, fault, offset) in rows {
+        assert_eq!(rt;
+            fault_of(stream, start),
+            Some(Error::new(fault, offset)),
+            "{stream:?}"
+        );
+    }
+}
+
+#[test]
+fn long_fields_of_counts_and_bodies(rt: HostRuntime) {
+    let rows: [(&[u8], u64, Fault, u64); 10] = [
+        (
+            b"\0\x61\x73\x6d\x01\0\0\0\x0c\x83\0\x81\0\0",
+            0,
+            Fault::DataCountContent,
+            13,
+        ),
+        (
+            b"\0\x61\x73\x6d\x01\0\0\0\x03\x81\0\0\x0a\x83\0\x81\0\0",
+            0,
+            Fault::FunctionCodeDiffer,
+            15,
+        ),
+        (
+            b"\0\x61\x73\x6d\x01\0\0\0\x0a\x83\0\x81\0\0",
+            0,
+            Fault::CodeWithoutFunction,
+            11,
+        ),
+        (
+            b"\0\x61\x73\x6d\x01\0\0\0\x03\x02\x01\0\x0a\x81\0\x81\0",
+            0,
+            Fault::UnexpectedEof,
+            15,
+        ),
+        (
+            b"\0\x61\x73\x6d\x01\0\0\0\x0c\x82\0\x81\0\x0b\x83\0\x82\0\0",
+            0,
+            Fault::DataCountDiffer,
+            19,
+        ),
+        (
+            b"\0\x61\x73\x6d\x01\0\0\0\x03\x02\x01\0\x0a\x89\0\x81\0\x85\x80\0\0",
+            0,
+            Fault::UnexpectedEof,
+            20,
+        ),
+        (
+            b"\0\x61\x73\x6d\x01\0\0\0\x03\x02\x01\0\x0a\x84\0\x81\0\x81\0\x0b",
+            0,
+            Fault::UnexpectedEof,
+            17,
+        ),
+        (
+            b"\0\x61\x73\x6d\x01\0\0\0\x03\x02\x01\0\x0a\x89\0\x81\0\x80\x80",
+            0,
+            Fault::UnexpectedEof,
+            19,
+        ),
+        (
+            b"\0\x61\x73\x6d\x01\0\0\0\x03\x02\x01\0\x0a\x85\0\x81\0\x80\0\0",
+            0,
+            Fault::TrailingCode,
+            19,
+        ),
+        (
+            b"\0\x61\x73\x6d\x01\0\0\0\x03\x02\x01\0\x0a\x87\0\x81\0\x82\0\0\x0b\xff",
+            1000,
+            Fault::TrailingCode,
+            1021,
+        ),
+    ];
+    for (stream, start, fault, offset) in rows {
+        assert_eq!(rt;
+            fault_of(stream, start),
+            Some(Error::new(fault, offset)),
+            "{stream:?}"
+        );
+    }
+}
+
+#[test]
+fn the_first_of_two_faults_in_sections(rt: HostRuntime) {
+    let rows: [(&[u8], u64, Fault, u64); 10] = [
+        (
+            b"\0\x61\x73\x6d\x01\0\0\0\0\x61\x73\x6d",
+            0,
+            Fault::MagicAtSection,
+            8,
+        ),
+        (
+            b"\0\x61\x73\x6d\x01\0\0\0\x80\x80",
+            0,
+            Fault::MalformedSectionId,
+            8,
+        ),
+        (
+            b"\0\x61\x73\x6d\x01\0\0\0\x03\x01\0\x01\x80\x80\x80\x80\x10",
+            0,
+            Fault::NumberTooLarge(NumberKind::VarU32),
+            16,
+        ),
+        (
+            b"\0\x61\x73\x6d\x01\0\0\0\x03\x01\0\x01\x80",
+            0,
+            Fault::UnexpectedEof,
+            13,
+        ),
+        (
+            b"\0\x61\x73\x6d\x01\0\0\0\x03\x01\0\x01\x85\0",
+            0,
+            Fault::OutOfOrder,
+            14,
+        ),
+        (
+            b"\0\x61\x73\x6d\x01\0\0\0\x09\x01\0\x08\x82\0\0\0",
+            0,
+            Fault::OutOfOrder,
+            14,
+        ),
+        (
+            b"\0\x61\x73\x6d\x01\0\0\0\x08\x83\0\0\0",
+            0,
+            Fault::UnexpectedEof,
+            11,
+        ),
+        (
+            b"\0\x61\x73\x6d\x01\0\0\0\x0c\x01\x01\x0b\x82\0\x80\x80",
+            0,
+            Fault::UnexpectedEof,
+            16,
+        ),
+        (
+            b"\0\x61\x73\x6d\x01\0\0\0\x0b\x01\0\x0a\x81\0",
+            0,
+            Fault::OutOfOrder,
+            14,
+        ),
+        (
+            b"\0\x61\x73\x6d\x01\0\0\0\x03\x01\0\x0b\x01\0\x0a\x82\0\x01\0",
+            0,
+            Fault::OutOfOrder,
+            17,
+        ),
+    ];
+    for (stream, start, fault, offset) in rows {
+        assert_eq!(rt;
+            fault_of(stream, start),
+            Some(Error::new(fault, offset)),
+            "{stream:?}"
+        );
+    }
+}
+
+#[test]
+fn the_first_of_two_faults_in_code_and_headers(rt: HostRuntime) {
+    let rows: [(&[u8], u64, Fault, u64); 10] = [
+        (
+            b"\0\x61\x73\x6d\x01\0\0\0\x0a\x01\x80\x80\x80\x80\x10",
+            0,
+            Fault::NumberTooLarge(NumberKind::VarU32),
+            14,
+        ),
+        (
+            b"\0\x61\x73\x6d\x01\0\0\0\x03\x02\x01\0\x0a\x01\x82\0",
+            0,
+            Fault::UnexpectedEof,
+            14,
+        ),
+        (
+            b"\0\x61\x73\x6d\x01\0\0\0\x0a\x01\x82\0",
+            0,
+            Fault::UnexpectedEof,
+            10,
+        ),
+        (
+            b"\0\x61\x73\x6d\x01\0\0\0\x03\x02\x01\0\x0a\x02\x01\x80\x80\x80\x80\x10",
+            0,
+            Fault::NumberTooLarge(NumberKind::VarU32),
+            19,
+        ),
+        (
+            b"\0\x61\x73\x6d\x01\0\0\0\x03\x02\x01\0\x0a\x03\x01\x85\0\0",
+            0,
+            Fault::UnexpectedEof,
+            17,
+        ),
+        (
+            b"\0\x61\x73\x6d\x01\0\0\0\x03\x02\x01\0\x0c\x01\x01",
+            0,
+            Fault::FunctionWithoutCode,
+            15,
+        ),
+        (
+            b"\0\x61\x73\x6d\x01\0\0\0\0\x02\x02\xff",
+            0,
+            Fault::UnexpectedEof,
+            11,
+        ),
+        (
+            b"\0\x61\x73\x6e",
+            0,
+            Fault::BadMagic,
+            0,
+        ),
+        (
+            b"\0\x61\x73\x6e\x02\0\0\0",
+            0,
+            Fault::BadMagic,
+            0,
+        ),
+        (
+            b"\0\x61\x73\x6d\x02\0\0",
+            9,
+            Fault::UnexpectedEof,
+            13,
+        ),
+    ];
+    for (stream, start, fault, offset) in rows {
+        assert_eq!(rt;
+            fault_of(stream, start),
+            Some(Error::new(fault, offset)),
+            "{stream:?}"
+        );
+    }
+}
+
+#[test]
+fn too_large_comes_before_out_of_order(rt: HostRuntime) {
+    let start = 18446744073709551600;
+    let fault = Error::new(Fault::SectionTooLarge, 18446744073709551612).with_number(6);
+    assert_eq!(rt;
+        fault_of(b"\0asm\x01\0\0\0\x01\x01\0\x01\x06", start),
+        Some(fault)
+    );
+}
+
+#[test]
+fn a_name_that_is_not_utf8(rt: HostRuntime) {
+    assert_eq!(rt;
+        fault_of(b"\0asm\x01\0\0\0\0\x84\0\x82\0\xc3\x28", 0),
+        Some(Error::new(Fault::MalformedUtf8, 14))
+    );
+}
+
+// A module whose fields take several bytes: a type section that announces 128 items, a function, a start, a body of
+// three bytes and a custom section.
+const MODULE: &[u8] =
+    b"\0asm\x01\0\0\0\x01\x83\0\x80\x01\x09\x03\x83\0\x81\0\x07\x08\x82\0\x81\x01\x0a\x87\0\x81\0\x83\0\0\x41\x0b\0\x84\0\x01a\x05\x06";
+
+// The payloads of that module, which starts at 1000, read with the first feature alone.
+fn payloads<'a>(
+    rt: &impl std::process::Abort,
+    alloc: std::alloc::Global,
+) -> std::result::Result<Vec<Payload<'a>>, Fail> {
+    let mut parser = Parser::new(1000);
+    parser.set_features(WasmFeatures::MEMORY64);
+    let mut payloads = Vec::new(alloc);
+    for payload in parser.parse_all(MODULE) {
+        payloads.push(payload?)?;
+    }
+    assert_eq!(rt; payloads.len(), 8);
+    Ok(payloads)
+}
+
+#[test]
+fn windows_of_a_module_that_starts_elsewhere(rt: HostRuntime) -> std::result::Result<(), Fail> {
+    let set = WasmFeatures::MEMORY64;
+    for payload in &payloads(&rt, rt.alloc())? {
+        match payload {
+            Payload::Version { range, .. } => assert_eq!(rt; *range, 1000..1008),
+            Payload::TypeSection(section) => {
+                assert_eq!(rt; (section.count(), section.range()), (128, 1011..1014));
+            }
+            Payload::FunctionSection(section) => {
+                assert_eq!(rt; (section.count(), section.range()), (1, 1017..1020));
+                assert_eq!(rt; section.original_position(), 1019);
+            }
+            Payload::StartSection { func, range } => {
+                assert_eq!(rt; (*func, range.start, range.end), (129, 1023, 1025));
+            }
+            Payload::CodeSectionEntry(body) => {
+                assert_eq!(rt; body.range(), 1032..1035);
+                assert_eq!(rt; body.get_binary_reader().features(), set);
+                assert_eq!(rt;
+                    body.get_binary_reader().remaining_buffer(),
+                    b"\0\x41\x0b".as_slice()
+                );
+            }
+            Payload::CustomSection(section) => {
+                assert_eq!(rt; (section.range(), section.data_offset()), (1038..1042, 1040));
+                assert_eq!(rt; (section.name(), section.data()), ("a", b"\x05\x06".as_slice()));
+                assert_eq!(rt; section.data_reader().features(), set);
+            }
+            _other => {}
+        }
+    }
+    Ok(())
+}
