@@ -1,7 +1,8 @@
 -- Counted items in a window. Core specification, Binary format, Modules, Sections.
-use Rattle.std.specs.Prelude.{◌≡◌, ℕ, zero, suc, ◌+◌, ◌<◌, ◌≤◌, Bool, true, false, List, [], ◌∷◌, ◌++◌, length, Option, Some, None, Result, Ok, Err, nat_lt, if◌then◌else◌, map}
+use Rattle.std.specs.Prelude.{◌≡◌, ℕ, zero, suc, ◌+◌, ◌<◌, ◌≤◌, Bool, true, false, List, [], ◌∷◌, ◌++◌, length, Option, Some, None, IfSome, Result, Ok, Err, nat_lt, if◌then◌else◌, map}
 use Rattle.std.specs.Iterator.{Drains}
 use Rattle.wasm_base.specs.FaultAt.{FaultAt, fault_at, at_offset}
+use Rattle.wasm_base.specs.Hints.{TakesNoMemory, HintsNothing}
 use Rattle.wasm_base.specs.Item.{Alike}
 use Rattle.wasm_base.specs.Outcome.{Outcome}
 use Rattle.wasm_base.specs.Window.{Window, Place, place, KeepsWindow}
@@ -43,6 +44,8 @@ pub record NextItem {T : Type 0} (meaning : Place → Outcome T → Type 0) (s :
   pub last : s.ended ≡ false → s.left ≡ 0 → ReadsEnd s given t
   pub count : t.count ≡ s.count
   pub keeps : KeepsWindow s.reader t.reader
+  pub memory : IfSome given TakesNoMemory
+  pub no_hint : s.left ≡ 0 → IfSome given HintsNothing
 
 -- how many items may still come: one more than are left, for a fault at the end
 abbrev pub most_items : Items → ℕ
