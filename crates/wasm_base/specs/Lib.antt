@@ -13,4 +13,5 @@ pub mod Number
 pub mod Outcome
 pub mod Section
 pub mod TextOf
+pub mod Widths
 pub mod Window

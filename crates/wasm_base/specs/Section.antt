@@ -4,15 +4,22 @@ use Rattle.std.specs.Iterator.{Drains}
 use Rattle.wasm_base.specs.FaultAt.{FaultAt, fault_at, at_offset}
 use Rattle.wasm_base.specs.Hints.{TakesNoMemory, HintsNothing}
 use Rattle.wasm_base.specs.Item.{Alike}
+use Rattle.wasm_base.specs.Number.{unsigned_at}
 use Rattle.wasm_base.specs.Outcome.{Outcome}
 use Rattle.wasm_base.specs.Window.{Window, Place, place, KeepsWindow}
 use Rattle.wasm_base.specs.declared.error.Error.{Error}
 use Rattle.wasm_base.specs.declared.fault.Fault.TheVariants.{SizeMismatch}
+use Rattle.wasm_base.specs.declared.fault.NumberKind.TheVariants.{VarU32}
 
 -- a window behind whose count so many items are announced
 pub record Section : Type 0 where
   pub reader : Window
   pub count : ℕ
+
+-- The section at a place was read: its count, a u32, and its reader is after that. Or the count has this fault.
+abbrev pub ReadsSection : Place → Result Section Error → Type 0
+ReadsSection p (Ok section) = unsigned_at VarU32 p ≡ Ok (section.count, place section.reader)
+ReadsSection p (Err e) = unsigned_at VarU32 p ≡ Err (fault_at e)
 
 -- where an iterator over items stands: so many were announced, so many are left of these, and whether it is over
 pub record Items : Type 0 where
