@@ -7,3 +7,4 @@ pub mod SameFaults
 pub mod Telling
 pub mod Texts
 pub mod Walks
+pub mod Widths

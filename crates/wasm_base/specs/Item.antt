@@ -1,7 +1,7 @@
 -- What an item type means, and how meanings are put together.
-use Rattle.std.specs.Prelude.{◌≡◌, ◌↔◌, ℕ, zero, suc, ◌-◌, ◌⊎◌, Bool, true, false, Result, Ok, Err}
+use Rattle.std.specs.Prelude.{◌≡◌, ◌↔◌, ℕ, zero, suc, ◌-◌, ◌⊎◌, Bool, true, false, List, Some, Result, Ok, Err}
 use Rattle.wasm_base.specs.FaultAt.{fault_at, at_offset}
-use Rattle.wasm_base.specs.Name.{byte_at}
+use Rattle.wasm_base.specs.Name.{byte_at, name_limit, text_at}
 use Rattle.wasm_base.specs.Outcome.{Outcome, ◌>>=◌}
 use Rattle.wasm_base.specs.Window.{Place}
 use Rattle.wasm_base.specs.declared.error.Error.{Error}
@@ -20,6 +20,10 @@ outcome_map view (Err e) = Err e
 -- the one outcome that a reading gives, where view is what counts of a value
 abbrev pub ReadsAs : {X Y : Type 0} → (X → Y) → (Place → Outcome Y) → Place → Outcome X → Type 0
 ReadsAs view reading before outcome = reading before ≡ outcome_map view outcome
+
+-- a name, where view is its text
+abbrev pub ReadsName : {X : Type 0} → (X → List ℕ) → Place → Outcome X → Type 0
+ReadsName view = ReadsAs view (text_at (Some name_limit))
 
 -- one item and then another
 abbrev pub BothInTurn : {A B : Type 0} → (Place → Outcome A → Type 0) → (Place → Outcome B → Type 0) → Place → Outcome (A × B) → Type 0

@@ -4,6 +4,7 @@ pub mod Features
 pub mod Found
 pub mod Groups
 pub mod Header
+pub mod Hints
 pub mod Item
 pub mod Limits
 pub mod Message
@@ -12,4 +13,5 @@ pub mod Number
 pub mod Outcome
 pub mod Section
 pub mod TextOf
+pub mod Widths
 pub mod Window

@@ -1,17 +1,25 @@
 -- Counted items in a window. Core specification, Binary format, Modules, Sections.
-use Rattle.std.specs.Prelude.{◌≡◌, ℕ, zero, suc, ◌+◌, ◌<◌, ◌≤◌, Bool, true, false, List, [], ◌∷◌, ◌++◌, length, Option, Some, None, Result, Ok, Err, nat_lt, if◌then◌else◌, map}
+use Rattle.std.specs.Prelude.{◌≡◌, ℕ, zero, suc, ◌+◌, ◌<◌, ◌≤◌, Bool, true, false, List, [], ◌∷◌, ◌++◌, length, Option, Some, None, IfSome, Result, Ok, Err, nat_lt, if◌then◌else◌, map}
 use Rattle.std.specs.Iterator.{Drains}
 use Rattle.wasm_base.specs.FaultAt.{FaultAt, fault_at, at_offset}
+use Rattle.wasm_base.specs.Hints.{TakesNoMemory, HintsNothing}
 use Rattle.wasm_base.specs.Item.{Alike}
+use Rattle.wasm_base.specs.Number.{unsigned_at}
 use Rattle.wasm_base.specs.Outcome.{Outcome}
 use Rattle.wasm_base.specs.Window.{Window, Place, place, KeepsWindow}
 use Rattle.wasm_base.specs.declared.error.Error.{Error}
 use Rattle.wasm_base.specs.declared.fault.Fault.TheVariants.{SizeMismatch}
+use Rattle.wasm_base.specs.declared.fault.NumberKind.TheVariants.{VarU32}
 
 -- a window behind whose count so many items are announced
 pub record Section : Type 0 where
   pub reader : Window
   pub count : ℕ
+
+-- The section at a place was read: its count, a u32, and its reader is after that. Or the count has this fault.
+abbrev pub ReadsSection : Place → Result Section Error → Type 0
+ReadsSection p (Ok section) = unsigned_at VarU32 p ≡ Ok (section.count, place section.reader)
+ReadsSection p (Err e) = unsigned_at VarU32 p ≡ Err (fault_at e)
 
 -- where an iterator over items stands: so many were announced, so many are left of these, and whether it is over
 pub record Items : Type 0 where
@@ -43,6 +51,8 @@ pub record NextItem {T : Type 0} (meaning : Place → Outcome T → Type 0) (s :
   pub last : s.ended ≡ false → s.left ≡ 0 → ReadsEnd s given t
   pub count : t.count ≡ s.count
   pub keeps : KeepsWindow s.reader t.reader
+  pub memory : IfSome given TakesNoMemory
+  pub no_hint : s.left ≡ 0 → IfSome given HintsNothing
 
 -- how many items may still come: one more than are left, for a fault at the end
 abbrev pub most_items : Items → ℕ

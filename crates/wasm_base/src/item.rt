@@ -1,7 +1,7 @@
 // What can be read from a reader.
-ghost use Rattle.std.specs.Prelude.{◌≡◌, Some};
-ghost use Rattle.wasm_base.specs.Item.{Means, ReadsAs, BothInTurn, bool_at};
-ghost use Rattle.wasm_base.specs.Name.{name_limit, text_at};
+ghost use Rattle.std.specs.Prelude.{◌≡◌};
+ghost use Rattle.wasm_base.specs.Hints.{TakesNoMemory, Hints, missing_of_sized};
+ghost use Rattle.wasm_base.specs.Item.{Means, ReadsAs, ReadsName, BothInTurn, bool_at};
 ghost use Rattle.wasm_base.specs.Number.{unsigned_at};
 ghost use Rattle.wasm_base.specs.Outcome.{Outcome};
 ghost use Rattle.wasm_base.specs.Window.{Place, place, KeepsWindow};
@@ -20,10 +20,11 @@ pub trait FromReader<'a>: Sized + Drop {
 
     /// Reads an item.
     ///
-    /// After a fault the reader stands in its window, and not before where it was.
+    /// After a fault the reader stands in its window, and not before where it was. A fault is never `OutOfMemory`.
     fn from_reader(reader: &mut BinaryReader<'a>) -> Result<Self>
         ensures means { Means meaning (place reader.old) result (place reader.new) }
-        ensures keeps { KeepsWindow reader.old reader.new };
+        ensures keeps { KeepsWindow reader.old reader.new }
+        ensures memory { TakesNoMemory result };
 }
 
 /// A byte that is 0 or 1, else `InvalidBool` at it.
@@ -31,7 +32,12 @@ impl<'a> FromReader<'a> for bool {
     ghost meaning = { ReadsAs (λ truth. truth) bool_at };
 
     #[tactic(auto, unfolding(crate::specs::Item::bool_at))]
-    fn from_reader(reader: &mut BinaryReader<'a>) -> Result<Self> {
+    fn from_reader(reader: &mut BinaryReader<'a>) -> Result<Self>
+        ensures means { Means (ReadsAs (λ truth. truth) bool_at) (place reader.old) result (place reader.new) }
+        ensures keeps { KeepsWindow reader.old reader.new }
+        ensures memory { TakesNoMemory result }
+        ensures hints { Hints 1 result }
+    {
         match reader.read_u8()? {
             0 => Ok(false),
             1 => Ok(true),
@@ -44,18 +50,28 @@ impl<'a> FromReader<'a> for bool {
 impl<'a> FromReader<'a> for u32 {
     ghost use Rattle.wasm_base.specs.declared.fault.NumberKind.TheVariants.{VarU32};
 
-    ghost meaning = { ReadsAs (λ number. number) (unsigned_at VarU32) };
+    ghost meaning = { ReadsAs (λ n. n) (unsigned_at VarU32) };
 
-    fn from_reader(reader: &mut BinaryReader<'a>) -> Result<Self> {
+    fn from_reader(reader: &mut BinaryReader<'a>) -> Result<Self>
+        ensures means { Means (ReadsAs (λ n. n) (unsigned_at VarU32)) (place reader.old) result (place reader.new) }
+        ensures keeps { KeepsWindow reader.old reader.new }
+        ensures memory { TakesNoMemory result }
+        ensures hints { Hints 1 result }
+    {
         reader.read_var_u32()
     }
 }
 
 /// A name of at most 100,000 bytes, with the faults of `read_string`.
 impl<'a> FromReader<'a> for &'a str {
-    ghost meaning = { ReadsAs (λ text. text.now) (text_at (Some name_limit)) };
+    ghost meaning = { ReadsName (λ text. text.now) };
 
-    fn from_reader(reader: &mut BinaryReader<'a>) -> Result<Self> {
+    fn from_reader(reader: &mut BinaryReader<'a>) -> Result<Self>
+        ensures means { Means (ReadsName (λ text. text.now)) (place reader.old) result (place reader.new) }
+        ensures keeps { KeepsWindow reader.old reader.new }
+        ensures memory { TakesNoMemory result }
+        ensures hints { Hints (missing_of_sized (place reader.old)) result }
+    {
         reader.read_string()
     }
 }

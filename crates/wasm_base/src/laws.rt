@@ -1,10 +1,11 @@
-//! What holds of whole runs of the iterators over a section, whatever its items are, and what comparing and copying
-//! tell.
+//! What holds of whole runs of the iterators over a section, whatever its items are, how wide numbers are, and what
+//! comparing and copying tell.
 ghost use Rattle.std.specs.Prelude.{◌≡◌};
 ghost use Rattle.wasm_base.specs.Comparing.{TellsWhether, TellsSame, CopiesSame, CopiesAlways};
 ghost use Rattle.wasm_base.specs.FaultAt.{fault_at};
 ghost use Rattle.wasm_base.specs.Item.{AllowsOne, Determines};
 ghost use Rattle.wasm_base.specs.Section.{Section, Items, AtItsOffset, GivesItems, GivesTheSame, GivesEqual, told, told_item};
+ghost use Rattle.wasm_base.specs.Widths.{IsLongEnough, ChecksUnused, BoundsSum};
 
 use crate::error::Error;
 use crate::fault::{CoreStart, Fault, Lead, NumberKind};
@@ -52,6 +53,14 @@ pub fn these_allow_one_outcome<'a, T: FromReader<'a>, U: FromReader<'a>>()
     ensures determined_pair { Determines T.meaning → Determines U.meaning → Determines ⟦<(T, U) as FromReader<'a>>⟧.meaning }
 {}
 
+/// How many bytes a number takes at most, which unused bits its last byte may have, and how large the sum of its
+/// groups is: all three follow from how many bits its value has, and whether it is signed.
+pub fn widths_of_numbers()
+    ensures bytes { (kind : NumberKind) → IsLongEnough kind }
+    ensures unused { (kind : NumberKind) → ChecksUnused kind }
+    ensures sum { (kind : NumberKind) → BoundsSum kind }
+{}
+
 /// Two faults, sorts within faults or sets of features are equal exactly if they are the same.
 pub fn equal_faults_are_the_same()
     ensures number_kind { TellsSame ⟦<NumberKind as PartialEq>⟧.eq }
@@ -66,8 +75,9 @@ pub fn equal_errors_tell_the_same()
     ensures { TellsWhether (λ one other. fault_at one ≡ fault_at other) ⟦<Error as PartialEq>⟧.eq }
 {}
 
-/// A copy of a fault, of an error, its hint with it, of a set of features or of a reader is the same.
-pub fn copies_are_the_same<'a>()
+/// A copy of a fault, of an error, its hint with it, of a set of features, of a reader, of a section or of an iterator
+/// over its items is the same.
+pub fn copies_are_the_same<'a, T, U: Clone>()
     ensures error { CopiesSame ⟦<Error as Clone>⟧.is_clone }
     ensures fault { CopiesSame ⟦<Fault as Clone>⟧.is_clone }
     ensures number_kind { CopiesSame ⟦<NumberKind as Clone>⟧.is_clone }
@@ -75,10 +85,13 @@ pub fn copies_are_the_same<'a>()
     ensures core_start { CopiesSame ⟦<CoreStart as Clone>⟧.is_clone }
     ensures features { CopiesSame ⟦<WasmFeatures as Clone>⟧.is_clone }
     ensures reader { CopiesSame ⟦<BinaryReader<'a> as Clone>⟧.is_clone }
+    ensures section { CopiesSame ⟦<SectionLimited<'a, T> as Clone>⟧.is_clone }
+    ensures items { CopiesSame ⟦<SectionLimitedIntoIter<'a, U> as Clone>⟧.is_clone }
 {}
 
-/// Faults, errors, sets of features and readers can always be copied: it takes no memory.
-pub fn copies_are_always_made<'a>()
+/// Faults, errors, sets of features, readers, sections and iterators over their items can always be copied: it takes no
+/// memory.
+pub fn copies_are_always_made<'a, T, U: Clone>()
     ensures error { CopiesAlways ⟦<Error as Clone>⟧.is_infallible }
     ensures fault { CopiesAlways ⟦<Fault as Clone>⟧.is_infallible }
     ensures number_kind { CopiesAlways ⟦<NumberKind as Clone>⟧.is_infallible }
@@ -86,4 +99,6 @@ pub fn copies_are_always_made<'a>()
     ensures core_start { CopiesAlways ⟦<CoreStart as Clone>⟧.is_infallible }
     ensures features { CopiesAlways ⟦<WasmFeatures as Clone>⟧.is_infallible }
     ensures reader { CopiesAlways ⟦<BinaryReader<'a> as Clone>⟧.is_infallible }
+    ensures section { CopiesAlways ⟦<SectionLimited<'a, T> as Clone>⟧.is_infallible }
+    ensures items { CopiesAlways ⟦<SectionLimitedIntoIter<'a, U> as Clone>⟧.is_infallible }
 {}

@@ -1,10 +1,11 @@
 // A reader of bytes that knows where they stand in the whole stream.
-ghost use Rattle.std.specs.Prelude.{⊤, ◌≡◌, ◌+◌, ◌<◌, ◌≤◌, ◌^◌, ◌==◌, ◌↔◌, IsTrue, IfOk, OnOk, Some, None, length};
+ghost use Rattle.std.specs.Prelude.{⊤, ◌≡◌, ◌+◌, ◌<◌, ◌≤◌, ◌^◌, ◌==◌, ◌↔◌, IsTrue, IfOk, OnOk, OnErr, Some, None, length};
 ghost use Rattle.std.specs.Int.RustNames.{bit_and};
-ghost use Rattle.wasm_base.specs.FaultAt.{fault_at, at_offset};
+ghost use Rattle.wasm_base.specs.FaultAt.{fault_at, at_offset, hint_of};
 ghost use Rattle.wasm_base.specs.Features.{feature_bits};
 ghost use Rattle.wasm_base.specs.Groups.{sum_bound};
 ghost use Rattle.wasm_base.specs.Header.{agree, magic, header_version_at};
+ghost use Rattle.wasm_base.specs.Hints.{TakesNoMemory, Hints, missing_at, missing_of_sized, missing_of_header};
 ghost use Rattle.wasm_base.specs.Item.{Means};
 ghost use Rattle.wasm_base.specs.Name.{bytes_at, byte_at, peeked_at, peeked_byte_at, u32_at, name_limit, text_at, window_at};
 ghost use Rattle.wasm_base.specs.TextOf.{text_of};
@@ -27,8 +28,11 @@ use std::ops::Range;
 
 /// A window of the stream, and a place in it.
 ///
-/// Each read moves the place behind what it read. After a fault the place lies in the window, and not before where
-/// it was. Offsets count bytes from the start of the whole stream.
+/// Each read moves the place after what it read. After a fault of `read_bytes`, `read_u8`, `read_u32` or `read_var_u32`
+/// the place is where it was; after that of another read it lies in the window, and not before where it was. Offsets
+/// count bytes from the start of the whole stream.
+///
+/// Where bytes are missing, the error's `needed_hint` says how many: 1 in a number. No other fault of a read has one.
 #[derive(Debug, Drop)]
 pub struct BinaryReader<'a> {
     bytes: &'a [u8],
@@ -182,7 +186,8 @@ impl<'a> BinaryReader<'a> {
 
     // The error of a read that wants so many bytes more than are left.
     fn missing(&self, wanted: usize) -> Error
-        ensures { fault_at result ≡ at_offset UnexpectedEof (place self.now).offset }
+        ensures told { fault_at result ≡ at_offset UnexpectedEof (place self.now).offset }
+        ensures hint { hint_of result ≡ Some wanted }
     {
         Error::new(Fault::UnexpectedEof, self.original_position()).with_hint(wanted)
     }
@@ -197,7 +202,9 @@ impl<'a> BinaryReader<'a> {
 
     /// The next byte, which stays unread. `UnexpectedEof` here, where none is left.
     pub fn peek(&self) -> Result<u8>
-        ensures { Gives (λ b. b) result (place self.now) (peeked_byte_at (place self.now)) }
+        ensures gives { Gives (λ b. b) result (place self.now) (peeked_byte_at (place self.now)) }
+        ensures hints { Hints 1 result }
+        ensures memory { TakesNoMemory result }
     {
         match self.remaining_buffer() {
             [byte, ..] => Ok(*byte),
@@ -207,7 +214,9 @@ impl<'a> BinaryReader<'a> {
 
     /// The next `len` bytes, which stay unread. `UnexpectedEof` here, where they aren't all there.
     pub fn peek_bytes(&self, len: usize) -> Result<&'a [u8]>
-        ensures { Gives (λ bytes. bytes.now) result (place self.now) (peeked_at len (place self.now)) }
+        ensures gives { Gives (λ bytes. bytes.now) result (place self.now) (peeked_at len (place self.now)) }
+        ensures hints { Hints (missing_at len (place self.now)) result }
+        ensures memory { TakesNoMemory result }
     {
         let rest = self.remaining_buffer();
         if rest.len() < len {
@@ -220,6 +229,9 @@ impl<'a> BinaryReader<'a> {
     pub fn read_bytes(&mut self, len: usize) -> Result<&'a [u8]>
         ensures gives { Gives (λ bytes. bytes.now) result (place self.new) (bytes_at len (place self.old)) }
         ensures keeps { KeepsWindow self.old self.new }
+        ensures hints { Hints (missing_at len (place self.old)) result }
+        ensures memory { TakesNoMemory result }
+        ensures unmoved { OnErr result (self.new ≡ self.old) }
     {
         let bytes = self.peek_bytes(len)?;
         self.advance(len);
@@ -230,6 +242,9 @@ impl<'a> BinaryReader<'a> {
     pub fn read_u8(&mut self) -> Result<u8>
         ensures gives { Gives (λ b. b) result (place self.new) (byte_at (place self.old)) }
         ensures keeps { KeepsWindow self.old self.new }
+        ensures hints { Hints 1 result }
+        ensures memory { TakesNoMemory result }
+        ensures unmoved { OnErr result (self.new ≡ self.old) }
     {
         let byte = self.peek()?;
         self.advance(1);
@@ -241,6 +256,9 @@ impl<'a> BinaryReader<'a> {
     pub fn read_u32(&mut self) -> Result<u32>
         ensures gives { Gives (λ n. n) result (place self.new) (u32_at (place self.old)) }
         ensures keeps { KeepsWindow self.old self.new }
+        ensures hints { Hints (missing_at 4 (place self.old)) result }
+        ensures memory { TakesNoMemory result }
+        ensures unmoved { OnErr result (self.new ≡ self.old) }
     {
         let bytes = self.read_bytes(4)?;
         Ok(
@@ -256,6 +274,9 @@ impl<'a> BinaryReader<'a> {
     fn read_groups(&mut self, kind: NumberKind) -> Result<u128>
         ensures gives { Gives (λ n. n) result (place self.new) (unsigned_at kind (place self.old)) }
         ensures keeps { KeepsWindow self.old self.new }
+        ensures hints { Hints 1 result }
+        ensures memory { TakesNoMemory result }
+        ensures unmoved { OnErr result (self.new ≡ self.old) }
         ensures below { IfOk result (λ n. n < sum_bound kind) }
         ensures moves { OnOk result ((place self.old).offset < (place self.new).offset) }
     {
@@ -283,6 +304,9 @@ impl<'a> BinaryReader<'a> {
     pub fn read_var_u32(&mut self) -> Result<u32>
         ensures gives { Gives (λ n. n) result (place self.new) (unsigned_at VarU32 (place self.old)) }
         ensures keeps { KeepsWindow self.old self.new }
+        ensures hints { Hints 1 result }
+        ensures memory { TakesNoMemory result }
+        ensures unmoved { OnErr result (self.new ≡ self.old) }
         ensures moves { OnOk result ((place self.old).offset < (place self.new).offset) }
     {
         Ok(self.read_groups(NumberKind::VarU32)? as u32)
@@ -294,6 +318,8 @@ impl<'a> BinaryReader<'a> {
         requires { 0 < (place self.old).offset }
         ensures gives { Gives (λ text. text.now) result (place self.new) (text_of len (place self.old)) }
         ensures keeps { KeepsWindow self.old self.new }
+        ensures hints { Hints (missing_at len (place self.old)) result }
+        ensures memory { TakesNoMemory result }
     {
         let bytes = self.read_bytes(len)?;
         match std::str::from_utf8(bytes) {
@@ -310,6 +336,8 @@ impl<'a> BinaryReader<'a> {
     pub fn read_unlimited_string(&mut self) -> Result<&'a str>
         ensures gives { Gives (λ text. text.now) result (place self.new) (text_at None (place self.old)) }
         ensures keeps { KeepsWindow self.old self.new }
+        ensures hints { Hints (missing_of_sized (place self.old)) result }
+        ensures memory { TakesNoMemory result }
     {
         let size = self.read_var_u32()?;
         self.read_text(size as usize)
@@ -321,6 +349,8 @@ impl<'a> BinaryReader<'a> {
     pub fn read_string(&mut self) -> Result<&'a str>
         ensures gives { Gives (λ text. text.now) result (place self.new) (text_at (Some name_limit) (place self.old)) }
         ensures keeps { KeepsWindow self.old self.new }
+        ensures hints { Hints (missing_of_sized (place self.old)) result }
+        ensures memory { TakesNoMemory result }
     {
         let size = self.read_var_u32()? as usize;
         if size > MAX_WASM_STRING_SIZE {
@@ -335,6 +365,8 @@ impl<'a> BinaryReader<'a> {
     pub fn read_reader(&mut self) -> Result<BinaryReader<'a>>
         ensures gives { Gives (λ window. window) result (place self.new) (window_at (place self.old)) }
         ensures keeps { KeepsWindow self.old self.new }
+        ensures hints { Hints (missing_of_sized (place self.old)) result }
+        ensures memory { TakesNoMemory result }
     {
         let size = self.read_var_u32()?;
         let start = self.original_position();
@@ -346,6 +378,7 @@ impl<'a> BinaryReader<'a> {
     pub fn read<T: FromReader<'a>>(&mut self) -> Result<T>
         ensures means { Means T.meaning (place self.old) result (place self.new) }
         ensures keeps { KeepsWindow self.old self.new }
+        ensures memory { TakesNoMemory result }
     {
         T::from_reader(self)
     }
@@ -356,6 +389,8 @@ impl<'a> BinaryReader<'a> {
     pub fn read_header_version(&mut self) -> Result<u32>
         ensures gives { Gives (λ n. n) result (place self.new) (header_version_at (place self.old)) }
         ensures keeps { KeepsWindow self.old self.new }
+        ensures hints { Hints (missing_of_header (place self.old)) result }
+        ensures memory { TakesNoMemory result }
     {
         let start = self.original_position();
         let front = self.read_bytes(4)?;

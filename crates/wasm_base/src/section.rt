@@ -3,8 +3,9 @@ ghost use Rattle.std.specs.Prelude.{⊤, ◌≡◌, ◌+◌, ◌<◌, ◌^◌, t
 ghost use Rattle.std.specs.Iterator.{at_most, UpTo};
 ghost use Rattle.std.specs.Iterator.SizeHint.{IsWithinCount};
 ghost use Rattle.wasm_base.specs.FaultAt.{fault_at};
+ghost use Rattle.wasm_base.specs.Hints.{TakesNoMemory, Hints};
 ghost use Rattle.wasm_base.specs.Number.{unsigned_at};
-ghost use Rattle.wasm_base.specs.Section.{Section, Items, NextItem, AtItsOffset, all_items, most_items};
+ghost use Rattle.wasm_base.specs.Section.{Section, ReadsSection, Items, NextItem, AtItsOffset, all_items, most_items};
 ghost use Rattle.wasm_base.specs.Window.{place, KeepsWindow};
 ghost use Rattle.wasm_base.specs.declared.fault.NumberKind.TheVariants.{VarU32};
 
@@ -78,8 +79,10 @@ impl<'a, T> Clone for SectionLimited<'a, T> {
 impl<'a, T> SectionLimited<'a, T> {
     /// Reads the count, a u32, with the faults of `read_var_u32`. No item is looked at.
     pub fn new(mut reader: BinaryReader<'a>) -> Result<Self>
-        ensures gives { MatchResult result (λ section. unsigned_at VarU32 (place reader.entry) ≡ Ok (section.count, place section.reader)) (λ e. unsigned_at VarU32 (place reader.entry) ≡ Err (fault_at e)) }
+        ensures gives { ReadsSection (place reader.entry) result }
         ensures keeps { IfOk result (λ section. KeepsWindow reader.entry section.reader) }
+        ensures hints { Hints 1 result }
+        ensures memory { TakesNoMemory result }
     {
         let count = reader.read_var_u32()?;
         Ok(SectionLimited {

@@ -1,5 +1,6 @@
 // Custom sections.
 ghost use Rattle.std.specs.Prelude.{⊤, ◌≡◌, ◌+◌, length};
+ghost use Rattle.wasm_base.specs.Hints.{Hints, TakesNoMemory, missing_of_sized};
 ghost use Rattle.wasm_base.specs.Window.{place, whole_window};
 
 use std::alloc::AllocError;
@@ -47,7 +48,9 @@ impl<'a> CustomSectionReader<'a> {
     /// byte, where it is above 100,000; `UnexpectedEof` behind the size, where the window ends before the name does;
     /// `MalformedUtf8` at the name's last byte.
     pub fn new(mut reader: BinaryReader<'a>) -> Result<Self>
-        ensures { ReadsCustom reader.entry result }
+        ensures reads { ReadsCustom reader.entry result }
+        ensures hints { Hints (missing_of_sized (place reader.entry)) result }
+        ensures memory { TakesNoMemory result }
     {
         let name = reader.read_string()?;
         Ok(CustomSectionReader { name, reader })

@@ -2,6 +2,7 @@
 #![tactic(auto)]
 
 mod custom;
+pub mod laws;
 #[cfg(test)]
 mod tests;
 
