@@ -1,11 +1,12 @@
 -- Worked streams, and what is read of them.
 use Rattle.std.specs.Prelude.{ℕ, List, [], ◌∷◌, ◌++◌, flat_map, Some}
 use Rattle.wasm_base.specs.FaultAt.{at_offset}
+use Rattle.wasm_base.specs.Window.{Window}
 use Rattle.wasm_base.specs.declared.fault.Fault.TheVariants.{OutOfOrder, FunctionWithoutCode, FunctionCodeDiffer, CodeWithoutFunction, DataCountWithoutData, DataCountDiffer, StartContent, DataCountContent, SectionTooLarge, MalformedSectionId, TrailingCode, UnexpectedEof, MagicAtSection, BadMagic, UnknownVersion, NumberTooLong, NumberTooLarge, StringSize}
 use Rattle.wasm_base.specs.declared.fault.NumberKind.TheVariants.{VarU32}
 use Rattle.wasm_parser.specs.Content.{Ending, fault, ended}
 use Rattle.wasm_parser.specs.Grammar.{Tile}
-use Rattle.wasm_parser.specs.Reading.{version, counted, start_section, data_count_section, code_start, code_entry, custom_section, unknown_section, ending, window_over, Told, Event, Reads, Reading}
+use Rattle.wasm_parser.specs.Reading.{version, counted, start_section, data_count_section, code_start, code_entry, custom_section, unknown_section, ending, Told, Event, Reads, Reading}
 use Rattle.wasm_parser.specs.declared.payload.Encoding.TheVariants.{Module, Component}
 
 -- a module's header
@@ -15,6 +16,10 @@ m = 0x00 ∷ 0x61 ∷ 0x73 ∷ 0x6d ∷ 0x01 ∷ 0x00 ∷ 0x00 ∷ 0x00 ∷ []
 -- a component's header
 abbrev pub component : List ℕ
 component = 0x00 ∷ 0x61 ∷ 0x73 ∷ 0x6d ∷ 0x0d ∷ 0x00 ∷ 0x01 ∷ 0x00 ∷ []
+
+-- a window with these features and bytes, from this offset on, of which nothing is read
+abbrev pub window : (features start : ℕ) → List ℕ → Window
+window features start bytes = record { features = features; start = start; bytes = bytes; position = 0 }
 
 abbrev pub event : Told → List ℕ → Event
 event told consumed = record { told = told; consumed = consumed }
@@ -31,9 +36,9 @@ EndsSo stream end = EndsFrom 0 stream end
 abbrev pub ABody : Type 0
 ABody = Reading (m ++ 3 ∷ 2 ∷ 1 ∷ 0 ∷ 0x0a ∷ 4 ∷ 1 ∷ 2 ∷ 0 ∷ 0x0b ∷ []) 0 3
     (event (version 1 Module 0 8) m
-    ∷ event (counted 3 1 (window_over 3 10 (1 ∷ 0 ∷ []))) (3 ∷ 2 ∷ 1 ∷ 0 ∷ [])
+    ∷ event (counted 3 1 (window 3 10 (1 ∷ 0 ∷ []))) (3 ∷ 2 ∷ 1 ∷ 0 ∷ [])
     ∷ event (code_start 1 14 18 3) (0x0a ∷ 4 ∷ 1 ∷ [])
-    ∷ event (code_entry (window_over 3 16 (0 ∷ 0x0b ∷ []))) (2 ∷ 0 ∷ 0x0b ∷ [])
+    ∷ event (code_entry (window 3 16 (0 ∷ 0x0b ∷ []))) (2 ∷ 0 ∷ 0x0b ∷ [])
     ∷ event (ending 18) [] ∷ [])
 
 -- a section with this id whose content is one byte, 0
@@ -41,7 +46,7 @@ abbrev pub small : ℕ → List ℕ
 small id = id ∷ 1 ∷ 0 ∷ []
 
 abbrev pub counted_none : (id from : ℕ) → Event
-counted_none id from = event (counted id 0 (window_over 3 from (0 ∷ []))) (small id)
+counted_none id from = event (counted id 0 (window 3 from (0 ∷ []))) (small id)
 
 -- a module with every section, in their order
 abbrev pub EverySection : Type 0
@@ -53,7 +58,7 @@ EverySection = Reading (m ++ flat_map small (1 ∷ 2 ∷ 3 ∷ 4 ∷ 5 ∷ 13 �
     ∷ event (data_count_section 0 40 41) (small 12)
     ∷ event (code_start 0 43 44 0) (small 10)
     ∷ counted_none 11 46
-    ∷ event (custom_section [] 50 (window_over 3 49 (0 ∷ []))) (small 0)
+    ∷ event (custom_section [] 50 (window 3 49 (0 ∷ []))) (small 0)
     ∷ event (ending 50) [] ∷ [])
 
 -- a component, whose type section is an unknown one

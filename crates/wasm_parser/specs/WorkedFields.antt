@@ -4,15 +4,15 @@ use Rattle.wasm_base.specs.FaultAt.{at_offset}
 use Rattle.wasm_base.specs.declared.fault.Fault.TheVariants.{UnexpectedEof, BadMagic, MagicAtSection, MalformedSectionId, SectionTooLarge, OutOfOrder, StartContent, DataCountContent, FunctionCodeDiffer, FunctionWithoutCode, CodeWithoutFunction, DataCountDiffer, TrailingCode, NumberTooLong, NumberTooLarge, StringSize}
 use Rattle.wasm_base.specs.declared.fault.NumberKind.TheVariants.{VarU32}
 use Rattle.wasm_parser.specs.Content.{fault}
-use Rattle.wasm_parser.specs.Reading.{version, counted, start_section, code_start, code_entry, custom_section, unknown_section, ending, window_over, Event, Reading}
-use Rattle.wasm_parser.specs.Worked.{m, component, event, small, EndsFrom}
+use Rattle.wasm_parser.specs.Reading.{version, counted, start_section, code_start, code_entry, custom_section, unknown_section, ending, Event, Reading}
+use Rattle.wasm_parser.specs.Worked.{m, component, event, window, small, EndsFrom}
 use Rattle.wasm_parser.specs.declared.payload.Encoding.TheVariants.{Module, Component}
 
 -- a custom section with a name and data
 abbrev pub NameAndData : Type 0
 NameAndData = Reading (m ++ 0 ∷ 3 ∷ 1 ∷ 97 ∷ 7 ∷ []) 0 3
     (event (version 1 Module 0 8) m
-    ∷ event (custom_section (97 ∷ []) 12 (window_over 3 10 (1 ∷ 97 ∷ 7 ∷ []))) (0 ∷ 3 ∷ 1 ∷ 97 ∷ 7 ∷ [])
+    ∷ event (custom_section (97 ∷ []) 12 (window 3 10 (1 ∷ 97 ∷ 7 ∷ []))) (0 ∷ 3 ∷ 1 ∷ 97 ∷ 7 ∷ [])
     ∷ event (ending 13) [] ∷ [])
 
 -- a section of a component with this id, which is unknown and stands at this offset
@@ -23,7 +23,7 @@ unknown_one id from = event (unknown_section id (0 ∷ []) from (from + 1)) (sma
 abbrev pub AllIdsOfAComponent : Type 0
 AllIdsOfAComponent = Reading (component ++ flat_map small (0 ∷ 1 ∷ 2 ∷ 3 ∷ 4 ∷ 5 ∷ 6 ∷ 7 ∷ 8 ∷ 9 ∷ 10 ∷ 11 ∷ 12 ∷ 13 ∷ [])) 0 3
     (event (version 13 Component 0 8) component
-    ∷ event (custom_section [] 11 (window_over 3 10 (0 ∷ []))) (small 0)
+    ∷ event (custom_section [] 11 (window 3 10 (0 ∷ []))) (small 0)
     ∷ unknown_one 1 13 ∷ unknown_one 2 16 ∷ unknown_one 3 19 ∷ unknown_one 4 22 ∷ unknown_one 5 25 ∷ unknown_one 6 28 ∷ unknown_one 7 31 ∷ unknown_one 8 34 ∷ unknown_one 9 37 ∷ unknown_one 10 40 ∷ unknown_one 11 43 ∷ unknown_one 12 46 ∷ unknown_one 13 49
     ∷ event (ending 50) [] ∷ [])
 
@@ -31,12 +31,12 @@ AllIdsOfAComponent = Reading (component ++ flat_map small (0 ∷ 1 ∷ 2 ∷ 3 �
 abbrev pub Elsewhere : Type 0
 Elsewhere = Reading (m ++ 1 ∷ 0x83 ∷ 0 ∷ 0x80 ∷ 1 ∷ 9 ∷ 3 ∷ 0x83 ∷ 0 ∷ 0x81 ∷ 0 ∷ 7 ∷ 8 ∷ 0x82 ∷ 0 ∷ 0x81 ∷ 1 ∷ 10 ∷ 0x87 ∷ 0 ∷ 0x81 ∷ 0 ∷ 0x83 ∷ 0 ∷ 0 ∷ 65 ∷ 11 ∷ 0 ∷ 0x84 ∷ 0 ∷ 1 ∷ 97 ∷ 5 ∷ 6 ∷ []) 1000 1
     (event (version 1 Module 1000 1008) m
-    ∷ event (counted 1 128 (window_over 1 1011 (0x80 ∷ 1 ∷ 9 ∷ []))) (1 ∷ 0x83 ∷ 0 ∷ 0x80 ∷ 1 ∷ 9 ∷ [])
-    ∷ event (counted 3 1 (window_over 1 1017 (0x81 ∷ 0 ∷ 7 ∷ []))) (3 ∷ 0x83 ∷ 0 ∷ 0x81 ∷ 0 ∷ 7 ∷ [])
+    ∷ event (counted 1 128 (window 1 1011 (0x80 ∷ 1 ∷ 9 ∷ []))) (1 ∷ 0x83 ∷ 0 ∷ 0x80 ∷ 1 ∷ 9 ∷ [])
+    ∷ event (counted 3 1 (window 1 1017 (0x81 ∷ 0 ∷ 7 ∷ []))) (3 ∷ 0x83 ∷ 0 ∷ 0x81 ∷ 0 ∷ 7 ∷ [])
     ∷ event (start_section 129 1023 1025) (8 ∷ 0x82 ∷ 0 ∷ 0x81 ∷ 1 ∷ [])
     ∷ event (code_start 1 1028 1035 5) (10 ∷ 0x87 ∷ 0 ∷ 0x81 ∷ 0 ∷ [])
-    ∷ event (code_entry (window_over 1 1032 (0 ∷ 65 ∷ 11 ∷ []))) (0x83 ∷ 0 ∷ 0 ∷ 65 ∷ 11 ∷ [])
-    ∷ event (custom_section (97 ∷ []) 1040 (window_over 1 1038 (1 ∷ 97 ∷ 5 ∷ 6 ∷ []))) (0 ∷ 0x84 ∷ 0 ∷ 1 ∷ 97 ∷ 5 ∷ 6 ∷ [])
+    ∷ event (code_entry (window 1 1032 (0 ∷ 65 ∷ 11 ∷ []))) (0x83 ∷ 0 ∷ 0 ∷ 65 ∷ 11 ∷ [])
+    ∷ event (custom_section (97 ∷ []) 1040 (window 1 1038 (1 ∷ 97 ∷ 5 ∷ 6 ∷ []))) (0 ∷ 0x84 ∷ 0 ∷ 1 ∷ 97 ∷ 5 ∷ 6 ∷ [])
     ∷ event (ending 1042) [] ∷ [])
 
 -- whole readings

@@ -75,7 +75,10 @@ fn large_numbers_as_debug_text(rt: HostRuntime) -> Result<(), Fail> {
             HEADER,
             "8, payload: Version { num: 1, encoding: Module, range: 1000..1008 } }",
         ),
-        (b"\x03\x02\xac\x02", "4, payload: FunctionSection(\"...\") }"),
+        (
+            b"\x03\x02\xac\x02",
+            "4, payload: FunctionSection(\"...\") }",
+        ),
         (
             b"\x08\x02\xac\x02",
             "4, payload: StartSection { func: 300, range: 1014..1016 } }",

@@ -276,24 +276,9 @@ fn the_first_of_two_faults_in_code_and_headers(rt: HostRuntime) {
             Fault::UnexpectedEof,
             11,
         ),
-        (
-            b"\0\x61\x73\x6e",
-            0,
-            Fault::BadMagic,
-            0,
-        ),
-        (
-            b"\0\x61\x73\x6e\x02\0\0\0",
-            0,
-            Fault::BadMagic,
-            0,
-        ),
-        (
-            b"\0\x61\x73\x6d\x02\0\0",
-            9,
-            Fault::UnexpectedEof,
-            13,
-        ),
+        (b"\0\x61\x73\x6e", 0, Fault::BadMagic, 0),
+        (b"\0\x61\x73\x6e\x02\0\0\0", 0, Fault::BadMagic, 0),
+        (b"\0\x61\x73\x6d\x02\0\0", 9, Fault::UnexpectedEof, 13),
     ];
     for (stream, start, fault, offset) in rows {
         assert_eq!(rt;
@@ -367,8 +352,14 @@ fn windows_of_a_module_that_starts_elsewhere(rt: HostRuntime) -> std::result::Re
                 );
             }
             Payload::CustomSection(section) => {
-                assert_eq!(rt; (section.range(), section.data_offset()), (1038..1042, 1040));
-                assert_eq!(rt; (section.name(), section.data()), ("a", b"\x05\x06".as_slice()));
+                assert_eq!(rt;
+                    (section.range(), section.data_offset()),
+                    (1038..1042, 1040)
+                );
+                assert_eq!(rt;
+                    (section.name(), section.data()),
+                    ("a", b"\x05\x06".as_slice())
+                );
                 assert_eq!(rt; section.data_reader().features(), set);
             }
             _other => {}
