@@ -62,14 +62,7 @@ items_in (GlobalSection s) = Some (6, s)
 items_in (ExportSection s) = Some (7, s)
 items_in (ElementSection s) = Some (9, s)
 items_in (DataSection s) = Some (11, s)
-items_in (Version num encoding range) = None
-items_in (StartSection func range) = None
-items_in (DataCountSection count range) = None
-items_in (CodeSectionStart count unchecked_range size) = None
-items_in (CodeSectionEntry body) = None
-items_in (CustomSection s) = None
-items_in (UnknownSection id contents range) = None
-items_in (End at) = None
+items_in other = None
 
 -- The reader in a payload stands where the items begin.
 abbrev pub ItemsBegin : Payload → Type 0
@@ -107,15 +100,7 @@ Answers old (final (ended offset)) (Err e) new = ⊥
 -- whether the end is told
 abbrev pub is_end : Told → Bool
 is_end (ending offset) = true
-is_end (version num encoding from to) = false
-is_end (counted id count window) = false
-is_end (start_section func from to) = false
-is_end (data_count_section count from to) = false
-is_end (code_start count from to size) = false
-is_end (code_entry window) = false
-is_end (custom_section name data_offset window) = false
-is_end (unknown_section id contents from to) = false
-is_end (stopped f) = false
+is_end other = false
 
 -- The bytes that are consumed are there, and there are some of them but at the end.
 abbrev pub Consumes : List ℕ → Result Chunk Error → Type 0

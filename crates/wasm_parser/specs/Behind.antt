@@ -8,15 +8,7 @@ use Rattle.wasm_parser.specs.declared.payload.Encoding.{Encoding}
 -- the encoding that a header names, or the one that was known
 abbrev pub encoding_behind : Told → Encoding → Encoding
 encoding_behind (version num encoding from to) known = encoding
-encoding_behind (counted id count window) known = known
-encoding_behind (start_section func from to) known = known
-encoding_behind (data_count_section count from to) known = known
-encoding_behind (code_start count from to size) known = known
-encoding_behind (code_entry window) known = known
-encoding_behind (custom_section name data_offset window) known = known
-encoding_behind (unknown_section id contents from to) known = known
-encoding_behind (stopped f) known = known
-encoding_behind (ending offset) known = known
+encoding_behind other known = known
 
 -- the rank of a section, or 0
 abbrev pub rank_told : Told → ℕ
@@ -24,25 +16,14 @@ rank_told (counted id count window) = slice_index ranks id
 rank_told (start_section func from to) = slice_index ranks 8
 rank_told (data_count_section count from to) = slice_index ranks 12
 rank_told (code_start count from to size) = slice_index ranks 10
-rank_told (version num encoding from to) = 0
-rank_told (code_entry window) = 0
-rank_told (custom_section name data_offset window) = 0
-rank_told (unknown_section id contents from to) = 0
-rank_told (stopped f) = 0
-rank_told (ending offset) = 0
+rank_told other = 0
 
 -- the id and the count of a section that has a count
 abbrev pub count_told : Told → Option (ℕ × ℕ)
 count_told (counted id count window) = Some (id, count)
 count_told (data_count_section count from to) = Some (12, count)
 count_told (code_start count from to size) = Some (10, count)
-count_told (version num encoding from to) = None
-count_told (start_section func from to) = None
-count_told (code_entry window) = None
-count_told (custom_section name data_offset window) = None
-count_told (unknown_section id contents from to) = None
-count_told (stopped f) = None
-count_told (ending offset) = None
+count_told other = None
 
 -- the count of the section with this id, or the one that was known
 abbrev pub count_behind : ℕ → Option (ℕ × ℕ) → Option ℕ → Option ℕ
@@ -53,27 +34,13 @@ count_behind n None known = known
 abbrev pub bodies_behind : Told → ℕ → ℕ
 bodies_behind (code_start count from to size) known = count
 bodies_behind (code_entry window) known = known - 1
-bodies_behind (version num encoding from to) known = 0
-bodies_behind (counted id count window) known = 0
-bodies_behind (start_section func from to) known = 0
-bodies_behind (data_count_section count from to) known = 0
-bodies_behind (custom_section name data_offset window) known = 0
-bodies_behind (unknown_section id contents from to) known = 0
-bodies_behind (stopped f) known = 0
-bodies_behind (ending offset) known = 0
+bodies_behind other known = 0
 
 -- the bytes that it still misses, behind what took so many
 abbrev pub left_behind : Told → (taken : ℕ) → ℕ → ℕ
 left_behind (code_start count from to size) taken known = size
 left_behind (code_entry window) taken known = known - taken
-left_behind (version num encoding from to) taken known = 0
-left_behind (counted id count window) taken known = 0
-left_behind (start_section func from to) taken known = 0
-left_behind (data_count_section count from to) taken known = 0
-left_behind (custom_section name data_offset window) taken known = 0
-left_behind (unknown_section id contents from to) taken known = 0
-left_behind (stopped f) taken known = 0
-left_behind (ending offset) taken known = 0
+left_behind other taken known = 0
 
 -- a parser that has told this, which ends at this offset
 abbrev pub behind_told : Stand → (to : ℕ) → Told → Stand

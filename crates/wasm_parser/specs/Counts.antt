@@ -35,12 +35,4 @@ ReadsCounted id w (Err e) = unsigned_at VarU32 (place w) ≡ Err (fault_at e)
 -- A data section has another count than these.
 abbrev pub is_miscounted_by : List ℕ → Told → Bool
 is_miscounted_by counts (counted id count window) = id == 11 && not (list_all (nat_eq count) counts)
-is_miscounted_by counts (version num encoding from to) = false
-is_miscounted_by counts (start_section func from to) = false
-is_miscounted_by counts (data_count_section count from to) = false
-is_miscounted_by counts (code_start count from to size) = false
-is_miscounted_by counts (code_entry window) = false
-is_miscounted_by counts (custom_section name data_offset window) = false
-is_miscounted_by counts (unknown_section id contents from to) = false
-is_miscounted_by counts (stopped f) = false
-is_miscounted_by counts (ending offset) = false
+is_miscounted_by counts other = false

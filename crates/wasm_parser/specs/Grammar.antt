@@ -126,11 +126,7 @@ code_grammar past offset size = number offset (λ count width.
 abbrev pub wrong_data : Past → Kind → (id offset : ℕ) → List ℕ → Option FaultAt
 wrong_data past items id offset content =
     when (id == 11 && not (list_all (nat_eq (count_of content)) past.data_counts)) (at_offset DataCountDiffer offset)
-wrong_data past custom id offset content = None
-wrong_data past index id offset content = None
-wrong_data past data_count id offset content = None
-wrong_data past code id offset content = None
-wrong_data past unknown id offset content = None
+wrong_data past other id offset content = None
 
 -- the content of any other section, of this length and at this offset
 abbrev pub whole_grammar : Past → Kind → (id offset length : ℕ) → Grammar
@@ -142,11 +138,7 @@ whole_grammar past kind id offset size = bytes size offset (λ content.
 -- the content of a section, of this length and at this offset
 abbrev pub content_grammar : Past → Kind → (id offset length : ℕ) → Grammar
 content_grammar past code id offset size = code_grammar past offset size
-content_grammar past custom id offset size = whole_grammar past custom id offset size
-content_grammar past items id offset size = whole_grammar past items id offset size
-content_grammar past index id offset size = whole_grammar past index id offset size
-content_grammar past data_count id offset size = whole_grammar past data_count id offset size
-content_grammar past unknown id offset size = whole_grammar past unknown id offset size
+content_grammar past kind id offset size = whole_grammar past kind id offset size
 
 -- a section of this kind and length, whose length field and content begin at these offsets
 abbrev pub sized : Past → Kind → (id field offset length : ℕ) → Grammar

@@ -15,16 +15,13 @@ window_range w = record { start = w.start; end = w.start + length w.bytes }
 -- the section that is told: its id, and the offsets of its content. A code section is told at its start, with all its
 -- content; its bodies are no sections.
 abbrev pub section_of : Told → Option (ℕ × Range ℕ)
-section_of (version num encoding from to) = None
 section_of (counted id count window) = Some (id, window_range window)
 section_of (start_section func from to) = Some (8, record { start = from; end = to })
 section_of (data_count_section count from to) = Some (12, record { start = from; end = to })
 section_of (code_start count from to size) = Some (10, record { start = from; end = to })
-section_of (code_entry window) = None
 section_of (custom_section name data_offset window) = Some (0, window_range window)
 section_of (unknown_section id contents from to) = Some (id, record { start = from; end = to })
-section_of (stopped f) = None
-section_of (ending offset) = None
+section_of other = None
 
 -- the sections that events tell, in their order
 abbrev pub sections_of : List Event → List (ℕ × Range ℕ)

@@ -72,13 +72,8 @@ grammar_of p = if p.expects_header then header_grammar p.offset else inside (pas
 abbrev pub count_after : ℕ → Shape → Option ℕ → Option ℕ
 count_after n (section items id content) old = if nat_eq id n then Some (count_of content) else old
 count_after n (section data_count id content) old = if nat_eq id n then Some (count_of content) else old
-count_after n (section custom id content) old = old
-count_after n (section index id content) old = old
-count_after n (section code id content) old = old
-count_after n (section unknown id content) old = old
 count_after n (code_head count width size) old = if nat_eq 10 n then Some count else old
-count_after n (header version encoding) old = old
-count_after n (body content) old = old
+count_after n other old = old
 
 -- the greatest rank, behind one more tile
 abbrev pub rank_after : ℕ → ℕ → ℕ

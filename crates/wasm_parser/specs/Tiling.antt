@@ -16,9 +16,7 @@ front (t ∷ earlier) = front earlier ++ t.bytes
 -- the encoding that the header names
 abbrev pub encoding_in : Shape → Encoding → Encoding
 encoding_in (header version encoding) other = encoding
-encoding_in (section kind id content) other = other
-encoding_in (code_head count width size) other = other
-encoding_in (body content) other = other
+encoding_in other known = known
 
 abbrev pub encoding_of : List Tile → Encoding
 encoding_of [] = Module
@@ -28,20 +26,14 @@ encoding_of (t ∷ earlier) = encoding_in t.shape (encoding_of earlier)
 abbrev pub tile_rank : Shape → ℕ
 tile_rank (section kind id content) = rank_of kind id
 tile_rank (code_head count width size) = rank_of code 10
-tile_rank (header version encoding) = 0
-tile_rank (body content) = 0
+tile_rank other = 0
 
 -- the count of a section with this id, before other counts
 abbrev pub count_in : ℕ → Shape → List ℕ → List ℕ
 count_in n (section items id content) others = if nat_eq id n then count_of content ∷ others else others
 count_in n (section data_count id content) others = if nat_eq id n then count_of content ∷ others else others
-count_in n (section custom id content) others = others
-count_in n (section index id content) others = others
-count_in n (section code id content) others = others
-count_in n (section unknown id content) others = others
 count_in n (code_head count width size) others = if nat_eq 10 n then count ∷ others else others
-count_in n (header version encoding) others = others
-count_in n (body content) others = others
+count_in n other others = others
 
 -- the counts of the sections with this id
 abbrev pub counts : ℕ → List Tile → List ℕ
@@ -52,14 +44,12 @@ counts n (t ∷ earlier) = count_in n t.shape (counts n earlier)
 abbrev pub bodies_after : Shape → ℕ → ℕ
 bodies_after (code_head count width size) earlier = count
 bodies_after (body content) earlier = earlier - 1
-bodies_after (header version encoding) earlier = 0
-bodies_after (section kind id content) earlier = 0
+bodies_after other earlier = 0
 
 abbrev pub bytes_after : Tile → Shape → ℕ → ℕ
 bytes_after t (code_head count width size) earlier = size
 bytes_after t (body content) earlier = earlier - length t.bytes
-bytes_after t (header version encoding) earlier = 0
-bytes_after t (section kind id content) earlier = 0
+bytes_after t other earlier = 0
 
 abbrev pub bodies_left : List Tile → ℕ
 bodies_left [] = 0
