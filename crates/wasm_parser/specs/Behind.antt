@@ -2,6 +2,7 @@
 use Rattle.std.specs.Prelude.{ℕ, ◌-◌, false, Option, Some, None, nat_eq, slice_index, if◌then◌else◌}
 use Rattle.wasm_parser.specs.Content.{ranks}
 use Rattle.wasm_parser.specs.Reading.{Told, version, counted, start_section, data_count_section, code_start, code_entry, custom_section, unknown_section, stopped, ending}
+use Rattle.wasm_parser.specs.Sections.{count_told}
 use Rattle.wasm_parser.specs.Stands.{Stand, rank_after}
 use Rattle.wasm_parser.specs.declared.payload.Encoding.{Encoding}
 
@@ -17,13 +18,6 @@ rank_told (start_section func from to) = slice_index ranks 8
 rank_told (data_count_section count from to) = slice_index ranks 12
 rank_told (code_start count from to size) = slice_index ranks 10
 rank_told other = 0
-
--- the id and the count of a section that has a count
-abbrev pub count_told : Told → Option (ℕ × ℕ)
-count_told (counted id count window) = Some (id, count)
-count_told (data_count_section count from to) = Some (12, count)
-count_told (code_start count from to size) = Some (10, count)
-count_told other = None
 
 -- the count of the section with this id, or the one that was known
 abbrev pub count_behind : ℕ → Option (ℕ × ℕ) → Option ℕ → Option ℕ

@@ -1,6 +1,6 @@
 -- The sections that a reading tells. Core specification, Binary format, Modules, Sections.
 use Rattle.std.specs.declared.ops.Range.{Range}
-use Rattle.std.specs.Prelude.{◌≡◌, ℕ, ◌+◌, ◌-◌, ◌<◌, ◌⊎◌, List, [], ◌∷◌, ◌++◌, length, take, drop, map, filter_map, flat_map, All, Option, Some, None}
+use Rattle.std.specs.Prelude.{◌≡◌, ℕ, ◌+◌, ◌-◌, ◌<◌, ◌⊎◌, List, [], ◌∷◌, ◌++◌, length, take, drop, map, filter_map, flat_map, All, Option, Some, None, option_map}
 use Rattle.wasm_base.specs.FaultAt.{FaultAt}
 use Rattle.wasm_base.specs.Window.{Window}
 use Rattle.wasm_parser.specs.declared.payload.Encoding.{Encoding}
@@ -12,16 +12,32 @@ use Rattle.wasm_parser.specs.Reading.{Told, version, counted, start_section, dat
 abbrev pub window_range : Window → Range ℕ
 window_range w = record { start = w.start; end = w.start + length w.bytes }
 
--- the section that is told: its id, and the offsets of its content. A code section is told at its start, with all its
--- content; its bodies are no sections.
+-- the section that is told: its id, the offsets of its content, and its count, if it has one. A code section is told at its
+-- start, with all its content; its bodies are no sections.
+abbrev pub parts_of : Told → Option (ℕ × Range ℕ × Option ℕ)
+parts_of (counted id count window) = Some (id, window_range window, Some count)
+parts_of (start_section func from to) = Some (8, record { start = from; end = to }, None)
+parts_of (data_count_section count from to) = Some (12, record { start = from; end = to }, Some count)
+parts_of (code_start count from to size) = Some (10, record { start = from; end = to }, Some count)
+parts_of (custom_section name data_offset window) = Some (0, window_range window, None)
+parts_of (unknown_section id contents from to) = Some (id, record { start = from; end = to }, None)
+parts_of other = None
+
+abbrev pub without_count : Option (ℕ × Range ℕ × Option ℕ) → Option (ℕ × Range ℕ)
+without_count None = None
+without_count (Some s) = Some (s.0, s.1)
+
+-- its id, and the offsets of its content
 abbrev pub section_of : Told → Option (ℕ × Range ℕ)
-section_of (counted id count window) = Some (id, window_range window)
-section_of (start_section func from to) = Some (8, record { start = from; end = to })
-section_of (data_count_section count from to) = Some (12, record { start = from; end = to })
-section_of (code_start count from to size) = Some (10, record { start = from; end = to })
-section_of (custom_section name data_offset window) = Some (0, window_range window)
-section_of (unknown_section id contents from to) = Some (id, record { start = from; end = to })
-section_of other = None
+section_of told = without_count (parts_of told)
+
+-- its id, and its count, if it has one
+abbrev pub id_and_count : Option (ℕ × Range ℕ × Option ℕ) → Option (ℕ × ℕ)
+id_and_count None = None
+id_and_count (Some s) = option_map (λ n. (s.0, n)) s.2
+
+abbrev pub count_told : Told → Option (ℕ × ℕ)
+count_told told = id_and_count (parts_of told)
 
 -- the sections that events tell, in their order
 abbrev pub sections_of : List Event → List (ℕ × Range ℕ)

@@ -1,11 +1,12 @@
 // What a parser knows behind what it told.
 ghost use Rattle.std.specs.Prelude.{◌≡◌};
 ghost use Rattle.wasm_parser.specs.Answers.{told_by};
-ghost use Rattle.wasm_parser.specs.Behind.{encoding_behind, rank_told, count_told, count_behind, bodies_behind, left_behind};
+ghost use Rattle.wasm_parser.specs.Behind.{encoding_behind, rank_told, count_behind, bodies_behind, left_behind};
+ghost use Rattle.wasm_parser.specs.Sections.{count_told};
 ghost use Rattle.wasm_parser.specs.Stands.{rank_after as rank_behind};
 
 use crate::payload::{Encoding, Payload};
-use crate::sections::place_of;
+use crate::sections::{START_SECTION, place_of};
 
 /// The encoding that a header names, or the one that was known.
 pub(crate) fn encoding_after(payload: &Payload, known: Encoding) -> Encoding
@@ -30,7 +31,7 @@ fn rank_in(payload: &Payload) -> u8
     ensures { result ≡ rank_told (told_by payload.now) }
 {
     match payload {
-        Payload::StartSection { .. } => place_of(8),
+        Payload::StartSection { .. } => place_of(START_SECTION),
         _ => match count_in(payload) {
             Some((id, _)) => place_of(id),
             None => 0,
@@ -38,32 +39,21 @@ fn rank_in(payload: &Payload) -> u8
     }
 }
 
-// The id and the count of a section that has a count.
-fn count_in(payload: &Payload) -> Option<(u8, u32)>
+/// The id and the count of a section that has a count.
+pub(crate) fn count_in(payload: &Payload) -> Option<(u8, u32)>
     ensures { result ≡ count_told (told_by payload.now) }
 {
-    match payload {
-        Payload::TypeSection(section) => Some((1, section.count())),
-        Payload::ImportSection(section) => Some((2, section.count())),
-        Payload::FunctionSection(section) => Some((3, section.count())),
-        Payload::TableSection(section) => Some((4, section.count())),
-        Payload::MemorySection(section) => Some((5, section.count())),
-        Payload::TagSection(section) => Some((13, section.count())),
-        Payload::GlobalSection(section) => Some((6, section.count())),
-        Payload::ExportSection(section) => Some((7, section.count())),
-        Payload::ElementSection(section) => Some((9, section.count())),
-        Payload::DataCountSection { count, .. } => Some((12, *count)),
-        Payload::DataSection(section) => Some((11, section.count())),
-        Payload::CodeSectionStart { count, .. } => Some((10, *count)),
+    match payload.section_parts() {
+        Some((id, _, Some(count))) => Some((id, count)),
         _ => None,
     }
 }
 
-/// The count of a section with this id, or the one that was known.
-pub(crate) fn count_after(payload: &Payload, id: u8, known: Option<u32>) -> Option<u32>
-    ensures { result ≡ count_behind id (count_told (told_by payload.now)) known }
+/// The count of the section with this id, if this is its count, or the one that was known.
+pub(crate) fn count_after(counted: Option<(u8, u32)>, id: u8, known: Option<u32>) -> Option<u32>
+    ensures { result ≡ count_behind id counted known }
 {
-    match count_in(payload) {
+    match counted {
         Some((other, count)) => if other == id { Some(count) } else { known },
         None => known,
     }

@@ -10,6 +10,10 @@ ghost use Rattle.wasm_parser.specs.Grammar.{Past, whole_grammar};
 ghost use Rattle.wasm_parser.specs.Single.{ReadsSingle};
 
 use crate::payload::Payload;
+use crate::sections::{
+    DATA_SECTION, ELEMENT_SECTION, EXPORT_SECTION, FUNCTION_SECTION, GLOBAL_SECTION,
+    IMPORT_SECTION, MEMORY_SECTION, TABLE_SECTION, TAG_SECTION, TYPE_SECTION,
+};
 use wasm_base::{BinaryReader, Error, Fault, Result, SectionLimited};
 use wasm_custom::CustomSectionReader;
 
@@ -74,16 +78,16 @@ pub(crate) fn counted<'a>(id: u8, window: BinaryReader<'a>) -> Result<Payload<'a
     ensures { ReadsCounted id window.entry result }
 {
     Ok(match id {
-        1 => Payload::TypeSection(SectionLimited::new(window)?),
-        2 => Payload::ImportSection(SectionLimited::new(window)?),
-        3 => Payload::FunctionSection(SectionLimited::new(window)?),
-        4 => Payload::TableSection(SectionLimited::new(window)?),
-        5 => Payload::MemorySection(SectionLimited::new(window)?),
-        6 => Payload::GlobalSection(SectionLimited::new(window)?),
-        7 => Payload::ExportSection(SectionLimited::new(window)?),
-        9 => Payload::ElementSection(SectionLimited::new(window)?),
-        11 => Payload::DataSection(SectionLimited::new(window)?),
-        13 => Payload::TagSection(SectionLimited::new(window)?),
+        TYPE_SECTION => Payload::TypeSection(SectionLimited::new(window)?),
+        IMPORT_SECTION => Payload::ImportSection(SectionLimited::new(window)?),
+        FUNCTION_SECTION => Payload::FunctionSection(SectionLimited::new(window)?),
+        TABLE_SECTION => Payload::TableSection(SectionLimited::new(window)?),
+        MEMORY_SECTION => Payload::MemorySection(SectionLimited::new(window)?),
+        GLOBAL_SECTION => Payload::GlobalSection(SectionLimited::new(window)?),
+        EXPORT_SECTION => Payload::ExportSection(SectionLimited::new(window)?),
+        ELEMENT_SECTION => Payload::ElementSection(SectionLimited::new(window)?),
+        DATA_SECTION => Payload::DataSection(SectionLimited::new(window)?),
+        TAG_SECTION => Payload::TagSection(SectionLimited::new(window)?),
         _ => unreachable!(),
     })
 }

@@ -17,11 +17,13 @@ ghost use Rattle.wasm_parser.specs.Turns.{walk_over, WalksWhole};
 ghost use Rattle.wasm_parser.specs.declared.payload.Encoding.TheVariants.{Module, Component};
 
 use crate::all::ParseAll;
-use crate::behind::{bodies_after, count_after, encoding_after, left_after, rank_after};
+use crate::behind::{bodies_after, count_after, count_in, encoding_after, left_after, rank_after};
 use crate::contents::{counted, custom, data_count, start, unknown, window};
 use crate::header::{magic_follows, read_header};
 use crate::payload::{Chunk, Encoding, Payload};
-use crate::sections::{Kind, kind_of, rank_of};
+use crate::sections::{
+    CODE_SECTION, DATA_COUNT_SECTION, DATA_SECTION, FUNCTION_SECTION, Kind, kind_of, rank_of,
+};
 use bitflags::Flags;
 use std::alloc::AllocError;
 use std::marker::Model;
@@ -321,12 +323,13 @@ impl Parser {
         let taken = end.saturating_sub(self.offset);
         self.offset = end;
         self.expects_header = false;
+        let counted = count_in(payload);
         self.encoding = encoding_after(payload, self.encoding);
         self.rank = rank_after(payload, self.rank);
-        self.functions = count_after(payload, 3, self.functions);
-        self.codes = count_after(payload, 10, self.codes);
-        self.datas = count_after(payload, 11, self.datas);
-        self.data_counts = count_after(payload, 12, self.data_counts);
+        self.functions = count_after(counted, FUNCTION_SECTION, self.functions);
+        self.codes = count_after(counted, CODE_SECTION, self.codes);
+        self.datas = count_after(counted, DATA_SECTION, self.datas);
+        self.data_counts = count_after(counted, DATA_COUNT_SECTION, self.data_counts);
         self.bodies = bodies_after(payload, self.bodies);
         self.left = left_after(payload, taken, self.left);
     }

@@ -1,10 +1,17 @@
 // What a parser tells of a stream.
 ghost use Rattle.std.specs.Prelude.{◌≡◌};
 ghost use Rattle.wasm_parser.specs.Answers.{told_by};
-ghost use Rattle.wasm_parser.specs.Sections.{section_of};
+ghost use Rattle.wasm_parser.specs.Reading.{counted};
+ghost use Rattle.wasm_parser.specs.Sections.{parts_of, section_of};
 
+use crate::sections::{
+    CODE_SECTION, CUSTOM_SECTION, DATA_COUNT_SECTION, DATA_SECTION, ELEMENT_SECTION,
+    EXPORT_SECTION, FUNCTION_SECTION, GLOBAL_SECTION, IMPORT_SECTION, MEMORY_SECTION,
+    START_SECTION, TABLE_SECTION, TAG_SECTION, TYPE_SECTION,
+};
 use std::fmt;
 use std::ops::Range;
+use wasm_base::SectionLimited;
 use wasm_custom::CustomSectionReader;
 use wasm_items::{
     DataSectionReader, ElementSectionReader, ExportSectionReader, FunctionBody,
@@ -97,34 +104,65 @@ pub enum Chunk<'a> {
     },
 }
 
+/// The id of the section that a payload is, the offsets of its content in the whole stream, and its count, if it has one.
+pub(crate) type SectionParts = (u8, Range<u64>, Option<u32>);
+
+// The same of a section with this id that begins with a count of items.
+fn counted_parts<T>(id: u8, section: &SectionLimited<'_, T>) -> Option<SectionParts>
+    ensures { result ≡ parts_of (counted id section.now.count section.now.reader) }
+{
+    Some((id, section.range(), Some(section.count())))
+}
+
 impl<'a> Payload<'a> {
     /// The id of the section that this is, and the offsets of its content in the whole stream: from the first byte
-    /// behind its length up to its end. A header, a body and the end are none; a code section is its start.
+    /// after its length up to its end. A header, a body and the end are none; a code section is its start.
     pub fn as_section(&self) -> Option<(u8, Range<u64>)>
         ensures { result ≡ section_of (told_by self.now) }
     {
+        match self.section_parts() {
+            Some((id, range, _)) => Some((id, range)),
+            None => None,
+        }
+    }
+
+    /// The same with the section's count.
+    pub(crate) fn section_parts(&self) -> Option<SectionParts>
+        ensures { result ≡ parts_of (told_by self.now) }
+    {
         match self {
-            Payload::Version { .. } => None,
-            Payload::TypeSection(section) => Some((1, section.range())),
-            Payload::ImportSection(section) => Some((2, section.range())),
-            Payload::FunctionSection(section) => Some((3, section.range())),
-            Payload::TableSection(section) => Some((4, section.range())),
-            Payload::MemorySection(section) => Some((5, section.range())),
-            Payload::TagSection(section) => Some((13, section.range())),
-            Payload::GlobalSection(section) => Some((6, section.range())),
-            Payload::ExportSection(section) => Some((7, section.range())),
-            Payload::StartSection { range, .. } => Some((8, range.start..range.end)),
-            Payload::ElementSection(section) => Some((9, section.range())),
-            Payload::DataCountSection { range, .. } => Some((12, range.start..range.end)),
-            Payload::DataSection(section) => Some((11, section.range())),
+            Payload::TypeSection(section) => counted_parts(TYPE_SECTION, section),
+            Payload::ImportSection(section) => counted_parts(IMPORT_SECTION, section),
+            Payload::FunctionSection(section) => counted_parts(FUNCTION_SECTION, section),
+            Payload::TableSection(section) => counted_parts(TABLE_SECTION, section),
+            Payload::MemorySection(section) => counted_parts(MEMORY_SECTION, section),
+            Payload::TagSection(section) => counted_parts(TAG_SECTION, section),
+            Payload::GlobalSection(section) => counted_parts(GLOBAL_SECTION, section),
+            Payload::ExportSection(section) => counted_parts(EXPORT_SECTION, section),
+            Payload::ElementSection(section) => counted_parts(ELEMENT_SECTION, section),
+            Payload::DataSection(section) => counted_parts(DATA_SECTION, section),
+            Payload::StartSection { range, .. } => Some((
+                START_SECTION,
+                range.start..range.end,
+                None,
+            )),
+            Payload::DataCountSection { count, range } => Some((
+                DATA_COUNT_SECTION,
+                range.start..range.end,
+                Some(*count),
+            )),
             Payload::CodeSectionStart {
+                count,
                 unchecked_range,
                 ..
-            } => Some((10, unchecked_range.start..unchecked_range.end)),
-            Payload::CodeSectionEntry(_) => None,
-            Payload::CustomSection(section) => Some((0, section.range())),
-            Payload::UnknownSection { id, range, .. } => Some((*id, range.start..range.end)),
-            Payload::End(_) => None,
+            } => Some((
+                CODE_SECTION,
+                unchecked_range.start..unchecked_range.end,
+                Some(*count),
+            )),
+            Payload::CustomSection(section) => Some((CUSTOM_SECTION, section.range(), None)),
+            Payload::UnknownSection { id, range, .. } => Some((*id, range.start..range.end, None)),
+            Payload::Version { .. } | Payload::CodeSectionEntry(_) | Payload::End(_) => None,
         }
     }
 }

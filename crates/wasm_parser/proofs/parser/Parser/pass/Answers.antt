@@ -1,6 +1,7 @@
 use Rattle.std.proofs.Common.{ℕ, false, ap, ◌∙◌}
+use Rattle.wasm_base.specs.Features.{feature_bits}
 use Rattle.wasm_parser.specs.Answers.{told_by}
-use Rattle.wasm_parser.specs.Behind.{behind_told, left_behind}
+use Rattle.wasm_parser.specs.Behind.{behind_told, count_behind, left_behind}
 use Rattle.wasm_parser.specs.Stands.{Stand}
 use Rattle.wasm_parser.proofs.Parsing.{passes}
 use Rattle.wasm_parser.proofs.parser.Parser.pass.Goals as goal
@@ -13,14 +14,14 @@ returns c =
     passes c.args.self.now _ c.args.payload.now c.args.end (
     (λ i. record {
       offset = c.args.end;
-      features = p.features.0;
+      features = feature_bits p.features;
       expects_header = false;
       encoding = c.encoding_after-self-inside.ensures i;
       rank = c.rank_after-self-inside.ensures i;
-      functions = c.count_after-self-inside.ensures i;
-      codes = c.count_after-self-inside-2.ensures i;
-      datas = c.count_after-self-inside-3.ensures i;
-      data_counts = c.count_after-self-inside-4.ensures i;
+      functions = (c.count_after-self-inside.ensures ∙ ap (λ t. count_behind 3 t p.functions) c.count_in-counted.ensures) i;
+      codes = (c.count_after-self-inside-2.ensures ∙ ap (λ t. count_behind 10 t p.codes) c.count_in-counted.ensures) i;
+      datas = (c.count_after-self-inside-3.ensures ∙ ap (λ t. count_behind 11 t p.datas) c.count_in-counted.ensures) i;
+      data_counts = (c.count_after-self-inside-4.ensures ∙ ap (λ t. count_behind 12 t p.data_counts) c.count_in-counted.ensures) i;
       bodies = c.bodies_after-self-inside.ensures i;
       left = left i;
     }) ∙ ap (λ (s : Stand). behind_told s c.args.end told) c.self.view_is)
