@@ -12,7 +12,8 @@ use Rattle.wasm_parser.specs.Grammar.{Shape, header, section, code_head, body, T
 use Rattle.wasm_list.specs.Listing.{line_of, event_line, listing_of}
 use Rattle.wasm_list.specs.Lists.{all_features, IsEndedBy, IsListed, IsBeginning, Writes, IsCutShort, ListsBytes, Lists}
 use Rattle.wasm_parser.specs.Reading.{ending, stopped, Event, told_of, told_custom, event_of, events_of, last_event, Reads, Reading}
-use Rattle.wasm_parser.specs.Stands.{Stand, new_stand, Stands, grammar_of, passed}
+use Rattle.wasm_parser.specs.Stands.{Stand, new_stand, Stands, grammar_of}
+use Rattle.wasm_parser.specs.StateAfter.{state_after_tile}
 use Rattle.wasm_parser.specs.Tiling.{front, grammar, Faultless}
 use Rattle.wasm_list.specs.declared.listing.Ended.{Ended}
 use Rattle.wasm_list.specs.declared.listing.Ended.TheVariants.{End, Fault}
@@ -68,7 +69,7 @@ offset_is stream taken written p rest g =
 
 -- what parse answered with a payload: a tile, or the end
 pub data Came (p : Stand) (rest : List ℕ) (consumed : ℕ) (payload : Payload) (p' : Stand) : Type 0 where
-  tile_came : (t : Tile) → verdict (grammar_of p) rest ≡ tile t → consumed ≡ length t.bytes → told_by payload ≡ told_of p.features p.offset (p.offset + length t.bytes) t.shape → p' ≡ passed p t → Came p rest consumed payload p'
+  tile_came : (t : Tile) → verdict (grammar_of p) rest ≡ tile t → consumed ≡ length t.bytes → told_by payload ≡ told_of p.features p.offset (p.offset + length t.bytes) t.shape → p' ≡ state_after_tile p t → Came p rest consumed payload p'
   end_came : (offset : ℕ) → verdict (grammar_of p) rest ≡ final (ended offset) → told_by payload ≡ ending offset → Came p rest consumed payload p'
 
 came_at : (p : Stand) (rest : List ℕ) (consumed : ℕ) (payload : Payload) (p' : Stand) (v : Verdict) → verdict (grammar_of p) rest ≡ v → Answers p v (Ok (Parsed consumed payload)) p' → Came p rest consumed payload p'
@@ -92,7 +93,7 @@ stands_offset p covered s = s.offset ∙ ap (λ (x : List ℕ). 0 + length x) (s
 
 -- a tile whose line is written is one more of the listing
 pub one_tile : (stream : List ℕ) (taken written written' : Option (List ℕ)) (p p' : Stand) (rest : List ℕ) (consumed : ℕ) (payload : Payload) (t : Tile) → Progress stream taken written p rest
-    → verdict (grammar_of p) rest ≡ tile t → consumed ≡ length t.bytes → told_by payload ≡ told_of p.features p.offset (p.offset + length t.bytes) t.shape → p' ≡ passed p t
+    → verdict (grammar_of p) rest ≡ tile t → consumed ≡ length t.bytes → told_by payload ≡ told_of p.features p.offset (p.offset + length t.bytes) t.shape → p' ≡ state_after_tile p t
     → Appends written written' (line_of (told_by payload)) → Progress stream taken written' p' (drop consumed rest)
 one_tile stream taken written written' p p' rest consumed payload t g v k h e w =
     let v' : verdict (grammar 0 g.stands.tiles) rest ≡ tile t = sym (verdict_same p g.covered rest g.stands) ∙ v in
@@ -102,7 +103,7 @@ one_tile stream taken written written' p p' rest consumed payload t g v k h e w 
     let more : (stands_on p 0 g.covered g.stands rest t v).tiles ≡ t ∷ g.stands.tiles = stands_on-tiles p 0 g.covered g.stands rest t v in
     let lines : Appends taken written' (listing_of (events_of 0 all_features (t ∷ g.stands.tiles))) =
     written_more taken written written' (events_of 0 all_features g.stands.tiles) (event_of all_features (0 + length (front g.stands.tiles)) t) g.listed (subst (Appends written written') line w) in
-    let behind : Progress stream taken written' (passed p t) gr.rest = record {
+    let behind : Progress stream taken written' (state_after_tile p t) gr.rest = record {
       covered = g.covered ++ t.bytes;
       stands = stands_on p 0 g.covered g.stands rest t v;
       whole = g.whole ∙ (ap (λ (x : List ℕ). g.covered ++ x) gr.split ∙ sym (append_assoc g.covered t.bytes gr.rest));

@@ -1,16 +1,20 @@
 -- What a parser knows is what the tiles before it say.
-use Rattle.std.proofs.Common.{◌≡◌, ℕ, zero, suc, ◌+◌, ◌<◌, max, Bool, true, false, cond, not, ◌&&◌, List, [], ◌∷◌, ◌++◌, length, option_to_list, Option, Some, None, nat_lt, nat_eq, refl, sym, ap, subst, ◌∙◌, arith, length-append, add-zero, lit<, nat_le, take, drop, ltb-true, eqb-true, lt-ltb, slice_index}
+use Rattle.std.proofs.Common.{◌≡◌, ℕ, zero, suc, ◌+◌, ◌-◌, ◌<◌, max, Bool, true, false, cond, not, ◌&&◌, List, [], ◌∷◌, ◌++◌, length, option_to_list, Option, Some, None, nat_lt, nat_eq, refl, sym, ap, subst, ◌∙◌, arith, length-append, add-zero, lit<, nat_le, take, drop, ltb-true, eqb-true, lt-ltb, slice_index}
 use Rattle.std.specs.List.{list_all}
 use Rattle.std.proofs.lemmas.Bool.{and_parts}
 use Rattle.std.proofs.lemmas.Bool.Decides.{nat_tests}
 use mathlib.Core.Path.{fun_ext}
 use Rattle.wasm_parser.specs.declared.payload.Encoding.{Encoding}
+use Rattle.wasm_parser.specs.declared.payload.Encoding.TheVariants.{Module, Component}
 use Rattle.wasm_base.specs.FaultAt.{FaultAt}
+use Rattle.wasm_base.specs.Name.{Name, named, refused, name_limit, name}
 use Rattle.wasm_base.specs.Number.{Number, read, bad, short, number as number_at}
 use Rattle.wasm_parser.specs.Content.{Kind, items, data_count, custom, index, code, unknown, rank_of, ranks, count_of, kind_of, Ending, when}
 use Rattle.wasm_parser.specs.Grammar.{Shape, header, section, code_head, body, Tile, Verdict, tile, final, behind, behind_number, Past, Grammar, takes, stops, refuse, number, bytes, section_start, verdict, header_grammar, section_grammar, body_grammar, content_grammar, header_of}
 use Rattle.wasm_parser.specs.Tiling.{front, grammar, past, inside, encoding_of, encoding_in, tile_rank, count_in, counts, bodies_left, bytes_left, bodies_after, bytes_after}
-use Rattle.wasm_parser.specs.Stands.{Stand, greatest, is_start, Stands, past_of, grammar_of, count_after, rank_after, passed}
+use Rattle.wasm_parser.specs.Reading.{told_of, told_custom}
+use Rattle.wasm_parser.specs.StateAfter.{known_rank, state_after, state_after_tile}
+use Rattle.wasm_parser.specs.Stands.{Stand, greatest, is_start, Stands, past_of, grammar_of}
 use Rattle.wasm_base.specs.declared.fault.NumberKind.TheVariants.{VarU32}
 use Rattle.wasm_parser.proofs.GrammarLaws.{behind-tile}
 use Rattle.wasm_parser.proofs.ReadingLaws.{Grown, grows}
@@ -221,6 +225,13 @@ none_of_rank n id ts h f z =
     let r : 0 < slice_index ranks id = rw q h in
     counts_none n ts (subst (λ (x : ℕ). list_all (λ (u : Tile). nat_lt (tile_rank u.shape) (slice_index ranks x)) ts ≡ true) q (f r))
 
+-- the count that is known of the section with this id, after one more tile
+abbrev count_after : ℕ → Shape → Option ℕ → Option ℕ
+count_after n (section items id content) old = cond (nat_eq id n) (Some (count_of content)) old
+count_after n (section data_count id content) old = cond (nat_eq id n) (Some (count_of content)) old
+count_after n (code_head count width size) old = cond (nat_eq 10 n) (Some count) old
+count_after n other old = old
+
 -- a parser keeps the one count that there is
 count_same : (n : ℕ) (s : Shape) (old : Option ℕ) (ts : List Tile) → 0 < slice_index ranks n → option_to_list old ≡ counts n ts → Fresh ts s → option_to_list (count_after n s old) ≡ count_in n s (counts n ts)
 count_same n (section items id content) old ts h e f = one_count (nat_eq id n) (count_of content) old (counts n ts) e (none_of_rank n id ts h f)
@@ -241,31 +252,151 @@ greatest_lt r (t ∷ ts) h e =
     let b : greatest ts < r = greatest_lt r ts h q.1 in
     omega arith
 
-rank_grows : (r old g : ℕ) → old ≡ g → (0 < r → g < r) → rank_after r old ≡ max r g
+rank_grows : (r old g : ℕ) → old ≡ g → (0 < r → g < r) → known_rank r old ≡ max r g
 rank_grows zero old g e f = omega arith
 rank_grows (suc r) old g e f = let l : g < suc r = f (omega arith) in omega arith
 
--- a parser that moves on by what stands behind it stands behind that
-pub stands_on : (p : Stand) (start : ℕ) (covered : List ℕ) (s : Stands p start covered) (d : List ℕ) (t : Tile) → verdict (grammar_of p) d ≡ tile t → Stands (passed p t) start (covered ++ t.bytes)
+-- the state after one more tile, by what the tile is
+abbrev after_shape : Stand → Tile → Stand
+after_shape p t = record {
+  offset = p.offset + length t.bytes;
+  features = p.features;
+  expects_header = false;
+  encoding = encoding_in t.shape p.encoding;
+  rank = known_rank (tile_rank t.shape) p.rank;
+  functions = count_after 3 t.shape p.functions;
+  codes = count_after 10 t.shape p.codes;
+  datas = count_after 11 t.shape p.datas;
+  data_counts = count_after 12 t.shape p.data_counts;
+  bodies = bodies_after t.shape p.bodies;
+  left = bytes_after t t.shape p.left;
+}
+
+-- ---- what a tile's kind says of its id
+
+-- a start section has the id 8, and a data count section the id 12
+abbrev KindsId : Kind → ℕ → Type 0
+KindsId index id = id ≡ 8
+KindsId data_count id = id ≡ 12
+KindsId items id = Unit {0}
+KindsId custom id = Unit {0}
+KindsId code id = Unit {0}
+KindsId unknown id = Unit {0}
+
+kinds_id : (e : Encoding) (id : ℕ) → KindsId (kind_of e id) id
+kinds_id Component zero = tt
+kinds_id Component (suc n) = tt
+kinds_id Module zero = tt
+kinds_id Module (suc zero) = tt
+kinds_id Module (suc (suc zero)) = tt
+kinds_id Module (suc (suc (suc zero))) = tt
+kinds_id Module (suc (suc (suc (suc zero)))) = tt
+kinds_id Module (suc (suc (suc (suc (suc zero))))) = tt
+kinds_id Module (suc (suc (suc (suc (suc (suc zero)))))) = tt
+kinds_id Module (suc (suc (suc (suc (suc (suc (suc zero))))))) = tt
+kinds_id Module (suc (suc (suc (suc (suc (suc (suc (suc zero)))))))) = refl
+kinds_id Module (suc (suc (suc (suc (suc (suc (suc (suc (suc zero))))))))) = tt
+kinds_id Module (suc (suc (suc (suc (suc (suc (suc (suc (suc (suc zero)))))))))) = tt
+kinds_id Module (suc (suc (suc (suc (suc (suc (suc (suc (suc (suc (suc zero))))))))))) = tt
+kinds_id Module (suc (suc (suc (suc (suc (suc (suc (suc (suc (suc (suc (suc zero)))))))))))) = refl
+kinds_id Module (suc (suc (suc (suc (suc (suc (suc (suc (suc (suc (suc (suc (suc zero))))))))))))) = tt
+kinds_id Module (suc (suc (suc (suc (suc (suc (suc (suc (suc (suc (suc (suc (suc (suc n)))))))))))))) = tt
+
+-- the same for a tile, which is never a whole code section
+abbrev HasItsId : Shape → Type 0
+HasItsId (section index id content) = id ≡ 8
+HasItsId (section data_count id content) = id ≡ 12
+HasItsId (section items id content) = Unit {0}
+HasItsId (section custom id content) = Unit {0}
+HasItsId (section code id content) = ⊥
+HasItsId (section unknown id content) = Unit {0}
+HasItsId (header num encoding) = Unit {0}
+HasItsId (code_head count width size) = Unit {0}
+HasItsId (body content) = Unit {0}
+
+content_id : (p : Past) (kind : Kind) (id o n : ℕ) → KindsId kind id → Each HasItsId (content_grammar p kind id o n)
+content_id p index id o n h = λ b x y. h
+content_id p data_count id o n h = λ b x y. h
+content_id p items id o n h = λ b x y. tt
+content_id p custom id o n h = λ b x y. tt
+content_id p unknown id o n h = λ b x y. tt
+content_id p code id o n h = λ v k x y. tt
+
+section_id : (p : Past) (o : ℕ) (xs : List ℕ) (t : Tile) → verdict (section_grammar p o) xs ≡ tile t → HasItsId t.shape
+unfolding section_grammar
+section_id p o xs t e = each_tile HasItsId (section_grammar p o) (λ id x n k y z. content_id p (kind_of p.encoding id) id (o + 1 + k) n (kinds_id p.encoding id)) xs t e
+
+header_id : (s : Shape) → IsHeader s → HasItsId s
+header_id (header num encoding) h = tt
+header_id (section kind id content) h = absurd h
+header_id (code_head count width size) h = absurd h
+header_id (body content) h = absurd h
+
+body_id : (s : Shape) → IsBody s → HasItsId s
+body_id (body content) h = tt
+body_id (section kind id content) h = absurd h
+body_id (code_head count width size) h = absurd h
+body_id (header num encoding) h = absurd h
+
+inside_id : (b : Bool) (p : Past) (m l o : ℕ) (xs : List ℕ) (t : Tile) → verdict (cond b (section_grammar p o) (body_grammar m l o)) xs ≡ tile t → HasItsId t.shape
+inside_id true p m l o xs t e = section_id p o xs t e
+inside_id false p m l o xs t e = body_id t.shape (bodied m l o xs t e)
+
+tile_id : (h : Bool) (p : Stand) (xs : List ℕ) (t : Tile) → verdict (cond h (header_grammar p.offset) (inside (past_of p) p.bodies p.left p.offset)) xs ≡ tile t → HasItsId t.shape
+tile_id true p xs t e = header_id t.shape (headed p.offset xs t e)
+tile_id false p xs t e = inside_id (nat_eq (p.bodies + p.left) 0) (past_of p) p.bodies p.left p.offset xs t e
+
+-- ---- the state after a tile, by what is told of it
+
+-- a tile of these bytes
+abbrev tile_of : Shape → List ℕ → Tile
+tile_of shape b = record { shape = shape; bytes = b }
+
+
+after_custom : (p : Stand) (from to : ℕ) (content : List ℕ) (n : Name) → state_after p to (told_custom p.features from to content n) ≡ record p { offset = to; expects_header = false; bodies = 0; left = 0 }
+after_custom p from to content (named text used) = refl
+after_custom p from to content (refused f place) = refl
+
+after_at : (p : Stand) (shape : Shape) (b : List ℕ) → HasItsId shape → state_after_tile p (tile_of shape b) ≡ after_shape p (tile_of shape b)
+after_at p (header num encoding) b h = refl
+after_at p (section items id content) b h = refl
+after_at p (section index id content) b h = ap (λ (i : ℕ). after_shape p (tile_of (section index i content) b)) (sym h)
+after_at p (section data_count id content) b h = ap (λ (i : ℕ). after_shape p (tile_of (section data_count i content) b)) (sym h)
+after_at p (section custom id content) b h = after_custom p (p.offset + length b - length content) (p.offset + length b) content (name (Some name_limit) content)
+after_at p (section code id content) b h = absurd h
+after_at p (section unknown id content) b h = refl
+after_at p (code_head count width size) b h = refl
+after_at p (body content) b h =
+    let t : p.offset + length b - p.offset ≡ length b = omega arith in
+    rw t refl
+
+
+-- the state after a tile that comes next
+state_same : (p : Stand) (d : List ℕ) (t : Tile) → verdict (grammar_of p) d ≡ tile t → state_after_tile p t ≡ after_shape p t
+state_same p d t e = after_at p t.shape t.bytes (tile_id p.expects_header p d t e)
+
+-- a parser whose state is that after the tile that comes next knows what the tiles say, with that one
+pub stands_on : (p : Stand) (start : ℕ) (covered : List ℕ) (s : Stands p start covered) (d : List ℕ) (t : Tile) → verdict (grammar_of p) d ≡ tile t → Stands (state_after_tile p t) start (covered ++ t.bytes)
 stands_on p start covered s d t e =
     let v : verdict (grammar start s.tiles) d ≡ tile t = subst (λ (g : Grammar). verdict g d ≡ tile t) (grammar_same p start covered s) e in
     let g : Grown start s.tiles d t = grows start s.tiles d t s.faultless v in
     let f : Fresh s.tiles t.shape = fresh start s.tiles d t v in
     let o : p.offset ≡ start + length covered = s.offset in
+    let q : state_after_tile p t ≡ after_shape p t = state_same p d t e in
     record {
       tiles = t ∷ s.tiles;
       faultless = g.faultless;
       covers = ap (λ (x : List ℕ). x ++ t.bytes) s.covers;
       offset = omega (arith, length-append covered t.bytes);
       expects_header = refl;
-      encoding = ap (encoding_in t.shape) s.encoding;
-      rank = rank_grows (tile_rank t.shape) p.rank (greatest s.tiles) s.rank (λ h. greatest_lt (tile_rank t.shape) s.tiles h (f h));
-      functions = count_same 3 t.shape p.functions s.tiles (lit< tt) s.functions f;
-      codes = count_same 10 t.shape p.codes s.tiles (lit< tt) s.codes f;
-      datas = count_same 11 t.shape p.datas s.tiles (lit< tt) s.datas f;
-      data_counts = count_same 12 t.shape p.data_counts s.tiles (lit< tt) s.data_counts f;
-      bodies = ap (bodies_after t.shape) s.bodies;
-      left = ap (bytes_after t t.shape) s.left;
+      encoding = ap (λ (x : Stand). x.encoding) q ∙ ap (encoding_in t.shape) s.encoding;
+      rank = ap (λ (x : Stand). x.rank) q ∙ rank_grows (tile_rank t.shape) p.rank (greatest s.tiles) s.rank (λ h. greatest_lt (tile_rank t.shape) s.tiles h (f h));
+      functions = ap (λ (x : Stand). option_to_list x.functions) q ∙ count_same 3 t.shape p.functions s.tiles (lit< tt) s.functions f;
+      codes = ap (λ (x : Stand). option_to_list x.codes) q ∙ count_same 10 t.shape p.codes s.tiles (lit< tt) s.codes f;
+      datas = ap (λ (x : Stand). option_to_list x.datas) q ∙ count_same 11 t.shape p.datas s.tiles (lit< tt) s.datas f;
+      data_counts = ap (λ (x : Stand). option_to_list x.data_counts) q ∙ count_same 12 t.shape p.data_counts s.tiles (lit< tt) s.data_counts f;
+      bodies = ap (λ (x : Stand). x.bodies) q ∙ ap (bodies_after t.shape) s.bodies;
+      left = ap (λ (x : Stand). x.left) q ∙ ap (bytes_after t t.shape) s.left;
     }
 
 -- its tiles are one more

@@ -13,7 +13,8 @@ use Rattle.wasm_parser.specs.Content.{Ending, fault, ended}
 use Rattle.wasm_parser.specs.Grammar.{Tile, Verdict, tile, final, Grammar, verdict}
 use Rattle.wasm_parser.specs.Reading.{Told, stopped, ending, told_of, told_ending, Event, event_of, events_of, last_event, Reads, Reading}
 use Rattle.wasm_parser.specs.Sections.{section_of, sections_of, TiledBySections}
-use Rattle.wasm_parser.specs.Stands.{Stand, Stands, new_stand, grammar_of, passed}
+use Rattle.wasm_parser.specs.Stands.{Stand, Stands, new_stand, grammar_of}
+use Rattle.wasm_parser.specs.StateAfter.{state_after_tile}
 use Rattle.wasm_parser.specs.Stream.{Stream}
 use Rattle.wasm_parser.specs.Tiling.{front, grammar, Faultless}
 use Rattle.wasm_parser.specs.Turns.{HoldsItems, Walk, walk_over, consumed_between, GivesAnswer, NextPayload, sections_given, told_item, told_event, EndsAt, GivesReading, WalksWhole}
@@ -90,12 +91,12 @@ goes_further start features stream tiles t x others e r = record {
 
 -- the walk behind a tile
 steps_on : (start features : ℕ) (stream : List ℕ) (s m : Walk) (tiles : List Tile) (w : Walked start features stream s tiles) (t : Tile) (consumed : ℕ) → verdict (grammar_of s.stand) s.bytes ≡ tile t → consumed ≡ length t.bytes
-    → m.stand ≡ passed s.stand t → m.bytes ≡ drop consumed s.bytes → Walked start features stream m (t ∷ tiles)
+    → m.stand ≡ state_after_tile s.stand t → m.bytes ≡ drop consumed s.bytes → Walked start features stream m (t ∷ tiles)
 steps_on start features stream s m tiles w t consumed v n p b =
     let v' : verdict (grammar start w.stands.tiles) s.bytes ≡ tile t = subst (λ (g : Grammar). verdict g s.bytes ≡ tile t) (grammar_same s.stand start w.covered w.stands) v in
     let g : Grown start w.stands.tiles s.bytes t = grows start w.stands.tiles s.bytes t w.stands.faultless v' in
     let d : m.bytes ≡ g.rest = b ∙ (ap (λ (k : ℕ). drop k s.bytes) n ∙ (ap (drop (length t.bytes)) g.split ∙ drop_at t.bytes g.rest (length t.bytes) refl)) in
-    let on : Walked start features stream (record { stand = passed s.stand t; bytes = g.rest; ended = m.ended }) (t ∷ tiles) = record {
+    let on : Walked start features stream (record { stand = state_after_tile s.stand t; bytes = g.rest; ended = m.ended }) (t ∷ tiles) = record {
       covered = w.covered ++ t.bytes;
       stands = stands_on s.stand start w.covered w.stands s.bytes t v;
       same = stands_on-tiles s.stand start w.covered w.stands s.bytes t v ∙ ap (λ (y : List Tile). t ∷ y) w.same;

@@ -11,7 +11,8 @@ use Rattle.wasm_parser.specs.Content.{fault, ended}
 use Rattle.wasm_parser.specs.Grammar.{Tile, Verdict, tile, final, Grammar, verdict}
 use Rattle.wasm_parser.specs.Reading.{Told, version, counted, start_section, data_count_section, code_start, code_entry, custom_section, unknown_section, stopped, ending, told_of}
 use Rattle.wasm_items.specs.Held.{body_window}
-use Rattle.wasm_parser.specs.Stands.{Stand, grammar_of, passed}
+use Rattle.wasm_parser.specs.Stands.{Stand, grammar_of}
+use Rattle.wasm_parser.specs.StateAfter.{state_after_tile}
 use Rattle.wasm_parser.specs.declared.payload.Payload.{Payload}
 use Rattle.wasm_parser.specs.declared.payload.Payload.TheVariants.{Version, TypeSection, ImportSection, FunctionSection, TableSection, MemorySection, TagSection, GlobalSection, ExportSection, StartSection, ElementSection, DataCountSection, DataSection, CodeSectionStart, CodeSectionEntry, CustomSection, UnknownSection, End}
 use Rattle.wasm_parser.specs.declared.payload.Chunk.{Chunk}
@@ -90,7 +91,7 @@ StandsThere g before result after = (start : ℕ) → IsTold start before (verdi
 abbrev pub Answers : Stand → Verdict → Result Chunk Error → Stand → Type 0
 Answers old v (Ok (NeedMoreData hint)) new = ⊥
 Answers old (tile t) (Ok (Parsed consumed payload)) new =
-    (consumed ≡ length t.bytes) × IsPayload (told_of old.features old.offset (old.offset + length t.bytes) t.shape) payload × (new ≡ passed old t)
+    (consumed ≡ length t.bytes) × IsPayload (told_of old.features old.offset (old.offset + length t.bytes) t.shape) payload × (new ≡ state_after_tile old t)
 Answers old (tile t) (Err e) new = ⊥
 Answers old (final (ended offset)) (Ok (Parsed consumed payload)) new = (consumed ≡ 0) × IsPayload (ending offset) payload × (new ≡ old)
 Answers old (final (fault f)) (Ok (Parsed consumed payload)) new = ⊥
@@ -111,7 +112,7 @@ Consumes rest (Err e) = Unit {0}
 -- The parser has passed the tile that this payload tells of, and that ends at this offset.
 abbrev pub Passes : Stand → Payload → (to : ℕ) → Stand → Type 0
 Passes old payload to new = (rest : List ℕ) (t : Tile) → verdict (grammar_of old) rest ≡ tile t → to ≡ old.offset + length t.bytes
-    → IsPayload (told_of old.features old.offset to t.shape) payload → new ≡ passed old t
+    → IsPayload (told_of old.features old.offset to t.shape) payload → new ≡ state_after_tile old t
 
 -- an answer that is this fault and changes nothing
 abbrev pub IsFaultAlone : FaultAt → Stand → Result Chunk Error → Stand → Type 0

@@ -9,7 +9,8 @@ use Rattle.wasm_parser.specs.Reading.{Event, events_of, last_event, Reads, Readi
 use Rattle.wasm_parser.specs.NextEvent.{NextEvent}
 use Rattle.wasm_parser.specs.SectionEvents.{SaysItsBytes}
 use Rattle.wasm_parser.specs.Spans.{consumed_by, AtOffsets, EndToEnd}
-use Rattle.wasm_parser.specs.Stands.{Stand, Stands, grammar_of, passed}
+use Rattle.wasm_parser.specs.Stands.{Stand, Stands, grammar_of}
+use Rattle.wasm_parser.specs.StateAfter.{state_after_tile}
 use Rattle.wasm_parser.specs.Stream.{Stream}
 use Rattle.wasm_parser.specs.Tiling.{front, grammar, Faultless}
 
@@ -31,7 +32,7 @@ TilesStandAlone = (start : ℕ) (tiles : List Tile) (rest : List ℕ) (t : Tile)
 abbrev pub ParserSuffices : Type 0
 ParserSuffices = (parser : Stand) (start : ℕ) (covered : List ℕ) (s : Stands parser start covered) →
     (grammar_of parser ≡ grammar start s.tiles)
-    × ((rest : List ℕ) (t : Tile) → verdict (grammar_of parser) rest ≡ tile t → Stands (passed parser t) start (covered ++ t.bytes))
+    × ((rest : List ℕ) (t : Tile) → verdict (grammar_of parser) rest ≡ tile t → Stands (state_after_tile parser t) start (covered ++ t.bytes))
 
 -- the reading of a stream ends at its end exactly if the stream is accepted
 abbrev pub AcceptedEnds : Type 0

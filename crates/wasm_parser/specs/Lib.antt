@@ -1,7 +1,6 @@
 pub mod Accepted
 pub mod Answers
 pub mod BeginsWithHeader
-pub mod Behind
 pub mod Content
 pub mod ContentAt
 pub mod Counts
@@ -17,6 +16,7 @@ pub mod Sections
 pub mod Single
 pub mod Spans
 pub mod Stands
+pub mod StateAfter
 pub mod Stream
 pub mod TellsNext
 pub mod Tiling

@@ -2,13 +2,13 @@
 #![tactic(auto)]
 
 mod all;
-mod behind;
 mod contents;
 mod header;
 pub mod laws;
 mod parser;
 mod payload;
 mod sections;
+mod state;
 #[cfg(test)]
 mod tests;
 

@@ -17,12 +17,14 @@ ghost use Rattle.wasm_parser.specs.Turns.{walk_over, WalksWhole};
 ghost use Rattle.wasm_parser.specs.declared.payload.Encoding.TheVariants.{Module, Component};
 
 use crate::all::ParseAll;
-use crate::behind::{bodies_after, count_after, count_in, encoding_after, left_after, rank_after};
 use crate::contents::{counted, custom, data_count, start, unknown, window};
 use crate::header::{magic_follows, read_header};
 use crate::payload::{Chunk, Encoding, Payload};
 use crate::sections::{
     CODE_SECTION, DATA_COUNT_SECTION, DATA_SECTION, FUNCTION_SECTION, Kind, kind_of, rank_of,
+};
+use crate::state::{
+    bodies_after, count_after, count_in, encoding_after, left_after, rank_after,
 };
 use bitflags::Flags;
 use std::alloc::AllocError;

@@ -4,7 +4,8 @@ use Rattle.wasm_base.specs.FaultAt.{at_offset}
 use Rattle.wasm_base.specs.declared.fault.Fault.TheVariants.{OffsetRange}
 use Rattle.wasm_parser.specs.Content.{fault}
 use Rattle.wasm_parser.specs.Grammar.{Verdict, tile, final, verdict}
-use Rattle.wasm_parser.specs.Stands.{Stand, new_stand, grammar_of, passed}
+use Rattle.wasm_parser.specs.Stands.{Stand, new_stand, grammar_of}
+use Rattle.wasm_parser.specs.StateAfter.{state_after_tile}
 
 -- where its parser stands, and stood before the last turn; the bytes that were consumed, and those that are left
 pub record Feed : Type 0 where
@@ -22,7 +23,7 @@ next_at p rest = if nat_lt (p.offset + length rest) (2 ^ 64) then verdict (gramm
 
 -- the parser behind it: a tile is passed, and nothing else is
 abbrev pub stand_behind : Stand → Verdict → Stand
-stand_behind p (tile t) = passed p t
+stand_behind p (tile t) = state_after_tile p t
 stand_behind p (final end) = p
 
 -- how many bytes it takes

@@ -1,7 +1,7 @@
 use Rattle.std.proofs.Common.{ℕ, false, ap, ◌∙◌}
 use Rattle.wasm_base.specs.Features.{feature_bits}
 use Rattle.wasm_parser.specs.Answers.{told_by}
-use Rattle.wasm_parser.specs.Behind.{behind_told, count_behind, left_behind}
+use Rattle.wasm_parser.specs.StateAfter.{state_after, known_count, missing_bytes}
 use Rattle.wasm_parser.specs.Stands.{Stand}
 use Rattle.wasm_parser.proofs.Parsing.{passes}
 use Rattle.wasm_parser.proofs.parser.Parser.pass.Goals as goal
@@ -10,7 +10,7 @@ pub returns : goal.returns
 returns c =
     let p = c.self.inside in
     let told = told_by c.args.payload.now in
-    let left = c.left_after-self-inside.ensures ∙ ap (λ (taken : ℕ). left_behind told taken p.left) c.saturating_sub-taken.ensures in
+    let left = c.left_after-self-inside.ensures ∙ ap (λ (taken : ℕ). missing_bytes told taken p.left) c.saturating_sub-taken.ensures in
     passes c.args.self.now _ c.args.payload.now c.args.end (
     (λ i. record {
       offset = c.args.end;
@@ -18,10 +18,10 @@ returns c =
       expects_header = false;
       encoding = c.encoding_after-self-inside.ensures i;
       rank = c.rank_after-self-inside.ensures i;
-      functions = (c.count_after-self-inside.ensures ∙ ap (λ t. count_behind 3 t p.functions) c.count_in-counted.ensures) i;
-      codes = (c.count_after-self-inside-2.ensures ∙ ap (λ t. count_behind 10 t p.codes) c.count_in-counted.ensures) i;
-      datas = (c.count_after-self-inside-3.ensures ∙ ap (λ t. count_behind 11 t p.datas) c.count_in-counted.ensures) i;
-      data_counts = (c.count_after-self-inside-4.ensures ∙ ap (λ t. count_behind 12 t p.data_counts) c.count_in-counted.ensures) i;
+      functions = (c.count_after-self-inside.ensures ∙ ap (λ t. known_count 3 t p.functions) c.count_in-counted.ensures) i;
+      codes = (c.count_after-self-inside-2.ensures ∙ ap (λ t. known_count 10 t p.codes) c.count_in-counted.ensures) i;
+      datas = (c.count_after-self-inside-3.ensures ∙ ap (λ t. known_count 11 t p.datas) c.count_in-counted.ensures) i;
+      data_counts = (c.count_after-self-inside-4.ensures ∙ ap (λ t. known_count 12 t p.data_counts) c.count_in-counted.ensures) i;
       bodies = c.bodies_after-self-inside.ensures i;
       left = left i;
-    }) ∙ ap (λ (s : Stand). behind_told s c.args.end told) c.self.view_is)
+    }) ∙ ap (λ (s : Stand). state_after s c.args.end told) c.self.view_is)

@@ -1,16 +1,15 @@
-// What a parser knows behind what it told.
+// What a parser knows after what it told.
 ghost use Rattle.std.specs.Prelude.{◌≡◌};
 ghost use Rattle.wasm_parser.specs.Answers.{told_by};
-ghost use Rattle.wasm_parser.specs.Behind.{encoding_behind, rank_told, count_behind, bodies_behind, left_behind};
+ghost use Rattle.wasm_parser.specs.StateAfter.{known_encoding, rank_told, known_rank, known_count, missing_bodies, missing_bytes};
 ghost use Rattle.wasm_parser.specs.Sections.{count_told};
-ghost use Rattle.wasm_parser.specs.Stands.{rank_after as rank_behind};
 
 use crate::payload::{Encoding, Payload};
 use crate::sections::{START_SECTION, place_of};
 
 /// The encoding that a header names, or the one that was known.
 pub(crate) fn encoding_after(payload: &Payload, known: Encoding) -> Encoding
-    ensures { result ≡ encoding_behind (told_by payload.now) known }
+    ensures { result ≡ known_encoding (told_by payload.now) known }
 {
     match payload {
         Payload::Version { encoding, .. } => *encoding,
@@ -20,7 +19,7 @@ pub(crate) fn encoding_after(payload: &Payload, known: Encoding) -> Encoding
 
 /// The rank of a section that has one, or the one that was known.
 pub(crate) fn rank_after(payload: &Payload, known: u8) -> u8
-    ensures { result ≡ rank_behind (rank_told (told_by payload.now)) known }
+    ensures { result ≡ known_rank (rank_told (told_by payload.now)) known }
 {
     let rank = rank_in(payload);
     if rank > 0 { rank } else { known }
@@ -51,7 +50,7 @@ pub(crate) fn count_in(payload: &Payload) -> Option<(u8, u32)>
 
 /// The count of the section with this id, if this is its count, or the one that was known.
 pub(crate) fn count_after(counted: Option<(u8, u32)>, id: u8, known: Option<u32>) -> Option<u32>
-    ensures { result ≡ count_behind id counted known }
+    ensures { result ≡ known_count id counted known }
 {
     match counted {
         Some((other, count)) => if other == id { Some(count) } else { known },
@@ -61,7 +60,7 @@ pub(crate) fn count_after(counted: Option<(u8, u32)>, id: u8, known: Option<u32>
 
 /// The bodies that a code section still misses.
 pub(crate) fn bodies_after(payload: &Payload, known: u32) -> u32
-    ensures { result ≡ bodies_behind (told_by payload.now) known }
+    ensures { result ≡ missing_bodies (told_by payload.now) known }
 {
     match payload {
         Payload::CodeSectionStart { count, .. } => *count,
@@ -70,9 +69,9 @@ pub(crate) fn bodies_after(payload: &Payload, known: u32) -> u32
     }
 }
 
-/// The bytes that a code section still misses, behind what took so many.
+/// The bytes that a code section still misses, after what took so many.
 pub(crate) fn left_after(payload: &Payload, taken: u64, known: u32) -> u32
-    ensures { result ≡ left_behind (told_by payload.now) taken known }
+    ensures { result ≡ missing_bytes (told_by payload.now) taken known }
 {
     match payload {
         Payload::CodeSectionStart { size, .. } => *size,
