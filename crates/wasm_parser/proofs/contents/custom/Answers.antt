@@ -12,7 +12,7 @@ returns-in_err-window c =
 pub returns-in_err-new : goal.returns-in_err-new
 returns-in_err-new c =
     let e = err_from_is_err_and c.from_residual-in_err-new.result c.from_residual-in_err-new.ensures.1 in
-    λ past. rw (e.1, e.2) (custom_refused past c.args.id c.args.size (place c.args.reader.now) c.in_ok-window.window _ _ _ c.in_ok-window.ensures.gives c.in_err-new.ensures)
+    λ past. rw (e.1, e.2) (custom_refused past c.args.id c.args.size (place c.args.reader.now) c.in_ok-window.window _ _ _ c.in_ok-window.ensures.gives c.in_err-new.ensures.reads)
 
 pub returns : goal.returns
-returns c = λ past. custom_read past c.args.id c.args.size (place c.args.reader.now) c.in_ok-window.window _ c.in_ok-new.field-0 c.in_ok-window.ensures.gives c.in_ok-new.ensures
+returns c = λ past. custom_read past c.args.id c.args.size (place c.args.reader.now) c.in_ok-window.window _ c.in_ok-new.field-0 c.in_ok-window.ensures.gives c.in_ok-new.ensures.reads
