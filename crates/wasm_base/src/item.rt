@@ -1,5 +1,4 @@
 // What can be read from a reader.
-ghost use Rattle.std.specs.Prelude.{◌≡◌};
 ghost use Rattle.wasm_base.specs.Hints.{TakesNoMemory, Hints, missing_of_sized};
 ghost use Rattle.wasm_base.specs.Item.{Means, ReadsAs, ReadsName, BothInTurn, bool_at};
 ghost use Rattle.wasm_base.specs.Number.{unsigned_at};

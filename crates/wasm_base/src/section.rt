@@ -1,13 +1,10 @@
 // Counted items in a window.
-ghost use Rattle.std.specs.Prelude.{⊤, ◌≡◌, ◌+◌, ◌<◌, ◌^◌, true, false, Some, IfSome, Ok, Err, IfOk, MatchResult, length};
+ghost use Rattle.std.specs.Prelude.{⊤, ◌≡◌, ◌+◌, ◌<◌, ◌^◌, Some, IfSome, IfOk, length};
 ghost use Rattle.std.specs.Iterator.{at_most, UpTo};
 ghost use Rattle.std.specs.Iterator.SizeHint.{IsWithinCount};
-ghost use Rattle.wasm_base.specs.FaultAt.{fault_at};
 ghost use Rattle.wasm_base.specs.Hints.{TakesNoMemory, Hints};
-ghost use Rattle.wasm_base.specs.Number.{unsigned_at};
 ghost use Rattle.wasm_base.specs.Section.{Section, ReadsSection, Items, NextItem, AtItsOffset, all_items, most_items};
 ghost use Rattle.wasm_base.specs.Window.{place, KeepsWindow};
-ghost use Rattle.wasm_base.specs.declared.fault.NumberKind.TheVariants.{VarU32};
 
 use crate::error::{Error, Result};
 use crate::fault::Fault;

@@ -1,6 +1,8 @@
 // Worked examples, and each public call once.
+mod hints;
 mod limits;
 mod sections;
+mod texts;
 
 use crate::{BinaryReader, CoreStart, Error, Fault, Lead, NumberKind, WasmFeatures, fits};
 use bitflags::Flags;

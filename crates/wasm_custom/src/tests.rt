@@ -50,12 +50,36 @@ fn faults_of_the_name(rt: HostRuntime) -> Result<(), Fail> {
 }
 
 #[test]
+fn hints_of_missing_bytes(rt: HostRuntime) -> Result<(), Fail> {
+    let rows: [(&[u8], Option<usize>); 5] = [
+        (b"", Some(1)),
+        (b"\x80", Some(1)),
+        (b"\x05ab", Some(3)),
+        (b"\xac\x02ab", Some(298)),
+        (b"\x02\xc3\x28", None),
+    ];
+    for (bytes, hint) in rows {
+        let refused = CustomSectionReader::new(BinaryReader::new(bytes, 10))
+            .err()
+            .ok_or("read")?;
+        assert_eq!(rt; refused.needed_hint(), hint);
+    }
+    Ok(())
+}
+
+#[test]
 fn a_section_as_debug_text(rt: HostRuntime) -> Result<(), Fail> {
     let section = CustomSectionReader::new(BinaryReader::new(b"\x01a\x07\x08", 10))?;
     let text = format!(in rt.alloc(); "{section:?}")?;
     assert_eq!(rt;
         text.as_str(),
         "CustomSectionReader { name: \"a\", data_offset: 12, data: \"...\", range: 10..14 }"
+    );
+    let section = CustomSectionReader::new(BinaryReader::new(b"\x04na\"e\x07\x08\x09", 70000))?;
+    let text = format!(in rt.alloc(); "{section:?}")?;
+    assert_eq!(rt;
+        text.as_str(),
+        "CustomSectionReader { name: \"na\\\"e\", data_offset: 70005, data: \"...\", range: 70000..70008 }"
     );
     Ok(())
 }

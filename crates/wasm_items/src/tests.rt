@@ -1,4 +1,5 @@
 // Items as values.
+mod aliases;
 mod held;
 mod values;
 

@@ -132,6 +132,19 @@ fn a_section_as_text(rt: HostRuntime) -> std::result::Result<(), Fail> {
         text.as_str(),
         "SectionLimited { count: 2, range: 100..105 }"
     );
+    let numbers = section::<u32>(&[0xac, 0x02, 5, 6], 70000)?;
+    let text = format!(in rt.alloc(); "{numbers:?}")?;
+    assert_eq!(rt;
+        text.as_str(),
+        "SectionLimited { count: 300, range: 70000..70004 }"
+    );
+    let mut items = numbers.into_iter();
+    assert_eq!(rt; items.next(), Some(Ok(5)));
+    let text = format!(in rt.alloc(); "{:?}", SectionLimited::from(items))?;
+    assert_eq!(rt;
+        text.as_str(),
+        "SectionLimited { count: 300, range: 70000..70004 }"
+    );
     Ok(())
 }
 
