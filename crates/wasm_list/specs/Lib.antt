@@ -1,3 +1,4 @@
+pub mod Devices
 pub mod Listing
 pub mod Lists
 pub mod Runs
