@@ -1,6 +1,7 @@
 //! Lists the sections of the WebAssembly stream on standard input.
 #![tactic(auto)]
 
+mod laws;
 mod lines;
 mod listing;
 mod program;
