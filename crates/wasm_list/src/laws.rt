@@ -9,7 +9,8 @@ use crate::source::Failed;
 /// Two ends of listings are equal exactly if both are the end of a stream, or both a fault: the same fault, with the
 /// same offset and number. Two reasons to give up are equal exactly if they are the same.
 pub fn equal_ends_are_the_same()
-    ensures ended { TellsWhether (λ one other. fault_of one ≡ fault_of other) ⟦<Ended as PartialEq>⟧.eq }
+    ensures ended { TellsWhether (λ one other. fault_of one ≡ fault_of other)
+        ⟦<Ended as PartialEq>⟧.eq }
     ensures list_error { TellsSame ⟦<ListError as PartialEq>⟧.eq }
     ensures failed { TellsSame ⟦<Failed as PartialEq>⟧.eq }
 {}

@@ -19,7 +19,8 @@ pub trait Sink {
         ensures bound { IfOk result (λ n. n ≤ length buf.now) }
         ensures some { IfOk result (λ n. 0 < length buf.now → 0 < n) }
         ensures bytes { WriteAppends (taken self.old) (taken self.new) result buf.now }
-        ensures failed { has_failed self.new ≡ (if is_ok result then has_failed self.old else true) };
+        ensures failed { has_failed self.new
+            ≡ (if is_ok result then has_failed self.old else true) };
 
     /// Whether a write has failed.
     fn failed(&self) -> bool
@@ -29,8 +30,10 @@ pub trait Sink {
 // Writes all of the bytes, or where the sink fails, a beginning of them.
 pub(crate) fn write_all<W: Sink>(output: &mut W, bytes: &[u8]) -> Result<(), Failed>
     ensures ok { OnOk result (Appends (W.taken output.old) (W.taken output.new) bytes.now) }
-    ensures err { OnErr result ((n : ℕ) × Appends (W.taken output.old) (W.taken output.new) (take n bytes.now)) }
-    ensures failed { W.has_failed output.new ≡ (if is_ok result then W.has_failed output.old else true) }
+    ensures err { OnErr result
+        ((n : ℕ) × Appends (W.taken output.old) (W.taken output.new) (take n bytes.now)) }
+    ensures failed { W.has_failed output.new
+        ≡ (if is_ok result then W.has_failed output.old else true) }
 {
     let mut written = 0;
     while written < bytes.len() {

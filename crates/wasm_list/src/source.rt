@@ -21,7 +21,8 @@ pub trait Source {
     fn read(&mut self, buf: &mut [u8]) -> Result<usize, Failed>
         ensures bound { IfOk result (λ n. n ≤ length buf.new) }
         ensures bytes { ReadConsumes (left self.old) (left self.new) result buf.new }
-        ensures failed { has_failed self.new ≡ (if is_ok result then has_failed self.old else true) };
+        ensures failed { has_failed self.new
+            ≡ (if is_ok result then has_failed self.old else true) };
 
     /// Whether a read has failed.
     fn failed(&self) -> bool
