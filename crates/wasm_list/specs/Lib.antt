@@ -1,3 +1,5 @@
+pub mod Devices
+pub mod Ends
 pub mod Listing
 pub mod Lists
 pub mod Runs

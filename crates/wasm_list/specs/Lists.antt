@@ -73,7 +73,14 @@ Lists left rest taken written (Err Output) = (given : List ℕ) × GaveAll left 
 Lists left rest taken written (Err Memory) = (given : List ℕ) × Consumes left rest given × IsBeginning given taken written
 Lists left rest taken written (Err Input) = (given : List ℕ) × Consumes left rest given × IsBeginning given taken written
 
--- whether a device has failed behind a call
+-- Where the source failed nothing was written: all is read before the first line.
+abbrev pub WritesAfterReading : (taken written : Option (List ℕ)) → Result Ended ListError → Type 0
+WritesAfterReading taken written (Err Input) = written ≡ taken
+WritesAfterReading taken written (Err Output) = Unit {0}
+WritesAfterReading taken written (Err Memory) = Unit {0}
+WritesAfterReading taken written (Ok how) = Unit {0}
+
+-- whether a device has failed after a call
 abbrev pub input_failed : {A : Type 0} → Result A ListError → Bool → Bool
 input_failed (Err Input) before = true
 input_failed (Err Output) before = before

@@ -2,8 +2,8 @@
 ghost use Rattle.std.specs.Prelude.{◌≡◌, ◌++◌, Some, IfOk, codes, string_bytes};
 ghost use Rattle.wasm_base.specs.FaultAt.{fault_at};
 ghost use Rattle.wasm_parser.specs.Answers.{told_by};
-ghost use Rattle.wasm_list.specs.Listing.{encoding_name as name_of, field, window_fields, line_of};
-ghost use Rattle.wasm_parser.specs.Reading.{stopped};
+ghost use Rattle.wasm_list.specs.Listing.{encoding_name as name_of, field, line_of};
+ghost use Rattle.wasm_parser.specs.Reading.{code_start, counted, stopped};
 
 use std::alloc::{AllocError, Allocator};
 use std::ops::Range;
@@ -19,12 +19,14 @@ fn encoding_name(encoding: Encoding) -> &'static str
 }
 
 // The line of a section with this id.
+#[tactic(auto, unfolding(crate::specs::Listing::line_of))]
 fn counted_line<A: Allocator, T>(
     alloc: A,
     id: u8,
     section: &SectionLimited<'_, T>,
 ) -> Result<String<A>, AllocError>
-    ensures { IfOk result (λ line. string_bytes line ≡ codes "section" ++ field id (window_fields section.now.reader (field section.now.count (codes "\n")))) }
+    ensures { IfOk result (λ line. string_bytes line
+        ≡ line_of (counted id section.now.count section.now.reader)) }
 {
     let (range, count) = (section.range(), section.count());
     let (start, end) = (range.start, range.end);
@@ -38,20 +40,23 @@ fn number_line<A: Allocator>(
     range: &Range<u64>,
     number: u32,
 ) -> Result<String<A>, AllocError>
-    ensures { IfOk result (λ line. string_bytes line ≡ word.now ++ field range.now.start (field range.now.end (field number (codes "\n")))) }
+    ensures { IfOk result (λ line. string_bytes line
+        ≡ word.now ++ field range.now.start (field range.now.end (field number (codes "\n")))) }
 {
     let (start, end) = (range.start, range.end);
     format!(in alloc; "{word} {start} {end} {number}\n")
 }
 
 // The line of the start of a code section.
+#[tactic(auto, unfolding(crate::specs::Listing::line_of))]
 fn code_line<A: Allocator>(
     alloc: A,
     range: &Range<u64>,
     count: u32,
     size: u32,
 ) -> Result<String<A>, AllocError>
-    ensures { IfOk result (λ line. string_bytes line ≡ codes "code" ++ field range.now.start (field range.now.end (field count (field size (codes "\n"))))) }
+    ensures { IfOk result (λ line. string_bytes line
+        ≡ line_of (code_start count range.now.start range.now.end size)) }
 {
     let (start, end) = (range.start, range.end);
     format!(in alloc; "code {start} {end} {count} {size}\n")

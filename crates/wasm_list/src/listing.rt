@@ -3,7 +3,15 @@ ghost use Rattle.std.specs.Prelude.{◌≡◌, ◌≤◌, ◌<◌};
 ghost use Rattle.wasm_base.specs.FaultAt.{fault_at};
 ghost use Rattle.wasm_parser.specs.Answers.{told_by};
 ghost use Rattle.wasm_list.specs.Listing.{line_of};
-ghost use Rattle.wasm_list.specs.Lists.{Writes, Gathers, ListsBytes, Lists, input_failed, output_failed};
+ghost use Rattle.wasm_list.specs.Lists.{
+  Writes,
+  Gathers,
+  ListsBytes,
+  Lists,
+  WritesAfterReading,
+  input_failed,
+  output_failed,
+};
 ghost use Rattle.wasm_parser.specs.Reading.{stopped};
 
 use crate::lines::{fault_line, payload_line};
@@ -56,7 +64,8 @@ fn write_line<W: Sink>(output: &mut W, line: &str) -> Result<(), ListError>
 
 // Writes the line of a payload.
 fn tell<A: Allocator, W: Sink>(alloc: A, output: &mut W, payload: &Payload) -> Result<(), ListError>
-    ensures writes { Writes (W.taken output.old) (W.taken output.new) (line_of (told_by payload.now)) result }
+    ensures writes { Writes (W.taken output.old) (W.taken output.new)
+        (line_of (told_by payload.now)) result }
     ensures failed { W.has_failed output.new ≡ output_failed result (W.has_failed output.old) }
 {
     let line = payload_line(alloc, payload)?;
@@ -69,7 +78,8 @@ fn tell_fault<A: Allocator, W: Sink>(
     output: &mut W,
     error: &Error,
 ) -> Result<(), ListError>
-    ensures writes { Writes (W.taken output.old) (W.taken output.new) (line_of (stopped (fault_at error.now))) result }
+    ensures writes { Writes (W.taken output.old) (W.taken output.new)
+        (line_of (stopped (fault_at error.now))) result }
     ensures failed { W.has_failed output.new ≡ output_failed result (W.has_failed output.old) }
 {
     let line = fault_line(alloc, error)?;
@@ -137,7 +147,9 @@ pub(crate) fn list_in<A: Allocator + Copy, R: Source, W: Sink>(
     piece: usize,
 ) -> Result<Ended, ListError>
     requires { 1 ≤ piece }
-    ensures lists { Lists (R.left input.old) (R.left input.new) (W.taken output.old) (W.taken output.new) result }
+    ensures lists { Lists (R.left input.old) (R.left input.new)
+        (W.taken output.old) (W.taken output.new) result }
+    ensures unread { WritesAfterReading (W.taken output.old) (W.taken output.new) result }
     ensures input { R.has_failed input.new ≡ input_failed result (R.has_failed input.old) }
     ensures output { W.has_failed output.new ≡ output_failed result (W.has_failed output.old) }
 {
@@ -157,7 +169,9 @@ pub fn list<R: Source, W: Sink>(
     piece: usize,
 ) -> Result<Ended, ListError>
     requires { 1 ≤ piece }
-    ensures lists { Lists (R.left input.old) (R.left input.new) (W.taken output.old) (W.taken output.new) result }
+    ensures lists { Lists (R.left input.old) (R.left input.new)
+        (W.taken output.old) (W.taken output.new) result }
+    ensures unread { WritesAfterReading (W.taken output.old) (W.taken output.new) result }
     ensures input { R.has_failed input.new ≡ input_failed result (R.has_failed input.old) }
     ensures output { W.has_failed output.new ≡ output_failed result (W.has_failed output.old) }
 {

@@ -1,21 +1,55 @@
 // The program, over any devices.
-ghost use Rattle.std.specs.Prelude.{◌≡◌, length};
-ghost use Rattle.wasm_list.specs.Runs.{Finishes, Runs, Says, complaint_of};
+ghost use Rattle.std.specs.Prelude.{◌≡◌, length, is_ok};
+ghost use Rattle.std.specs.Vec.Iter.{into_iter_len};
+ghost use Rattle.wasm_list.specs.Runs.{
+  device_of,
+  Finishes,
+  Runs,
+  Says,
+  complaint_of,
+  RunsProgram,
+  arguments_after_name,
+  bytes_if_made,
+  is_made_and,
+};
 
-use crate::listing::{Ended, ListError, list};
+use crate::listing::{Ended, ListError, list_in};
 use crate::sink::{Sink, WriteSink, write_all};
 use crate::source::Source;
-use std::alloc::Global;
-use std::io::Write;
+use std::alloc::{Allocator, Global};
+use std::env::Args;
+use std::io::{self, Write};
 
 /// How many bytes of the input are read at once.
 const PIECE: usize = 65_536;
 
-// Writes a message and a line feed, as far as the sink takes them.
-fn complain<E: Sink>(errors: &mut E, message: &[u8])
-    ensures { Says (E.taken errors.old) (E.taken errors.new) (E.has_failed errors.new) message.now }
+/// The whole program: it counts the arguments after the program's own name, runs, hands on what the output has kept,
+/// and answers the exit status.
+///
+/// Arguments or an output that could not be had are a want of memory.
+pub(crate) fn run_program<A: Allocator + Copy, R: Source, W: Write, E: Sink>(
+    alloc: A,
+    arguments: io::Result<Args<A>>,
+    input: &mut R,
+    output: &mut io::Result<WriteSink<W>>,
+    errors: &mut E,
+) -> u8
+    ensures { RunsProgram (arguments_after_name into_iter_len arguments) (is_ok output.old)
+        (is_made_and (λ sink. sink.handed_on) output.new)
+        (device_of R.left R.has_failed input.old input.new)
+        (device_of (bytes_if_made ⟦<WriteSink<W> as Sink>⟧.taken)
+        (is_made_and ⟦<WriteSink<W> as Sink>⟧.has_failed) output.old output.new)
+        (device_of E.taken E.has_failed errors.old errors.new) result }
 {
-    let _ = write_all(errors, message);
+    let Ok(arguments) = arguments else {
+        return give_up(errors, ListError::Memory);
+    };
+    let Ok(output) = output else {
+        return give_up(errors, ListError::Memory);
+    };
+    let count = arguments.len().saturating_sub(1);
+    let status = run_in(alloc, count, input, output, errors);
+    finish(status, output, errors)
 }
 
 /// Lists the input, and answers the exit status: 0 at the end of the stream, 1 at a fault of it, 2 for arguments, 3
@@ -29,20 +63,65 @@ pub fn run<R: Source, W: Sink, E: Sink>(
     output: &mut W,
     errors: &mut E,
 ) -> u8
-    ensures { Runs (length args.now) (record { before = R.left input.old; behind = R.left input.new; had_failed = R.has_failed input.old; has_failed = R.has_failed input.new }) (record { before = W.taken output.old; behind = W.taken output.new; had_failed = W.has_failed output.old; has_failed = W.has_failed output.new }) (record { before = E.taken errors.old; behind = E.taken errors.new; had_failed = E.has_failed errors.old; has_failed = E.has_failed errors.new }) result }
+    ensures { Runs (length args.now)
+        (device_of R.left R.has_failed input.old input.new)
+        (device_of W.taken W.has_failed output.old output.new)
+        (device_of E.taken E.has_failed errors.old errors.new) result }
 {
-    if !args.is_empty() {
+    run_in(alloc, args.len(), input, output, errors)
+}
+
+// The same as `run` for so many arguments, with memory from any allocator.
+fn run_in<A: Allocator + Copy, R: Source, W: Sink, E: Sink>(
+    alloc: A,
+    arguments: usize,
+    input: &mut R,
+    output: &mut W,
+    errors: &mut E,
+) -> u8
+    ensures { Runs arguments
+        (device_of R.left R.has_failed input.old input.new)
+        (device_of W.taken W.has_failed output.old output.new)
+        (device_of E.taken E.has_failed errors.old errors.new) result }
+{
+    if arguments > 0 {
         complain(errors, b"usage: wasm_list [strip]\n");
         return 2;
     }
-    match list(alloc, input, output, PIECE) {
+    match list_in(alloc, input, output, PIECE) {
         Ok(Ended::End) => 0,
         Ok(Ended::Fault(_)) => 1,
-        Err(error) => {
-            complain(errors, message(error));
-            3
-        }
+        Err(error) => give_up(errors, error),
     }
+}
+
+/// Hands on all that was written, after a status of 0 or 1, and answers the status that then holds.
+pub fn finish<W: Write, E: Sink>(status: u8, output: &mut WriteSink<W>, errors: &mut E) -> u8
+    ensures { Finishes status output.new.handed_on
+        (device_of ⟦<WriteSink<W> as Sink>⟧.taken ⟦<WriteSink<W> as Sink>⟧.has_failed
+        output.old output.new)
+        (device_of E.taken E.has_failed errors.old errors.new) result }
+{
+    if status < 2 && output.flush().is_err() {
+        return give_up(errors, ListError::Output);
+    }
+    status
+}
+
+// Says why the program gives up, and answers the status of that.
+fn give_up<E: Sink>(errors: &mut E, why: ListError) -> u8
+    ensures status { result ≡ 3 }
+    ensures says { Says (device_of E.taken E.has_failed errors.old errors.new) (complaint_of why) }
+{
+    complain(errors, message(why));
+    3
+}
+
+// Writes a message, as far as the sink takes it.
+fn complain<E: Sink>(errors: &mut E, message: &[u8])
+    ensures { Says (device_of E.taken E.has_failed errors.old errors.new) message.now }
+{
+    let _ = write_all(errors, message);
 }
 
 // What is said of a listing that was given up.
@@ -54,15 +133,4 @@ fn message(error: ListError) -> &'static [u8]
         ListError::Output => b"output failed\n",
         ListError::Memory => b"out of memory\n",
     }
-}
-
-/// Hands on all that was written, after a status of 0 or 1, and answers the status that then holds.
-pub fn finish<W: Write, E: Sink>(status: u8, output: &mut WriteSink<W>, errors: &mut E) -> u8
-    ensures { Finishes status output.old.failed output.new.failed result }
-{
-    if status < 2 && output.flush().is_err() {
-        complain(errors, b"output failed\n");
-        return 3;
-    }
-    status
 }

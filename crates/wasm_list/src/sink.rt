@@ -1,6 +1,6 @@
 // Where bytes go.
-ghost use Rattle.std.specs.Prelude.{◌≡◌, ℕ, ◌≤◌, ◌<◌, Bool, true, false, List, Option, Some, None, [], length, take, IfOk, OnOk, OnErr, is_ok, if◌then◌else◌, vec_len, vec_capacity};
-ghost use Rattle.std.specs.Io.KnownBytes.{WriteAppends, Appends};
+ghost use Rattle.std.specs.Prelude.{◌≡◌, ℕ, ◌≤◌, ◌<◌, Bool, true, false, List, Option, Some, None, [], length, take, min, IfOk, OnOk, OnErr, is_ok, if◌then◌else◌, vec_len, vec_capacity};
+ghost use Rattle.std.specs.Io.KnownBytes.{WriteAppends, Appends, Keeps};
 
 use crate::source::Failed;
 use std::alloc::{AllocError, Allocator, Global};
@@ -19,7 +19,8 @@ pub trait Sink {
         ensures bound { IfOk result (λ n. n ≤ length buf.now) }
         ensures some { IfOk result (λ n. 0 < length buf.now → 0 < n) }
         ensures bytes { WriteAppends (taken self.old) (taken self.new) result buf.now }
-        ensures failed { has_failed self.new ≡ (if is_ok result then has_failed self.old else true) };
+        ensures failed { has_failed self.new
+            ≡ (if is_ok result then has_failed self.old else true) };
 
     /// Whether a write has failed.
     fn failed(&self) -> bool
@@ -29,8 +30,10 @@ pub trait Sink {
 // Writes all of the bytes, or where the sink fails, a beginning of them.
 pub(crate) fn write_all<W: Sink>(output: &mut W, bytes: &[u8]) -> Result<(), Failed>
     ensures ok { OnOk result (Appends (W.taken output.old) (W.taken output.new) bytes.now) }
-    ensures err { OnErr result ((n : ℕ) × Appends (W.taken output.old) (W.taken output.new) (take n bytes.now)) }
-    ensures failed { W.has_failed output.new ≡ (if is_ok result then W.has_failed output.old else true) }
+    ensures err { OnErr result
+        ((n : ℕ) × Appends (W.taken output.old) (W.taken output.new) (take n bytes.now)) }
+    ensures failed { W.has_failed output.new
+        ≡ (if is_ok result then W.has_failed output.old else true) }
 {
     let mut written = 0;
     while written < bytes.len() {
@@ -80,11 +83,22 @@ impl BoundedSink {
 }
 
 impl Sink for BoundedSink {
+    ghost use Rattle.wasm_list.specs.Devices.{room_left};
+
     ghost taken = { λ s. Some s.bytes.items };
 
     ghost has_failed = { λ s. s.failed };
 
-    fn write(&mut self, buf: &[u8]) -> Result<usize, Failed> {
+    fn write(&mut self, buf: &[u8]) -> Result<usize, Failed>
+        ensures bound { IfOk result (λ n. n ≤ length buf.now) }
+        ensures some { IfOk result (λ n. 0 < length buf.now → 0 < n) }
+        ensures bytes { WriteAppends (Some self.old.bytes.items) (Some self.new.bytes.items)
+            result buf.now }
+        ensures failed { self.new.failed ≡ (if is_ok result then self.old.failed else true) }
+        ensures size { self.new.size ≡ self.old.size }
+        ensures fits { IfOk result (λ n. n ≡ min (length buf.now) (room_left self.old)) }
+        ensures full { OnErr result ((0 < length buf.now) × (room_left self.old ≡ 0)) }
+    {
         let count = buf.len().min(self.size - self.bytes.len());
         if count == 0 && !buf.is_empty() {
             self.failed = true;
@@ -105,6 +119,8 @@ impl Sink for BoundedSink {
 pub struct WriteSink<W> {
     writer: W,
     failed: bool,
+    // Whether the writer was flushed after the last write.
+    handed_on: bool,
 }
 
 impl<W: Write> WriteSink<W> {
@@ -116,15 +132,21 @@ impl<W: Write> WriteSink<W> {
         WriteSink {
             writer,
             failed: false,
+            handed_on: true,
         }
     }
 
     // Hands on what the writer has kept back.
     pub(crate) fn flush(&mut self) -> Result<(), Failed>
-        ensures { self.new.failed ≡ (if is_ok result then self.old.failed else true) }
+        ensures bytes { Keeps (W.contents self.old.writer) (W.contents self.new.writer) }
+        ensures failed { self.new.failed ≡ (if is_ok result then self.old.failed else true) }
+        ensures all { OnOk result (self.new.handed_on ≡ true) }
     {
         match self.writer.flush() {
-            Ok(()) => Ok(()),
+            Ok(()) => {
+                self.handed_on = true;
+                Ok(())
+            }
             Err(_) => {
                 self.failed = true;
                 Err(Failed)
@@ -139,6 +161,7 @@ impl<W: Write> Sink for WriteSink<W> {
     ghost has_failed = { λ s. s.failed };
 
     fn write(&mut self, buf: &[u8]) -> Result<usize, Failed> {
+        self.handed_on = false;
         match self.writer.write(buf) {
             Ok(count) if count > 0 || buf.is_empty() => Ok(count),
             _ => {

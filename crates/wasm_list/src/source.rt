@@ -1,5 +1,5 @@
 // Where bytes come from.
-ghost use Rattle.std.specs.Prelude.{◌≡◌, ℕ, ◌≤◌, Bool, true, false, List, Option, Some, None, length, IfOk, is_ok, if◌then◌else◌};
+ghost use Rattle.std.specs.Prelude.{◌≡◌, ℕ, ◌≤◌, Bool, true, false, List, Option, Some, None, Ok, length, min, IfOk, is_ok, if◌then◌else◌};
 ghost use Rattle.std.specs.Io.KnownBytes.{ReadConsumes};
 
 use std::io::Read;
@@ -21,7 +21,8 @@ pub trait Source {
     fn read(&mut self, buf: &mut [u8]) -> Result<usize, Failed>
         ensures bound { IfOk result (λ n. n ≤ length buf.new) }
         ensures bytes { ReadConsumes (left self.old) (left self.new) result buf.new }
-        ensures failed { has_failed self.new ≡ (if is_ok result then has_failed self.old else true) };
+        ensures failed { has_failed self.new
+            ≡ (if is_ok result then has_failed self.old else true) };
 
     /// Whether a read has failed.
     fn failed(&self) -> bool
@@ -48,7 +49,13 @@ impl Source for SliceSource<'_> {
 
     ghost has_failed = { λ _. false };
 
-    fn read(&mut self, buf: &mut [u8]) -> Result<usize, Failed> {
+    fn read(&mut self, buf: &mut [u8]) -> Result<usize, Failed>
+        ensures bound { IfOk result (λ n. n ≤ length buf.new) }
+        ensures bytes { ReadConsumes (Some self.old.rest.now) (Some self.new.rest.now)
+            result buf.new }
+        ensures failed { false ≡ (if is_ok result then false else true) }
+        ensures fits { result ≡ Ok (min (length buf.new) (length self.old.rest.now)) }
+    {
         let count = buf.len().min(self.rest.len());
         buf[..count].copy_from_slice(&self.rest[..count]);
         self.rest = &self.rest[count..];

@@ -120,7 +120,8 @@ pub struct Turned<'a> {
 impl<'a> Turned<'a> {
     /// The step that the feeder made.
     pub fn step(self) -> Result<Step<'a>>
-        ensures { Tells self.entry.feeder.now.before (rest_at self.entry.feeder.now self.entry.from) result }
+        ensures { Tells self.entry.feeder.now.before
+            (rest_at self.entry.feeder.now self.entry.from) result }
     {
         show(self)
     }
@@ -128,7 +129,8 @@ impl<'a> Turned<'a> {
 
 // The step that the feeder made: what stands at its beginning is parsed again.
 fn show(turned: Turned<'_>) -> Result<Step<'_>>
-    ensures { Tells turned.entry.feeder.now.before (rest_at turned.entry.feeder.now turned.entry.from) result }
+    ensures { Tells turned.entry.feeder.now.before
+        (rest_at turned.entry.feeder.now turned.entry.from) result }
 {
     let Turned { feeder, from } = turned;
     let mut parser = feeder.before.clone().unwrap();

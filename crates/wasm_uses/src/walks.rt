@@ -9,7 +9,8 @@ use wasm_base::{FromReader, Result, SectionLimited};
 
 /// Adds up the numbers of a section, or gives the first fault.
 pub fn total(numbers: SectionLimited<'_, u32>) -> Result<u64>
-    ensures { MatchResult result (λ n. total_at numbers.entry.count (place numbers.entry.reader) ≡ Ok n) (λ e. total_at numbers.entry.count (place numbers.entry.reader) ≡ Err (fault_at e)) }
+    ensures { let sum = total_at numbers.entry.count (place numbers.entry.reader) in
+        MatchResult result (λ n. sum ≡ Ok n) (λ e. sum ≡ Err (fault_at e)) }
 {
     let mut total = 0;
     for number in numbers {

@@ -185,3 +185,76 @@ fn a_writer_that_takes_nothing(rt: HostRuntime) -> Result<(), Fail> {
     assert_eq!(rt; output.write(b""), Ok(0));
     Ok(())
 }
+
+/// A source of the bytes of a slice that keeps the largest room that it was given.
+#[derive(Drop)]
+struct Measuring<'a> {
+    inner: SliceSource<'a>,
+    largest: usize,
+}
+
+impl Source for Measuring<'_> {
+    ghost use Rattle.std.specs.Prelude.{Some};
+
+    ghost left = { λ s. Some s.inner.rest.now };
+
+    ghost has_failed = { λ _. false };
+
+    fn read(&mut self, buf: &mut [u8]) -> Result<usize, Failed> {
+        self.largest = self.largest.max(buf.len());
+        self.inner.read(buf)
+    }
+
+    fn failed(&self) -> bool {
+        self.inner.failed()
+    }
+}
+
+#[test]
+fn at_most_a_piece_is_read_at_once(rt: HostRuntime) -> Result<(), Fail> {
+    for piece in [1, 3, 65_536] {
+        let mut input = Measuring {
+            inner: SliceSource::new(MODULE),
+            largest: 0,
+        };
+        let mut output = BoundedSink::new(rt.alloc(), 64)?;
+        assert_eq!(rt;
+            list(rt.alloc(), &mut input, &mut output, piece),
+            Ok(Ended::End)
+        );
+        assert_eq!(rt; output.written(), LISTING);
+        assert!(rt; 0 < input.largest && input.largest <= piece, "{piece}");
+    }
+    Ok(())
+}
+
+#[test]
+fn a_sink_of_each_size(rt: HostRuntime) -> Result<(), Fail> {
+    for size in 0..LISTING.len() + 2 {
+        let mut input = SliceSource::new(MODULE);
+        let mut output = BoundedSink::new(rt.alloc(), size)?;
+        let ended = list(rt.alloc(), &mut input, &mut output, 4);
+        let is_full = size < LISTING.len();
+        assert_eq!(rt; ended == Err(ListError::Output), is_full, "{size}");
+        assert_eq!(rt; ended == Ok(Ended::End), !is_full, "{size}");
+        assert_eq!(rt; output.failed(), is_full, "{size}");
+        assert_eq!(rt; output.written(), &LISTING[..size.min(LISTING.len())]);
+    }
+    Ok(())
+}
+
+#[test]
+fn a_sink_takes_what_fits(rt: HostRuntime) -> Result<(), Fail> {
+    let mut sink = BoundedSink::new(rt.alloc(), 5)?;
+    assert_eq!(rt; sink.write(b"abc"), Ok(3));
+    assert_eq!(rt; sink.write(b""), Ok(0));
+    assert_eq!(rt; sink.write(b"def"), Ok(2));
+    assert_eq!(rt; sink.write(b""), Ok(0));
+    assert!(rt; !sink.failed());
+    assert_eq!(rt; sink.write(b"f"), Err(Failed));
+    assert!(rt; sink.failed());
+    assert_eq!(rt; sink.write(b""), Ok(0));
+    assert!(rt; sink.failed());
+    assert_eq!(rt; sink.written(), b"abcde".as_slice());
+    Ok(())
+}

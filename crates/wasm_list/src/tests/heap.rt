@@ -1,9 +1,12 @@
 // Memory that runs out at a chosen growth.
 use crate::listing::{ListError, list, list_in};
-use crate::sink::{BoundedSink, Sink, room};
+use crate::program::run_program;
+use crate::sink::{BoundedSink, Sink, WriteSink, room};
 use crate::source::{SliceSource, Source};
 use std::alloc::{AllocError, Allocator};
 use std::cell::Cell;
+use std::env::Args;
+use std::io;
 use std::test::Fail;
 
 /// An allocator that gives so many blocks and then refuses. A block that comes back is not given again.
@@ -99,6 +102,40 @@ fn a_listing_whose_memory_runs_out(rt: HostRuntime) -> Result<(), Fail> {
         }
         assert!(rt; refused >= 3, "{stream:?} {refused}");
     }
+    Ok(())
+}
+
+// The arguments of a program that is called with none: its own name.
+fn own_name<A: Allocator + Copy>(alloc: A) -> io::Result<Args<A>> {
+    let mut arguments = Vec::new(alloc);
+    arguments.push(String::from_str(alloc, "wasm_list")?)?;
+    Ok(arguments.into_iter())
+}
+
+#[test]
+fn a_program_whose_memory_runs_out(rt: HostRuntime) -> Result<(), Fail> {
+    let (stream, lines) = LISTINGS[0];
+    let mut refused = 0;
+    for blocks in 0..AMPLE {
+        let heap = Sparing::new(rt.alloc(), blocks);
+        let mut input = SliceSource::new(stream);
+        let mut written = Vec::<u8>::new(rt.alloc());
+        let mut output = Ok(WriteSink::new(&mut written));
+        let mut errors = BoundedSink::new(rt.alloc(), 40)?;
+        let arguments = own_name(&heap);
+        let status = run_program(&heap, arguments, &mut input, &mut output, &mut errors);
+        if status == 3 {
+            assert_eq!(rt; errors.written(), b"out of memory\n".as_slice(), "{blocks}");
+            assert!(rt; lines.starts_with(written.as_slice()), "{blocks}");
+        } else {
+            assert_eq!(rt; status, 0, "{blocks}");
+            assert_eq!(rt; errors.written(), b"".as_slice());
+            assert_eq!(rt; written.as_slice(), lines);
+            refused = blocks;
+            break;
+        }
+    }
+    assert!(rt; refused >= 5, "{refused}");
     Ok(())
 }
 

@@ -1,8 +1,9 @@
 // The statuses and messages of runs.
 use super::devices::Failing;
-use crate::program::{finish, run};
+use crate::program::{finish, run, run_program};
 use crate::sink::{BoundedSink, Sink, WriteSink};
 use crate::source::{SliceSource, Source};
+use std::env::Args;
 use std::io::{self, Write};
 use std::test::Fail;
 
@@ -138,6 +139,91 @@ fn a_flush_that_fails(rt: HostRuntime) -> Result<(), Fail> {
         assert_eq!(rt; finish(status, &mut output, &mut errors), answer);
         assert_eq!(rt; errors.written(), said);
         assert_eq!(rt; output.failed(), status < 2);
+    }
+    Ok(())
+}
+
+// The program's own name, and so many arguments.
+fn arguments(rt: HostRuntime, count: usize) -> Result<Args, Fail> {
+    let mut arguments = vec![in rt.alloc(); String::from_str(rt.alloc(), "wasm_list")?]?;
+    for _ in 0..count {
+        arguments.push(String::from_str(rt.alloc(), "strip")?)?;
+    }
+    Ok(arguments.into_iter())
+}
+
+#[test]
+fn the_whole_program(rt: HostRuntime) -> Result<(), Fail> {
+    let listing = b"version 0 8 1 module\ncustom 10 12 12\nend 12\n".as_slice();
+    let fault = b"version 0 8 1 module\nfault 8 malformed section id\n".as_slice();
+    let usage = b"usage: wasm_list [strip]\n".as_slice();
+    let rows: [(usize, &[u8], u8, &[u8], &[u8]); 4] = [
+        (0, MODULE, 0, listing, b""),
+        (0, b"\0asm\x01\0\0\0\x80", 1, fault, b""),
+        (1, MODULE, 2, b"", usage),
+        (2, MODULE, 2, b"", usage),
+    ];
+    for (count, stream, status, lines, said) in rows {
+        let mut input = SliceSource::new(stream);
+        let mut written = Vec::<u8>::new(rt.alloc());
+        let mut output = Ok(WriteSink::new(&mut written));
+        let mut errors = BoundedSink::new(rt.alloc(), 40)?;
+        let given = Ok(arguments(rt, count)?);
+        assert_eq!(rt;
+            run_program(rt.alloc(), given, &mut input, &mut output, &mut errors),
+            status
+        );
+        assert_eq!(rt; errors.written(), said);
+        assert_eq!(rt; written.as_slice(), lines);
+    }
+    Ok(())
+}
+
+#[test]
+fn a_program_that_cannot_begin(rt: HostRuntime) -> Result<(), Fail> {
+    let short = || io::Error::from(io::ErrorKind::OutOfMemory);
+    for has_output in [true, false] {
+        let mut input = SliceSource::new(MODULE);
+        let mut written = Vec::<u8>::new(rt.alloc());
+        let mut output = if has_output {
+            Ok(WriteSink::new(&mut written))
+        } else {
+            Err(short())
+        };
+        let mut errors = BoundedSink::new(rt.alloc(), 40)?;
+        let given = if has_output {
+            Err(short())
+        } else {
+            Ok(arguments(rt, 0)?)
+        };
+        assert_eq!(rt;
+            run_program(rt.alloc(), given, &mut input, &mut output, &mut errors),
+            3
+        );
+        assert_eq!(rt; errors.written(), b"out of memory\n".as_slice());
+        let mut left = [0; 20];
+        assert_eq!(rt; input.read(&mut left), Ok(MODULE.len()));
+        assert_eq!(rt; written.as_slice(), b"".as_slice());
+    }
+    Ok(())
+}
+
+#[test]
+fn a_program_whose_output_fails_at_its_end(rt: HostRuntime) -> Result<(), Fail> {
+    let rows: [(usize, u8, &[u8]); 2] = [
+        (0, 3, b"output failed\n"),
+        (1, 2, b"usage: wasm_list [strip]\n"),
+    ];
+    for (count, status, said) in rows {
+        let mut input = SliceSource::new(MODULE);
+        let mut output = Ok(WriteSink::new(Stuck));
+        let mut errors = BoundedSink::new(rt.alloc(), 40)?;
+        let given = Ok(arguments(rt, count)?);
+        assert_eq!(rt;
+            run_program(rt.alloc(), given, &mut input, &mut output, &mut errors),
+            status
+        );
+        assert_eq!(rt; errors.written(), said);
     }
     Ok(())
 }

@@ -1,0 +1,10 @@
+-- What the end of a listing says.
+use Rattle.std.specs.Prelude.{Option, Some, None}
+use Rattle.wasm_base.specs.FaultAt.{FaultAt, fault_at}
+use Rattle.wasm_list.specs.declared.listing.Ended.{Ended}
+use Rattle.wasm_list.specs.declared.listing.Ended.TheVariants.{End, Fault}
+
+-- the fault at which a listing ended, if it ended at one: the fault, its offset and its number
+abbrev pub fault_of : Ended → Option FaultAt
+fault_of End = None
+fault_of (Fault e) = Some (fault_at e)

@@ -1,0 +1,26 @@
+//! What comparing and copying the ends of listings says.
+ghost use Rattle.wasm_base.specs.Comparing.{TellsWhether, TellsSame, CopiesSame, CopiesAlways};
+ghost use Rattle.std.specs.Prelude.{◌≡◌};
+ghost use Rattle.wasm_list.specs.Ends.{fault_of};
+
+use crate::listing::{Ended, ListError};
+use crate::source::Failed;
+
+/// Two ends of listings are equal exactly if both are the end of a stream, or both a fault: the same fault, with the
+/// same offset and number. Two reasons to give up are equal exactly if they are the same.
+pub fn equal_ends_are_the_same()
+    ensures ended { TellsWhether (λ one other. fault_of one ≡ fault_of other)
+        ⟦<Ended as PartialEq>⟧.eq }
+    ensures list_error { TellsSame ⟦<ListError as PartialEq>⟧.eq }
+    ensures failed { TellsSame ⟦<Failed as PartialEq>⟧.eq }
+{}
+
+/// A copy of an end of a listing, or of a reason to give up, is the same, and can always be made.
+pub fn copies_of_ends_are_the_same()
+    ensures ended { CopiesSame ⟦<Ended as Clone>⟧.is_clone }
+    ensures list_error { CopiesSame ⟦<ListError as Clone>⟧.is_clone }
+    ensures failed { CopiesSame ⟦<Failed as Clone>⟧.is_clone }
+    ensures ended_copied { CopiesAlways ⟦<Ended as Clone>⟧.is_infallible }
+    ensures list_error_copied { CopiesAlways ⟦<ListError as Clone>⟧.is_infallible }
+    ensures failed_copied { CopiesAlways ⟦<Failed as Clone>⟧.is_infallible }
+{}
