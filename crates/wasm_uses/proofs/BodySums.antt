@@ -113,7 +113,7 @@ module _ (old new : Feed) (bytes : Bor (List ℕ)) (payload : Payload) (s : Step
   module _ (start : ℕ) (covered : List ℕ) (stands : Stands old.stand start covered) (fits : start + length covered + length old.held < 2 ^ 64) (before later : List Event) (e : Event)
       (reading : Reading (covered ++ old.held) start old.stand.features (before ++ e ∷ later)) (c : consumed_by before ≡ covered) where
     told : Tells e old.stand start covered old.held (Ok (Chunk (length bytes.now) payload)) new.stand
-    told = tells_next old.stand new.stand old.held (Ok (Chunk (length bytes.now) payload)) s.parses start covered stands fits before later e reading c
+    told = tells_next old.stand new.stand old.held (Ok (Chunk (length bytes.now) payload)) s.parses start covered stands fits (before ++ e ∷ later) reading (record { before = before; event = e; later = later; whole = refl; consumed = c })
 
     same_bytes : e.consumed ≡ bytes.now
     same_bytes = sym told.2 ∙ (ap (take (length bytes.now)) s.shows ∙ take_at bytes.now new.held (length bytes.now) refl)
@@ -167,7 +167,7 @@ module _ (old new : Feed) (bytes : Bor (List ℕ)) (payload : Payload) (s : Step
 
 pub fault_adds : (old new : Feed) (f : Error) → Steps old (Err f) new → Adds old (Err f) new
 fault_adds old new f s start covered stands fits before later e reading c =
-    let t = tells_next old.stand new.stand old.held (Err f) s.parses start covered stands fits before later e reading c in
+    let t = tells_next old.stand new.stand old.held (Err f) s.parses start covered stands fits (before ++ e ∷ later) reading (record { before = before; event = e; later = later; whole = refl; consumed = c }) in
     ap (λ (x : Told). adds (length e.consumed) x (bodies_in later)) t.0
 
 -- ---- the whole stream
