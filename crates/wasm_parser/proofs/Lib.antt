@@ -10,6 +10,7 @@ pub mod Framed
 pub mod FramesSame
 pub mod GrammarLaws
 pub mod Headers
+pub mod KindIds
 pub mod Longest
 pub mod Moves
 pub mod Parsing

@@ -16,7 +16,8 @@ use Rattle.wasm_parser.specs.Spans.{AtOffsets}
 use Rattle.wasm_parser.specs.Tiling.{front, past, grammar, bodies_left, bytes_left, Faultless}
 use Rattle.wasm_parser.proofs.Ends.{at_offsets_more, tiles_consume}
 use Rattle.wasm_parser.proofs.StandsLaws.{IsHeader, headed}
-use Rattle.wasm_parser.proofs.TextbookContents.{good_from, code_id}
+use Rattle.wasm_parser.proofs.TextbookContents.{good_from}
+use Rattle.wasm_parser.proofs.KindIds.{code_id}
 use Rattle.wasm_parser.proofs.TextbookParts.{SectionParts, section_parts, WholeParts, content_parts, HeadParts, head_parts, BodyParts, body_parts}
 use Rattle.wasm_parser.proofs.TextbookTiles.{made, IsWhole, whole_or_code}
 use Rattle.wasm_parser.proofs.ToldSections.{section_at, told_behind}

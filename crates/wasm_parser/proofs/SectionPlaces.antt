@@ -16,7 +16,7 @@ use Rattle.wasm_parser.specs.declared.payload.Encoding.{Encoding}
 use Rattle.wasm_parser.proofs.Endings.{header_end, inside_end}
 use Rattle.wasm_parser.proofs.FramesSame.{frames_same, headers_same}
 use Rattle.wasm_parser.proofs.ReadingLaws.{reads_same}
-use Rattle.wasm_parser.proofs.TextbookContents.{code_id}
+use Rattle.wasm_parser.proofs.KindIds.{code_id}
 use Rattle.wasm_parser.proofs.TextbookHeaders.{HeaderParts, header_parts}
 use Rattle.wasm_parser.proofs.TextbookLists.{all_front}
 use Rattle.wasm_parser.proofs.TextbookParts.{SectionParts, section_parts, WholeParts, content_parts, HeadParts, head_parts, BodyParts, body_parts}

@@ -17,6 +17,7 @@ use Rattle.wasm_parser.specs.StateAfter.{known_rank, state_after, state_after_ti
 use Rattle.wasm_parser.specs.Stands.{Stand, greatest, is_start, Stands, past_of, grammar_of}
 use Rattle.wasm_base.specs.declared.fault.NumberKind.TheVariants.{VarU32}
 use Rattle.wasm_parser.proofs.GrammarLaws.{behind-tile}
+use Rattle.wasm_parser.proofs.KindIds.{IdOf, id_of_kind}
 use Rattle.wasm_parser.proofs.ReadingLaws.{Grown, grows}
 
 max_lt : (a g r : ℕ) → nat_lt (max a g) r ≡ (nat_lt a r && nat_lt g r)
@@ -274,35 +275,7 @@ after_shape p t = record {
 
 -- ---- what a tile's kind says of its id
 
--- a start section has the id 8, and a data count section the id 12
-abbrev KindsId : Kind → ℕ → Type 0
-KindsId index id = id ≡ 8
-KindsId data_count id = id ≡ 12
-KindsId items id = Unit {0}
-KindsId custom id = Unit {0}
-KindsId code id = Unit {0}
-KindsId unknown id = Unit {0}
-
-kinds_id : (e : Encoding) (id : ℕ) → KindsId (kind_of e id) id
-kinds_id Component zero = tt
-kinds_id Component (suc n) = tt
-kinds_id Module zero = tt
-kinds_id Module (suc zero) = tt
-kinds_id Module (suc (suc zero)) = tt
-kinds_id Module (suc (suc (suc zero))) = tt
-kinds_id Module (suc (suc (suc (suc zero)))) = tt
-kinds_id Module (suc (suc (suc (suc (suc zero))))) = tt
-kinds_id Module (suc (suc (suc (suc (suc (suc zero)))))) = tt
-kinds_id Module (suc (suc (suc (suc (suc (suc (suc zero))))))) = tt
-kinds_id Module (suc (suc (suc (suc (suc (suc (suc (suc zero)))))))) = refl
-kinds_id Module (suc (suc (suc (suc (suc (suc (suc (suc (suc zero))))))))) = tt
-kinds_id Module (suc (suc (suc (suc (suc (suc (suc (suc (suc (suc zero)))))))))) = tt
-kinds_id Module (suc (suc (suc (suc (suc (suc (suc (suc (suc (suc (suc zero))))))))))) = tt
-kinds_id Module (suc (suc (suc (suc (suc (suc (suc (suc (suc (suc (suc (suc zero)))))))))))) = refl
-kinds_id Module (suc (suc (suc (suc (suc (suc (suc (suc (suc (suc (suc (suc (suc zero))))))))))))) = tt
-kinds_id Module (suc (suc (suc (suc (suc (suc (suc (suc (suc (suc (suc (suc (suc (suc n)))))))))))))) = tt
-
--- the same for a tile, which is never a whole code section
+-- the id of a tile is that of its kind, and it is never a whole code section
 abbrev HasItsId : Shape → Type 0
 HasItsId (section index id content) = id ≡ 8
 HasItsId (section data_count id content) = id ≡ 12
@@ -314,7 +287,7 @@ HasItsId (header num encoding) = Unit {0}
 HasItsId (code_head count width size) = Unit {0}
 HasItsId (body content) = Unit {0}
 
-content_id : (p : Past) (kind : Kind) (id o n : ℕ) → KindsId kind id → Each HasItsId (content_grammar p kind id o n)
+content_id : (p : Past) (kind : Kind) (id o n : ℕ) → IdOf p.encoding kind id → Each HasItsId (content_grammar p kind id o n)
 content_id p index id o n h = λ b x y. h
 content_id p data_count id o n h = λ b x y. h
 content_id p items id o n h = λ b x y. tt
@@ -324,7 +297,7 @@ content_id p code id o n h = λ v k x y. tt
 
 section_id : (p : Past) (o : ℕ) (xs : List ℕ) (t : Tile) → verdict (section_grammar p o) xs ≡ tile t → HasItsId t.shape
 unfolding section_grammar
-section_id p o xs t e = each_tile HasItsId (section_grammar p o) (λ id x n k y z. content_id p (kind_of p.encoding id) id (o + 1 + k) n (kinds_id p.encoding id)) xs t e
+section_id p o xs t e = each_tile HasItsId (section_grammar p o) (λ id x n k y z. content_id p (kind_of p.encoding id) id (o + 1 + k) n (id_of_kind p.encoding id)) xs t e
 
 header_id : (s : Shape) → IsHeader s → HasItsId s
 header_id (header num encoding) h = tt
@@ -352,7 +325,6 @@ tile_id false p xs t e = inside_id (nat_eq (p.bodies + p.left) 0) (past_of p) p.
 abbrev tile_of : Shape → List ℕ → Tile
 tile_of shape b = record { shape = shape; bytes = b }
 
-
 after_custom : (p : Stand) (from to : ℕ) (content : List ℕ) (n : Name) → state_after p to (told_custom p.features from to content n) ≡ record p { offset = to; expects_header = false; bodies = 0; left = 0 }
 after_custom p from to content (named text used) = refl
 after_custom p from to content (refused f place) = refl
@@ -369,7 +341,6 @@ after_at p (code_head count width size) b h = refl
 after_at p (body content) b h =
     let t : p.offset + length b - p.offset ≡ length b = omega arith in
     rw t refl
-
 
 -- the state after a tile that comes next
 state_same : (p : Stand) (d : List ℕ) (t : Tile) → verdict (grammar_of p) d ≡ tile t → state_after_tile p t ≡ after_shape p t

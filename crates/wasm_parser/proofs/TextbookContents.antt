@@ -58,23 +58,3 @@ good_from index o content w h = single_from StartContent o content (number VarU3
 good_from data_count o content w h = single_from DataCountContent o content (number VarU32 content) refl h
 good_from unknown o content w h = tt
 good_from code o content w h = absurd w
-
--- a code section is a module's, with the id 10
-pub code_id : (encoding : Encoding) (id : ℕ) → kind_of encoding id ≡ code → (encoding ≡ Module) × (id ≡ 10)
-code_id Module zero e = cc
-code_id Module (suc zero) e = cc
-code_id Module (suc (suc zero)) e = cc
-code_id Module (suc (suc (suc zero))) e = cc
-code_id Module (suc (suc (suc (suc zero)))) e = cc
-code_id Module (suc (suc (suc (suc (suc zero))))) e = cc
-code_id Module (suc (suc (suc (suc (suc (suc zero)))))) e = cc
-code_id Module (suc (suc (suc (suc (suc (suc (suc zero))))))) e = cc
-code_id Module (suc (suc (suc (suc (suc (suc (suc (suc zero)))))))) e = cc
-code_id Module (suc (suc (suc (suc (suc (suc (suc (suc (suc zero))))))))) e = cc
-code_id Module (suc (suc (suc (suc (suc (suc (suc (suc (suc (suc zero)))))))))) e = (refl, refl)
-code_id Module (suc (suc (suc (suc (suc (suc (suc (suc (suc (suc (suc zero))))))))))) e = cc
-code_id Module (suc (suc (suc (suc (suc (suc (suc (suc (suc (suc (suc (suc zero)))))))))))) e = cc
-code_id Module (suc (suc (suc (suc (suc (suc (suc (suc (suc (suc (suc (suc (suc zero))))))))))))) e = cc
-code_id Module (suc (suc (suc (suc (suc (suc (suc (suc (suc (suc (suc (suc (suc (suc id)))))))))))))) e = cc
-code_id Component zero e = cc
-code_id Component (suc id) e = cc

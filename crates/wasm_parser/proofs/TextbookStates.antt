@@ -13,7 +13,8 @@ use Rattle.wasm_parser.specs.Accepted.{Sized, sized_bytes, IsNumber, IsSized, Fr
 use Rattle.wasm_parser.proofs.StandsLaws.{Follows}
 use Rattle.wasm_parser.proofs.TextbookLists.{split_last}
 use Rattle.wasm_parser.proofs.TextbookCounts.{Knows}
-use Rattle.wasm_parser.proofs.TextbookContents.{good_from, code_id}
+use Rattle.wasm_parser.proofs.TextbookContents.{good_from}
+use Rattle.wasm_parser.proofs.KindIds.{code_id}
 use Rattle.wasm_parser.proofs.TextbookFits.{rank_from, CodeFits, code_from, data_from}
 use Rattle.wasm_parser.proofs.TextbookTiles.{made, IsWhole, number_on}
 use Rattle.wasm_parser.proofs.TextbookParts.{SectionParts, WholeParts, content_parts, HeadParts, head_parts, BodyParts}

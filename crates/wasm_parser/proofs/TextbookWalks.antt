@@ -13,7 +13,7 @@ use Rattle.wasm_parser.specs.Reading.{Reads}
 use Rattle.wasm_parser.specs.Stands.{is_start}
 use Rattle.wasm_parser.specs.Accepted.{sized_bytes, Frame, frame_bytes, IsFrame, IsGood, FitsAfter, CodeDivision, IsAccepted, header_bytes}
 use Rattle.wasm_parser.proofs.TextbookCounts.{Knows}
-use Rattle.wasm_parser.proofs.TextbookContents.{code_id}
+use Rattle.wasm_parser.proofs.KindIds.{code_id}
 use Rattle.wasm_parser.proofs.TextbookEnds.{end_to}
 use Rattle.wasm_parser.proofs.TextbookTiles.{made, IsWhole, whole_or_code, header_version, header_tile}
 use Rattle.wasm_parser.proofs.TextbookKnows.{grammar_closed, knows_header, knows_section, knows_code}

@@ -13,7 +13,7 @@ use Rattle.wasm_parser.specs.Sections.{section_of, sections_of}
 use Rattle.wasm_parser.specs.Tiling.{front, past, grammar, encoding_of, bodies_left, bytes_left}
 use Rattle.wasm_parser.proofs.Ends.{Closes, tile_closes}
 use Rattle.wasm_parser.proofs.StandsLaws.{Each, each_tile, IsBody, bodied, IsHeader, headed}
-use Rattle.wasm_parser.proofs.TextbookContents.{code_id}
+use Rattle.wasm_parser.proofs.KindIds.{IdOf, id_as, code_id}
 
 -- ---- a tile of an encoding
 
@@ -81,24 +81,13 @@ id_told code id = id
 id_told unknown id = id
 
 -- it is the section's
-id_same : (encoding : Encoding) (id : ℕ) → id_told (kind_of encoding id) id ≡ id
-id_same Module zero = refl
-id_same Module (suc zero) = refl
-id_same Module (suc (suc zero)) = refl
-id_same Module (suc (suc (suc zero))) = refl
-id_same Module (suc (suc (suc (suc zero)))) = refl
-id_same Module (suc (suc (suc (suc (suc zero))))) = refl
-id_same Module (suc (suc (suc (suc (suc (suc zero)))))) = refl
-id_same Module (suc (suc (suc (suc (suc (suc (suc zero))))))) = refl
-id_same Module (suc (suc (suc (suc (suc (suc (suc (suc zero)))))))) = refl
-id_same Module (suc (suc (suc (suc (suc (suc (suc (suc (suc zero))))))))) = refl
-id_same Module (suc (suc (suc (suc (suc (suc (suc (suc (suc (suc zero)))))))))) = refl
-id_same Module (suc (suc (suc (suc (suc (suc (suc (suc (suc (suc (suc zero))))))))))) = refl
-id_same Module (suc (suc (suc (suc (suc (suc (suc (suc (suc (suc (suc (suc zero)))))))))))) = refl
-id_same Module (suc (suc (suc (suc (suc (suc (suc (suc (suc (suc (suc (suc (suc zero))))))))))))) = refl
-id_same Module (suc (suc (suc (suc (suc (suc (suc (suc (suc (suc (suc (suc (suc (suc id)))))))))))))) = refl
-id_same Component zero = refl
-id_same Component (suc id) = refl
+id_same : (encoding : Encoding) (kind : Kind) (id : ℕ) → IdOf encoding kind id → id_told kind id ≡ id
+id_same encoding custom id h = sym h
+id_same encoding index id h = sym h
+id_same encoding data_count id h = sym h
+id_same encoding items id h = refl
+id_same encoding code id h = refl
+id_same encoding unknown id h = refl
 
 -- the range of a section
 abbrev over : (id from to : ℕ) → Option (ℕ × Range ℕ)
@@ -119,7 +108,7 @@ told_kind features from to unknown id content e = refl
 told_shape : (encoding : Encoding) (features low : ℕ) (bytes : List ℕ) (s : Shape) → Kinded encoding s → Closes s bytes → section_of (told_of features low (low + length bytes) s) ≡ section_at (low + length bytes) s
 told_shape encoding features low bytes (section kind id content) k (before, c) =
     let n : length bytes ≡ length before + length content = ap (λ (x : List ℕ). length x) c ∙ length-append before content in
-    let i : id_told kind id ≡ id = subst (λ (x : Kind). id_told x id ≡ id) (sym k) (id_same encoding id) in
+    let i : id_told kind id ≡ id = id_same encoding kind id (id_as encoding kind id (sym k)) in
     told_kind features (low + length bytes - length content) (low + length bytes) kind id content (omega arith)
     ∙ ap (λ (x : ℕ). over x (low + length bytes - length content) (low + length bytes)) i
 told_shape encoding features low bytes (code_head count width size) k c = refl

@@ -23,9 +23,7 @@ use crate::payload::{Chunk, Encoding, Payload};
 use crate::sections::{
     CODE_SECTION, DATA_COUNT_SECTION, DATA_SECTION, FUNCTION_SECTION, Kind, kind_of, rank_of,
 };
-use crate::state::{
-    bodies_after, count_after, count_in, encoding_after, left_after, rank_after,
-};
+use crate::state::{bodies_after, count_after, count_in, encoding_after, left_after, rank_after};
 use bitflags::Flags;
 use std::alloc::AllocError;
 use std::marker::Model;

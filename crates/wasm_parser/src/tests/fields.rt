@@ -1,5 +1,6 @@
 // Streams with fields of several bytes, other starts, other features, and two faults at once.
-use crate::{Error, Fault, FunctionBody, NumberKind, Parser, Payload, Result, WasmFeatures};
+use crate::{Error, Fault, NumberKind, Parser, Payload, WasmFeatures};
+use std::process::Abort;
 use std::test::Fail;
 
 // The fault at which a stream ends, if it does.
@@ -10,6 +11,17 @@ fn fault_of(stream: &[u8], start: u64) -> Option<Error> {
         }
     }
     None
+}
+
+// Each of these streams, at its start, ends at its fault.
+fn end_so(rt: &impl Abort, rows: &[(&[u8], u64, Fault, u64)]) {
+    for (stream, start, fault, offset) in rows {
+        assert_eq!(rt;
+            fault_of(stream, *start),
+            Some(Error::new(*fault, *offset)),
+            "{stream:?}"
+        );
+    }
 }
 
 #[test]
@@ -76,13 +88,7 @@ fn long_fields_of_sections(rt: HostRuntime) {
             13,
         ),
     ];
-    for (stream, start, fault, offset) in rows {
-        assert_eq!(rt;
-            fault_of(stream, start),
-            Some(Error::new(fault, offset)),
-            "{stream:?}"
-        );
-    }
+    end_so(&rt, rows.as_slice());
 }
 
 #[test]
@@ -149,13 +155,7 @@ fn long_fields_of_counts_and_bodies(rt: HostRuntime) {
             1021,
         ),
     ];
-    for (stream, start, fault, offset) in rows {
-        assert_eq!(rt;
-            fault_of(stream, start),
-            Some(Error::new(fault, offset)),
-            "{stream:?}"
-        );
-    }
+    end_so(&rt, rows.as_slice());
 }
 
 #[test]
@@ -222,13 +222,7 @@ fn the_first_of_two_faults_in_sections(rt: HostRuntime) {
             17,
         ),
     ];
-    for (stream, start, fault, offset) in rows {
-        assert_eq!(rt;
-            fault_of(stream, start),
-            Some(Error::new(fault, offset)),
-            "{stream:?}"
-        );
-    }
+    end_so(&rt, rows.as_slice());
 }
 
 #[test]
@@ -280,13 +274,7 @@ fn the_first_of_two_faults_in_code_and_headers(rt: HostRuntime) {
         (b"\0\x61\x73\x6e\x02\0\0\0", 0, Fault::BadMagic, 0),
         (b"\0\x61\x73\x6d\x02\0\0", 9, Fault::UnexpectedEof, 13),
     ];
-    for (stream, start, fault, offset) in rows {
-        assert_eq!(rt;
-            fault_of(stream, start),
-            Some(Error::new(fault, offset)),
-            "{stream:?}"
-        );
-    }
+    end_so(&rt, rows.as_slice());
 }
 
 #[test]
@@ -314,7 +302,7 @@ const MODULE: &[u8] =
 
 // The payloads of that module, which starts at 1000, read with the first feature alone.
 fn payloads<'a>(
-    rt: &impl std::process::Abort,
+    rt: &impl Abort,
     alloc: std::alloc::Global,
 ) -> std::result::Result<Vec<Payload<'a>>, Fail> {
     let mut parser = Parser::new(1000);

@@ -1,0 +1,41 @@
+-- What the kind of a section says of its id.
+use Rattle.std.proofs.Common.{◌≡◌, ℕ, zero, suc, refl, subst}
+use Rattle.wasm_parser.specs.declared.payload.Encoding.{Encoding}
+use Rattle.wasm_parser.specs.declared.payload.Encoding.TheVariants.{Module, Component}
+use Rattle.wasm_parser.specs.Content.{Kind, custom, items, index, data_count, code, unknown, kind_of}
+
+-- the ids that a section of this kind may have: a code section is a module's
+abbrev pub IdOf : Encoding → Kind → ℕ → Type 0
+IdOf encoding custom id = id ≡ 0
+IdOf encoding index id = id ≡ 8
+IdOf encoding data_count id = id ≡ 12
+IdOf encoding code id = (encoding ≡ Module) × (id ≡ 10)
+IdOf encoding items id = Unit {0}
+IdOf encoding unknown id = Unit {0}
+
+pub id_of_kind : (encoding : Encoding) (id : ℕ) → IdOf encoding (kind_of encoding id) id
+id_of_kind Module zero = refl
+id_of_kind Module (suc zero) = tt
+id_of_kind Module (suc (suc zero)) = tt
+id_of_kind Module (suc (suc (suc zero))) = tt
+id_of_kind Module (suc (suc (suc (suc zero)))) = tt
+id_of_kind Module (suc (suc (suc (suc (suc zero))))) = tt
+id_of_kind Module (suc (suc (suc (suc (suc (suc zero)))))) = tt
+id_of_kind Module (suc (suc (suc (suc (suc (suc (suc zero))))))) = tt
+id_of_kind Module (suc (suc (suc (suc (suc (suc (suc (suc zero)))))))) = refl
+id_of_kind Module (suc (suc (suc (suc (suc (suc (suc (suc (suc zero))))))))) = tt
+id_of_kind Module (suc (suc (suc (suc (suc (suc (suc (suc (suc (suc zero)))))))))) = (refl, refl)
+id_of_kind Module (suc (suc (suc (suc (suc (suc (suc (suc (suc (suc (suc zero))))))))))) = tt
+id_of_kind Module (suc (suc (suc (suc (suc (suc (suc (suc (suc (suc (suc (suc zero)))))))))))) = refl
+id_of_kind Module (suc (suc (suc (suc (suc (suc (suc (suc (suc (suc (suc (suc (suc zero))))))))))))) = tt
+id_of_kind Module (suc (suc (suc (suc (suc (suc (suc (suc (suc (suc (suc (suc (suc (suc id)))))))))))))) = tt
+id_of_kind Component zero = refl
+id_of_kind Component (suc id) = tt
+
+-- the id of a section that is known to have this kind
+pub id_as : (encoding : Encoding) (kind : Kind) (id : ℕ) → kind_of encoding id ≡ kind → IdOf encoding kind id
+id_as encoding kind id e = subst (λ (k : Kind). IdOf encoding k id) e (id_of_kind encoding id)
+
+-- a code section is a module's, with the id 10
+pub code_id : (encoding : Encoding) (id : ℕ) → kind_of encoding id ≡ code → (encoding ≡ Module) × (id ≡ 10)
+code_id encoding id e = id_as encoding code id e
