@@ -21,12 +21,11 @@ fn main(rt: HostRuntime) -> ExitCode {
     let mut input = ReadSource::new(rt.stdin());
     let mut output = BufWriter::new(rt.alloc(), rt.stdout()).map(WriteSink::new);
     let mut errors = WriteSink::new(rt.stderr());
-    let status = run_program(
+    run_program(
         rt.alloc(),
         env::args(&rt),
         &mut input,
         &mut output,
         &mut errors,
-    );
-    ExitCode::from(status)
+    )
 }

@@ -1,5 +1,6 @@
 // The program, over any devices.
 ghost use Rattle.std.specs.Prelude.{◌≡◌, length, is_ok};
+ghost use Rattle.std.specs.Process.{exit_status};
 ghost use Rattle.std.specs.Vec.Iter.{into_iter_len};
 ghost use Rattle.wasm_list.specs.Runs.{
   device_of,
@@ -19,6 +20,7 @@ use crate::source::Source;
 use std::alloc::{Allocator, Global};
 use std::env::Args;
 use std::io::{self, Write};
+use std::process::ExitCode;
 
 /// How many bytes of the input are read at once.
 const PIECE: usize = 65_536;
@@ -33,23 +35,23 @@ pub(crate) fn run_program<A: Allocator + Copy, R: Source, W: Write, E: Sink>(
     input: &mut R,
     output: &mut io::Result<WriteSink<W>>,
     errors: &mut E,
-) -> u8
+) -> ExitCode
     ensures { RunsProgram (arguments_after_name into_iter_len arguments) (is_ok output.old)
         (is_made_and (λ sink. sink.handed_on) output.new)
         (device_of R.left R.has_failed input.old input.new)
         (device_of (bytes_if_made ⟦<WriteSink<W> as Sink>⟧.taken)
         (is_made_and ⟦<WriteSink<W> as Sink>⟧.has_failed) output.old output.new)
-        (device_of E.taken E.has_failed errors.old errors.new) result }
+        (device_of E.taken E.has_failed errors.old errors.new) (exit_status result) }
 {
     let Ok(arguments) = arguments else {
-        return give_up(errors, ListError::Memory);
+        return ExitCode::from(give_up(errors, ListError::Memory));
     };
     let Ok(output) = output else {
-        return give_up(errors, ListError::Memory);
+        return ExitCode::from(give_up(errors, ListError::Memory));
     };
     let count = arguments.len().saturating_sub(1);
     let status = run_in(alloc, count, input, output, errors);
-    finish(status, output, errors)
+    ExitCode::from(finish(status, output, errors))
 }
 
 /// Lists the input, and answers the exit status: 0 at the end of the stream, 1 at a fault of it, 2 for arguments, 3

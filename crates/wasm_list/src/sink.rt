@@ -160,7 +160,14 @@ impl<W: Write> Sink for WriteSink<W> {
 
     ghost has_failed = { λ s. s.failed };
 
-    fn write(&mut self, buf: &[u8]) -> Result<usize, Failed> {
+    fn write(&mut self, buf: &[u8]) -> Result<usize, Failed>
+        ensures bound { IfOk result (λ n. n ≤ length buf.now) }
+        ensures some { IfOk result (λ n. 0 < length buf.now → 0 < n) }
+        ensures bytes { WriteAppends (W.contents self.old.writer) (W.contents self.new.writer)
+            result buf.now }
+        ensures failed { self.new.failed ≡ (if is_ok result then self.old.failed else true) }
+        ensures kept { self.new.handed_on ≡ false }
+    {
         self.handed_on = false;
         match self.writer.write(buf) {
             Ok(count) if count > 0 || buf.is_empty() => Ok(count),

@@ -4,6 +4,7 @@
 mod bodies;
 mod careless;
 mod feeder;
+mod streams;
 #[cfg(test)]
 mod tests;
 mod walks;
@@ -11,4 +12,5 @@ mod walks;
 pub use bodies::size_of_bodies;
 pub use careless::{AnyByte, Nothing};
 pub use feeder::{Feeder, Step, Turned};
+pub use streams::{end_of, start_of};
 pub use walks::{check, total};

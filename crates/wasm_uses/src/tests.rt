@@ -1,5 +1,6 @@
 // Worked examples.
 mod steps;
+mod streams;
 
 ghost use Rattle.std.specs.Prelude.{◌<◌, ◌^◌, length};
 

@@ -7,6 +7,7 @@ use std::alloc::{AllocError, Allocator};
 use std::cell::Cell;
 use std::env::Args;
 use std::io;
+use std::process::ExitCode;
 use std::test::Fail;
 
 /// An allocator that gives so many blocks and then refuses. A block that comes back is not given again.
@@ -124,11 +125,11 @@ fn a_program_whose_memory_runs_out(rt: HostRuntime) -> Result<(), Fail> {
         let mut errors = BoundedSink::new(rt.alloc(), 40)?;
         let arguments = own_name(&heap);
         let status = run_program(&heap, arguments, &mut input, &mut output, &mut errors);
-        if status == 3 {
+        if status == ExitCode::from(3) {
             assert_eq!(rt; errors.written(), b"out of memory\n".as_slice(), "{blocks}");
             assert!(rt; lines.starts_with(written.as_slice()), "{blocks}");
         } else {
-            assert_eq!(rt; status, 0, "{blocks}");
+            assert_eq!(rt; status, ExitCode::SUCCESS, "{blocks}");
             assert_eq!(rt; errors.written(), b"".as_slice());
             assert_eq!(rt; written.as_slice(), lines);
             refused = blocks;

@@ -5,6 +5,7 @@ use crate::sink::{BoundedSink, Sink, WriteSink};
 use crate::source::{SliceSource, Source};
 use std::env::Args;
 use std::io::{self, Write};
+use std::process::ExitCode;
 use std::test::Fail;
 
 const MODULE: &[u8] = b"\0asm\x01\0\0\0\0\x02\x01a";
@@ -171,7 +172,7 @@ fn the_whole_program(rt: HostRuntime) -> Result<(), Fail> {
         let given = Ok(arguments(rt, count)?);
         assert_eq!(rt;
             run_program(rt.alloc(), given, &mut input, &mut output, &mut errors),
-            status
+            ExitCode::from(status)
         );
         assert_eq!(rt; errors.written(), said);
         assert_eq!(rt; written.as_slice(), lines);
@@ -198,7 +199,7 @@ fn a_program_that_cannot_begin(rt: HostRuntime) -> Result<(), Fail> {
         };
         assert_eq!(rt;
             run_program(rt.alloc(), given, &mut input, &mut output, &mut errors),
-            3
+            ExitCode::from(3)
         );
         assert_eq!(rt; errors.written(), b"out of memory\n".as_slice());
         let mut left = [0; 20];
@@ -221,7 +222,7 @@ fn a_program_whose_output_fails_at_its_end(rt: HostRuntime) -> Result<(), Fail> 
         let given = Ok(arguments(rt, count)?);
         assert_eq!(rt;
             run_program(rt.alloc(), given, &mut input, &mut output, &mut errors),
-            status
+            ExitCode::from(status)
         );
         assert_eq!(rt; errors.written(), said);
     }
