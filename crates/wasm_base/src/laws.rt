@@ -1,8 +1,10 @@
 //! What holds of whole runs of the iterators over a section, whatever its items are, how wide numbers are, and what
 //! comparing and copying tell.
+ghost use Rattle.std.specs.Hash as hashed;
 ghost use Rattle.std.specs.Prelude.{◌≡◌};
 ghost use Rattle.wasm_base.specs.Comparing.{TellsWhether, TellsSame, CopiesSame, CopiesAlways};
 ghost use Rattle.wasm_base.specs.FaultAt.{fault_at};
+ghost use Rattle.wasm_base.specs.Features.{feature_bits};
 ghost use Rattle.wasm_base.specs.Item.{AllowsOne, Determines};
 ghost use Rattle.wasm_base.specs.Section.{Section, Items, AtItsOffset, GivesItems, GivesTheSame, GivesEqual, told, told_item};
 ghost use Rattle.wasm_base.specs.Widths.{IsLongEnough, ChecksUnused, BoundsSum};
@@ -13,6 +15,7 @@ use crate::features::WasmFeatures;
 use crate::item::FromReader;
 use crate::reader::BinaryReader;
 use crate::section::{SectionLimited, SectionLimitedIntoIter, SectionLimitedIntoIterWithOffsets};
+use std::hash::Hash;
 
 /// Calls of `next` up to the first `None` give the items of the window, and nothing comes behind that `None`. The
 /// second iterator gives each item with the offset at which its bytes begin.
@@ -68,6 +71,11 @@ pub fn equal_faults_are_the_same()
     ensures core_start { TellsSame ⟦<CoreStart as PartialEq>⟧.eq }
     ensures fault { TellsSame ⟦<Fault as PartialEq>⟧.eq }
     ensures features { TellsSame ⟦<WasmFeatures as PartialEq>⟧.eq }
+{}
+
+/// A set of features is hashed as its bits.
+pub fn features_are_hashed_as_their_bits()
+    ensures { (features : WasmFeatures) → ⟦<WasmFeatures as Hash>⟧.hash_input features ≡ hashed.u32 (feature_bits features) }
 {}
 
 /// Two errors are equal exactly if they tell the same: fault, offset and number. The hint is not compared.
