@@ -34,7 +34,7 @@ class Stop(Exception):
 
 
 def number(data, start, end):
-    """A u32 in LEB128 that begins at `start`, in bytes that end at `end`, and the place behind it."""
+    """A u32 in LEB128 that begins at `start`, in bytes that end at `end`, and the place after it."""
     value = 0
     for place in range(start, start + 5):
         if place >= end:
@@ -82,9 +82,9 @@ def custom(data, start, end):
 
 def single(data, start, end, word, called):
     """The line of a section that is one number, and the number."""
-    value, behind = number(data, start, end)
-    if behind < end:
-        raise Stop(behind, "unexpected content in the %s section" % called)
+    value, after = number(data, start, end)
+    if after < end:
+        raise Stop(after, "unexpected content in the %s section" % called)
     return "%s %d %d %d" % (word, start, end, value), value
 
 

@@ -4,7 +4,7 @@ pub mod OneOutcome
 pub mod Pages
 pub mod Runs
 pub mod SameFaults
-pub mod Telling
+pub mod Deciding
 pub mod Texts
 pub mod Walks
 pub mod Widths

@@ -37,16 +37,16 @@ pub last_place-take : (xs : List ℕ) (i : ℕ) → last_place xs ≡ Some i →
 last_place-take [] i e = cc
 last_place-take (x ∷ xs) i e = take_step (nat_lt x 128) (last_place xs) i xs (λ j. last_place-take xs j) e
 
-past_step : (t : Bool) (o p : Option ℕ) (i n : ℕ) → (o ≡ None → (j : ℕ) → p ≡ Some j → n ≤ j) → cond t (Some 0) (option_map suc o) ≡ None → cond t (Some 0) (option_map suc p) ≡ Some i → suc n ≤ i
-past_step true o p i n h e f = cc
-past_step false (Some k) p i n h e f = cc
-past_step false None None i n h e f = cc
-past_step false None (Some j) i n h e f = let z : suc j ≡ i = cc in let l : n ≤ j = h refl j refl in omega arith
+context_step : (t : Bool) (o p : Option ℕ) (i n : ℕ) → (o ≡ None → (j : ℕ) → p ≡ Some j → n ≤ j) → cond t (Some 0) (option_map suc o) ≡ None → cond t (Some 0) (option_map suc p) ≡ Some i → suc n ≤ i
+context_step true o p i n h e f = cc
+context_step false (Some k) p i n h e f = cc
+context_step false None None i n h e f = cc
+context_step false None (Some j) i n h e f = let z : suc j ≡ i = cc in let l : n ≤ j = h refl j refl in omega arith
 
 -- where no byte is a last one, a later one is
 pub last_place-past : (xs ys : List ℕ) (i : ℕ) → last_place xs ≡ None → last_place (xs ++ ys) ≡ Some i → length xs ≤ i
 last_place-past [] ys i e f = omega arith
-last_place-past (x ∷ xs) ys i e f = past_step (nat_lt x 128) (last_place xs) (last_place (xs ++ ys)) i (length xs) (λ g j. last_place-past xs ys j g) e f
+last_place-past (x ∷ xs) ys i e f = context_step (nat_lt x 128) (last_place xs) (last_place (xs ++ ys)) i (length xs) (λ g j. last_place-past xs ys j g) e f
 
 -- what ends within the first bytes doesn't depend on the rest
 ends_at-more : (kind : NumberKind) (xs ys : List ℕ) (i : ℕ) → i < length xs → ends_at kind (xs ++ ys) (Some i) ≡ ends_at kind xs (Some i)

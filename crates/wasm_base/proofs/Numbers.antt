@@ -60,7 +60,7 @@ found_from zero (x ∷ xs) k j h = cc
 found_from (suc limit) [] k j h = cc
 found_from (suc limit) (x ∷ xs) k j h = found_step (nat_lt x 128) limit x xs k j refl (found_from limit xs (k + 1) j) h
 
--- no last byte stands among the first bytes
+-- no last byte is among the first bytes
 abbrev NoneBelow : ℕ → Option ℕ → Type 0
 NoneBelow limit None = Unit {0}
 NoneBelow limit (Some i) = limit ≤ i

@@ -5,7 +5,7 @@ use Rattle.std.specs.Iterator.{Drains}
 use Rattle.wasm_base.specs.FaultAt.{FaultAt, fault_at, at_offset}
 use Rattle.wasm_base.specs.Item.{Determines, Alike, AllowsOne, SameOutcome, ReadsAs, BothInTurn, outcome_map}
 use Rattle.wasm_base.specs.Outcome.{Outcome}
-use Rattle.wasm_base.specs.Section.{Items, NextItem, AtItsOffset, ItemsOf, SameItems, GivesTheSame, GivesEqual, at_the_end, told, told_item}
+use Rattle.wasm_base.specs.Section.{Items, NextItem, AtItsOffset, ItemsOf, SameItems, GivesTheSame, GivesEqual, at_the_end, item_or_fault, item_alone}
 use Rattle.wasm_base.specs.Window.{Place, place}
 use Rattle.wasm_base.specs.declared.error.Error.{Error}
 use Rattle.wasm_base.specs.declared.fault.Fault.TheVariants.{SizeMismatch}
@@ -53,7 +53,7 @@ module _ {T : Type 0} (meaning : Place → Outcome T → Type 0) where
       rw (same, h.1, k.1) refl
 
   -- Without their offsets they are the items of the window.
-  without_offsets : (count : ℕ) (p : Place) (xs : List (Result (ℕ × T) Error)) → ItemsOf (AtItsOffset meaning) count p (map told xs) → ItemsOf meaning count p (map told_item xs)
+  without_offsets : (count : ℕ) (p : Place) (xs : List (Result (ℕ × T) Error)) → ItemsOf (AtItsOffset meaning) count p (map item_or_fault xs) → ItemsOf meaning count p (map item_alone xs)
   without_offsets zero p [] h = last (nat_lt 0 (length p.rest)) h
     where
       last : (b : Bool) → [] ≡ cond b (let x : Result (ℕ × T) FaultAt = Err (at_offset SizeMismatch p.offset) in x ∷ []) [] → [] ≡ cond b (let x : Result T FaultAt = Err (at_offset SizeMismatch p.offset) in x ∷ []) []
@@ -61,7 +61,7 @@ module _ {T : Type 0} (meaning : Place → Outcome T → Type 0) where
       last false e = refl
   without_offsets zero p (x ∷ xs) h = last x xs (nat_lt 0 (length p.rest)) h
     where
-      last : (x : Result (ℕ × T) Error) (xs : List (Result (ℕ × T) Error)) (b : Bool) → told x ∷ map told xs ≡ cond b (let y : Result (ℕ × T) FaultAt = Err (at_offset SizeMismatch p.offset) in y ∷ []) [] → told_item x ∷ map told_item xs ≡ cond b (let y : Result T FaultAt = Err (at_offset SizeMismatch p.offset) in y ∷ []) []
+      last : (x : Result (ℕ × T) Error) (xs : List (Result (ℕ × T) Error)) (b : Bool) → item_or_fault x ∷ map item_or_fault xs ≡ cond b (let y : Result (ℕ × T) FaultAt = Err (at_offset SizeMismatch p.offset) in y ∷ []) [] → item_alone x ∷ map item_alone xs ≡ cond b (let y : Result T FaultAt = Err (at_offset SizeMismatch p.offset) in y ∷ []) []
       last (Ok x) xs true e = cc
       last (Err f) [] true e = let z : fault_at f ≡ at_offset SizeMismatch p.offset = cc in rw z refl
       last (Err f) (y ∷ xs) true e = cc
@@ -73,34 +73,34 @@ module _ {T : Type 0} (meaning : Place → Outcome T → Type 0) where
 
   module _ (Agree : List (Result T FaultAt) → List (Result T FaultAt) → Type 0) (none : Agree [] []) (items : (count : ℕ) (p : Place) (xs ys : List (Result T FaultAt)) → ItemsOf meaning count p xs → ItemsOf meaning count p ys → Agree xs ys) where
     -- Two runs from the same place agree, if all lists of the window's items do.
-    runs_agree : (s t : Items) → t ≡ s → (given others : List (Result T Error)) → Drains (NextItem meaning) s given → Drains (NextItem meaning) t others → Agree (map told given) (map told others)
+    runs_agree : (s t : Items) → t ≡ s → (given others : List (Result T Error)) → Drains (NextItem meaning) s given → Drains (NextItem meaning) t others → Agree (map item_or_fault given) (map item_or_fault others)
     runs_agree s t e given others run others_run = by_ended s.ended refl
       where
         again : Drains (NextItem meaning) s others
         again = subst (λ (v : Items). Drains (NextItem meaning) v others) e others_run
 
-        by_ended : (b : Bool) → s.ended ≡ b → Agree (map told given) (map told others)
+        by_ended : (b : Bool) → s.ended ≡ b → Agree (map item_or_fault given) (map item_or_fault others)
         by_ended true ended = rw ((runs_give_items meaning s).over ended given run, (runs_give_items meaning s).over ended others again) none
         by_ended false going = items s.left (place s.reader) _ _ ((runs_give_items meaning s).items going given run) ((runs_give_items meaning s).items going others again)
 
     -- So do runs without and with offsets.
-    offsets_agree : (s : Items) (given : List (Result T Error)) (others : List (Result (ℕ × T) Error)) → Drains (NextItem meaning) s given → Drains (NextItem (AtItsOffset meaning)) s others → Agree (map told given) (map told_item others)
+    offsets_agree : (s : Items) (given : List (Result T Error)) (others : List (Result (ℕ × T) Error)) → Drains (NextItem meaning) s given → Drains (NextItem (AtItsOffset meaning)) s others → Agree (map item_or_fault given) (map item_alone others)
     offsets_agree s given others run others_run = by_ended s.ended refl
       where
-        by_ended : (b : Bool) → s.ended ≡ b → Agree (map told given) (map told_item others)
+        by_ended : (b : Bool) → s.ended ≡ b → Agree (map item_or_fault given) (map item_alone others)
         by_ended true ended = rw ((runs_give_items meaning s).over ended given run, (runs_give_items (AtItsOffset meaning) s).over ended others others_run) none
         by_ended false going = items s.left (place s.reader) _ _ ((runs_give_items meaning s).items going given run) (without_offsets s.left (place s.reader) others ((runs_give_items (AtItsOffset meaning) s).items going others others_run))
 
-  pub runs_give_the_same : AllowsOne meaning → (s t : Items) → t ≡ s → GivesTheSame meaning (NextItem meaning) told s (NextItem meaning) told t
+  pub runs_give_the_same : AllowsOne meaning → (s t : Items) → t ≡ s → GivesTheSame meaning (NextItem meaning) item_or_fault s (NextItem meaning) item_or_fault t
   runs_give_the_same one = runs_agree (SameItems meaning) tt (same_items one)
 
-  pub runs_give_equal : Determines meaning → (s t : Items) → t ≡ s → GivesEqual (NextItem meaning) told s (NextItem meaning) told t
+  pub runs_give_equal : Determines meaning → (s t : Items) → t ≡ s → GivesEqual (NextItem meaning) item_or_fault s (NextItem meaning) item_or_fault t
   runs_give_equal det = runs_agree (λ xs ys. xs ≡ ys) refl (equal_items det)
 
-  pub offsets_give_the_same : AllowsOne meaning → (s : Items) → GivesTheSame meaning (NextItem meaning) told s (NextItem (AtItsOffset meaning)) told_item s
+  pub offsets_give_the_same : AllowsOne meaning → (s : Items) → GivesTheSame meaning (NextItem meaning) item_or_fault s (NextItem (AtItsOffset meaning)) item_alone s
   offsets_give_the_same one = offsets_agree (SameItems meaning) tt (same_items one)
 
-  pub offsets_give_equal : Determines meaning → (s : Items) → GivesEqual (NextItem meaning) told s (NextItem (AtItsOffset meaning)) told_item s
+  pub offsets_give_equal : Determines meaning → (s : Items) → GivesEqual (NextItem meaning) item_or_fault s (NextItem (AtItsOffset meaning)) item_alone s
   offsets_give_equal det = offsets_agree (λ xs ys. xs ≡ ys) refl (equal_items det)
 
 -- What is read by a function of the place allows one outcome, whatever counts of its value.

@@ -4,7 +4,7 @@ use Rattle.std.specs.Prelude.{nat_lt, map}
 use Rattle.std.specs.Iterator.{Yields}
 use Rattle.std.proofs.lemmas.Bool.{le-ltb, lt-ltb}
 use Rattle.wasm_base.specs.Outcome.{Outcome}
-use Rattle.wasm_base.specs.Section.{Items, NextItem, ReadsItem, ReadsEnd, ItemsOf, GivesItems, most_items, told}
+use Rattle.wasm_base.specs.Section.{Items, NextItem, ReadsItem, ReadsEnd, ItemsOf, GivesItems, most_items, item_or_fault}
 use Rattle.wasm_base.specs.Window.{Place, place}
 use Rattle.wasm_base.specs.declared.error.Error.{Error}
 
@@ -16,7 +16,7 @@ module _ {T : Type 0} (meaning : Place → Outcome T → Type 0) where
 
   -- The items, by how many are left.
   run_is_items : (left : ℕ) (s t u : Items) (given : List (Result T Error)) → s.ended ≡ false → s.left ≡ left → Yields (NextItem meaning) s given t → NextItem meaning t None u
-      → ItemsOf meaning left (place s.reader) (map told given)
+      → ItemsOf meaning left (place s.reader) (map item_or_fault given)
   run_is_items zero s t u [] going none run end =
       let last : ReadsEnd {T = T} s None u = subst (λ (v : Items). v.ended ≡ false → v.left ≡ 0 → ReadsEnd {T = T} v None u) (sym run) end.last going none in
       let test : nat_lt 0 (length (place s.reader).rest) ≡ false = le-ltb _ _ (omega (arith, last.0)) in
@@ -70,5 +70,5 @@ module _ {T : Type 0} (meaning : Place → Outcome T → Type 0) where
     items = λ going given run. run_is_items s.left s run.1.0 run.0 given going refl run.1.1 run.1.2;
     over = λ ended given run. over_gives_nothing s run.1.0 given ended run.1.1;
     at_most = λ given run. so_many s run.1.0 given run.1.1;
-    behind = λ t u given none next. (next.over (none_ends s.ended s.left s t refl refl none)).0;
+    after = λ t u given none next. (next.over (none_ends s.ended s.left s t refl refl none)).0;
   }

@@ -1,7 +1,7 @@
 -- Derived comparisons of faults and errors.
 use Rattle.std.proofs.Common.{◌≡◌, true, ap}
 use Rattle.std.specs.Cmp.Derive.{both_true}
-use Rattle.wasm_base.specs.Comparing.{TellsWhether}
+use Rattle.wasm_base.specs.Comparing.{DecidesWhether}
 use Rattle.wasm_base.specs.FaultAt.{fault_at, FaultAt}
 use Rattle.wasm_base.specs.contracts.error.ErrorPartialEq.TheImpl as ErrorCompared
 use Rattle.wasm_base.specs.contracts.fault.FaultPartialEq.TheImpl as FaultCompared
@@ -10,10 +10,10 @@ use Rattle.wasm_base.specs.contracts.fault.Fault as Faults
 use Rattle.wasm_base.specs.contracts.fault.Lead as Leads
 use Rattle.wasm_base.specs.contracts.fault.NumberKind as NumberKinds
 use Rattle.wasm_base.specs.declared.error.Error.{Error}
-use Rattle.wasm_base.proofs.Telling.{Tells, bare, back, both_of, field, number, option, variants}
+use Rattle.wasm_base.proofs.Deciding.{Decides, bare, back, both_of, field, number, option, variants}
 
 -- the four variants that have a field: a number too long or too large, a leading byte, the start of a core dump
-pub fault : Tells (FaultCompared.ghosts).eq
+pub fault : Decides (FaultCompared.ghosts).eq
 fault = variants Faults.enum (
   field NumberKinds.the_field (bare NumberKinds.the_type tt),
   (
@@ -37,5 +37,5 @@ error_back one other is = both_true
     (back fault (ap (λ (f : FaultAt). f.fault) is))
     (both_true (back number (ap (λ (f : FaultAt). f.offset) is)) (back (option number) (ap (λ (f : FaultAt). f.number) is)))
 
-pub error : TellsWhether (λ one other. fault_at one ≡ fault_at other) (ErrorCompared.ghosts).eq
+pub error : DecidesWhether (λ one other. fault_at one ≡ fault_at other) (ErrorCompared.ghosts).eq
 error one other = (error_same one other, error_back one other)

@@ -32,7 +32,7 @@ module _ {T : Type 0} (meaning : Place → Outcome T → Type 0) where
           rw (test, last.1) refl
       by_left (suc n) k = ((next.item going (omega (arith, k))).0, refl)
 
-  -- The walk goes on behind an item.
+  -- The walk goes on after an item.
   pub after_item : (count : ℕ) (before : Place) (s t : Items) (x : T) → Walked meaning count before s.left (place s.reader) → s.ended ≡ false → NextItem meaning s (Some (Ok x)) t → (t.ended ≡ false) × Walked meaning count before t.left (place t.reader)
   after_item count before s t x walked going next =
       let item = item_came s t x going next in

@@ -2,12 +2,12 @@
 use Rattle.std.specs.Prelude.{◌≡◌, ◌↔◌, Bool, IsTrue}
 
 -- The comparison is true of two values exactly if they are so.
-abbrev pub TellsWhether : {A : Type 0} → (A → A → Type 0) → (A → A → Bool) → Type 0
-TellsWhether {A = A} same compare = (one other : A) → IsTrue (compare one other) ↔ same one other
+abbrev pub DecidesWhether : {A : Type 0} → (A → A → Type 0) → (A → A → Bool) → Type 0
+DecidesWhether {A = A} same compare = (one other : A) → IsTrue (compare one other) ↔ same one other
 
 -- The comparison is true of two values exactly if they are the same.
-abbrev pub TellsSame : {A : Type 0} → (A → A → Bool) → Type 0
-TellsSame compare = TellsWhether (λ one other. one ≡ other) compare
+abbrev pub DecidesSame : {A : Type 0} → (A → A → Bool) → Type 0
+DecidesSame compare = DecidesWhether (λ one other. one ≡ other) compare
 
 -- What counts as a copy of a value is the value itself.
 abbrev pub CopiesSame : {A : Type 0} → (A → A → Type 0) → Type 0

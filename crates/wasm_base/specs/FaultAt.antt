@@ -1,4 +1,4 @@
--- What an error tells: the fault, where it stands in the whole stream, and the number that belongs to it.
+-- What an error says: the fault, where it is in the whole stream, and the number that belongs to it.
 use Rattle.std.specs.Prelude.{ℕ, Option, None}
 use Rattle.wasm_base.specs.declared.error.Error.{Error}
 use Rattle.wasm_base.specs.declared.fault.Fault.{Fault}

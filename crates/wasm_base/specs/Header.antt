@@ -16,8 +16,8 @@ agree [] ys = true
 agree (x ∷ xs) [] = true
 agree (x ∷ xs) (y ∷ ys) = nat_eq x y && agree xs ys
 
--- the 32 bits behind the magic
+-- the 32 bits after the magic
 unfoldable pub header_version_at : Place → Outcome ℕ
 header_version_at p = do
-  front ← bytes_at 4 p
-  if agree front.0 magic then u32_at front.1 else Err (at_offset BadMagic p.offset)
+  prefix ← bytes_at 4 p
+  if agree prefix.0 magic then u32_at prefix.1 else Err (at_offset BadMagic p.offset)

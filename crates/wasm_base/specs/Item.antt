@@ -50,7 +50,7 @@ pub record Determines {T : Type 0} (meaning : Place → Outcome T → Type 0) : 
 abbrev pub Alike : {T : Type 0} → (Place → Outcome T → Type 0) → T → T → Type 0
 Alike meaning x y = (p q : Place) → meaning p (Ok (x, q)) ↔ meaning p (Ok (y, q))
 
--- the same fault, or values that are alike and the same place behind them
+-- the same fault, or values that are alike and the same place after them
 abbrev pub SameOutcome : {T : Type 0} → (Place → Outcome T → Type 0) → Outcome T → Outcome T → Type 0
 SameOutcome meaning (Ok x) (Ok y) = Alike meaning x.0 y.0 × (x.1 ≡ y.1)
 SameOutcome meaning (Ok x) (Err e) = ⊥

@@ -92,7 +92,7 @@ message_of CustomTrailing = codes "trailing bytes at end of custom section"
 message_of NotConstant = codes "not a constant instruction"
 message_of Supertypes = codes "more than one supertype"
 
--- the number, behind a colon
+-- the number, after a colon
 abbrev pub number_text : Option ℕ → List ℕ
 number_text None = []
 number_text (Some n) = codes ": " ++ decimal n

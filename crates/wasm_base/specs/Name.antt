@@ -59,24 +59,24 @@ abbrev pub is_above : Option ℕ → ℕ → Bool
 is_above None size = false
 is_above (Some limit) size = nat_lt limit size
 
--- so many bytes of text, behind a size field of so many bytes
-abbrev pub text_behind : (bytes : List ℕ) (size used : ℕ) → Name
-text_behind bytes size used =
+-- so many bytes of text, after a size field of so many bytes
+abbrev pub text_after : (bytes : List ℕ) (size used : ℕ) → Name
+text_after bytes size used =
     if nat_lt (length (drop used bytes)) size then refused UnexpectedEof used else
     if is_utf8 (take size (drop used bytes)) then named (take size (drop used bytes)) (used + size) else
     refused MalformedUtf8 (used + size - 1)
 
-abbrev pub behind_size : Option ℕ → List ℕ → Number → Name
-behind_size limit bytes (bad fault i) = refused fault i
-behind_size limit bytes short = refused UnexpectedEof (length bytes)
-behind_size limit bytes (read size used) =
+abbrev pub after_size : Option ℕ → List ℕ → Number → Name
+after_size limit bytes (bad fault i) = refused fault i
+after_size limit bytes short = refused UnexpectedEof (length bytes)
+after_size limit bytes (read size used) =
     if is_above limit size then refused StringSize (used - 1) else
-    text_behind bytes size used
+    text_after bytes size used
 
 -- what bytes say of the name that begins with them, where no bytes follow: a size of at most the limit, and so
 -- many bytes of UTF-8
 unfoldable pub name : Option ℕ → List ℕ → Name
-name limit bytes = behind_size limit bytes (number VarU32 bytes)
+name limit bytes = after_size limit bytes (number VarU32 bytes)
 
 abbrev pub name_in_window : Place → Name → Outcome (List ℕ)
 name_in_window p (named text used) = Ok (text, advanced used p)

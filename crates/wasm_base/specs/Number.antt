@@ -51,7 +51,7 @@ abbrev pub groups : List ℕ → ℕ
 groups [] = 0
 groups (b ∷ bs) = b % 128 + 128 * groups bs
 
--- what the bytes say of a number whose last byte stands at this place
+-- what the bytes say of a number whose last byte is at this place
 abbrev pub ends_at : NumberKind → List ℕ → Option ℕ → Number
 ends_at kind bytes None =
     if nat_lt (length bytes) (most_bytes kind) then short else bad (NumberTooLong kind) (most_bytes kind - 1)
@@ -66,7 +66,7 @@ unfoldable pub number : NumberKind → List ℕ → Number
 number kind bytes = ends_at kind bytes (last_place bytes)
 
 -- The number at a place, in a window that ends with the place's rest: there a short one has a fault, where its
--- next byte would stand.
+-- next byte would be.
 abbrev pub in_window : Place → Number → Outcome ℕ
 in_window p (read sum used) = Ok (sum, advanced used p)
 in_window p (bad fault i) = Err (at_offset fault (p.offset + i))

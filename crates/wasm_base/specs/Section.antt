@@ -11,7 +11,7 @@ use Rattle.wasm_base.specs.declared.error.Error.{Error}
 use Rattle.wasm_base.specs.declared.fault.Fault.TheVariants.{SizeMismatch}
 use Rattle.wasm_base.specs.declared.fault.NumberKind.TheVariants.{VarU32}
 
--- a window behind whose count so many items are announced
+-- a window after whose count so many items are announced
 pub record Section : Type 0 where
   pub reader : Window
   pub count : ℕ
@@ -21,7 +21,7 @@ abbrev pub ReadsSection : Place → Result Section Error → Type 0
 ReadsSection p (Ok section) = unsigned_at VarU32 p ≡ Ok (section.count, place section.reader)
 ReadsSection p (Err e) = unsigned_at VarU32 p ≡ Err (fault_at e)
 
--- where an iterator over items stands: so many were announced, so many are left of these, and whether it is over
+-- where an iterator over items is: so many were announced, so many are left of these, and whether it is over
 pub record Items : Type 0 where
   pub reader : Window
   pub count : ℕ
@@ -63,7 +63,7 @@ abbrev pub AtItsOffset : {T : Type 0} → (Place → Outcome T → Type 0) → P
 AtItsOffset meaning before (Ok x) = (x.0.0 ≡ before.offset) × meaning before (Ok (x.0.1, x.1))
 AtItsOffset meaning before (Err e) = meaning before (Err e)
 
--- behind the last item: nothing, or one fault where the window has bytes left
+-- after the last item: nothing, or one fault where the window has bytes left
 abbrev pub at_the_end : {T : Type 0} → Place → List (Result T FaultAt)
 at_the_end p = if nat_lt 0 (length p.rest) then Err (at_offset SizeMismatch p.offset) ∷ [] else []
 
@@ -75,23 +75,23 @@ ItemsOf meaning (suc left) p [] = ⊥
 ItemsOf meaning (suc left) p (Ok x ∷ given) = (q : Place) × meaning p (Ok (x, q)) × ItemsOf meaning left q given
 ItemsOf meaning (suc left) p (Err e ∷ given) = meaning p (Err e) × (given ≡ [])
 
--- an item, or what its error tells
-abbrev pub told : {T : Type 0} → Result T Error → Result T FaultAt
-told (Ok x) = Ok x
-told (Err e) = Err (fault_at e)
+-- an item, or what its error says
+abbrev pub item_or_fault : {T : Type 0} → Result T Error → Result T FaultAt
+item_or_fault (Ok x) = Ok x
+item_or_fault (Err e) = Err (fault_at e)
 
--- the item alone, or what its error tells
-abbrev pub told_item : {T : Type 0} → Result (ℕ × T) Error → Result T FaultAt
-told_item (Ok x) = Ok x.1
-told_item (Err e) = Err (fault_at e)
+-- the item alone, or what its error says
+abbrev pub item_alone : {T : Type 0} → Result (ℕ × T) Error → Result T FaultAt
+item_alone (Ok x) = Ok x.1
+item_alone (Err e) = Err (fault_at e)
 
 -- What calls of `next` give from here up to the first `None`, by a relation that each call meets: the items of the
--- window where the iterator is not over, and nothing where it is. Behind that `None` nothing comes any more.
+-- window where the iterator is not over, and nothing where it is. After that `None` nothing comes any more.
 pub record GivesItems {T : Type 0} (next : Items → Option (Result T Error) → Items → Type 0) (meaning : Place → Outcome T → Type 0) (s : Items) : Type 0 where
-  pub items : s.ended ≡ false → (given : List (Result T Error)) → Drains next s given → ItemsOf meaning s.left (place s.reader) (map told given)
+  pub items : s.ended ≡ false → (given : List (Result T Error)) → Drains next s given → ItemsOf meaning s.left (place s.reader) (map item_or_fault given)
   pub over : s.ended ≡ true → (given : List (Result T Error)) → Drains next s given → given ≡ []
   pub at_most : (given : List (Result T Error)) → Drains next s given → length given ≤ most_items s
-  pub behind : (t u : Items) (given : Option (Result T Error)) → next s None t → next t given u → given ≡ None
+  pub after : (t u : Items) (given : Option (Result T Error)) → next s None t → next t given u → given ≡ None
 
 -- Both were read from one place to another, and the meaning knows no difference between them.
 abbrev pub SameItem : {T : Type 0} → (Place → Outcome T → Type 0) → T → T → Type 0
@@ -125,10 +125,10 @@ abbrev pub fault_of : {T X : Type 0} → Result X Error → List (Result T Fault
 fault_of (Ok x) = []
 fault_of (Err e) = Err (fault_at e) ∷ []
 
--- Some items of the window can be read, and this is what comes behind them.
+-- Some items of the window can be read, and this is what comes after them.
 abbrev pub WalksTo : {T : Type 0} → (Place → Outcome T → Type 0) → ℕ → Place → List (Result T FaultAt) → Type 0
 WalksTo {T} meaning count p end = (items : List T) × ItemsOf meaning count p (map as_read items ++ end)
 
--- The announced items can all be read, and nothing is left behind them; or this is the first fault.
+-- The announced items can all be read, and nothing is left after them; or this is the first fault.
 abbrev pub Walks : {T X : Type 0} → (Place → Outcome T → Type 0) → ℕ → Place → Result X Error → Type 0
 Walks meaning count p result = WalksTo meaning count p (fault_of result)

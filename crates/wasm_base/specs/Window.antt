@@ -9,25 +9,25 @@ pub record Window : Type 0 where
   pub bytes : List ℕ
   pub position : ℕ
 
--- what a reader has before it: the offset where it stands, and the bytes from there to the end of its window
+-- what a reader has before it: the offset where it is, and the bytes from there to the end of its window
 pub record Place : Type 0 where
   pub features : ℕ
   pub offset : ℕ
   pub rest : List ℕ
 
--- where a reader stands
+-- where a reader is
 abbrev pub place : Window → Place
 place w = record { features = w.features; offset = w.start + w.position; rest = drop w.position w.bytes }
 
--- the place behind n bytes
+-- the place after n bytes
 abbrev pub advanced : ℕ → Place → Place
 advanced n p = record { features = p.features; offset = p.offset + n; rest = drop n p.rest }
 
--- the window that has the rest of another at its front
+-- the window that has the rest of another at its prefix
 abbrev pub whole_window : Place → Window
 whole_window p = record { features = p.features; start = p.offset; bytes = p.rest; position = 0 }
 
--- The window is the same, and its reader does not stand before where it was.
+-- The window is the same, and its reader does is not before where it was.
 pub record KeepsWindow (old new : Window) : Type 0 where
   pub features : new.features ≡ old.features
   pub start : new.start ≡ old.start

@@ -7,7 +7,7 @@ use std::fmt;
 
 pub type Result<T, E = Error> = std::result::Result<T, E>;
 
-/// A fault, the offset in the whole stream at which it stands, and the number that belongs to it.
+/// A fault, the offset in the whole stream at which it is, and the number that belongs to it.
 ///
 /// Two errors are equal if these are: the hint is not compared.
 #[derive(Clone, Copy, Debug)]
@@ -26,7 +26,7 @@ impl Error {
 
     /// A fault at an offset, with no number and no hint.
     pub fn new(fault: Fault, offset: u64) -> Self
-        ensures told { fault_at result ≡ at_offset fault offset }
+        ensures report { fault_at result ≡ at_offset fault offset }
         ensures hint { hint_of result ≡ None }
     {
         Error {
@@ -39,7 +39,7 @@ impl Error {
 
     /// The same with a number.
     pub fn with_number(self, number: u64) -> Self
-        ensures told { fault_at result ≡ record (fault_at self) { number = Some number } }
+        ensures report { fault_at result ≡ record (fault_at self) { number = Some number } }
         ensures hint { hint_of result ≡ hint_of self }
     {
         Error {
@@ -50,7 +50,7 @@ impl Error {
 
     /// The same with a hint.
     pub(crate) fn with_hint(self, hint: usize) -> Self
-        ensures told { fault_at result ≡ fault_at self }
+        ensures report { fault_at result ≡ fault_at self }
         ensures hint { hint_of result ≡ Some hint }
     {
         Error {
@@ -61,7 +61,7 @@ impl Error {
 
     /// The same with no hint.
     pub fn without_needed_hint(self) -> Self
-        ensures told { fault_at result ≡ fault_at self }
+        ensures report { fault_at result ≡ fault_at self }
         ensures hint { hint_of result ≡ None }
     {
         Error { hint: None, ..self }
@@ -80,7 +80,7 @@ impl Error {
         self.fault.message()
     }
 
-    /// Where the fault stands, in the whole stream.
+    /// Where the fault is, in the whole stream.
     pub fn offset(&self) -> u64
         ensures { result ≡ (fault_at self.now).offset }
     {

@@ -14,12 +14,12 @@ use crate::reader::BinaryReader;
 /// An item type has a meaning, and its `from_reader` keeps to it: that is all that sections ask of it. A meaning may
 /// allow several outcomes, and an item may take no bytes.
 pub trait FromReader<'a>: Sized + Drop {
-    /// What reading from a place may come to: a value and the place behind it, or a fault.
+    /// What reading from a place may come to: a value and the place after it, or a fault.
     ghost meaning: { Place → Outcome Self → Type 0 };
 
     /// Reads an item.
     ///
-    /// After a fault the reader stands in its window, and not before where it was. A fault is never `OutOfMemory`.
+    /// After a fault the reader is in its window, and not before where it was. A fault is never `OutOfMemory`.
     fn from_reader(reader: &mut BinaryReader<'a>) -> Result<Self>
         ensures means { Means meaning (place reader.old) result (place reader.new) }
         ensures keeps { KeepsWindow reader.old reader.new }

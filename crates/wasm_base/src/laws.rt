@@ -1,12 +1,12 @@
 //! What holds of whole runs of the iterators over a section, whatever its items are, how wide numbers are, and what
-//! comparing and copying tell.
+//! comparing and copying say.
 ghost use Rattle.std.specs.Hash as hashed;
 ghost use Rattle.std.specs.Prelude.{◌≡◌};
-ghost use Rattle.wasm_base.specs.Comparing.{TellsWhether, TellsSame, CopiesSame, CopiesAlways};
+ghost use Rattle.wasm_base.specs.Comparing.{DecidesWhether, DecidesSame, CopiesSame, CopiesAlways};
 ghost use Rattle.wasm_base.specs.FaultAt.{fault_at};
 ghost use Rattle.wasm_base.specs.Features.{feature_bits};
 ghost use Rattle.wasm_base.specs.Item.{AllowsOne, Determines};
-ghost use Rattle.wasm_base.specs.Section.{Section, Items, AtItsOffset, GivesItems, GivesTheSame, GivesEqual, told, told_item};
+ghost use Rattle.wasm_base.specs.Section.{Section, Items, AtItsOffset, GivesItems, GivesTheSame, GivesEqual, item_or_fault, item_alone};
 ghost use Rattle.wasm_base.specs.Widths.{IsLongEnough, ChecksUnused, BoundsSum};
 
 use crate::error::Error;
@@ -17,11 +17,11 @@ use crate::reader::BinaryReader;
 use crate::section::{SectionLimited, SectionLimitedIntoIter, SectionLimitedIntoIterWithOffsets};
 use std::hash::Hash;
 
-/// Calls of `next` up to the first `None` give the items of the window, and nothing comes behind that `None`. The
+/// Calls of `next` up to the first `None` give the items of the window, and nothing comes after that `None`. The
 /// second iterator gives each item with the offset at which its bytes begin.
 ///
 /// The items of a window are those that are announced, and then nothing, or one `SizeMismatch` where bytes are left;
-/// behind an item's fault, nothing.
+/// after an item's fault, nothing.
 pub fn items_of_a_window<'a, T: FromReader<'a>>()
     ensures items { (s : Items) → GivesItems ⟦<SectionLimitedIntoIter<'a, T> as Iterator>⟧.next_gives T.meaning s }
     ensures with_offsets { (s : Items) → GivesItems ⟦<SectionLimitedIntoIterWithOffsets<'a, T> as Iterator>⟧.next_gives (AtItsOffset T.meaning) s }
@@ -30,20 +30,20 @@ pub fn items_of_a_window<'a, T: FromReader<'a>>()
 /// Both iterators give the same items and the same fault, where the meaning of an item allows one outcome: equal
 /// ones, where it determines the value and all.
 pub fn both_iterators_give_the_same_items<'a, T: FromReader<'a>>()
-    ensures same { AllowsOne T.meaning → (s : Items) → GivesTheSame T.meaning ⟦<SectionLimitedIntoIter<'a, T> as Iterator>⟧.next_gives told s ⟦<SectionLimitedIntoIterWithOffsets<'a, T> as Iterator>⟧.next_gives told_item s }
-    ensures equal { Determines T.meaning → (s : Items) → GivesEqual ⟦<SectionLimitedIntoIter<'a, T> as Iterator>⟧.next_gives told s ⟦<SectionLimitedIntoIterWithOffsets<'a, T> as Iterator>⟧.next_gives told_item s }
+    ensures same { AllowsOne T.meaning → (s : Items) → GivesTheSame T.meaning ⟦<SectionLimitedIntoIter<'a, T> as Iterator>⟧.next_gives item_or_fault s ⟦<SectionLimitedIntoIterWithOffsets<'a, T> as Iterator>⟧.next_gives item_alone s }
+    ensures equal { Determines T.meaning → (s : Items) → GivesEqual ⟦<SectionLimitedIntoIter<'a, T> as Iterator>⟧.next_gives item_or_fault s ⟦<SectionLimitedIntoIterWithOffsets<'a, T> as Iterator>⟧.next_gives item_alone s }
 {}
 
 /// A clone of a section gives the same items and the same fault, where the meaning of an item allows one outcome.
 pub fn a_clone_gives_the_same_items<'a, T: FromReader<'a>>()
-    ensures same { AllowsOne T.meaning → (section copy : Section) → ⟦<SectionLimited<'a, T> as Clone>⟧.is_clone section copy → (s t : Items) → ⟦<SectionLimited<'a, T> as IntoIterator>⟧.into_iter_gives section s → ⟦<SectionLimited<'a, T> as IntoIterator>⟧.into_iter_gives copy t → GivesTheSame T.meaning ⟦<SectionLimitedIntoIter<'a, T> as Iterator>⟧.next_gives told s ⟦<SectionLimitedIntoIter<'a, T> as Iterator>⟧.next_gives told t }
-    ensures equal { Determines T.meaning → (section copy : Section) → ⟦<SectionLimited<'a, T> as Clone>⟧.is_clone section copy → (s t : Items) → ⟦<SectionLimited<'a, T> as IntoIterator>⟧.into_iter_gives section s → ⟦<SectionLimited<'a, T> as IntoIterator>⟧.into_iter_gives copy t → GivesEqual ⟦<SectionLimitedIntoIter<'a, T> as Iterator>⟧.next_gives told s ⟦<SectionLimitedIntoIter<'a, T> as Iterator>⟧.next_gives told t }
+    ensures same { AllowsOne T.meaning → (section copy : Section) → ⟦<SectionLimited<'a, T> as Clone>⟧.is_clone section copy → (s t : Items) → ⟦<SectionLimited<'a, T> as IntoIterator>⟧.into_iter_gives section s → ⟦<SectionLimited<'a, T> as IntoIterator>⟧.into_iter_gives copy t → GivesTheSame T.meaning ⟦<SectionLimitedIntoIter<'a, T> as Iterator>⟧.next_gives item_or_fault s ⟦<SectionLimitedIntoIter<'a, T> as Iterator>⟧.next_gives item_or_fault t }
+    ensures equal { Determines T.meaning → (section copy : Section) → ⟦<SectionLimited<'a, T> as Clone>⟧.is_clone section copy → (s t : Items) → ⟦<SectionLimited<'a, T> as IntoIterator>⟧.into_iter_gives section s → ⟦<SectionLimited<'a, T> as IntoIterator>⟧.into_iter_gives copy t → GivesEqual ⟦<SectionLimitedIntoIter<'a, T> as Iterator>⟧.next_gives item_or_fault s ⟦<SectionLimitedIntoIter<'a, T> as Iterator>⟧.next_gives item_or_fault t }
 {}
 
 /// A clone of an iterator gives the same items and the same fault, where the meaning of an item allows one outcome.
 pub fn a_cloned_iterator_gives_the_same_items<'a, T: FromReader<'a> + Clone>()
-    ensures same { AllowsOne T.meaning → (s t : Items) → ⟦<SectionLimitedIntoIter<'a, T> as Clone>⟧.is_clone s t → GivesTheSame T.meaning ⟦<SectionLimitedIntoIter<'a, T> as Iterator>⟧.next_gives told s ⟦<SectionLimitedIntoIter<'a, T> as Iterator>⟧.next_gives told t }
-    ensures equal { Determines T.meaning → (s t : Items) → ⟦<SectionLimitedIntoIter<'a, T> as Clone>⟧.is_clone s t → GivesEqual ⟦<SectionLimitedIntoIter<'a, T> as Iterator>⟧.next_gives told s ⟦<SectionLimitedIntoIter<'a, T> as Iterator>⟧.next_gives told t }
+    ensures same { AllowsOne T.meaning → (s t : Items) → ⟦<SectionLimitedIntoIter<'a, T> as Clone>⟧.is_clone s t → GivesTheSame T.meaning ⟦<SectionLimitedIntoIter<'a, T> as Iterator>⟧.next_gives item_or_fault s ⟦<SectionLimitedIntoIter<'a, T> as Iterator>⟧.next_gives item_or_fault t }
+    ensures equal { Determines T.meaning → (s t : Items) → ⟦<SectionLimitedIntoIter<'a, T> as Clone>⟧.is_clone s t → GivesEqual ⟦<SectionLimitedIntoIter<'a, T> as Iterator>⟧.next_gives item_or_fault s ⟦<SectionLimitedIntoIter<'a, T> as Iterator>⟧.next_gives item_or_fault t }
 {}
 
 /// Truths, numbers and names allow one outcome, and so does a pair of what allows one. Truths and numbers are
@@ -66,11 +66,11 @@ pub fn widths_of_numbers()
 
 /// Two faults, sorts within faults or sets of features are equal exactly if they are the same.
 pub fn equal_faults_are_the_same()
-    ensures number_kind { TellsSame ⟦<NumberKind as PartialEq>⟧.eq }
-    ensures lead { TellsSame ⟦<Lead as PartialEq>⟧.eq }
-    ensures core_start { TellsSame ⟦<CoreStart as PartialEq>⟧.eq }
-    ensures fault { TellsSame ⟦<Fault as PartialEq>⟧.eq }
-    ensures features { TellsSame ⟦<WasmFeatures as PartialEq>⟧.eq }
+    ensures number_kind { DecidesSame ⟦<NumberKind as PartialEq>⟧.eq }
+    ensures lead { DecidesSame ⟦<Lead as PartialEq>⟧.eq }
+    ensures core_start { DecidesSame ⟦<CoreStart as PartialEq>⟧.eq }
+    ensures fault { DecidesSame ⟦<Fault as PartialEq>⟧.eq }
+    ensures features { DecidesSame ⟦<WasmFeatures as PartialEq>⟧.eq }
 {}
 
 /// A set of features is hashed as its bits.
@@ -78,9 +78,9 @@ pub fn features_are_hashed_as_their_bits()
     ensures { (features : WasmFeatures) → ⟦<WasmFeatures as Hash>⟧.hash_input features ≡ hashed.u32 (feature_bits features) }
 {}
 
-/// Two errors are equal exactly if they tell the same: fault, offset and number. The hint is not compared.
+/// Two errors are equal exactly if they say the same: fault, offset and number. The hint is not compared.
 pub fn equal_errors_tell_the_same()
-    ensures { TellsWhether (λ one other. fault_at one ≡ fault_at other) ⟦<Error as PartialEq>⟧.eq }
+    ensures { DecidesWhether (λ one other. fault_at one ≡ fault_at other) ⟦<Error as PartialEq>⟧.eq }
 {}
 
 /// A copy of a fault, of an error, its hint with it, of a set of features, of a reader, of a section or of an iterator

@@ -1,5 +1,5 @@
 //! The reader of WebAssembly bytes: faults with their places in the stream, and a reader of numbers, names and
-//! windows that knows where it stands.
+//! windows that knows where it is.
 #![tactic(auto)]
 
 mod error;

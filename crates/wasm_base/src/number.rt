@@ -36,7 +36,7 @@ fn unused_bits_are_right(kind: NumberKind, byte: u8) -> bool
     }
 }
 
-// Where the first byte below 128 stands, among so many bytes.
+// Where the first byte below 128 is, among so many bytes.
 fn last_of(bytes: &[u8], limit: usize) -> Option<usize>
     ensures { result ≡ position is_last (take limit bytes.now) }
 {

@@ -1,4 +1,4 @@
-// A reader of bytes that knows where they stand in the whole stream.
+// A reader of bytes that knows where they are in the whole stream.
 ghost use Rattle.std.specs.Prelude.{⊤, ◌≡◌, ◌+◌, ◌<◌, ◌≤◌, ◌^◌, ◌==◌, ◌↔◌, IsTrue, IfOk, OnOk, OnErr, Some, None, length};
 ghost use Rattle.std.specs.Int.RustNames.{bit_and};
 ghost use Rattle.wasm_base.specs.FaultAt.{fault_at, at_offset, hint_of};
@@ -186,7 +186,7 @@ impl<'a> BinaryReader<'a> {
 
     // The error of a read that wants so many bytes more than are left.
     fn missing(&self, wanted: usize) -> Error
-        ensures told { fault_at result ≡ at_offset UnexpectedEof (place self.now).offset }
+        ensures report { fault_at result ≡ at_offset UnexpectedEof (place self.now).offset }
         ensures hint { hint_of result ≡ Some wanted }
     {
         Error::new(Fault::UnexpectedEof, self.original_position()).with_hint(wanted)
@@ -299,8 +299,8 @@ impl<'a> BinaryReader<'a> {
 
     /// Reads a u32 in LEB128 (core specification, Binary format, Integers).
     ///
-    /// `NumberTooLong` and `NumberTooLarge` stand at the last byte that it may take, `UnexpectedEof` where its next
-    /// byte would stand.
+    /// `NumberTooLong` and `NumberTooLarge` are at the last byte that it may take, `UnexpectedEof` where its next
+    /// byte would be.
     pub fn read_var_u32(&mut self) -> Result<u32>
         ensures gives { Gives (λ n. n) result (place self.new) (unsigned_at VarU32 (place self.old)) }
         ensures keeps { KeepsWindow self.old self.new }
@@ -312,7 +312,7 @@ impl<'a> BinaryReader<'a> {
         Ok(self.read_groups(NumberKind::VarU32)? as u32)
     }
 
-    // Reads so many bytes of text, behind their size.
+    // Reads so many bytes of text, after their size.
     #[tactic(auto, unfolding(crate::specs::TextOf::text_of), using(crate::proofs::Texts::text_test))]
     fn read_text(&mut self, len: usize) -> Result<&'a str>
         requires { 0 < (place self.old).offset }
@@ -330,7 +330,7 @@ impl<'a> BinaryReader<'a> {
 
     /// Reads a text: a size and so many bytes of UTF-8 (core specification, Binary format, Names).
     ///
-    /// After the faults of the size: `UnexpectedEof` behind it, if the bytes aren't all there; `MalformedUtf8` at
+    /// After the faults of the size: `UnexpectedEof` after it, if the bytes aren't all there; `MalformedUtf8` at
     /// the text's last byte.
     #[tactic(auto, using(crate::proofs::Texts::text_steps))]
     pub fn read_unlimited_string(&mut self) -> Result<&'a str>
@@ -359,7 +359,7 @@ impl<'a> BinaryReader<'a> {
         self.read_text(size)
     }
 
-    /// Reads a size, a u32, and a window of so many bytes, with the same features. `UnexpectedEof` behind the size,
+    /// Reads a size, a u32, and a window of so many bytes, with the same features. `UnexpectedEof` after the size,
     /// if the bytes aren't all there.
     #[tactic(auto, unfolding(crate::specs::Name::window_at))]
     pub fn read_reader(&mut self) -> Result<BinaryReader<'a>>
@@ -383,7 +383,7 @@ impl<'a> BinaryReader<'a> {
         T::from_reader(self)
     }
 
-    /// Reads the magic and the 32 bits behind it, of which the lower 16 are the version and the upper 16 the kind
+    /// Reads the magic and the 32 bits after it, of which the lower 16 are the version and the upper 16 the kind
     /// (core specification, Binary format, Modules). Four other bytes are `BadMagic` where they begin.
     #[tactic(auto, unfolding(crate::specs::Header::header_version_at))]
     pub fn read_header_version(&mut self) -> Result<u32>
@@ -393,8 +393,8 @@ impl<'a> BinaryReader<'a> {
         ensures memory { TakesNoMemory result }
     {
         let start = self.original_position();
-        let front = self.read_bytes(4)?;
-        if !is_magic(front) {
+        let prefix = self.read_bytes(4)?;
+        if !is_magic(prefix) {
             return Err(Error::new(Fault::BadMagic, start));
         }
         self.read_u32()
@@ -402,9 +402,9 @@ impl<'a> BinaryReader<'a> {
 }
 
 // Whether four bytes begin a header.
-fn is_magic(front: &[u8]) -> bool
-    requires { length front.now ≡ 4 }
-    ensures { result ≡ agree front.now magic }
+fn is_magic(prefix: &[u8]) -> bool
+    requires { length prefix.now ≡ 4 }
+    ensures { result ≡ agree prefix.now magic }
 {
-    front[0] == 0x00 && front[1] == 0x61 && front[2] == 0x73 && front[3] == 0x6d
+    prefix[0] == 0x00 && prefix[1] == 0x61 && prefix[2] == 0x73 && prefix[3] == 0x6d
 }

@@ -96,7 +96,7 @@ impl<'a, T> SectionLimited<'a, T> {
         self.count
     }
 
-    /// The offset behind the count, in the whole stream.
+    /// The offset after the count, in the whole stream.
     pub fn original_position(&self) -> u64
         ensures offset { result ≡ (place self.now.reader).offset }
         ensures fits { result + length (place self.now.reader).rest < 2 ^ 64 }
@@ -144,7 +144,7 @@ impl<'a, T: FromReader<'a>> IntoIterator for SectionLimited<'a, T> {
 impl<'a, T> From<SectionLimitedIntoIter<'a, T>> for SectionLimited<'a, T> {
     ghost from_gives = { λ items section. section ≡ record { reader = items.reader; count = items.count } };
 
-    /// The section again, with the count that was announced. Its reader stands where the iterator stood, so that its
+    /// The section again, with the count that was announced. Its reader is where the iterator was, so that its
     /// items are read from there.
     fn from(items: SectionLimitedIntoIter<'a, T>) -> Self {
         items.into_section()
@@ -154,7 +154,7 @@ impl<'a, T> From<SectionLimitedIntoIter<'a, T>> for SectionLimited<'a, T> {
 /// The items of a section.
 ///
 /// The announced items come, up to the first fault. Where all were read and bytes are left, one `SizeMismatch`
-/// follows, at the first of them. Behind that, and behind an item's fault, nothing comes.
+/// follows, at the first of them. After that, and after an item's fault, nothing comes.
 #[derive(Debug)]
 pub struct SectionLimitedIntoIter<'a, T> {
     section: SectionLimited<'a, T>,
@@ -195,7 +195,7 @@ impl<'a, T: Clone> Clone for SectionLimitedIntoIter<'a, T> {
 }
 
 impl<'a, T> SectionLimitedIntoIter<'a, T> {
-    /// The offset in the whole stream where the iterator stands.
+    /// The offset in the whole stream where the iterator is.
     pub fn original_position(&self) -> u64
         ensures offset { result ≡ (place self.now.reader).offset }
         ensures fits { result + length (place self.now.reader).rest < 2 ^ 64 }
@@ -203,7 +203,7 @@ impl<'a, T> SectionLimitedIntoIter<'a, T> {
         self.section.original_position()
     }
 
-    // The section, its reader where the iterator stands.
+    // The section, its reader where the iterator is.
     fn into_section(self) -> SectionLimited<'a, T>
         ensures { result ≡ record { reader = self.entry.reader; count = self.entry.count } }
     {

@@ -5,12 +5,12 @@ use Rattle.wasm_base.specs.Name.{name_limit, text_at}
 use Rattle.wasm_base.specs.Window.{Window, place, KeepsWindow}
 use Rattle.wasm_base.specs.declared.error.Error.{Error}
 
--- a name, and the section's window behind it
+-- a name, and the section's window after it
 pub record Custom : Type 0 where
   pub name : List ℕ
   pub reader : Window
 
--- The custom section begins with its name at the window's place, and its reader stands behind the name.
+-- The custom section begins with its name at the window's place, and its reader is after the name.
 pub record IsCustom (w : Window) (section : Custom) : Type 0 where
   pub named : text_at (Some name_limit) (place w) ≡ Ok (section.name, place section.reader)
   pub keeps : KeepsWindow w section.reader

@@ -9,7 +9,7 @@ use std::marker::Model;
 use std::ops::Range;
 use wasm_base::{BinaryReader, Result};
 
-/// A custom section: its name, and its data behind it (core specification, Binary format, Modules, Custom Section).
+/// A custom section: its name, and its data after it (core specification, Binary format, Modules, Custom Section).
 ///
 /// Offsets count bytes from the start of the whole stream.
 #[derive(Drop)]
@@ -45,7 +45,7 @@ impl<'a> CustomSectionReader<'a> {
     /// Reads the name, a text of at most 100,000 bytes; what is left of the window is the data.
     ///
     /// The faults are those of `BinaryReader::read_string`: those of the name's size; `StringSize` at the size's last
-    /// byte, where it is above 100,000; `UnexpectedEof` behind the size, where the window ends before the name does;
+    /// byte, where it is above 100,000; `UnexpectedEof` after the size, where the window ends before the name does;
     /// `MalformedUtf8` at the name's last byte.
     pub fn new(mut reader: BinaryReader<'a>) -> Result<Self>
         ensures reads { ReadsCustom reader.entry result }
@@ -63,7 +63,7 @@ impl<'a> CustomSectionReader<'a> {
         self.name
     }
 
-    /// The bytes behind the name.
+    /// The bytes after the name.
     pub fn data(&self) -> &'a [u8]
         ensures { result.now ≡ (place self.now.reader).rest }
     {

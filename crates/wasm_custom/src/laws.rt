@@ -1,4 +1,4 @@
-//! What copying custom sections tells.
+//! What copying custom sections says.
 ghost use Rattle.wasm_base.specs.Comparing.{CopiesSame, CopiesAlways};
 
 use crate::custom::CustomSectionReader;

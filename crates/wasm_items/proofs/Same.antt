@@ -4,8 +4,8 @@ use lib.Pointwise.{pointwise}
 use Rattle.std.specs.Cmp.Derive.{both_true}
 use Rattle.std.specs.Cmp.Lexicographic.{same_text}
 use Rattle.std.proofs.lemmas.Cmp.{nat_list_eq_equiv}
-use Rattle.wasm_base.proofs.Telling.{Tells, back, both_of, number, truth, option}
-use Rattle.wasm_base.specs.Comparing.{TellsWhether}
+use Rattle.wasm_base.proofs.Deciding.{Decides, back, both_of, number, truth, option}
+use Rattle.wasm_base.specs.Comparing.{DecidesWhether}
 use Rattle.wasm_items.specs.Same.{IsSameImport, IsSameItem, IsSameExport}
 use Rattle.wasm_items.specs.contracts.types.HeapTypePartialEq.TheImpl as HeapTypeCompared
 use Rattle.wasm_items.specs.contracts.types.RefTypePartialEq.TheImpl as RefTypeCompared
@@ -75,7 +75,7 @@ heap_itself Heap.NoExtern = refl
 heap_itself Heap.NoFunc = refl
 heap_itself Heap.NoExn = refl
 
-pub heap : Tells (HeapTypeCompared.ghosts).eq
+pub heap : Decides (HeapTypeCompared.ghosts).eq
 heap = record { same = heap_same; itself = heap_itself }
 
 reference_same : (one other : RefType) → (RefTypeCompared.ghosts).eq one other ≡ true → one ≡ other
@@ -86,7 +86,7 @@ reference_same one other h =
 reference_itself : (one : RefType) → (RefTypeCompared.ghosts).eq one one ≡ true
 reference_itself one = both_true (truth.itself one.nullable) (heap.itself one.heap)
 
-pub reference : Tells (RefTypeCompared.ghosts).eq
+pub reference : Decides (RefTypeCompared.ghosts).eq
 reference = record { same = reference_same; itself = reference_itself }
 
 value_same : (one other : ValType) → (ValTypeCompared.ghosts).eq one other ≡ true → one ≡ other
@@ -106,7 +106,7 @@ value_itself Value.F32 = refl
 value_itself Value.F64 = refl
 value_itself Value.V128 = refl
 
-pub value : Tells (ValTypeCompared.ghosts).eq
+pub value : Decides (ValTypeCompared.ghosts).eq
 value = record { same = value_same; itself = value_itself }
 
 storage_same : (one other : StorageType) → (StorageTypeCompared.ghosts).eq one other ≡ true → one ≡ other
@@ -120,7 +120,7 @@ storage_itself (Storage.Val m) = value.itself m
 storage_itself Storage.I8 = refl
 storage_itself Storage.I16 = refl
 
-pub storage : Tells (StorageTypeCompared.ghosts).eq
+pub storage : Decides (StorageTypeCompared.ghosts).eq
 storage = record { same = storage_same; itself = storage_itself }
 
 field_same : (one other : FieldType) → (FieldTypeCompared.ghosts).eq one other ≡ true → one ≡ other
@@ -131,7 +131,7 @@ field_same one other h =
 field_itself : (one : FieldType) → (FieldTypeCompared.ghosts).eq one one ≡ true
 field_itself one = both_true (storage.itself one.storage) (truth.itself one.mutable)
 
-pub field : Tells (FieldTypeCompared.ghosts).eq
+pub field : Decides (FieldTypeCompared.ghosts).eq
 field = record { same = field_same; itself = field_itself }
 
 table_same : (one other : TableType) → (TableTypeCompared.ghosts).eq one other ≡ true → one ≡ other
@@ -145,7 +145,7 @@ table_same one other h =
 table_itself : (one : TableType) → (TableTypeCompared.ghosts).eq one one ≡ true
 table_itself one = both_true (reference.itself one.element_type) (both_true (truth.itself one.table64) (both_true (number.itself one.initial) (both_true ((option number).itself one.maximum) (truth.itself one.shared))))
 
-pub table : Tells (TableTypeCompared.ghosts).eq
+pub table : Decides (TableTypeCompared.ghosts).eq
 table = record { same = table_same; itself = table_itself }
 
 memory_same : (one other : MemoryType) → (MemoryTypeCompared.ghosts).eq one other ≡ true → one ≡ other
@@ -159,7 +159,7 @@ memory_same one other h =
 memory_itself : (one : MemoryType) → (MemoryTypeCompared.ghosts).eq one one ≡ true
 memory_itself one = both_true (truth.itself one.memory64) (both_true (truth.itself one.shared) (both_true (number.itself one.initial) (both_true ((option number).itself one.maximum) ((option number).itself one.page_size_log2))))
 
-pub memory : Tells (MemoryTypeCompared.ghosts).eq
+pub memory : Decides (MemoryTypeCompared.ghosts).eq
 memory = record { same = memory_same; itself = memory_itself }
 
 global_same : (one other : GlobalType) → (GlobalTypeCompared.ghosts).eq one other ≡ true → one ≡ other
@@ -171,7 +171,7 @@ global_same one other h =
 global_itself : (one : GlobalType) → (GlobalTypeCompared.ghosts).eq one one ≡ true
 global_itself one = both_true (value.itself one.content_type) (both_true (truth.itself one.mutable) (truth.itself one.shared))
 
-pub global : Tells (GlobalTypeCompared.ghosts).eq
+pub global : Decides (GlobalTypeCompared.ghosts).eq
 global = record { same = global_same; itself = global_itself }
 
 kind_same : (one other : TagKind) → (TagKindCompared.ghosts).eq one other ≡ true → one ≡ other
@@ -180,7 +180,7 @@ kind_same Kind.Exception Kind.Exception h = refl
 kind_itself : (one : TagKind) → (TagKindCompared.ghosts).eq one one ≡ true
 kind_itself Kind.Exception = refl
 
-pub kind : Tells (TagKindCompared.ghosts).eq
+pub kind : Decides (TagKindCompared.ghosts).eq
 kind = record { same = kind_same; itself = kind_itself }
 
 tag_same : (one other : TagType) → (TagTypeCompared.ghosts).eq one other ≡ true → one ≡ other
@@ -191,7 +191,7 @@ tag_same one other h =
 tag_itself : (one : TagType) → (TagTypeCompared.ghosts).eq one one ≡ true
 tag_itself one = both_true (kind.itself one.kind) (number.itself one.func_type_idx)
 
-pub tag : Tells (TagTypeCompared.ghosts).eq
+pub tag : Decides (TagTypeCompared.ghosts).eq
 tag = record { same = tag_same; itself = tag_itself }
 
 external_same : (one other : TypeRef) → (TypeRefCompared.ghosts).eq one other ≡ true → one ≡ other
@@ -211,7 +211,7 @@ external_itself (External.Global m) = global.itself m
 external_itself (External.Tag m) = tag.itself m
 external_itself (External.FuncExact m) = number.itself m
 
-pub external : Tells (TypeRefCompared.ghosts).eq
+pub external : Decides (TypeRefCompared.ghosts).eq
 external = record { same = external_same; itself = external_itself }
 
 exported_same : (one other : ExternalKind) → (ExternalKindCompared.ghosts).eq one other ≡ true → one ≡ other
@@ -231,7 +231,7 @@ exported_itself Exported.Global = refl
 exported_itself Exported.Tag = refl
 exported_itself Exported.FuncExact = refl
 
-pub exported : Tells (ExternalKindCompared.ghosts).eq
+pub exported : Decides (ExternalKindCompared.ghosts).eq
 exported = record { same = exported_same; itself = exported_itself }
 
 text_same : (one other : List ℕ) → pointwise nat_eq one other ≡ true → one ≡ other
@@ -249,7 +249,7 @@ import_same one other h =
 import_back : (one other : Import) → IsSameImport one other → (ImportCompared.ghosts).eq one other ≡ true
 import_back one other is = both_true (text_back is.from) (both_true (text_back is.name) (back external is.ty))
 
-pub import : TellsWhether IsSameImport (ImportCompared.ghosts).eq
+pub import : DecidesWhether IsSameImport (ImportCompared.ghosts).eq
 import one other = (import_same one other, import_back one other)
 
 item_same : (one other : ImportItemCompact) → (ImportItemCompactCompared.ghosts).eq one other ≡ true → IsSameItem one other
@@ -260,7 +260,7 @@ item_same one other h =
 item_back : (one other : ImportItemCompact) → IsSameItem one other → (ImportItemCompactCompared.ghosts).eq one other ≡ true
 item_back one other is = both_true (text_back is.name) (back external is.ty)
 
-pub item : TellsWhether IsSameItem (ImportItemCompactCompared.ghosts).eq
+pub item : DecidesWhether IsSameItem (ImportItemCompactCompared.ghosts).eq
 item one other = (item_same one other, item_back one other)
 
 export_same : (one other : Export) → (ExportCompared.ghosts).eq one other ≡ true → IsSameExport one other
@@ -272,5 +272,5 @@ export_same one other h =
 export_back : (one other : Export) → IsSameExport one other → (ExportCompared.ghosts).eq one other ≡ true
 export_back one other is = both_true (text_back is.name) (both_true (back exported is.kind) (back number is.index))
 
-pub export : TellsWhether IsSameExport (ExportCompared.ghosts).eq
+pub export : DecidesWhether IsSameExport (ExportCompared.ghosts).eq
 export one other = (export_same one other, export_back one other)

@@ -1,2 +1,2 @@
-pub mod Held
+pub mod Windows
 pub mod Same

@@ -4,7 +4,7 @@ ghost use Rattle.std.specs.Prelude.{◌≡◌, ◌+◌, length};
 use std::ops::Range;
 use wasm_base::BinaryReader;
 
-/// The window of a function's body, behind its size (core specification, Binary format, Modules, Code Section).
+/// The window of a function's body, after its size (core specification, Binary format, Modules, Code Section).
 ///
 /// Its locals and instructions stay unread.
 #[derive(Clone, Debug, Drop)]
@@ -13,7 +13,7 @@ pub struct FunctionBody<'a> {
 }
 
 impl<'a> FunctionBody<'a> {
-    ghost use Rattle.wasm_items.specs.Held.{body_window};
+    ghost use Rattle.wasm_items.specs.Windows.{body_window};
 
     /// The body in a reader's window. No byte of it is looked at.
     pub fn new(reader: BinaryReader<'a>) -> Self
@@ -22,7 +22,7 @@ impl<'a> FunctionBody<'a> {
         FunctionBody { reader }
     }
 
-    /// The reader that the body was made of, where it stood then.
+    /// The reader that the body was made of, where it was then.
     pub fn get_binary_reader(&self) -> BinaryReader<'a>
         ensures { result ≡ body_window self.now }
     {

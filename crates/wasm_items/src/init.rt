@@ -12,7 +12,7 @@ pub struct ConstExpr<'a> {
 }
 
 impl<'a> ConstExpr<'a> {
-    ghost use Rattle.wasm_items.specs.Held.{expression_window};
+    ghost use Rattle.wasm_items.specs.Windows.{expression_window};
 
     /// The expression in a reader's window. No instruction is looked at.
     pub fn new(reader: BinaryReader<'a>) -> Self
@@ -21,7 +21,7 @@ impl<'a> ConstExpr<'a> {
         ConstExpr { reader }
     }
 
-    /// The reader that the expression was made of, where it stood then.
+    /// The reader that the expression was made of, where it was then.
     pub fn get_binary_reader(&self) -> BinaryReader<'a>
         ensures { result ≡ expression_window self.now }
     {

@@ -1,5 +1,5 @@
-//! What comparing items tells.
-ghost use Rattle.wasm_base.specs.Comparing.{TellsWhether, TellsSame, CopiesSame, CopiesAlways};
+//! What comparing items says.
+ghost use Rattle.wasm_base.specs.Comparing.{DecidesWhether, DecidesSame, CopiesSame, CopiesAlways};
 ghost use Rattle.wasm_items.specs.Same.{IsSameImport, IsSameItem, IsSameExport, IsSameFunction, IsSameComposite, IsSameSubtype, IsSameGroup};
 
 use crate::code::FunctionBody;
@@ -17,33 +17,33 @@ use crate::types::{
 
 /// Two types, kinds or externals, which own no list, are equal exactly if they are the same.
 pub fn equal_types_are_the_same()
-    ensures value { TellsSame ⟦<ValType as PartialEq>⟧.eq }
-    ensures reference { TellsSame ⟦<RefType as PartialEq>⟧.eq }
-    ensures heap { TellsSame ⟦<HeapType as PartialEq>⟧.eq }
-    ensures field { TellsSame ⟦<FieldType as PartialEq>⟧.eq }
-    ensures storage { TellsSame ⟦<StorageType as PartialEq>⟧.eq }
-    ensures table { TellsSame ⟦<TableType as PartialEq>⟧.eq }
-    ensures memory { TellsSame ⟦<MemoryType as PartialEq>⟧.eq }
-    ensures global { TellsSame ⟦<GlobalType as PartialEq>⟧.eq }
-    ensures tag { TellsSame ⟦<TagType as PartialEq>⟧.eq }
-    ensures tag_kind { TellsSame ⟦<TagKind as PartialEq>⟧.eq }
-    ensures external_kind { TellsSame ⟦<ExternalKind as PartialEq>⟧.eq }
-    ensures external { TellsSame ⟦<TypeRef as PartialEq>⟧.eq }
+    ensures value { DecidesSame ⟦<ValType as PartialEq>⟧.eq }
+    ensures reference { DecidesSame ⟦<RefType as PartialEq>⟧.eq }
+    ensures heap { DecidesSame ⟦<HeapType as PartialEq>⟧.eq }
+    ensures field { DecidesSame ⟦<FieldType as PartialEq>⟧.eq }
+    ensures storage { DecidesSame ⟦<StorageType as PartialEq>⟧.eq }
+    ensures table { DecidesSame ⟦<TableType as PartialEq>⟧.eq }
+    ensures memory { DecidesSame ⟦<MemoryType as PartialEq>⟧.eq }
+    ensures global { DecidesSame ⟦<GlobalType as PartialEq>⟧.eq }
+    ensures tag { DecidesSame ⟦<TagType as PartialEq>⟧.eq }
+    ensures tag_kind { DecidesSame ⟦<TagKind as PartialEq>⟧.eq }
+    ensures external_kind { DecidesSame ⟦<ExternalKind as PartialEq>⟧.eq }
+    ensures external { DecidesSame ⟦<TypeRef as PartialEq>⟧.eq }
 {}
 
 /// Two types that own lists are equal exactly if all that they have is the same, whatever the capacity of the lists.
 pub fn equal_groups_are_the_same()
-    ensures function { TellsWhether IsSameFunction ⟦<FuncType as PartialEq>⟧.eq }
-    ensures composite { TellsWhether IsSameComposite ⟦<CompositeType as PartialEq>⟧.eq }
-    ensures subtype { TellsWhether IsSameSubtype ⟦<SubType as PartialEq>⟧.eq }
-    ensures group { TellsWhether IsSameGroup ⟦<RecGroup as PartialEq>⟧.eq }
+    ensures function { DecidesWhether IsSameFunction ⟦<FuncType as PartialEq>⟧.eq }
+    ensures composite { DecidesWhether IsSameComposite ⟦<CompositeType as PartialEq>⟧.eq }
+    ensures subtype { DecidesWhether IsSameSubtype ⟦<SubType as PartialEq>⟧.eq }
+    ensures group { DecidesWhether IsSameGroup ⟦<RecGroup as PartialEq>⟧.eq }
 {}
 
 /// Two imports, or two exports, are equal exactly if all that they have is the same, names as texts.
 pub fn equal_imports_and_exports_are_the_same<'a>()
-    ensures import { TellsWhether IsSameImport ⟦<Import<'a> as PartialEq>⟧.eq }
-    ensures item { TellsWhether IsSameItem ⟦<ImportItemCompact<'a> as PartialEq>⟧.eq }
-    ensures export { TellsWhether IsSameExport ⟦<Export<'a> as PartialEq>⟧.eq }
+    ensures import { DecidesWhether IsSameImport ⟦<Import<'a> as PartialEq>⟧.eq }
+    ensures item { DecidesWhether IsSameItem ⟦<ImportItemCompact<'a> as PartialEq>⟧.eq }
+    ensures export { DecidesWhether IsSameExport ⟦<Export<'a> as PartialEq>⟧.eq }
 {}
 
 /// A copy of an item is the item itself.

@@ -1,6 +1,6 @@
 // Items as values.
 mod aliases;
-mod held;
+mod windows;
 mod values;
 
 use crate::{ConstExpr, FunctionBody, HeapType, RefType, ValType};

@@ -3,7 +3,7 @@ use Rattle.std.specs.Prelude.{ℕ, ◌+◌, List, ◌++◌, length, codes, decim
 use Rattle.std.specs.List.{flat_map}
 use Rattle.wasm_base.specs.Message.{message_of}
 use Rattle.wasm_base.specs.Window.{Window}
-use Rattle.wasm_parser.specs.Reading.{Told, version, counted, start_section, data_count_section, code_start, code_entry, custom_section, unknown_section, stopped, ending, Event}
+use Rattle.wasm_parser.specs.Reading.{Report, version, counted, start_section, data_count_section, code_start, code_entry, custom_section, unknown_section, stopped, ending, Event}
 use Rattle.wasm_parser.specs.declared.payload.Encoding.{Encoding}
 use Rattle.wasm_parser.specs.declared.payload.Encoding.TheVariants.{Module, Component}
 
@@ -24,8 +24,8 @@ abbrev pub fault_number : Option ℕ → List ℕ → List ℕ
 fault_number None rest = rest
 fault_number (Some n) rest = codes ": " ++ (decimal n ++ rest)
 
--- the line of what is told, which ends with a line feed
-unfoldable pub line_of : Told → List ℕ
+-- the line of what is reported, which ends with a line feed
+unfoldable pub line_of : Report → List ℕ
 line_of (version num encoding from to) = codes "version" ++ field from (field to (field num (codes " " ++ (encoding_name encoding ++ codes "\n"))))
 line_of (counted id count window) = codes "section" ++ field id (window_fields window (field count (codes "\n")))
 line_of (start_section func from to) = codes "start" ++ field from (field to (field func (codes "\n")))
@@ -39,7 +39,7 @@ line_of (ending offset) = codes "end" ++ field offset (codes "\n")
 
 -- the line of an event
 abbrev pub event_line : Event → List ℕ
-event_line e = line_of e.told
+event_line e = line_of e.report
 
 -- the listing of events: a line for each
 abbrev pub listing_of : List Event → List ℕ

@@ -62,9 +62,9 @@ IsCutShort left rest Memory = (given : List ℕ) × Consumes left rest given
 IsCutShort left rest Output = ⊥
 
 -- the source was read to its end, or cut short
-abbrev pub Gathers : {A : Type 0} → (left rest : Option (List ℕ)) → Result (Vec ℕ A) ListError → Type 0
-Gathers left rest (Ok bytes) = GaveAll left rest bytes.items
-Gathers left rest (Err e) = IsCutShort left rest e
+abbrev pub ReadsAll : {A : Type 0} → (left rest : Option (List ℕ)) → Result (Vec ℕ A) ListError → Type 0
+ReadsAll left rest (Ok bytes) = GaveAll left rest bytes.items
+ReadsAll left rest (Err e) = IsCutShort left rest e
 
 -- what a listing of a source has written at each of its ends: it reads the source to its end, and then lists what it gave
 abbrev pub Lists : (left rest taken written : Option (List ℕ)) → Result Ended ListError → Type 0

@@ -1,5 +1,5 @@
 //! What comparing and copying the ends of listings says.
-ghost use Rattle.wasm_base.specs.Comparing.{TellsWhether, TellsSame, CopiesSame, CopiesAlways};
+ghost use Rattle.wasm_base.specs.Comparing.{DecidesWhether, DecidesSame, CopiesSame, CopiesAlways};
 ghost use Rattle.std.specs.Prelude.{◌≡◌};
 ghost use Rattle.wasm_list.specs.Ends.{fault_of};
 
@@ -9,10 +9,10 @@ use crate::source::Failed;
 /// Two ends of listings are equal exactly if both are the end of a stream, or both a fault: the same fault, with the
 /// same offset and number. Two reasons to give up are equal exactly if they are the same.
 pub fn equal_ends_are_the_same()
-    ensures ended { TellsWhether (λ one other. fault_of one ≡ fault_of other)
+    ensures ended { DecidesWhether (λ one other. fault_of one ≡ fault_of other)
         ⟦<Ended as PartialEq>⟧.eq }
-    ensures list_error { TellsSame ⟦<ListError as PartialEq>⟧.eq }
-    ensures failed { TellsSame ⟦<Failed as PartialEq>⟧.eq }
+    ensures list_error { DecidesSame ⟦<ListError as PartialEq>⟧.eq }
+    ensures failed { DecidesSame ⟦<Failed as PartialEq>⟧.eq }
 {}
 
 /// A copy of an end of a listing, or of a reason to give up, is the same, and can always be made.

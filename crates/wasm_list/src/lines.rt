@@ -1,7 +1,7 @@
 // The lines of a listing.
 ghost use Rattle.std.specs.Prelude.{◌≡◌, ◌++◌, Some, IfOk, codes, string_bytes};
 ghost use Rattle.wasm_base.specs.FaultAt.{fault_at};
-ghost use Rattle.wasm_parser.specs.Answers.{told_by};
+ghost use Rattle.wasm_parser.specs.ParseAnswer.{report_of};
 ghost use Rattle.wasm_list.specs.Listing.{encoding_name as name_of, field, line_of};
 ghost use Rattle.wasm_parser.specs.Reading.{code_start, counted, stopped};
 
@@ -68,7 +68,7 @@ pub(crate) fn payload_line<A: Allocator>(
     alloc: A,
     payload: &Payload,
 ) -> Result<String<A>, AllocError>
-    ensures { IfOk result (λ line. string_bytes line ≡ line_of (told_by payload.now)) }
+    ensures { IfOk result (λ line. string_bytes line ≡ line_of (report_of payload.now)) }
 {
     match payload {
         Payload::Version {

@@ -1,11 +1,11 @@
 // The listing of a stream.
 ghost use Rattle.std.specs.Prelude.{◌≡◌, ◌≤◌, ◌<◌};
 ghost use Rattle.wasm_base.specs.FaultAt.{fault_at};
-ghost use Rattle.wasm_parser.specs.Answers.{told_by};
+ghost use Rattle.wasm_parser.specs.ParseAnswer.{report_of};
 ghost use Rattle.wasm_list.specs.Listing.{line_of};
 ghost use Rattle.wasm_list.specs.Lists.{
   Writes,
-  Gathers,
+  ReadsAll,
   ListsBytes,
   Lists,
   WritesAfterReading,
@@ -65,7 +65,7 @@ fn write_line<W: Sink>(output: &mut W, line: &str) -> Result<(), ListError>
 // Writes the line of a payload.
 fn tell<A: Allocator, W: Sink>(alloc: A, output: &mut W, payload: &Payload) -> Result<(), ListError>
     ensures writes { Writes (W.taken output.old) (W.taken output.new)
-        (line_of (told_by payload.now)) result }
+        (line_of (report_of payload.now)) result }
     ensures failed { W.has_failed output.new ≡ output_failed result (W.has_failed output.old) }
 {
     let line = payload_line(alloc, payload)?;
@@ -93,7 +93,7 @@ fn read_all<A: Allocator + Copy, R: Source>(
     piece: usize,
 ) -> Result<Vec<u8, A>, ListError>
     requires { 0 < piece }
-    ensures gathers { Gathers (R.left input.old) (R.left input.new) result }
+    ensures reads { ReadsAll (R.left input.old) (R.left input.new) result }
     ensures failed { R.has_failed input.new ≡ input_failed result (R.has_failed input.old) }
 {
     let mut buffer = vec![in alloc; 0u8; piece]?;

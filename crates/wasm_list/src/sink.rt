@@ -8,7 +8,7 @@ use std::io::Write;
 
 /// Takes bytes, a few at a time.
 pub trait Sink {
-    /// The bytes that it has taken, where it tells them.
+    /// The bytes that it has taken, where these are known.
     ghost taken: { Self → Option (List ℕ) } = { λ _. None };
 
     /// Whether a write has failed.
@@ -113,8 +113,8 @@ impl Sink for BoundedSink {
     }
 }
 
-/// A sink over a writer. A writer that takes 0 bytes of a `buf` that has some fails. It tells no bytes that the writer
-/// does not tell.
+/// A sink over a writer. A writer that takes 0 bytes of a `buf` that has some fails. Its bytes are known where those of the writer are
+/// does not say.
 #[derive(Drop)]
 pub struct WriteSink<W> {
     writer: W,

@@ -10,7 +10,7 @@ pub struct Failed;
 
 /// Gives bytes, a few at a time.
 pub trait Source {
-    /// The bytes that it has left, where it tells them.
+    /// The bytes that it has left, where these are known.
     ghost left: { Self → Option (List ℕ) } = { λ _. None };
 
     /// Whether a read has failed.
@@ -67,7 +67,7 @@ impl Source for SliceSource<'_> {
     }
 }
 
-/// A source over a reader. It tells no bytes that the reader does not tell.
+/// A source over a reader. Its bytes are known where those of the reader are.
 #[derive(Drop)]
 pub struct ReadSource<R> {
     reader: R,

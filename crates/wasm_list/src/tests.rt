@@ -105,17 +105,17 @@ const LISTINGS: [(&[u8], &[u8]); 32] = [
 
 #[test]
 fn lists_modules(rt: HostRuntime) -> Result<(), Fail> {
-    for (behind, lines) in LISTINGS {
+    for (after, lines) in LISTINGS {
         let mut stream = b"\0asm\x01\0\0\0".to_vec(rt.alloc())?;
-        stream.extend_from_slice(behind)?;
+        stream.extend_from_slice(after)?;
         let mut listing = b"version 0 8 1 module\n".to_vec(rt.alloc())?;
         listing.extend_from_slice(lines)?;
         for piece in [1, 5, 65_536] {
             let mut input = SliceSource::new(stream.as_slice());
             let mut output = BoundedSink::new(rt.alloc(), 200)?;
             let ended = list(rt.alloc(), &mut input, &mut output, piece);
-            assert!(rt; ended.is_ok(), "{behind:?}");
-            assert_eq!(rt; output.written(), listing.as_slice(), "{behind:?}");
+            assert!(rt; ended.is_ok(), "{after:?}");
+            assert_eq!(rt; output.written(), listing.as_slice(), "{after:?}");
             assert!(rt; !output.failed());
         }
     }

@@ -5,16 +5,16 @@ use Rattle.wasm_parser.specs.Content.{Ending, fault, ended}
 use Rattle.wasm_parser.specs.Grammar.{Tile}
 use Rattle.wasm_parser.specs.Laws.{AcceptedEnds, FaultEnds}
 use Rattle.wasm_parser.specs.Reading.{Reads}
-use Rattle.wasm_parser.proofs.Ends.{ends_behind_all}
+use Rattle.wasm_parser.proofs.Ends.{ends_after_all}
 use Rattle.wasm_parser.proofs.ReadingLaws.{Onward, reads_all, reads_same}
-use Rattle.wasm_parser.proofs.TextbookFrames.{reads_accepted}
-use Rattle.wasm_parser.proofs.TextbookWalks.{accepted_reads}
+use Rattle.wasm_parser.proofs.AcceptedFrames.{reads_accepted}
+use Rattle.wasm_parser.proofs.AcceptedWalks.{accepted_reads}
 
 faulty : (stream : List ℕ) (start : ℕ) (tiles : List Tile) (end : Ending) → Reads stream start tiles end → ¬ ((ts : List Tile) × Reads stream start ts (ended (start + length stream)))
     → (ts : List Tile) × (f : FaultAt) × Reads stream start ts (fault f)
 faulty stream start tiles (fault f) r n = (tiles, f, r)
 faulty stream start tiles (ended x) r n =
-    absurd (n (tiles, subst (λ (y : ℕ). Reads stream start tiles (ended y)) (ends_behind_all stream start tiles x r).0 r))
+    absurd (n (tiles, subst (λ (y : ℕ). Reads stream start tiles (ended y)) (ends_after_all stream start tiles x r).0 r))
 
 no_end : (stream : List ℕ) (start : ℕ) (ts us : List Tile) (f : FaultAt) (x : ℕ) → Reads stream start ts (fault f) → Reads stream start us (ended x) → ⊥
 no_end stream start ts us f x p q = let z : fault f ≡ ended x = (reads_same stream start ts us (fault f) (ended x) p q).1 in cc

@@ -1,4 +1,4 @@
--- What stands in a code section: its head and its bodies.
+-- What is in a code section: its head and its bodies.
 use Rattle.std.proofs.Common.{◌≡◌, ℕ, zero, suc, ◌+◌, ◌-◌, ◌<◌, ◌≤◌, Bool, true, false, not, ◌&&◌, ◌||◌, length, take, drop, option_to_list, Some, None, Result, Ok, Err, nat_lt, nat_eq, refl, sym, ap, subst, ◌∙◌, arith, lt-ltb, le-ltb}
 use Rattle.std.proofs.lemmas.List.{length-take-le}
 use Rattle.std.specs.List.{list_all, list_any}
@@ -8,82 +8,82 @@ use Rattle.wasm_base.specs.Window.{Window, Place, advanced}
 use Rattle.wasm_base.specs.declared.error.Error.{Error}
 use Rattle.wasm_base.specs.declared.fault.Fault.TheVariants.{UnexpectedEof, FunctionCodeDiffer, CodeWithoutFunction, TrailingCode}
 use Rattle.wasm_base.specs.declared.fault.NumberKind.TheVariants.{VarU32}
-use Rattle.wasm_parser.specs.Answers.{IsPayload, IsTold, StandsThere}
+use Rattle.wasm_parser.specs.ParseAnswer.{IsPayload, MatchesVerdict, ReadsByGrammar}
 use Rattle.wasm_parser.specs.Content.{when}
 use Rattle.wasm_parser.specs.ContentAt.{content_at}
-use Rattle.wasm_parser.specs.Grammar.{Past, Grammar, takes, refuse, number, code_head, body, verdict, wrong_count, code_grammar, body_of, body_grammar}
+use Rattle.wasm_parser.specs.Grammar.{SectionContext, Grammar, accept, check, number, code_head, body, verdict, wrong_count, code_grammar, body_of, body_grammar}
 use Rattle.wasm_parser.specs.Reading.{code_start, code_entry, window_over}
 use Rattle.wasm_parser.specs.declared.payload.Payload.{Payload}
 use Rattle.wasm_parser.proofs.Framed.{HasContent, has_content, too_few}
-use Rattle.wasm_parser.proofs.Telling.{told_bytes, told_missing, told_number, told_no_number, told_wrong, told_right, told_whole, told_stops, ReadNumber, read_number}
+use Rattle.wasm_parser.proofs.ReadingFields.{report_bytes, report_missing, report_number, report_no_number, report_wrong, report_right, report_whole, report_stops, ReadNumber, read_number}
 
 -- ---- the head of a code section
 
--- what may stand behind its count
-abbrev counted_grammar : Past → (offset size count width : ℕ) → Grammar
-counted_grammar past offset size count width =
-    refuse (when (nat_lt size width) (at_offset UnexpectedEof offset)) (
-    refuse (wrong_count past offset count) (
-    takes (code_head count width (size - width))))
+-- what may come after its count
+abbrev counted_grammar : SectionContext → (offset size count width : ℕ) → Grammar
+counted_grammar context offset size count width =
+    check (when (nat_lt size width) (at_offset UnexpectedEof offset)) (
+    check (wrong_count context offset count) (
+    accept (code_head count width (size - width))))
 
 -- a count that is not read
-pub code_no_count : (past : Past) (size : ℕ) (p : Place) (e : Error) (a : Place) → unsigned_at VarU32 p ≡ Err (fault_at e) → StandsThere (code_grammar past p.offset size) p (Err e) a
-code_no_count past size p e a h = λ s. told_no_number s p (counted_grammar past p.offset size) e a h
+pub code_no_count : (context : SectionContext) (size : ℕ) (p : Place) (e : Error) (a : Place) → unsigned_at VarU32 p ≡ Err (fault_at e) → ReadsByGrammar (code_grammar context p.offset size) p (Err e) a
+code_no_count context size p e a h = λ s. report_no_number s p (counted_grammar context p.offset size) e a h
 
 -- a count that passes the section's end
-pub code_short : (past : Past) (size : ℕ) (p q : Place) (count : ℕ) (e : Error) (a : Place) → unsigned_at VarU32 p ≡ Ok (count, q) → p.offset + size < q.offset → fault_at e ≡ at_offset UnexpectedEof p.offset
-    → StandsThere (code_grammar past p.offset size) p (Err e) a
-code_short past size p q count e a h l f =
+pub code_short : (context : SectionContext) (size : ℕ) (p q : Place) (count : ℕ) (e : Error) (a : Place) → unsigned_at VarU32 p ≡ Ok (count, q) → p.offset + size < q.offset → fault_at e ≡ at_offset UnexpectedEof p.offset
+    → ReadsByGrammar (code_grammar context p.offset size) p (Err e) a
+code_short context size p q count e a h l f =
     let m : ReadNumber p count q = read_number p count q h in
-    let o : q.offset ≡ p.offset + m.used = ap (λ (x : Place). x.offset) m.behind in
+    let o : q.offset ≡ p.offset + m.used = ap (λ (x : Place). x.offset) m.after in
     let w : when (nat_lt size m.used) (at_offset UnexpectedEof p.offset) ≡ Some (fault_at e) = rw (lt-ltb size m.used (omega arith)) (ap Some (sym f)) in
-    λ s. told_number s p p.offset (counted_grammar past p.offset size) (Err e) a count m.used m.reads (told_wrong s (advanced m.used p) (when (nat_lt size m.used) (at_offset UnexpectedEof p.offset)) _ e a w)
+    λ s. report_number s p p.offset (counted_grammar context p.offset size) (Err e) a count m.used m.reads (report_wrong s (advanced m.used p) (when (nat_lt size m.used) (at_offset UnexpectedEof p.offset)) _ e a w)
 
 -- a count that lies in the section, and that of the functions
-counted_right : (past : Past) (size : ℕ) (p q : Place) (count : ℕ) (r : Result Payload Error) (a : Place) (m : ReadNumber p count q) → q.offset ≤ p.offset + size
-    → ((s : ℕ) → IsTold s (advanced m.used p) (verdict (refuse (wrong_count past p.offset count) (takes (code_head count m.used (size - m.used)))) (advanced m.used p).rest) r a) → StandsThere (code_grammar past p.offset size) p r a
-counted_right past size p q count r a m l next =
-    let o : q.offset ≡ p.offset + m.used = ap (λ (x : Place). x.offset) m.behind in
+counted_right : (context : SectionContext) (size : ℕ) (p q : Place) (count : ℕ) (r : Result Payload Error) (a : Place) (m : ReadNumber p count q) → q.offset ≤ p.offset + size
+    → ((s : ℕ) → MatchesVerdict s (advanced m.used p) (verdict (check (wrong_count context p.offset count) (accept (code_head count m.used (size - m.used)))) (advanced m.used p).rest) r a) → ReadsByGrammar (code_grammar context p.offset size) p r a
+counted_right context size p q count r a m l next =
+    let o : q.offset ≡ p.offset + m.used = ap (λ (x : Place). x.offset) m.after in
     let w : when (nat_lt size m.used) (at_offset UnexpectedEof p.offset) ≡ None = rw (le-ltb size m.used (omega arith)) refl in
-    λ s. told_number s p p.offset (counted_grammar past p.offset size) r a count m.used m.reads (told_right s (advanced m.used p) (when (nat_lt size m.used) (at_offset UnexpectedEof p.offset)) _ r a w (next s))
+    λ s. report_number s p p.offset (counted_grammar context p.offset size) r a count m.used m.reads (report_right s (advanced m.used p) (when (nat_lt size m.used) (at_offset UnexpectedEof p.offset)) _ r a w (next s))
 
-pub code_wrong : (past : Past) (size : ℕ) (p q : Place) (count : ℕ) (e : Error) (a : Place) → unsigned_at VarU32 p ≡ Ok (count, q) → q.offset ≤ p.offset + size → wrong_count past p.offset count ≡ Some (fault_at e)
-    → StandsThere (code_grammar past p.offset size) p (Err e) a
-code_wrong past size p q count e a h l w =
+pub code_wrong : (context : SectionContext) (size : ℕ) (p q : Place) (count : ℕ) (e : Error) (a : Place) → unsigned_at VarU32 p ≡ Ok (count, q) → q.offset ≤ p.offset + size → wrong_count context p.offset count ≡ Some (fault_at e)
+    → ReadsByGrammar (code_grammar context p.offset size) p (Err e) a
+code_wrong context size p q count e a h l w =
     let m : ReadNumber p count q = read_number p count q h in
-    counted_right past size p q count (Err e) a m l (λ s. told_wrong s (advanced m.used p) (wrong_count past p.offset count) _ e a w)
+    counted_right context size p q count (Err e) a m l (λ s. report_wrong s (advanced m.used p) (wrong_count context p.offset count) _ e a w)
 
 -- a head
-pub code_read : (past : Past) (size : ℕ) (p q : Place) (count : ℕ) (payload : Payload) → unsigned_at VarU32 p ≡ Ok (count, q) → q.offset ≤ p.offset + size → wrong_count past p.offset count ≡ None
-    → IsPayload (code_start count p.offset (p.offset + size) (p.offset + size - q.offset)) payload → StandsThere (code_grammar past p.offset size) p (Ok payload) q
-code_read past size p q count payload h l w told =
+pub code_read : (context : SectionContext) (size : ℕ) (p q : Place) (count : ℕ) (payload : Payload) → unsigned_at VarU32 p ≡ Ok (count, q) → q.offset ≤ p.offset + size → wrong_count context p.offset count ≡ None
+    → IsPayload (code_start count p.offset (p.offset + size) (p.offset + size - q.offset)) payload → ReadsByGrammar (code_grammar context p.offset size) p (Ok payload) q
+code_read context size p q count payload h l w report =
     let m : ReadNumber p count q = read_number p count q h in
-    let o : q.offset ≡ p.offset + m.used = ap (λ (x : Place). x.offset) m.behind in
+    let o : q.offset ≡ p.offset + m.used = ap (λ (x : Place). x.offset) m.after in
     let from : p.offset ≡ p.offset + m.used - m.used = omega arith in
     let to : p.offset + size ≡ p.offset + m.used + (size - m.used) = omega arith in
     let left : p.offset + size - q.offset ≡ size - m.used = omega arith in
     let said : IsPayload (code_start count (p.offset + m.used - m.used) (p.offset + m.used + (size - m.used)) (size - m.used)) payload =
-    (told.0 ∙ (λ i. code_start count (from i) (to i) (left i)), told.1) in
-    counted_right past size p q count (Ok payload) q m l (λ s. told_right s (advanced m.used p) (wrong_count past p.offset count) _ (Ok payload) q w (told_whole s (advanced m.used p) (code_head count m.used (size - m.used)) payload q m.behind said))
+    (report.0 ∙ (λ i. code_start count (from i) (to i) (left i)), report.1) in
+    counted_right context size p q count (Ok payload) q m l (λ s. report_right s (advanced m.used p) (wrong_count context p.offset count) _ (Ok payload) q w (report_whole s (advanced m.used p) (code_head count m.used (size - m.used)) payload q m.after said))
 
 -- what is wrong with a count, by two tests
-pub counts_differ : (past : Past) (offset count : ℕ) (f : FaultAt) → true ≡ not (list_all (nat_eq count) past.functions) → f ≡ at_offset FunctionCodeDiffer offset → wrong_count past offset count ≡ Some f
-counts_differ past offset count f d e = rw (← d) (ap Some (sym e))
+pub counts_differ : (context : SectionContext) (offset count : ℕ) (f : FaultAt) → true ≡ not (list_all (nat_eq count) context.functions) → f ≡ at_offset FunctionCodeDiffer offset → wrong_count context offset count ≡ Some f
+counts_differ context offset count f d e = rw (← d) (ap Some (sym e))
 
 -- one count that is above 0
 any_one : (b : Bool) → (b || false) ≡ b
 any_one true = refl
 any_one false = refl
 
-lacks_one : (past : Past) (count : ℕ) (b : Bool) → b ≡ (list_any (nat_lt 0) (option_to_list (Some count)) && nat_eq (length past.functions) 0) → b ≡ (nat_lt 0 count && nat_eq (length past.functions) 0)
-lacks_one past count b e = e ∙ ap (λ (x : Bool). x && nat_eq (length past.functions) 0) (any_one (nat_lt 0 count))
+lacks_one : (context : SectionContext) (count : ℕ) (b : Bool) → b ≡ (list_any (nat_lt 0) (option_to_list (Some count)) && nat_eq (length context.functions) 0) → b ≡ (nat_lt 0 count && nat_eq (length context.functions) 0)
+lacks_one context count b e = e ∙ ap (λ (x : Bool). x && nat_eq (length context.functions) 0) (any_one (nat_lt 0 count))
 
-pub no_function : (past : Past) (offset count : ℕ) (f : FaultAt) → false ≡ not (list_all (nat_eq count) past.functions) → true ≡ (list_any (nat_lt 0) (option_to_list (Some count)) && nat_eq (length past.functions) 0)
-    → f ≡ at_offset CodeWithoutFunction offset → wrong_count past offset count ≡ Some f
-no_function past offset count f d n e = rw (← d, ← lacks_one past count true n) (ap Some (sym e))
+pub no_function : (context : SectionContext) (offset count : ℕ) (f : FaultAt) → false ≡ not (list_all (nat_eq count) context.functions) → true ≡ (list_any (nat_lt 0) (option_to_list (Some count)) && nat_eq (length context.functions) 0)
+    → f ≡ at_offset CodeWithoutFunction offset → wrong_count context offset count ≡ Some f
+no_function context offset count f d n e = rw (← d, ← lacks_one context count true n) (ap Some (sym e))
 
-pub right_count : (past : Past) (offset count : ℕ) → false ≡ not (list_all (nat_eq count) past.functions) → false ≡ (list_any (nat_lt 0) (option_to_list (Some count)) && nat_eq (length past.functions) 0) → wrong_count past offset count ≡ None
-right_count past offset count d n = rw (← d, ← lacks_one past count false n) refl
+pub right_count : (context : SectionContext) (offset count : ℕ) → false ≡ not (list_all (nat_eq count) context.functions) → false ≡ (list_any (nat_lt 0) (option_to_list (Some count)) && nat_eq (length context.functions) 0) → wrong_count context offset count ≡ None
+right_count context offset count d n = rw (← d, ← lacks_one context count false n) refl
 
 -- ---- a body
 
@@ -93,60 +93,60 @@ unfolding body_grammar
 a_body zero left offset l = absurd (omega arith)
 a_body (suc n) left offset l = refl
 
-body_there : (bodies left : ℕ) (p : Place) (r : Result Payload Error) (a : Place) → 0 < bodies → StandsThere (number p.offset (λ size width. body_of p.offset left size width)) p r a → StandsThere (body_grammar bodies left p.offset) p r a
-body_there bodies left p r a l h = subst (λ (g : Grammar). StandsThere g p r a) (sym (a_body bodies left p.offset l)) h
+body_there : (bodies left : ℕ) (p : Place) (r : Result Payload Error) (a : Place) → 0 < bodies → ReadsByGrammar (number p.offset (λ size width. body_of p.offset left size width)) p r a → ReadsByGrammar (body_grammar bodies left p.offset) p r a
+body_there bodies left p r a l h = subst (λ (g : Grammar). ReadsByGrammar g p r a) (sym (a_body bodies left p.offset l)) h
 
 -- none is left
-pub no_body_left : (bodies left : ℕ) (p : Place) (e : Error) (a : Place) → bodies ≡ 0 → fault_at e ≡ at_offset TrailingCode p.offset → StandsThere (body_grammar bodies left p.offset) p (Err e) a
+pub no_body_left : (bodies left : ℕ) (p : Place) (e : Error) (a : Place) → bodies ≡ 0 → fault_at e ≡ at_offset TrailingCode p.offset → ReadsByGrammar (body_grammar bodies left p.offset) p (Err e) a
 unfolding body_grammar
-no_body_left zero left p e a z f = λ s. told_stops s p (at_offset TrailingCode p.offset) e a f
+no_body_left zero left p e a z f = λ s. report_stops s p (at_offset TrailingCode p.offset) e a f
 no_body_left (suc n) left p e a z f = absurd (omega arith)
 
 -- a size that is not read
-pub body_no_size : (bodies left : ℕ) (p : Place) (e : Error) (a : Place) → 0 < bodies → unsigned_at VarU32 p ≡ Err (fault_at e) → StandsThere (body_grammar bodies left p.offset) p (Err e) a
-body_no_size bodies left p e a l h = body_there bodies left p (Err e) a l (λ s. told_no_number s p (λ size width. body_of p.offset left size width) e a h)
+pub body_no_size : (bodies left : ℕ) (p : Place) (e : Error) (a : Place) → 0 < bodies → unsigned_at VarU32 p ≡ Err (fault_at e) → ReadsByGrammar (body_grammar bodies left p.offset) p (Err e) a
+body_no_size bodies left p e a l h = body_there bodies left p (Err e) a l (λ s. report_no_number s p (λ size width. body_of p.offset left size width) e a h)
 
 -- bytes that are missing
-pub body_missing : (bodies left : ℕ) (p q : Place) (size : ℕ) (e : Error) (a : Place) → 0 < bodies → unsigned_at VarU32 p ≡ Ok (size, q) → content_at size q ≡ Err (fault_at e) → StandsThere (body_grammar bodies left p.offset) p (Err e) a
+pub body_missing : (bodies left : ℕ) (p q : Place) (size : ℕ) (e : Error) (a : Place) → 0 < bodies → unsigned_at VarU32 p ≡ Ok (size, q) → content_at size q ≡ Err (fault_at e) → ReadsByGrammar (body_grammar bodies left p.offset) p (Err e) a
 body_missing bodies left p q size e a l h c =
     let m : ReadNumber p size q = read_number p size q h in
-    let t = too_few size (advanced m.used p) (fault_at e) (subst (λ (x : Place). content_at size x ≡ Err (fault_at e)) m.behind c) in
-    body_there bodies left p (Err e) a l (λ s. told_number s p p.offset (λ size width. body_of p.offset left size width) (Err e) a size m.used m.reads (
-    told_missing s (advanced m.used p) size (p.offset + m.used) _ e a t.0 t.1))
+    let t = too_few size (advanced m.used p) (fault_at e) (subst (λ (x : Place). content_at size x ≡ Err (fault_at e)) m.after c) in
+    body_there bodies left p (Err e) a l (λ s. report_number s p p.offset (λ size width. body_of p.offset left size width) (Err e) a size m.used m.reads (
+    report_missing s (advanced m.used p) size (p.offset + m.used) _ e a t.0 t.1))
 
--- what stands behind all its bytes
+-- what is after all its bytes
 whole_body : (bodies left : ℕ) (p q : Place) (size : ℕ) (w : Window) (b : Place) (r : Result Payload Error) (a : Place) (m : ReadNumber p size q) (c : HasContent size (advanced m.used p) w b) → 0 < bodies
-    → ((s : ℕ) → IsTold s (advanced size (advanced m.used p)) (verdict (refuse (when (nat_lt left (m.used + size)) (at_offset UnexpectedEof p.offset)) (takes (body (take size (drop m.used p.rest))))) (advanced size (advanced m.used p)).rest) r a)
-    → StandsThere (body_grammar bodies left p.offset) p r a
-whole_body bodies left p q size w b r a m c l next = body_there bodies left p r a l (λ s. told_number s p p.offset (λ size width. body_of p.offset left size width) r a size m.used m.reads (
-    told_bytes s (advanced m.used p) size (p.offset + m.used) _ r a c.there (next s)))
+    → ((s : ℕ) → MatchesVerdict s (advanced size (advanced m.used p)) (verdict (check (when (nat_lt left (m.used + size)) (at_offset UnexpectedEof p.offset)) (accept (body (take size (drop m.used p.rest))))) (advanced size (advanced m.used p)).rest) r a)
+    → ReadsByGrammar (body_grammar bodies left p.offset) p r a
+whole_body bodies left p q size w b r a m c l next = body_there bodies left p r a l (λ s. report_number s p p.offset (λ size width. body_of p.offset left size width) r a size m.used m.reads (
+    report_bytes s (advanced m.used p) size (p.offset + m.used) _ r a c.there (next s)))
 
--- the bytes behind its size, and where they end
+-- the bytes after its size, and where they end
 body_content : (p q : Place) (size : ℕ) (w : Window) (b : Place) (m : ReadNumber p size q) → content_at size q ≡ Ok (w, b) → HasContent size (advanced m.used p) w b
-body_content p q size w b m h = has_content size (advanced m.used p) w b (subst (λ (x : Place). content_at size x ≡ Ok (w, b)) m.behind h)
+body_content p q size w b m h = has_content size (advanced m.used p) w b (subst (λ (x : Place). content_at size x ≡ Ok (w, b)) m.after h)
 
 -- a body that passes its section
 pub body_past : (bodies left : ℕ) (p q : Place) (size : ℕ) (w : Window) (b : Place) (e : Error) (a : Place) → 0 < bodies → unsigned_at VarU32 p ≡ Ok (size, q) → content_at size q ≡ Ok (w, b) → left < b.offset - p.offset
-    → fault_at e ≡ at_offset UnexpectedEof p.offset → StandsThere (body_grammar bodies left p.offset) p (Err e) a
-body_past bodies left p q size w b e a l h k past f =
+    → fault_at e ≡ at_offset UnexpectedEof p.offset → ReadsByGrammar (body_grammar bodies left p.offset) p (Err e) a
+body_past bodies left p q size w b e a l h k context f =
     let m : ReadNumber p size q = read_number p size q h in
     let c : HasContent size (advanced m.used p) w b = body_content p q size w b m k in
-    let o : b.offset ≡ p.offset + m.used + size = ap (λ (x : Place). x.offset) c.behind in
+    let o : b.offset ≡ p.offset + m.used + size = ap (λ (x : Place). x.offset) c.after in
     let wrong : when (nat_lt left (m.used + size)) (at_offset UnexpectedEof p.offset) ≡ Some (fault_at e) = rw (lt-ltb left (m.used + size) (omega arith)) (ap Some (sym f)) in
-    whole_body bodies left p q size w b (Err e) a m c l (λ s. told_wrong s (advanced size (advanced m.used p)) (when (nat_lt left (m.used + size)) (at_offset UnexpectedEof p.offset)) _ e a wrong)
+    whole_body bodies left p q size w b (Err e) a m c l (λ s. report_wrong s (advanced size (advanced m.used p)) (when (nat_lt left (m.used + size)) (at_offset UnexpectedEof p.offset)) _ e a wrong)
 
 -- a body
 pub body_read : (bodies left : ℕ) (p q : Place) (size : ℕ) (w : Window) (b : Place) (payload : Payload) → 0 < bodies → unsigned_at VarU32 p ≡ Ok (size, q) → content_at size q ≡ Ok (w, b) → b.offset - p.offset ≤ left
-    → IsPayload (code_entry w) payload → StandsThere (body_grammar bodies left p.offset) p (Ok payload) b
-body_read bodies left p q size w b payload l h k fits told =
+    → IsPayload (code_entry w) payload → ReadsByGrammar (body_grammar bodies left p.offset) p (Ok payload) b
+body_read bodies left p q size w b payload l h k fits report =
     let m : ReadNumber p size q = read_number p size q h in
     let c : HasContent size (advanced m.used p) w b = body_content p q size w b m k in
-    let o : b.offset ≡ p.offset + m.used + size = ap (λ (x : Place). x.offset) c.behind in
+    let o : b.offset ≡ p.offset + m.used + size = ap (λ (x : Place). x.offset) c.after in
     let content = take size (drop m.used p.rest) in
     let n : length (take size (drop m.used p.rest)) ≡ size = length-take-le size (drop m.used p.rest) c.there in
     let from : p.offset + m.used ≡ p.offset + m.used + size - length (take size (drop m.used p.rest)) = omega arith in
     let said : IsPayload (code_entry (window_over p.features (p.offset + m.used + size - length (take size (drop m.used p.rest))) (take size (drop m.used p.rest)))) payload =
-    (told.0 ∙ (ap code_entry c.window ∙ ap (λ (x : ℕ). code_entry (window_over p.features x (take size (drop m.used p.rest)))) from), told.1) in
+    (report.0 ∙ (ap code_entry c.window ∙ ap (λ (x : ℕ). code_entry (window_over p.features x (take size (drop m.used p.rest)))) from), report.1) in
     let right : when (nat_lt left (m.used + size)) (at_offset UnexpectedEof p.offset) ≡ None = rw (le-ltb left (m.used + size) (omega arith)) refl in
-    whole_body bodies left p q size w b (Ok payload) b m c l (λ s. told_right s (advanced size (advanced m.used p)) (when (nat_lt left (m.used + size)) (at_offset UnexpectedEof p.offset)) _ (Ok payload) b right (
-    told_whole s (advanced size (advanced m.used p)) (body (take size (drop m.used p.rest))) payload b c.behind said))
+    whole_body bodies left p q size w b (Ok payload) b m c l (λ s. report_right s (advanced size (advanced m.used p)) (when (nat_lt left (m.used + size)) (at_offset UnexpectedEof p.offset)) _ (Ok payload) b right (
+    report_whole s (advanced size (advanced m.used p)) (body (take size (drop m.used p.rest))) payload b c.after said))

@@ -11,12 +11,12 @@ use Rattle.wasm_base.specs.declared.fault.Fault.TheVariants.{UnexpectedEof, Magi
 use Rattle.wasm_base.specs.declared.fault.NumberKind.TheVariants.{VarU32}
 use Rattle.wasm_base.proofs.NumberLaws.{Used, number-used}
 use Rattle.wasm_parser.specs.Content.{Kind, custom, items, index, data_count, code, unknown, kind_of, Ending, fault, ended, when, wrong_number, wrong_single, wrong_name, wrong_content}
-use Rattle.wasm_parser.specs.Grammar.{Tile, Verdict, final, Grammar, takes, stops, refuse, number, bytes, section_start, behind, behind_number, verdict, Past, header_of, header_grammar, end_of, wrong_count, code_grammar, wrong_data, whole_grammar, content_grammar, sized, section_grammar, body_grammar}
+use Rattle.wasm_parser.specs.Grammar.{Tile, Verdict, final, Grammar, accept, reject, check, number, bytes, section_start, after, after_number, verdict, SectionContext, header_of, header_grammar, end_of, wrong_count, code_grammar, wrong_data, whole_grammar, content_grammar, after_length, section_grammar, body_grammar}
 use Rattle.wasm_parser.specs.Laws.{FaultLiesWithin}
-use Rattle.wasm_parser.specs.Stands.{Stand, past_of, grammar_of}
-use Rattle.wasm_parser.specs.Tiling.{past, grammar, bodies_left, bytes_left, front}
+use Rattle.wasm_parser.specs.ParserState.{ParserState, known_context, grammar_of}
+use Rattle.wasm_parser.specs.Tiling.{context_of, grammar, bodies_left, bytes_left, bytes_of}
 use Rattle.wasm_parser.specs.declared.payload.Encoding.{Encoding}
-use Rattle.wasm_parser.proofs.Endings.{behind_final}
+use Rattle.wasm_parser.proofs.Endings.{after_final}
 use Rattle.wasm_parser.proofs.Places.{number_place, name_place}
 
 -- an offset between these
@@ -31,11 +31,11 @@ abbrev pub EndsIn : (low high : ℕ) → Ending → Type 0
 EndsIn low high (fault f) = Between low high f.offset
 EndsIn low high (ended offset) = Unit {0}
 
--- the faults that stand before `here` lie behind `low`; the others go on from `here`
+-- the faults that are before `here` lie after `low`; the others go on from `here`
 abbrev pub Within : (low here : ℕ) → Grammar → Type 0
-Within low here (takes shape) = Unit {0}
-Within low here (stops e) = Between low here e.offset
-Within low here (refuse e next) = MayLie low here e × Within low here next
+Within low here (accept shape) = Unit {0}
+Within low here (reject e) = Between low here e.offset
+Within low here (check e next) = MayLie low here e × Within low here next
 Within low here (number o next) = Between low here o × ((v k : ℕ) → Within low (here + k) (next v k))
 Within low here (bytes count o next) = Between low here o × ((b : List ℕ) → length b ≡ count → Within low (here + count) (next b))
 Within low here (section_start o e next) = Between low here o × EndsIn low here e × ((id : ℕ) → Within low (here + 1) (next id))
@@ -52,10 +52,10 @@ ending_lies low here more (ended o) f w h = cc
 
 number_lies : (low here o : ℕ) (xs : List ℕ) (next : ℕ → ℕ → Grammar) (f : FaultAt) → Between low here o
     → ((v k : ℕ) (zs : List ℕ) → verdict (next v k) zs ≡ final (fault f) → Between low (here + k + length zs) f.offset)
-    → (n : Number) → number_at VarU32 xs ≡ n → behind_number o xs n (λ v k. verdict (next v k) (drop k xs)) ≡ final (fault f) → Between low (here + length xs) f.offset
+    → (n : Number) → number_at VarU32 xs ≡ n → after_number o xs n (λ v k. verdict (next v k) (drop k xs)) ≡ final (fault f) → Between low (here + length xs) f.offset
 number_lies low here o xs next f w ih (read v k) e h =
     let u : Used VarU32 xs v k = number-used VarU32 xs v k e in
-    let (a, b) = ih v k (drop k xs) (behind_final (take k xs) _ _ h) in
+    let (a, b) = ih v k (drop k xs) (after_final (take k xs) _ _ h) in
     let l : k ≤ length xs = u.there in
     (a, omega (arith, length-drop k xs))
 number_lies low here o xs next f w ih (bad g p) e h =
@@ -70,11 +70,11 @@ number_lies low here o xs next f w ih short e h =
 
 bytes_lie : (low here count o : ℕ) (xs : List ℕ) (next : List ℕ → Grammar) (f : FaultAt) → Between low here o
     → ((b zs : List ℕ) → length b ≡ count → verdict (next b) zs ≡ final (fault f) → Between low (here + count + length zs) f.offset)
-    → (t : Bool) → nat_le count (length xs) ≡ t → cond t (behind (take count xs) (verdict (next (take count xs)) (drop count xs))) (final (fault (at_offset UnexpectedEof o))) ≡ final (fault f)
+    → (t : Bool) → nat_le count (length xs) ≡ t → cond t (after (take count xs) (verdict (next (take count xs)) (drop count xs))) (final (fault (at_offset UnexpectedEof o))) ≡ final (fault f)
     → Between low (here + length xs) f.offset
 bytes_lie low here count o xs next f w ih true e h =
     let l : count ≤ length xs = leb-true count (length xs) e in
-    let (a, b) = ih (take count xs) (drop count xs) (length-take-le count xs l) (behind_final (take count xs) _ _ h) in
+    let (a, b) = ih (take count xs) (drop count xs) (length-take-le count xs l) (after_final (take count xs) _ _ h) in
     (a, omega (arith, length-drop count xs))
 bytes_lie low here count o xs next f w ih false e h =
     let z : o ≡ f.offset = ap (λ (x : FaultAt). x.offset) (final_same (at_offset UnexpectedEof o) f h) in
@@ -83,26 +83,26 @@ bytes_lie low here count o xs next f w ih false e h =
 
 start_lies : (low here o id : ℕ) (xs : List ℕ) (v : Verdict) (f : FaultAt) → Between low here o
     → (v ≡ final (fault f) → Between low (here + 1 + length xs) f.offset)
-    → (t : Bool) → cond t (final (fault (at_offset MagicAtSection o))) (behind (id ∷ []) v) ≡ final (fault f)
+    → (t : Bool) → cond t (final (fault (at_offset MagicAtSection o))) (after (id ∷ []) v) ≡ final (fault f)
     → Between low (here + length (id ∷ xs)) f.offset
 start_lies low here o id xs v f w ih true h =
     let z : o ≡ f.offset = ap (λ (x : FaultAt). x.offset) (final_same (at_offset MagicAtSection o) f h) in
     let (a, b) = w in
     (omega arith, omega arith)
 start_lies low here o id xs v f w ih false h =
-    let (a, b) = ih (behind_final (id ∷ []) v _ h) in
+    let (a, b) = ih (after_final (id ∷ []) v _ h) in
     (a, omega arith)
 
 -- a fault lies among the bytes, or at their end
 pub verdict_lies : (low here : ℕ) (g : Grammar) (xs : List ℕ) (f : FaultAt) → Within low here g → verdict g xs ≡ final (fault f) → Between low (here + length xs) f.offset
 unfolding verdict
-verdict_lies low here (takes shape) xs f w h = cc
-verdict_lies low here (stops e) xs f w h =
+verdict_lies low here (accept shape) xs f w h = cc
+verdict_lies low here (reject e) xs f w h =
     let z : e.offset ≡ f.offset = ap (λ (x : FaultAt). x.offset) (final_same e f h) in
     let (a, b) = w in
     (omega arith, omega arith)
-verdict_lies low here (refuse None next) xs f w h = verdict_lies low here next xs f w.1 h
-verdict_lies low here (refuse (Some e) next) xs f w h =
+verdict_lies low here (check None next) xs f w h = verdict_lies low here next xs f w.1 h
+verdict_lies low here (check (Some e) next) xs f w h =
     let z : e.offset ≡ f.offset = ap (λ (x : FaultAt). x.offset) (final_same e f h) in
     let (a, b) = w.0 in
     (omega arith, omega arith)
@@ -159,7 +159,7 @@ wider : (low low' high high' : ℕ) (e : Option FaultAt) → low' ≤ low → hi
 wider low low' high high' None l h w = tt
 wider low low' high high' (Some e) l h w = let (a, b) = w in (omega arith, omega arith)
 
-data_wrong : (p : Past) (kind : Kind) (id offset : ℕ) (content : List ℕ) → MayLie offset offset (wrong_data p kind id offset content)
+data_wrong : (p : SectionContext) (kind : Kind) (id offset : ℕ) (content : List ℕ) → MayLie offset offset (wrong_data p kind id offset content)
 data_wrong p items id offset content = when_lies offset offset _ _ (le_refl offset, le_refl offset)
 data_wrong p custom id offset content = tt
 data_wrong p index id offset content = tt
@@ -172,10 +172,10 @@ count_wrong_at true b offset e f z w = (omega arith, omega arith)
 count_wrong_at false true offset e f z w = (omega arith, omega arith)
 count_wrong_at false false offset e f z w = tt
 
-count_wrong : (p : Past) (offset count : ℕ) → MayLie offset offset (wrong_count p offset count)
+count_wrong : (p : SectionContext) (offset count : ℕ) → MayLie offset offset (wrong_count p offset count)
 count_wrong p offset count = count_wrong_at (not (list_all (nat_eq count) p.functions)) (nat_lt 0 count && nat_eq (length p.functions) 0) offset _ _ refl refl
 
-Within-whole : (low here : ℕ) (p : Past) (kind : Kind) (id offset size : ℕ) → low ≤ offset → offset ≡ here → Within low here (whole_grammar p kind id offset size)
+Within-whole : (low here : ℕ) (p : SectionContext) (kind : Kind) (id offset size : ℕ) → low ≤ offset → offset ≡ here → Within low here (whole_grammar p kind id offset size)
 Within-whole low here p kind id offset size l z = (
   lies low here offset l (omega arith),
   λ content n. (
@@ -184,7 +184,7 @@ Within-whole low here p kind id offset size l z = (
   ),
 )
 
-Within-code : (low here : ℕ) (p : Past) (offset size : ℕ) → low ≤ offset → offset ≡ here → Within low here (code_grammar p offset size)
+Within-code : (low here : ℕ) (p : SectionContext) (offset size : ℕ) → low ≤ offset → offset ≡ here → Within low here (code_grammar p offset size)
 Within-code low here p offset size l z = (
   lies low here offset l (omega arith),
   λ count width. (
@@ -193,7 +193,7 @@ Within-code low here p offset size l z = (
   ),
 )
 
-Within-content : (low here : ℕ) (p : Past) (kind : Kind) (id offset size : ℕ) → low ≤ offset → offset ≡ here → Within low here (content_grammar p kind id offset size)
+Within-content : (low here : ℕ) (p : SectionContext) (kind : Kind) (id offset size : ℕ) → low ≤ offset → offset ≡ here → Within low here (content_grammar p kind id offset size)
 Within-content low here p code id offset size l z = Within-code low here p offset size l z
 Within-content low here p custom id offset size l z = Within-whole low here p custom id offset size l z
 Within-content low here p items id offset size l z = Within-whole low here p items id offset size l z
@@ -206,10 +206,10 @@ end_lies_at true b offset e f z w = (omega arith, omega arith)
 end_lies_at false true offset e f z w = (omega arith, omega arith)
 end_lies_at false false offset e f z w = tt
 
-end_lies : (p : Past) (offset : ℕ) → EndsIn offset offset (end_of p offset)
+end_lies : (p : SectionContext) (offset : ℕ) → EndsIn offset offset (end_of p offset)
 end_lies p offset = end_lies_at (list_any (nat_lt 0) p.functions && nat_eq (length p.codes) 0) (list_any (nat_lt 0) p.data_counts && nat_eq (length p.datas) 0) offset _ _ refl refl
 
-Within-sized : (o : ℕ) (p : Past) (kind : Kind) (id size width : ℕ) → Within o (o + 1 + width) (sized p kind id (o + 1) (o + 1 + width) size)
+Within-sized : (o : ℕ) (p : SectionContext) (kind : Kind) (id size width : ℕ) → Within o (o + 1 + width) (after_length p kind id (o + 1) (o + 1 + width) size)
 Within-sized o p kind id size width = (
   when_lies o (o + 1 + width) _ _ (omega arith, omega arith),
   (
@@ -218,7 +218,7 @@ Within-sized o p kind id size width = (
   ),
 )
 
-Within-section : (p : Past) (o : ℕ) → Within o o (section_grammar p o)
+Within-section : (p : SectionContext) (o : ℕ) → Within o o (section_grammar p o)
 unfolding section_grammar
 Within-section p o = (
   (le_refl o, le_refl o),
@@ -247,24 +247,24 @@ Within-header : (o : ℕ) → Within o o (header_grammar o)
 unfolding header_grammar
 Within-header o = ((le_refl o, le_refl o), λ a n. (when_lies o (o + 4) _ _ (omega arith, omega arith), ((omega arith, omega arith), λ b m. Within-header_of o (of_four b) _)))
 
-Within-inside : (b : Bool) (p : Past) (bodies left o : ℕ) → Within o o (cond b (section_grammar p o) (body_grammar bodies left o))
+Within-inside : (b : Bool) (p : SectionContext) (bodies left o : ℕ) → Within o o (cond b (section_grammar p o) (body_grammar bodies left o))
 Within-inside true p bodies left o = Within-section p o
 Within-inside false p bodies left o = Within-body bodies left o
 
-pub Within-grammar : (start : ℕ) (ts : List Tile) → Within (start + length (front ts)) (start + length (front ts)) (grammar start ts)
+pub Within-grammar : (start : ℕ) (ts : List Tile) → Within (start + length (bytes_of ts)) (start + length (bytes_of ts)) (grammar start ts)
 Within-grammar start [] = subst (λ (o : ℕ). Within o o (header_grammar start)) (omega arith) (Within-header start)
-Within-grammar start (t ∷ ts) = Within-inside (nat_eq (bodies_left (t ∷ ts) + bytes_left (t ∷ ts)) 0) (past (t ∷ ts)) (bodies_left (t ∷ ts)) (bytes_left (t ∷ ts)) (start + length (front (t ∷ ts)))
+Within-grammar start (t ∷ ts) = Within-inside (nat_eq (bodies_left (t ∷ ts) + bytes_left (t ∷ ts)) 0) (context_of (t ∷ ts)) (bodies_left (t ∷ ts)) (bytes_left (t ∷ ts)) (start + length (bytes_of (t ∷ ts)))
 
 pub fault_lies_within : FaultLiesWithin
 fault_lies_within stream start tiles f r =
     let (a, b) = verdict_lies _ _ (grammar start tiles) r.rest f (Within-grammar start tiles) r.stops in
-    let n : length stream ≡ length (front tiles) + length r.rest = ap (λ (x : List ℕ). length x) r.whole ∙ length-append (front tiles) r.rest in
+    let n : length stream ≡ length (bytes_of tiles) + length r.rest = ap (λ (x : List ℕ). length x) r.whole ∙ length-append (bytes_of tiles) r.rest in
     (a, omega arith)
 
-Within-any : (h b : Bool) (p : Past) (bodies left o : ℕ) → Within o o (cond h (header_grammar o) (cond b (section_grammar p o) (body_grammar bodies left o)))
+Within-any : (h b : Bool) (p : SectionContext) (bodies left o : ℕ) → Within o o (cond h (header_grammar o) (cond b (section_grammar p o) (body_grammar bodies left o)))
 Within-any true b p bodies left o = Within-header o
 Within-any false b p bodies left o = Within-inside b p bodies left o
 
--- the same of a parser, wherever it stands
-pub stand_lies : (p : Stand) (rest : List ℕ) (f : FaultAt) → verdict (grammar_of p) rest ≡ final (fault f) → Between p.offset (p.offset + length rest) f.offset
-stand_lies p rest f v = verdict_lies p.offset p.offset (grammar_of p) rest f (Within-any p.expects_header (nat_eq (p.bodies + p.left) 0) (past_of p) p.bodies p.left p.offset) v
+-- the same of a parser, wherever it is
+pub parser_fault_lies : (p : ParserState) (rest : List ℕ) (f : FaultAt) → verdict (grammar_of p) rest ≡ final (fault f) → Between p.offset (p.offset + length rest) f.offset
+parser_fault_lies p rest f v = verdict_lies p.offset p.offset (grammar_of p) rest f (Within-any p.expects_header (nat_eq (p.bodies + p.left) 0) (known_context p) p.bodies p.left p.offset) v

@@ -10,13 +10,13 @@ use Rattle.wasm_base.specs.declared.error.Error.{Error}
 use Rattle.wasm_base.specs.declared.fault.Fault.{Fault}
 use Rattle.wasm_base.specs.declared.fault.Fault.TheVariants.{UnexpectedEof, StartContent, DataCountContent, DataCountDiffer}
 use Rattle.wasm_base.specs.declared.fault.NumberKind.TheVariants.{VarU32}
-use Rattle.wasm_parser.specs.Answers.{unread, counted_by, told_by, BeginsBehindCount, items_in, ItemsBegin, IsPayload, StandsThere}
+use Rattle.wasm_parser.specs.ParseAnswer.{unread, counted_by, report_of, BeginsAfterCount, items_in, ItemsBegin, IsPayload, ReadsByGrammar}
 use Rattle.wasm_parser.specs.Content.{items, index, data_count, wrong_number, wrong_single, when, wrong_content, value_of, count_of}
 use Rattle.wasm_parser.specs.ContentAt.{content_at}
 use Rattle.wasm_parser.specs.Counts.{IsCounted, IsCountedAs, ReadsCounted, is_miscounted_by}
-use Rattle.wasm_parser.specs.Grammar.{Past, whole_grammar, wrong_data}
-use Rattle.wasm_parser.specs.Reading.{Told, counted, start_section, data_count_section, window_over}
-use Rattle.wasm_parser.specs.Single.{ReadsSingle}
+use Rattle.wasm_parser.specs.Grammar.{SectionContext, whole_grammar, wrong_data}
+use Rattle.wasm_parser.specs.Reading.{Report, counted, start_section, data_count_section, window_over}
+use Rattle.wasm_parser.specs.SingleNumber.{ReadsSingleNumber}
 use Rattle.wasm_parser.specs.declared.payload.Payload.{Payload}
 use Rattle.wasm_parser.specs.declared.payload.Payload.TheVariants.{Version, TypeSection, ImportSection, FunctionSection, TableSection, MemorySection, TagSection, GlobalSection, ExportSection, StartSection, ElementSection, DataCountSection, DataSection, CodeSectionStart, CodeSectionEntry, CustomSection, UnknownSection, End}
 use Rattle.wasm_parser.proofs.Framed.{HasContent, has_content, whole_good, whole_bad, whole_miscounted}
@@ -74,11 +74,11 @@ single_refused left p f h = single_unread left p f (number VarU32 p.rest) h
 not_zero : (n : ℕ) → false ≡ nat_eq n 0 → 0 < n
 not_zero n e = grind (arith, nat_tests)
 
-pub single_left : (left : Fault) (p : Place) (v : ℕ) (q : Place) (e : Error) → unsigned_at VarU32 p ≡ Ok (v, q) → false ≡ nat_eq (length q.rest) 0 → fault_at e ≡ at_offset left q.offset → ReadsSingle left p (Err e)
+pub single_left : (left : Fault) (p : Place) (v : ℕ) (q : Place) (e : Error) → unsigned_at VarU32 p ≡ Ok (v, q) → false ≡ nat_eq (length q.rest) 0 → fault_at e ≡ at_offset left q.offset → ReadsSingleNumber left p (Err e)
 unfolding unsigned_at
 single_left left p v q e h l f = single_more left p v q (fault_at e) (number VarU32 p.rest) h (not_zero (length q.rest) l) f
 
-pub single_read : (left : Fault) (p : Place) (v : ℕ) (q : Place) → unsigned_at VarU32 p ≡ Ok (v, q) → length q.rest ≡ 0 → ReadsSingle left p (Ok v)
+pub single_read : (left : Fault) (p : Place) (v : ℕ) (q : Place) → unsigned_at VarU32 p ≡ Ok (v, q) → length q.rest ≡ 0 → ReadsSingleNumber left p (Ok v)
 unfolding unsigned_at
 single_read left p v q h l = single_good left p v q (number VarU32 p.rest) h l
 
@@ -95,17 +95,17 @@ at_content size p w e =
     ap place e ∙ z
 
 -- a number that was read of the whole window
-count_read : (size : ℕ) (p : Place) (w : Window) (q : Place) (v : ℕ) (behind : Place) → content_at size p ≡ Ok (w, q) → unsigned_at VarU32 (place w) ≡ Ok (v, behind)
+count_read : (size : ℕ) (p : Place) (w : Window) (q : Place) (v : ℕ) (after : Place) → content_at size p ≡ Ok (w, q) → unsigned_at VarU32 (place w) ≡ Ok (v, after)
     → (wrong_content items p.offset (take size p.rest) ≡ None) × (count_of (take size p.rest) ≡ v)
 unfolding unsigned_at wrong_content
-count_read size p w q v behind h n =
+count_read size p w q v after h n =
     let k : HasContent size p w q = has_content size p w q h in
-    number_good (content_place size p) v behind (number VarU32 (take size p.rest)) (subst (λ (x : Place). in_window x (number VarU32 x.rest) ≡ Ok (v, behind)) (at_content size p w k.window) n)
+    number_good (content_place size p) v after (number VarU32 (take size p.rest)) (subst (λ (x : Place). in_window x (number VarU32 x.rest) ≡ Ok (v, after)) (at_content size p w k.window) n)
 
--- what is told of a section with this id that was made of the window
-told_counted : (id size : ℕ) (p : Place) (w : Window) (q : Place) (s : Section) → content_at size p ≡ Ok (w, q) → IsCounted w s
-    → (counted_by id s ≡ counted id (count_of (take size p.rest)) (window_over p.features p.offset (take size p.rest))) × BeginsBehindCount s
-told_counted id size p w q s h n =
+-- what is reported of a section with this id that was made of the window
+report_counted : (id size : ℕ) (p : Place) (w : Window) (q : Place) (s : Section) → content_at size p ≡ Ok (w, q) → IsCounted w s
+    → (counted_by id s ≡ counted id (count_of (take size p.rest)) (window_over p.features p.offset (take size p.rest))) × BeginsAfterCount s
+report_counted id size p w q s h n =
     let k : HasContent size p w q = has_content size p w q h in
     let g = count_read size p w q s.count (place s.reader) h n.gives in
     let f : s.reader.features ≡ p.features = n.keeps.features ∙ ap (λ (x : Window). x.features) k.window in
@@ -121,113 +121,113 @@ same_items id s x e =
     let z : (id, s) ≡ x = cc in
     λ i. counted_by (z i).0 (z i).1
 
--- what a payload tells that holds this section
-told_items : (payload : Payload) (x : ℕ × Section) → items_in payload ≡ Some x → told_by payload ≡ counted_by x.0 x.1
-told_items (TypeSection s) x e = same_items 1 s x e
-told_items (ImportSection s) x e = same_items 2 s x e
-told_items (FunctionSection s) x e = same_items 3 s x e
-told_items (TableSection s) x e = same_items 4 s x e
-told_items (MemorySection s) x e = same_items 5 s x e
-told_items (TagSection s) x e = same_items 13 s x e
-told_items (GlobalSection s) x e = same_items 6 s x e
-told_items (ExportSection s) x e = same_items 7 s x e
-told_items (ElementSection s) x e = same_items 9 s x e
-told_items (DataSection s) x e = same_items 11 s x e
-told_items (Version num encoding range) x e = cc
-told_items (StartSection func range) x e = cc
-told_items (DataCountSection count range) x e = cc
-told_items (CodeSectionStart count unchecked_range size) x e = cc
-told_items (CodeSectionEntry body) x e = cc
-told_items (CustomSection s) x e = cc
-told_items (UnknownSection id contents range) x e = cc
-told_items (End at) x e = cc
+-- what a payload says that holds this section
+given_reports : (payload : Payload) (x : ℕ × Section) → items_in payload ≡ Some x → report_of payload ≡ counted_by x.0 x.1
+given_reports (TypeSection s) x e = same_items 1 s x e
+given_reports (ImportSection s) x e = same_items 2 s x e
+given_reports (FunctionSection s) x e = same_items 3 s x e
+given_reports (TableSection s) x e = same_items 4 s x e
+given_reports (MemorySection s) x e = same_items 5 s x e
+given_reports (TagSection s) x e = same_items 13 s x e
+given_reports (GlobalSection s) x e = same_items 6 s x e
+given_reports (ExportSection s) x e = same_items 7 s x e
+given_reports (ElementSection s) x e = same_items 9 s x e
+given_reports (DataSection s) x e = same_items 11 s x e
+given_reports (Version num encoding range) x e = cc
+given_reports (StartSection func range) x e = cc
+given_reports (DataCountSection count range) x e = cc
+given_reports (CodeSectionStart count unchecked_range size) x e = cc
+given_reports (CodeSectionEntry body) x e = cc
+given_reports (CustomSection s) x e = cc
+given_reports (UnknownSection id contents range) x e = cc
+given_reports (End at) x e = cc
 
 -- a payload that holds a section with this id, made of the window
 pub record HoldsItems (id : ℕ) (w : Window) (payload : Payload) : Type 0 where
   pub s : Section
   pub counted : IsCounted w s
-  pub told : told_by payload ≡ counted_by id s
-  pub begins : BeginsBehindCount s → ItemsBegin payload
+  pub report : report_of payload ≡ counted_by id s
+  pub begins : BeginsAfterCount s → ItemsBegin payload
 
 holds_at : (id : ℕ) (w : Window) (payload : Payload) (o : Option (ℕ × Section)) → items_in payload ≡ o → IsCountedAs id w o → HoldsItems id w payload
 holds_at id w payload None e c = absurd c
 holds_at id w payload (Some x) e c = record {
   s = x.1;
   counted = c.1;
-  told = told_items payload x e ∙ ap (λ (i : ℕ). counted_by i x.1) c.0;
-  begins = λ b. subst (λ (o : Option (ℕ × Section)). IfSome o (λ y. BeginsBehindCount y.1)) (sym e) b;
+  report = given_reports payload x e ∙ ap (λ (i : ℕ). counted_by i x.1) c.0;
+  begins = λ b. subst (λ (o : Option (ℕ × Section)). IfSome o (λ y. BeginsAfterCount y.1)) (sym e) b;
 }
 
 holds_items : (id : ℕ) (w : Window) (payload : Payload) → ReadsCounted id w (Ok payload) → HoldsItems id w payload
 holds_items id w payload c = holds_at id w payload (items_in payload) refl c
 
 -- the data that was announced
-data_wrong : (past : Past) (id end : ℕ) (content : List ℕ) (s : Section) (told : Told) (b : Bool) → told ≡ counted_by id s → count_of content ≡ s.count → b ≡ is_miscounted_by past.data_counts told
-    → wrong_data past items id end content ≡ when b (at_offset DataCountDiffer end)
-data_wrong past id end content s told b t c m =
-    let x : b ≡ is_miscounted_by past.data_counts (counted_by id s) = m ∙ ap (is_miscounted_by past.data_counts) t in
+data_wrong : (context : SectionContext) (id end : ℕ) (content : List ℕ) (s : Section) (report : Report) (b : Bool) → report ≡ counted_by id s → count_of content ≡ s.count → b ≡ is_miscounted_by context.data_counts report
+    → wrong_data context items id end content ≡ when b (at_offset DataCountDiffer end)
+data_wrong context id end content s report b t c m =
+    let x : b ≡ is_miscounted_by context.data_counts (counted_by id s) = m ∙ ap (is_miscounted_by context.data_counts) t in
     rw (x, c) refl
 
 -- a section of items whose count was read
-pub items_read : (past : Past) (id size : ℕ) (p : Place) (w : Window) (q : Place) (payload : Payload) → content_at size p ≡ Ok (w, q) → ReadsCounted id w (Ok payload) → false ≡ is_miscounted_by past.data_counts (told_by payload)
-    → StandsThere (whole_grammar past items id p.offset size) p (Ok payload) q
-items_read past id size p w q payload h n m =
+pub items_read : (context : SectionContext) (id size : ℕ) (p : Place) (w : Window) (q : Place) (payload : Payload) → content_at size p ≡ Ok (w, q) → ReadsCounted id w (Ok payload) → false ≡ is_miscounted_by context.data_counts (report_of payload)
+    → ReadsByGrammar (whole_grammar context items id p.offset size) p (Ok payload) q
+items_read context id size p w q payload h n m =
     let i : HoldsItems id w payload = holds_items id w payload n in
     let g = count_read size p w q i.s.count (place i.s.reader) h i.counted.gives in
-    let t = told_counted id size p w q i.s h i.counted in
-    whole_good past items id size p w q payload h g.0 (data_wrong past id (p.offset + size) (take size p.rest) i.s (told_by payload) false i.told g.1 m) (i.told ∙ t.0, i.begins t.1)
+    let t = report_counted id size p w q i.s h i.counted in
+    whole_good context items id size p w q payload h g.0 (data_wrong context id (p.offset + size) (take size p.rest) i.s (report_of payload) false i.report g.1 m) (i.report ∙ t.0, i.begins t.1)
 
 -- one whose count is not the one that was announced
-pub items_miscounted : (past : Past) (id size : ℕ) (p : Place) (w : Window) (q : Place) (payload : Payload) (e : Error) (a : Place) → content_at size p ≡ Ok (w, q) → ReadsCounted id w (Ok payload) → true ≡ is_miscounted_by past.data_counts (told_by payload)
-    → fault_at e ≡ at_offset DataCountDiffer q.offset → StandsThere (whole_grammar past items id p.offset size) p (Err e) a
-items_miscounted past id size p w q payload e a h n m f =
+pub items_miscounted : (context : SectionContext) (id size : ℕ) (p : Place) (w : Window) (q : Place) (payload : Payload) (e : Error) (a : Place) → content_at size p ≡ Ok (w, q) → ReadsCounted id w (Ok payload) → true ≡ is_miscounted_by context.data_counts (report_of payload)
+    → fault_at e ≡ at_offset DataCountDiffer q.offset → ReadsByGrammar (whole_grammar context items id p.offset size) p (Err e) a
+items_miscounted context id size p w q payload e a h n m f =
     let i : HoldsItems id w payload = holds_items id w payload n in
     let k : HasContent size p w q = has_content size p w q h in
     let g = count_read size p w q i.s.count (place i.s.reader) h i.counted.gives in
-    let o : q.offset ≡ p.offset + size = ap (λ (x : Place). x.offset) k.behind in
-    let d = data_wrong past id (p.offset + size) (take size p.rest) i.s (told_by payload) true i.told g.1 m in
-    whole_miscounted past items id size p w q e a h g.0 (d ∙ ap Some (sym (f ∙ ap (at_offset DataCountDiffer) o)))
+    let o : q.offset ≡ p.offset + size = ap (λ (x : Place). x.offset) k.after in
+    let d = data_wrong context id (p.offset + size) (take size p.rest) i.s (report_of payload) true i.report g.1 m in
+    whole_miscounted context items id size p w q e a h g.0 (d ∙ ap Some (sym (f ∙ ap (at_offset DataCountDiffer) o)))
 
 -- one whose count was refused
-pub items_refused : (past : Past) (id size : ℕ) (p : Place) (w : Window) (q : Place) (e : Error) (a : Place) → content_at size p ≡ Ok (w, q) → unsigned_at VarU32 (place w) ≡ Err (fault_at e)
-    → StandsThere (whole_grammar past items id p.offset size) p (Err e) a
+pub items_refused : (context : SectionContext) (id size : ℕ) (p : Place) (w : Window) (q : Place) (e : Error) (a : Place) → content_at size p ≡ Ok (w, q) → unsigned_at VarU32 (place w) ≡ Err (fault_at e)
+    → ReadsByGrammar (whole_grammar context items id p.offset size) p (Err e) a
 unfolding unsigned_at wrong_content
-items_refused past id size p w q e a h n =
+items_refused context id size p w q e a h n =
     let k : HasContent size p w q = has_content size p w q h in
     let at : place w ≡ content_place size p = at_content size p w k.window in
-    whole_bad past items id size p w q e a h (number_refused (content_place size p) (fault_at e) (number VarU32 (take size p.rest)) (subst (λ (x : Place). in_window x (number VarU32 x.rest) ≡ Err (fault_at e)) at n))
+    whole_bad context items id size p w q e a h (number_refused (content_place size p) (fault_at e) (number VarU32 (take size p.rest)) (subst (λ (x : Place). in_window x (number VarU32 x.rest) ≡ Err (fault_at e)) at n))
 
 -- the same for content that is one number
-pub start_read : (past : Past) (id size : ℕ) (p : Place) (w : Window) (q : Place) (v : ℕ) (payload : Payload) → content_at size p ≡ Ok (w, q) → ReadsSingle StartContent (place w) (Ok v)
-    → IsPayload (start_section v w.start (w.start + length w.bytes)) payload → StandsThere (whole_grammar past index id p.offset size) p (Ok payload) q
+pub start_read : (context : SectionContext) (id size : ℕ) (p : Place) (w : Window) (q : Place) (v : ℕ) (payload : Payload) → content_at size p ≡ Ok (w, q) → ReadsSingleNumber StartContent (place w) (Ok v)
+    → IsPayload (start_section v w.start (w.start + length w.bytes)) payload → ReadsByGrammar (whole_grammar context index id p.offset size) p (Ok payload) q
 unfolding wrong_content
-start_read past id size p w q v payload h n told =
+start_read context id size p w q v payload h n report =
     let k : HasContent size p w q = has_content size p w q h in
     let l : length (take size p.rest) ≡ size = length-take-le size p.rest k.there in
-    let g : ReadsSingle StartContent (content_place size p) (Ok v) = subst (λ (x : Place). ReadsSingle StartContent x (Ok v)) (at_content size p w k.window) n in
-    let at_w : IsPayload (start_section v p.offset (p.offset + length (take size p.rest))) payload = subst (λ (x : Window). IsPayload (start_section v x.start (x.start + length x.bytes)) payload) k.window told in
-    whole_good past index id size p w q payload h g.0 refl (at_w.0 ∙ (λ i. start_section (sym g.1 i) p.offset (p.offset + l i)), at_w.1)
+    let g : ReadsSingleNumber StartContent (content_place size p) (Ok v) = subst (λ (x : Place). ReadsSingleNumber StartContent x (Ok v)) (at_content size p w k.window) n in
+    let at_w : IsPayload (start_section v p.offset (p.offset + length (take size p.rest))) payload = subst (λ (x : Window). IsPayload (start_section v x.start (x.start + length x.bytes)) payload) k.window report in
+    whole_good context index id size p w q payload h g.0 refl (at_w.0 ∙ (λ i. start_section (sym g.1 i) p.offset (p.offset + l i)), at_w.1)
 
-pub start_refused : (past : Past) (id size : ℕ) (p : Place) (w : Window) (q : Place) (e : Error) (a : Place) → content_at size p ≡ Ok (w, q) → ReadsSingle StartContent (place w) (Err e)
-    → StandsThere (whole_grammar past index id p.offset size) p (Err e) a
+pub start_refused : (context : SectionContext) (id size : ℕ) (p : Place) (w : Window) (q : Place) (e : Error) (a : Place) → content_at size p ≡ Ok (w, q) → ReadsSingleNumber StartContent (place w) (Err e)
+    → ReadsByGrammar (whole_grammar context index id p.offset size) p (Err e) a
 unfolding wrong_content
-start_refused past id size p w q e a h n =
+start_refused context id size p w q e a h n =
     let k : HasContent size p w q = has_content size p w q h in
-    whole_bad past index id size p w q e a h (subst (λ (x : Place). ReadsSingle StartContent x (Err e)) (at_content size p w k.window) n)
+    whole_bad context index id size p w q e a h (subst (λ (x : Place). ReadsSingleNumber StartContent x (Err e)) (at_content size p w k.window) n)
 
-pub data_count_read : (past : Past) (id size : ℕ) (p : Place) (w : Window) (q : Place) (v : ℕ) (payload : Payload) → content_at size p ≡ Ok (w, q) → ReadsSingle DataCountContent (place w) (Ok v)
-    → IsPayload (data_count_section v w.start (w.start + length w.bytes)) payload → StandsThere (whole_grammar past data_count id p.offset size) p (Ok payload) q
+pub data_count_read : (context : SectionContext) (id size : ℕ) (p : Place) (w : Window) (q : Place) (v : ℕ) (payload : Payload) → content_at size p ≡ Ok (w, q) → ReadsSingleNumber DataCountContent (place w) (Ok v)
+    → IsPayload (data_count_section v w.start (w.start + length w.bytes)) payload → ReadsByGrammar (whole_grammar context data_count id p.offset size) p (Ok payload) q
 unfolding wrong_content
-data_count_read past id size p w q v payload h n told =
+data_count_read context id size p w q v payload h n report =
     let k : HasContent size p w q = has_content size p w q h in
     let l : length (take size p.rest) ≡ size = length-take-le size p.rest k.there in
-    let g : ReadsSingle DataCountContent (content_place size p) (Ok v) = subst (λ (x : Place). ReadsSingle DataCountContent x (Ok v)) (at_content size p w k.window) n in
-    let at_w : IsPayload (data_count_section v p.offset (p.offset + length (take size p.rest))) payload = subst (λ (x : Window). IsPayload (data_count_section v x.start (x.start + length x.bytes)) payload) k.window told in
-    whole_good past data_count id size p w q payload h g.0 refl (at_w.0 ∙ (λ i. data_count_section (sym g.1 i) p.offset (p.offset + l i)), at_w.1)
+    let g : ReadsSingleNumber DataCountContent (content_place size p) (Ok v) = subst (λ (x : Place). ReadsSingleNumber DataCountContent x (Ok v)) (at_content size p w k.window) n in
+    let at_w : IsPayload (data_count_section v p.offset (p.offset + length (take size p.rest))) payload = subst (λ (x : Window). IsPayload (data_count_section v x.start (x.start + length x.bytes)) payload) k.window report in
+    whole_good context data_count id size p w q payload h g.0 refl (at_w.0 ∙ (λ i. data_count_section (sym g.1 i) p.offset (p.offset + l i)), at_w.1)
 
-pub data_count_refused : (past : Past) (id size : ℕ) (p : Place) (w : Window) (q : Place) (e : Error) (a : Place) → content_at size p ≡ Ok (w, q) → ReadsSingle DataCountContent (place w) (Err e)
-    → StandsThere (whole_grammar past data_count id p.offset size) p (Err e) a
+pub data_count_refused : (context : SectionContext) (id size : ℕ) (p : Place) (w : Window) (q : Place) (e : Error) (a : Place) → content_at size p ≡ Ok (w, q) → ReadsSingleNumber DataCountContent (place w) (Err e)
+    → ReadsByGrammar (whole_grammar context data_count id p.offset size) p (Err e) a
 unfolding wrong_content
-data_count_refused past id size p w q e a h n =
+data_count_refused context id size p w q e a h n =
     let k : HasContent size p w q = has_content size p w q h in
-    whole_bad past data_count id size p w q e a h (subst (λ (x : Place). ReadsSingle DataCountContent x (Err e)) (at_content size p w k.window) n)
+    whole_bad context data_count id size p w q e a h (subst (λ (x : Place). ReadsSingleNumber DataCountContent x (Err e)) (at_content size p w k.window) n)

@@ -3,22 +3,22 @@ use Rattle.std.proofs.Common.{◌≡◌, ℕ, ◌+◌, ◌<◌, List, [], ◌∷
 use Rattle.std.proofs.lemmas.List.{append_cancel_left, take_at}
 use Rattle.std.specs.Prelude.{◌⊎◌}
 use Rattle.wasm_base.specs.declared.error.Error.{Error}
-use Rattle.wasm_parser.specs.Answers.{IsPayload, Answers, Parses}
+use Rattle.wasm_parser.specs.ParseAnswer.{IsPayload, Answers, ParseAnswer}
 use Rattle.wasm_parser.specs.Content.{Ending, fault, ended}
 use Rattle.wasm_parser.specs.Grammar.{Tile, Verdict, tile, final, Grammar, verdict}
-use Rattle.wasm_parser.specs.Reading.{Event, stopped, told_of, event_of, events_of, last_event, Reads, Reading}
-use Rattle.wasm_parser.specs.Spans.{consumed_by}
-use Rattle.wasm_parser.specs.Stands.{Stand, Stands, grammar_of}
+use Rattle.wasm_parser.specs.Reading.{Event, stopped, tile_report, event_of, events_of, last_event, Reads, Reading}
+use Rattle.wasm_parser.specs.EventRanges.{consumed_by}
+use Rattle.wasm_parser.specs.ParserState.{ParserState, IsStateAfter, grammar_of}
 use Rattle.wasm_parser.specs.Laws.{SomeNextEvent}
 use Rattle.wasm_parser.specs.NextEvent.{NextEvent}
-use Rattle.wasm_parser.specs.TellsNext.{Tells, TellsNext}
-use Rattle.wasm_parser.specs.Tiling.{front, grammar, Faultless}
+use Rattle.wasm_parser.specs.GivesNextEvent.{GivesEvent, GivesNextEvent}
+use Rattle.wasm_parser.specs.Tiling.{bytes_of, grammar, Faultless}
 use Rattle.wasm_parser.specs.declared.payload.Chunk.{Chunk}
 use Rattle.wasm_parser.specs.declared.payload.Chunk.TheVariants.{NeedMoreData, Parsed}
 use Rattle.wasm_parser.proofs.Ends.{tiles_consume}
 use Rattle.wasm_parser.proofs.Longest.{longest}
 use Rattle.wasm_parser.proofs.ReadingLaws.{Grown, grows, reads_same}
-use Rattle.wasm_parser.proofs.StandsLaws.{grammar_same, stands_on}
+use Rattle.wasm_parser.proofs.StateLaws.{grammar_same, state_goes_on}
 use Rattle.wasm_parser.proofs.TileLaws.{tile_least}
 
 -- ---- events by what they consumed
@@ -34,33 +34,33 @@ each_more (x ∷ xs) e h l = (h.0, each_more xs e h.1 l)
 
 pub tiles_each : (start features : ℕ) (ts : List Tile) → Faultless start ts → EachConsumes (events_of start features ts)
 tiles_each start features [] f = tt
-tiles_each start features (t ∷ ts) f = each_more (events_of start features ts) (event_of features (start + length (front ts)) t) (tiles_each start features ts f.0) (tile_least start ts t.bytes t f.1)
+tiles_each start features (t ∷ ts) f = each_more (events_of start features ts) (event_of features (start + length (bytes_of ts)) t) (tiles_each start features ts f.0) (tile_least start ts t.bytes t f.1)
 
 same_head : (x y : Event) (xs ys : List Event) → x ∷ xs ≡ y ∷ ys → (x ≡ y) × (xs ≡ ys)
 same_head x y xs ys e = (cc, cc)
 
--- Two events of one list, behind events that consumed the same bytes, are one; the second consumed some itself, or is
+-- Two events of one list, after events that consumed the same bytes, are one; the second consumed some itself, or is
 -- the last.
-same_place : (xs before : List Event) (x e : Event) (behind later : List Event) → EachConsumes xs → (0 < length x.consumed) ⊎ (behind ≡ []) → before ++ e ∷ later ≡ xs ++ x ∷ behind → consumed_by before ≡ consumed_by xs → e ≡ x
-same_place [] [] x e behind later h l w c = (same_head e x later behind w).0
-same_place [] (b ∷ before) x e behind later h (inl l) w c =
-    let s = same_head b x (before ++ e ∷ later) behind w in
+same_place : (xs before : List Event) (x e : Event) (after later : List Event) → EachConsumes xs → (0 < length x.consumed) ⊎ (after ≡ []) → before ++ e ∷ later ≡ xs ++ x ∷ after → consumed_by before ≡ consumed_by xs → e ≡ x
+same_place [] [] x e after later h l w c = (same_head e x later after w).0
+same_place [] (b ∷ before) x e after later h (inl l) w c =
+    let s = same_head b x (before ++ e ∷ later) after w in
     let n : length (b.consumed ++ consumed_by before) ≡ 0 = ap (λ (y : List ℕ). length y) c in
     let z : length b.consumed ≡ length x.consumed = ap (λ (y : Event). length y.consumed) s.0 in
     absurd (omega (arith, length-append b.consumed (consumed_by before)))
-same_place [] (b ∷ before) x e behind later h (inr l) w c =
-    let s = same_head b x (before ++ e ∷ later) behind w in
+same_place [] (b ∷ before) x e after later h (inr l) w c =
+    let s = same_head b x (before ++ e ∷ later) after w in
     let n : length (before ++ e ∷ later) ≡ 0 = ap (λ (y : List Event). length y) (s.1 ∙ l) in
     absurd (omega (arith, length-append before (e ∷ later)))
-same_place (y ∷ xs) [] x e behind later h l w c =
+same_place (y ∷ xs) [] x e after later h l w c =
     let n : 0 ≡ length (y.consumed ++ consumed_by xs) = ap (λ (z : List ℕ). length z) c in
     let some : 0 < length y.consumed = h.0 in
     absurd (omega (arith, length-append y.consumed (consumed_by xs)))
-same_place (y ∷ xs) (b ∷ before) x e behind later h l w c =
-    let s = same_head b y (before ++ e ∷ later) (xs ++ x ∷ behind) w in
+same_place (y ∷ xs) (b ∷ before) x e after later h l w c =
+    let s = same_head b y (before ++ e ∷ later) (xs ++ x ∷ after) w in
     let z : b.consumed ≡ y.consumed = ap (λ (v : Event). v.consumed) s.0 in
     let d : consumed_by before ≡ consumed_by xs = append_cancel_left y.consumed (consumed_by before) (consumed_by xs) (ap (λ (v : List ℕ). v ++ consumed_by before) (sym z) ∙ c) in
-    same_place xs before x e behind later h.1 l s.1 d
+    same_place xs before x e after later h.1 l s.1 d
 
 -- ---- the events of longer tilings
 
@@ -72,92 +72,92 @@ events_later : (start features : ℕ) (later ts : List Tile) → MoreEvents (eve
 events_later start features [] ts = record { more = []; parts = sym (append-nil (events_of start features ts)) }
 events_later start features (t ∷ later) ts =
     let m : MoreEvents (events_of start features ts) (events_of start features (later ++ ts)) = events_later start features later ts in
-    let e : Event = event_of features (start + length (front (later ++ ts))) t in
-    record { more = m.more ++ event_of features (start + length (front (later ++ ts))) t ∷ []; parts = ap (λ (x : List Event). x ++ event_of features (start + length (front (later ++ ts))) t ∷ []) m.parts ∙ append_assoc (events_of start features ts) m.more (event_of features (start + length (front (later ++ ts))) t ∷ []) }
+    let e : Event = event_of features (start + length (bytes_of (later ++ ts))) t in
+    record { more = m.more ++ event_of features (start + length (bytes_of (later ++ ts))) t ∷ []; parts = ap (λ (x : List Event). x ++ event_of features (start + length (bytes_of (later ++ ts))) t ∷ []) m.parts ∙ append_assoc (events_of start features ts) m.more (event_of features (start + length (bytes_of (later ++ ts))) t ∷ []) }
 
 -- ---- the next event
 
--- what a front of a stream is, by a parser that stands there
-record Fronted (p : Stand) (start : ℕ) (covered rest : List ℕ) : Type 0 where
-  s : Stands p start covered
-  offset : p.offset ≡ start + length (front s.tiles)
-  whole : covered ++ rest ≡ front s.tiles ++ rest
-  consumes : consumed_by (events_of start p.features s.tiles) ≡ covered
+-- what a first of a stream is, by a parser that is there
+record AtPrefix (p : ParserState) (start : ℕ) (prefix rest : List ℕ) : Type 0 where
+  s : IsStateAfter p start prefix
+  offset : p.offset ≡ start + length (bytes_of s.tiles)
+  whole : prefix ++ rest ≡ bytes_of s.tiles ++ rest
+  consumes : consumed_by (events_of start p.features s.tiles) ≡ prefix
 
-fronted : (p : Stand) (start : ℕ) (covered rest : List ℕ) → Stands p start covered → Fronted p start covered rest
-fronted p start covered rest s = record {
+at_prefix : (p : ParserState) (start : ℕ) (prefix rest : List ℕ) → IsStateAfter p start prefix → AtPrefix p start prefix rest
+at_prefix p start prefix rest s = record {
   s = s;
   offset = s.offset ∙ ap (λ (x : List ℕ). start + length x) (sym s.covers);
   whole = ap (λ (x : List ℕ). x ++ rest) (sym s.covers);
   consumes = tiles_consume start p.features s.tiles ∙ s.covers;
 }
 
--- the event of the tile that stands next
-next_tile : (p : Stand) (start : ℕ) (covered rest : List ℕ) (f : Fronted p start covered rest) (t : Tile) → verdict (grammar_of p) rest ≡ tile t → (before later : List Event) (e : Event) → Reading (covered ++ rest) start p.features (before ++ e ∷ later) → consumed_by before ≡ covered
-    → e ≡ event_of p.features (start + length (front f.s.tiles)) t
-next_tile p start covered rest f t v before later e r c =
+-- the event of the tile that comes next
+next_tile : (p : ParserState) (start : ℕ) (prefix rest : List ℕ) (f : AtPrefix p start prefix rest) (t : Tile) → verdict (grammar_of p) rest ≡ tile t → (before later : List Event) (e : Event) → Reading (prefix ++ rest) start p.features (before ++ e ∷ later) → consumed_by before ≡ prefix
+    → e ≡ event_of p.features (start + length (bytes_of f.s.tiles)) t
+next_tile p start prefix rest f t v before later e r c =
     let ts : List Tile = f.s.tiles in
-    let v' : verdict (grammar start f.s.tiles) rest ≡ tile t = subst (λ (g : Grammar). verdict g rest ≡ tile t) (grammar_same p start covered f.s) v in
+    let v' : verdict (grammar start f.s.tiles) rest ≡ tile t = subst (λ (g : Grammar). verdict g rest ≡ tile t) (grammar_same p start prefix f.s) v in
     let g : Grown start f.s.tiles rest t = grows start f.s.tiles rest t f.s.faultless v' in
-    let w : covered ++ rest ≡ front (t ∷ f.s.tiles) ++ g.rest = f.whole ∙ (ap (λ (x : List ℕ). front f.s.tiles ++ x) g.split ∙ sym (append_assoc (front f.s.tiles) t.bytes g.rest)) in
-    let l = longest (covered ++ rest) start r.tiles (t ∷ f.s.tiles) r.end g.rest r.reads g.faultless w in
+    let w : prefix ++ rest ≡ bytes_of (t ∷ f.s.tiles) ++ g.rest = f.whole ∙ (ap (λ (x : List ℕ). bytes_of f.s.tiles ++ x) g.split ∙ sym (append_assoc (bytes_of f.s.tiles) t.bytes g.rest)) in
+    let l = longest (prefix ++ rest) start r.tiles (t ∷ f.s.tiles) r.end g.rest r.reads g.faultless w in
     let m : MoreEvents (events_of start p.features (t ∷ f.s.tiles)) (events_of start p.features (l.0 ++ t ∷ f.s.tiles)) = events_later start p.features l.0 (t ∷ f.s.tiles) in
-    let x : Event = event_of p.features (start + length (front f.s.tiles)) t in
-    let all : before ++ e ∷ later ≡ events_of start p.features f.s.tiles ++ event_of p.features (start + length (front f.s.tiles)) t ∷ (m.more ++ last_event r.end ∷ []) =
+    let x : Event = event_of p.features (start + length (bytes_of f.s.tiles)) t in
+    let all : before ++ e ∷ later ≡ events_of start p.features f.s.tiles ++ event_of p.features (start + length (bytes_of f.s.tiles)) t ∷ (m.more ++ last_event r.end ∷ []) =
     r.listed ∙ (ap (λ (y : List Tile). events_of start p.features y ++ last_event r.end ∷ []) l.1 ∙ (ap (λ (y : List Event). y ++ last_event r.end ∷ []) m.parts
-    ∙ (append_assoc (events_of start p.features (t ∷ f.s.tiles)) m.more (last_event r.end ∷ []) ∙ append_assoc (events_of start p.features f.s.tiles) (event_of p.features (start + length (front f.s.tiles)) t ∷ []) (m.more ++ last_event r.end ∷ [])))) in
-    same_place (events_of start p.features f.s.tiles) before (event_of p.features (start + length (front f.s.tiles)) t) e (m.more ++ last_event r.end ∷ []) later (tiles_each start p.features f.s.tiles f.s.faultless) (inl g.some) all (c ∙ sym f.consumes)
+    ∙ (append_assoc (events_of start p.features (t ∷ f.s.tiles)) m.more (last_event r.end ∷ []) ∙ append_assoc (events_of start p.features f.s.tiles) (event_of p.features (start + length (bytes_of f.s.tiles)) t ∷ []) (m.more ++ last_event r.end ∷ [])))) in
+    same_place (events_of start p.features f.s.tiles) before (event_of p.features (start + length (bytes_of f.s.tiles)) t) e (m.more ++ last_event r.end ∷ []) later (tiles_each start p.features f.s.tiles f.s.faultless) (inl g.some) all (c ∙ sym f.consumes)
 
 -- the last event
-next_last : (p : Stand) (start : ℕ) (covered rest : List ℕ) (f : Fronted p start covered rest) (end : Ending) → verdict (grammar_of p) rest ≡ final end → (before later : List Event) (e : Event) → Reading (covered ++ rest) start p.features (before ++ e ∷ later) → consumed_by before ≡ covered
+next_last : (p : ParserState) (start : ℕ) (prefix rest : List ℕ) (f : AtPrefix p start prefix rest) (end : Ending) → verdict (grammar_of p) rest ≡ final end → (before later : List Event) (e : Event) → Reading (prefix ++ rest) start p.features (before ++ e ∷ later) → consumed_by before ≡ prefix
     → e ≡ last_event end
-next_last p start covered rest f end v before later e r c =
-    let v' : verdict (grammar start f.s.tiles) rest ≡ final end = subst (λ (g : Grammar). verdict g rest ≡ final end) (grammar_same p start covered f.s) v in
-    let here : Reads (covered ++ rest) start f.s.tiles end = record { rest = rest; whole = f.whole; faultless = f.s.faultless; stops = v' } in
-    let z = reads_same (covered ++ rest) start r.tiles f.s.tiles r.end end r.reads here in
+next_last p start prefix rest f end v before later e r c =
+    let v' : verdict (grammar start f.s.tiles) rest ≡ final end = subst (λ (g : Grammar). verdict g rest ≡ final end) (grammar_same p start prefix f.s) v in
+    let here : Reads (prefix ++ rest) start f.s.tiles end = record { rest = rest; whole = f.whole; faultless = f.s.faultless; stops = v' } in
+    let z = reads_same (prefix ++ rest) start r.tiles f.s.tiles r.end end r.reads here in
     let all : before ++ e ∷ later ≡ events_of start p.features f.s.tiles ++ last_event end ∷ [] = r.listed ∙ (λ i. events_of start p.features (z.0 i) ++ last_event (z.1 i) ∷ []) in
     same_place (events_of start p.features f.s.tiles) before (last_event end) e [] later (tiles_each start p.features f.s.tiles f.s.faultless) (inr refl) all (c ∙ sym f.consumes)
 
--- what was answered tells it
-tells_tile : (p new : Stand) (start : ℕ) (covered rest : List ℕ) (f : Fronted p start covered rest) (t : Tile) → verdict (grammar_of p) rest ≡ tile t → (r : Result Chunk Error) → Answers p (tile t) r new → Tells (event_of p.features (start + length (front f.s.tiles)) t) p start covered rest r new
-tells_tile p new start covered rest f t v (Ok (NeedMoreData hint)) a = absurd a
-tells_tile p new start covered rest f t v (Ok (Parsed consumed payload)) a =
-    let v' : verdict (grammar start f.s.tiles) rest ≡ tile t = subst (λ (g : Grammar). verdict g rest ≡ tile t) (grammar_same p start covered f.s) v in
+-- what was answered says it
+gives_tile : (p new : ParserState) (start : ℕ) (prefix rest : List ℕ) (f : AtPrefix p start prefix rest) (t : Tile) → verdict (grammar_of p) rest ≡ tile t → (r : Result Chunk Error) → Answers p (tile t) r new → GivesEvent (event_of p.features (start + length (bytes_of f.s.tiles)) t) p start prefix rest r new
+gives_tile p new start prefix rest f t v (Ok (NeedMoreData hint)) a = absurd a
+gives_tile p new start prefix rest f t v (Ok (Parsed consumed payload)) a =
+    let v' : verdict (grammar start f.s.tiles) rest ≡ tile t = subst (λ (g : Grammar). verdict g rest ≡ tile t) (grammar_same p start prefix f.s) v in
     let g : Grown start f.s.tiles rest t = grows start f.s.tiles rest t f.s.faultless v' in (
-      subst (λ (o : ℕ). IsPayload (told_of p.features o (o + length t.bytes) t.shape) payload) f.offset a.1,
+      subst (λ (o : ℕ). IsPayload (tile_report p.features o (o + length t.bytes) t.shape) payload) f.offset a.1,
       a.0,
       subst₂ (λ (n : ℕ) (x : List ℕ). take n x ≡ t.bytes) (sym a.0) (sym g.split) (take_at t.bytes g.rest (length t.bytes) refl),
-      subst (λ (q : Stand). Stands q start (covered ++ t.bytes)) (sym a.2) (stands_on p start covered f.s rest t v),
-      ap (λ (q : Stand). q.features) a.2,
+      subst (λ (q : ParserState). IsStateAfter q start (prefix ++ t.bytes)) (sym a.2) (state_goes_on p start prefix f.s rest t v),
+      ap (λ (q : ParserState). q.features) a.2,
     )
-tells_tile p new start covered rest f t v (Err e) a = absurd a
+gives_tile p new start prefix rest f t v (Err e) a = absurd a
 
-tells_last : (p new : Stand) (start : ℕ) (covered rest : List ℕ) → Stands p start covered → (end : Ending) (r : Result Chunk Error) → Answers p (final end) r new → Tells (last_event end) p start covered rest r new
-tells_last p new start covered rest s (fault f) (Ok (NeedMoreData hint)) a = absurd a
-tells_last p new start covered rest s (ended o) (Ok (NeedMoreData hint)) a = absurd a
-tells_last p new start covered rest s (fault f) (Ok (Parsed consumed payload)) a = absurd a
-tells_last p new start covered rest s (ended o) (Ok (Parsed consumed payload)) a = (
+gives_last : (p new : ParserState) (start : ℕ) (prefix rest : List ℕ) → IsStateAfter p start prefix → (end : Ending) (r : Result Chunk Error) → Answers p (final end) r new → GivesEvent (last_event end) p start prefix rest r new
+gives_last p new start prefix rest s (fault f) (Ok (NeedMoreData hint)) a = absurd a
+gives_last p new start prefix rest s (ended o) (Ok (NeedMoreData hint)) a = absurd a
+gives_last p new start prefix rest s (fault f) (Ok (Parsed consumed payload)) a = absurd a
+gives_last p new start prefix rest s (ended o) (Ok (Parsed consumed payload)) a = (
   a.1,
   a.0,
   subst (λ (n : ℕ). take n rest ≡ []) (sym a.0) refl,
-  subst₂ (λ (q : Stand) (x : List ℕ). Stands q start x) (sym a.2) (sym (append-nil covered)) s,
-  ap (λ (q : Stand). q.features) a.2,
+  subst₂ (λ (q : ParserState) (x : List ℕ). IsStateAfter q start x) (sym a.2) (sym (append-nil prefix)) s,
+  ap (λ (q : ParserState). q.features) a.2,
 )
-tells_last p new start covered rest s (fault f) (Err e) a = (ap stopped (sym a.0), refl, a.1)
-tells_last p new start covered rest s (ended o) (Err e) a = absurd a
+gives_last p new start prefix rest s (fault f) (Err e) a = (ap stopped (sym a.0), refl, a.1)
+gives_last p new start prefix rest s (ended o) (Err e) a = absurd a
 
-tells_at : (p new : Stand) (start : ℕ) (covered rest : List ℕ) (f : Fronted p start covered rest) (r : Result Chunk Error) (v : Verdict) → verdict (grammar_of p) rest ≡ v → Answers p v r new
-    → (before later : List Event) (e : Event) → Reading (covered ++ rest) start p.features (before ++ e ∷ later) → consumed_by before ≡ covered → Tells e p start covered rest r new
-tells_at p new start covered rest f r (tile t) q a before later e reading c =
-    subst (λ (x : Event). Tells x p start covered rest r new) (sym (next_tile p start covered rest f t q before later e reading c)) (tells_tile p new start covered rest f t q r a)
-tells_at p new start covered rest f r (final end) q a before later e reading c =
-    subst (λ (x : Event). Tells x p start covered rest r new) (sym (next_last p start covered rest f end q before later e reading c)) (tells_last p new start covered rest f.s end r a)
+gives_at : (p new : ParserState) (start : ℕ) (prefix rest : List ℕ) (f : AtPrefix p start prefix rest) (r : Result Chunk Error) (v : Verdict) → verdict (grammar_of p) rest ≡ v → Answers p v r new
+    → (before later : List Event) (e : Event) → Reading (prefix ++ rest) start p.features (before ++ e ∷ later) → consumed_by before ≡ prefix → GivesEvent e p start prefix rest r new
+gives_at p new start prefix rest f r (tile t) q a before later e reading c =
+    subst (λ (x : Event). GivesEvent x p start prefix rest r new) (sym (next_tile p start prefix rest f t q before later e reading c)) (gives_tile p new start prefix rest f t q r a)
+gives_at p new start prefix rest f r (final end) q a before later e reading c =
+    subst (λ (x : Event). GivesEvent x p start prefix rest r new) (sym (next_last p start prefix rest f end q before later e reading c)) (gives_last p new start prefix rest f.s end r a)
 
-pub tells_next : (p new : Stand) (rest : List ℕ) (r : Result Chunk Error) → Parses p rest r new → TellsNext p rest r new
-tells_next p new rest r h start prefix s l events reading next =
+pub gives_next : (p new : ParserState) (rest : List ℕ) (r : Result Chunk Error) → ParseAnswer p rest r new → GivesNextEvent p rest r new
+gives_next p new rest r h start prefix s l events reading next =
     let o : p.offset ≡ start + length prefix = s.offset in
     let read : Reading (prefix ++ rest) start p.features (next.before ++ next.event ∷ next.later) = subst (Reading (prefix ++ rest) start p.features) next.whole reading in
-    tells_at p new start prefix rest (fronted p start prefix rest s) r (verdict (grammar_of p) rest) refl (h.within (omega arith)) next.before next.later next.event read next.consumed
+    gives_at p new start prefix rest (at_prefix p start prefix rest s) r (verdict (grammar_of p) rest) refl (h.within (omega arith)) next.before next.later next.event read next.consumed
 
 -- ---- there is a next event
 

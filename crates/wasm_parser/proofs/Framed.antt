@@ -1,4 +1,4 @@
--- What stands at the start of a section, and what is read there.
+-- What is at the start of a section, and what is read there.
 use Rattle.std.proofs.Common.{◌≡◌, ℕ, ◌+◌, ◌-◌, ◌^◌, ◌<◌, ◌≤◌, Bool, true, false, cond, not, ◌&&◌, List, [], ◌∷◌, ◌++◌, length, take, drop, Some, None, Result, Ok, Err, nat_le, nat_lt, refl, sym, ap, subst, subst₂, ◌∙◌, arith, le-leb, add-zero, ltb-true, ltb-false, lt-ltb, le-ltb}
 use Rattle.std.proofs.lemmas.Bool.{lt-leb}
 use Rattle.std.proofs.lemmas.List.{length-take-le, take-append-drop}
@@ -11,86 +11,86 @@ use Rattle.wasm_base.specs.Window.{Window, Place, place, advanced, KeepsWindow}
 use Rattle.wasm_base.specs.declared.error.Error.{Error}
 use Rattle.wasm_base.specs.declared.fault.Fault.TheVariants.{UnexpectedEof, MagicAtSection, MalformedSectionId, SectionTooLarge, OutOfOrder}
 use Rattle.wasm_base.specs.declared.fault.NumberKind.TheVariants.{VarU32}
-use Rattle.wasm_parser.specs.Answers.{IsPayload, IsTold, StandsThere}
+use Rattle.wasm_parser.specs.ParseAnswer.{IsPayload, MatchesVerdict, ReadsByGrammar}
 use Rattle.wasm_parser.specs.Content.{Kind, custom, unknown, kind_of, rank_of, when, wrong_content, wrong_name}
 use Rattle.wasm_parser.specs.ContentAt.{content_at}
 use Rattle.wasm_custom.specs.Custom.{Custom, IsCustom}
-use Rattle.wasm_parser.specs.Grammar.{section, Past, Grammar, refuse, number, verdict, whole_grammar, wrong_data, content_grammar, sized, framed, section_grammar}
-use Rattle.wasm_parser.specs.Reading.{told_section, told_custom, window_over, custom_section, unknown_section}
+use Rattle.wasm_parser.specs.Grammar.{section, SectionContext, Grammar, check, number, verdict, whole_grammar, wrong_data, content_grammar, after_length, after_id, section_grammar}
+use Rattle.wasm_parser.specs.Reading.{section_report, custom_report, window_over, custom_section, unknown_section}
 use Rattle.wasm_parser.specs.declared.payload.Payload.{Payload}
 use Rattle.wasm_parser.specs.declared.payload.Payload.TheVariants.{CustomSection}
 use Rattle.wasm_parser.proofs.GrammarLaws.{agree_same}
-use Rattle.wasm_parser.proofs.Telling.{told_at, told_bytes, told_missing, told_number, told_no_number, told_wrong, told_right, told_whole, ReadNumber, read_number}
+use Rattle.wasm_parser.proofs.ReadingFields.{report_at, report_bytes, report_missing, report_number, report_no_number, report_wrong, report_right, report_whole, ReadNumber, read_number}
 
--- behind an id of 128 or more
-pub framed_bad : (past : Past) (start id : ℕ) (p : Place) (e : Error) (a : Place) → 128 ≤ id → fault_at e ≡ at_offset MalformedSectionId start → StandsThere (framed past start id) p (Err e) a
-framed_bad past start id p e a h f =
+-- after an id of 128 or more
+pub framed_bad : (context : SectionContext) (start id : ℕ) (p : Place) (e : Error) (a : Place) → 128 ≤ id → fault_at e ≡ at_offset MalformedSectionId start → ReadsByGrammar (after_id context start id) p (Err e) a
+framed_bad context start id p e a h f =
     let t : nat_le 128 id ≡ true = le-leb 128 id h in
     let w : when (nat_le 128 id) (at_offset MalformedSectionId start) ≡ Some (fault_at e) = rw t (ap Some (sym f)) in
-    λ s. told_wrong s p (when (nat_le 128 id) (at_offset MalformedSectionId start)) _ e a w
+    λ s. report_wrong s p (when (nat_le 128 id) (at_offset MalformedSectionId start)) _ e a w
 
 good_id : (start id : ℕ) → id < 128 → when (nat_le 128 id) (at_offset MalformedSectionId start) ≡ None
 good_id start id h = rw (lt-leb 128 id h) refl
 
--- behind a good id, where no length is read
-pub framed_no_size : (past : Past) (start id : ℕ) (p : Place) (e : Error) (a : Place) → id < 128 → start + 1 ≡ p.offset → unsigned_at VarU32 p ≡ Err (fault_at e) → StandsThere (framed past start id) p (Err e) a
-framed_no_size past start id p e a h o n =
-    let next : ℕ → ℕ → ℕ → Grammar = λ x size width. sized past (kind_of past.encoding id) id x (x + width) size in
-    let r : (s : ℕ) → IsTold s p (verdict (number (start + 1) (next (start + 1))) p.rest) (Err e) a = λ s. subst (λ (x : ℕ). IsTold s p (verdict (number x (next x)) p.rest) (Err e) a) (sym o) (told_no_number s p (next p.offset) e a n) in
-    λ s. told_right s p (when (nat_le 128 id) (at_offset MalformedSectionId start)) _ (Err e) a (good_id start id h) (r s)
+-- after a good id, where no length is read
+pub framed_no_size : (context : SectionContext) (start id : ℕ) (p : Place) (e : Error) (a : Place) → id < 128 → start + 1 ≡ p.offset → unsigned_at VarU32 p ≡ Err (fault_at e) → ReadsByGrammar (after_id context start id) p (Err e) a
+framed_no_size context start id p e a h o n =
+    let next : ℕ → ℕ → ℕ → Grammar = λ x size width. after_length context (kind_of context.encoding id) id x (x + width) size in
+    let r : (s : ℕ) → MatchesVerdict s p (verdict (number (start + 1) (next (start + 1))) p.rest) (Err e) a = λ s. subst (λ (x : ℕ). MatchesVerdict s p (verdict (number x (next x)) p.rest) (Err e) a) (sym o) (report_no_number s p (next p.offset) e a n) in
+    λ s. report_right s p (when (nat_le 128 id) (at_offset MalformedSectionId start)) _ (Err e) a (good_id start id h) (r s)
 
--- behind a good id and a length
-pub framed_sized : (past : Past) (start id : ℕ) (p q : Place) (v : ℕ) (r : Result Payload Error) (a : Place) → id < 128 → start + 1 ≡ p.offset → unsigned_at VarU32 p ≡ Ok (v, q)
-    → StandsThere (sized past (kind_of past.encoding id) id p.offset q.offset v) q r a → StandsThere (framed past start id) p r a
-framed_sized past start id p q v r a h o n next =
+-- after a good id and a length
+pub framed_sized : (context : SectionContext) (start id : ℕ) (p q : Place) (v : ℕ) (r : Result Payload Error) (a : Place) → id < 128 → start + 1 ≡ p.offset → unsigned_at VarU32 p ≡ Ok (v, q)
+    → ReadsByGrammar (after_length context (kind_of context.encoding id) id p.offset q.offset v) q r a → ReadsByGrammar (after_id context start id) p r a
+framed_sized context start id p q v r a h o n next =
     let m : ReadNumber p v q = read_number p v q n in
-    let at_q : (s : ℕ) → IsTold s (advanced m.used p) (verdict (sized past (kind_of past.encoding id) id p.offset (p.offset + m.used) v) (drop m.used p.rest)) r a =
-    λ s. subst (λ (x : Place). IsTold s x (verdict (sized past (kind_of past.encoding id) id p.offset x.offset v) x.rest) r a) m.behind (next s) in
-    λ s. told_right s p (when (nat_le 128 id) (at_offset MalformedSectionId start)) _ r a (good_id start id h) (
-    subst (λ (y : ℕ). IsTold s p (verdict (number y (λ size width. sized past (kind_of past.encoding id) id y (y + width) size)) p.rest) r a) (sym o)
-    (told_number s p p.offset (λ size width. sized past (kind_of past.encoding id) id p.offset (p.offset + width) size) r a v m.used m.reads (at_q s)))
+    let at_q : (s : ℕ) → MatchesVerdict s (advanced m.used p) (verdict (after_length context (kind_of context.encoding id) id p.offset (p.offset + m.used) v) (drop m.used p.rest)) r a =
+    λ s. subst (λ (x : Place). MatchesVerdict s x (verdict (after_length context (kind_of context.encoding id) id p.offset x.offset v) x.rest) r a) m.after (next s) in
+    λ s. report_right s p (when (nat_le 128 id) (at_offset MalformedSectionId start)) _ r a (good_id start id h) (
+    subst (λ (y : ℕ). MatchesVerdict s p (verdict (number y (λ size width. after_length context (kind_of context.encoding id) id y (y + width) size)) p.rest) r a) (sym o)
+    (report_number s p p.offset (λ size width. after_length context (kind_of context.encoding id) id p.offset (p.offset + width) size) r a v m.used m.reads (at_q s)))
 
 -- a content that would end past the top of the offsets
-pub sized_large : (past : Past) (kind : Kind) (id field size : ℕ) (p : Place) (e : Error) (a : Place) → 2 ^ 64 - 1 < p.offset + size → fault_at e ≡ record { fault = SectionTooLarge; offset = field; number = Some size }
-    → StandsThere (sized past kind id field p.offset size) p (Err e) a
-sized_large past kind id field size p e a h f =
+pub sized_large : (context : SectionContext) (kind : Kind) (id field size : ℕ) (p : Place) (e : Error) (a : Place) → 2 ^ 64 - 1 < p.offset + size → fault_at e ≡ record { fault = SectionTooLarge; offset = field; number = Some size }
+    → ReadsByGrammar (after_length context kind id field p.offset size) p (Err e) a
+sized_large context kind id field size p e a h f =
     let t : nat_lt (2 ^ 64 - 1) (p.offset + size) ≡ true = lt-ltb (2 ^ 64 - 1) (p.offset + size) h in
     let x : FaultAt = record { fault = SectionTooLarge; offset = field; number = Some size } in
     let w : when (nat_lt (2 ^ 64 - 1) (p.offset + size)) x ≡ Some (fault_at e) = rw t (ap Some (sym f)) in
-    λ s. told_wrong s p (when (nat_lt (2 ^ 64 - 1) (p.offset + size)) x) _ e a w
+    λ s. report_wrong s p (when (nat_lt (2 ^ 64 - 1) (p.offset + size)) x) _ e a w
 
--- whether a section of this kind and id may not stand behind others, for its rank
-abbrev pub is_disordered : Past → Kind → ℕ → Bool
-is_disordered past kind id = nat_lt 0 (rank_of kind id) && not (past.may_follow (rank_of kind id))
+-- whether a section of this kind and id may not come after others, for its rank
+abbrev pub is_disordered : SectionContext → Kind → ℕ → Bool
+is_disordered context kind id = nat_lt 0 (rank_of kind id) && not (context.may_follow (rank_of kind id))
 
--- what stands behind a length that fits
-fitting : (past : Past) (kind : Kind) (id field size : ℕ) (p : Place) (r : Result Payload Error) (a : Place) → p.offset + size ≤ 2 ^ 64 - 1
-    → StandsThere (refuse (when (is_disordered past kind id) (at_offset OutOfOrder p.offset)) (content_grammar past kind id p.offset size)) p r a → StandsThere (sized past kind id field p.offset size) p r a
-fitting past kind id field size p r a h next =
+-- what is after a length that fits
+fitting : (context : SectionContext) (kind : Kind) (id field size : ℕ) (p : Place) (r : Result Payload Error) (a : Place) → p.offset + size ≤ 2 ^ 64 - 1
+    → ReadsByGrammar (check (when (is_disordered context kind id) (at_offset OutOfOrder p.offset)) (content_grammar context kind id p.offset size)) p r a → ReadsByGrammar (after_length context kind id field p.offset size) p r a
+fitting context kind id field size p r a h next =
     let x : FaultAt = record { fault = SectionTooLarge; offset = field; number = Some size } in
     let fits : when (nat_lt (2 ^ 64 - 1) (p.offset + size)) x ≡ None = rw (le-ltb (2 ^ 64 - 1) (p.offset + size) h) refl in
-    λ s. told_right s p (when (nat_lt (2 ^ 64 - 1) (p.offset + size)) x) _ r a fits (next s)
+    λ s. report_right s p (when (nat_lt (2 ^ 64 - 1) (p.offset + size)) x) _ r a fits (next s)
 
 -- one that ranks no higher than one before it
-pub sized_disordered : (past : Past) (kind : Kind) (id field size : ℕ) (p : Place) (e : Error) (a : Place) → p.offset + size ≤ 2 ^ 64 - 1 → is_disordered past kind id ≡ true → fault_at e ≡ at_offset OutOfOrder p.offset
-    → StandsThere (sized past kind id field p.offset size) p (Err e) a
-sized_disordered past kind id field size p e a h k f =
+pub sized_disordered : (context : SectionContext) (kind : Kind) (id field size : ℕ) (p : Place) (e : Error) (a : Place) → p.offset + size ≤ 2 ^ 64 - 1 → is_disordered context kind id ≡ true → fault_at e ≡ at_offset OutOfOrder p.offset
+    → ReadsByGrammar (after_length context kind id field p.offset size) p (Err e) a
+sized_disordered context kind id field size p e a h k f =
     let y : FaultAt = at_offset OutOfOrder p.offset in
-    let ranks : when (is_disordered past kind id) y ≡ Some (fault_at e) = rw k (ap Some (sym f)) in
-    fitting past kind id field size p (Err e) a h (λ s. told_wrong s p (when (is_disordered past kind id) y) _ e a ranks)
+    let ranks : when (is_disordered context kind id) y ≡ Some (fault_at e) = rw k (ap Some (sym f)) in
+    fitting context kind id field size p (Err e) a h (λ s. report_wrong s p (when (is_disordered context kind id) y) _ e a ranks)
 
 -- one that is in its place
-pub sized_ordered : (past : Past) (kind : Kind) (id field size : ℕ) (p : Place) (r : Result Payload Error) (a : Place) → p.offset + size ≤ 2 ^ 64 - 1 → is_disordered past kind id ≡ false
-    → StandsThere (content_grammar past kind id p.offset size) p r a → StandsThere (sized past kind id field p.offset size) p r a
-sized_ordered past kind id field size p r a h k next =
+pub sized_ordered : (context : SectionContext) (kind : Kind) (id field size : ℕ) (p : Place) (r : Result Payload Error) (a : Place) → p.offset + size ≤ 2 ^ 64 - 1 → is_disordered context kind id ≡ false
+    → ReadsByGrammar (content_grammar context kind id p.offset size) p r a → ReadsByGrammar (after_length context kind id field p.offset size) p r a
+sized_ordered context kind id field size p r a h k next =
     let y : FaultAt = at_offset OutOfOrder p.offset in
-    let ranks : when (is_disordered past kind id) y ≡ None = rw k refl in
-    fitting past kind id field size p r a h (λ s. told_right s p (when (is_disordered past kind id) y) _ r a ranks (next s))
+    let ranks : when (is_disordered context kind id) y ≡ None = rw k refl in
+    fitting context kind id field size p r a h (λ s. report_right s p (when (is_disordered context kind id) y) _ r a ranks (next s))
 
 -- the same for the kind that was found
-pub sized_as : (past : Past) (found kind : Kind) (id field size : ℕ) (p : Place) (r : Result Payload Error) (a : Place) → found ≡ kind
-    → StandsThere (sized past found id field p.offset size) p r a → StandsThere (sized past kind id field p.offset size) p r a
-sized_as past found kind id field size p r a same next = subst (λ (k : Kind). StandsThere (sized past k id field p.offset size) p r a) same next
+pub sized_as : (context : SectionContext) (found kind : Kind) (id field size : ℕ) (p : Place) (r : Result Payload Error) (a : Place) → found ≡ kind
+    → ReadsByGrammar (after_length context found id field p.offset size) p r a → ReadsByGrammar (after_length context kind id field p.offset size) p r a
+sized_as context found kind id field size p r a same next = subst (λ (k : Kind). ReadsByGrammar (after_length context k id field p.offset size) p r a) same next
 
 content_steps : (b : Bool) (size : ℕ) (p : Place)
     → (let x : Result (List ℕ × Place) FaultAt = cond b (Err (at_offset UnexpectedEof p.offset)) (Ok (take size p.rest, advanced size p)) in x >>= (λ bytes. let y : Result (Window × Place) FaultAt = Ok (window_over p.features p.offset bytes.0, bytes.1) in y))
@@ -112,16 +112,16 @@ unfolding content_at
 too_few size p f h = too_few_at (nat_lt (length p.rest) size) size p f refl (sym (content_steps (nat_lt (length p.rest) size) size p) ∙ h)
 
 -- content that isn't all there
-pub whole_missing : (past : Past) (kind : Kind) (id size : ℕ) (p : Place) (e : Error) (a : Place) → content_at size p ≡ Err (fault_at e) → StandsThere (whole_grammar past kind id p.offset size) p (Err e) a
-whole_missing past kind id size p e a h =
+pub whole_missing : (context : SectionContext) (kind : Kind) (id size : ℕ) (p : Place) (e : Error) (a : Place) → content_at size p ≡ Err (fault_at e) → ReadsByGrammar (whole_grammar context kind id p.offset size) p (Err e) a
+whole_missing context kind id size p e a h =
     let t = too_few size p (fault_at e) h in
-    λ s. told_missing s p size p.offset _ e a t.0 t.1
+    λ s. report_missing s p size p.offset _ e a t.0 t.1
 
 -- content that is
 pub record HasContent (size : ℕ) (p : Place) (w : Window) (q : Place) : Type 0 where
   pub there : size ≤ length p.rest
   pub window : w ≡ window_over p.features p.offset (take size p.rest)
-  pub behind : q ≡ advanced size p
+  pub after : q ≡ advanced size p
 
 content_there : (b : Bool) (size : ℕ) (p : Place) (w : Window) (q : Place) → nat_lt (length p.rest) size ≡ b
     → (let x : Result (Window × Place) FaultAt = cond b (Err (at_offset UnexpectedEof p.offset)) (Ok (window_over p.features p.offset (take size p.rest), advanced size p)) in x) ≡ Ok (w, q)
@@ -129,50 +129,50 @@ content_there : (b : Bool) (size : ℕ) (p : Place) (w : Window) (q : Place) →
 content_there true size p w q t h = cc
 content_there false size p w q t h =
     let z : (window_over p.features p.offset (take size p.rest), advanced size p) ≡ (w, q) = cc in
-    record { there = ltb-false _ _ t; window = sym (ap (λ (x : Window × Place). x.0) z); behind = sym (ap (λ (x : Window × Place). x.1) z) }
+    record { there = ltb-false _ _ t; window = sym (ap (λ (x : Window × Place). x.0) z); after = sym (ap (λ (x : Window × Place). x.1) z) }
 
 pub has_content : (size : ℕ) (p : Place) (w : Window) (q : Place) → content_at size p ≡ Ok (w, q) → HasContent size p w q
 unfolding content_at
 has_content size p w q h = content_there (nat_lt (length p.rest) size) size p w q refl (sym (content_steps (nat_lt (length p.rest) size) size p) ∙ h)
 
--- good content, told by a payload
-pub whole_good : (past : Past) (kind : Kind) (id size : ℕ) (p : Place) (w : Window) (q : Place) (payload : Payload) → content_at size p ≡ Ok (w, q) → wrong_content kind p.offset (take size p.rest) ≡ None
-    → wrong_data past kind id (p.offset + size) (take size p.rest) ≡ None → IsPayload (told_section p.features p.offset (p.offset + size) kind id (take size p.rest)) payload
-    → StandsThere (whole_grammar past kind id p.offset size) p (Ok payload) q
-whole_good past kind id size p w q payload h good counts told =
+-- good content, reported by a payload
+pub whole_good : (context : SectionContext) (kind : Kind) (id size : ℕ) (p : Place) (w : Window) (q : Place) (payload : Payload) → content_at size p ≡ Ok (w, q) → wrong_content kind p.offset (take size p.rest) ≡ None
+    → wrong_data context kind id (p.offset + size) (take size p.rest) ≡ None → IsPayload (section_report p.features p.offset (p.offset + size) kind id (take size p.rest)) payload
+    → ReadsByGrammar (whole_grammar context kind id p.offset size) p (Ok payload) q
+whole_good context kind id size p w q payload h good counts report =
     let c : HasContent size p w q = has_content size p w q h in
     let content : List ℕ = take size p.rest in
     let l : length (take size p.rest) ≡ size = length-take-le size p.rest c.there in
     let from : p.offset + size - length (take size p.rest) ≡ p.offset = omega arith in
-    let said : IsPayload (told_section p.features (p.offset + size - length (take size p.rest)) (p.offset + size) kind id (take size p.rest)) payload = rw from told in
-    λ s. told_bytes s p size p.offset _ (Ok payload) q c.there (
-    told_right s (advanced size p) (wrong_content kind p.offset (take size p.rest)) _ (Ok payload) q good (
-    told_right s (advanced size p) (wrong_data past kind id (p.offset + size) (take size p.rest)) _ (Ok payload) q counts (
-    told_whole s (advanced size p) (section kind id (take size p.rest)) payload q c.behind said)))
+    let said : IsPayload (section_report p.features (p.offset + size - length (take size p.rest)) (p.offset + size) kind id (take size p.rest)) payload = rw from report in
+    λ s. report_bytes s p size p.offset _ (Ok payload) q c.there (
+    report_right s (advanced size p) (wrong_content kind p.offset (take size p.rest)) _ (Ok payload) q good (
+    report_right s (advanced size p) (wrong_data context kind id (p.offset + size) (take size p.rest)) _ (Ok payload) q counts (
+    report_whole s (advanced size p) (section kind id (take size p.rest)) payload q c.after said)))
 
 -- bad content
-pub whole_bad : (past : Past) (kind : Kind) (id size : ℕ) (p : Place) (w : Window) (q : Place) (e : Error) (a : Place) → content_at size p ≡ Ok (w, q) → wrong_content kind p.offset (take size p.rest) ≡ Some (fault_at e)
-    → StandsThere (whole_grammar past kind id p.offset size) p (Err e) a
-whole_bad past kind id size p w q e a h wrong =
+pub whole_bad : (context : SectionContext) (kind : Kind) (id size : ℕ) (p : Place) (w : Window) (q : Place) (e : Error) (a : Place) → content_at size p ≡ Ok (w, q) → wrong_content kind p.offset (take size p.rest) ≡ Some (fault_at e)
+    → ReadsByGrammar (whole_grammar context kind id p.offset size) p (Err e) a
+whole_bad context kind id size p w q e a h wrong =
     let c : HasContent size p w q = has_content size p w q h in
-    λ s. told_bytes s p size p.offset _ (Err e) a c.there (told_wrong s (advanced size p) (wrong_content kind p.offset (take size p.rest)) _ e a wrong)
+    λ s. report_bytes s p size p.offset _ (Err e) a c.there (report_wrong s (advanced size p) (wrong_content kind p.offset (take size p.rest)) _ e a wrong)
 
 -- good content whose count differs from the one that was announced
-pub whole_miscounted : (past : Past) (kind : Kind) (id size : ℕ) (p : Place) (w : Window) (q : Place) (e : Error) (a : Place) → content_at size p ≡ Ok (w, q) → wrong_content kind p.offset (take size p.rest) ≡ None
-    → wrong_data past kind id (p.offset + size) (take size p.rest) ≡ Some (fault_at e) → StandsThere (whole_grammar past kind id p.offset size) p (Err e) a
-whole_miscounted past kind id size p w q e a h good wrong =
+pub whole_miscounted : (context : SectionContext) (kind : Kind) (id size : ℕ) (p : Place) (w : Window) (q : Place) (e : Error) (a : Place) → content_at size p ≡ Ok (w, q) → wrong_content kind p.offset (take size p.rest) ≡ None
+    → wrong_data context kind id (p.offset + size) (take size p.rest) ≡ Some (fault_at e) → ReadsByGrammar (whole_grammar context kind id p.offset size) p (Err e) a
+whole_miscounted context kind id size p w q e a h good wrong =
     let c : HasContent size p w q = has_content size p w q h in
-    λ s. told_bytes s p size p.offset _ (Err e) a c.there (
-    told_right s (advanced size p) (wrong_content kind p.offset (take size p.rest)) _ (Err e) a good (
-    told_wrong s (advanced size p) (wrong_data past kind id (p.offset + size) (take size p.rest)) _ e a wrong))
+    λ s. report_bytes s p size p.offset _ (Err e) a c.there (
+    report_right s (advanced size p) (wrong_content kind p.offset (take size p.rest)) _ (Err e) a good (
+    report_wrong s (advanced size p) (wrong_data context kind id (p.offset + size) (take size p.rest)) _ e a wrong))
 
 -- what a custom section's reader says of its content
 pub record GoodCustom (features offset to : ℕ) (content : List ℕ) (c : Custom) : Type 0 where
   pub good : wrong_content custom offset content ≡ None
-  pub told : told_section features offset to custom 0 content ≡ custom_section c.name (place c.reader).offset (record c.reader { position = 0 })
+  pub report : section_report features offset to custom 0 content ≡ custom_section c.name (place c.reader).offset (record c.reader { position = 0 })
 
 custom_at : (features offset to : ℕ) (content : List ℕ) (c : Custom) (n : Name) → KeepsWindow (window_over features offset content) c.reader → name_in_window (place (window_over features offset content)) n ≡ Ok (c.name, place c.reader)
-    → (wrong_name offset n ≡ None) × (told_custom features offset to content n ≡ custom_section c.name (place c.reader).offset (record c.reader { position = 0 }))
+    → (wrong_name offset n ≡ None) × (custom_report features offset to content n ≡ custom_section c.name (place c.reader).offset (record c.reader { position = 0 }))
 custom_at features offset to content c (named text used) k h =
     let z : (text, advanced used (place (window_over features offset content))) ≡ (c.name, place c.reader) = cc in
     let t : text ≡ c.name = ap (λ (x : List ℕ × Place). x.0) z in
@@ -188,7 +188,7 @@ pub good_custom : (features offset to : ℕ) (content : List ℕ) (c : Custom) �
 unfolding wrong_content text_at
 good_custom features offset to content c is =
     let h = custom_at features offset to content c (name (Some name_limit) content) is.keeps is.named in
-    record { good = h.0; told = h.1 }
+    record { good = h.0; report = h.1 }
 
 bad_at : (features offset : ℕ) (content : List ℕ) (f : FaultAt) (n : Name) → name_in_window (place (window_over features offset content)) n ≡ Err f → wrong_name offset n ≡ Some f
 bad_at features offset content f (named text used) h = cc
@@ -207,58 +207,58 @@ unfolding wrong_content
 good_unknown offset content = refl
 
 -- a custom section that was read, and one whose name was refused
-pub custom_read : (past : Past) (id size : ℕ) (p : Place) (w : Window) (q : Place) (c : Custom) → content_at size p ≡ Ok (w, q) → IsCustom w c
-    → StandsThere (whole_grammar past custom id p.offset size) p (Ok (CustomSection c)) q
-custom_read past id size p w q c h is =
+pub custom_read : (context : SectionContext) (id size : ℕ) (p : Place) (w : Window) (q : Place) (c : Custom) → content_at size p ≡ Ok (w, q) → IsCustom w c
+    → ReadsByGrammar (whole_grammar context custom id p.offset size) p (Ok (CustomSection c)) q
+custom_read context id size p w q c h is =
     let k : HasContent size p w q = has_content size p w q h in
     let g : GoodCustom p.features p.offset (p.offset + size) (take size p.rest) c = good_custom p.features p.offset (p.offset + size) (take size p.rest) c (subst (λ (x : Window). IsCustom x c) k.window is) in
-    whole_good past custom id size p w q (CustomSection c) h g.good refl (sym g.told, tt)
+    whole_good context custom id size p w q (CustomSection c) h g.good refl (sym g.report, tt)
 
-pub custom_refused : (past : Past) (id size : ℕ) (p : Place) (w : Window) (q : Place) (e : Error) (a : Place) → content_at size p ≡ Ok (w, q) → text_at (Some name_limit) (place w) ≡ Err (fault_at e)
-    → StandsThere (whole_grammar past custom id p.offset size) p (Err e) a
-custom_refused past id size p w q e a h wrong =
+pub custom_refused : (context : SectionContext) (id size : ℕ) (p : Place) (w : Window) (q : Place) (e : Error) (a : Place) → content_at size p ≡ Ok (w, q) → text_at (Some name_limit) (place w) ≡ Err (fault_at e)
+    → ReadsByGrammar (whole_grammar context custom id p.offset size) p (Err e) a
+custom_refused context id size p w q e a h wrong =
     let k : HasContent size p w q = has_content size p w q h in
-    whole_bad past custom id size p w q e a h (bad_custom p.features p.offset (take size p.rest) (fault_at e) (subst (λ (x : Window). text_at (Some name_limit) (place x) ≡ Err (fault_at e)) k.window wrong))
+    whole_bad context custom id size p w q e a h (bad_custom p.features p.offset (take size p.rest) (fault_at e) (subst (λ (x : Window). text_at (Some name_limit) (place x) ≡ Err (fault_at e)) k.window wrong))
 
 -- an unknown section
-pub unknown_read : (past : Past) (id size : ℕ) (p : Place) (w : Window) (q : Place) (payload : Payload) → content_at size p ≡ Ok (w, q)
+pub unknown_read : (context : SectionContext) (id size : ℕ) (p : Place) (w : Window) (q : Place) (payload : Payload) → content_at size p ≡ Ok (w, q)
     → IsPayload (unknown_section id (place w).rest w.start (w.start + length w.bytes)) payload
-    → StandsThere (whole_grammar past unknown id p.offset size) p (Ok payload) q
-unknown_read past id size p w q payload h told =
+    → ReadsByGrammar (whole_grammar context unknown id p.offset size) p (Ok payload) q
+unknown_read context id size p w q payload h report =
     let k : HasContent size p w q = has_content size p w q h in
     let l : length (take size p.rest) ≡ size = length-take-le size p.rest k.there in
-    let at_w : IsPayload (unknown_section id (take size p.rest) p.offset (p.offset + length (take size p.rest))) payload = subst (λ (x : Window). IsPayload (unknown_section id (place x).rest x.start (x.start + length x.bytes)) payload) k.window told in
-    whole_good past unknown id size p w q payload h (good_unknown p.offset (take size p.rest)) refl (rw l at at_w)
+    let at_w : IsPayload (unknown_section id (take size p.rest) p.offset (p.offset + length (take size p.rest))) payload = subst (λ (x : Window). IsPayload (unknown_section id (place x).rest x.start (x.start + length x.bytes)) payload) k.window report in
+    whole_good context unknown id size p w q payload h (good_unknown p.offset (take size p.rest)) refl (rw l at at_w)
 
 -- a magic where a section may start
-magic_at : (xs : List ℕ) (past : Past) (p : Place) (e : Error) (a : Place) → true ≡ (agree xs magic && nat_le 4 (length xs)) → 0 < length xs → fault_at e ≡ at_offset MagicAtSection p.offset
-    → (s : ℕ) → IsTold s p (verdict (section_grammar past p.offset) xs) (Err e) a
+magic_at : (xs : List ℕ) (context : SectionContext) (p : Place) (e : Error) (a : Place) → true ≡ (agree xs magic && nat_le 4 (length xs)) → 0 < length xs → fault_at e ≡ at_offset MagicAtSection p.offset
+    → (s : ℕ) → MatchesVerdict s p (verdict (section_grammar context p.offset) xs) (Err e) a
 unfolding section_grammar verdict
-magic_at [] past p e a m l f s = absurd (omega arith)
-magic_at (id ∷ xs) past p e a m l f s = rw (← m) f
+magic_at [] context p e a m l f s = absurd (omega arith)
+magic_at (id ∷ xs) context p e a m l f s = rw (← m) f
 
-pub section_magic : (past : Past) (p : Place) (e : Error) (a : Place) → true ≡ (agree p.rest magic && nat_le 4 (length p.rest)) → 0 < length p.rest → fault_at e ≡ at_offset MagicAtSection p.offset
-    → StandsThere (section_grammar past p.offset) p (Err e) a
-section_magic past p e a m l f = magic_at p.rest past p e a m l f
+pub section_magic : (context : SectionContext) (p : Place) (e : Error) (a : Place) → true ≡ (agree p.rest magic && nat_le 4 (length p.rest)) → 0 < length p.rest → fault_at e ≡ at_offset MagicAtSection p.offset
+    → ReadsByGrammar (section_grammar context p.offset) p (Err e) a
+section_magic context p e a m l f = magic_at p.rest context p e a m l f
 
--- a section behind its id
-framed_at : (xs : List ℕ) (past : Past) (p q : Place) (id : ℕ) (r : Result Payload Error) (a : Place) → p.rest ≡ xs → false ≡ (agree xs magic && nat_le 4 (length xs)) → first_of p xs ≡ Ok (id, q)
-    → StandsThere (framed past p.offset id) q r a → (s : ℕ) → IsTold s p (verdict (section_grammar past p.offset) xs) r a
+-- a section after its id
+framed_at : (xs : List ℕ) (context : SectionContext) (p q : Place) (id : ℕ) (r : Result Payload Error) (a : Place) → p.rest ≡ xs → false ≡ (agree xs magic && nat_le 4 (length xs)) → first_of p xs ≡ Ok (id, q)
+    → ReadsByGrammar (after_id context p.offset id) q r a → (s : ℕ) → MatchesVerdict s p (verdict (section_grammar context p.offset) xs) r a
 unfolding section_grammar verdict
-framed_at [] past p q id r a z m b next s = cc
-framed_at (x ∷ xs) past p q id r a z m b next s =
+framed_at [] context p q id r a z m b next s = cc
+framed_at (x ∷ xs) context p q id r a z m b next s =
     let y : (x, advanced 1 p) ≡ (id, q) = cc in
     let i : x ≡ id = ap (λ (w : ℕ × Place). w.0) y in
     let j : advanced 1 p ≡ q = ap (λ (w : ℕ × Place). w.1) y in
     let k : drop 1 p.rest ≡ xs = ap (drop 1) z in
-    let here : IsTold s (advanced 1 p) (verdict (framed past p.offset x) (drop 1 p.rest)) r a =
-    subst₂ (λ (w : ℕ) (v : Place). IsTold s v (verdict (framed past p.offset w) v.rest) r a) (sym i) (sym j) (next s) in
-    let there : IsTold s (advanced 1 p) (verdict (framed past p.offset x) xs) r a = subst (λ (w : List ℕ). IsTold s (advanced 1 p) (verdict (framed past p.offset x) w) r a) k here in
-    rw (← m) (told_at s p 1 (x ∷ []) (verdict (framed past p.offset x) xs) r a refl there)
+    let here : MatchesVerdict s (advanced 1 p) (verdict (after_id context p.offset x) (drop 1 p.rest)) r a =
+    subst₂ (λ (w : ℕ) (v : Place). MatchesVerdict s v (verdict (after_id context p.offset w) v.rest) r a) (sym i) (sym j) (next s) in
+    let there : MatchesVerdict s (advanced 1 p) (verdict (after_id context p.offset x) xs) r a = subst (λ (w : List ℕ). MatchesVerdict s (advanced 1 p) (verdict (after_id context p.offset x) w) r a) k here in
+    rw (← m) (report_at s p 1 (x ∷ []) (verdict (after_id context p.offset x) xs) r a refl there)
 
-pub section_framed : (past : Past) (p q : Place) (id : ℕ) (r : Result Payload Error) (a : Place) → false ≡ (agree p.rest magic && nat_le 4 (length p.rest)) → byte_at p ≡ Ok (id, q)
-    → StandsThere (framed past p.offset id) q r a → StandsThere (section_grammar past p.offset) p r a
-section_framed past p q id r a m b next = framed_at p.rest past p q id r a refl m b next
+pub section_framed : (context : SectionContext) (p q : Place) (id : ℕ) (r : Result Payload Error) (a : Place) → false ≡ (agree p.rest magic && nat_le 4 (length p.rest)) → byte_at p ≡ Ok (id, q)
+    → ReadsByGrammar (after_id context p.offset id) q r a → ReadsByGrammar (section_grammar context p.offset) p r a
+section_framed context p q id r a m b next = framed_at p.rest context p q id r a refl m b next
 
 -- four bytes say whether the magic is there
 and_true : (b : Bool) → b ≡ (b && true)
@@ -271,15 +271,15 @@ magic_of_four xs l =
     let e : agree (take 4 xs ++ drop 4 xs) magic ≡ agree (take 4 xs) magic = agree_same (take 4 xs) (drop 4 xs) magic (omega arith) in
     subst (λ (x : List ℕ). agree (take 4 xs) magic ≡ agree x magic) (take-append-drop 4 xs) (sym e)
 
-peeked : (b : Bool) (p : Place) (front : List ℕ) (q : Place) → nat_lt (length p.rest) 4 ≡ b
-    → (let x : Result (List ℕ × Place) FaultAt = cond b (Err (at_offset UnexpectedEof p.offset)) (Ok (take 4 p.rest, p)) in x) ≡ Ok (front, q)
-    → agree front magic ≡ (agree p.rest magic && nat_le 4 (length p.rest))
-peeked true p front q t h = cc
-peeked false p front q t h =
-    let z : (take 4 p.rest, p) ≡ (front, q) = cc in
-    let f : take 4 p.rest ≡ front = ap (λ (w : List ℕ × Place). w.0) z in
+peeked : (b : Bool) (p : Place) (prefix : List ℕ) (q : Place) → nat_lt (length p.rest) 4 ≡ b
+    → (let x : Result (List ℕ × Place) FaultAt = cond b (Err (at_offset UnexpectedEof p.offset)) (Ok (take 4 p.rest, p)) in x) ≡ Ok (prefix, q)
+    → agree prefix magic ≡ (agree p.rest magic && nat_le 4 (length p.rest))
+peeked true p prefix q t h = cc
+peeked false p prefix q t h =
+    let z : (take 4 p.rest, p) ≡ (prefix, q) = cc in
+    let f : take 4 p.rest ≡ prefix = ap (λ (w : List ℕ × Place). w.0) z in
     let l : 4 ≤ length p.rest = ltb-false _ _ t in
     rw (le-leb 4 (length p.rest) l) (sym (ap (λ (w : List ℕ). agree w magic) f) ∙ (magic_of_four p.rest l ∙ and_true (agree p.rest magic)))
 
-pub magic_seen : (p : Place) (front : List ℕ) (q : Place) → peeked_at 4 p ≡ Ok (front, q) → agree front magic ≡ (agree p.rest magic && nat_le 4 (length p.rest))
-magic_seen p front q h = peeked (nat_lt (length p.rest) 4) p front q refl h
+pub magic_seen : (p : Place) (prefix : List ℕ) (q : Place) → peeked_at 4 p ≡ Ok (prefix, q) → agree prefix magic ≡ (agree p.rest magic && nat_le 4 (length p.rest))
+magic_seen p prefix q h = peeked (nat_lt (length p.rest) 4) p prefix q refl h

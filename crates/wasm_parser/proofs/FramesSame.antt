@@ -8,28 +8,28 @@ use Rattle.wasm_base.specs.declared.fault.NumberKind.TheVariants.{VarU32}
 use Rattle.wasm_parser.specs.Accepted.{header_bytes, IsNumber, Sized, sized_bytes, IsSized, Frame, frame_bytes}
 use Rattle.wasm_parser.specs.declared.payload.Encoding.{Encoding}
 use Rattle.wasm_parser.specs.declared.payload.Encoding.TheVariants.{Module, Component}
-use Rattle.wasm_parser.proofs.TextbookTiles.{number_on}
+use Rattle.wasm_parser.proofs.AcceptedTiles.{number_on}
 
--- fronts of one length are one
-fronts_same : (xs ys us vs : List ℕ) → length xs ≡ length ys → xs ++ us ≡ ys ++ vs → (xs ≡ ys) × (us ≡ vs)
-fronts_same xs ys us vs l e = (
+-- prefixes of one length are one
+prefixes_same : (xs ys us vs : List ℕ) → length xs ≡ length ys → xs ++ us ≡ ys ++ vs → (xs ≡ ys) × (us ≡ vs)
+prefixes_same xs ys us vs l e = (
   sym (take_at xs us (length xs) refl) ∙ (ap (take (length xs)) e ∙ take_at ys vs (length xs) (sym l)),
   sym (drop_at xs us (length xs) refl) ∙ (ap (drop (length xs)) e ∙ drop_at ys vs (length xs) (sym l)),
 )
 
--- numbers at the front of the same bytes are one
+-- numbers at the prefix of the same bytes are one
 numbers_same : (xs ys us vs : List ℕ) (m n : ℕ) → IsNumber xs m → IsNumber ys n → xs ++ us ≡ ys ++ vs → (m ≡ n) × (length xs ≡ length ys)
 numbers_same xs ys us vs m n p q e =
     let z : read m (length xs) ≡ read n (length ys) = sym (number_on xs us m p) ∙ (ap (number_at VarU32) e ∙ number_on ys vs n q) in
     (cc, cc)
 
--- bytes behind their length are
+-- bytes after their length are
 sized_same : (s t : Sized) (us vs : List ℕ) → IsSized s → IsSized t → sized_bytes s ++ us ≡ sized_bytes t ++ vs → (s ≡ t) × (us ≡ vs)
 sized_same s t us vs p q e =
     let z : s.field ++ (s.content ++ us) ≡ t.field ++ (t.content ++ vs) = sym (append_assoc s.field s.content us) ∙ (e ∙ append_assoc t.field t.content vs) in
     let n : ((length s.content ≡ length t.content) × (length s.field ≡ length t.field)) = numbers_same s.field t.field (s.content ++ us) (t.content ++ vs) (length s.content) (length t.content) p q z in
-    let f : ((s.field ≡ t.field) × (s.content ++ us ≡ t.content ++ vs)) = fronts_same s.field t.field (s.content ++ us) (t.content ++ vs) n.1 z in
-    let c : ((s.content ≡ t.content) × (us ≡ vs)) = fronts_same s.content t.content us vs n.0 f.1 in
+    let f : ((s.field ≡ t.field) × (s.content ++ us ≡ t.content ++ vs)) = prefixes_same s.field t.field (s.content ++ us) (t.content ++ vs) n.1 z in
+    let c : ((s.content ≡ t.content) × (us ≡ vs)) = prefixes_same s.content t.content us vs n.0 f.1 in
     (λ i. record { field = f.0 i; content = c.0 i }, c.1)
 
 frame_same : (f g : Frame) → f.id ≡ g.id → f.sized ≡ g.sized → f ≡ g

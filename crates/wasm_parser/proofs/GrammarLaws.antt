@@ -4,7 +4,7 @@ use Rattle.std.proofs.lemmas.List.{take-append-le, drop-append-le, take-append-d
 use Rattle.wasm_base.specs.FaultAt.{at_offset}
 use Rattle.wasm_base.specs.Number.{Number, read, bad, short, number as number_at}
 use Rattle.wasm_base.specs.Header.{magic, agree}
-use Rattle.wasm_parser.specs.Grammar.{Tile, Verdict, tile, final, behind, behind_number, Grammar, takes, stops, refuse, number, bytes, section_start, verdict}
+use Rattle.wasm_parser.specs.Grammar.{Tile, Verdict, tile, final, after, after_number, Grammar, accept, reject, check, number, bytes, section_start, verdict}
 use Rattle.wasm_parser.specs.Content.{Ending, fault}
 use Rattle.wasm_parser.specs.Waiting.{Waiting, enough, wants, later, later_number, waiting}
 use Rattle.wasm_base.specs.declared.fault.NumberKind.TheVariants.{VarU32}
@@ -29,15 +29,15 @@ number_more : (offset : ℕ) (xs ys : List ℕ) (next : ℕ → ℕ → Grammar)
     → ((v k : ℕ) (zs : List ℕ) → waiting (next v k) zs ≡ enough → verdict (next v k) (zs ++ ys) ≡ verdict (next v k) zs)
     → (n : Number) → number_at VarU32 xs ≡ n
     → later_number n (λ v k. waiting (next v k) (drop k xs)) ≡ enough
-    → behind_number offset (xs ++ ys) (number_at VarU32 (xs ++ ys)) (λ v k. verdict (next v k) (drop k (xs ++ ys)))
-    ≡ behind_number offset xs n (λ v k. verdict (next v k) (drop k xs))
+    → after_number offset (xs ++ ys) (number_at VarU32 (xs ++ ys)) (λ v k. verdict (next v k) (drop k (xs ++ ys)))
+    ≡ after_number offset xs n (λ v k. verdict (next v k) (drop k xs))
 number_more offset xs ys next ih (read v k) e w =
     let u : Used VarU32 xs v k = number-used VarU32 xs v k e in
     let ns : number_at VarU32 xs ≢ short = λ z. (cc) in
     let m : number_at VarU32 (xs ++ ys) ≡ read v k = number-more VarU32 xs ys ns ∙ e in
     let t : take k (xs ++ ys) ≡ take k xs = take-append-le k xs ys u.there in
     let d : drop k (xs ++ ys) ≡ drop k xs ++ ys = drop-append-le k xs ys u.there in
-    rw m (rw (t, d) (ap (λ (x : Verdict). behind (take k xs) x) (ih v k (drop k xs) (later-enough k _ w))))
+    rw m (rw (t, d) (ap (λ (x : Verdict). after (take k xs) x) (ih v k (drop k xs) (later-enough k _ w))))
 number_more offset xs ys next ih (bad f p) e w =
     let ns : number_at VarU32 xs ≢ short = λ z. (cc) in
     let m : number_at VarU32 (xs ++ ys) ≡ bad f p = number-more VarU32 xs ys ns ∙ e in
@@ -48,14 +48,14 @@ bytes_more : (count offset : ℕ) (xs ys : List ℕ) (next : List ℕ → Gramma
     → ((b zs : List ℕ) → waiting (next b) zs ≡ enough → verdict (next b) (zs ++ ys) ≡ verdict (next b) zs)
     → (t : Bool) → nat_le count (length xs) ≡ t
     → cond t (later count (waiting (next (take count xs)) (drop count xs))) (wants count (count - length xs)) ≡ enough
-    → cond (nat_le count (length (xs ++ ys))) (behind (take count (xs ++ ys)) (verdict (next (take count (xs ++ ys))) (drop count (xs ++ ys)))) (final (fault (at_offset UnexpectedEof offset)))
-    ≡ cond t (behind (take count xs) (verdict (next (take count xs)) (drop count xs))) (final (fault (at_offset UnexpectedEof offset)))
+    → cond (nat_le count (length (xs ++ ys))) (after (take count (xs ++ ys)) (verdict (next (take count (xs ++ ys))) (drop count (xs ++ ys)))) (final (fault (at_offset UnexpectedEof offset)))
+    ≡ cond t (after (take count xs) (verdict (next (take count xs)) (drop count xs))) (final (fault (at_offset UnexpectedEof offset)))
 bytes_more count offset xs ys next ih true e w =
     let l : count ≤ length xs = leb-true count (length xs) e in
     let m : count ≤ length (xs ++ ys) = omega (arith, length-append xs ys) in
     let t : take count (xs ++ ys) ≡ take count xs = take-append-le count xs ys l in
     let d : drop count (xs ++ ys) ≡ drop count xs ++ ys = drop-append-le count xs ys l in
-    rw (le-leb count (length (xs ++ ys)) m) (rw (t, d) (ap (λ (x : Verdict). behind (take count xs) x) (ih (take count xs) (drop count xs) (later-enough count _ w))))
+    rw (le-leb count (length (xs ++ ys)) m) (rw (t, d) (ap (λ (x : Verdict). after (take count xs) x) (ih (take count xs) (drop count xs) (later-enough count _ w))))
 bytes_more count offset xs ys next ih false e w = cc
 
 pub agree_same : (xs ys zs : List ℕ) → length zs ≤ length xs → agree (xs ++ ys) zs ≡ agree xs zs
@@ -72,8 +72,8 @@ start_more : (offset id : ℕ) (xs ys : List ℕ) (next : ℕ → Grammar)
     → ((zs : List ℕ) → waiting (next id) zs ≡ enough → verdict (next id) (zs ++ ys) ≡ verdict (next id) zs)
     → (a l : Bool) → agree (id ∷ xs) magic ≡ a → nat_le 4 (length (id ∷ xs)) ≡ l
     → cond a (cond l enough (wants 4 (4 - length (id ∷ xs)))) (later 1 (waiting (next id) xs)) ≡ enough
-    → cond (agree (id ∷ (xs ++ ys)) magic && nat_le 4 (length (id ∷ (xs ++ ys)))) (final (fault (at_offset MagicAtSection offset))) (behind (id ∷ []) (verdict (next id) (xs ++ ys)))
-    ≡ cond (a && l) (final (fault (at_offset MagicAtSection offset))) (behind (id ∷ []) (verdict (next id) xs))
+    → cond (agree (id ∷ (xs ++ ys)) magic && nat_le 4 (length (id ∷ (xs ++ ys)))) (final (fault (at_offset MagicAtSection offset))) (after (id ∷ []) (verdict (next id) (xs ++ ys)))
+    ≡ cond (a && l) (final (fault (at_offset MagicAtSection offset))) (after (id ∷ []) (verdict (next id) xs))
 start_more offset id xs ys next ih true true e f w =
     let l : 4 ≤ length (id ∷ xs) = leb-true 4 (length (id ∷ xs)) f in
     let m : 4 ≤ length (id ∷ (xs ++ ys)) = omega (arith, length-append xs ys) in
@@ -82,15 +82,15 @@ start_more offset id xs ys next ih true true e f w =
 start_more offset id xs ys next ih true false e f w = cc
 start_more offset id xs ys next ih false l e f w =
     let g : agree (id ∷ (xs ++ ys)) magic ≡ false = agree-more (id ∷ xs) ys magic e in
-    rw g (ap (λ (x : Verdict). behind (id ∷ []) x) (ih xs (later-enough 1 _ w)))
+    rw g (ap (λ (x : Verdict). after (id ∷ []) x) (ih xs (later-enough 1 _ w)))
 
 -- what bytes that suffice decide stays so, whatever follows
 pub verdict-more : (g : Grammar) (xs ys : List ℕ) → waiting g xs ≡ enough → verdict g (xs ++ ys) ≡ verdict g xs
 unfolding verdict waiting
-verdict-more (takes s) xs ys w = refl
-verdict-more (stops e) xs ys w = refl
-verdict-more (refuse (Some e) next) xs ys w = refl
-verdict-more (refuse None next) xs ys w = verdict-more next xs ys w
+verdict-more (accept s) xs ys w = refl
+verdict-more (reject e) xs ys w = refl
+verdict-more (check (Some e) next) xs ys w = refl
+verdict-more (check None next) xs ys w = verdict-more next xs ys w
 verdict-more (number offset next) xs ys w =
     number_more offset xs ys next (λ v k zs. verdict-more (next v k) zs ys) (number_at VarU32 xs) refl w
 verdict-more (bytes count offset next) xs ys w =
@@ -101,9 +101,9 @@ verdict-more (section_start offset e next) (id ∷ xs) ys w =
 
 -- What a tile is does not wait, and depends on its bytes alone.
 
-pub behind-tile : (front : List ℕ) (v : Verdict) (t : Tile) → behind front v ≡ tile t → (s : Tile) × (v ≡ tile s) × (t ≡ record s { bytes = front ++ s.bytes })
-behind-tile front (tile s) t e = (s, refl, cc)
-behind-tile front (final f) t e = cc
+pub after-tile : (prefix : List ℕ) (v : Verdict) (t : Tile) → after prefix v ≡ tile t → (s : Tile) × (v ≡ tile s) × (t ≡ record s { bytes = prefix ++ s.bytes })
+after-tile prefix (tile s) t e = (s, refl, cc)
+after-tile prefix (final f) t e = cc
 
 -- what the verdict `tile t` on bytes says: t has the first of them, and no other byte mattered
 pub record Cut (g : Grammar) (xs : List ℕ) (t : Tile) : Type 0 where
@@ -130,10 +130,10 @@ number_join offset next v k f zs s len e c =
 number_cut : (offset : ℕ) (xs : List ℕ) (next : ℕ → ℕ → Grammar)
     → ((v k : ℕ) (zs : List ℕ) (s : Tile) → verdict (next v k) zs ≡ tile s → Cut (next v k) zs s)
     → (n : Number) → number_at VarU32 xs ≡ n → (t : Tile)
-    → behind_number offset xs n (λ v k. verdict (next v k) (drop k xs)) ≡ tile t → Cut (number offset next) xs t
+    → after_number offset xs n (λ v k. verdict (next v k) (drop k xs)) ≡ tile t → Cut (number offset next) xs t
 number_cut offset xs next ih (read v k) e t w =
     let u : Used VarU32 xs v k = number-used VarU32 xs v k e in
-    let (s, r, q) = behind-tile (take k xs) (verdict (next v k) (drop k xs)) t w in
+    let (s, r, q) = after-tile (take k xs) (verdict (next v k) (drop k xs)) t w in
     let j : Cut (number offset next) (take k xs ++ drop k xs) (record s { bytes = take k xs ++ s.bytes }) =
     number_join offset next v k (take k xs) (drop k xs) s (length-take-le k xs u.there) u.alone (ih v k (drop k xs) s r) in
     subst₂ (λ (x : List ℕ) (y : Tile). Cut (number offset next) x y) (take-append-drop k xs) (sym q) j
@@ -157,9 +157,9 @@ bytes_join count offset next f zs s len c =
 bytes_cut : (count offset : ℕ) (xs : List ℕ) (next : List ℕ → Grammar)
     → ((b zs : List ℕ) (s : Tile) → verdict (next b) zs ≡ tile s → Cut (next b) zs s)
     → (b : Bool) → nat_le count (length xs) ≡ b → (t : Tile)
-    → cond b (behind (take count xs) (verdict (next (take count xs)) (drop count xs))) (final (fault (at_offset UnexpectedEof offset))) ≡ tile t → Cut (bytes count offset next) xs t
+    → cond b (after (take count xs) (verdict (next (take count xs)) (drop count xs))) (final (fault (at_offset UnexpectedEof offset))) ≡ tile t → Cut (bytes count offset next) xs t
 bytes_cut count offset xs next ih true e t w =
-    let (s, r, q) = behind-tile (take count xs) (verdict (next (take count xs)) (drop count xs)) t w in
+    let (s, r, q) = after-tile (take count xs) (verdict (next (take count xs)) (drop count xs)) t w in
     let j : Cut (bytes count offset next) (take count xs ++ drop count xs) (record s { bytes = take count xs ++ s.bytes }) =
     bytes_join count offset next (take count xs) (drop count xs) s (length-take-le count xs (leb-true _ _ e)) (ih (take count xs) (drop count xs) s r) in
     subst₂ (λ (x : List ℕ) (y : Tile). Cut (bytes count offset next) x y) (take-append-drop count xs) (sym q) j
@@ -167,17 +167,17 @@ bytes_cut count offset xs next ih false e t w = cc
 
 -- a tile whose bytes begin as a header does is longer than the magic
 abbrev pub Guarded : Grammar → Type 0
-Guarded (takes s) = Unit {0}
-Guarded (stops e) = Unit {0}
-Guarded (refuse e next) = Guarded next
+Guarded (accept s) = Unit {0}
+Guarded (reject e) = Unit {0}
+Guarded (check e next) = Guarded next
 Guarded (number offset next) = (v k : ℕ) → Guarded (next v k)
 Guarded (bytes count offset next) = (b : List ℕ) → Guarded (next b)
 Guarded (section_start offset e next) = (id : ℕ) → Guarded (next id) × ((xs : List ℕ) (s : Tile) → verdict (next id) xs ≡ tile s → agree (id ∷ s.bytes) magic ≡ true → 4 ≤ length (id ∷ s.bytes))
 
-agree_front : (xs ys zs : List ℕ) → agree (xs ++ ys) zs ≡ true → agree xs zs ≡ true
-agree_front [] ys zs e = refl
-agree_front (x ∷ xs) ys [] e = refl
-agree_front (x ∷ xs) ys (z ∷ zs) e = both (nat_eq x z) (agree (xs ++ ys) zs) (agree xs zs) (agree_front xs ys zs) e
+agree_prefix : (xs ys zs : List ℕ) → agree (xs ++ ys) zs ≡ true → agree xs zs ≡ true
+agree_prefix [] ys zs e = refl
+agree_prefix (x ∷ xs) ys [] e = refl
+agree_prefix (x ∷ xs) ys (z ∷ zs) e = both (nat_eq x z) (agree (xs ++ ys) zs) (agree xs zs) (agree_prefix xs ys zs) e
   where
     both : (t a b : Bool) → (a ≡ true → b ≡ true) → (t && a) ≡ true → (t && b) ≡ true
     both true a b f e = f e
@@ -205,10 +205,10 @@ start_cut : (offset : ℕ) (z : Ending) (next : ℕ → Grammar) (id : ℕ) (xs 
     → ((s : Tile) → verdict (next id) xs ≡ tile s → Cut (next id) xs s)
     → ((s : Tile) → verdict (next id) xs ≡ tile s → agree (id ∷ s.bytes) magic ≡ true → 4 ≤ length (id ∷ s.bytes))
     → (b : Bool) → (agree (id ∷ xs) magic && nat_le 4 (length (id ∷ xs))) ≡ b → (t : Tile)
-    → cond b (final (fault (at_offset MagicAtSection offset))) (behind (id ∷ []) (verdict (next id) xs)) ≡ tile t → Cut (section_start offset z next) (id ∷ xs) t
+    → cond b (final (fault (at_offset MagicAtSection offset))) (after (id ∷ []) (verdict (next id) xs)) ≡ tile t → Cut (section_start offset z next) (id ∷ xs) t
 start_cut offset z next id xs ih g true e t w = cc
 start_cut offset z next id xs ih g false e t w =
-    let (s, r, q) = behind-tile (id ∷ []) (verdict (next id) xs) t w in
+    let (s, r, q) = after-tile (id ∷ []) (verdict (next id) xs) t w in
     let j : Cut (section_start offset z next) (id ∷ xs) (record s { bytes = id ∷ s.bytes }) =
     start_join offset z next id xs s (agree (id ∷ s.bytes) magic) refl (g s r) e (ih s r) in
     subst (λ (y : Tile). Cut (section_start offset z next) (id ∷ xs) y) (sym q) j
@@ -216,13 +216,13 @@ start_cut offset z next id xs ih g false e t w =
 -- a tile has the first of the bytes, and no other byte matters to it
 pub verdict-cut : (g : Grammar) → Guarded g → (xs : List ℕ) (t : Tile) → verdict g xs ≡ tile t → Cut g xs t
 unfolding verdict waiting
-verdict-cut (takes s) gd xs t w =
-    let c : Cut (takes s) xs (record { shape = s; bytes = [] }) = record { rest = xs; split = refl; waits = refl; alone = refl } in
+verdict-cut (accept s) gd xs t w =
+    let c : Cut (accept s) xs (record { shape = s; bytes = [] }) = record { rest = xs; split = refl; waits = refl; alone = refl } in
     let e : record { shape = s; bytes = [] } ≡ t = cc in
-    subst (λ (y : Tile). Cut (takes s) xs y) e c
-verdict-cut (stops e) gd xs t w = cc
-verdict-cut (refuse (Some e) next) gd xs t w = cc
-verdict-cut (refuse None next) gd xs t w =
+    subst (λ (y : Tile). Cut (accept s) xs y) e c
+verdict-cut (reject e) gd xs t w = cc
+verdict-cut (check (Some e) next) gd xs t w = cc
+verdict-cut (check None next) gd xs t w =
     let c : Cut next xs t = verdict-cut next gd xs t w in
     record { rest = c.rest; split = c.split; waits = c.waits; alone = c.alone }
 verdict-cut (number offset next) gd xs t w = number_cut offset xs next (λ v k. verdict-cut (next v k) (gd v k)) (number_at VarU32 xs) refl t w

@@ -7,13 +7,13 @@ use Rattle.wasm_base.specs.Outcome.{Outcome, ◌>>=◌}
 use Rattle.wasm_base.specs.Window.{Place, advanced}
 use Rattle.wasm_base.specs.declared.error.Error.{Error}
 use Rattle.wasm_base.specs.declared.fault.Fault.TheVariants.{UnexpectedEof, BadMagic, UnknownVersion}
-use Rattle.wasm_parser.specs.Answers.{IsPayload, IsTold}
+use Rattle.wasm_parser.specs.ParseAnswer.{IsPayload, MatchesVerdict}
 use Rattle.wasm_parser.specs.Content.{when}
 use Rattle.wasm_parser.specs.Grammar.{header, verdict, encoding_named, version_of, header_grammar}
-use Rattle.wasm_parser.specs.Reading.{told_of}
+use Rattle.wasm_parser.specs.Reading.{tile_report}
 use Rattle.wasm_parser.specs.declared.payload.Encoding.{Encoding}
 use Rattle.wasm_parser.specs.declared.payload.Payload.{Payload}
-use Rattle.wasm_parser.proofs.Telling.{told_bytes, told_missing, told_wrong, told_right, told_whole, told_stops}
+use Rattle.wasm_parser.proofs.ReadingFields.{report_bytes, report_missing, report_wrong, report_right, report_whole, report_stops}
 
 abbrev Bits : Type 0
 Bits = Outcome ℕ
@@ -48,7 +48,7 @@ steps p = steps_at (nat_lt (length p.rest) 4) p refl
 pub record ReadHeader (p : Place) (bits : ℕ) (q : Place) : Type 0 where
   pub there : 4 ≤ length p.rest
   pub begins : agree (take 4 p.rest) magic ≡ true
-  pub behind : 4 ≤ length (drop 4 p.rest)
+  pub after : 4 ≤ length (drop 4 p.rest)
   pub four : of_four (take 4 (drop 4 p.rest)) ≡ bits
   pub place : q ≡ advanced 4 (advanced 4 p)
 
@@ -59,52 +59,52 @@ read_at false false fewer p bits q a b c h = cc
 read_at false true true p bits q a b c h = cc
 read_at false true false p bits q a b c h =
     let z : (of_four (take 4 (drop 4 p.rest)), advanced 4 (advanced 4 p)) ≡ (bits, q) = cc in
-    record { there = ltb-false _ _ a; begins = b; behind = ltb-false _ _ c; four = ap (λ (x : ℕ × Place). x.0) z; place = sym (ap (λ (x : ℕ × Place). x.1) z) }
+    record { there = ltb-false _ _ a; begins = b; after = ltb-false _ _ c; four = ap (λ (x : ℕ × Place). x.0) z; place = sym (ap (λ (x : ℕ × Place). x.1) z) }
 
 pub header_read : (p : Place) (bits : ℕ) (q : Place) → header_version_at p ≡ Ok (bits, q) → ReadHeader p bits q
 header_read p bits q h = read_at (nat_lt (length p.rest) 4) (agree (take 4 p.rest) magic) (nat_lt (length (drop 4 p.rest)) 4) p bits q refl refl refl (sym (steps p) ∙ h)
 
--- what stands behind the eight bytes
-told_eight : (s : ℕ) (p : Place) (bits : ℕ) (q : Place) (r : Result Payload Error) (a : Place) → ReadHeader p bits q → IsTold s q (verdict (version_of p.offset bits) q.rest) r a → IsTold s p (verdict (header_grammar p.offset) p.rest) r a
+-- what is after the eight bytes
+report_eight : (s : ℕ) (p : Place) (bits : ℕ) (q : Place) (r : Result Payload Error) (a : Place) → ReadHeader p bits q → MatchesVerdict s q (verdict (version_of p.offset bits) q.rest) r a → MatchesVerdict s p (verdict (header_grammar p.offset) p.rest) r a
 unfolding header_grammar
-told_eight s p bits q r a h t =
+report_eight s p bits q r a h t =
     let m : when (not (agree (take 4 p.rest) magic)) (at_offset BadMagic p.offset) ≡ None = rw h.begins refl in
-    let v : IsTold s (advanced 4 (advanced 4 p)) (verdict (version_of p.offset bits) (drop 4 (drop 4 p.rest))) r a = subst (λ (x : Place). IsTold s x (verdict (version_of p.offset bits) x.rest) r a) h.place t in
-    let w : IsTold s (advanced 4 (advanced 4 p)) (verdict (version_of p.offset (of_four (take 4 (drop 4 p.rest)))) (drop 4 (drop 4 p.rest))) r a = subst (λ (x : ℕ). IsTold s (advanced 4 (advanced 4 p)) (verdict (version_of p.offset x) (drop 4 (drop 4 p.rest))) r a) (sym h.four) v in
-    told_bytes s p 4 p.offset _ r a h.there (
-    told_right s (advanced 4 p) (when (not (agree (take 4 p.rest) magic)) (at_offset BadMagic p.offset)) _ r a m (
-    told_bytes s (advanced 4 p) 4 (p.offset + 4) (λ four. version_of p.offset (of_four four)) r a h.behind w))
+    let v : MatchesVerdict s (advanced 4 (advanced 4 p)) (verdict (version_of p.offset bits) (drop 4 (drop 4 p.rest))) r a = subst (λ (x : Place). MatchesVerdict s x (verdict (version_of p.offset bits) x.rest) r a) h.place t in
+    let w : MatchesVerdict s (advanced 4 (advanced 4 p)) (verdict (version_of p.offset (of_four (take 4 (drop 4 p.rest)))) (drop 4 (drop 4 p.rest))) r a = subst (λ (x : ℕ). MatchesVerdict s (advanced 4 (advanced 4 p)) (verdict (version_of p.offset x) (drop 4 (drop 4 p.rest))) r a) (sym h.four) v in
+    report_bytes s p 4 p.offset _ r a h.there (
+    report_right s (advanced 4 p) (when (not (agree (take 4 p.rest) magic)) (at_offset BadMagic p.offset)) _ r a m (
+    report_bytes s (advanced 4 p) 4 (p.offset + 4) (λ four. version_of p.offset (of_four four)) r a h.after w))
 
 -- a header of a known version
-pub header_told : (p : Place) (bits : ℕ) (q : Place) (e : Encoding) (payload : Payload) → header_version_at p ≡ Ok (bits, q) → Some e ≡ encoding_named (bits % 65536) (bits / 65536)
-    → IsPayload (told_of q.features p.offset q.offset (header (bits % 65536) e)) payload → IsTold p.offset p (verdict (header_grammar p.offset) p.rest) (Ok payload) q
-header_told p bits q e payload h n t =
-    told_eight p.offset p bits q (Ok payload) q (header_read p bits q h) (rw (← n) (told_whole p.offset q (header (bits % 65536) e) payload q refl t))
+pub header_report : (p : Place) (bits : ℕ) (q : Place) (e : Encoding) (payload : Payload) → header_version_at p ≡ Ok (bits, q) → Some e ≡ encoding_named (bits % 65536) (bits / 65536)
+    → IsPayload (tile_report q.features p.offset q.offset (header (bits % 65536) e)) payload → MatchesVerdict p.offset p (verdict (header_grammar p.offset) p.rest) (Ok payload) q
+header_report p bits q e payload h n t =
+    report_eight p.offset p bits q (Ok payload) q (header_read p bits q h) (rw (← n) (report_whole p.offset q (header (bits % 65536) e) payload q refl t))
 
 -- one of an unknown version
 pub header_unnamed : (p : Place) (bits : ℕ) (q : Place) (e : Error) → header_version_at p ≡ Ok (bits, q) → None ≡ encoding_named (bits % 65536) (bits / 65536)
-    → fault_at e ≡ record { fault = UnknownVersion; offset = p.offset + 4; number = Some bits } → IsTold p.offset p (verdict (header_grammar p.offset) p.rest) (Err e) q
+    → fault_at e ≡ record { fault = UnknownVersion; offset = p.offset + 4; number = Some bits } → MatchesVerdict p.offset p (verdict (header_grammar p.offset) p.rest) (Err e) q
 header_unnamed p bits q e h n f =
-    told_eight p.offset p bits q (Err e) q (header_read p bits q h) (rw (← n) (told_stops p.offset q (record { fault = UnknownVersion; offset = p.offset + 4; number = Some bits }) e q f))
+    report_eight p.offset p bits q (Err e) q (header_read p bits q h) (rw (← n) (report_stops p.offset q (record { fault = UnknownVersion; offset = p.offset + 4; number = Some bits }) e q f))
 
 -- none
 refused_at : (few other fewer : Bool) (p : Place) (e : Error) (a : Place) → nat_lt (length p.rest) 4 ≡ few → agree (take 4 p.rest) magic ≡ other → nat_lt (length (drop 4 p.rest)) 4 ≡ fewer
-    → version_steps few other fewer p ≡ Err (fault_at e) → IsTold p.offset p (verdict (header_grammar p.offset) p.rest) (Err e) a
+    → version_steps few other fewer p ≡ Err (fault_at e) → MatchesVerdict p.offset p (verdict (header_grammar p.offset) p.rest) (Err e) a
 unfolding header_grammar
 refused_at true other fewer p e a x y z h =
     let f : at_offset UnexpectedEof p.offset ≡ fault_at e = cc in
-    told_missing p.offset p 4 p.offset _ e a (ltb-true _ _ x) (sym f)
+    report_missing p.offset p 4 p.offset _ e a (ltb-true _ _ x) (sym f)
 refused_at false false fewer p e a x y z h =
     let f : at_offset BadMagic p.offset ≡ fault_at e = cc in
     let m : when (not (agree (take 4 p.rest) magic)) (at_offset BadMagic p.offset) ≡ Some (fault_at e) = rw y (ap Some f) in
-    told_bytes p.offset p 4 p.offset _ (Err e) a (ltb-false _ _ x) (told_wrong p.offset (advanced 4 p) (when (not (agree (take 4 p.rest) magic)) (at_offset BadMagic p.offset)) _ e a m)
+    report_bytes p.offset p 4 p.offset _ (Err e) a (ltb-false _ _ x) (report_wrong p.offset (advanced 4 p) (when (not (agree (take 4 p.rest) magic)) (at_offset BadMagic p.offset)) _ e a m)
 refused_at false true true p e a x y z h =
     let f : at_offset UnexpectedEof (p.offset + 4) ≡ fault_at e = cc in
     let m : when (not (agree (take 4 p.rest) magic)) (at_offset BadMagic p.offset) ≡ None = rw y refl in
-    told_bytes p.offset p 4 p.offset _ (Err e) a (ltb-false _ _ x) (
-    told_right p.offset (advanced 4 p) (when (not (agree (take 4 p.rest) magic)) (at_offset BadMagic p.offset)) _ (Err e) a m (
-    told_missing p.offset (advanced 4 p) 4 (p.offset + 4) _ e a (ltb-true _ _ z) (sym f)))
+    report_bytes p.offset p 4 p.offset _ (Err e) a (ltb-false _ _ x) (
+    report_right p.offset (advanced 4 p) (when (not (agree (take 4 p.rest) magic)) (at_offset BadMagic p.offset)) _ (Err e) a m (
+    report_missing p.offset (advanced 4 p) 4 (p.offset + 4) _ e a (ltb-true _ _ z) (sym f)))
 refused_at false true false p e a x y z h = cc
 
-pub header_refused : (p : Place) (e : Error) (a : Place) → header_version_at p ≡ Err (fault_at e) → IsTold p.offset p (verdict (header_grammar p.offset) p.rest) (Err e) a
+pub header_refused : (p : Place) (e : Error) (a : Place) → header_version_at p ≡ Err (fault_at e) → MatchesVerdict p.offset p (verdict (header_grammar p.offset) p.rest) (Err e) a
 header_refused p e a h = refused_at (nat_lt (length p.rest) 4) (agree (take 4 p.rest) magic) (nat_lt (length (drop 4 p.rest)) 4) p e a refl refl refl (sym (steps p) ∙ h)

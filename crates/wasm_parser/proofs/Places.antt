@@ -2,7 +2,7 @@
 use Rattle.std.proofs.Common.{◌≡◌, ℕ, suc, ◌+◌, ◌-◌, ◌<◌, ◌≤◌, Bool, true, false, cond, List, length, take, drop, slice_index, Option, Some, None, nat_lt, refl, arith, ltb-true, ltb-false}
 use Rattle.std.proofs.lemmas.List.{length-drop}
 use Rattle.std.specs.Str.{is_utf8}
-use Rattle.wasm_base.specs.Name.{Name, named, refused, name, is_above, text_behind, behind_size}
+use Rattle.wasm_base.specs.Name.{Name, named, refused, name, is_above, text_after, after_size}
 use Rattle.wasm_base.specs.Number.{Number, read, bad, short, number, last_place, ends_at, groups, most_bytes, is_unused_right}
 use Rattle.wasm_base.specs.declared.fault.Fault.{Fault}
 use Rattle.wasm_base.specs.declared.fault.Fault.TheVariants.{UnexpectedEof, StringSize, MalformedUtf8, NumberTooLong, NumberTooLarge}
@@ -49,7 +49,7 @@ size_place : (a : Bool) (v : Name) (used n p : ℕ) (f : Fault) → 0 < used →
 size_place true v used n p f s t h e = let z : used - 1 ≡ p = cc in omega arith
 size_place false v used n p f s t h e = h e
 
-name_place_at : (limit : Option ℕ) (xs : List ℕ) (n : Number) (f : Fault) (p : ℕ) → number VarU32 xs ≡ n → behind_size limit xs n ≡ refused f p → p ≤ length xs
+name_place_at : (limit : Option ℕ) (xs : List ℕ) (n : Number) (f : Fault) (p : ℕ) → number VarU32 xs ≡ n → after_size limit xs n ≡ refused f p → p ≤ length xs
 name_place_at limit xs (bad g i) f p e r =
     let z : i ≡ p = cc in
     let l : i < length xs = number_place VarU32 xs g i e in
@@ -57,7 +57,7 @@ name_place_at limit xs (bad g i) f p e r =
 name_place_at limit xs short f p e r = let z : length xs ≡ p = cc in omega arith
 name_place_at limit xs (read size used) f p e r =
     let u : Used VarU32 xs size used = number-used VarU32 xs size used e in
-    size_place (is_above limit size) (text_behind xs size used) used (length xs) p f u.some u.there
+    size_place (is_above limit size) (text_after xs size used) used (length xs) p f u.some u.there
     (λ q. text_place (nat_lt (length xs - used) size) (is_utf8 (take size (drop used xs))) (take size (drop used xs)) size used (length xs) p f refl u.some u.there (rw (length-drop used xs) at q)) r
 
 -- a name is wrong at one of the bytes, or at their end
@@ -75,12 +75,12 @@ size_used : (a : Bool) (v : Name) (used n k : ℕ) (shown : List ℕ) → (v ≡
 size_used true v used n k shown h e = cc
 size_used false v used n k shown h e = h e
 
-name_used_at : (limit : Option ℕ) (xs : List ℕ) (n : Number) (shown : List ℕ) (k : ℕ) → number VarU32 xs ≡ n → behind_size limit xs n ≡ named shown k → k ≤ length xs
+name_used_at : (limit : Option ℕ) (xs : List ℕ) (n : Number) (shown : List ℕ) (k : ℕ) → number VarU32 xs ≡ n → after_size limit xs n ≡ named shown k → k ≤ length xs
 name_used_at limit xs (bad g i) shown k e r = cc
 name_used_at limit xs short shown k e r = cc
 name_used_at limit xs (read size used) shown k e r =
     let u : Used VarU32 xs size used = number-used VarU32 xs size used e in
-    size_used (is_above limit size) (text_behind xs size used) used (length xs) k shown
+    size_used (is_above limit size) (text_after xs size used) used (length xs) k shown
     (λ q. text_used (nat_lt (length xs - used) size) (is_utf8 (take size (drop used xs))) (take size (drop used xs)) shown size used (length xs) k refl u.there (rw (length-drop used xs) at q)) r
 
 -- a name takes no more than the bytes that are there

@@ -3,21 +3,21 @@ use Rattle.std.proofs.Common.{◌≡◌, ℕ, zero, suc, ◌+◌, ◌<◌, ◌�
 use Rattle.std.proofs.lemmas.List.{append_cancel_left}
 use Rattle.wasm_parser.specs.Content.{Ending, ended}
 use Rattle.wasm_parser.specs.Grammar.{Tile, Verdict, tile, final, verdict}
-use Rattle.wasm_parser.specs.Tiling.{front, grammar, Faultless}
+use Rattle.wasm_parser.specs.Tiling.{bytes_of, grammar, Faultless}
 use Rattle.wasm_parser.specs.Reading.{Reads, Reading, Event, events_of, last_event}
 use Rattle.wasm_parser.proofs.GrammarLaws.{Cut, verdict-more, verdict-cut}
 use Rattle.wasm_parser.proofs.TileLaws.{Guarded-grammar, tile_least}
 
--- the tile that stands behind a faultless tiling
+-- the tile that is after a faultless tiling
 pub record Grown (start : ℕ) (ts : List Tile) (d : List ℕ) (t : Tile) : Type 0 where
   pub faultless : Faultless start (t ∷ ts)
   pub rest : List ℕ
   pub split : d ≡ t.bytes ++ rest
   pub some : 0 < length t.bytes
-  -- it stands there whatever follows it
+  -- it is there whatever follows it
   pub stays : (more : List ℕ) → verdict (grammar start ts) (t.bytes ++ more) ≡ tile t
 
--- one tile more: what stands behind a faultless tiling makes a longer one
+-- one tile more: what is after a faultless tiling makes a longer one
 pub grows : (start : ℕ) (ts : List Tile) (d : List ℕ) (t : Tile) → Faultless start ts → verdict (grammar start ts) d ≡ tile t → Grown start ts d t
 grows start ts d t f e =
     let c : Cut (grammar start ts) d t = verdict-cut (grammar start ts) (Guarded-grammar start ts) d t e in
@@ -47,12 +47,12 @@ onto-onto : (ts later : List Tile) → onto (onto ts later) [] ≡ onto later ts
 onto-onto [] later = refl
 onto-onto (t ∷ ts) later = onto-onto ts (t ∷ later)
 
-runs_from : (start : ℕ) (ts : List Tile) (stream rest : List ℕ) (later : List Tile) (e : Ending) → Faultless start ts → stream ≡ front ts ++ rest
+runs_from : (start : ℕ) (ts : List Tile) (stream rest : List ℕ) (later : List Tile) (e : Ending) → Faultless start ts → stream ≡ bytes_of ts ++ rest
     → Runs start ts rest later e → Runs start [] stream (onto ts later) e
 runs_from start [] stream rest later e f w r = subst (λ (x : List ℕ). Runs start [] x later e) (sym w) r
 runs_from start (t ∷ ts) stream rest later e f w r =
     let g : Grown start ts t.bytes t = grows start ts t.bytes t f.0 f.1 in
-    runs_from start ts stream (t.bytes ++ rest) (t ∷ later) e f.0 (w ∙ append_assoc (front ts) t.bytes rest) (g.stays rest, rest, refl, r)
+    runs_from start ts stream (t.bytes ++ rest) (t ∷ later) e f.0 (w ∙ append_assoc (bytes_of ts) t.bytes rest) (g.stays rest, rest, refl, r)
 
 runs_same : (start : ℕ) (ts : List Tile) (d : List ℕ) (xs ys : List Tile) (e f : Ending) → Runs start ts d xs e → Runs start ts d ys f → (xs ≡ ys) × (e ≡ f)
 runs_same start ts d [] [] e f p q = (refl, ending_same e f (sym p ∙ q))
@@ -105,8 +105,8 @@ shorter stream start first t o = record {
   begins = o.begins ∙ sym (append_assoc o.later (t ∷ []) first);
 }
 
-onward_at : (stream : List ℕ) (start : ℕ) (ts : List Tile) (rest : List ℕ) → Faultless start ts → stream ≡ front ts ++ rest
-    → ((t : Tile) (r : List ℕ) → length r < length rest → Faultless start (t ∷ ts) → stream ≡ front (t ∷ ts) ++ r → Onward stream start (t ∷ ts))
+onward_at : (stream : List ℕ) (start : ℕ) (ts : List Tile) (rest : List ℕ) → Faultless start ts → stream ≡ bytes_of ts ++ rest
+    → ((t : Tile) (r : List ℕ) → length r < length rest → Faultless start (t ∷ ts) → stream ≡ bytes_of (t ∷ ts) ++ r → Onward stream start (t ∷ ts))
     → (v : Verdict) → verdict (grammar start ts) rest ≡ v → Onward stream start ts
 onward_at stream start ts rest f w next (final e) q =
     record { tiles = ts; end = e; reads = record { rest = rest; whole = w; faultless = f; stops = q }; later = []; begins = refl }
@@ -114,34 +114,34 @@ onward_at stream start ts rest f w next (tile t) q =
     let g : Grown start ts rest t = grows start ts rest t f q in
     let n : length rest ≡ length t.bytes + length g.rest = ap (λ (x : List ℕ). length x) g.split ∙ length-append t.bytes g.rest in
     let s : 0 < length t.bytes = g.some in
-    shorter stream start ts t (next t g.rest (omega arith) g.faultless (w ∙ (ap (λ (x : List ℕ). front ts ++ x) g.split ∙ sym (append_assoc (front ts) t.bytes g.rest))))
+    shorter stream start ts t (next t g.rest (omega arith) g.faultless (w ∙ (ap (λ (x : List ℕ). bytes_of ts ++ x) g.split ∙ sym (append_assoc (bytes_of ts) t.bytes g.rest))))
 
-onward_for : (stream : List ℕ) (start fuel : ℕ) (ts : List Tile) (rest : List ℕ) → length rest ≤ fuel → Faultless start ts → stream ≡ front ts ++ rest → Onward stream start ts
+onward_for : (stream : List ℕ) (start fuel : ℕ) (ts : List Tile) (rest : List ℕ) → length rest ≤ fuel → Faultless start ts → stream ≡ bytes_of ts ++ rest → Onward stream start ts
 onward_for stream start zero ts rest l f w = onward_at stream start ts rest f w (λ t r s. absurd (omega arith)) (verdict (grammar start ts) rest) refl
 onward_for stream start (suc fuel) ts rest l f w =
     onward_at stream start ts rest f w (λ t r s g z. onward_for stream start fuel (t ∷ ts) r (omega arith) g z) (verdict (grammar start ts) rest) refl
 
--- each faultless tiling of a front of a stream begins a reading
-pub onward : (stream : List ℕ) (start : ℕ) (ts : List Tile) (rest : List ℕ) → Faultless start ts → stream ≡ front ts ++ rest → Onward stream start ts
+-- each faultless tiling of a prefix of a stream begins a reading
+pub onward : (stream : List ℕ) (start : ℕ) (ts : List Tile) (rest : List ℕ) → Faultless start ts → stream ≡ bytes_of ts ++ rest → Onward stream start ts
 onward stream start ts rest f w = onward_for stream start (length rest) ts rest (le_refl (length rest)) f w
 
 -- every stream has a reading
 pub reads_all : (stream : List ℕ) (start : ℕ) → Onward stream start []
 reads_all stream start = onward stream start [] stream tt refl
 
--- nothing more stands where no bytes are left
-stops_at : (start : ℕ) (ts : List Tile) → Faultless start ts → (v : Verdict) → verdict (grammar start ts) [] ≡ v → Reads (front ts) start ts (ending_of v)
-stops_at start ts f (final e) q = record { rest = []; whole = sym (append-nil (front ts)); faultless = f; stops = q }
+-- nothing more is where no bytes are left
+stops_at : (start : ℕ) (ts : List Tile) → Faultless start ts → (v : Verdict) → verdict (grammar start ts) [] ≡ v → Reads (bytes_of ts) start ts (ending_of v)
+stops_at start ts f (final e) q = record { rest = []; whole = sym (append-nil (bytes_of ts)); faultless = f; stops = q }
 stops_at start ts f (tile t) q =
     let g : Grown start ts [] t = grows start ts [] t f q in
     let n : 0 ≡ length t.bytes + length g.rest = ap (λ (x : List ℕ). length x) g.split ∙ length-append t.bytes g.rest in
     let s : 0 < length t.bytes = g.some in
     absurd (omega arith)
 
--- two faultless tilings of one front are one
-pub tiling_same : (start : ℕ) (ts us : List Tile) → Faultless start ts → Faultless start us → front ts ≡ front us → ts ≡ us
+-- two faultless tilings of one prefix are one
+pub tiling_same : (start : ℕ) (ts us : List Tile) → Faultless start ts → Faultless start us → bytes_of ts ≡ bytes_of us → ts ≡ us
 tiling_same start ts us f g e =
-    let p : Reads (front ts) start ts (ending_of (verdict (grammar start ts) [])) = stops_at start ts f (verdict (grammar start ts) []) refl in
-    let q : Reads (front us) start us (ending_of (verdict (grammar start us) [])) = stops_at start us g (verdict (grammar start us) []) refl in
-    let q' : Reads (front ts) start us (ending_of (verdict (grammar start us) [])) = subst (λ (x : List ℕ). Reads x start us (ending_of (verdict (grammar start us) []))) (sym e) q in
-    (reads_same (front ts) start ts us _ _ p q').0
+    let p : Reads (bytes_of ts) start ts (ending_of (verdict (grammar start ts) [])) = stops_at start ts f (verdict (grammar start ts) []) refl in
+    let q : Reads (bytes_of us) start us (ending_of (verdict (grammar start us) [])) = stops_at start us g (verdict (grammar start us) []) refl in
+    let q' : Reads (bytes_of ts) start us (ending_of (verdict (grammar start us) [])) = subst (λ (x : List ℕ). Reads x start us (ending_of (verdict (grammar start us) []))) (sym e) q in
+    (reads_same (bytes_of ts) start ts us _ _ p q').0

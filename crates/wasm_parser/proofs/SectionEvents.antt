@@ -7,36 +7,36 @@ use Rattle.wasm_base.specs.Number.{read}
 use Rattle.wasm_base.specs.Window.{Window}
 use Rattle.wasm_parser.specs.Accepted.{IsNumber, IsGood}
 use Rattle.wasm_parser.specs.Content.{Kind, custom, items, index, data_count, code, unknown, kind_of, Ending, fault, ended, value_of}
-use Rattle.wasm_parser.specs.Grammar.{Shape, header, section, code_head, body, Tile, tile, Past, verdict, section_grammar, body_grammar, content_grammar, code_grammar}
+use Rattle.wasm_parser.specs.Grammar.{Shape, header, section, code_head, body, Tile, tile, SectionContext, verdict, section_grammar, body_grammar, content_grammar, code_grammar}
 use Rattle.wasm_parser.specs.Laws.{EventsSayTheirBytes}
-use Rattle.wasm_parser.specs.Reading.{Told, code_entry, window_over, told_custom, told_section, event_of, last_event, events_of}
+use Rattle.wasm_parser.specs.Reading.{Report, code_entry, window_over, custom_report, section_report, event_of, last_event, events_of}
 use Rattle.wasm_parser.specs.SectionEvents.{bytes_of_bodies, SaysContent, IsSectionEvent, SaysItsBytes}
 use Rattle.wasm_parser.specs.Sections.{section_of}
-use Rattle.wasm_parser.specs.Spans.{AtOffsets}
-use Rattle.wasm_parser.specs.Tiling.{front, past, grammar, bodies_left, bytes_left, Faultless}
+use Rattle.wasm_parser.specs.EventRanges.{AtOffsets}
+use Rattle.wasm_parser.specs.Tiling.{bytes_of, context_of, grammar, bodies_left, bytes_left, Faultless}
 use Rattle.wasm_parser.proofs.Ends.{at_offsets_more, tiles_consume}
-use Rattle.wasm_parser.proofs.StandsLaws.{IsHeader, headed}
-use Rattle.wasm_parser.proofs.TextbookContents.{good_from}
+use Rattle.wasm_parser.proofs.StateLaws.{IsHeader, headed}
+use Rattle.wasm_parser.proofs.AcceptedContents.{good_from}
 use Rattle.wasm_parser.proofs.KindIds.{code_id}
-use Rattle.wasm_parser.proofs.TextbookParts.{SectionParts, section_parts, WholeParts, content_parts, HeadParts, head_parts, BodyParts, body_parts}
-use Rattle.wasm_parser.proofs.TextbookTiles.{made, IsWhole, whole_or_code}
-use Rattle.wasm_parser.proofs.ToldSections.{section_at, told_behind}
+use Rattle.wasm_parser.proofs.AcceptedParts.{SectionParts, section_parts, WholeParts, content_parts, HeadParts, head_parts, BodyParts, body_parts}
+use Rattle.wasm_parser.proofs.AcceptedTiles.{made, IsWhole, whole_or_code}
+use Rattle.wasm_parser.proofs.ReportedSections.{section_at, report_after}
 
--- ---- what is told of good content
+-- ---- what is reported of good content
 
--- what is told of a section is its content, and it has no bodies
-record Said (features from : ℕ) (content : List ℕ) (told : Told) : Type 0 where
-  says : SaysContent features from content told
-  no_bodies : bytes_of_bodies told ≡ 0
+-- what is reported of a section is its content, and it has no bodies
+record Said (features from : ℕ) (content : List ℕ) (report : Report) : Type 0 where
+  says : SaysContent features from content report
+  no_bodies : bytes_of_bodies report ≡ 0
 
-said_name : (features from to : ℕ) (content text : List ℕ) (used : ℕ) (n : Name) → n ≡ named text used → name (Some name_limit) content ≡ named text used → Said features from content (told_custom features from to content n)
+said_name : (features from to : ℕ) (content text : List ℕ) (used : ℕ) (n : Name) → n ≡ named text used → name (Some name_limit) content ≡ named text used → Said features from content (custom_report features from to content n)
 said_name features from to content text used (named other k) e h =
     let z : used ≡ k = cc in
     let y : text ≡ other = cc in
     record { says = (refl, (k, h ∙ (λ i. named (y i) (z i)), refl)); no_bodies = refl }
 said_name features from to content text used (refused f place) e h = cc
 
-said : (features from to : ℕ) (kind : Kind) (id : ℕ) (content : List ℕ) → IsWhole kind → IsGood kind content → Said features from content (told_section features from to kind id content)
+said : (features from to : ℕ) (kind : Kind) (id : ℕ) (content : List ℕ) → IsWhole kind → IsGood kind content → Said features from content (section_report features from to kind id content)
 said features from to custom id content w (text, used, h) = said_name features from to content text used (name (Some name_limit) content) h h
 said features from to items id content w (n, used, h) = record { says = (refl, (used, h ∙ ap (λ (x : ℕ). read x used) (sym (ap value_of h)))); no_bodies = refl }
 said features from to index id content w (n, h) = record { says = h ∙ ap (λ (x : ℕ). read x (length content)) (sym (ap value_of h)); no_bodies = refl }
@@ -46,9 +46,9 @@ said features from to code id content w g = absurd w
 
 -- ---- the event of a section
 
--- the section that is told is this one
+-- the section that is reported is this one
 abbrev Same : (id : ℕ) (range : Range ℕ) → Option (ℕ × Range ℕ) → Type 0
-Same id range told = told ≡ Some (id, range)
+Same id range report = report ≡ Some (id, range)
 
 abbrev id_in : Option (ℕ × Range ℕ) → ℕ
 id_in (Some x) = x.0
@@ -70,8 +70,8 @@ whole_event : (features o id : ℕ) (field content : List ℕ) (kind : Kind) →
     → IsSectionEvent features o i range (event_of features o (made (section kind id content) (id ∷ (field ++ content))))
 whole_event features o id field content kind n w g i range e =
     let high : ℕ = o + length (id ∷ (field ++ content)) in
-    let s : Said features (high - length content) content (told_section features (high - length content) high kind id content) = said features (high - length content) high kind id content w g in
-    let b : bytes_of_bodies (told_section features (high - length content) high kind id content) ≡ 0 = s.no_bodies in
+    let s : Said features (high - length content) content (section_report features (high - length content) high kind id content) = said features (high - length content) high kind id content w g in
+    let b : bytes_of_bodies (section_report features (high - length content) high kind id content) ≡ 0 = s.no_bodies in
     let l : length (field ++ content) ≡ length field + length content = length-append field content in
     let at : IsSectionEvent features o id (record { start = high - length content; end = high }) (event_of features o (made (section kind id content) (id ∷ (field ++ content)))) = record {
       field = field;
@@ -110,12 +110,12 @@ head_event features o id size count field head z n c i range e =
 
 -- ---- the event of a tile
 
--- what is told of a section is no body
-no_body_named : (features from to : ℕ) (content : List ℕ) (n : Name) (window : Window) → told_custom features from to content n ≡ code_entry window → ⊥
+-- what is reported of a section is no body
+no_body_named : (features from to : ℕ) (content : List ℕ) (n : Name) (window : Window) → custom_report features from to content n ≡ code_entry window → ⊥
 no_body_named features from to content (named text used) window e = cc
 no_body_named features from to content (refused f place) window e = cc
 
-no_body : (features from to : ℕ) (kind : Kind) (id : ℕ) (content : List ℕ) (window : Window) → told_section features from to kind id content ≡ code_entry window → ⊥
+no_body : (features from to : ℕ) (kind : Kind) (id : ℕ) (content : List ℕ) (window : Window) → section_report features from to kind id content ≡ code_entry window → ⊥
 no_body features from to custom id content window e = no_body_named features from to content (name (Some name_limit) content) window e
 no_body features from to items id content window e = cc
 no_body features from to index id content window e = cc
@@ -123,13 +123,13 @@ no_body features from to data_count id content window e = cc
 no_body features from to code id content window e = cc
 no_body features from to unknown id content window e = cc
 
--- The section that is told of a tile is the one that ends where the tile does.
-abbrev ToldThere : (features o : ℕ) → Tile → Type 0
-ToldThere features o t = section_of (event_of features o t).told ≡ section_at (o + length t.bytes) t.shape
+-- The section that is reported of a tile is the one that ends where the tile does.
+abbrev ReportedThere : (features o : ℕ) → Tile → Type 0
+ReportedThere features o t = section_of (event_of features o t).report ≡ section_at (o + length t.bytes) t.shape
 
 -- the event of a section that is one tile
 whole_says : (features o id : ℕ) (field content : List ℕ) (kind : Kind) → IsNumber field (length content) → IsWhole kind → IsGood kind content
-    → ToldThere features o (made (section kind id content) (id ∷ (field ++ content))) → SaysItsBytes features o (event_of features o (made (section kind id content) (id ∷ (field ++ content))))
+    → ReportedThere features o (made (section kind id content) (id ∷ (field ++ content))) → SaysItsBytes features o (event_of features o (made (section kind id content) (id ∷ (field ++ content))))
 whole_says features o id field content kind n w g q =
     let high : ℕ = o + length (id ∷ (field ++ content)) in
     record {
@@ -139,14 +139,14 @@ whole_says features o id field content kind n w g q =
 
 -- the event of the head of a code section
 head_says : (features o id size count : ℕ) (field head : List ℕ) → id ≡ 10 → IsNumber field (length head + size) → IsNumber head count
-    → ToldThere features o (made (code_head count (length head) size) (id ∷ (field ++ head))) → SaysItsBytes features o (event_of features o (made (code_head count (length head) size) (id ∷ (field ++ head))))
+    → ReportedThere features o (made (code_head count (length head) size) (id ∷ (field ++ head))) → SaysItsBytes features o (event_of features o (made (code_head count (length head) size) (id ∷ (field ++ head))))
 head_says features o id size count field head z n c q = record {
   section = λ i range e. head_event features o id size count field head z n c i range (sym q ∙ e);
   body = λ window e. cc;
 }
 
 -- the event of a body
-window_same : (v w : Window) → (let told : Told = code_entry v in told) ≡ code_entry w → v ≡ w
+window_same : (v w : Window) → (let report : Report = code_entry v in report) ≡ code_entry w → v ≡ w
 window_same v w e = cc
 
 body_says : (features o : ℕ) (field content : List ℕ) → IsNumber field (length content) → SaysItsBytes features o (event_of features o (made (body content) (field ++ content)))
@@ -166,7 +166,7 @@ body_says features o field content n =
     }
 
 -- the event of a section's tile
-section_says : (features o : ℕ) (p : Past) (t : Tile) → ToldThere features o t → (s : SectionParts p o t) → SaysItsBytes features o (event_of features o t)
+section_says : (features o : ℕ) (p : SectionContext) (t : Tile) → ReportedThere features o t → (s : SectionParts p o t) → SaysItsBytes features o (event_of features o t)
 section_says features o p t q s = at (whole_or_code (kind_of p.encoding s.id))
   where
     at : IsWhole (kind_of p.encoding s.id) ⊎ (kind_of p.encoding s.id ≡ code) → SaysItsBytes features o (event_of features o t)
@@ -175,14 +175,14 @@ section_says features o p t q s = at (whole_or_code (kind_of p.encoding s.id))
         let z : t ≡ made (section (kind_of p.encoding s.id) s.id c.content) (s.id ∷ (s.field ++ c.content)) = s.is ∙ ap (λ (x : Tile). made x.shape (s.id ∷ (s.field ++ x.bytes))) c.is in
         let n : IsNumber s.field (length c.content) = subst (IsNumber s.field) (sym c.long) s.whole in
         subst (λ (x : Tile). SaysItsBytes features o (event_of features o x)) (sym z)
-        (whole_says features o s.id s.field c.content (kind_of p.encoding s.id) n w (good_from (kind_of p.encoding s.id) (o + 1 + length s.field) c.content w c.right) (subst (ToldThere features o) z q))
+        (whole_says features o s.id s.field c.content (kind_of p.encoding s.id) n w (good_from (kind_of p.encoding s.id) (o + 1 + length s.field) c.content w c.right) (subst (ReportedThere features o) z q))
     at (inr k) =
         let g : verdict (code_grammar p (o + 1 + length s.field) s.size) s.others ≡ tile s.rest = subst (λ (x : Kind). verdict (content_grammar p x s.id (o + 1 + length s.field) s.size) s.others ≡ tile s.rest) k s.goes_on in
         let c : HeadParts p (o + 1 + length s.field) s.size s.rest = head_parts p (o + 1 + length s.field) s.size s.others s.rest g in
         let z : t ≡ made (code_head c.count (length c.head) (s.size - length c.head)) (s.id ∷ (s.field ++ c.head)) = s.is ∙ ap (λ (x : Tile). made x.shape (s.id ∷ (s.field ++ x.bytes))) c.is in
         let n : IsNumber s.field (length c.head + (s.size - length c.head)) = subst (IsNumber s.field) (omega (arith, c.fits)) s.whole in
         subst (λ (x : Tile). SaysItsBytes features o (event_of features o x)) (sym z)
-        (head_says features o s.id (s.size - length c.head) c.count s.field c.head (code_id p.encoding s.id k).1 n c.whole (subst (ToldThere features o) z q))
+        (head_says features o s.id (s.size - length c.head) c.count s.field c.head (code_id p.encoding s.id k).1 n c.whole (subst (ReportedThere features o) z q))
 
 body_tile_says : (features o m l : ℕ) (t : Tile) → BodyParts m l t → SaysItsBytes features o (event_of features o t)
 body_tile_says features o m l t b = subst (λ (x : Tile). SaysItsBytes features o (event_of features o x)) (sym b.is) (body_says features o b.field b.content b.whole)
@@ -195,15 +195,15 @@ header_says features o t (code_head count width size) e h = absurd h
 header_says features o t (body content) e h = absurd h
 
 -- the event of a tile after a header
-inside_says : (features o : ℕ) (b : Bool) (p : Past) (m l : ℕ) (t : Tile) → ToldThere features o t → verdict (cond b (section_grammar p o) (body_grammar m l o)) t.bytes ≡ tile t → SaysItsBytes features o (event_of features o t)
+inside_says : (features o : ℕ) (b : Bool) (p : SectionContext) (m l : ℕ) (t : Tile) → ReportedThere features o t → verdict (cond b (section_grammar p o) (body_grammar m l o)) t.bytes ≡ tile t → SaysItsBytes features o (event_of features o t)
 inside_says features o true p m l t q v = section_says features o p t q (section_parts p o t.bytes t v)
 inside_says features o false p m l t q v = body_tile_says features o m l t (body_parts m l o t.bytes t v)
 
-tile_says : (start features : ℕ) (ts : List Tile) (t : Tile) → verdict (grammar start ts) t.bytes ≡ tile t → SaysItsBytes features (start + length (front ts)) (event_of features (start + length (front ts)) t)
+tile_says : (start features : ℕ) (ts : List Tile) (t : Tile) → verdict (grammar start ts) t.bytes ≡ tile t → SaysItsBytes features (start + length (bytes_of ts)) (event_of features (start + length (bytes_of ts)) t)
 tile_says start features [] t v = header_says features (start + 0) t t.shape refl (headed start t.bytes t v)
 tile_says start features (u ∷ ts) t v =
     let us : List Tile = u ∷ ts in
-    inside_says features (start + length (front us)) (nat_eq (bodies_left us + bytes_left us) 0) (past us) (bodies_left us) (bytes_left us) t (told_behind start features (start + length (front us)) u ts t v) v
+    inside_says features (start + length (bytes_of us)) (nat_eq (bodies_left us + bytes_left us) 0) (context_of us) (bodies_left us) (bytes_left us) t (report_after start features (start + length (bytes_of us)) u ts t v) v
 
 -- ---- all events
 
@@ -214,12 +214,12 @@ last_says features at (ended o) = record { section = λ i range x. cc; body = λ
 tiles_say : (start features : ℕ) (ts : List Tile) → Faultless start ts → AtOffsets (SaysItsBytes features) start (events_of start features ts)
 tiles_say start features [] f = tt
 tiles_say start features (t ∷ ts) f =
-    at_offsets_more (SaysItsBytes features) start (events_of start features ts) (event_of features (start + length (front ts)) t) (start + length (front ts))
+    at_offsets_more (SaysItsBytes features) start (events_of start features ts) (event_of features (start + length (bytes_of ts)) t) (start + length (bytes_of ts))
     (ap (λ (x : List ℕ). start + length x) (sym (tiles_consume start features ts))) (tiles_say start features ts f.0) (tile_says start features ts t f.1)
 
 pub events_say_their_bytes : EventsSayTheirBytes
 events_say_their_bytes stream start features events r =
     let ts : List Tile = r.tiles in
     subst (AtOffsets (SaysItsBytes features) start) (sym r.listed)
-    (at_offsets_more (SaysItsBytes features) start (events_of start features ts) (last_event r.end) (start + length (front ts))
-    (ap (λ (x : List ℕ). start + length x) (sym (tiles_consume start features ts))) (tiles_say start features ts r.reads.faultless) (last_says features (start + length (front ts)) r.end))
+    (at_offsets_more (SaysItsBytes features) start (events_of start features ts) (last_event r.end) (start + length (bytes_of ts))
+    (ap (λ (x : List ℕ). start + length x) (sym (tiles_consume start features ts))) (tiles_say start features ts r.reads.faultless) (last_says features (start + length (bytes_of ts)) r.end))

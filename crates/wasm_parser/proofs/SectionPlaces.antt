@@ -11,26 +11,26 @@ use Rattle.wasm_parser.specs.Grammar.{section, code_head, Tile, tile, verdict, s
 use Rattle.wasm_parser.specs.Reading.{events_of, Reads}
 use Rattle.wasm_parser.specs.SectionLaws.{SectionsTile}
 use Rattle.wasm_parser.specs.Sections.{sections_of, bytes_in, id_and_bytes, id_and_content, places_of}
-use Rattle.wasm_parser.specs.Tiling.{front, past, grammar, encoding_of, bodies_left, bytes_left, bytes_after, Faultless}
+use Rattle.wasm_parser.specs.Tiling.{bytes_of, context_of, grammar, encoding_of, bodies_left, bytes_left, bytes_after, Faultless}
 use Rattle.wasm_parser.specs.declared.payload.Encoding.{Encoding}
 use Rattle.wasm_parser.proofs.Endings.{header_end, inside_end}
 use Rattle.wasm_parser.proofs.FramesSame.{frames_same, headers_same}
 use Rattle.wasm_parser.proofs.ReadingLaws.{reads_same}
 use Rattle.wasm_parser.proofs.KindIds.{code_id}
-use Rattle.wasm_parser.proofs.TextbookHeaders.{HeaderParts, header_parts}
-use Rattle.wasm_parser.proofs.TextbookLists.{all_front}
-use Rattle.wasm_parser.proofs.TextbookParts.{SectionParts, section_parts, WholeParts, content_parts, HeadParts, head_parts, BodyParts, body_parts}
-use Rattle.wasm_parser.proofs.TextbookTiles.{made, IsWhole, whole_or_code}
-use Rattle.wasm_parser.proofs.TextbookWalks.{stream_of, stream_more, accepted_reads}
-use Rattle.wasm_parser.proofs.ToldSections.{section_at, sections_more, sections_first, sections_all}
+use Rattle.wasm_parser.proofs.AcceptedHeaders.{HeaderParts, header_parts}
+use Rattle.wasm_parser.proofs.AcceptedLists.{all_prefix}
+use Rattle.wasm_parser.proofs.AcceptedParts.{SectionParts, section_parts, WholeParts, content_parts, HeadParts, head_parts, BodyParts, body_parts}
+use Rattle.wasm_parser.proofs.AcceptedTiles.{made, IsWhole, whole_or_code}
+use Rattle.wasm_parser.proofs.AcceptedWalks.{stream_of, stream_more, accepted_reads}
+use Rattle.wasm_parser.proofs.ReportedSections.{section_at, sections_more, sections_first, sections_all}
 
--- ---- where sections stand
+-- ---- where sections are
 
 -- how many bytes sections have
 abbrev size_of : List Frame → ℕ
 size_of fs = length (flat_map frame_bytes fs)
 
--- one more section stands behind the others
+-- one more section is after the others
 places_push : (offset : ℕ) (fs : List Frame) (f : Frame) → places_of offset (fs ++ f ∷ []) ≡ places_of offset fs ++ places_of (offset + size_of fs) (f ∷ [])
 places_push offset [] f = ap (λ (o : ℕ). places_of o (f ∷ [])) (omega arith)
 places_push offset (g ∷ fs) f =
@@ -40,40 +40,40 @@ places_push offset (g ∷ fs) f =
     (places_push (offset + length (frame_bytes g)) fs f ∙ ap (λ (x : ℕ). places_of (offset + length (frame_bytes g)) fs ++ places_of x (f ∷ [])) o)
 
 -- the range of a section has its content
-range_bytes : (stream front rest : List ℕ) (start offset : ℕ) (f : Frame) → stream ≡ front ++ (frame_bytes f ++ rest) → offset ≡ start + length front
+range_bytes : (stream prefix rest : List ℕ) (start offset : ℕ) (f : Frame) → stream ≡ prefix ++ (frame_bytes f ++ rest) → offset ≡ start + length prefix
     → bytes_in stream start (record { start = offset + 1 + length f.sized.field; end = offset + length (frame_bytes f) }) ≡ f.sized.content
-range_bytes stream front rest start offset f w o =
+range_bytes stream prefix rest start offset f w o =
     let field : List ℕ = f.id ∷ f.sized.field in
     let content : List ℕ = f.sized.content in
     let a : ℕ = offset + 1 + length f.sized.field in
     let n : length (f.sized.field ++ content) ≡ length f.sized.field + length content = length-append f.sized.field content in
-    let m : length (front ++ field) ≡ length front + length field = length-append front field in
-    let s : stream ≡ (front ++ field) ++ (content ++ rest) = w ∙ simp append_assoc refl in
-    let d : drop (a - start) stream ≡ content ++ rest = ap (drop (a - start)) s ∙ drop_at (front ++ field) (content ++ rest) (a - start) (omega arith) in
+    let m : length (prefix ++ field) ≡ length prefix + length field = length-append prefix field in
+    let s : stream ≡ (prefix ++ field) ++ (content ++ rest) = w ∙ simp append_assoc refl in
+    let d : drop (a - start) stream ≡ content ++ rest = ap (drop (a - start)) s ∙ drop_at (prefix ++ field) (content ++ rest) (a - start) (omega arith) in
     ap (take (offset + length (frame_bytes f) - a)) d ∙ take_at content rest (offset + length (frame_bytes f) - a) (omega arith)
 
 -- the ranges of sections have their contents
-ranges_bytes : (stream front : List ℕ) (start offset : ℕ) (fs : List Frame) → stream ≡ front ++ flat_map frame_bytes fs → offset ≡ start + length front
+ranges_bytes : (stream prefix : List ℕ) (start offset : ℕ) (fs : List Frame) → stream ≡ prefix ++ flat_map frame_bytes fs → offset ≡ start + length prefix
     → map (id_and_bytes stream start) (places_of offset fs) ≡ map id_and_content fs
-ranges_bytes stream front start offset [] w o = refl
-ranges_bytes stream front start offset (f ∷ fs) w o =
-    let b : bytes_in stream start (record { start = offset + 1 + length f.sized.field; end = offset + length (frame_bytes f) }) ≡ f.sized.content = range_bytes stream front (flat_map frame_bytes fs) start offset f w o in
+ranges_bytes stream prefix start offset [] w o = refl
+ranges_bytes stream prefix start offset (f ∷ fs) w o =
+    let b : bytes_in stream start (record { start = offset + 1 + length f.sized.field; end = offset + length (frame_bytes f) }) ≡ f.sized.content = range_bytes stream prefix (flat_map frame_bytes fs) start offset f w o in
     let t : map (id_and_bytes stream start) (places_of (offset + length (frame_bytes f)) fs) ≡ map id_and_content fs =
-    ranges_bytes stream (front ++ frame_bytes f) start (offset + length (frame_bytes f)) fs (w ∙ sym (append_assoc front (frame_bytes f) (flat_map frame_bytes fs))) (omega (arith, length-append front (frame_bytes f))) in
+    ranges_bytes stream (prefix ++ frame_bytes f) start (offset + length (frame_bytes f)) fs (w ∙ sym (append_assoc prefix (frame_bytes f) (flat_map frame_bytes fs))) (omega (arith, length-append prefix (frame_bytes f))) in
     λ i. (f.id, b i) ∷ t i
 
 -- ---- the sections of tiles
 
--- The tiles are a header and these sections, which are told where they stand.
+-- The tiles are a header and these sections, which are reported where they are.
 record Closed (start features : ℕ) (ts : List Tile) : Type 0 where
   encoding : Encoding
   frames : List Frame
   sized : All (λ f. IsSized f.sized) frames
-  covers : front ts ≡ stream_of encoding frames
+  covers : bytes_of ts ≡ stream_of encoding frames
   places : sections_of (events_of start features ts) ≡ places_of (start + length (header_bytes encoding)) frames
   whole : bodies_left ts + bytes_left ts ≡ 0
 
--- The tiles are a header, these sections, and a beginning of a code section, which is told with all its length.
+-- The tiles are a header, these sections, and a beginning of a code section, which is reported with all its length.
 record Open (start features : ℕ) (ts : List Tile) : Type 0 where
   encoding : Encoding
   frames : List Frame
@@ -83,11 +83,11 @@ record Open (start features : ℕ) (ts : List Tile) : Type 0 where
   long : IsNumber field size
   inner : List ℕ
   misses : size ≡ length inner + bytes_left ts
-  covers : front ts ≡ stream_of encoding frames ++ 10 ∷ (field ++ inner)
+  covers : bytes_of ts ≡ stream_of encoding frames ++ 10 ∷ (field ++ inner)
   places : sections_of (events_of start features ts)
       ≡ places_of (start + length (header_bytes encoding)) frames ++ (10, record { start = start + length (stream_of encoding frames) + 1 + length field; end = start + length (stream_of encoding frames) + 1 + length field + size }) ∷ []
 
--- one more section that is told where it stands
+-- one more section that is reported where it is
 push_places : (start : ℕ) (encoding : Encoding) (fs : List Frame) (f : Frame) (low high : ℕ) → low ≡ start + length (stream_of encoding fs) + 1 + length f.sized.field → high ≡ low + length f.sized.content
     → places_of (start + length (header_bytes encoding)) fs ++ (f.id, record { start = low; end = high }) ∷ [] ≡ places_of (start + length (header_bytes encoding)) (fs ++ f ∷ [])
 push_places start encoding fs f low high l h =
@@ -126,17 +126,17 @@ closes start features ts q z =
       whole = z;
     }
 
--- behind whole sections, one more that is one tile
-closed_whole : (start features : ℕ) (u : Tile) (ts : List Tile) (o : ℕ) (t : Tile) → verdict (grammar start (u ∷ ts)) t.bytes ≡ tile t → Closed start features (u ∷ ts) → (s : SectionParts (past (u ∷ ts)) o t)
+-- after whole sections, one more that is one tile
+closed_whole : (start features : ℕ) (u : Tile) (ts : List Tile) (o : ℕ) (t : Tile) → verdict (grammar start (u ∷ ts)) t.bytes ≡ tile t → Closed start features (u ∷ ts) → (s : SectionParts (context_of (u ∷ ts)) o t)
     → IsWhole (kind_of (encoding_of (u ∷ ts)) s.id) → Closed start features (t ∷ u ∷ ts)
 closed_whole start features u ts o t h q s w =
     let kind : Kind = kind_of (encoding_of (u ∷ ts)) s.id in
     let at : ℕ = o + 1 + length s.field in
-    let c : WholeParts (past (u ∷ ts)) kind s.id at s.size s.rest = content_parts (past (u ∷ ts)) kind s.id at s.size s.others s.rest w s.goes_on in
+    let c : WholeParts (context_of (u ∷ ts)) kind s.id at s.size s.rest = content_parts (context_of (u ∷ ts)) kind s.id at s.size s.others s.rest w s.goes_on in
     let f : Frame = record { id = s.id; sized = record { field = s.field; content = c.content } } in
     let z : t ≡ made (section kind s.id c.content) (frame_bytes f) = s.is ∙ ap (λ (x : Tile). made x.shape (s.id ∷ (s.field ++ x.bytes))) c.is in
-    let low : ℕ = start + length (front (u ∷ ts)) in
-    let n : length (front (u ∷ ts)) ≡ length (stream_of q.encoding q.frames) = ap (λ (x : List ℕ). length x) q.covers in
+    let low : ℕ = start + length (bytes_of (u ∷ ts)) in
+    let n : length (bytes_of (u ∷ ts)) ≡ length (stream_of q.encoding q.frames) = ap (λ (x : List ℕ). length x) q.covers in
     let m : length (s.field ++ c.content) ≡ length s.field + length c.content = length-append s.field c.content in
     let p : sections_of (events_of start features (t ∷ u ∷ ts)) ≡ sections_of (events_of start features (u ∷ ts)) ++ (s.id, record { start = low + length (frame_bytes f) - length c.content; end = low + length (frame_bytes f) }) ∷ [] =
     sections_more start features u ts t h ∙ ap (λ (x : Tile). sections_of (events_of start features (u ∷ ts)) ++ option_to_list (section_at (low + length x.bytes) x.shape)) z in
@@ -144,26 +144,26 @@ closed_whole start features u ts o t h q s w =
       encoding = q.encoding;
       frames = q.frames ++ f ∷ [];
       sized = All-push (λ g. IsSized g.sized) q.frames f q.sized (s.whole ∙ ap (λ (x : ℕ). read x (length s.field)) (sym c.long));
-      covers = ap (λ (x : Tile). front (u ∷ ts) ++ x.bytes) z ∙ stream_more q.encoding q.frames f (front (u ∷ ts)) q.covers;
+      covers = ap (λ (x : Tile). bytes_of (u ∷ ts) ++ x.bytes) z ∙ stream_more q.encoding q.frames f (bytes_of (u ∷ ts)) q.covers;
       places = p ∙ (ap (λ (l : List (ℕ × Range ℕ)). l ++ (s.id, record { start = low + length (frame_bytes f) - length c.content; end = low + length (frame_bytes f) }) ∷ []) q.places
           ∙ push_places start q.encoding q.frames f (low + length (frame_bytes f) - length c.content) (low + length (frame_bytes f)) (omega arith) (omega arith));
       whole = ap (λ (x : Tile). bodies_left (x ∷ u ∷ ts) + bytes_left (x ∷ u ∷ ts)) z;
     }
 
--- behind whole sections, the head of a code section
-closed_code : (start features : ℕ) (u : Tile) (ts : List Tile) (o : ℕ) (t : Tile) → verdict (grammar start (u ∷ ts)) t.bytes ≡ tile t → Closed start features (u ∷ ts) → (s : SectionParts (past (u ∷ ts)) o t)
+-- after whole sections, the head of a code section
+closed_code : (start features : ℕ) (u : Tile) (ts : List Tile) (o : ℕ) (t : Tile) → verdict (grammar start (u ∷ ts)) t.bytes ≡ tile t → Closed start features (u ∷ ts) → (s : SectionParts (context_of (u ∷ ts)) o t)
     → kind_of (encoding_of (u ∷ ts)) s.id ≡ code → Open start features (t ∷ u ∷ ts)
 closed_code start features u ts o t h q s e =
     let i : s.id ≡ 10 = (code_id (encoding_of (u ∷ ts)) s.id e).1 in
     let at : ℕ = o + 1 + length s.field in
-    let v : verdict (content_grammar (past (u ∷ ts)) code s.id at s.size) s.others ≡ tile s.rest = subst (λ (x : Kind). verdict (content_grammar (past (u ∷ ts)) x s.id at s.size) s.others ≡ tile s.rest) e s.goes_on in
-    let c : HeadParts (past (u ∷ ts)) at s.size s.rest = head_parts (past (u ∷ ts)) at s.size s.others s.rest v in
+    let v : verdict (content_grammar (context_of (u ∷ ts)) code s.id at s.size) s.others ≡ tile s.rest = subst (λ (x : Kind). verdict (content_grammar (context_of (u ∷ ts)) x s.id at s.size) s.others ≡ tile s.rest) e s.goes_on in
+    let c : HeadParts (context_of (u ∷ ts)) at s.size s.rest = head_parts (context_of (u ∷ ts)) at s.size s.others s.rest v in
     let left : ℕ = s.size - length c.head in
     let bytes : List ℕ = 10 ∷ (s.field ++ c.head) in
     let z : t ≡ made (code_head c.count (length c.head) left) bytes =
     s.is ∙ (ap (λ (x : Tile). made x.shape (s.id ∷ (s.field ++ x.bytes))) c.is ∙ ap (λ (x : ℕ). made (code_head c.count (length c.head) left) (x ∷ (s.field ++ c.head))) i) in
-    let low : ℕ = start + length (front (u ∷ ts)) in
-    let n : length (front (u ∷ ts)) ≡ length (stream_of q.encoding q.frames) = ap (λ (x : List ℕ). length x) q.covers in
+    let low : ℕ = start + length (bytes_of (u ∷ ts)) in
+    let n : length (bytes_of (u ∷ ts)) ≡ length (stream_of q.encoding q.frames) = ap (λ (x : List ℕ). length x) q.covers in
     let m : length (s.field ++ c.head) ≡ length s.field + length c.head = length-append s.field c.head in
     let from : ℕ = start + length (stream_of q.encoding q.frames) + 1 + length s.field in
     let a : low + length bytes - length c.head ≡ from = omega arith in
@@ -187,7 +187,7 @@ closed_code start features u ts o t h q s e =
 -- within a code section, one more body
 open_body : (start features : ℕ) (u : Tile) (ts : List Tile) (t : Tile) → verdict (grammar start (u ∷ ts)) t.bytes ≡ tile t → Open start features (u ∷ ts) → BodyParts (bodies_left (u ∷ ts)) (bytes_left (u ∷ ts)) t → Open start features (t ∷ u ∷ ts)
 open_body start features u ts t h q c =
-    let low : ℕ = start + length (front (u ∷ ts)) in
+    let low : ℕ = start + length (bytes_of (u ∷ ts)) in
     let l : bytes_left (t ∷ u ∷ ts) ≡ bytes_left (u ∷ ts) - length (c.field ++ c.content) = ap (λ (x : Tile). bytes_after x x.shape (bytes_left (u ∷ ts))) c.is in
     let b : length t.bytes ≡ length (c.field ++ c.content) = ap (λ (x : Tile). length x.bytes) c.is in
     let p : sections_of (events_of start features (t ∷ u ∷ ts)) ≡ sections_of (events_of start features (u ∷ ts)) =
@@ -215,10 +215,10 @@ closed_at start features ts (inr q) e = closes start features ts q e
 -- one tile more
 state_more : (start features : ℕ) (u : Tile) (ts : List Tile) (t : Tile) → verdict (grammar start (u ∷ ts)) t.bytes ≡ tile t → Closed start features (u ∷ ts) ⊎ Open start features (u ∷ ts)
     → (b : Bool) → nat_eq (bodies_left (u ∷ ts) + bytes_left (u ∷ ts)) 0 ≡ b → (o : ℕ)
-    → verdict (cond b (section_grammar (past (u ∷ ts)) o) (body_grammar (bodies_left (u ∷ ts)) (bytes_left (u ∷ ts)) o)) t.bytes ≡ tile t → Closed start features (t ∷ u ∷ ts) ⊎ Open start features (t ∷ u ∷ ts)
+    → verdict (cond b (section_grammar (context_of (u ∷ ts)) o) (body_grammar (bodies_left (u ∷ ts)) (bytes_left (u ∷ ts)) o)) t.bytes ≡ tile t → Closed start features (t ∷ u ∷ ts) ⊎ Open start features (t ∷ u ∷ ts)
 state_more start features u ts t h q true e o v =
     let c : Closed start features (u ∷ ts) = closed_at start features (u ∷ ts) q (eqb-true _ _ e) in
-    let s : SectionParts (past (u ∷ ts)) o t = section_parts (past (u ∷ ts)) o t.bytes t v in
+    let s : SectionParts (context_of (u ∷ ts)) o t = section_parts (context_of (u ∷ ts)) o t.bytes t v in
     elim (whole_or_code (kind_of (encoding_of (u ∷ ts)) s.id)) [
       | inl w ↦ inl (closed_whole start features u ts o t h c s w)
       | inr k ↦ inr (closed_code start features u ts o t h c s k)
@@ -229,27 +229,27 @@ state_more start features u ts t h (inr q) false e o v =
     inr (open_body start features u ts t h q (body_parts (bodies_left (u ∷ ts)) (bytes_left (u ∷ ts)) o t.bytes t v))
 
 -- the tiles of bytes
-states : (start features : ℕ) (t : Tile) (ts : List Tile) → Faultless start (t ∷ ts) → All (λ b. b < 256) (front (t ∷ ts)) → Closed start features (t ∷ ts) ⊎ Open start features (t ∷ ts)
+states : (start features : ℕ) (t : Tile) (ts : List Tile) → Faultless start (t ∷ ts) → All (λ b. b < 256) (bytes_of (t ∷ ts)) → Closed start features (t ∷ ts) ⊎ Open start features (t ∷ ts)
 states start features t [] f a = inl (header_closed start features t a f.1)
 states start features t (u ∷ ts) f a =
-    state_more start features u ts t f.1 (states start features u ts f.0 (all_front (λ b. b < 256) (front (u ∷ ts)) t.bytes a))
-    (nat_eq (bodies_left (u ∷ ts) + bytes_left (u ∷ ts)) 0) refl (start + length (front (u ∷ ts))) f.1
+    state_more start features u ts t f.1 (states start features u ts f.0 (all_prefix (λ b. b < 256) (bytes_of (u ∷ ts)) t.bytes a))
+    (nat_eq (bodies_left (u ∷ ts) + bytes_left (u ∷ ts)) 0) refl (start + length (bytes_of (u ∷ ts))) f.1
 
 -- ---- the sections of a reading
 
 -- where the reading ends at its end, its tiles are a header and sections
-closed_end : (stream : List ℕ) (start features p : ℕ) (ts : List Tile) → All (λ b. b < 256) stream → Reads stream start ts (ended p) → Closed start features ts × (stream ≡ front ts)
+closed_end : (stream : List ℕ) (start features p : ℕ) (ts : List Tile) → All (λ b. b < 256) stream → Reads stream start ts (ended p) → Closed start features ts × (stream ≡ bytes_of ts)
 closed_end stream start features p [] a r = absurd (header_end start r.rest p r.stops)
 closed_end stream start features p (t ∷ ts) a r =
     let us : List Tile = t ∷ ts in
-    let (b, d, e) = inside_end (nat_eq (bodies_left us + bytes_left us) 0) (past us) (bodies_left us) (bytes_left us) (start + length (front us)) r.rest p r.stops in
-    let f : All (λ b. b < 256) (front us) = all_front (λ b. b < 256) (front us) r.rest (subst (All (λ b. b < 256)) r.whole a) in
-    (closed_at start features us (states start features t ts r.faultless f) (eqb-true _ _ b), r.whole ∙ (ap (λ (x : List ℕ). front us ++ x) d ∙ append-nil (front us)))
+    let (b, d, e) = inside_end (nat_eq (bodies_left us + bytes_left us) 0) (context_of us) (bodies_left us) (bytes_left us) (start + length (bytes_of us)) r.rest p r.stops in
+    let f : All (λ b. b < 256) (bytes_of us) = all_prefix (λ b. b < 256) (bytes_of us) r.rest (subst (All (λ b. b < 256)) r.whole a) in
+    (closed_at start features us (states start features t ts r.faultless f) (eqb-true _ _ b), r.whole ∙ (ap (λ (x : List ℕ). bytes_of us ++ x) d ∙ append-nil (bytes_of us)))
 
 -- in one way only
-told_sections : (stream : List ℕ) (start features : ℕ) (a : IsAccepted stream) (ts : List Tile) → Closed start features ts → stream ≡ front ts → All (λ f. IsSized f.sized) a.frames
+report_sections : (stream : List ℕ) (start features : ℕ) (a : IsAccepted stream) (ts : List Tile) → Closed start features ts → stream ≡ bytes_of ts → All (λ f. IsSized f.sized) a.frames
     → sections_of (events_of start features ts) ≡ places_of (start + length (header_bytes a.encoding)) a.frames
-told_sections stream start features a ts c w s =
+report_sections stream start features a ts c w s =
     let q : ((c.encoding ≡ a.encoding) × (flat_map frame_bytes c.frames ≡ flat_map frame_bytes a.frames)) = headers_same c.encoding a.encoding (flat_map frame_bytes c.frames) (flat_map frame_bytes a.frames) (sym c.covers ∙ (sym w ∙ a.whole)) in
     let f : c.frames ≡ a.frames = frames_same c.frames a.frames c.sized s q.1 in
     c.places ∙ (λ i. places_of (start + length (header_bytes (q.0 i))) (f i))
@@ -262,7 +262,7 @@ sections_tile stream start features events s a r =
     let (c, w) = closed_end stream start features (start + length stream) r.tiles s.each n in
     let sized : All (λ f. IsSized f.sized) a.frames = All-weaker (IsFrame a.encoding) (λ f. IsSized f.sized) (λ f i. i.sized) a.frames a.each in
     let p : sections_of events ≡ places_of (start + length (header_bytes a.encoding)) a.frames =
-    ap sections_of r.listed ∙ (sections_all (events_of start features r.tiles) r.end ∙ told_sections stream start features a r.tiles c w sized) in
+    ap sections_of r.listed ∙ (sections_all (events_of start features r.tiles) r.end ∙ report_sections stream start features a r.tiles c w sized) in
     record {
       whole = a.whole;
       sized = sized;

@@ -9,19 +9,19 @@ use Rattle.wasm_parser.specs.declared.payload.Encoding.{Encoding}
 use Rattle.wasm_parser.specs.declared.payload.Encoding.TheVariants.{Module}
 use Rattle.wasm_parser.specs.Content.{Kind, code, kind_of, Ending, fault, ended, rank_of}
 use Rattle.wasm_parser.specs.Grammar.{Shape, header, section, code_head, body, Tile}
-use Rattle.wasm_parser.specs.Reading.{version, Event, told_of, event_of, told_ending, last_event, events_of}
+use Rattle.wasm_parser.specs.Reading.{version, Event, tile_report, event_of, ending_report, last_event, events_of}
 use Rattle.wasm_parser.specs.SectionLaws.{RanksAscend}
 use Rattle.wasm_parser.specs.Sections.{sections_of, BeginsAs, rank_in, RanksBelow}
-use Rattle.wasm_parser.specs.Tiling.{front, encoding_in, encoding_of, tile_rank, Faultless}
-use Rattle.wasm_parser.proofs.StandsLaws.{IsHeader, headed, Fresh, fresh}
-use Rattle.wasm_parser.proofs.ToldSections.{Kinded, kinded, same_encoding, section_at, sections_more, sections_first, sections_all}
+use Rattle.wasm_parser.specs.Tiling.{bytes_of, encoding_in, encoding_of, tile_rank, Faultless}
+use Rattle.wasm_parser.proofs.StateLaws.{IsHeader, headed, Fresh, fresh}
+use Rattle.wasm_parser.proofs.ReportedSections.{Kinded, kinded, same_encoding, section_at, sections_more, sections_first, sections_all}
 
--- the rank of the section that is told of a tile is the tile's
-rank_told : (encoding : Encoding) (kind : Kind) (id : ℕ) → kind ≡ kind_of encoding id → rank_in encoding id ≡ rank_of kind id
-rank_told encoding kind id e = ap (λ (k : Kind). rank_of k id) (sym e)
+-- the rank of the section that is reported of a tile is the tile's
+rank_report : (encoding : Encoding) (kind : Kind) (id : ℕ) → kind ≡ kind_of encoding id → rank_in encoding id ≡ rank_of kind id
+rank_report encoding kind id e = ap (λ (k : Kind). rank_of k id) (sym e)
 
-code_told : (encoding : Encoding) → encoding ≡ Module → rank_in encoding 10 ≡ rank_of code 10
-code_told encoding e = ap (λ (x : Encoding). rank_in x 10) e
+code_report : (encoding : Encoding) → encoding ≡ Module → rank_in encoding 10 ≡ rank_of code 10
+code_report encoding e = ap (λ (x : Encoding). rank_in x 10) e
 
 -- ---- each section ranks below a rank above all tiles
 
@@ -30,8 +30,8 @@ abbrev Under : Encoding → ℕ → (ℕ × Range ℕ) → Type 0
 Under encoding r s = rank_in encoding s.0 < r
 
 under_push : (encoding : Encoding) (r high : ℕ) (s : Shape) (xs : List (ℕ × Range ℕ)) → Kinded encoding s → tile_rank s < r → All (Under encoding r) xs → All (Under encoding r) (xs ++ option_to_list (section_at high s))
-under_push encoding r high (section kind id content) xs k l a = All-push (Under encoding r) xs _ a (let e = rank_told encoding kind id k in omega arith)
-under_push encoding r high (code_head count width size) xs k l a = All-push (Under encoding r) xs _ a (let e = code_told encoding k in omega arith)
+under_push encoding r high (section kind id content) xs k l a = All-push (Under encoding r) xs _ a (let e = rank_report encoding kind id k in omega arith)
+under_push encoding r high (code_head count width size) xs k l a = All-push (Under encoding r) xs _ a (let e = code_report encoding k in omega arith)
 under_push encoding r high (body content) xs k l a = subst (All (Under encoding r)) (sym (append-nil xs)) a
 under_push encoding r high (header num other) xs k l a = absurd k
 
@@ -42,7 +42,7 @@ all_under start features r t (u ∷ ts) f h =
     let q : ((nat_lt (tile_rank t.shape) r ≡ true) × (list_all (λ (v : Tile). nat_lt (tile_rank v.shape) r) (u ∷ ts) ≡ true)) = and_parts _ _ h in
     let k : Kinded (encoding_of (u ∷ ts)) t.shape = kinded start u ts t.bytes t f.1 in
     let a : All (Under (encoding_of (u ∷ ts)) r) (sections_of (events_of start features (u ∷ ts))) = all_under start features r u ts f.0 q.1 in
-    let b = under_push (encoding_of (u ∷ ts)) r (start + length (front (u ∷ ts)) + length t.bytes) t.shape (sections_of (events_of start features (u ∷ ts))) k (ltb-true _ _ q.0) a in
+    let b = under_push (encoding_of (u ∷ ts)) r (start + length (bytes_of (u ∷ ts)) + length t.bytes) t.shape (sections_of (events_of start features (u ∷ ts))) k (ltb-true _ _ q.0) a in
     subst (λ (e : Encoding). All (Under e r) (sections_of (events_of start features (t ∷ u ∷ ts)))) (sym (same_encoding t (u ∷ ts) k))
     (subst (All (Under (encoding_of (u ∷ ts)) r)) (sym (sections_more start features u ts t f.1)) b)
 
@@ -54,8 +54,8 @@ pair_push encoding xs x r e u a =
     all_pairs_push (RanksBelow encoding) xs x a (λ k d l p q. let z : 0 < r = omega arith in let w : rank_in encoding (get_or xs k d).0 < r = u z k d l in omega arith)
 
 pairs_more : (encoding : Encoding) (high : ℕ) (s : Shape) (xs : List (ℕ × Range ℕ)) → Kinded encoding s → (0 < tile_rank s → All (Under encoding (tile_rank s)) xs) → AllPairs (RanksBelow encoding) xs → AllPairs (RanksBelow encoding) (xs ++ option_to_list (section_at high s))
-pairs_more encoding high (section kind id content) xs k u a = pair_push encoding xs _ (rank_of kind id) (rank_told encoding kind id k) u a
-pairs_more encoding high (code_head count width size) xs k u a = pair_push encoding xs _ (rank_of code 10) (code_told encoding k) u a
+pairs_more encoding high (section kind id content) xs k u a = pair_push encoding xs _ (rank_of kind id) (rank_report encoding kind id k) u a
+pairs_more encoding high (code_head count width size) xs k u a = pair_push encoding xs _ (rank_of code 10) (code_report encoding k) u a
 pairs_more encoding high (body content) xs k u a = subst (AllPairs (RanksBelow encoding)) (sym (append-nil xs)) a
 pairs_more encoding high (header num other) xs k u a = absurd k
 
@@ -64,31 +64,31 @@ pairs start features t [] f = subst (AllPairs (RanksBelow (encoding_of (t ∷ []
 pairs start features t (u ∷ ts) f =
     let k : Kinded (encoding_of (u ∷ ts)) t.shape = kinded start u ts t.bytes t f.1 in
     let g : Fresh (u ∷ ts) t.shape = fresh start (u ∷ ts) t.bytes t f.1 in
-    let b = pairs_more (encoding_of (u ∷ ts)) (start + length (front (u ∷ ts)) + length t.bytes) t.shape (sections_of (events_of start features (u ∷ ts))) k
+    let b = pairs_more (encoding_of (u ∷ ts)) (start + length (bytes_of (u ∷ ts)) + length t.bytes) t.shape (sections_of (events_of start features (u ∷ ts))) k
     (λ h. all_under start features (tile_rank t.shape) u ts f.0 (g h)) (pairs start features u ts f.0) in
     subst (λ (e : Encoding). AllPairs (RanksBelow e) (sections_of (events_of start features (t ∷ u ∷ ts)))) (sym (same_encoding t (u ∷ ts) k))
     (subst (AllPairs (RanksBelow (encoding_of (u ∷ ts)))) (sym (sections_more start features u ts t f.1)) b)
 
 -- ---- the header's encoding
 
-named_told : (features low high : ℕ) (s : Shape) (num : ℕ) (encoding other : Encoding) (from to : ℕ) → IsHeader s → told_of features low high s ≡ version num encoding from to → encoding_in s other ≡ encoding
-named_told features low high (header n x) num encoding other from to h e = cc
-named_told features low high (section kind id content) num encoding other from to h e = absurd h
-named_told features low high (code_head count width size) num encoding other from to h e = absurd h
-named_told features low high (body content) num encoding other from to h e = absurd h
+named_report : (features low high : ℕ) (s : Shape) (num : ℕ) (encoding other : Encoding) (from to : ℕ) → IsHeader s → tile_report features low high s ≡ version num encoding from to → encoding_in s other ≡ encoding
+named_report features low high (header n x) num encoding other from to h e = cc
+named_report features low high (section kind id content) num encoding other from to h e = absurd h
+named_report features low high (code_head count width size) num encoding other from to h e = absurd h
+named_report features low high (body content) num encoding other from to h e = absurd h
 
 -- events that begin with those of tiles name their encoding
 first_named : (start features : ℕ) (t : Tile) (ts : List Tile) (more : List Event) (encoding : Encoding) → Faultless start (t ∷ ts) → BeginsAs encoding (events_of start features (t ∷ ts) ++ more) → encoding_of (t ∷ ts) ≡ encoding
 first_named start features t [] more encoding f b =
     let w : event_of features (start + 0) t ∷ more ≡ b.first ∷ b.later = b.whole in
     let z : event_of features (start + 0) t ≡ b.first = cc in
-    named_told features (start + 0) (start + 0 + length t.bytes) t.shape b.num encoding Module b.from b.to (headed start t.bytes t f.1) (ap (λ (e : Event). e.told) z ∙ b.told)
+    named_report features (start + 0) (start + 0 + length t.bytes) t.shape b.num encoding Module b.from b.to (headed start t.bytes t f.1) (ap (λ (e : Event). e.report) z ∙ b.report)
 first_named start features t (u ∷ ts) more encoding f b =
     let k : Kinded (encoding_of (u ∷ ts)) t.shape = kinded start u ts t.bytes t f.1 in
-    let e : Event = event_of features (start + length (front (u ∷ ts))) t in
+    let e : Event = event_of features (start + length (bytes_of (u ∷ ts))) t in
     same_encoding t (u ∷ ts) k ∙ first_named start features u ts (e ∷ more) encoding f.0 (subst (BeginsAs encoding) (append_assoc (events_of start features (u ∷ ts)) (e ∷ []) more) b)
 
-no_version : (e : Ending) (num : ℕ) (encoding : Encoding) (from to : ℕ) → told_ending e ≡ version num encoding from to → ⊥
+no_version : (e : Ending) (num : ℕ) (encoding : Encoding) (from to : ℕ) → ending_report e ≡ version num encoding from to → ⊥
 no_version (fault f) num encoding from to e = cc
 no_version (ended o) num encoding from to e = cc
 
@@ -96,7 +96,7 @@ ascend : (start features : ℕ) (ts : List Tile) (end : Ending) (encoding : Enco
 ascend start features [] end encoding f b =
     let w : last_event end ∷ [] ≡ b.first ∷ b.later = b.whole in
     let z : last_event end ≡ b.first = cc in
-    absurd (no_version end b.num encoding b.from b.to (ap (λ (e : Event). e.told) z ∙ b.told))
+    absurd (no_version end b.num encoding b.from b.to (ap (λ (e : Event). e.report) z ∙ b.report))
 ascend start features (t ∷ ts) end encoding f b =
     subst (λ (e : Encoding). AllPairs (RanksBelow e) (sections_of (events_of start features (t ∷ ts)))) (first_named start features t ts (last_event end ∷ []) encoding f b) (pairs start features t ts f)
 

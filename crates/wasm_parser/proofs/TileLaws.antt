@@ -7,16 +7,16 @@ use Rattle.wasm_base.specs.Name.{of_four}
 use Rattle.wasm_base.specs.Number.{Number, read, bad, short, number as number_at}
 use Rattle.wasm_parser.specs.Content.{Kind, custom, items, index, data_count, code, unknown, kind_of, Ending, fault}
 use Rattle.wasm_base.specs.Header.{magic, agree}
-use Rattle.wasm_parser.specs.Grammar.{Tile, Verdict, tile, final, behind, behind_number, Grammar, refuse, number, bytes, section_start, verdict, Past, header_of, header_grammar, content_grammar, sized, framed, section_grammar, body_of, body_grammar}
-use Rattle.wasm_parser.specs.Tiling.{past, grammar, bodies_left, bytes_left, front}
+use Rattle.wasm_parser.specs.Grammar.{Tile, Verdict, tile, final, after, after_number, Grammar, check, number, bytes, section_start, verdict, SectionContext, header_of, header_grammar, content_grammar, after_length, after_id, section_grammar, body_of, body_grammar}
+use Rattle.wasm_parser.specs.Tiling.{context_of, grammar, bodies_left, bytes_left, bytes_of}
 use Rattle.wasm_base.specs.declared.fault.NumberKind.TheVariants.{VarU32}
 use Rattle.wasm_base.specs.declared.fault.Fault.TheVariants.{MagicAtSection}
 use Rattle.wasm_parser.specs.declared.payload.Encoding.{Encoding}
 use Rattle.wasm_parser.specs.declared.payload.Encoding.TheVariants.{Module, Component}
 use Rattle.wasm_base.proofs.NumberLaws.{number-used, Used}
-use Rattle.wasm_parser.proofs.GrammarLaws.{Guarded, behind-tile}
+use Rattle.wasm_parser.proofs.GrammarLaws.{Guarded, after-tile}
 
-Guarded-content : (p : Past) (k : Kind) (id o n : ℕ) → Guarded (content_grammar p k id o n)
+Guarded-content : (p : SectionContext) (k : Kind) (id o n : ℕ) → Guarded (content_grammar p k id o n)
 Guarded-content p custom id o n = λ b. tt
 Guarded-content p items id o n = λ b. tt
 Guarded-content p index id o n = λ b. tt
@@ -24,15 +24,15 @@ Guarded-content p data_count id o n = λ b. tt
 Guarded-content p unknown id o n = λ b. tt
 Guarded-content p code id o n = λ v k. tt
 
--- a tile behind a test that fails
-pub refused : (e : Option FaultAt) (g : Grammar) (xs : List ℕ) (t : Tile) → verdict (refuse e g) xs ≡ tile t → verdict g xs ≡ tile t
+-- a tile after a test that fails
+pub refused : (e : Option FaultAt) (g : Grammar) (xs : List ℕ) (t : Tile) → verdict (check e g) xs ≡ tile t → verdict g xs ≡ tile t
 unfolding verdict
 refused (Some e) g xs t h = cc
 refused None g xs t h = h
 
-bytes_least_at : (b : Bool) (count : ℕ) (xs : List ℕ) (v : Verdict) (e : Ending) (t : Tile) → nat_le count (length xs) ≡ b → cond b (behind (take count xs) v) (final e) ≡ tile t → count ≤ length t.bytes
+bytes_least_at : (b : Bool) (count : ℕ) (xs : List ℕ) (v : Verdict) (e : Ending) (t : Tile) → nat_le count (length xs) ≡ b → cond b (after (take count xs) v) (final e) ≡ tile t → count ≤ length t.bytes
 bytes_least_at true count xs v e t h w =
-    let (s, r, q) = behind-tile (take count xs) v t w in
+    let (s, r, q) = after-tile (take count xs) v t w in
     let z : t.bytes ≡ take count xs ++ s.bytes = ap (λ (x : Tile). x.bytes) q in
     rw z (omega (arith, length-append (take count xs) s.bytes, length-take-le count xs (leb-true _ _ h)))
 bytes_least_at false count xs v e t h w = cc
@@ -51,9 +51,9 @@ pub record Numbered (next : ℕ → ℕ → Grammar) (xs : List ℕ) (t : Tile) 
   pub goes_on : verdict (next value used) (drop used xs) ≡ tile rest
   pub is : t ≡ record rest { bytes = take used xs ++ rest.bytes }
 
-numbered_at : (o : ℕ) (next : ℕ → ℕ → Grammar) (xs : List ℕ) (t : Tile) (n : Number) → number_at VarU32 xs ≡ n → behind_number o xs n (λ v k. verdict (next v k) (drop k xs)) ≡ tile t → Numbered next xs t
+numbered_at : (o : ℕ) (next : ℕ → ℕ → Grammar) (xs : List ℕ) (t : Tile) (n : Number) → number_at VarU32 xs ≡ n → after_number o xs n (λ v k. verdict (next v k) (drop k xs)) ≡ tile t → Numbered next xs t
 numbered_at o next xs t (read v k) e w =
-    let (s, r, q) = behind-tile (take k xs) (verdict (next v k) (drop k xs)) t w in
+    let (s, r, q) = after-tile (take k xs) (verdict (next v k) (drop k xs)) t w in
     record { value = v; used = k; reads = e; rest = s; goes_on = r; is = q }
 numbered_at o next xs t (bad f p) e w = cc
 numbered_at o next xs t short e w = cc
@@ -87,13 +87,13 @@ first_is (suc k) (x ∷ xs) ys h l e =
     left true b e = refl
     left false b e = e
 
-custom_long : (p : Past) (en : Encoding) (f o : ℕ) (xs : List ℕ) (t : Tile) → verdict (sized p (kind_of en 0) 0 f o 0x61) xs ≡ tile t → 0x61 ≤ length t.bytes
+custom_long : (p : SectionContext) (en : Encoding) (f o : ℕ) (xs : List ℕ) (t : Tile) → verdict (after_length p (kind_of en 0) 0 f o 0x61) xs ≡ tile t → 0x61 ≤ length t.bytes
 custom_long p Module f o xs t w = bytes_least 0x61 o _ xs t (refused _ _ xs t (refused _ _ xs t w))
 custom_long p Component f o xs t w = bytes_least 0x61 o _ xs t (refused _ _ xs t (refused _ _ xs t w))
 
-longer : (p : Past) (o id : ℕ) (xs : List ℕ) (s : Tile) → verdict (framed p o id) xs ≡ tile s → agree (id ∷ s.bytes) magic ≡ true → 4 ≤ length (id ∷ s.bytes)
+longer : (p : SectionContext) (o id : ℕ) (xs : List ℕ) (s : Tile) → verdict (after_id p o id) xs ≡ tile s → agree (id ∷ s.bytes) magic ≡ true → 4 ≤ length (id ∷ s.bytes)
 longer p o id xs s w e =
-    let n : Numbered (λ size width. sized p (kind_of p.encoding id) id (o + 1) (o + 1 + width) size) xs s = numbered (o + 1) _ xs s (refused _ _ xs s w) in
+    let n : Numbered (λ size width. after_length p (kind_of p.encoding id) id (o + 1) (o + 1 + width) size) xs s = numbered (o + 1) _ xs s (refused _ _ xs s w) in
     let u : Used VarU32 xs n.value n.used = number-used VarU32 xs n.value n.used n.reads in
     let b : s.bytes ≡ take n.used xs ++ n.rest.bytes = ap (λ (x : Tile). x.bytes) n.is in
     let parts : ((nat_eq id 0 ≡ true) × (agree s.bytes (0x61 ∷ 0x73 ∷ 0x6d ∷ []) ≡ true)) = and_parts (nat_eq id 0) (agree s.bytes (0x61 ∷ 0x73 ∷ 0x6d ∷ [])) e in
@@ -101,8 +101,8 @@ longer p o id xs s w e =
     let (zs, q) = first_is n.used xs n.rest.bytes u.some (omega (arith, u.some, u.there)) (rw b at parts.1) in
     let m : number_at VarU32 xs ≡ read 0x61 1 = ap (number_at VarU32) q ∙ one_byte zs in
     let v : n.value ≡ 0x61 = value_is n.value n.used 0x61 1 (sym n.reads ∙ m) in
-    let g : verdict (sized p (kind_of p.encoding 0) 0 (o + 1) (o + 1 + n.used) 0x61) (drop n.used xs) ≡ tile n.rest =
-    subst₂ (λ (i x : ℕ). verdict (sized p (kind_of p.encoding i) i (o + 1) (o + 1 + n.used) x) (drop n.used xs) ≡ tile n.rest) z v n.goes_on in
+    let g : verdict (after_length p (kind_of p.encoding 0) 0 (o + 1) (o + 1 + n.used) 0x61) (drop n.used xs) ≡ tile n.rest =
+    subst₂ (λ (i x : ℕ). verdict (after_length p (kind_of p.encoding i) i (o + 1) (o + 1 + n.used) x) (drop n.used xs) ≡ tile n.rest) z v n.goes_on in
     let l : 0x61 ≤ length n.rest.bytes = custom_long p p.encoding (o + 1) (o + 1 + n.used) (drop n.used xs) n.rest g in
     let r : length s.bytes ≡ length (take n.used xs) + length n.rest.bytes = ap (λ (x : List ℕ). length x) b ∙ length-append (take n.used xs) n.rest.bytes in
     omega arith
@@ -110,7 +110,7 @@ longer p o id xs s w e =
     value_is : (a b c d : ℕ) → read a b ≡ read c d → a ≡ c
     value_is a b c d e = cc
 
-pub Guarded-section : (p : Past) (o : ℕ) → Guarded (section_grammar p o)
+pub Guarded-section : (p : SectionContext) (o : ℕ) → Guarded (section_grammar p o)
 unfolding section_grammar
 Guarded-section p o = λ id. (λ size width. Guarded-content p (kind_of p.encoding id) id (o + 1 + width) size, longer p o id)
 
@@ -127,18 +127,18 @@ unfolding body_grammar
 Guarded-body zero l o = tt
 Guarded-body (suc m) l o = λ v k b. tt
 
-pub Guarded-inside_at : (b : Bool) (p : Past) (m l o : ℕ) → Guarded (cond b (section_grammar p o) (body_grammar m l o))
+pub Guarded-inside_at : (b : Bool) (p : SectionContext) (m l o : ℕ) → Guarded (cond b (section_grammar p o) (body_grammar m l o))
 Guarded-inside_at true p m l o = Guarded-section p o
 Guarded-inside_at false p m l o = Guarded-body m l o
 
 pub Guarded-grammar : (start : ℕ) (ts : List Tile) → Guarded (grammar start ts)
 Guarded-grammar start [] = Guarded-header start
-Guarded-grammar start (t ∷ ts) = Guarded-inside_at (nat_eq (bodies_left (t ∷ ts) + bytes_left (t ∷ ts)) 0) (past (t ∷ ts)) (bodies_left (t ∷ ts)) (bytes_left (t ∷ ts)) (start + length (front (t ∷ ts)))
+Guarded-grammar start (t ∷ ts) = Guarded-inside_at (nat_eq (bodies_left (t ∷ ts) + bytes_left (t ∷ ts)) 0) (context_of (t ∷ ts)) (bodies_left (t ∷ ts)) (bytes_left (t ∷ ts)) (start + length (bytes_of (t ∷ ts)))
 
-least_start_at : (b : Bool) (o id : ℕ) (v : Verdict) (t : Tile) → cond b (final (fault (at_offset MagicAtSection o))) (behind (id ∷ []) v) ≡ tile t → 0 < length t.bytes
+least_start_at : (b : Bool) (o id : ℕ) (v : Verdict) (t : Tile) → cond b (final (fault (at_offset MagicAtSection o))) (after (id ∷ []) v) ≡ tile t → 0 < length t.bytes
 least_start_at true o id v t e = cc
 least_start_at false o id v t e =
-    let (s, r, q) = behind-tile (id ∷ []) v t e in
+    let (s, r, q) = after-tile (id ∷ []) v t e in
     let z : t.bytes ≡ id ∷ s.bytes = ap (λ (x : Tile). x.bytes) q in
     rw z (omega arith)
 
@@ -152,7 +152,7 @@ unfolding body_grammar verdict
 least_body zero l o xs t e = cc
 least_body (suc m) l o xs t e = number_least o (body_of o l) xs t e
 
-least_section : (p : Past) (o : ℕ) (xs : List ℕ) (t : Tile) → verdict (section_grammar p o) xs ≡ tile t → 0 < length t.bytes
+least_section : (p : SectionContext) (o : ℕ) (xs : List ℕ) (t : Tile) → verdict (section_grammar p o) xs ≡ tile t → 0 < length t.bytes
 unfolding section_grammar
 least_section p o xs t e = least_start o _ _ xs t e
 
@@ -160,11 +160,11 @@ pub least_header : (o : ℕ) (xs : List ℕ) (t : Tile) → verdict (header_gram
 unfolding header_grammar
 least_header o xs t e = let l : 4 ≤ length t.bytes = bytes_least 4 o _ xs t e in omega arith
 
-pub least_inside : (b : Bool) (p : Past) (m l o : ℕ) (xs : List ℕ) (t : Tile) → verdict (cond b (section_grammar p o) (body_grammar m l o)) xs ≡ tile t → 0 < length t.bytes
+pub least_inside : (b : Bool) (p : SectionContext) (m l o : ℕ) (xs : List ℕ) (t : Tile) → verdict (cond b (section_grammar p o) (body_grammar m l o)) xs ≡ tile t → 0 < length t.bytes
 least_inside true p m l o xs t e = least_section p o xs t e
 least_inside false p m l o xs t e = least_body m l o xs t e
 
 -- each tile has a byte
 pub tile_least : (start : ℕ) (ts : List Tile) (xs : List ℕ) (t : Tile) → verdict (grammar start ts) xs ≡ tile t → 0 < length t.bytes
 tile_least start [] xs t e = least_header start xs t e
-tile_least start (u ∷ ts) xs t e = least_inside (nat_eq (bodies_left (u ∷ ts) + bytes_left (u ∷ ts)) 0) (past (u ∷ ts)) (bodies_left (u ∷ ts)) (bytes_left (u ∷ ts)) (start + length (front (u ∷ ts))) xs t e
+tile_least start (u ∷ ts) xs t e = least_inside (nat_eq (bodies_left (u ∷ ts) + bytes_left (u ∷ ts)) 0) (context_of (u ∷ ts)) (bodies_left (u ∷ ts)) (bytes_left (u ∷ ts)) (start + length (bytes_of (u ∷ ts))) xs t e

@@ -8,23 +8,23 @@ use Rattle.std.specs.Prelude.{◌↔◌, map, filter_map, All}
 use Rattle.std.specs.Iterator.{Yields, Drains}
 use Rattle.wasm_base.specs.FaultAt.{fault_at}
 use Rattle.wasm_base.specs.declared.error.Error.{Error}
-use Rattle.wasm_parser.specs.Answers.{told_by, is_end, Answers}
+use Rattle.wasm_parser.specs.ParseAnswer.{report_of, is_end, Answers}
 use Rattle.wasm_parser.specs.Content.{Ending, fault, ended}
 use Rattle.wasm_parser.specs.Grammar.{Tile, Verdict, tile, final, Grammar, verdict}
-use Rattle.wasm_parser.specs.Reading.{Told, stopped, ending, told_of, told_ending, Event, event_of, events_of, last_event, Reads, Reading}
+use Rattle.wasm_parser.specs.Reading.{Report, stopped, ending, tile_report, ending_report, Event, event_of, events_of, last_event, Reads, Reading}
 use Rattle.wasm_parser.specs.Sections.{section_of, sections_of, TiledBySections}
-use Rattle.wasm_parser.specs.Stands.{Stand, Stands, new_stand, grammar_of}
+use Rattle.wasm_parser.specs.ParserState.{ParserState, IsStateAfter, initial_state, grammar_of}
 use Rattle.wasm_parser.specs.StateAfter.{state_after_tile}
 use Rattle.wasm_parser.specs.Stream.{Stream}
-use Rattle.wasm_parser.specs.Tiling.{front, grammar, Faultless}
-use Rattle.wasm_parser.specs.Turns.{HoldsItems, Walk, walk_over, consumed_between, GivesAnswer, NextPayload, sections_given, told_item, told_event, EndsAt, GivesReading, WalksWhole}
+use Rattle.wasm_parser.specs.Tiling.{bytes_of, grammar, Faultless}
+use Rattle.wasm_parser.specs.ParseAll.{HoldsItems, Walk, walk_over, consumed_between, GivesAnswer, NextPayload, sections_given, given_report, event_report, EndsAt, GivesReading, WalksWhole}
 use Rattle.wasm_parser.specs.declared.payload.Chunk.TheVariants.{Parsed}
 use Rattle.wasm_parser.specs.declared.payload.Payload.{Payload}
 use Rattle.wasm_parser.proofs.Accepting.{accepted_ends}
 use Rattle.wasm_parser.proofs.ReadingLaws.{Grown, grows, reads_same, reading_same}
 use Rattle.wasm_parser.proofs.SectionPlaces.{sections_tile}
-use Rattle.wasm_parser.proofs.StandsLaws.{grammar_same, stands_on, stands_on-tiles}
-use Rattle.wasm_parser.proofs.Turning.{goes_on, holds_items}
+use Rattle.wasm_parser.proofs.StateLaws.{grammar_same, state_goes_on, state_goes_on-tiles}
+use Rattle.wasm_parser.proofs.AnswerBounds.{goes_on, holds_items}
 
 -- ---- one step
 
@@ -33,37 +33,37 @@ over_gives_nothing : (s t : Walk) (given : List (Result Payload Error)) → s.en
 over_gives_nothing s t [] e run = refl
 over_gives_nothing s t (x ∷ given) e run = absurd (let z = (run.1.over e).0 in cc)
 
--- a reading whose events behind these tiles tell this
-record ReadsOn (start features : ℕ) (stream : List ℕ) (tiles : List Tile) (told : List Told) : Type 0 where
+-- a reading whose events after these tiles say this
+record ReadsOn (start features : ℕ) (stream : List ℕ) (tiles : List Tile) (report : List Report) : Type 0 where
   events : List Event
   reading : Reading stream start features (events_of start features tiles ++ events)
-  tells : told ≡ map told_event events
+  gives : report ≡ map event_report events
 
--- the walk stands behind these tiles of a stream
+-- the walk is after these tiles of a stream
 record Walked (start features : ℕ) (stream : List ℕ) (s : Walk) (tiles : List Tile) : Type 0 where
-  covered : List ℕ
-  stands : Stands s.stand start covered
+  prefix : List ℕ
+  stands : IsStateAfter s.stand start prefix
   same : stands.tiles ≡ tiles
-  whole : stream ≡ covered ++ s.bytes
+  whole : stream ≡ prefix ++ s.bytes
   takes : s.stand.features ≡ features
   fits : start + length stream < 2 ^ 64
 
--- what stands next there
+-- what comes next there
 here : (start features : ℕ) (stream : List ℕ) (s : Walk) (tiles : List Tile) → Walked start features stream s tiles → verdict (grammar_of s.stand) s.bytes ≡ verdict (grammar start tiles) s.bytes
-here start features stream s tiles w = ap (λ (g : Grammar). verdict g s.bytes) (grammar_same s.stand start w.covered w.stands ∙ ap (grammar start) w.same)
+here start features stream s tiles w = ap (λ (g : Grammar). verdict g s.bytes) (grammar_same s.stand start w.prefix w.stands ∙ ap (grammar start) w.same)
 
 within : (start features : ℕ) (stream : List ℕ) (s : Walk) (tiles : List Tile) → Walked start features stream s tiles → s.stand.offset + length s.bytes < 2 ^ 64
 within start features stream s tiles w =
-    let o : s.stand.offset ≡ start + length w.covered = w.stands.offset in
-    let n : length stream ≡ length w.covered + length s.bytes = ap (λ (x : List ℕ). length x) w.whole ∙ length-append w.covered s.bytes in
+    let o : s.stand.offset ≡ start + length w.prefix = w.stands.offset in
+    let n : length stream ≡ length w.prefix + length s.bytes = ap (λ (x : List ℕ). length x) w.whole ∙ length-append w.prefix s.bytes in
     let f : start + length stream < 2 ^ 64 = w.fits in
     omega arith
 
-covers : (start features : ℕ) (stream : List ℕ) (s : Walk) (tiles : List Tile) (w : Walked start features stream s tiles) → front tiles ≡ w.covered
-covers start features stream s tiles w = ap front (sym w.same) ∙ w.stands.covers
+covers : (start features : ℕ) (stream : List ℕ) (s : Walk) (tiles : List Tile) (w : Walked start features stream s tiles) → bytes_of tiles ≡ w.prefix
+covers start features stream s tiles w = ap bytes_of (sym w.same) ∙ w.stands.covers
 
 -- a reading that stops here
-stops_here : (start features : ℕ) (stream : List ℕ) (s : Walk) (tiles : List Tile) (w : Walked start features stream s tiles) (end : Ending) (x : Told) → verdict (grammar_of s.stand) s.bytes ≡ final end → x ≡ told_ending end → ReadsOn start features stream tiles (x ∷ [])
+stops_here : (start features : ℕ) (stream : List ℕ) (s : Walk) (tiles : List Tile) (w : Walked start features stream s tiles) (end : Ending) (x : Report) → verdict (grammar_of s.stand) s.bytes ≡ final end → x ≡ ending_report end → ReadsOn start features stream tiles (x ∷ [])
 stops_here start features stream s tiles w end x v t = record {
   events = last_event end ∷ [];
   reading = record {
@@ -77,53 +77,53 @@ stops_here start features stream s tiles w end x v t = record {
     };
     listed = refl;
   };
-  tells = ap (λ (y : Told). y ∷ []) t;
+  gives = ap (λ (y : Report). y ∷ []) t;
 }
 
 -- a tile more
-goes_further : (start features : ℕ) (stream : List ℕ) (tiles : List Tile) (t : Tile) (x : Told) (others : List Told) → x ≡ told_event (event_of features (start + length (front tiles)) t) → ReadsOn start features stream (t ∷ tiles) others
+goes_further : (start features : ℕ) (stream : List ℕ) (tiles : List Tile) (t : Tile) (x : Report) (others : List Report) → x ≡ event_report (event_of features (start + length (bytes_of tiles)) t) → ReadsOn start features stream (t ∷ tiles) others
     → ReadsOn start features stream tiles (x ∷ others)
 goes_further start features stream tiles t x others e r = record {
-  events = event_of features (start + length (front tiles)) t ∷ r.events;
-  reading = subst (Reading stream start features) (append_assoc (events_of start features tiles) (event_of features (start + length (front tiles)) t ∷ []) r.events) r.reading;
-  tells = (λ i. e i ∷ r.tells i);
+  events = event_of features (start + length (bytes_of tiles)) t ∷ r.events;
+  reading = subst (Reading stream start features) (append_assoc (events_of start features tiles) (event_of features (start + length (bytes_of tiles)) t ∷ []) r.events) r.reading;
+  gives = (λ i. e i ∷ r.gives i);
 }
 
--- the walk behind a tile
+-- the walk after a tile
 steps_on : (start features : ℕ) (stream : List ℕ) (s m : Walk) (tiles : List Tile) (w : Walked start features stream s tiles) (t : Tile) (consumed : ℕ) → verdict (grammar_of s.stand) s.bytes ≡ tile t → consumed ≡ length t.bytes
     → m.stand ≡ state_after_tile s.stand t → m.bytes ≡ drop consumed s.bytes → Walked start features stream m (t ∷ tiles)
 steps_on start features stream s m tiles w t consumed v n p b =
-    let v' : verdict (grammar start w.stands.tiles) s.bytes ≡ tile t = subst (λ (g : Grammar). verdict g s.bytes ≡ tile t) (grammar_same s.stand start w.covered w.stands) v in
+    let v' : verdict (grammar start w.stands.tiles) s.bytes ≡ tile t = subst (λ (g : Grammar). verdict g s.bytes ≡ tile t) (grammar_same s.stand start w.prefix w.stands) v in
     let g : Grown start w.stands.tiles s.bytes t = grows start w.stands.tiles s.bytes t w.stands.faultless v' in
     let d : m.bytes ≡ g.rest = b ∙ (ap (λ (k : ℕ). drop k s.bytes) n ∙ (ap (drop (length t.bytes)) g.split ∙ drop_at t.bytes g.rest (length t.bytes) refl)) in
     let on : Walked start features stream (record { stand = state_after_tile s.stand t; bytes = g.rest; ended = m.ended }) (t ∷ tiles) = record {
-      covered = w.covered ++ t.bytes;
-      stands = stands_on s.stand start w.covered w.stands s.bytes t v;
-      same = stands_on-tiles s.stand start w.covered w.stands s.bytes t v ∙ ap (λ (y : List Tile). t ∷ y) w.same;
-      whole = w.whole ∙ (ap (λ (y : List ℕ). w.covered ++ y) g.split ∙ sym (append_assoc w.covered t.bytes g.rest));
+      prefix = w.prefix ++ t.bytes;
+      stands = state_goes_on s.stand start w.prefix w.stands s.bytes t v;
+      same = state_goes_on-tiles s.stand start w.prefix w.stands s.bytes t v ∙ ap (λ (y : List Tile). t ∷ y) w.same;
+      whole = w.whole ∙ (ap (λ (y : List ℕ). w.prefix ++ y) g.split ∙ sym (append_assoc w.prefix t.bytes g.rest));
       takes = w.takes;
       fits = w.fits;
     } in
     subst (λ (y : Walk). Walked start features stream y (t ∷ tiles)) (λ i. record { stand = sym p i; bytes = sym d i; ended = m.ended }) on
 
--- what a payload tells of a tile there
-told_there : (start features : ℕ) (stream : List ℕ) (s : Walk) (tiles : List Tile) (w : Walked start features stream s tiles) (t : Tile) (x : Told) → x ≡ told_of s.stand.features s.stand.offset (s.stand.offset + length t.bytes) t.shape
-    → x ≡ told_event (event_of features (start + length (front tiles)) t)
-told_there start features stream s tiles w t x e =
-    let o : s.stand.offset ≡ start + length (front tiles) = w.stands.offset ∙ ap (λ (y : List ℕ). start + length y) (sym (covers start features stream s tiles w)) in
-    e ∙ (λ i. told_of (w.takes i) (o i) (o i + length t.bytes) t.shape)
+-- what a payload says of a tile there
+report_there : (start features : ℕ) (stream : List ℕ) (s : Walk) (tiles : List Tile) (w : Walked start features stream s tiles) (t : Tile) (x : Report) → x ≡ tile_report s.stand.features s.stand.offset (s.stand.offset + length t.bytes) t.shape
+    → x ≡ event_report (event_of features (start + length (bytes_of tiles)) t)
+report_there start features stream s tiles w t x e =
+    let o : s.stand.offset ≡ start + length (bytes_of tiles) = w.stands.offset ∙ ap (λ (y : List ℕ). start + length y) (sym (covers start features stream s tiles w)) in
+    e ∙ (λ i. tile_report (w.takes i) (o i) (o i + length t.bytes) t.shape)
 
 -- ---- the whole walk
 
 -- what a walk gives that goes on
 walks : (start features : ℕ) (stream : List ℕ) (given : List (Result Payload Error)) (s t u : Walk) (tiles : List Tile) → Walked start features stream s tiles → s.ended ≡ false → Yields NextPayload s given t → NextPayload t None u
-    → ReadsOn start features stream tiles (map told_item given)
+    → ReadsOn start features stream tiles (map given_report given)
 walks start features stream [] s t u tiles w going run end = absurd (subst (λ (y : Walk). y.ended ≡ false → GivesAnswer y None u) (sym run) end.going going)
 walks start features stream (Err e ∷ given) s t u tiles w going run end =
     let step = run.1.going going in
     let none : given ≡ [] = over_gives_nothing run.0 t given step.2 run.2 in
     let r : ReadsOn start features stream tiles (stopped (fault_at e) ∷ []) = refused (verdict (grammar_of s.stand) s.bytes) refl (step.0.within (within start features stream s tiles w)) in
-    subst (λ (y : List (Result Payload Error)). ReadsOn start features stream tiles (stopped (fault_at e) ∷ map told_item y)) (sym none) r
+    subst (λ (y : List (Result Payload Error)). ReadsOn start features stream tiles (stopped (fault_at e) ∷ map given_report y)) (sym none) r
   where
     refused : (v : Verdict) → verdict (grammar_of s.stand) s.bytes ≡ v → Answers s.stand v (Err e) run.0.stand → ReadsOn start features stream tiles (stopped (fault_at e) ∷ [])
     refused (tile x) q a = absurd a
@@ -133,21 +133,21 @@ walks start features stream (Ok payload ∷ given) s t u tiles w going run end =
     let step = run.1.going going in
     answered (λ ts on still. walks start features stream given run.0 t u ts on still run.2 end) (verdict (grammar_of s.stand) s.bytes) refl (step.0.within (within start features stream s tiles w))
   where
-    answered : ((ts : List Tile) → Walked start features stream run.0 ts → run.0.ended ≡ false → ReadsOn start features stream ts (map told_item given)) → (v : Verdict) → verdict (grammar_of s.stand) s.bytes ≡ v → Answers s.stand v (Ok (Parsed (consumed_between s run.0) payload)) run.0.stand → ReadsOn start features stream tiles (told_by payload ∷ map told_item given)
+    answered : ((ts : List Tile) → Walked start features stream run.0 ts → run.0.ended ≡ false → ReadsOn start features stream ts (map given_report given)) → (v : Verdict) → verdict (grammar_of s.stand) s.bytes ≡ v → Answers s.stand v (Ok (Parsed (consumed_between s run.0) payload)) run.0.stand → ReadsOn start features stream tiles (report_of payload ∷ map given_report given)
     answered next (tile x) q a =
         let on : Walked start features stream run.0 (x ∷ tiles) = steps_on start features stream s run.0 tiles w x (consumed_between s run.0) q a.0 a.2 (run.1.going going).1 in
         let still : run.0.ended ≡ false = (run.1.going going).2 ∙ (ap is_end a.1.0 ∙ goes_on s.stand.features s.stand.offset (s.stand.offset + length x.bytes) x.shape) in
-        goes_further start features stream tiles x (told_by payload) (map told_item given) (told_there start features stream s tiles w x (told_by payload) a.1.0) (next (x ∷ tiles) on still)
+        goes_further start features stream tiles x (report_of payload) (map given_report given) (report_there start features stream s tiles w x (report_of payload) a.1.0) (next (x ∷ tiles) on still)
     answered next (final (fault f)) q a = absurd a
     answered next (final (ended o)) q a =
         let over : run.0.ended ≡ true = (run.1.going going).2 ∙ ap is_end a.1.0 in
         let none : given ≡ [] = over_gives_nothing run.0 t given over run.2 in
-        subst (λ (y : List (Result Payload Error)). ReadsOn start features stream tiles (told_by payload ∷ map told_item y)) (sym none) (stops_here start features stream s tiles w (ended o) (told_by payload) q a.1.0)
+        subst (λ (y : List (Result Payload Error)). ReadsOn start features stream tiles (report_of payload ∷ map given_report y)) (sym none) (stops_here start features stream s tiles w (ended o) (report_of payload) q a.1.0)
 
 -- a walk that has not begun
-begins : (start features : ℕ) (bytes : List ℕ) → start + length bytes < 2 ^ 64 → Walked start features bytes (walk_over (new_stand start features) bytes) []
+begins : (start features : ℕ) (bytes : List ℕ) → start + length bytes < 2 ^ 64 → Walked start features bytes (walk_over (initial_state start features) bytes) []
 begins start features bytes l = record {
-  covered = [];
+  prefix = [];
   stands = record { tiles = []; faultless = tt; covers = refl; offset = omega arith; expects_header = refl; encoding = refl; rank = refl; functions = refl; codes = refl; datas = refl; data_counts = refl; bodies = refl; left = refl };
   same = refl;
   whole = refl;
@@ -155,33 +155,33 @@ begins start features bytes l = record {
   fits = l;
 }
 
-walk_reads : (start features : ℕ) (bytes : List ℕ) → start + length bytes < 2 ^ 64 → (given : List (Result Payload Error)) → Drains NextPayload (walk_over (new_stand start features) bytes) given → ReadsOn start features bytes [] (map told_item given)
-walk_reads start features bytes l given run = walks start features bytes given (walk_over (new_stand start features) bytes) run.1.0 run.0 [] (begins start features bytes l) refl run.1.1 run.1.2
+walk_reads : (start features : ℕ) (bytes : List ℕ) → start + length bytes < 2 ^ 64 → (given : List (Result Payload Error)) → Drains NextPayload (walk_over (initial_state start features) bytes) given → ReadsOn start features bytes [] (map given_report given)
+walk_reads start features bytes l given run = walks start features bytes given (walk_over (initial_state start features) bytes) run.1.0 run.0 [] (begins start features bytes l) refl run.1.1 run.1.2
 
 -- ---- how it ends
 
-ends_append : (o : ℕ) (xs : List Told) (x : Told) → EndsAt o (xs ++ x ∷ []) ↔ (x ≡ ending o)
+ends_append : (o : ℕ) (xs : List Report) (x : Report) → EndsAt o (xs ++ x ∷ []) ↔ (x ≡ ending o)
 ends_append o [] x = (λ h. h, λ h. h)
 ends_append o (y ∷ []) x = (λ h. h, λ h. h)
 ends_append o (y ∷ (z ∷ zs)) x = ends_append o (z ∷ zs) x
 
-map_append : (xs ys : List Event) → map told_event (xs ++ ys) ≡ map told_event xs ++ map told_event ys
+map_append : (xs ys : List Event) → map event_report (xs ++ ys) ≡ map event_report xs ++ map event_report ys
 map_append [] ys = refl
-map_append (x ∷ xs) ys = ap (λ (l : List Told). x.told ∷ l) (map_append xs ys)
+map_append (x ∷ xs) ys = ap (λ (l : List Report). x.report ∷ l) (map_append xs ys)
 
--- the end that was told is that of the reading
-told_end : (o : ℕ) (e : Ending) → told_ending e ≡ ending o → e ≡ ended o
-told_end o (fault f) h = cc
-told_end o (ended x) h = let z : x ≡ o = cc in ap ended z
+-- the end that was reported is that of the reading
+report_end : (o : ℕ) (e : Ending) → ending_report e ≡ ending o → e ≡ ended o
+report_end o (fault f) h = cc
+report_end o (ended x) h = let z : x ≡ o = cc in ap ended z
 
 -- what is given of the images of a list
 mapped : {X Y Z : Type 0} (f : X → Y) (h : Y → Option Z) (xs : List X) → filter_map (λ x. h (f x)) xs ≡ filter_map h (map f xs)
 mapped f h [] = refl
 mapped f h (x ∷ xs) = ap (cons_option (h (f x))) (mapped f h xs)
 
--- sections by what is told of them
-same_sections : (given : List (Result Payload Error)) (events : List Event) → map told_item given ≡ map told_event events → sections_of events ≡ sections_given given
-same_sections given events e = mapped told_event section_of events ∙ (ap (filter_map section_of) (sym e) ∙ sym (mapped told_item section_of given))
+-- sections by what is reported of them
+same_sections : (given : List (Result Payload Error)) (events : List Event) → map given_report given ≡ map event_report events → sections_of events ≡ sections_given given
+same_sections given events e = mapped event_report section_of events ∙ (ap (filter_map section_of) (sym e) ∙ sym (mapped given_report section_of given))
 
 -- each payload that a walk gives holds its items
 holds_one : (b : Bool) (s t : Walk) (x : Result Payload Error) → s.ended ≡ b → NextPayload s (Some x) t → HoldsItems x
@@ -193,32 +193,32 @@ holds_all : (given : List (Result Payload Error)) (s t : Walk) → Yields NextPa
 holds_all [] s t run = All-nil HoldsItems
 holds_all (x ∷ given) s t run = All-cons HoldsItems x given (holds_one s.ended s run.0 x refl run.1) (holds_all given run.0 t run.2)
 
-gives_reading : (start features : ℕ) (bytes : List ℕ) → Stream bytes start → GivesReading start features bytes (walk_over (new_stand start features) bytes)
+gives_reading : (start features : ℕ) (bytes : List ℕ) → Stream bytes start → GivesReading start features bytes (walk_over (initial_state start features) bytes)
 gives_reading start features bytes stream = record {
   reading = λ given run events r.
-      let w : ReadsOn start features bytes [] (map told_item given) = walk_reads start features bytes stream.fits given run in
-      w.tells ∙ ap (map told_event) (reading_same bytes start features w.events events w.reading r);
-  items = λ given run. holds_all given (walk_over (new_stand start features) bytes) run.1.0 run.1.1;
+      let w : ReadsOn start features bytes [] (map given_report given) = walk_reads start features bytes stream.fits given run in
+      w.gives ∙ ap (map event_report) (reading_same bytes start features w.events events w.reading r);
+  items = λ given run. holds_all given (walk_over (initial_state start features) bytes) run.1.0 run.1.1;
   accepted = λ given run.
-      let w : ReadsOn start features bytes [] (map told_item given) = walk_reads start features bytes stream.fits given run in
+      let w : ReadsOn start features bytes [] (map given_report given) = walk_reads start features bytes stream.fits given run in
       let a = accepted_ends bytes start stream in
-      let l : map told_item given ≡ map told_event (events_of start features w.reading.tiles) ++ told_ending w.reading.end ∷ [] =
-      w.tells ∙ (ap (map told_event) w.reading.listed ∙ map_append (events_of start features w.reading.tiles) (last_event w.reading.end ∷ [])) in
-      let e = ends_append (start + length bytes) (map told_event (events_of start features w.reading.tiles)) (told_ending w.reading.end) in (
+      let l : map given_report given ≡ map event_report (events_of start features w.reading.tiles) ++ ending_report w.reading.end ∷ [] =
+      w.gives ∙ (ap (map event_report) w.reading.listed ∙ map_append (events_of start features w.reading.tiles) (last_event w.reading.end ∷ [])) in
+      let e = ends_append (start + length bytes) (map event_report (events_of start features w.reading.tiles)) (ending_report w.reading.end) in (
         λ h.
             let (ts, reads) = a.0 h in
             let same : w.reading.end ≡ ended (start + length bytes) = (reads_same bytes start w.reading.tiles ts w.reading.end (ended (start + length bytes)) w.reading.reads reads).1 in
-            subst (EndsAt (start + length bytes)) (sym l) (e.1 (ap told_ending same)),
+            subst (EndsAt (start + length bytes)) (sym l) (e.1 (ap ending_report same)),
         λ h.
-            let same : w.reading.end ≡ ended (start + length bytes) = told_end (start + length bytes) w.reading.end (e.0 (subst (EndsAt (start + length bytes)) l h)) in
+            let same : w.reading.end ≡ ended (start + length bytes) = report_end (start + length bytes) w.reading.end (e.0 (subst (EndsAt (start + length bytes)) l h)) in
             a.1 (w.reading.tiles, subst (Reads bytes start w.reading.tiles) same w.reading.reads),
       );
   sections = λ given run a.
-      let w : ReadsOn start features bytes [] (map told_item given) = walk_reads start features bytes stream.fits given run in
-      subst (λ (y : List (ℕ × Range ℕ)). TiledBySections bytes start y a.encoding a.frames) (same_sections given w.events w.tells) (sections_tile bytes start features w.events stream a w.reading);
+      let w : ReadsOn start features bytes [] (map given_report given) = walk_reads start features bytes stream.fits given run in
+      subst (λ (y : List (ℕ × Range ℕ)). TiledBySections bytes start y a.encoding a.frames) (same_sections given w.events w.gives) (sections_tile bytes start features w.events stream a w.reading);
 }
 
 -- the walk of a parser that has passed nothing
-pub walks_whole : (p : Stand) (bytes : List ℕ) (walk : Walk) → All (λ b. b < 256) bytes → walk ≡ walk_over p bytes → WalksWhole p bytes walk
+pub walks_whole : (p : ParserState) (bytes : List ℕ) (walk : Walk) → All (λ b. b < 256) bytes → walk ≡ walk_over p bytes → WalksWhole p bytes walk
 walks_whole p bytes walk each w start features same fits =
-    subst (GivesReading start features bytes) (sym (w ∙ ap (λ (q : Stand). walk_over q bytes) same)) (gives_reading start features bytes (record { each = each; fits = fits }))
+    subst (GivesReading start features bytes) (sym (w ∙ ap (λ (q : ParserState). walk_over q bytes) same)) (gives_reading start features bytes (record { each = each; fits = fits }))

@@ -85,7 +85,7 @@ edges_of_rules = record {
   at_the_top = (small_tile custom 0 ∷ head ∷ [], record { rest = []; whole = refl; faultless = ((tt, refl), rw empty_name refl); stops = refl });
   count_too_large = (head ∷ [], record { rest = 1 ∷ 5 ∷ 0xff ∷ 0xff ∷ 0xff ∷ 0xff ∷ 0x1f ∷ []; whole = refl; faultless = (tt, refl); stops = refl });
   count_cut = (head ∷ [], record { rest = 1 ∷ 1 ∷ 0x80 ∷ []; whole = refl; faultless = (tt, refl); stops = refl });
-  types_behind_custom = (small_tile custom 0 ∷ small_tile items 1 ∷ head ∷ [], record { rest = 1 ∷ 1 ∷ 0 ∷ []; whole = refl; faultless = (((tt, refl), refl), rw empty_name refl); stops = refl });
+  types_after_custom = (small_tile custom 0 ∷ small_tile items 1 ∷ head ∷ [], record { rest = 1 ∷ 1 ∷ 0 ∷ []; whole = refl; faultless = (((tt, refl), refl), rw empty_name refl); stops = refl });
   components_have_no_order = (small_tile unknown 1 ∷ small_tile unknown 1 ∷ small_tile unknown 2 ∷ component_head ∷ [], record { rest = []; whole = refl; faultless = ((((tt, refl), refl), refl), refl); stops = refl });
   name_cut = (head ∷ [], record { rest = 0 ∷ 1 ∷ 5 ∷ []; whole = refl; faultless = (tt, refl); stops = refl });
   name_too_long = (head ∷ [], record { rest = 0 ∷ 3 ∷ 0xa1 ∷ 0x8d ∷ 6 ∷ []; whole = refl; faultless = (tt, refl); stops = refl });

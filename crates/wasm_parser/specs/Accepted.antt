@@ -16,7 +16,7 @@ header_bytes Component = 0x00 ∷ 0x61 ∷ 0x73 ∷ 0x6d ∷ 0x0d ∷ 0x00 ∷ 0
 abbrev pub IsNumber : List ℕ → ℕ → Type 0
 IsNumber field n = number VarU32 field ≡ read n (length field)
 
--- bytes behind the field that says how many they are: a body, or a section's content
+-- bytes after the field that says how many they are: a body, or a section's content
 pub record Sized : Type 0 where
   pub field : List ℕ
   pub content : List ℕ
@@ -70,7 +70,7 @@ frame_rank encoding f = rank_of (kind_of encoding f.id) f.id
 abbrev pub IsSection : Encoding → ℕ → Frame → Type 0
 IsSection encoding id f = (encoding ≡ Module) × (f.id ≡ id)
 
--- The section may stand behind these earlier ones: it ranks above each of them, if it has a rank; a code section has
+-- The section may come after these earlier ones: it ranks above each of them, if it has a rank; a code section has
 -- as many bodies as there are functions, and a data section as many segments as were announced.
 pub record FitsAfter (encoding : Encoding) (earlier : List Frame) (f : Frame) : Type 0 where
   pub ranks : 0 < frame_rank encoding f → All (λ g. frame_rank encoding g < frame_rank encoding f) earlier

@@ -30,11 +30,11 @@ kind_of Module id = slice_index_or (custom ∷ items ∷ items ∷ items ∷ ite
 kind_of Component id = slice_index_or (custom ∷ []) id unknown
 
 -- by id, the places of the sections in their order, counted from 1: type, import, function, table, memory, tag,
--- global, export, start, element, data count, code, data. Section 0 stands anywhere.
+-- global, export, start, element, data count, code, data. Section 0 is anywhere.
 abbrev pub ranks : List ℕ
 ranks = 0 ∷ 1 ∷ 2 ∷ 3 ∷ 4 ∷ 5 ∷ 7 ∷ 8 ∷ 9 ∷ 10 ∷ 12 ∷ 13 ∷ 11 ∷ 6 ∷ []
 
--- the rank of a section of this kind, or 0: it may stand anywhere
+-- the rank of a section of this kind, or 0: it may come anywhere
 abbrev pub rank_of : Kind → ℕ → ℕ
 rank_of custom id = 0
 rank_of unknown id = 0
@@ -53,7 +53,7 @@ abbrev pub when : Bool → FaultAt → Option FaultAt
 when true e = Some e
 when false e = None
 
--- what is wrong with a number that begins at this offset, in bytes that end behind it
+-- what is wrong with a number that begins at this offset, in bytes that end after it
 abbrev pub wrong_number : (offset : ℕ) (bytes : List ℕ) → Number → Option FaultAt
 wrong_number offset bytes (read value used) = None
 wrong_number offset bytes (bad f place) = Some (at_offset f (offset + place))

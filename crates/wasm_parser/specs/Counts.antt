@@ -7,9 +7,9 @@ use Rattle.wasm_base.specs.Section.{Section}
 use Rattle.wasm_base.specs.Window.{Window, place, KeepsWindow}
 use Rattle.wasm_base.specs.declared.error.Error.{Error}
 use Rattle.wasm_base.specs.declared.fault.NumberKind.TheVariants.{VarU32}
-use Rattle.wasm_parser.specs.Answers.{items_in}
+use Rattle.wasm_parser.specs.ParseAnswer.{items_in}
 use Rattle.wasm_parser.specs.Content.{Kind, kind_of}
-use Rattle.wasm_parser.specs.Reading.{Told, version, counted, start_section, data_count_section, code_start, code_entry, custom_section, unknown_section, stopped, ending}
+use Rattle.wasm_parser.specs.Reading.{Report, version, counted, start_section, data_count_section, code_start, code_entry, custom_section, unknown_section, stopped, ending}
 use Rattle.wasm_parser.specs.declared.payload.Encoding.TheVariants.{Module}
 use Rattle.wasm_parser.specs.declared.payload.Payload.{Payload}
 
@@ -17,7 +17,7 @@ use Rattle.wasm_parser.specs.declared.payload.Payload.{Payload}
 abbrev pub kind_of_module : ℕ → Kind
 kind_of_module id = kind_of Module id
 
--- The section was made of the window: its count was read, and its reader stands behind that.
+-- The section was made of the window: its count was read, and its reader is after that.
 pub record IsCounted (w : Window) (s : Section) : Type 0 where
   pub gives : unsigned_at VarU32 (place w) ≡ Ok (s.count, place s.reader)
   pub keeps : KeepsWindow w s.reader
@@ -33,6 +33,6 @@ ReadsCounted id w (Ok payload) = IsCountedAs id w (items_in payload)
 ReadsCounted id w (Err e) = unsigned_at VarU32 (place w) ≡ Err (fault_at e)
 
 -- A data section has another count than these.
-abbrev pub is_miscounted_by : List ℕ → Told → Bool
+abbrev pub is_miscounted_by : List ℕ → Report → Bool
 is_miscounted_by counts (counted id count window) = id == 11 && not (list_all (nat_eq count) counts)
 is_miscounted_by counts other = false

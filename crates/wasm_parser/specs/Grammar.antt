@@ -1,4 +1,4 @@
--- What may stand at one place of a stream, and what the bytes there turn out to be.
+-- What may come at one place of a stream, and what the bytes there turn out to be.
 use Rattle.std.specs.Prelude.{ℕ, zero, suc, ◌+◌, ◌-◌, ◌/◌, ◌%◌, ◌^◌, Bool, ◌&&◌, not, List, [], ◌∷◌, ◌++◌, length, take, drop, Option, Some, None, nat_lt, nat_le, nat_eq, ◌==◌, if◌then◌else◌}
 use Rattle.std.specs.List.{list_all, list_any}
 use Rattle.wasm_base.specs.FaultAt.{FaultAt, at_offset}
@@ -24,19 +24,19 @@ pub record Tile : Type 0 where
   pub shape : Shape
   pub bytes : List ℕ
 
--- what stands at a place
+-- what is at a place
 pub data Verdict : Type 0 where
   tile : Tile → Verdict
   final : Ending → Verdict
 
--- What may stand at a place, field by field. Offsets are where its faults are told.
+-- What may come at a place, field by field. Offsets are where its faults are reported.
 pub data Grammar : Type 0 where
   -- the tile is whole
-  takes : Shape → Grammar
+  accept : Shape → Grammar
   -- the stream ends here
-  stops : FaultAt → Grammar
-  -- the stream ends here, if something is wrong; then what else may stand
-  refuse : Option FaultAt → Grammar → Grammar
+  reject : FaultAt → Grammar
+  -- the stream ends here, if something is wrong; then what else may come
+  check : Option FaultAt → Grammar → Grammar
   -- a u32 at this offset; then what its value and its length in bytes say
   number : (offset : ℕ) → (ℕ → ℕ → Grammar) → Grammar
   -- so many bytes, which are missed at this offset; then what they say
@@ -44,35 +44,35 @@ pub data Grammar : Type 0 where
   -- the stream may end here, in this way, and a header may not follow; then what the id says
   section_start : (offset : ℕ) → Ending → (ℕ → Grammar) → Grammar
 
--- a verdict behind these bytes of the tile
-abbrev pub behind : List ℕ → Verdict → Verdict
-behind front (tile t) = tile (record t { bytes = front ++ t.bytes })
-behind front (final e) = final e
+-- a verdict after these bytes of the tile
+abbrev pub after : List ℕ → Verdict → Verdict
+after prefix (tile t) = tile (record t { bytes = prefix ++ t.bytes })
+after prefix (final e) = final e
 
 -- a verdict that waits for a number at this offset
-abbrev pub behind_number : (offset : ℕ) (rest : List ℕ) → Number → (ℕ → ℕ → Verdict) → Verdict
-behind_number offset rest (read value used) next = behind (take used rest) (next value used)
-behind_number offset rest (bad kind place) next = final (fault (at_offset kind (offset + place)))
-behind_number offset rest short next = final (fault (at_offset UnexpectedEof (offset + length rest)))
+abbrev pub after_number : (offset : ℕ) (rest : List ℕ) → Number → (ℕ → ℕ → Verdict) → Verdict
+after_number offset rest (read value used) next = after (take used rest) (next value used)
+after_number offset rest (bad kind place) next = final (fault (at_offset kind (offset + place)))
+after_number offset rest short next = final (fault (at_offset UnexpectedEof (offset + length rest)))
 
--- what the rest of a stream is, where this may stand: the first fault, or the whole tile
+-- what the rest of a stream is, where this may come: the first fault, or the whole tile
 unfoldable pub verdict : Grammar → (rest : List ℕ) → Verdict
-verdict (takes shape) rest = tile (record { shape = shape; bytes = [] })
-verdict (stops e) rest = final (fault e)
-verdict (refuse (Some e) next) rest = final (fault e)
-verdict (refuse None next) rest = verdict next rest
+verdict (accept shape) rest = tile (record { shape = shape; bytes = [] })
+verdict (reject e) rest = final (fault e)
+verdict (check (Some e) next) rest = final (fault e)
+verdict (check None next) rest = verdict next rest
 verdict (number offset next) rest =
-    behind_number offset rest (number_at VarU32 rest) (λ value used. verdict (next value used) (drop used rest))
+    after_number offset rest (number_at VarU32 rest) (λ value used. verdict (next value used) (drop used rest))
 verdict (bytes count offset next) rest =
-    if nat_le count (length rest) then behind (take count rest) (verdict (next (take count rest)) (drop count rest)) else
+    if nat_le count (length rest) then after (take count rest) (verdict (next (take count rest)) (drop count rest)) else
     final (fault (at_offset UnexpectedEof offset))
 verdict (section_start offset e next) [] = final e
 verdict (section_start offset e next) (id ∷ rest) =
     if agree (id ∷ rest) magic && nat_le 4 (length (id ∷ rest)) then final (fault (at_offset MagicAtSection offset)) else
-    behind (id ∷ []) (verdict (next id) rest)
+    after (id ∷ []) (verdict (next id) rest)
 
 -- what the tiles before a section say to it
-pub record Past : Type 0 where
+pub record SectionContext : Type 0 where
   pub encoding : Encoding
   -- whether each of them has a lower rank than this
   pub may_follow : ℕ → Bool
@@ -89,8 +89,8 @@ encoding_named version layer =
     if version == 13 && layer == 1 then Some Component else None
 
 abbrev pub header_of : (offset bits : ℕ) → Option Encoding → Grammar
-header_of offset bits (Some encoding) = takes (header (bits % 65536) encoding)
-header_of offset bits None = stops (record { fault = UnknownVersion; offset = offset + 4; number = Some bits })
+header_of offset bits (Some encoding) = accept (header (bits % 65536) encoding)
+header_of offset bits None = reject (record { fault = UnknownVersion; offset = offset + 4; number = Some bits })
 
 -- a header whose magic is followed by these 32 bits: the lower half is its version, the upper one its kind
 abbrev pub version_of : (offset bits : ℕ) → Grammar
@@ -98,73 +98,73 @@ version_of offset bits = header_of offset bits (encoding_named (bits % 65536) (b
 
 -- a header at this offset
 unfoldable pub header_grammar : (offset : ℕ) → Grammar
-header_grammar offset = bytes 4 offset (λ front.
-    refuse (when (not (agree front magic)) (at_offset BadMagic offset)) (
+header_grammar offset = bytes 4 offset (λ prefix.
+    check (when (not (agree prefix magic)) (at_offset BadMagic offset)) (
     bytes 4 (offset + 4) (λ four. version_of offset (of_four four))))
 
 -- how a stream ends at the start of a section: a count above 0 wants its other section
-abbrev pub end_of : Past → (offset : ℕ) → Ending
-end_of past offset =
-    if list_any (nat_lt 0) past.functions && nat_eq (length past.codes) 0 then fault (at_offset FunctionWithoutCode offset) else
-    if list_any (nat_lt 0) past.data_counts && nat_eq (length past.datas) 0 then fault (at_offset DataCountWithoutData offset) else
+abbrev pub end_of : SectionContext → (offset : ℕ) → Ending
+end_of context offset =
+    if list_any (nat_lt 0) context.functions && nat_eq (length context.codes) 0 then fault (at_offset FunctionWithoutCode offset) else
+    if list_any (nat_lt 0) context.data_counts && nat_eq (length context.datas) 0 then fault (at_offset DataCountWithoutData offset) else
     ended offset
 
 -- what a code section whose content begins at this offset is wrong in: each function has its body
-abbrev pub wrong_count : Past → (offset count : ℕ) → Option FaultAt
-wrong_count past offset count =
-    if not (list_all (nat_eq count) past.functions) then Some (at_offset FunctionCodeDiffer offset) else
-    when (nat_lt 0 count && nat_eq (length past.functions) 0) (at_offset CodeWithoutFunction offset)
+abbrev pub wrong_count : SectionContext → (offset count : ℕ) → Option FaultAt
+wrong_count context offset count =
+    if not (list_all (nat_eq count) context.functions) then Some (at_offset FunctionCodeDiffer offset) else
+    when (nat_lt 0 count && nat_eq (length context.functions) 0) (at_offset CodeWithoutFunction offset)
 
 -- the head of a code section of this length, whose content begins at this offset
-abbrev pub code_grammar : Past → (offset length : ℕ) → Grammar
-code_grammar past offset size = number offset (λ count width.
-    refuse (when (nat_lt size width) (at_offset UnexpectedEof offset)) (
-    refuse (wrong_count past offset count) (
-    takes (code_head count width (size - width)))))
+abbrev pub code_grammar : SectionContext → (offset length : ℕ) → Grammar
+code_grammar context offset size = number offset (λ count width.
+    check (when (nat_lt size width) (at_offset UnexpectedEof offset)) (
+    check (wrong_count context offset count) (
+    accept (code_head count width (size - width)))))
 
 -- what a counted section that ends at this offset is wrong in: the data section has as many segments as were announced
-abbrev pub wrong_data : Past → Kind → (id offset : ℕ) → List ℕ → Option FaultAt
-wrong_data past items id offset content =
-    when (id == 11 && not (list_all (nat_eq (count_of content)) past.data_counts)) (at_offset DataCountDiffer offset)
-wrong_data past other id offset content = None
+abbrev pub wrong_data : SectionContext → Kind → (id offset : ℕ) → List ℕ → Option FaultAt
+wrong_data context items id offset content =
+    when (id == 11 && not (list_all (nat_eq (count_of content)) context.data_counts)) (at_offset DataCountDiffer offset)
+wrong_data context other id offset content = None
 
 -- the content of any other section, of this length and at this offset
-abbrev pub whole_grammar : Past → Kind → (id offset length : ℕ) → Grammar
-whole_grammar past kind id offset size = bytes size offset (λ content.
-    refuse (wrong_content kind offset content) (
-    refuse (wrong_data past kind id (offset + size) content) (
-    takes (section kind id content))))
+abbrev pub whole_grammar : SectionContext → Kind → (id offset length : ℕ) → Grammar
+whole_grammar context kind id offset size = bytes size offset (λ content.
+    check (wrong_content kind offset content) (
+    check (wrong_data context kind id (offset + size) content) (
+    accept (section kind id content))))
 
 -- the content of a section, of this length and at this offset
-abbrev pub content_grammar : Past → Kind → (id offset length : ℕ) → Grammar
-content_grammar past code id offset size = code_grammar past offset size
-content_grammar past kind id offset size = whole_grammar past kind id offset size
+abbrev pub content_grammar : SectionContext → Kind → (id offset length : ℕ) → Grammar
+content_grammar context code id offset size = code_grammar context offset size
+content_grammar context kind id offset size = whole_grammar context kind id offset size
 
 -- a section of this kind and length, whose length field and content begin at these offsets
-abbrev pub sized : Past → Kind → (id field offset length : ℕ) → Grammar
-sized past kind id field offset size =
-    refuse (when (nat_lt (2 ^ 64 - 1) (offset + size)) (record { fault = SectionTooLarge; offset = field; number = Some size })) (
-    refuse (when (nat_lt 0 (rank_of kind id) && not (past.may_follow (rank_of kind id))) (at_offset OutOfOrder offset)) (
-    content_grammar past kind id offset size))
+abbrev pub after_length : SectionContext → Kind → (id field offset length : ℕ) → Grammar
+after_length context kind id field offset size =
+    check (when (nat_lt (2 ^ 64 - 1) (offset + size)) (record { fault = SectionTooLarge; offset = field; number = Some size })) (
+    check (when (nat_lt 0 (rank_of kind id) && not (context.may_follow (rank_of kind id))) (at_offset OutOfOrder offset)) (
+    content_grammar context kind id offset size))
 
 -- a section with this id, at this offset
-abbrev pub framed : Past → (offset id : ℕ) → Grammar
-framed past offset id =
-    refuse (when (nat_le 128 id) (at_offset MalformedSectionId offset)) (
-    number (offset + 1) (λ size width. sized past (kind_of past.encoding id) id (offset + 1) (offset + 1 + width) size))
+abbrev pub after_id : SectionContext → (offset id : ℕ) → Grammar
+after_id context offset id =
+    check (when (nat_le 128 id) (at_offset MalformedSectionId offset)) (
+    number (offset + 1) (λ size width. after_length context (kind_of context.encoding id) id (offset + 1) (offset + 1 + width) size))
 
 -- a section at this offset. Core specification, Binary format, Modules, Sections
-unfoldable pub section_grammar : Past → (offset : ℕ) → Grammar
-section_grammar past offset = section_start offset (end_of past offset) (framed past offset)
+unfoldable pub section_grammar : SectionContext → (offset : ℕ) → Grammar
+section_grammar context offset = section_start offset (end_of context offset) (after_id context offset)
 
 -- a body, in a code section of which so many bytes are left. Of two faults the missing bytes come first
 abbrev pub body_of : (offset left size width : ℕ) → Grammar
 body_of offset left size width =
     bytes size (offset + width) (λ content.
-    refuse (when (nat_lt left (width + size)) (at_offset UnexpectedEof offset)) (
-    takes (body content)))
+    check (when (nat_lt left (width + size)) (at_offset UnexpectedEof offset)) (
+    accept (body content)))
 
--- what may stand in a code section of which so many bodies and bytes are left
+-- what may come in a code section of which so many bodies and bytes are left
 unfoldable pub body_grammar : (bodies left offset : ℕ) → Grammar
-body_grammar zero left offset = stops (at_offset TrailingCode offset)
+body_grammar zero left offset = reject (at_offset TrailingCode offset)
 body_grammar (suc bodies) left offset = number offset (λ size width. body_of offset left size width)

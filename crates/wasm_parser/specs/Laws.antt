@@ -4,15 +4,15 @@ use Rattle.wasm_parser.specs.Accepted.{IsAccepted}
 use Rattle.wasm_base.specs.FaultAt.{FaultAt}
 use Rattle.wasm_parser.specs.Content.{Ending, fault, ended}
 use Rattle.wasm_parser.specs.Grammar.{Tile, tile, verdict}
-use Rattle.wasm_parser.specs.Moved.{moved_events, PassesTheTop}
+use Rattle.wasm_parser.specs.Shifted.{shifted_events, PassesTheTop}
 use Rattle.wasm_parser.specs.Reading.{Event, events_of, last_event, Reads, Reading}
 use Rattle.wasm_parser.specs.NextEvent.{NextEvent}
 use Rattle.wasm_parser.specs.SectionEvents.{SaysItsBytes}
-use Rattle.wasm_parser.specs.Spans.{consumed_by, AtOffsets, EndToEnd}
-use Rattle.wasm_parser.specs.Stands.{Stand, Stands, grammar_of}
+use Rattle.wasm_parser.specs.EventRanges.{consumed_by, AtOffsets, EndToEnd}
+use Rattle.wasm_parser.specs.ParserState.{ParserState, IsStateAfter, grammar_of}
 use Rattle.wasm_parser.specs.StateAfter.{state_after_tile}
 use Rattle.wasm_parser.specs.Stream.{Stream}
-use Rattle.wasm_parser.specs.Tiling.{front, grammar, Faultless}
+use Rattle.wasm_parser.specs.Tiling.{bytes_of, grammar, Faultless}
 
 -- two readings of one stream are one
 abbrev pub OneReading : Type 0
@@ -27,12 +27,12 @@ abbrev pub TilesStandAlone : Type 0
 TilesStandAlone = (start : ℕ) (tiles : List Tile) (rest : List ℕ) (t : Tile) → Faultless start tiles → verdict (grammar start tiles) rest ≡ tile t
     → (0 < length t.bytes) × ((more : List ℕ) → verdict (grammar start tiles) (t.bytes ++ more) ≡ tile t) × ((others : List ℕ) × (rest ≡ t.bytes ++ others))
 
--- what may stand behind a front depends on what a parser that stands there knows, and a parser that passes what stands
--- there stands behind it
+-- what may come after a first depends on what a parser that is there knows, and a parser that passes what is
+-- there is after it
 abbrev pub ParserSuffices : Type 0
-ParserSuffices = (parser : Stand) (start : ℕ) (covered : List ℕ) (s : Stands parser start covered) →
+ParserSuffices = (parser : ParserState) (start : ℕ) (prefix : List ℕ) (s : IsStateAfter parser start prefix) →
     (grammar_of parser ≡ grammar start s.tiles)
-    × ((rest : List ℕ) (t : Tile) → verdict (grammar_of parser) rest ≡ tile t → Stands (state_after_tile parser t) start (covered ++ t.bytes))
+    × ((rest : List ℕ) (t : Tile) → verdict (grammar_of parser) rest ≡ tile t → IsStateAfter (state_after_tile parser t) start (prefix ++ t.bytes))
 
 -- the reading of a stream ends at its end exactly if the stream is accepted
 abbrev pub AcceptedEnds : Type 0
@@ -47,28 +47,28 @@ FaultEnds = (stream : List ℕ) (start : ℕ) → Stream stream start
 -- a fault lies in the stream, or at its end
 abbrev pub FaultLiesWithin : Type 0
 FaultLiesWithin = (stream : List ℕ) (start : ℕ) (tiles : List Tile) (f : FaultAt) → Reads stream start tiles (fault f)
-    → (start + length (front tiles) ≤ f.offset) × (f.offset ≤ start + length stream)
+    → (start + length (bytes_of tiles) ≤ f.offset) × (f.offset ≤ start + length stream)
 
 -- the tiles of a reading are the longest faultless tiling of its stream: every other is a beginning of it
 abbrev pub LongestTiling : Type 0
-LongestTiling = (stream : List ℕ) (start : ℕ) (tiles others : List Tile) (end : Ending) (rest : List ℕ) → Reads stream start tiles end → Faultless start others → stream ≡ front others ++ rest
+LongestTiling = (stream : List ℕ) (start : ℕ) (tiles others : List Tile) (end : Ending) (rest : List ℕ) → Reads stream start tiles end → Faultless start others → stream ≡ bytes_of others ++ rest
     → (later : List Tile) × (tiles ≡ later ++ others)
 
--- events stand end to end in their stream, and their windows are its parts, with the features that are set; what they
+-- events are end to end in their stream, and their windows are its parts, with the features that are set; what they
 -- consumed, joined, is the stream up to where the reading stops
 abbrev pub EventsLieEndToEnd : Type 0
 EventsLieEndToEnd = (stream : List ℕ) (start features : ℕ) (tiles : List Tile) (end : Ending) → Reads stream start tiles end
-    → EndToEnd stream start features start (events_of start features tiles ++ last_event end ∷ []) × (consumed_by (events_of start features tiles ++ last_event end ∷ []) ≡ front tiles)
+    → EndToEnd stream start features start (events_of start features tiles ++ last_event end ∷ []) × (consumed_by (events_of start features tiles ++ last_event end ∷ []) ≡ bytes_of tiles)
 
 -- the start offset only moves offsets: the reading of a stream that starts so much later has the same events with
 -- every offset moved, unless a section passes the top of the offsets there
 abbrev pub StartOnlyMoves : Type 0
 StartOnlyMoves = (stream : List ℕ) (start by features : ℕ) (xs ys : List Event) (x : Reading stream start features xs) (y : Reading stream (start + by) features ys) → ¬ PassesTheTop y.end
-    → ys ≡ moved_events by xs
+    → ys ≡ shifted_events by xs
 
--- wherever a parser stands in a stream, the reading of that stream has a next event
+-- wherever a parser is in a stream, the reading of that stream has a next event
 abbrev pub SomeNextEvent : Type 0
-SomeNextEvent = (p : Stand) (start features : ℕ) (prefix rest : List ℕ) (events : List Event) → Stands p start prefix → Reading (prefix ++ rest) start features events → NextEvent events prefix
+SomeNextEvent = (p : ParserState) (start features : ℕ) (prefix rest : List ℕ) (events : List Event) → IsStateAfter p start prefix → Reading (prefix ++ rest) start features events → NextEvent events prefix
 
 -- what the events of a reading say of sections and bodies is what the bytes that they consumed are
 abbrev pub EventsSayTheirBytes : Type 0

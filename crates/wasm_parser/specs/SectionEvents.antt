@@ -7,7 +7,7 @@ use Rattle.wasm_base.specs.Number.{read, number}
 use Rattle.wasm_base.specs.Window.{Window}
 use Rattle.wasm_base.specs.declared.fault.NumberKind.TheVariants.{VarU32}
 use Rattle.wasm_parser.specs.Accepted.{IsNumber}
-use Rattle.wasm_parser.specs.Reading.{Told, counted, start_section, data_count_section, code_start, code_entry, custom_section, unknown_section, Event, window_over}
+use Rattle.wasm_parser.specs.Reading.{Report, counted, start_section, data_count_section, code_start, code_entry, custom_section, unknown_section, Event, window_over}
 use Rattle.wasm_parser.specs.Sections.{section_of}
 
 -- The content begins with a number of this value.
@@ -19,13 +19,13 @@ abbrev pub BeginsWithName : List ℕ → (text : List ℕ) → ℕ → Type 0
 BeginsWithName content text used = name (Some name_limit) content ≡ named text used
 
 -- the bytes of a code section that come after its count
-abbrev pub bytes_of_bodies : Told → ℕ
+abbrev pub bytes_of_bodies : Report → ℕ
 bytes_of_bodies (code_start count from to size) = size
 bytes_of_bodies other = 0
 
--- What is told of a section is what its content says, which begins at this offset; of a code section the content goes up
+-- What is reported of a section is what its content says, which begins at this offset; of a code section the content goes up
 -- to its count. Windows have these features.
-abbrev pub SaysContent : (features from : ℕ) (content : List ℕ) → Told → Type 0
+abbrev pub SaysContent : (features from : ℕ) (content : List ℕ) → Report → Type 0
 SaysContent features from content (counted id count window) = (window ≡ window_over features from content) × BeginsWithNumber content count
 SaysContent features from content (start_section func low high) = IsNumber content func
 SaysContent features from content (data_count_section count low high) = IsNumber content count
@@ -40,10 +40,10 @@ pub record IsSectionEvent (features at id : ℕ) (range : Range ℕ) (e : Event)
   pub field : List ℕ
   pub content : List ℕ
   pub bytes : e.consumed ≡ id ∷ (field ++ content)
-  pub sized : IsNumber field (length content + bytes_of_bodies e.told)
+  pub sized : IsNumber field (length content + bytes_of_bodies e.report)
   pub start : range.start ≡ at + 1 + length field
-  pub end : range.end ≡ range.start + length content + bytes_of_bodies e.told
-  pub says : SaysContent features range.start content e.told
+  pub end : range.end ≡ range.start + length content + bytes_of_bodies e.report
+  pub says : SaysContent features range.start content e.report
 
 -- The event at this offset consumed the bytes of a body: a size field, and so many bytes, which are its window.
 pub record IsBodyEvent (features at : ℕ) (window : Window) (e : Event) : Type 0 where
@@ -55,5 +55,5 @@ pub record IsBodyEvent (features at : ℕ) (window : Window) (e : Event) : Type 
 
 -- What the event at this offset says of a section or a body is what its bytes are.
 pub record SaysItsBytes (features at : ℕ) (e : Event) : Type 0 where
-  pub section : (id : ℕ) (range : Range ℕ) → section_of e.told ≡ Some (id, range) → IsSectionEvent features at id range e
-  pub body : (window : Window) → e.told ≡ code_entry window → IsBodyEvent features at window e
+  pub section : (id : ℕ) (range : Range ℕ) → section_of e.report ≡ Some (id, range) → IsSectionEvent features at id range e
+  pub body : (window : Window) → e.report ≡ code_entry window → IsBodyEvent features at window e

@@ -1,24 +1,24 @@
--- What a parser knows after what it told.
+-- What a parser knows after what it reported.
 use Rattle.std.specs.Prelude.{ℕ, zero, suc, ◌+◌, ◌-◌, false, length, Option, Some, None, nat_eq, slice_index, if◌then◌else◌}
 use Rattle.wasm_parser.specs.Content.{ranks}
 use Rattle.wasm_parser.specs.Grammar.{Tile}
-use Rattle.wasm_parser.specs.Reading.{Told, version, counted, start_section, data_count_section, code_start, code_entry, custom_section, unknown_section, stopped, ending, told_of}
-use Rattle.wasm_parser.specs.Sections.{count_told}
-use Rattle.wasm_parser.specs.Stands.{Stand}
+use Rattle.wasm_parser.specs.Reading.{Report, version, counted, start_section, data_count_section, code_start, code_entry, custom_section, unknown_section, stopped, ending, tile_report}
+use Rattle.wasm_parser.specs.Sections.{count_report}
+use Rattle.wasm_parser.specs.ParserState.{ParserState}
 use Rattle.wasm_parser.specs.declared.payload.Encoding.{Encoding}
 
 -- the encoding that a header names, or the one that was known
-abbrev pub known_encoding : Told → Encoding → Encoding
+abbrev pub known_encoding : Report → Encoding → Encoding
 known_encoding (version num encoding from to) known = encoding
 known_encoding other known = known
 
 -- the rank of a section, or 0
-abbrev pub rank_told : Told → ℕ
-rank_told (counted id count window) = slice_index ranks id
-rank_told (start_section func from to) = slice_index ranks 8
-rank_told (data_count_section count from to) = slice_index ranks 12
-rank_told (code_start count from to size) = slice_index ranks 10
-rank_told other = 0
+abbrev pub rank_report : Report → ℕ
+rank_report (counted id count window) = slice_index ranks id
+rank_report (start_section func from to) = slice_index ranks 8
+rank_report (data_count_section count from to) = slice_index ranks 12
+rank_report (code_start count from to size) = slice_index ranks 10
+rank_report other = 0
 
 -- the greatest rank of a section, this one's or the one that was known
 abbrev pub known_rank : ℕ → ℕ → ℕ
@@ -27,37 +27,37 @@ known_rank (suc rank) known = suc rank
 
 -- the count of the section with this id, or the one that was known
 abbrev pub known_count : ℕ → Option (ℕ × ℕ) → Option ℕ → Option ℕ
-known_count n (Some told) known = if nat_eq told.0 n then Some told.1 else known
+known_count n (Some report) known = if nat_eq report.0 n then Some report.1 else known
 known_count n None known = known
 
 -- the bodies that a code section still misses
-abbrev pub missing_bodies : Told → ℕ → ℕ
+abbrev pub missing_bodies : Report → ℕ → ℕ
 missing_bodies (code_start count from to size) known = count
 missing_bodies (code_entry window) known = known - 1
 missing_bodies other known = 0
 
 -- the bytes that it still misses, after what took so many
-abbrev pub missing_bytes : Told → (taken : ℕ) → ℕ → ℕ
+abbrev pub missing_bytes : Report → (taken : ℕ) → ℕ → ℕ
 missing_bytes (code_start count from to size) taken known = size
 missing_bytes (code_entry window) taken known = known - taken
 missing_bytes other taken known = 0
 
--- the state of a parser after it told this, which ends at this offset
-abbrev pub state_after : Stand → (to : ℕ) → Told → Stand
-state_after p to told = record {
+-- the state of a parser after it reported this, which ends at this offset
+abbrev pub state_after : ParserState → (to : ℕ) → Report → ParserState
+state_after p to report = record {
   offset = to;
   features = p.features;
   expects_header = false;
-  encoding = known_encoding told p.encoding;
-  rank = known_rank (rank_told told) p.rank;
-  functions = known_count 3 (count_told told) p.functions;
-  codes = known_count 10 (count_told told) p.codes;
-  datas = known_count 11 (count_told told) p.datas;
-  data_counts = known_count 12 (count_told told) p.data_counts;
-  bodies = missing_bodies told p.bodies;
-  left = missing_bytes told (to - p.offset) p.left;
+  encoding = known_encoding report p.encoding;
+  rank = known_rank (rank_report report) p.rank;
+  functions = known_count 3 (count_report report) p.functions;
+  codes = known_count 10 (count_report report) p.codes;
+  datas = known_count 11 (count_report report) p.datas;
+  data_counts = known_count 12 (count_report report) p.data_counts;
+  bodies = missing_bodies report p.bodies;
+  left = missing_bytes report (to - p.offset) p.left;
 }
 
 -- the same after one more tile
-abbrev pub state_after_tile : Stand → Tile → Stand
-state_after_tile p t = let to = p.offset + length t.bytes in state_after p to (told_of p.features p.offset to t.shape)
+abbrev pub state_after_tile : ParserState → Tile → ParserState
+state_after_tile p t = let to = p.offset + length t.bytes in state_after p to (tile_report p.features p.offset to t.shape)

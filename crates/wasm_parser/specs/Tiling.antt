@@ -2,16 +2,16 @@
 use Rattle.std.specs.Prelude.{◌≡◌, ℕ, ◌+◌, ◌-◌, List, [], ◌∷◌, ◌++◌, length, nat_lt, nat_eq, if◌then◌else◌}
 use Rattle.std.specs.List.{list_all}
 use Rattle.wasm_parser.specs.Content.{items, data_count, custom, index, code, unknown, rank_of, count_of}
-use Rattle.wasm_parser.specs.Grammar.{Shape, header, section, code_head, body, Tile, tile, Past, Grammar, verdict, header_grammar, section_grammar, body_grammar}
+use Rattle.wasm_parser.specs.Grammar.{Shape, header, section, code_head, body, Tile, tile, SectionContext, Grammar, verdict, header_grammar, section_grammar, body_grammar}
 use Rattle.wasm_parser.specs.declared.payload.Encoding.{Encoding}
 use Rattle.wasm_parser.specs.declared.payload.Encoding.TheVariants.{Module}
 
 -- Tiles are listed from the newest to the oldest: `t ∷ earlier` is a tile and all those before it.
 
 -- the bytes that they cover
-abbrev pub front : List Tile → List ℕ
-front [] = []
-front (t ∷ earlier) = front earlier ++ t.bytes
+abbrev pub bytes_of : List Tile → List ℕ
+bytes_of [] = []
+bytes_of (t ∷ earlier) = bytes_of earlier ++ t.bytes
 
 -- the encoding that the header names
 abbrev pub encoding_in : Shape → Encoding → Encoding
@@ -59,9 +59,9 @@ abbrev pub bytes_left : List Tile → ℕ
 bytes_left [] = 0
 bytes_left (t ∷ earlier) = bytes_after t t.shape (bytes_left earlier)
 
--- what the tiles say to a section behind them: it ranks above each of them, and the counts agree
-abbrev pub past : List Tile → Past
-past tiles = record {
+-- what the tiles say to a section after them: it ranks above each of them, and the counts agree
+abbrev pub context_of : List Tile → SectionContext
+context_of tiles = record {
   encoding = encoding_of tiles;
   may_follow = λ r. list_all (λ t. nat_lt (tile_rank t.shape) r) tiles;
   functions = counts 3 tiles;
@@ -70,18 +70,18 @@ past tiles = record {
   data_counts = counts 12 tiles;
 }
 
--- what may stand at this offset: a body where a code section isn't at its end, a section elsewhere
-abbrev pub inside : Past → (bodies left offset : ℕ) → Grammar
+-- what may come at this offset: a body where a code section isn't at its end, a section elsewhere
+abbrev pub inside : SectionContext → (bodies left offset : ℕ) → Grammar
 inside before bodies left offset =
     if nat_eq (bodies + left) 0 then section_grammar before offset else body_grammar bodies left offset
 
--- what may stand behind these tiles of a stream that starts at this offset
+-- what may come after these tiles of a stream that starts at this offset
 abbrev pub grammar : (start : ℕ) → List Tile → Grammar
 grammar start [] = header_grammar start
 grammar start (t ∷ earlier) =
-    inside (past (t ∷ earlier)) (bodies_left (t ∷ earlier)) (bytes_left (t ∷ earlier)) (start + length (front (t ∷ earlier)))
+    inside (context_of (t ∷ earlier)) (bodies_left (t ∷ earlier)) (bytes_left (t ∷ earlier)) (start + length (bytes_of (t ∷ earlier)))
 
--- each tile is what its bytes are, behind the earlier ones
+-- each tile is what its bytes are, after the earlier ones
 abbrev pub Faultless : (start : ℕ) → List Tile → Type 0
 Faultless start [] = Unit {0}
 Faultless start (t ∷ earlier) = Faultless start earlier × (verdict (grammar start earlier) t.bytes ≡ tile t)

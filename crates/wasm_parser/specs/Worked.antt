@@ -6,7 +6,7 @@ use Rattle.wasm_base.specs.declared.fault.Fault.TheVariants.{OutOfOrder, Functio
 use Rattle.wasm_base.specs.declared.fault.NumberKind.TheVariants.{VarU32}
 use Rattle.wasm_parser.specs.Content.{Ending, fault, ended}
 use Rattle.wasm_parser.specs.Grammar.{Tile}
-use Rattle.wasm_parser.specs.Reading.{version, counted, start_section, data_count_section, code_start, code_entry, custom_section, unknown_section, ending, Told, Event, Reads, Reading}
+use Rattle.wasm_parser.specs.Reading.{version, counted, start_section, data_count_section, code_start, code_entry, custom_section, unknown_section, ending, Report, Event, Reads, Reading}
 use Rattle.wasm_parser.specs.declared.payload.Encoding.TheVariants.{Module, Component}
 
 -- a module's header
@@ -21,8 +21,8 @@ component = 0x00 ∷ 0x61 ∷ 0x73 ∷ 0x6d ∷ 0x0d ∷ 0x00 ∷ 0x01 ∷ 0x00 
 abbrev pub window : (features start : ℕ) → List ℕ → Window
 window features start bytes = record { features = features; start = start; bytes = bytes; position = 0 }
 
-abbrev pub event : Told → List ℕ → Event
-event told consumed = record { told = told; consumed = consumed }
+abbrev pub event : Report → List ℕ → Event
+event report consumed = record { report = report; consumed = consumed }
 
 -- The reading of this stream, which starts at this offset, ends so.
 abbrev pub EndsFrom : (start : ℕ) → List ℕ → Ending → Type 0
@@ -100,7 +100,7 @@ pub record EdgesOfRules : Type 0 where
   pub at_the_top : EndsFrom 18446744073709551604 (m ++ small 0) (ended 18446744073709551615)
   pub count_too_large : EndsSo (m ++ 1 ∷ 5 ∷ 0xff ∷ 0xff ∷ 0xff ∷ 0xff ∷ 0x1f ∷ []) (fault (at_offset (NumberTooLarge VarU32) 14))
   pub count_cut : EndsSo (m ++ 1 ∷ 1 ∷ 0x80 ∷ []) (fault (at_offset UnexpectedEof 11))
-  pub types_behind_custom : EndsSo (m ++ small 1 ++ small 0 ++ small 1) (fault (at_offset OutOfOrder 16))
+  pub types_after_custom : EndsSo (m ++ small 1 ++ small 0 ++ small 1) (fault (at_offset OutOfOrder 16))
   pub components_have_no_order : EndsSo (component ++ small 2 ++ small 1 ++ small 1) (ended 17)
   pub name_cut : EndsSo (m ++ 0 ∷ 1 ∷ 5 ∷ []) (fault (at_offset UnexpectedEof 11))
   pub name_too_long : EndsSo (m ++ 0 ∷ 3 ∷ 0xa1 ∷ 0x8d ∷ 6 ∷ []) (fault (at_offset StringSize 12))

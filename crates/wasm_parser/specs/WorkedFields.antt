@@ -15,7 +15,7 @@ NameAndData = Reading (m ++ 0 ∷ 3 ∷ 1 ∷ 97 ∷ 7 ∷ []) 0 3
     ∷ event (custom_section (97 ∷ []) 12 (window 3 10 (1 ∷ 97 ∷ 7 ∷ []))) (0 ∷ 3 ∷ 1 ∷ 97 ∷ 7 ∷ [])
     ∷ event (ending 13) [] ∷ [])
 
--- a section of a component with this id, which is unknown and stands at this offset
+-- a section of a component with this id, which is unknown and is at this offset
 abbrev pub unknown_one : (id from : ℕ) → Event
 unknown_one id from = event (unknown_section id (0 ∷ []) from (from + 1)) (small id)
 

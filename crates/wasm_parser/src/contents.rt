@@ -2,12 +2,12 @@
 ghost use Rattle.std.specs.Prelude.{◌≡◌};
 ghost use Rattle.wasm_base.specs.Outcome.{Gives};
 ghost use Rattle.wasm_base.specs.Window.{place, KeepsWindow};
-ghost use Rattle.wasm_parser.specs.Answers.{StandsThere};
+ghost use Rattle.wasm_parser.specs.ParseAnswer.{ReadsByGrammar};
 ghost use Rattle.wasm_parser.specs.Content.{custom, items, index, data_count, unknown};
 ghost use Rattle.wasm_parser.specs.ContentAt.{content_at};
 ghost use Rattle.wasm_parser.specs.Counts.{kind_of_module, ReadsCounted};
-ghost use Rattle.wasm_parser.specs.Grammar.{Past, whole_grammar};
-ghost use Rattle.wasm_parser.specs.Single.{ReadsSingle};
+ghost use Rattle.wasm_parser.specs.Grammar.{SectionContext, whole_grammar};
+ghost use Rattle.wasm_parser.specs.SingleNumber.{ReadsSingleNumber};
 
 use crate::payload::Payload;
 use crate::sections::{
@@ -19,7 +19,7 @@ use wasm_custom::CustomSectionReader;
 
 /// The content of a custom section.
 pub(crate) fn custom<'a>(id: u8, size: u32, reader: &mut BinaryReader<'a>) -> Result<Payload<'a>>
-    ensures { (past : Past) → StandsThere (whole_grammar past custom id (place reader.old).offset size) (place reader.old) result (place reader.new) }
+    ensures { (context : SectionContext) → ReadsByGrammar (whole_grammar context custom id (place reader.old).offset size) (place reader.old) result (place reader.new) }
 {
     let window = window(size, reader)?;
     Ok(Payload::CustomSection(CustomSectionReader::new(window)?))
@@ -27,7 +27,7 @@ pub(crate) fn custom<'a>(id: u8, size: u32, reader: &mut BinaryReader<'a>) -> Re
 
 /// The content of a start section: the index of a function.
 pub(crate) fn start<'a>(id: u8, size: u32, reader: &mut BinaryReader<'a>) -> Result<Payload<'a>>
-    ensures { (past : Past) → StandsThere (whole_grammar past index id (place reader.old).offset size) (place reader.old) result (place reader.new) }
+    ensures { (context : SectionContext) → ReadsByGrammar (whole_grammar context index id (place reader.old).offset size) (place reader.old) result (place reader.new) }
 {
     let window = window(size, reader)?;
     let range = window.range();
@@ -41,7 +41,7 @@ pub(crate) fn data_count<'a>(
     size: u32,
     reader: &mut BinaryReader<'a>,
 ) -> Result<Payload<'a>>
-    ensures { (past : Past) → StandsThere (whole_grammar past data_count id (place reader.old).offset size) (place reader.old) result (place reader.new) }
+    ensures { (context : SectionContext) → ReadsByGrammar (whole_grammar context data_count id (place reader.old).offset size) (place reader.old) result (place reader.new) }
 {
     let window = window(size, reader)?;
     let range = window.range();
@@ -51,7 +51,7 @@ pub(crate) fn data_count<'a>(
 
 /// The content of an unknown section.
 pub(crate) fn unknown<'a>(id: u8, size: u32, reader: &mut BinaryReader<'a>) -> Result<Payload<'a>>
-    ensures { (past : Past) → StandsThere (whole_grammar past unknown id (place reader.old).offset size) (place reader.old) result (place reader.new) }
+    ensures { (context : SectionContext) → ReadsByGrammar (whole_grammar context unknown id (place reader.old).offset size) (place reader.old) result (place reader.new) }
 {
     let window = window(size, reader)?;
     Ok(Payload::UnknownSection {
@@ -92,9 +92,9 @@ pub(crate) fn counted<'a>(id: u8, window: BinaryReader<'a>) -> Result<Payload<'a
     })
 }
 
-// The one number that the rest of a window is. A byte behind the number is this fault.
+// The one number that the rest of a window is. A byte after the number is this fault.
 fn single(mut window: BinaryReader, left: Fault) -> Result<u32>
-    ensures { ReadsSingle left (place window.entry) result }
+    ensures { ReadsSingleNumber left (place window.entry) result }
 {
     let number = window.read_var_u32()?;
     if !window.eof() {

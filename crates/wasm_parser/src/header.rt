@@ -2,7 +2,7 @@
 ghost use Rattle.std.specs.Prelude.{◌≡◌, ◌&&◌, length, nat_le};
 ghost use Rattle.wasm_base.specs.Header.{magic, agree};
 ghost use Rattle.wasm_base.specs.Window.{place};
-ghost use Rattle.wasm_parser.specs.Answers.{IsTold};
+ghost use Rattle.wasm_parser.specs.ParseAnswer.{MatchesVerdict};
 ghost use Rattle.wasm_parser.specs.Grammar.{verdict, header_grammar, encoding_named as named};
 
 use crate::payload::{Encoding, Payload};
@@ -23,7 +23,7 @@ fn encoding_named(version: u16, kind: u16) -> Option<Encoding>
 
 /// Reads a header.
 pub(crate) fn read_header<'a>(reader: &mut BinaryReader<'a>) -> Result<Payload<'a>>
-    ensures { IsTold (place reader.old).offset (place reader.old) (verdict (header_grammar (place reader.old).offset) (place reader.old).rest) result (place reader.new) }
+    ensures { MatchesVerdict (place reader.old).offset (place reader.old) (verdict (header_grammar (place reader.old).offset) (place reader.old).rest) result (place reader.new) }
 {
     let start = reader.original_position();
     let bits = reader.read_header_version()?;
@@ -38,20 +38,20 @@ pub(crate) fn read_header<'a>(reader: &mut BinaryReader<'a>) -> Result<Payload<'
     }
 }
 
-/// Whether a header's magic stands here.
+/// Whether a header's magic is here.
 pub(crate) fn magic_follows(reader: &BinaryReader) -> bool
     ensures { result ≡ (agree (place reader.now).rest magic && nat_le 4 (length (place reader.now).rest)) }
 {
     match reader.peek_bytes(4) {
-        Ok(front) => is_magic(front),
+        Ok(prefix) => is_magic(prefix),
         Err(_) => false,
     }
 }
 
 // Whether four bytes are the magic of a header.
-fn is_magic(front: &[u8]) -> bool
-    requires { length front.now ≡ 4 }
-    ensures { result ≡ agree front.now magic }
+fn is_magic(prefix: &[u8]) -> bool
+    requires { length prefix.now ≡ 4 }
+    ensures { result ≡ agree prefix.now magic }
 {
-    front[0] == 0x00 && front[1] == 0x61 && front[2] == 0x73 && front[3] == 0x6d
+    prefix[0] == 0x00 && prefix[1] == 0x61 && prefix[2] == 0x73 && prefix[3] == 0x6d
 }

@@ -1,6 +1,6 @@
-//! Laws of the definitions of framing, and what comparing and copying encodings tells, each the contract of a function
+//! Laws of the definitions of framing, and what comparing and copying encodings says, each the contract of a function
 //! that does nothing.
-ghost use Rattle.wasm_base.specs.Comparing.{TellsSame, CopiesSame, CopiesAlways};
+ghost use Rattle.wasm_base.specs.Comparing.{DecidesSame, CopiesSame, CopiesAlways};
 ghost use Rattle.wasm_parser.specs.Laws.{AcceptedEnds, EventsLieEndToEnd, FaultEnds, EventsSayTheirBytes, FaultLiesWithin, LongestTiling, OneReading, ParserSuffices, SomeNextEvent, SomeReading, StartOnlyMoves, TilesStandAlone};
 ghost use Rattle.wasm_parser.specs.SectionLaws.{BodiesFollowTheirCount, RanksAscend, SectionsTile};
 ghost use Rattle.wasm_parser.specs.Worked.{EdgesOfRules, WorkedStreams};
@@ -29,7 +29,7 @@ pub fn fault_ends()
     ensures { FaultEnds }
 {}
 
-/// A fault lies in the stream behind the tiles before it, or at its end.
+/// A fault lies in the stream after the tiles before it, or at its end.
 pub fn fault_lies_within()
     ensures { FaultLiesWithin }
 {}
@@ -39,7 +39,7 @@ pub fn longest_tiling()
     ensures { LongestTiling }
 {}
 
-/// The events of a reading stand end to end in its stream, and their windows are its parts at their own offsets; the
+/// The events of a reading are end to end in its stream, and their windows are its parts at their own offsets; the
 /// bytes that they consumed, joined, are the stream up to where the reading stops.
 pub fn events_lie_end_to_end()
     ensures { EventsLieEndToEnd }
@@ -51,14 +51,14 @@ pub fn start_only_moves()
     ensures { StartOnlyMoves }
 {}
 
-/// What a tile is depends on its own bytes alone: it stands behind the same tiles in every stream that has its bytes
+/// What a tile is depends on its own bytes alone: it is after the same tiles in every stream that has its bytes
 /// there.
 pub fn tiles_stand_alone()
     ensures { TilesStandAlone }
 {}
 
-/// What may stand behind a front of a stream depends on what a parser that stands there knows, and a parser that
-/// passes what stands there stands behind it.
+/// What may come after a prefix of a stream depends on what a parser that is there knows, and a parser that
+/// passes what is there is after it.
 pub fn parser_suffices()
     ensures { ParserSuffices }
 {}
@@ -73,8 +73,8 @@ pub fn edges_of_rules()
     ensures { EdgesOfRules }
 {}
 
-/// An accepted stream is its header and then the sections that its reading tells, in their order, and nothing between
-/// them or behind: of each its id, its length, and its content, which is the bytes of the range that is told.
+/// An accepted stream is its header and then the sections that its reading says, in their order, and nothing between
+/// them or after: of each its id, its length, and its content, which is the bytes of the range that is reported.
 pub fn sections_tile_an_accepted_stream()
     ensures { SectionsTile }
 {}
@@ -85,7 +85,7 @@ pub fn ranks_ascend()
     ensures { RanksAscend }
 {}
 
-/// Behind the start of a code section a reading has as many bodies as the section counts, and then another event; or
+/// After the start of a code section a reading has as many bodies as the section counts, and then another event; or
 /// fewer bodies, and then a fault, which is its last event.
 pub fn bodies_follow_their_count()
     ensures { BodiesFollowTheirCount }
@@ -93,19 +93,19 @@ pub fn bodies_follow_their_count()
 
 /// Two encodings are equal exactly if they are the same. A copy of an encoding is the same, and can always be made.
 pub fn equal_encodings_are_the_same()
-    ensures equal { TellsSame ⟦<Encoding as PartialEq>⟧.eq }
+    ensures equal { DecidesSame ⟦<Encoding as PartialEq>⟧.eq }
     ensures copy { CopiesSame ⟦<Encoding as Clone>⟧.is_clone }
     ensures copied { CopiesAlways ⟦<Encoding as Clone>⟧.is_infallible }
 {}
 
-/// Wherever a parser stands in a stream, the reading of that stream has a next event.
+/// Wherever a parser is in a stream, the reading of that stream has a next event.
 pub fn some_next_event()
     ensures { SomeNextEvent }
 {}
 
 /// What the events of a reading, accepted or not, say of sections and bodies is what the bytes that they consumed are: of
 /// a section its id, a length field and the content, which are the bytes of its range and begin with the count, index
-/// or name that is told (of a code section only the content up to its count); of a body a size field and its window.
+/// or name that is reported (of a code section only the content up to its count); of a body a size field and its window.
 pub fn events_say_their_bytes()
     ensures { EventsSayTheirBytes }
 {}

@@ -1,10 +1,10 @@
 //! The parser of WebAssembly modules and of components' headers.
 #![tactic(auto)]
 
-mod all;
 mod contents;
 mod header;
 pub mod laws;
+mod parse_all;
 mod parser;
 mod payload;
 mod sections;
@@ -12,7 +12,7 @@ mod state;
 #[cfg(test)]
 mod tests;
 
-pub use all::ParseAll;
+pub use parse_all::ParseAll;
 pub use parser::Parser;
 pub use payload::{Chunk, Encoding, Payload};
 pub use wasm_base::{

@@ -4,19 +4,19 @@ ghost use Rattle.std.specs.Prelude.{⊤, ◌≡◌, ◌+◌, ◌-◌, ◌<◌, �
 ghost use Rattle.wasm_base.specs.Features.{feature_bits};
 ghost use Rattle.wasm_base.specs.Outcome.{Gives};
 ghost use Rattle.wasm_base.specs.Window.{place};
-ghost use Rattle.wasm_parser.specs.Answers.{told_by, IsTold, StandsThere, Passes, Consumes, Parses, FaultsWithin, IsUnchanged};
+ghost use Rattle.wasm_parser.specs.ParseAnswer.{report_of, MatchesVerdict, ReadsByGrammar, Advances, Consumes, ParseAnswer, FaultsWithin, IsUnchanged};
 ghost use Rattle.wasm_parser.specs.Content.{custom, items, data_count, unknown, kind_of as form_of};
 ghost use Rattle.wasm_parser.specs.Counts.{kind_of_module, is_miscounted_by};
-ghost use Rattle.wasm_parser.specs.Grammar.{verdict, section_grammar, framed as framed_grammar, sized as sized_grammar, content_grammar, whole_grammar, code_grammar, body_grammar};
+ghost use Rattle.wasm_parser.specs.Grammar.{verdict, section_grammar, after_id as after_id_grammar, after_length as after_length_grammar, content_grammar, whole_grammar, code_grammar, body_grammar};
 ghost use Rattle.wasm_parser.specs.Kinds.{kind_is};
 ghost use Rattle.wasm_parser.specs.Reading.{window_over};
 ghost use Rattle.wasm_parser.specs.BeginsWithHeader.{begins_with_header};
-ghost use Rattle.wasm_parser.specs.Stands.{new_stand, past_of, grammar_of};
-ghost use Rattle.wasm_parser.specs.TellsNext.{TellsNext};
-ghost use Rattle.wasm_parser.specs.Turns.{walk_over, WalksWhole};
+ghost use Rattle.wasm_parser.specs.ParserState.{initial_state, known_context, grammar_of};
+ghost use Rattle.wasm_parser.specs.GivesNextEvent.{GivesNextEvent};
+ghost use Rattle.wasm_parser.specs.ParseAll.{walk_over, WalksWhole};
 ghost use Rattle.wasm_parser.specs.declared.payload.Encoding.TheVariants.{Module, Component};
 
-use crate::all::ParseAll;
+use crate::parse_all::ParseAll;
 use crate::contents::{counted, custom, data_count, start, unknown, window};
 use crate::header::{magic_follows, read_header};
 use crate::payload::{Chunk, Encoding, Payload};
@@ -32,8 +32,8 @@ use wasm_items::FunctionBody;
 
 /// Reads a module, or the header of a component, part by part (core specification, Binary format, Modules).
 ///
-/// A parser holds no bytes: it knows where it stands in the stream, and what of the parts before that the next one
-/// must fit. `parse` is handed the rest of the stream and answers the part that stands next there; `parse_all` walks
+/// A parser holds no bytes: it knows where it is in the stream, and what of the parts before that the next one
+/// must fit. `parse` is handed the rest of the stream and answers the part that comes next there; `parse_all` walks
 /// over a whole stream. Offsets count bytes from the start of the whole stream, which may begin at any offset.
 #[derive(Debug, Drop)]
 pub struct Parser {
@@ -55,9 +55,9 @@ pub struct Parser {
 
 impl Model for Parser {
     ghost use Rattle.wasm_base.specs.Features.{feature_bits};
-    ghost use Rattle.wasm_parser.specs.Stands.{Stand};
+    ghost use Rattle.wasm_parser.specs.ParserState.{ParserState};
 
-    ghost Value = { Stand };
+    ghost Value = { ParserState };
 
     ghost view = { λ p. record { offset = p.offset; features = feature_bits p.features; expects_header = p.expects_header; encoding = p.encoding; rank = p.rank; functions = p.functions; codes = p.codes; datas = p.datas; data_counts = p.data_counts; bodies = p.bodies; left = p.left } };
 }
@@ -86,7 +86,7 @@ impl Clone for Parser {
 
 /// A parser of a stream that begins at offset 0.
 impl Default for Parser {
-    ghost is_default = { λ parser. parser ≡ new_stand 0 3 };
+    ghost is_default = { λ parser. parser ≡ initial_state 0 3 };
 
     fn default() -> Self {
         Parser::new(0)
@@ -102,7 +102,7 @@ const COMPONENT_HEADER: [u8; 8] = *b"\0asm\x0d\0\x01\0";
 impl Parser {
     /// A parser of a stream that begins at this offset, with all features.
     pub fn new(offset: u64) -> Self
-        ensures { result ≡ new_stand offset 3 }
+        ensures { result ≡ initial_state offset 3 }
     {
         Parser {
             offset,
@@ -141,7 +141,7 @@ impl Parser {
     }
 
     /// A reader of these bytes, which begin at this offset of the whole stream, with the parser's features. The offset and
-    /// the length together must not pass 2^64 - 1, as `fits` tells.
+    /// the length together must not pass 2^64 - 1, as `fits` says.
     pub fn binary_reader<'a>(&self, bytes: &'a [u8], offset: u64) -> BinaryReader<'a>
         requires { offset + length bytes.now < 2 ^ 64 }
         ensures { result ≡ window_over self.now.features offset bytes.now }
@@ -199,7 +199,7 @@ impl Parser {
         self.bodies > 0 || self.left > 0
     }
 
-    // A reader of bytes that begin where the parser stands.
+    // A reader of bytes that begin where the parser is.
     fn reader<'a>(&self, bytes: &'a [u8]) -> BinaryReader<'a>
         requires { self.now.offset + length bytes.now < 2 ^ 64 }
         ensures { result ≡ window_over self.now.features self.now.offset bytes.now }
@@ -214,10 +214,10 @@ impl Parser {
         rank > 0 && rank <= self.rank
     }
 
-    // What stands where a section may start, and bytes are left.
+    // What is where a section may start, and bytes are left.
     fn section<'a>(&self, reader: &mut BinaryReader<'a>) -> Result<Payload<'a>>
         requires { 0 < length (place reader.old).rest }
-        ensures { StandsThere (section_grammar (past_of self.now) (place reader.old).offset) (place reader.old) result (place reader.new) }
+        ensures { ReadsByGrammar (section_grammar (known_context self.now) (place reader.old).offset) (place reader.old) result (place reader.new) }
     {
         let start = reader.original_position();
         if magic_follows(reader) {
@@ -227,10 +227,10 @@ impl Parser {
         self.framed(start, id, reader)
     }
 
-    // A section with this id, which stands at this offset, just before the reader.
+    // A section with this id, which is at this offset, just before the reader.
     fn framed<'a>(&self, start: u64, id: u8, reader: &mut BinaryReader<'a>) -> Result<Payload<'a>>
         requires { start + 1 ≡ (place reader.old).offset }
-        ensures { StandsThere (framed_grammar (past_of self.now) start id) (place reader.old) result (place reader.new) }
+        ensures { ReadsByGrammar (after_id_grammar (known_context self.now) start id) (place reader.old) result (place reader.new) }
     {
         if id >= 128 {
             return Err(Error::new(Fault::MalformedSectionId, start));
@@ -248,7 +248,7 @@ impl Parser {
         size: u32,
         reader: &mut BinaryReader<'a>,
     ) -> Result<Payload<'a>>
-        ensures { StandsThere (sized_grammar (past_of self.now) (form_of self.now.encoding id) id field (place reader.old).offset size) (place reader.old) result (place reader.new) }
+        ensures { ReadsByGrammar (after_length_grammar (known_context self.now) (form_of self.now.encoding id) id field (place reader.old).offset size) (place reader.old) result (place reader.new) }
     {
         if u64::from(size) > u64::MAX - reader.original_position() {
             return Err(Error::new(Fault::SectionTooLarge, field).with_number(u64::from(size)));
@@ -270,7 +270,7 @@ impl Parser {
     ) -> Result<Payload<'a>>
         requires known { kind_is kind ≡ form_of self.now.encoding id }
         requires fits { (place reader.old).offset + size < 2 ^ 64 }
-        ensures { StandsThere (content_grammar (past_of self.now) (kind_is kind) id (place reader.old).offset size) (place reader.old) result (place reader.new) }
+        ensures { ReadsByGrammar (content_grammar (known_context self.now) (kind_is kind) id (place reader.old).offset size) (place reader.old) result (place reader.new) }
     {
         match kind {
             Kind::Custom => custom(id, size, reader),
@@ -282,11 +282,11 @@ impl Parser {
         }
     }
 
-    // What stands where the parser stands, if bytes are left there, or a header or a body is expected.
+    // What is where the parser is, if bytes are left there, or a header or a body is expected.
     fn read<'a>(&self, reader: &mut BinaryReader<'a>) -> Result<Payload<'a>>
         requires starts { (place reader.old).offset ≡ self.now.offset }
         requires some { self.now.expects_header ≡ false → nat_eq (self.now.bodies + self.now.left) 0 ≡ true → 0 < length (place reader.old).rest }
-        ensures { IsTold self.now.offset (place reader.old) (verdict (grammar_of self.now) (place reader.old).rest) result (place reader.new) }
+        ensures { MatchesVerdict self.now.offset (place reader.old) (verdict (grammar_of self.now) (place reader.old).rest) result (place reader.new) }
     {
         if self.expects_header {
             read_header(reader)
@@ -297,11 +297,11 @@ impl Parser {
         }
     }
 
-    // How the stream ends where the parser stands: each count above 0 wants its other section.
+    // How the stream ends where the parser is: each count above 0 wants its other section.
     fn end<'a>(&self) -> Result<Chunk<'a>>
         requires header { self.now.expects_header ≡ false }
         requires code { nat_eq (self.now.bodies + self.now.left) 0 ≡ true }
-        ensures { Parses self.now [] result self.now }
+        ensures { ParseAnswer self.now [] result self.now }
     {
         let end = self.offset();
         if lacks(self.functions, self.codes) {
@@ -318,7 +318,7 @@ impl Parser {
 
     // Passes what was read, which ends at this offset. A section that has a rank ranks above all earlier ones.
     fn pass(&mut self, payload: &Payload, end: u64)
-        ensures { Passes self.old payload.now end self.new }
+        ensures { Advances self.old payload.now end self.new }
     {
         let taken = end.saturating_sub(self.offset);
         self.offset = end;
@@ -336,7 +336,7 @@ impl Parser {
 
     /// Reads what comes next in the stream of which these bytes are all the rest.
     ///
-    /// The parser then stands behind it, `consumed` bytes further; a caller hands in the bytes behind those:
+    /// The parser then is after it, `consumed` bytes further; a caller hands in the bytes after those:
     ///
     /// ```text
     /// loop {
@@ -355,13 +355,13 @@ impl Parser {
     /// }
     /// ```
     ///
-    /// A fault is told at its offset in the whole stream, and leaves the parser unchanged: the faults of a header, of a
+    /// A fault is reported at its offset in the whole stream, and leaves the parser unchanged: the faults of a header, of a
     /// section's id, length, order and first fields, of a body's size, and of counts that don't match. `OffsetRange` at
     /// the parser's offset, where the bytes pass the offsets of a stream.
     pub fn parse<'a>(&mut self, bytes: &'a [u8], eof: bool) -> Result<Chunk<'a>>
         requires { IsTrue eof }
-        ensures answers { Parses self.old bytes.now result self.new }
-        ensures tells { TellsNext self.old bytes.now result self.new }
+        ensures answers { ParseAnswer self.old bytes.now result self.new }
+        ensures gives { GivesNextEvent self.old bytes.now result self.new }
         ensures consumes { Consumes bytes.now result }
         ensures faults { FaultsWithin self.old bytes.now result }
         ensures unchanged { IsUnchanged self.old result self.new }
@@ -369,9 +369,9 @@ impl Parser {
         self.answer(bytes)
     }
 
-    // What stands next in the stream of which these bytes are all the rest, and is then passed.
+    // What comes next in the stream of which these bytes are all the rest, and is then passed.
     fn answer<'a>(&mut self, bytes: &'a [u8]) -> Result<Chunk<'a>>
-        ensures { Parses self.old bytes.now result self.new }
+        ensures { ParseAnswer self.old bytes.now result self.new }
     {
         let start = self.offset();
         if !fits(start, bytes.len()) {
@@ -393,7 +393,7 @@ impl Parser {
     // The content of a section that is a count, and so many items. The data section has as many as were announced.
     fn items<'a>(&self, id: u8, size: u32, reader: &mut BinaryReader<'a>) -> Result<Payload<'a>>
         requires { kind_of_module id ≡ items }
-        ensures { StandsThere (whole_grammar (past_of self.now) items id (place reader.old).offset size) (place reader.old) result (place reader.new) }
+        ensures { ReadsByGrammar (whole_grammar (known_context self.now) items id (place reader.old).offset size) (place reader.old) result (place reader.new) }
     {
         let window = window(size, reader)?;
         let payload = counted(id, window)?;
@@ -405,7 +405,7 @@ impl Parser {
 
     // Whether another count of data segments was announced.
     fn is_miscounted(&self, payload: &Payload) -> bool
-        ensures { result ≡ is_miscounted_by (option_to_list self.now.data_counts) (told_by payload.now) }
+        ensures { result ≡ is_miscounted_by (option_to_list self.now.data_counts) (report_of payload.now) }
     {
         match payload {
             Payload::DataSection(section) => differs(self.data_counts, section.count()),
@@ -416,13 +416,13 @@ impl Parser {
     // The head of a code section: a count of bodies, each of which has its function.
     fn code<'a>(&self, size: u32, reader: &mut BinaryReader<'a>) -> Result<Payload<'a>>
         requires { (place reader.old).offset + size < 2 ^ 64 }
-        ensures { StandsThere (code_grammar (past_of self.now) (place reader.old).offset size) (place reader.old) result (place reader.new) }
+        ensures { ReadsByGrammar (code_grammar (known_context self.now) (place reader.old).offset size) (place reader.old) result (place reader.new) }
     {
         let start = reader.original_position();
         let end = start + u64::from(size);
         let count = reader.read_var_u32()?;
-        let behind = reader.original_position();
-        if end < behind {
+        let after = reader.original_position();
+        if end < after {
             return Err(Error::new(Fault::UnexpectedEof, start));
         }
         if differs(self.functions, count) {
@@ -434,13 +434,13 @@ impl Parser {
         Ok(Payload::CodeSectionStart {
             count,
             unchecked_range: start..end,
-            size: (end - behind) as u32,
+            size: (end - after) as u32,
         })
     }
 
     // A body of a code section that isn't at its end.
     fn body<'a>(&self, reader: &mut BinaryReader<'a>) -> Result<Payload<'a>>
-        ensures { StandsThere (body_grammar self.now.bodies self.now.left (place reader.old).offset) (place reader.old) result (place reader.new) }
+        ensures { ReadsByGrammar (body_grammar self.now.bodies self.now.left (place reader.old).offset) (place reader.old) result (place reader.new) }
     {
         let start = reader.original_position();
         if self.bodies == 0 {

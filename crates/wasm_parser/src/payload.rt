@@ -1,6 +1,6 @@
-// What a parser tells of a stream.
+// What a parser says of a stream.
 ghost use Rattle.std.specs.Prelude.{◌≡◌};
-ghost use Rattle.wasm_parser.specs.Answers.{told_by};
+ghost use Rattle.wasm_parser.specs.ParseAnswer.{report_of};
 ghost use Rattle.wasm_parser.specs.Reading.{counted};
 ghost use Rattle.wasm_parser.specs.Sections.{parts_of, section_of};
 
@@ -72,7 +72,7 @@ pub enum Payload<'a> {
     /// The data segments of a module.
     DataSection(DataSectionReader<'a>),
     /// The start of a code section: how many bodies follow, the offsets of its content, of which not all needs to be
-    /// there yet, and how many bytes of that content stand behind the count.
+    /// there yet, and how many bytes of that content are after the count.
     CodeSectionStart {
         count: u32,
         unchecked_range: Range<u64>,
@@ -118,7 +118,7 @@ impl<'a> Payload<'a> {
     /// The id of the section that this is, and the offsets of its content in the whole stream: from the first byte
     /// after its length up to its end. A header, a body and the end are none; a code section is its start.
     pub fn as_section(&self) -> Option<(u8, Range<u64>)>
-        ensures { result ≡ section_of (told_by self.now) }
+        ensures { result ≡ section_of (report_of self.now) }
     {
         match self.section_parts() {
             Some((id, range, _)) => Some((id, range)),
@@ -128,7 +128,7 @@ impl<'a> Payload<'a> {
 
     /// The same with the section's count.
     pub(crate) fn section_parts(&self) -> Option<SectionParts>
-        ensures { result ≡ parts_of (told_by self.now) }
+        ensures { result ≡ parts_of (report_of self.now) }
     {
         match self {
             Payload::TypeSection(section) => counted_parts(TYPE_SECTION, section),

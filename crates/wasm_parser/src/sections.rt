@@ -46,7 +46,7 @@ pub(crate) enum Kind {
 }
 
 // The form of a module's section with this id, and its place in the order of sections, counted from 1, or 0: it may
-// stand anywhere.
+// are anywhere.
 fn form_and_place(id: u8) -> (Kind, u8)
     ensures form { kind_is result.0 ≡ form_of Module id }
     ensures place { result.1 ≡ slice_index ranks id }
@@ -91,7 +91,7 @@ pub(crate) fn place_of(id: u8) -> u8
     form_and_place(id).1
 }
 
-/// The rank of a section of this kind, or 0: it may stand anywhere.
+/// The rank of a section of this kind, or 0: it may come anywhere.
 pub(crate) fn rank_of(kind: Kind, id: u8) -> u8
     ensures { result ≡ rank_in (kind_is kind) id }
 {

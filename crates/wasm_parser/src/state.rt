@@ -1,15 +1,15 @@
-// What a parser knows after what it told.
+// What a parser knows after what it reported.
 ghost use Rattle.std.specs.Prelude.{◌≡◌};
-ghost use Rattle.wasm_parser.specs.Answers.{told_by};
-ghost use Rattle.wasm_parser.specs.StateAfter.{known_encoding, rank_told, known_rank, known_count, missing_bodies, missing_bytes};
-ghost use Rattle.wasm_parser.specs.Sections.{count_told};
+ghost use Rattle.wasm_parser.specs.ParseAnswer.{report_of};
+ghost use Rattle.wasm_parser.specs.StateAfter.{known_encoding, rank_report, known_rank, known_count, missing_bodies, missing_bytes};
+ghost use Rattle.wasm_parser.specs.Sections.{count_report};
 
 use crate::payload::{Encoding, Payload};
 use crate::sections::{START_SECTION, place_of};
 
 /// The encoding that a header names, or the one that was known.
 pub(crate) fn encoding_after(payload: &Payload, known: Encoding) -> Encoding
-    ensures { result ≡ known_encoding (told_by payload.now) known }
+    ensures { result ≡ known_encoding (report_of payload.now) known }
 {
     match payload {
         Payload::Version { encoding, .. } => *encoding,
@@ -19,7 +19,7 @@ pub(crate) fn encoding_after(payload: &Payload, known: Encoding) -> Encoding
 
 /// The rank of a section that has one, or the one that was known.
 pub(crate) fn rank_after(payload: &Payload, known: u8) -> u8
-    ensures { result ≡ known_rank (rank_told (told_by payload.now)) known }
+    ensures { result ≡ known_rank (rank_report (report_of payload.now)) known }
 {
     let rank = rank_in(payload);
     if rank > 0 { rank } else { known }
@@ -27,7 +27,7 @@ pub(crate) fn rank_after(payload: &Payload, known: u8) -> u8
 
 // The rank of a section, or 0.
 fn rank_in(payload: &Payload) -> u8
-    ensures { result ≡ rank_told (told_by payload.now) }
+    ensures { result ≡ rank_report (report_of payload.now) }
 {
     match payload {
         Payload::StartSection { .. } => place_of(START_SECTION),
@@ -40,7 +40,7 @@ fn rank_in(payload: &Payload) -> u8
 
 /// The id and the count of a section that has a count.
 pub(crate) fn count_in(payload: &Payload) -> Option<(u8, u32)>
-    ensures { result ≡ count_told (told_by payload.now) }
+    ensures { result ≡ count_report (report_of payload.now) }
 {
     match payload.section_parts() {
         Some((id, _, Some(count))) => Some((id, count)),
@@ -60,7 +60,7 @@ pub(crate) fn count_after(counted: Option<(u8, u32)>, id: u8, known: Option<u32>
 
 /// The bodies that a code section still misses.
 pub(crate) fn bodies_after(payload: &Payload, known: u32) -> u32
-    ensures { result ≡ missing_bodies (told_by payload.now) known }
+    ensures { result ≡ missing_bodies (report_of payload.now) known }
 {
     match payload {
         Payload::CodeSectionStart { count, .. } => *count,
@@ -71,7 +71,7 @@ pub(crate) fn bodies_after(payload: &Payload, known: u32) -> u32
 
 /// The bytes that a code section still misses, after what took so many.
 pub(crate) fn left_after(payload: &Payload, taken: u64, known: u32) -> u32
-    ensures { result ≡ missing_bytes (told_by payload.now) taken known }
+    ensures { result ≡ missing_bytes (report_of payload.now) taken known }
 {
     match payload {
         Payload::CodeSectionStart { size, .. } => *size,

@@ -4,19 +4,19 @@ use Rattle.std.proofs.lemmas.Grind.{flat_map-append}
 use Rattle.std.proofs.lemmas.List.{take_at}
 use Rattle.wasm_base.specs.FaultAt.{FaultAt, fault_at}
 use Rattle.wasm_base.specs.declared.error.Error.{Error}
-use Rattle.wasm_parser.specs.Answers.{told_by, is_end}
+use Rattle.wasm_parser.specs.ParseAnswer.{report_of, is_end}
 use Rattle.wasm_parser.specs.Grammar.{Verdict, tile, final}
-use Rattle.wasm_parser.specs.Reading.{Told, Event, events_of, last_event, Reading}
-use Rattle.wasm_parser.specs.Spans.{consumed_by}
-use Rattle.wasm_parser.specs.Stands.{Stand, Stands, new_stand}
-use Rattle.wasm_parser.specs.TellsNext.{Tells}
+use Rattle.wasm_parser.specs.Reading.{Report, Event, events_of, last_event, Reading}
+use Rattle.wasm_parser.specs.EventRanges.{consumed_by}
+use Rattle.wasm_parser.specs.ParserState.{ParserState, IsStateAfter, initial_state}
+use Rattle.wasm_parser.specs.GivesNextEvent.{GivesEvent}
 use Rattle.wasm_parser.specs.declared.payload.Chunk.TheVariants.{Parsed as Chunk}
 use Rattle.wasm_parser.specs.declared.payload.Payload.{Payload}
 use Rattle.wasm_parser.specs.declared.payload.Payload.TheVariants.{Version, TypeSection, ImportSection, FunctionSection, TableSection, MemorySection, TagSection, GlobalSection, ExportSection, StartSection, ElementSection, DataCountSection, DataSection, CodeSectionStart, CodeSectionEntry, CustomSection, UnknownSection, End}
-use Rattle.wasm_parser.proofs.Following.{tells_next}
-use Rattle.wasm_parser.proofs.Turning.{consumes}
-use Rattle.wasm_uses.specs.Bodies.{size_told, adds, bodies_in, SumIs, Adds}
-use Rattle.wasm_uses.specs.Feed.{Feed, new_feed, next_at, stand_behind}
+use Rattle.wasm_parser.proofs.Following.{gives_next}
+use Rattle.wasm_parser.proofs.AnswerBounds.{consumes}
+use Rattle.wasm_uses.specs.Bodies.{size_report, adds, bodies_in, SumIs, Adds}
+use Rattle.wasm_uses.specs.Feed.{Feed, new_feed, next_at, state_after_verdict}
 use Rattle.wasm_uses.specs.Step.{answer_of, Steps}
 use Rattle.wasm_uses.specs.Totals.{plus}
 use Rattle.wasm_uses.specs.declared.feeder.Step.{Step}
@@ -31,9 +31,9 @@ plus_nothing (Ok n) = ap Ok (sym (zero-add n))
 plus_nothing (Err f) = refl
 
 -- by the size that was found in it
-record Found (n : ℕ) (told : Told) (size : Option ℕ) : Type 0 where
-  some : (k : ℕ) → size ≡ Some k → (k ≤ n) × (is_end told ≡ false) × ((r : Result ℕ FaultAt) → adds n told r ≡ plus k r)
-  none : size ≡ None → (r : Result ℕ FaultAt) → adds n told r ≡ Ok 0
+record Found (n : ℕ) (report : Report) (size : Option ℕ) : Type 0 where
+  some : (k : ℕ) → size ≡ Some k → (k ≤ n) × (is_end report ≡ false) × ((r : Result ℕ FaultAt) → adds n report r ≡ plus k r)
+  none : size ≡ None → (r : Result ℕ FaultAt) → adds n report r ≡ Ok 0
 
 same_some : (m k : ℕ) → let a : Option ℕ = Some m in let b : Option ℕ = Some k in a ≡ b → m ≡ k
 same_some m k e = cc
@@ -41,13 +41,13 @@ same_some m k e = cc
 no_body : (n k : ℕ) → 0 ≡ k → (k ≤ n) × ((r : Result ℕ FaultAt) → r ≡ plus k r)
 no_body n k e = (omega arith, λ r. subst (λ (j : ℕ). r ≡ plus j r) e (plus_nothing r))
 
-other : (n : ℕ) (told : Told) → is_end told ≡ false → ((r : Result ℕ FaultAt) → adds n told r ≡ r) → Found n told (Some 0)
-other n told going same = record {
+other : (n : ℕ) (report : Report) → is_end report ≡ false → ((r : Result ℕ FaultAt) → adds n report r ≡ r) → Found n report (Some 0)
+other n report going same = record {
   some = λ k e. let z = no_body n k (same_some 0 k e) in (z.0, going, λ r. same r ∙ z.1 r);
   none = λ e. cc;
 }
 
-found : (n : ℕ) (payload : Payload) → Found n (told_by payload) (size_told n (told_by payload))
+found : (n : ℕ) (payload : Payload) → Found n (report_of payload) (size_report n (report_of payload))
 found n (CodeSectionEntry body) = record {
   some = λ k e. let z : n ≡ k = same_some n k e in (omega arith, refl, λ r. ap (λ (j : ℕ). plus j r) z);
   none = λ e. cc;
@@ -70,7 +70,7 @@ found n (CodeSectionStart count unchecked_range size) = other n _ refl (λ r. re
 found n (CustomSection s) = other n _ refl (λ r. refl)
 found n (UnknownSection id contents range) = other n _ refl (λ r. refl)
 
--- ---- the reading behind an event
+-- ---- the reading after an event
 
 last_is : (before xs : List Event) (e x : Event) → before ++ e ∷ [] ≡ xs ++ x ∷ [] → e ≡ x
 last_is [] [] e x w = cc
@@ -84,12 +84,12 @@ last_is (b ∷ before) (y ∷ xs) e x w = last_is before xs e x (let t : before 
 last_takes_none : (stream : List ℕ) (start features : ℕ) (before : List Event) (e : Event) → Reading stream start features (before ++ e ∷ []) → length e.consumed ≡ 0
 last_takes_none stream start features before e r = ap (λ (x : Event). length x.consumed) (last_is before (events_of start features r.tiles) e (last_event r.end) r.listed)
 
-features_stay : (p : Stand) (v : Verdict) → (stand_behind p v).features ≡ p.features
+features_stay : (p : ParserState) (v : Verdict) → (state_after_verdict p v).features ≡ p.features
 features_stay p (tile t) = refl
 features_stay p (final end) = refl
 
 same_features : (old new : Feed) (x : Result Step Error) → Steps old x new → new.stand.features ≡ old.stand.features
-same_features old new x s = ap (λ (p : Stand). p.features) (moves old.stand new.stand old.held (answer_of x) s.parses).stand ∙ features_stay old.stand (next_at old.stand old.held)
+same_features old new x s = ap (λ (p : ParserState). p.features) (moves old.stand new.stand old.held (answer_of x) s.parses).stand ∙ features_stay old.stand (next_at old.stand old.held)
 
 -- ---- a step
 
@@ -97,7 +97,7 @@ module _ (old new : Feed) (bytes : Bor (List ℕ)) (payload : Payload) (s : Step
   abbrev n : ℕ
   n = length bytes.now
 
-  some_bytes : is_end (told_by payload) ≡ false → 0 < length bytes.now
+  some_bytes : is_end (report_of payload) ≡ false → 0 < length bytes.now
   some_bytes going =
       let c = (consumes old.stand new.stand old.held (Ok (Chunk (length bytes.now) payload)) s.parses).1 in
       let z : nat_eq (length bytes.now) 0 ≡ false = c ∙ going in positive (length bytes.now) z
@@ -109,100 +109,100 @@ module _ (old new : Feed) (bytes : Bor (List ℕ)) (payload : Payload) (s : Step
   lengths : length old.held ≡ length bytes.now + length new.held
   lengths = ap (λ (l : List ℕ). length l) s.shows ∙ length-append bytes.now new.held
 
-  -- the event that was told, and where the rest of the reading then stands
-  module _ (start : ℕ) (covered : List ℕ) (stands : Stands old.stand start covered) (fits : start + length covered + length old.held < 2 ^ 64) (before later : List Event) (e : Event)
-      (reading : Reading (covered ++ old.held) start old.stand.features (before ++ e ∷ later)) (c : consumed_by before ≡ covered) where
-    told : Tells e old.stand start covered old.held (Ok (Chunk (length bytes.now) payload)) new.stand
-    told = tells_next old.stand new.stand old.held (Ok (Chunk (length bytes.now) payload)) s.parses start covered stands fits (before ++ e ∷ later) reading (record { before = before; event = e; later = later; whole = refl; consumed = c })
+  -- the event that was reported, and where the rest of the reading then is
+  module _ (start : ℕ) (prefix : List ℕ) (stands : IsStateAfter old.stand start prefix) (fits : start + length prefix + length old.held < 2 ^ 64) (before later : List Event) (e : Event)
+      (reading : Reading (prefix ++ old.held) start old.stand.features (before ++ e ∷ later)) (c : consumed_by before ≡ prefix) where
+    report : GivesEvent e old.stand start prefix old.held (Ok (Chunk (length bytes.now) payload)) new.stand
+    report = gives_next old.stand new.stand old.held (Ok (Chunk (length bytes.now) payload)) s.parses start prefix stands fits (before ++ e ∷ later) reading (record { before = before; event = e; later = later; whole = refl; consumed = c })
 
     same_bytes : e.consumed ≡ bytes.now
-    same_bytes = sym told.2 ∙ (ap (take (length bytes.now)) s.shows ∙ take_at bytes.now new.held (length bytes.now) refl)
+    same_bytes = sym report.2 ∙ (ap (take (length bytes.now)) s.shows ∙ take_at bytes.now new.held (length bytes.now) refl)
 
-    added : (r : Result ℕ FaultAt) → adds (length e.consumed) e.told r ≡ adds (length bytes.now) (told_by payload) r
-    added r = λ i. adds (sym told.1 i) (sym told.0.0 i) r
+    added : (r : Result ℕ FaultAt) → adds (length e.consumed) e.report r ≡ adds (length bytes.now) (report_of payload) r
+    added r = λ i. adds (sym report.1 i) (sym report.0.0 i) r
 
-    whole : covered ++ old.held ≡ (covered ++ e.consumed) ++ new.held
-    whole = ap (λ (l : List ℕ). covered ++ l) (s.shows ∙ ap (λ (l : List ℕ). l ++ new.held) (sym same_bytes)) ∙ sym (append_assoc covered e.consumed new.held)
+    whole : prefix ++ old.held ≡ (prefix ++ e.consumed) ++ new.held
+    whole = ap (λ (l : List ℕ). prefix ++ l) (s.shows ∙ ap (λ (l : List ℕ). l ++ new.held) (sym same_bytes)) ∙ sym (append_assoc prefix e.consumed new.held)
 
-    fits_on : start + length (covered ++ e.consumed) + length new.held < 2 ^ 64
-    fits_on = omega (arith, fits, length-append covered e.consumed, told.1, lengths)
+    fits_on : start + length (prefix ++ e.consumed) + length new.held < 2 ^ 64
+    fits_on = omega (arith, fits, length-append prefix e.consumed, report.1, lengths)
 
-    reading_on : Reading ((covered ++ e.consumed) ++ new.held) start new.stand.features ((before ++ e ∷ []) ++ later)
+    reading_on : Reading ((prefix ++ e.consumed) ++ new.held) start new.stand.features ((before ++ e ∷ []) ++ later)
     reading_on =
-        subst (Reading ((covered ++ e.consumed) ++ new.held) start new.stand.features) (sym (append_assoc before (e ∷ []) later))
-        (subst (λ (f : ℕ). Reading ((covered ++ e.consumed) ++ new.held) start f (before ++ e ∷ later)) (sym (same_features old new (Ok (Parsed bytes payload)) s))
+        subst (Reading ((prefix ++ e.consumed) ++ new.held) start new.stand.features) (sym (append_assoc before (e ∷ []) later))
+        (subst (λ (f : ℕ). Reading ((prefix ++ e.consumed) ++ new.held) start f (before ++ e ∷ later)) (sym (same_features old new (Ok (Parsed bytes payload)) s))
         (subst (λ (l : List ℕ). Reading l start old.stand.features (before ++ e ∷ later)) whole reading))
 
-    consumed_on : consumed_by (before ++ e ∷ []) ≡ covered ++ e.consumed
+    consumed_on : consumed_by (before ++ e ∷ []) ≡ prefix ++ e.consumed
     consumed_on = flat_map-append (λ (x : Event). x.consumed) before (e ∷ []) ∙ (λ i. c i ++ append-nil e.consumed i)
 
-  sum_on : (sum : Result ℕ FaultAt) (start : ℕ) (covered : List ℕ) (stands : Stands old.stand start covered) (fits : start + length covered + length old.held < 2 ^ 64) (before later : List Event) (e : Event)
-      (reading : Reading (covered ++ old.held) start old.stand.features (before ++ e ∷ later)) (c : consumed_by before ≡ covered) → is_end (told_by payload) ≡ false → SumIs new.stand new.held sum → bodies_in later ≡ sum
-  sum_on sum start covered stands fits before [] e reading c going rest =
-      let t = told start covered stands fits before [] e reading c in
-      absurd (omega (arith, some_bytes going, t.1, last_takes_none (covered ++ old.held) start old.stand.features before e reading))
-  sum_on sum start covered stands fits before (x ∷ later) e reading c going rest =
-      let t = told start covered stands fits before (x ∷ later) e reading c in
-      rest start (covered ++ e.consumed) t.3 (fits_on start covered stands fits before (x ∷ later) e reading c) (before ++ e ∷ []) later x (reading_on start covered stands fits before (x ∷ later) e reading c) (consumed_on start covered stands fits before (x ∷ later) e reading c)
+  sum_on : (sum : Result ℕ FaultAt) (start : ℕ) (prefix : List ℕ) (stands : IsStateAfter old.stand start prefix) (fits : start + length prefix + length old.held < 2 ^ 64) (before later : List Event) (e : Event)
+      (reading : Reading (prefix ++ old.held) start old.stand.features (before ++ e ∷ later)) (c : consumed_by before ≡ prefix) → is_end (report_of payload) ≡ false → SumIs new.stand new.held sum → bodies_in later ≡ sum
+  sum_on sum start prefix stands fits before [] e reading c going rest =
+      let t = report start prefix stands fits before [] e reading c in
+      absurd (omega (arith, some_bytes going, t.1, last_takes_none (prefix ++ old.held) start old.stand.features before e reading))
+  sum_on sum start prefix stands fits before (x ∷ later) e reading c going rest =
+      let t = report start prefix stands fits before (x ∷ later) e reading c in
+      rest start (prefix ++ e.consumed) t.3 (fits_on start prefix stands fits before (x ∷ later) e reading c) (before ++ e ∷ []) later x (reading_on start prefix stands fits before (x ∷ later) e reading c) (consumed_on start prefix stands fits before (x ∷ later) e reading c)
 
-  adds_some : (k : ℕ) → size_told (length bytes.now) (told_by payload) ≡ Some k → Adds old (Ok (Some k)) new
+  adds_some : (k : ℕ) → size_report (length bytes.now) (report_of payload) ≡ Some k → Adds old (Ok (Some k)) new
   adds_some k z =
       let f = (found (length bytes.now) payload).some k z in (
         omega (arith, f.0, lengths),
         omega (arith, some_bytes f.1, lengths),
-        λ sum rest start covered stands fits before later e reading c.
-            added start covered stands fits before later e reading c (bodies_in later) ∙ (f.2 (bodies_in later) ∙ ap (plus k) (sum_on sum start covered stands fits before later e reading c f.1 rest)),
+        λ sum rest start prefix stands fits before later e reading c.
+            added start prefix stands fits before later e reading c (bodies_in later) ∙ (f.2 (bodies_in later) ∙ ap (plus k) (sum_on sum start prefix stands fits before later e reading c f.1 rest)),
       )
 
-  adds_none : size_told (length bytes.now) (told_by payload) ≡ None → Adds old (Ok None) new
-  adds_none z start covered stands fits before later e reading c =
-      added start covered stands fits before later e reading c (bodies_in later) ∙ (found (length bytes.now) payload).none z (bodies_in later)
+  adds_none : size_report (length bytes.now) (report_of payload) ≡ None → Adds old (Ok None) new
+  adds_none z start prefix stands fits before later e reading c =
+      added start prefix stands fits before later e reading c (bodies_in later) ∙ (found (length bytes.now) payload).none z (bodies_in later)
 
-  adds_by : (size : Option ℕ) → size_told (length bytes.now) (told_by payload) ≡ size → Adds old (Ok size) new
+  adds_by : (size : Option ℕ) → size_report (length bytes.now) (report_of payload) ≡ size → Adds old (Ok size) new
   adds_by (Some k) z = adds_some k z
   adds_by None z = adds_none z
 
-  pub payload_adds : Adds old (Ok (size_told (length bytes.now) (told_by payload))) new
-  payload_adds = adds_by (size_told (length bytes.now) (told_by payload)) refl
+  pub payload_adds : Adds old (Ok (size_report (length bytes.now) (report_of payload))) new
+  payload_adds = adds_by (size_report (length bytes.now) (report_of payload)) refl
 
 pub fault_adds : (old new : Feed) (f : Error) → Steps old (Err f) new → Adds old (Err f) new
-fault_adds old new f s start covered stands fits before later e reading c =
-    let t = tells_next old.stand new.stand old.held (Err f) s.parses start covered stands fits (before ++ e ∷ later) reading (record { before = before; event = e; later = later; whole = refl; consumed = c }) in
-    ap (λ (x : Told). adds (length e.consumed) x (bodies_in later)) t.0
+fault_adds old new f s start prefix stands fits before later e reading c =
+    let t = gives_next old.stand new.stand old.held (Err f) s.parses start prefix stands fits (before ++ e ∷ later) reading (record { before = before; event = e; later = later; whole = refl; consumed = c }) in
+    ap (λ (x : Report). adds (length e.consumed) x (bodies_in later)) t.0
 
 -- ---- the whole stream
 
 -- So much of a stream's sum was found, and the rest of it is that of the bytes that are left.
 pub record Counted (stream : List ℕ) (total : ℕ) (feed : Feed) : Type 0 where
   pub room : total + length feed.held ≤ length stream
-  pub so_far : (sum : Result ℕ FaultAt) → SumIs feed.stand feed.held sum → SumIs (new_stand 0 3) stream (plus total sum)
+  pub so_far : (sum : Result ℕ FaultAt) → SumIs feed.stand feed.held sum → SumIs (initial_state 0 3) stream (plus total sum)
 
 pub begun : (stream : List ℕ) → Counted stream 0 (new_feed 0 stream)
 begun stream = record {
   room = omega arith;
-  so_far = λ sum h. subst (SumIs (new_stand 0 3) stream) (plus_nothing sum) h;
+  so_far = λ sum h. subst (SumIs (initial_state 0 3) stream) (plus_nothing sum) h;
 }
 
 pub counted_on : (stream : List ℕ) (total n : ℕ) (old new : Feed) → Counted stream total old → Adds old (Ok (Some n)) new → Counted stream (total + n) new × (length new.held < length old.held)
 counted_on stream total n old new c a = (
   record {
     room = omega (arith, c.room, a.0);
-    so_far = λ sum h. subst (SumIs (new_stand 0 3) stream) (plus_twice total n sum) (c.so_far (plus n sum) (a.2 sum h));
+    so_far = λ sum h. subst (SumIs (initial_state 0 3) stream) (plus_twice total n sum) (c.so_far (plus n sum) (a.2 sum h));
   },
   a.1,
 )
 
-sum_of_all : (stream : List ℕ) (sum : Result ℕ FaultAt) → length stream < 2 ^ 64 → SumIs (new_stand 0 3) stream sum → (events : List Event) → Reading stream 0 3 events → bodies_in events ≡ sum
+sum_of_all : (stream : List ℕ) (sum : Result ℕ FaultAt) → length stream < 2 ^ 64 → SumIs (initial_state 0 3) stream sum → (events : List Event) → Reading stream 0 3 events → bodies_in events ≡ sum
 sum_of_all stream sum small h [] r =
     let n : 0 ≡ length (events_of 0 3 r.tiles ++ last_event r.end ∷ []) = ap (λ (l : List Event). length l) r.listed in
     absurd (omega (arith, length-append (events_of 0 3 r.tiles) (last_event r.end ∷ [])))
 sum_of_all stream sum small h (e ∷ later) r = h 0 [] stands (omega arith) [] later e r refl
   where
-    stands : Stands (new_stand 0 3) 0 []
+    stands : IsStateAfter (initial_state 0 3) 0 []
     stands = record { tiles = []; faultless = tt; covers = refl; offset = refl; expects_header = refl; encoding = refl; rank = refl; functions = refl; codes = refl; datas = refl; data_counts = refl; bodies = refl; left = refl }
 
 pub all_counted : (stream : List ℕ) (total : ℕ) (old new : Feed) → length stream < 2 ^ 64 → Counted stream total old → Adds old (Ok None) new → (events : List Event) → Reading stream 0 3 events → bodies_in events ≡ Ok total
-all_counted stream total old new small c a = sum_of_all stream (Ok total) small (subst (λ (n : ℕ). SumIs (new_stand 0 3) stream (Ok n)) (omega arith) (c.so_far (Ok 0) a))
+all_counted stream total old new small c a = sum_of_all stream (Ok total) small (subst (λ (n : ℕ). SumIs (initial_state 0 3) stream (Ok n)) (omega arith) (c.so_far (Ok 0) a))
 
 pub fault_counted : (stream : List ℕ) (total : ℕ) (old new : Feed) (f : Error) → length stream < 2 ^ 64 → Counted stream total old → Adds old (Err f) new → (events : List Event) → Reading stream 0 3 events → bodies_in events ≡ Err (fault_at f)
 fault_counted stream total old new f small c a = sum_of_all stream (Err (fault_at f)) small (c.so_far (Err (fault_at f)) a)

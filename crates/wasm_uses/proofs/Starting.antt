@@ -3,19 +3,19 @@ use Rattle.std.proofs.Common.{◌≡◌, ℕ, ◌^◌, ◌<◌, true, false, Lis
 use Rattle.std.specs.Iterator.{Yields, Drains}
 use Rattle.wasm_base.specs.FaultAt.{FaultAt, fault_at}
 use Rattle.wasm_base.specs.declared.error.Error.{Error}
-use Rattle.wasm_parser.specs.Answers.{told_by}
-use Rattle.wasm_parser.specs.Reading.{Told, stopped, Event, Reading}
-use Rattle.wasm_parser.specs.Stands.{Stand, new_stand}
-use Rattle.wasm_parser.specs.Turns.{Walk, NextPayload, told_item, told_event, GivesReading, WalksWhole}
+use Rattle.wasm_parser.specs.ParseAnswer.{report_of}
+use Rattle.wasm_parser.specs.Reading.{Report, stopped, Event, Reading}
+use Rattle.wasm_parser.specs.ParserState.{ParserState, initial_state}
+use Rattle.wasm_parser.specs.ParseAll.{Walk, NextPayload, given_report, event_report, GivesReading, WalksWhole}
 use Rattle.wasm_parser.specs.declared.payload.Payload.{Payload}
 use Rattle.wasm_parser.specs.declared.payload.Payload.TheVariants.{Version, TypeSection, ImportSection, FunctionSection, TableSection, MemorySection, TagSection, GlobalSection, ExportSection, StartSection, ElementSection, DataCountSection, DataSection, CodeSectionStart, CodeSectionEntry, CustomSection, UnknownSection, End}
 use Rattle.wasm_uses.specs.Streams.{started_by, latest, unless_stopped, start_from}
 
 -- what was given so far leaves this start to be known
 abbrev pub Known : List (Result Payload Error) → Option ℕ → Type 0
-Known given start = (later : List Told) → start_from None (map told_item given ++ later) ≡ start_from start later
+Known given start = (later : List Report) → start_from None (map given_report given ++ later) ≡ start_from start later
 
-no_stop : (payload : Payload) (r : Result (Option ℕ) FaultAt) → unless_stopped (told_by payload) r ≡ r
+no_stop : (payload : Payload) (r : Result (Option ℕ) FaultAt) → unless_stopped (report_of payload) r ≡ r
 no_stop (Version num encoding range) r = refl
 no_stop (TypeSection s) r = refl
 no_stop (ImportSection s) r = refl
@@ -35,18 +35,18 @@ no_stop (CustomSection s) r = refl
 no_stop (UnknownSection id contents range) r = refl
 no_stop (End at) r = refl
 
-map_more : (given : List (Result Payload Error)) (x : Result Payload Error) (later : List Told) → map told_item (given ++ x ∷ []) ++ later ≡ map told_item given ++ (told_item x ∷ later)
+map_more : (given : List (Result Payload Error)) (x : Result Payload Error) (later : List Report) → map given_report (given ++ x ∷ []) ++ later ≡ map given_report given ++ (given_report x ∷ later)
 map_more [] x later = refl
-map_more (y ∷ given) x later = ap (λ (l : List Told). told_item y ∷ l) (map_more given x later)
+map_more (y ∷ given) x later = ap (λ (l : List Report). given_report y ∷ l) (map_more given x later)
 
 -- one more payload, in which this was found
-pub known_more : (given : List (Result Payload Error)) (start found : Option ℕ) (payload : Payload) → found ≡ started_by (told_by payload) → Known given start → Known (given ++ Ok payload ∷ []) (latest start found)
+pub known_more : (given : List (Result Payload Error)) (start found : Option ℕ) (payload : Payload) → found ≡ started_by (report_of payload) → Known given start → Known (given ++ Ok payload ∷ []) (latest start found)
 known_more given start found payload is known later =
     ap (start_from None) (map_more given (Ok payload) later)
-    ∙ (known (told_by payload ∷ later) ∙ (no_stop payload (start_from (latest start (started_by (told_by payload))) later) ∙ ap (λ (o : Option ℕ). start_from (latest start o) later) (sym is)))
+    ∙ (known (report_of payload ∷ later) ∙ (no_stop payload (start_from (latest start (started_by (report_of payload))) later) ∙ ap (λ (o : Option ℕ). start_from (latest start o) later) (sym is)))
 
 -- a fault
-pub known_stops : (given : List (Result Payload Error)) (start : Option ℕ) (e : Error) → Known given start → start_from None (map told_item (given ++ Err e ∷ []) ++ []) ≡ Err (fault_at e)
+pub known_stops : (given : List (Result Payload Error)) (start : Option ℕ) (e : Error) → Known given start → start_from None (map given_report (given ++ Err e ∷ []) ++ []) ≡ Err (fault_at e)
 known_stops given start e known = ap (start_from None) (map_more given (Err e) []) ∙ known (stopped (fault_at e) ∷ [])
 
 -- after a fault nothing comes
@@ -64,9 +64,9 @@ drained s t u xs e h n =
     (u, (u, yields_more s t u xs (Err e) h n, record { over = λ is. (refl, refl); going = λ is. absurd cc }))
 
 -- what a whole walk gave is what the stream's reading has
-pub found : (bytes : List ℕ) (p : Stand) (walk s : Walk) (given : List (Result Payload Error)) (r : Result (Option ℕ) FaultAt) → p ≡ new_stand 0 3 → WalksWhole p bytes walk → length bytes < 2 ^ 64 → s ≡ walk
-    → Drains NextPayload s given → start_from None (map told_item given ++ []) ≡ r → (events : List Event) → Reading bytes 0 3 events → start_from None (map told_event events) ≡ r
+pub found : (bytes : List ℕ) (p : ParserState) (walk s : Walk) (given : List (Result Payload Error)) (r : Result (Option ℕ) FaultAt) → p ≡ initial_state 0 3 → WalksWhole p bytes walk → length bytes < 2 ^ 64 → s ≡ walk
+    → Drains NextPayload s given → start_from None (map given_report given ++ []) ≡ r → (events : List Event) → Reading bytes 0 3 events → start_from None (map event_report events) ≡ r
 found bytes p walk s given r new whole small same run is events reading =
     let g : GivesReading 0 3 bytes walk = whole 0 3 new (omega arith) in
-    let told : map told_item given ≡ map told_event events = g.reading given (subst (λ (w : Walk). Drains NextPayload w given) same run) events reading in
-    ap (start_from None) (sym told) ∙ (ap (start_from None) (sym (append-nil (map told_item given))) ∙ is)
+    let report : map given_report given ≡ map event_report events = g.reading given (subst (λ (w : Walk). Drains NextPayload w given) same run) events reading in
+    ap (start_from None) (sym report) ∙ (ap (start_from None) (sym (append-nil (map given_report given))) ∙ is)

@@ -2,27 +2,27 @@
 use Rattle.std.specs.Prelude.{◌≡◌, ℕ, ◌+◌, ◌<◌, ◌≤◌, ◌^◌, List, [], ◌∷◌, ◌++◌, length, Option, Some, None, Result, Ok, Err, MatchResult}
 use Rattle.wasm_base.specs.FaultAt.{FaultAt, fault_at}
 use Rattle.wasm_base.specs.declared.error.Error.{Error}
-use Rattle.wasm_parser.specs.Reading.{Told, version, counted, start_section, data_count_section, code_start, code_entry, custom_section, unknown_section, stopped, ending, Event, Reading}
-use Rattle.wasm_parser.specs.Spans.{consumed_by}
-use Rattle.wasm_parser.specs.Stands.{Stand, Stands}
+use Rattle.wasm_parser.specs.Reading.{Report, version, counted, start_section, data_count_section, code_start, code_entry, custom_section, unknown_section, stopped, ending, Event, Reading}
+use Rattle.wasm_parser.specs.EventRanges.{consumed_by}
+use Rattle.wasm_parser.specs.ParserState.{ParserState, IsStateAfter}
 use Rattle.wasm_uses.specs.Feed.{Feed}
 use Rattle.wasm_uses.specs.Totals.{plus}
 
 -- of so many bytes those that are a body, unless this is the end
-abbrev pub size_told : ℕ → Told → Option ℕ
-size_told n (code_entry window) = Some n
-size_told n (ending offset) = None
-size_told n (version num encoding from to) = Some 0
-size_told n (counted id count window) = Some 0
-size_told n (start_section func from to) = Some 0
-size_told n (data_count_section count from to) = Some 0
-size_told n (code_start count from to size) = Some 0
-size_told n (custom_section name data_offset window) = Some 0
-size_told n (unknown_section id contents from to) = Some 0
-size_told n (stopped f) = Some 0
+abbrev pub size_report : ℕ → Report → Option ℕ
+size_report n (code_entry window) = Some n
+size_report n (ending offset) = None
+size_report n (version num encoding from to) = Some 0
+size_report n (counted id count window) = Some 0
+size_report n (start_section func from to) = Some 0
+size_report n (data_count_section count from to) = Some 0
+size_report n (code_start count from to size) = Some 0
+size_report n (custom_section name data_offset window) = Some 0
+size_report n (unknown_section id contents from to) = Some 0
+size_report n (stopped f) = Some 0
 
 -- an event that took so many bytes, before what comes of the later ones
-abbrev pub adds : ℕ → Told → Result ℕ FaultAt → Result ℕ FaultAt
+abbrev pub adds : ℕ → Report → Result ℕ FaultAt → Result ℕ FaultAt
 adds n (code_entry window) later = plus n later
 adds n (ending offset) later = Ok 0
 adds n (stopped f) later = Err f
@@ -37,18 +37,18 @@ adds n (unknown_section id contents from to) later = later
 -- the bytes that bodies take in these events, up to the end; or the fault
 abbrev pub bodies_in : List Event → Result ℕ FaultAt
 bodies_in [] = Ok 0
-bodies_in (e ∷ events) = adds (length e.consumed) e.told (bodies_in events)
+bodies_in (e ∷ events) = adds (length e.consumed) e.report (bodies_in events)
 
 -- The bodies of the stream take so many bytes by its reading, with all features and from offset 0; or this is the fault
 -- at which the reading stops.
 abbrev pub IsSizeOfBodies : List ℕ → Result ℕ Error → Type 0
 IsSizeOfBodies stream result = (events : List Event) → Reading stream 0 3 events → MatchResult result (λ n. bodies_in events ≡ Ok n) (λ e. bodies_in events ≡ Err (fault_at e))
 
--- Wherever the parser stands in a stream whose rest this is, so much is the sum of the bodies in the events from there on.
-abbrev pub SumIs : Stand → (rest : List ℕ) → Result ℕ FaultAt → Type 0
+-- Wherever the parser is in a stream whose rest this is, so much is the sum of the bodies in the events from there on.
+abbrev pub SumIs : ParserState → (rest : List ℕ) → Result ℕ FaultAt → Type 0
 SumIs p rest sum =
-    (start : ℕ) (covered : List ℕ) → Stands p start covered → start + length covered + length rest < 2 ^ 64
-    → (before later : List Event) (e : Event) → Reading (covered ++ rest) start p.features (before ++ e ∷ later) → consumed_by before ≡ covered → bodies_in (e ∷ later) ≡ sum
+    (start : ℕ) (prefix : List ℕ) → IsStateAfter p start prefix → start + length prefix + length rest < 2 ^ 64
+    → (before later : List Event) (e : Event) → Reading (prefix ++ rest) start p.features (before ++ e ∷ later) → consumed_by before ≡ prefix → bodies_in (e ∷ later) ≡ sum
 
 -- One step gave so much of the sum, and the rest of the bytes gives the rest of it; or the sum ends here, or a fault ends it.
 abbrev pub Adds : Feed → Result (Option ℕ) Error → Feed → Type 0

@@ -5,4 +5,4 @@ pub mod Step
 pub mod Streams
 pub mod Taken
 pub mod Totals
-pub mod Turned
+pub mod Advanced

@@ -1,11 +1,11 @@
 -- What a step of a feeder answers, and what the feeder then is.
 use Rattle.std.specs.Prelude.{◌≡◌, ℕ, List, [], ◌++◌, length, drop, Result, Ok, Err}
 use Rattle.wasm_base.specs.declared.error.Error.{Error}
-use Rattle.wasm_parser.specs.Answers.{Parses}
-use Rattle.wasm_parser.specs.Stands.{Stand}
+use Rattle.wasm_parser.specs.ParseAnswer.{ParseAnswer}
+use Rattle.wasm_parser.specs.ParserState.{ParserState}
 use Rattle.wasm_parser.specs.declared.payload.Chunk.{Chunk}
 use Rattle.wasm_parser.specs.declared.payload.Chunk.TheVariants as chunk
-use Rattle.wasm_uses.specs.Feed.{Feed, next_at, stand_behind}
+use Rattle.wasm_uses.specs.Feed.{Feed, next_at, state_after_verdict}
 use Rattle.wasm_uses.specs.declared.feeder.Step.{Step}
 use Rattle.wasm_uses.specs.declared.feeder.Step.TheVariants.{NeedMoreData, Parsed}
 
@@ -24,12 +24,12 @@ shown (Ok (NeedMoreData hint)) = []
 shown (Ok (Parsed bytes payload)) = bytes.now
 shown (Err e) = []
 
--- The step is what a parser that stands here answers on all the rest of a stream, and shows the bytes that it consumed.
-pub record Tells (p : Stand) (rest : List ℕ) (result : Result Step Error) : Type 0 where
-  pub parses : Parses p rest (answer_of result) (stand_behind p (next_at p rest))
+-- The step is what a parser that is here answers on all the rest of a stream, and shows the bytes that it consumed.
+pub record Tells (p : ParserState) (rest : List ℕ) (result : Result Step Error) : Type 0 where
+  pub parses : ParseAnswer p rest (answer_of result) (state_after_verdict p (next_at p rest))
   pub shows : rest ≡ shown result ++ drop (length (shown result)) rest
 
--- The feeder's parser answered this and has passed it, and the feeder holds what is behind the bytes that are shown.
+-- The feeder's parser answered this and has passed it, and the feeder holds what is after the bytes that are shown.
 pub record Steps (old : Feed) (result : Result Step Error) (new : Feed) : Type 0 where
-  pub parses : Parses old.stand old.held (answer_of result) new.stand
+  pub parses : ParseAnswer old.stand old.held (answer_of result) new.stand
   pub shows : old.held ≡ shown result ++ new.held

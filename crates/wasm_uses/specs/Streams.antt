@@ -3,15 +3,15 @@ use Rattle.std.specs.Prelude.{◌≡◌, ℕ, List, [], ◌∷◌, map, Option, 
 use Rattle.wasm_base.specs.FaultAt.{FaultAt, fault_at}
 use Rattle.wasm_base.specs.declared.error.Error.{Error}
 use Rattle.wasm_parser.specs.Content.{fault, ended}
-use Rattle.wasm_parser.specs.Reading.{Told, version, counted, start_section, data_count_section, code_start, code_entry, custom_section, unknown_section, stopped, ending, Event, Reading}
-use Rattle.wasm_parser.specs.Turns.{told_event}
+use Rattle.wasm_parser.specs.Reading.{Report, version, counted, start_section, data_count_section, code_start, code_entry, custom_section, unknown_section, stopped, ending, Event, Reading}
+use Rattle.wasm_parser.specs.ParseAll.{event_report}
 
 -- The stream's reading ends at this offset, with no fault; or at this fault.
 abbrev pub IsEndOf : List ℕ → Result ℕ Error → Type 0
 IsEndOf stream result = (events : List Event) (r : Reading stream 0 3 events) → MatchResult result (λ offset. r.end ≡ ended offset) (λ e. r.end ≡ fault (fault_at e))
 
 -- the function that a part starts
-abbrev pub started_by : Told → Option ℕ
+abbrev pub started_by : Report → Option ℕ
 started_by (start_section func from to) = Some func
 started_by (version num encoding from to) = None
 started_by (counted id count window) = None
@@ -29,7 +29,7 @@ latest known None = known
 latest known (Some n) = Some n
 
 -- the fault at which a part stops the stream, before what comes of the later parts
-abbrev pub unless_stopped : Told → Result (Option ℕ) FaultAt → Result (Option ℕ) FaultAt
+abbrev pub unless_stopped : Report → Result (Option ℕ) FaultAt → Result (Option ℕ) FaultAt
 unless_stopped (stopped f) later = Err f
 unless_stopped (version num encoding from to) later = later
 unless_stopped (counted id count window) later = later
@@ -42,11 +42,11 @@ unless_stopped (unknown_section id contents from to) later = later
 unless_stopped (ending offset) later = later
 
 -- the function that the last start section of these parts names, where this one was known before; or the fault
-abbrev pub start_from : (known : Option ℕ) → List Told → Result (Option ℕ) FaultAt
+abbrev pub start_from : (known : Option ℕ) → List Report → Result (Option ℕ) FaultAt
 start_from known [] = Ok known
 start_from known (x ∷ later) = unless_stopped x (start_from (latest known (started_by x)) later)
 
 -- The stream's reading names this function as the start, or stops at this fault.
 abbrev pub IsStartOf : List ℕ → Result (Option ℕ) Error → Type 0
 IsStartOf stream result = (events : List Event) → Reading stream 0 3 events
-    → MatchResult result (λ start. start_from None (map told_event events) ≡ Ok start) (λ e. start_from None (map told_event events) ≡ Err (fault_at e))
+    → MatchResult result (λ start. start_from None (map event_report events) ≡ Ok start) (λ e. start_from None (map event_report events) ≡ Err (fault_at e))

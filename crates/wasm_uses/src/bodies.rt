@@ -1,7 +1,7 @@
 // The bytes that the bodies of a stream take.
 ghost use Rattle.std.specs.Prelude.{◌≡◌, length, Ok};
-ghost use Rattle.wasm_parser.specs.Answers.{told_by};
-ghost use Rattle.wasm_uses.specs.Bodies.{size_told, IsSizeOfBodies, Adds};
+ghost use Rattle.wasm_parser.specs.ParseAnswer.{report_of};
+ghost use Rattle.wasm_uses.specs.Bodies.{size_report, IsSizeOfBodies, Adds};
 
 use crate::feeder::{Feeder, Step};
 use wasm_base::Result;
@@ -19,7 +19,7 @@ pub fn size_of_bodies(bytes: Vec<u8>) -> Result<u64>
     Ok(total)
 }
 
-// The bytes of the body that stands next, or 0 where something else does. None at the end.
+// The bytes of the body that comes next, or 0 where something else does. None at the end.
 fn next_size(feeder: &mut Feeder) -> Result<Option<u64>>
     ensures { Adds feeder.old result feeder.new }
 {
@@ -31,7 +31,7 @@ fn next_size(feeder: &mut Feeder) -> Result<Option<u64>>
 
 // How many of these bytes are a body, unless they are the end.
 fn size_in(bytes: &[u8], payload: Payload<'_>) -> Option<u64>
-    ensures { result ≡ size_told (length bytes.now) (told_by payload.entry) }
+    ensures { result ≡ size_report (length bytes.now) (report_of payload.entry) }
 {
     match payload {
         Payload::CodeSectionEntry(_) => Some(bytes.len() as u64),

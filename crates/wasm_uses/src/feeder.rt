@@ -46,7 +46,7 @@ impl Feeder {
     ghost use Rattle.std.specs.Borrow.{sem};
     ghost use Rattle.std.specs.Io.BufRead.{Rests};
     ghost use Rattle.wasm_uses.specs.Step.{Steps};
-    ghost use Rattle.wasm_uses.specs.Turned.{HasTurned};
+    ghost use Rattle.wasm_uses.specs.Advanced.{HasAdvanced};
     ghost use Rattle.wasm_uses.specs.contracts.feeder.Feeder.{the_row};
 
     /// A feeder of these bytes, which are the whole stream and begin at this offset.
@@ -76,11 +76,11 @@ impl Feeder {
     }
 
     /// A step that can still be looked at, as long as the feeder isn't used again.
-    pub fn turned(&mut self) -> Turned<'_>
-        ensures* after { sem 𝓛 (Rests the_row self.entry (HasTurned self.old result)) }
+    pub fn turned(&mut self) -> Advanced<'_>
+        ensures* after { sem 𝓛 (Rests the_row self.entry (HasAdvanced self.old result)) }
     {
         let from = self.turn();
-        Turned { feeder: self, from }
+        Advanced { feeder: self, from }
     }
 
     /// One step along the stream. A caller that goes on with the feeder afterwards calls `turned().step()`, by which
@@ -109,15 +109,15 @@ fn taken(answer: Result<Chunk<'_>>) -> usize
     }
 }
 
-/// A feeder behind a step, and where the bytes of the step begin.
+/// A feeder after a step, and where the bytes of the step begin.
 #[derive(Drop)]
-pub struct Turned<'a> {
+pub struct Advanced<'a> {
     feeder: &'a Feeder,
     from: usize,
     ghost within: { from ≤ length feeder.now.spent },
 }
 
-impl<'a> Turned<'a> {
+impl<'a> Advanced<'a> {
     /// The step that the feeder made.
     pub fn step(self) -> Result<Step<'a>>
         ensures { Tells self.entry.feeder.now.before
@@ -127,12 +127,12 @@ impl<'a> Turned<'a> {
     }
 }
 
-// The step that the feeder made: what stands at its beginning is parsed again.
-fn show(turned: Turned<'_>) -> Result<Step<'_>>
+// The step that the feeder made: what is at its beginning is parsed again.
+fn show(turned: Advanced<'_>) -> Result<Step<'_>>
     ensures { Tells turned.entry.feeder.now.before
         (rest_at turned.entry.feeder.now turned.entry.from) result }
 {
-    let Turned { feeder, from } = turned;
+    let Advanced { feeder, from } = turned;
     let mut parser = feeder.before.clone().unwrap();
     let rest = &feeder.bytes[from..];
     match parser.parse(rest, true) {

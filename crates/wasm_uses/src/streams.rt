@@ -1,6 +1,6 @@
 // Walks over the parts of a stream.
 ghost use Rattle.std.specs.Prelude.{◌≡◌};
-ghost use Rattle.wasm_parser.specs.Answers.{told_by};
+ghost use Rattle.wasm_parser.specs.ParseAnswer.{report_of};
 ghost use Rattle.wasm_uses.specs.Streams.{IsEndOf, IsStartOf, started_by};
 
 use wasm_base::Result;
@@ -42,7 +42,7 @@ pub fn start_of(bytes: &[u8]) -> Result<Option<u32>>
 
 // The index in a start section.
 fn start_in(payload: Payload<'_>) -> Option<u32>
-    ensures { result ≡ started_by (told_by payload.entry) }
+    ensures { result ≡ started_by (report_of payload.entry) }
 {
     match payload {
         Payload::StartSection { func, .. } => Some(func),

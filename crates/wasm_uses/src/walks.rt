@@ -19,7 +19,7 @@ pub fn total(numbers: SectionLimited<'_, u32>) -> Result<u64>
     Ok(total)
 }
 
-/// Checks that all announced items can be read, and that no bytes are left behind them; or gives the first fault.
+/// Checks that all announced items can be read, and that no bytes are left after them; or gives the first fault.
 pub fn check<'a, T: FromReader<'a>>(section: SectionLimited<'a, T>) -> Result<()>
     ensures { Walks T.meaning section.entry.count (place section.entry.reader) result }
 {

@@ -118,10 +118,10 @@ fn a_section_again(rt: HostRuntime) -> std::result::Result<(), Fail> {
     assert_eq!(rt; items.next(), Some(Ok(5)));
     assert_eq!(rt; items.clone()?.next(), Some(Ok(128)));
     assert_eq!(rt; copy.next(), Some(Ok(5)));
-    let behind = SectionLimited::from(items);
-    assert_eq!(rt; behind.count(), 2);
-    assert_eq!(rt; behind.original_position(), 102);
-    assert_eq!(rt; behind.range(), 100..105);
+    let after = SectionLimited::from(items);
+    assert_eq!(rt; after.count(), 2);
+    assert_eq!(rt; after.original_position(), 102);
+    assert_eq!(rt; after.range(), 100..105);
     Ok(())
 }
 

@@ -17,7 +17,7 @@ pub(crate) struct Failing<'a> {
 }
 
 impl<'a> Failing<'a> {
-    /// Gives `step` bytes a call, and fails behind so many calls.
+    /// Gives `step` bytes a call, and fails after so many calls.
     pub(crate) fn after(bytes: &'a [u8], step: usize, calls: usize) -> Self
         ensures { result.failed ≡ false }
     {

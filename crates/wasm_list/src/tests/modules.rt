@@ -59,17 +59,17 @@ const SECTIONS: [(&[u8], &[u8]); 14] = [
 
 #[test]
 fn lists_sections(rt: HostRuntime) -> Result<(), Fail> {
-    for (behind, lines) in SECTIONS {
+    for (after, lines) in SECTIONS {
         let mut stream = b"\0asm\x01\0\0\0".to_vec(rt.alloc())?;
-        stream.extend_from_slice(behind)?;
+        stream.extend_from_slice(after)?;
         let mut listing = b"version 0 8 1 module\n".to_vec(rt.alloc())?;
         listing.extend_from_slice(lines)?;
         for piece in [1, 5, 65_536] {
             let mut input = SliceSource::new(stream.as_slice());
             let mut output = BoundedSink::new(rt.alloc(), 400)?;
             let ended = list(rt.alloc(), &mut input, &mut output, piece);
-            assert!(rt; ended.is_ok(), "{behind:?}");
-            assert_eq!(rt; output.written(), listing.as_slice(), "{behind:?}");
+            assert!(rt; ended.is_ok(), "{after:?}");
+            assert_eq!(rt; output.written(), listing.as_slice(), "{after:?}");
             assert!(rt; !output.failed());
         }
     }
@@ -78,9 +78,9 @@ fn lists_sections(rt: HostRuntime) -> Result<(), Fail> {
 
 #[test]
 fn walks_over_modules(rt: HostRuntime) -> Result<(), Fail> {
-    for (behind, lines) in SECTIONS {
+    for (after, lines) in SECTIONS {
         let mut stream = b"\0asm\x01\0\0\0".to_vec(rt.alloc())?;
-        stream.extend_from_slice(behind)?;
+        stream.extend_from_slice(after)?;
         let mut wanted = b"version 0 8 1 module\n".to_vec(rt.alloc())?;
         wanted.extend_from_slice(lines)?;
         let mut listing = String::new(rt.alloc());
@@ -91,7 +91,7 @@ fn walks_over_modules(rt: HostRuntime) -> Result<(), Fail> {
             };
             listing.push_str(line.as_str())?;
         }
-        assert_eq!(rt; listing.as_bytes(), wanted.as_slice(), "{behind:?}");
+        assert_eq!(rt; listing.as_bytes(), wanted.as_slice(), "{after:?}");
     }
     Ok(())
 }

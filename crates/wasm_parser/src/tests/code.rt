@@ -1,11 +1,11 @@
 // Code sections, and the counts that they must match.
-use super::parsing::{behind_header, refusal};
+use super::parsing::{after_header, refusal};
 use crate::{Chunk, Error, Fault, Parser, Payload};
 use std::test::Fail;
 
-// A parser behind a module's header and this section.
-fn behind(section: &[u8]) -> Result<Parser, Error> {
-    let mut parser = behind_header(0)?;
+// A parser after a module's header and this section.
+fn after(section: &[u8]) -> Result<Parser, Error> {
+    let mut parser = after_header(0)?;
     parser.parse(section, true)?;
     Ok(parser)
 }
@@ -15,7 +15,7 @@ const FUNCTION: &[u8] = b"\x03\x02\x01\0";
 
 #[test]
 fn a_code_section(rt: HostRuntime) -> Result<(), Fail> {
-    let mut parser = behind(FUNCTION)?;
+    let mut parser = after(FUNCTION)?;
     let bytes: &[u8] = b"\x0a\x04\x01\x02\0\x0b";
     let chunk = parser.parse(bytes, true)?;
     match &chunk {
@@ -60,7 +60,7 @@ fn a_code_section(rt: HostRuntime) -> Result<(), Fail> {
 
 #[test]
 fn the_count_is_read_from_the_stream(rt: HostRuntime) -> Result<(), Fail> {
-    let mut parser = behind_header(0)?;
+    let mut parser = after_header(0)?;
     let chunk = parser.parse(b"\x0a\x01\0", true)?;
     match &chunk {
         Chunk::Parsed {
@@ -76,7 +76,7 @@ fn the_count_is_read_from_the_stream(rt: HostRuntime) -> Result<(), Fail> {
         }
         _other => assert!(rt; false),
     }
-    let mut parser = behind_header(0)?;
+    let mut parser = after_header(0)?;
     assert_eq!(rt;
         refusal(&mut parser, b"\x0a\0"),
         Some(Error::new(Fault::UnexpectedEof, 10))
@@ -94,7 +94,7 @@ fn the_count_is_read_from_the_stream(rt: HostRuntime) -> Result<(), Fail> {
 
 #[test]
 fn bodies_fill_their_section(rt: HostRuntime) -> Result<(), Fail> {
-    let mut parser = behind(FUNCTION)?;
+    let mut parser = after(FUNCTION)?;
     parser.parse(b"\x0a\x03\x01\0\0", true)?;
     assert_eq!(rt; parser.offset(), 15);
     let chunk = parser.parse(b"\0\0", true)?;
@@ -116,7 +116,7 @@ fn bodies_fill_their_section(rt: HostRuntime) -> Result<(), Fail> {
 
 #[test]
 fn bodies_lie_in_their_section(rt: HostRuntime) -> Result<(), Fail> {
-    let mut parser = behind(b"\x03\x02\x02\0")?;
+    let mut parser = after(b"\x03\x02\x02\0")?;
     parser.parse(b"\x0a\x02\x02\0\0", true)?;
     parser.parse(b"\0\0", true)?;
     assert_eq!(rt; parser.offset(), 16);
@@ -133,7 +133,7 @@ fn bodies_lie_in_their_section(rt: HostRuntime) -> Result<(), Fail> {
 
 #[test]
 fn counts_match(rt: HostRuntime) -> Result<(), Fail> {
-    let mut parser = behind(FUNCTION)?;
+    let mut parser = after(FUNCTION)?;
     assert_eq!(rt;
         refusal(&mut parser, b"\x0a\x01\0"),
         Some(Error::new(Fault::FunctionCodeDiffer, 14))
@@ -142,12 +142,12 @@ fn counts_match(rt: HostRuntime) -> Result<(), Fail> {
         refusal(&mut parser, b""),
         Some(Error::new(Fault::FunctionWithoutCode, 12))
     );
-    let mut parser = behind_header(0)?;
+    let mut parser = after_header(0)?;
     assert_eq!(rt;
         refusal(&mut parser, b"\x0a\x02\x01\0"),
         Some(Error::new(Fault::CodeWithoutFunction, 10))
     );
-    let mut parser = behind_header(0)?;
+    let mut parser = after_header(0)?;
     parser.parse(b"\x0c\x01\x01", true)?;
     assert_eq!(rt;
         refusal(&mut parser, b"\x0b\x02\x02\0"),

@@ -5,7 +5,7 @@ use std::alloc::Global;
 use std::process::Abort;
 use std::test::Fail;
 
-// What the parser answers on these bytes is printed so, behind its first words.
+// What the parser answers on these bytes is printed so, after its first words.
 fn is_printed(
     rt: &impl Abort,
     alloc: Global,

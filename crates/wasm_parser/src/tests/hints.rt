@@ -1,5 +1,5 @@
 // How many missing bytes a fault of the parser hints at: those of the read that failed.
-use super::parsing::behind_header;
+use super::parsing::after_header;
 use crate::{Error, Parser};
 use std::test::Fail;
 
@@ -29,7 +29,7 @@ fn hints_in_a_header(rt: HostRuntime) {
 
 #[test]
 fn hints_in_sections(rt: HostRuntime) -> Result<(), Error> {
-    let mut parser = behind_header(7)?;
+    let mut parser = after_header(7)?;
     let rows: [(&[u8], Option<usize>); 12] = [
         (b"\x01\x85\x80", Some(1)),
         (b"\x01\x05\0\0", Some(3)),
@@ -52,7 +52,7 @@ fn hints_in_sections(rt: HostRuntime) -> Result<(), Error> {
 
 #[test]
 fn hints_in_bodies(rt: HostRuntime) -> Result<(), Error> {
-    let mut parser = behind_header(7)?;
+    let mut parser = after_header(7)?;
     parser.parse(b"\x03\x02\x01\0", true)?;
     parser.parse(b"\x0a\x89\0\x01", true)?;
     let rows: [(&[u8], Option<usize>); 4] = [

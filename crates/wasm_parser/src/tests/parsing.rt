@@ -4,8 +4,8 @@ use std::test::Fail;
 
 pub(super) const HEADER: &[u8] = b"\0asm\x01\0\0\0";
 
-// A parser that stands behind a module's header.
-pub(super) fn behind_header(offset: u64) -> Result<Parser, Error> {
+// A parser that is after a module's header.
+pub(super) fn after_header(offset: u64) -> Result<Parser, Error> {
     let mut parser = Parser::new(offset);
     parser.parse(HEADER, true)?;
     Ok(parser)
@@ -48,7 +48,7 @@ fn a_header(rt: HostRuntime) -> Result<(), Fail> {
 
 #[test]
 fn the_end_again_and_again(rt: HostRuntime) -> Result<(), Fail> {
-    let mut parser = behind_header(0)?;
+    let mut parser = after_header(0)?;
     for _ in 0..3 {
         match parser.parse(b"", true)? {
             Chunk::Parsed {
@@ -63,7 +63,7 @@ fn the_end_again_and_again(rt: HostRuntime) -> Result<(), Fail> {
 
 #[test]
 fn a_custom_section(rt: HostRuntime) -> Result<(), Fail> {
-    let mut parser = behind_header(0)?;
+    let mut parser = after_header(0)?;
     let chunk = parser.parse(b"\0\x01\0", true)?;
     match &chunk {
         Chunk::Parsed {
@@ -86,7 +86,7 @@ fn a_custom_section(rt: HostRuntime) -> Result<(), Fail> {
 
 #[test]
 fn faults_change_nothing(rt: HostRuntime) -> Result<(), Fail> {
-    let mut parser = behind_header(0)?;
+    let mut parser = after_header(0)?;
     let rows: [(&[u8], Fault, u64); 6] = [
         (b"\0\x01\x01", Fault::UnexpectedEof, 11),
         (b"\0asm", Fault::MagicAtSection, 8),
@@ -112,7 +112,7 @@ fn faults_change_nothing(rt: HostRuntime) -> Result<(), Fail> {
 
 #[test]
 fn a_function_section(rt: HostRuntime) -> Result<(), Fail> {
-    let mut parser = behind_header(0)?;
+    let mut parser = after_header(0)?;
     match parser.parse(b"\x03\x03\x02\0\x07", true)? {
         Chunk::Parsed {
             consumed,
@@ -141,7 +141,7 @@ fn a_function_section(rt: HostRuntime) -> Result<(), Fail> {
 
 #[test]
 fn a_start_section(rt: HostRuntime) -> Result<(), Fail> {
-    let mut parser = behind_header(0)?;
+    let mut parser = after_header(0)?;
     match parser.parse(b"\x08\x01\x01", true)? {
         Chunk::Parsed {
             consumed,
@@ -157,7 +157,7 @@ fn a_start_section(rt: HostRuntime) -> Result<(), Fail> {
 
 #[test]
 fn a_data_count_section(rt: HostRuntime) -> Result<(), Fail> {
-    let mut parser = behind_header(0)?;
+    let mut parser = after_header(0)?;
     match parser.parse(b"\x0c\x02\x80\x01", true)? {
         Chunk::Parsed {
             consumed,
@@ -199,10 +199,10 @@ fn unknown_sections_of_a_component(rt: HostRuntime) -> Result<(), Fail> {
 
 #[test]
 fn near_the_top_of_the_offsets(rt: HostRuntime) -> Result<(), Fail> {
-    let mut parser = behind_header(18446744073709551600)?;
+    let mut parser = after_header(18446744073709551600)?;
     let large = Error::new(Fault::SectionTooLarge, 18446744073709551609).with_number(6);
     assert_eq!(rt; refusal(&mut parser, b"\0\x06"), Some(large));
-    let mut parser = behind_header(18446744073709551607)?;
+    let mut parser = after_header(18446744073709551607)?;
     assert_eq!(rt;
         refusal(&mut parser, b"\0"),
         Some(Error::new(Fault::OffsetRange, 18446744073709551615))

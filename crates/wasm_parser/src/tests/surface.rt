@@ -1,11 +1,11 @@
 // The calls of a parser beside `parse`, and the ids of payloads.
-use super::parsing::{HEADER, behind_header};
+use super::parsing::{HEADER, after_header};
 use crate::{Chunk, Parser, Payload, WasmFeatures};
 use bitflags::Flags;
 use std::test::Fail;
 
 #[test]
-fn headers_are_told_apart(rt: HostRuntime) -> Result<(), Fail> {
+fn headers_are_report_apart(rt: HostRuntime) -> Result<(), Fail> {
     let component: &[u8] = b"\0asm\x0d\0\x01\0";
     assert!(rt; Parser::is_core_wasm(HEADER));
     assert!(rt; Parser::is_core_wasm(b"\0asm\x01\0\0\0\0"));
@@ -43,7 +43,7 @@ fn windows_have_the_parsers_features(rt: HostRuntime) -> Result<(), Fail> {
 
 #[test]
 fn a_copy_goes_its_own_way(rt: HostRuntime) -> Result<(), Fail> {
-    let mut parser = behind_header(0)?;
+    let mut parser = after_header(0)?;
     parser.parse(b"\x03\x02\x01\0", true)?;
     let mut copy = parser.clone()?;
     copy.parse(b"\x0a\x03\x01\x01", true)?;

@@ -4,7 +4,7 @@ use crate::{Error, Fault, Parser, Payload};
 use std::test::Fail;
 
 #[test]
-fn a_walk_ends_behind_the_end(rt: HostRuntime) -> Result<(), Fail> {
+fn a_walk_ends_after_the_end(rt: HostRuntime) -> Result<(), Fail> {
     let mut walk = Parser::new(0).parse_all(b"\0asm\x01\0\0\0\x0c\x01\0");
     match walk.next() {
         Some(Ok(Payload::Version { range, .. })) => assert_eq!(rt; range, 0..8),
@@ -27,7 +27,7 @@ fn a_walk_ends_behind_the_end(rt: HostRuntime) -> Result<(), Fail> {
 }
 
 #[test]
-fn a_walk_ends_behind_a_fault(rt: HostRuntime) -> Result<(), Fail> {
+fn a_walk_ends_after_a_fault(rt: HostRuntime) -> Result<(), Fail> {
     let mut walk = Parser::new(0).parse_all(b"\0asm\x01\0\0\0\x0c\x01\x01\x0b\x02\x02\0\0\0");
     assert!(rt; walk.next().is_some());
     assert!(rt; walk.next().is_some());
@@ -60,7 +60,7 @@ fn a_walk_near_the_top_of_the_offsets(rt: HostRuntime) -> Result<(), Fail> {
 }
 
 #[test]
-fn items_of_a_section_begin_behind_its_count(rt: HostRuntime) -> Result<(), Fail> {
+fn items_of_a_section_begin_after_its_count(rt: HostRuntime) -> Result<(), Fail> {
     let stream = b"\0asm\x01\0\0\0\x03\x04\x02\x05\x80\x01";
     let mut walk = Parser::new(100).parse_all(stream);
     assert!(rt; walk.next().is_some());

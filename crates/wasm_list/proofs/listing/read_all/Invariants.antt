@@ -7,7 +7,7 @@ abbrev pub invariant-reads : goal.invariant-reads
 invariant-reads g l =
     let source = g.R.Source in
     record {
-      gathered : Consumes (source.left l.initial.input) (source.left l.input) l.bytes.items;
+      so_far : Consumes (source.left l.initial.input) (source.left l.input) l.bytes.items;
       failed : source.has_failed l.input ≡ source.has_failed l.initial.input;
       room : 0 < vec_len l.buffer;
       within : vec_len l.bytes < 2 ^ 64;

@@ -5,7 +5,7 @@ use Rattle.std.proofs.KnownBytes.{Appends-trans}
 use Rattle.std.proofs.lemmas.Grind.{common_steps}
 use Rattle.wasm_list.proofs.sink.write_all.Goals as goal
 
--- a write of the bytes behind the first w goes on with them
+-- a write of the bytes after the first w goes on with them
 appended-more : (a b c : Option (List ℕ)) (w n : ℕ) (xs : List ℕ) → w ≤ length xs → Appends a b (take w xs) → Appends b c (take n (take (length xs - w) (drop w xs)))
     → Appends a c (take (w + n) xs)
 appended-more a b c w n xs h p q =

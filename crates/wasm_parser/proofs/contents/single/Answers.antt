@@ -13,7 +13,7 @@ returns-in_err-number c =
 pub returns-then-not-eof : goal.returns-then-not-eof
 returns-then-not-eof c =
     single_left c.args.left (place c.args.window) c.in_ok-number.number (place c.read_var_u32.new.self) c.new.result c.in_ok-number.ensures.gives c.if-not-eof.ensures
-    (c.new.ensures.told ∙ ap (at_offset c.args.left) c.original_position.ensures.offset)
+    (c.new.ensures.report ∙ ap (at_offset c.args.left) c.original_position.ensures.offset)
 
 pub returns : goal.returns
 returns c = single_read c.args.left (place c.args.window) c.in_ok-number.number (place c.read_var_u32.new.self) c.in_ok-number.ensures.gives (eqb-true _ _ (sym c.if-not-eof.ensures))

@@ -3,7 +3,7 @@ use Rattle.std.proofs.lemmas.Result.{err_from_is_err_and}
 use Rattle.wasm_base.specs.FaultAt.{at_offset}
 use Rattle.wasm_base.specs.Window.{place}
 use Rattle.wasm_base.specs.declared.fault.Fault.TheVariants.{UnknownVersion}
-use Rattle.wasm_parser.proofs.Headers.{ReadHeader, header_read, header_told, header_unnamed, header_refused}
+use Rattle.wasm_parser.proofs.Headers.{ReadHeader, header_read, header_report, header_unnamed, header_refused}
 use Rattle.wasm_parser.proofs.header.read_header.Goals as goal
 
 pub returns-in_err-bits : goal.returns-in_err-bits
@@ -17,8 +17,8 @@ overflow_add-start c =
     omega (arith, h.there, c.original_position-start.ensures.fits)
 
 pub returns-in-Some : goal.returns-in-Some
-returns-in-Some c = header_told (place c.args.reader.now) c.in_ok-bits.bits (place c.read_header_version.new.self) c.in-Some.encoding _ c.in_ok-bits.ensures.gives c.in-Some.ensures (rw (c.original_position-start.ensures.offset, c.original_position.ensures.offset) (refl, tt))
+returns-in-Some c = header_report (place c.args.reader.now) c.in_ok-bits.bits (place c.read_header_version.new.self) c.in-Some.encoding _ c.in_ok-bits.ensures.gives c.in-Some.ensures (rw (c.original_position-start.ensures.offset, c.original_position.ensures.offset) (refl, tt))
 
 pub returns-in-None : goal.returns-in-None
 returns-in-None c = header_unnamed (place c.args.reader.now) c.in_ok-bits.bits (place c.read_header_version.new.self) c.with_number.result c.in_ok-bits.ensures.gives c.in-None.ensures
-    (c.with_number.ensures.told ∙ (λ i. record { fault = (c.new.ensures.told i).fault; offset = ((c.new.ensures.told ∙ ap (λ o. at_offset UnknownVersion (o + 4)) c.original_position-start.ensures.offset) i).offset; number = Some (c.from.ensures i) }))
+    (c.with_number.ensures.report ∙ (λ i. record { fault = (c.new.ensures.report i).fault; offset = ((c.new.ensures.report ∙ ap (λ o. at_offset UnknownVersion (o + 4)) c.original_position-start.ensures.offset) i).offset; number = Some (c.from.ensures i) }))

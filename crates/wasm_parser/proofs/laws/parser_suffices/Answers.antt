@@ -1,5 +1,5 @@
-use Rattle.wasm_parser.proofs.StandsLaws.{grammar_same, stands_on}
+use Rattle.wasm_parser.proofs.StateLaws.{grammar_same, state_goes_on}
 use Rattle.wasm_parser.proofs.laws.parser_suffices.Goals as goal
 
 pub returns : goal.returns
-returns c = λ parser start covered s. (grammar_same parser start covered s, stands_on parser start covered s)
+returns c = λ parser start prefix s. (grammar_same parser start prefix s, state_goes_on parser start prefix s)

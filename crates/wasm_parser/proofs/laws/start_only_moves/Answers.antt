@@ -1,4 +1,4 @@
-use Rattle.wasm_parser.proofs.Moves as moves
+use Rattle.wasm_parser.proofs.Shifting as moves
 use Rattle.wasm_parser.proofs.laws.start_only_moves.Goals as goal
 
 pub returns : goal.returns

@@ -5,7 +5,7 @@ use Rattle.wasm_base.specs.FaultAt.{at_offset}
 use Rattle.wasm_base.specs.Window.{place}
 use Rattle.wasm_base.specs.declared.fault.Fault.TheVariants.{UnexpectedEof, FunctionCodeDiffer, CodeWithoutFunction}
 use Rattle.wasm_parser.specs.Reading.{code_start}
-use Rattle.wasm_parser.specs.Stands.{Stand, past_of}
+use Rattle.wasm_parser.specs.ParserState.{ParserState, known_context}
 use Rattle.wasm_parser.proofs.Bodies.{code_no_count, code_short, code_wrong, code_read, counts_differ, no_function, right_count}
 use Rattle.wasm_parser.proofs.Parsing.{is_lacking}
 use Rattle.wasm_parser.proofs.parser.Parser.code.Goals as goal
@@ -13,40 +13,40 @@ use Rattle.wasm_parser.proofs.parser.Parser.code.Goals as goal
 pub returns-in_err-count : goal.returns-in_err-count
 returns-in_err-count c =
     let e = err_from_is_err_and c.from_residual.result c.from_residual.ensures.1 in
-    rw (e.1, e.2) (code_no_count (past_of c.args.self.now) c.args.size (place c.args.reader.now) _ _ c.in_err-count.ensures.gives)
+    rw (e.1, e.2) (code_no_count (known_context c.args.self.now) c.args.size (place c.args.reader.now) _ _ c.in_err-count.ensures.gives)
 
-pub returns-then-end-behind : goal.returns-then-end-behind
-returns-then-end-behind c =
+pub returns-then-end-after : goal.returns-then-end-after
+returns-then-end-after c =
     let at = c.original_position-start.ensures.offset in
-    let behind = c.original_position-behind.ensures.offset in
-    code_short (past_of c.args.self.now) c.args.size (place c.args.reader.now) (place c.read_var_u32.new.self) c.in_ok-count.count c.new.result _ c.in_ok-count.ensures.gives
-    (omega (arith, at, behind, c.from.ensures, c.if-end-behind.true)) (c.new.ensures.told ∙ ap (at_offset UnexpectedEof) at)
+    let after = c.original_position-after.ensures.offset in
+    code_short (known_context c.args.self.now) c.args.size (place c.args.reader.now) (place c.read_var_u32.new.self) c.in_ok-count.count c.new.result _ c.in_ok-count.ensures.gives
+    (omega (arith, at, after, c.from.ensures, c.if-end-after.true)) (c.new.ensures.report ∙ ap (at_offset UnexpectedEof) at)
 
 pub returns-then-differs : goal.returns-then-differs
 returns-then-differs c =
     let at = c.original_position-start.ensures.offset in
-    let behind = c.original_position-behind.ensures.offset in
-    let differ = c.if-differs.ensures ∙ ap (λ (s : Stand). not (list_all (nat_eq c.in_ok-count.count) (option_to_list s.functions))) c.self.view_is in
-    code_wrong (past_of c.args.self.now) c.args.size (place c.args.reader.now) (place c.read_var_u32.new.self) c.in_ok-count.count c.new-then-differs.result _ c.in_ok-count.ensures.gives
-    (omega (arith, at, behind, c.from.ensures, c.if-end-behind.false))
-    (counts_differ (past_of c.args.self.now) (place c.args.reader.now).offset c.in_ok-count.count _ differ (c.new-then-differs.ensures.told ∙ ap (at_offset FunctionCodeDiffer) at))
+    let after = c.original_position-after.ensures.offset in
+    let differ = c.if-differs.ensures ∙ ap (λ (s : ParserState). not (list_all (nat_eq c.in_ok-count.count) (option_to_list s.functions))) c.self.view_is in
+    code_wrong (known_context c.args.self.now) c.args.size (place c.args.reader.now) (place c.read_var_u32.new.self) c.in_ok-count.count c.new-then-differs.result _ c.in_ok-count.ensures.gives
+    (omega (arith, at, after, c.from.ensures, c.if-end-after.false))
+    (counts_differ (known_context c.args.self.now) (place c.args.reader.now).offset c.in_ok-count.count _ differ (c.new-then-differs.ensures.report ∙ ap (at_offset FunctionCodeDiffer) at))
 
 pub returns-then-lacks : goal.returns-then-lacks
 returns-then-lacks c =
     let at = c.original_position-start.ensures.offset in
-    let behind = c.original_position-behind.ensures.offset in
-    let differ = c.if-differs.ensures ∙ ap (λ (s : Stand). not (list_all (nat_eq c.in_ok-count.count) (option_to_list s.functions))) c.self.view_is in
-    let lack = c.if-lacks.ensures ∙ ap (λ (s : Stand). is_lacking (Some c.in_ok-count.count) s.functions) c.self.view_is in
-    code_wrong (past_of c.args.self.now) c.args.size (place c.args.reader.now) (place c.read_var_u32.new.self) c.in_ok-count.count c.new-then-lacks.result _ c.in_ok-count.ensures.gives
-    (omega (arith, at, behind, c.from.ensures, c.if-end-behind.false))
-    (no_function (past_of c.args.self.now) (place c.args.reader.now).offset c.in_ok-count.count _ differ lack (c.new-then-lacks.ensures.told ∙ ap (at_offset CodeWithoutFunction) at))
+    let after = c.original_position-after.ensures.offset in
+    let differ = c.if-differs.ensures ∙ ap (λ (s : ParserState). not (list_all (nat_eq c.in_ok-count.count) (option_to_list s.functions))) c.self.view_is in
+    let lack = c.if-lacks.ensures ∙ ap (λ (s : ParserState). is_lacking (Some c.in_ok-count.count) s.functions) c.self.view_is in
+    code_wrong (known_context c.args.self.now) c.args.size (place c.args.reader.now) (place c.read_var_u32.new.self) c.in_ok-count.count c.new-then-lacks.result _ c.in_ok-count.ensures.gives
+    (omega (arith, at, after, c.from.ensures, c.if-end-after.false))
+    (no_function (known_context c.args.self.now) (place c.args.reader.now).offset c.in_ok-count.count _ differ lack (c.new-then-lacks.ensures.report ∙ ap (at_offset CodeWithoutFunction) at))
 
 pub returns : goal.returns
 returns c =
     let at = c.original_position-start.ensures.offset in
-    let behind = c.original_position-behind.ensures.offset in
-    let differ = c.if-differs.ensures ∙ ap (λ (s : Stand). not (list_all (nat_eq c.in_ok-count.count) (option_to_list s.functions))) c.self.view_is in
-    let lack = c.if-lacks.ensures ∙ ap (λ (s : Stand). is_lacking (Some c.in_ok-count.count) s.functions) c.self.view_is in
-    code_read (past_of c.args.self.now) c.args.size (place c.args.reader.now) (place c.read_var_u32.new.self) c.in_ok-count.count _ c.in_ok-count.ensures.gives
-    (omega (arith, at, behind, c.from.ensures, c.if-end-behind.false))
-    (right_count (past_of c.args.self.now) (place c.args.reader.now).offset c.in_ok-count.count differ lack) (λ i. code_start c.in_ok-count.count (at i) (at i + c.from.ensures i) (at i + c.from.ensures i - behind i), tt)
+    let after = c.original_position-after.ensures.offset in
+    let differ = c.if-differs.ensures ∙ ap (λ (s : ParserState). not (list_all (nat_eq c.in_ok-count.count) (option_to_list s.functions))) c.self.view_is in
+    let lack = c.if-lacks.ensures ∙ ap (λ (s : ParserState). is_lacking (Some c.in_ok-count.count) s.functions) c.self.view_is in
+    code_read (known_context c.args.self.now) c.args.size (place c.args.reader.now) (place c.read_var_u32.new.self) c.in_ok-count.count _ c.in_ok-count.ensures.gives
+    (omega (arith, at, after, c.from.ensures, c.if-end-after.false))
+    (right_count (known_context c.args.self.now) (place c.args.reader.now).offset c.in_ok-count.count differ lack) (λ i. code_start c.in_ok-count.count (at i) (at i + c.from.ensures i) (at i + c.from.ensures i - after i), tt)

@@ -4,7 +4,7 @@ use Rattle.wasm_base.specs.FaultAt.{at_offset}
 use Rattle.wasm_base.specs.Window.{place}
 use Rattle.wasm_base.specs.declared.fault.Fault.TheVariants.{DataCountDiffer}
 use Rattle.wasm_parser.specs.Content.{items}
-use Rattle.wasm_parser.specs.Stands.{past_of}
+use Rattle.wasm_parser.specs.ParserState.{known_context}
 use Rattle.wasm_parser.proofs.Counted.{items_read, items_miscounted, items_refused}
 use Rattle.wasm_parser.proofs.Framed.{whole_missing}
 use Rattle.wasm_parser.proofs.parser.Parser.items.Goals as goal
@@ -12,17 +12,17 @@ use Rattle.wasm_parser.proofs.parser.Parser.items.Goals as goal
 pub returns-in_err-window : goal.returns-in_err-window
 returns-in_err-window c =
     let e = err_from_is_err_and c.from_residual.result c.from_residual.ensures.1 in
-    rw (e.1, e.2) (whole_missing (past_of c.args.self.now) items c.args.id c.args.size (place c.args.reader.now) _ _ c.in_err-window.ensures.gives)
+    rw (e.1, e.2) (whole_missing (known_context c.args.self.now) items c.args.id c.args.size (place c.args.reader.now) _ _ c.in_err-window.ensures.gives)
 
 pub returns-in_err-payload : goal.returns-in_err-payload
 returns-in_err-payload c =
     let e = err_from_is_err_and c.from_residual-in_err-payload.result c.from_residual-in_err-payload.ensures.1 in
-    rw (e.1, e.2) (items_refused (past_of c.args.self.now) c.args.id c.args.size (place c.args.reader.now) c.in_ok-window.window _ _ _ c.in_ok-window.ensures.gives c.in_err-payload.ensures)
+    rw (e.1, e.2) (items_refused (known_context c.args.self.now) c.args.id c.args.size (place c.args.reader.now) c.in_ok-window.window _ _ _ c.in_ok-window.ensures.gives c.in_err-payload.ensures)
 
 pub returns-then-is_miscounted : goal.returns-then-is_miscounted
 returns-then-is_miscounted c =
-    items_miscounted (past_of c.args.self.now) c.args.id c.args.size (place c.args.reader.now) c.in_ok-window.window (place c.window.new.reader) c.in_ok-payload.payload c.new.result _ c.in_ok-window.ensures.gives c.in_ok-payload.ensures c.if-is_miscounted.ensures
-    (c.new.ensures.told ∙ ap (at_offset DataCountDiffer) c.original_position.ensures.offset)
+    items_miscounted (known_context c.args.self.now) c.args.id c.args.size (place c.args.reader.now) c.in_ok-window.window (place c.window.new.reader) c.in_ok-payload.payload c.new.result _ c.in_ok-window.ensures.gives c.in_ok-payload.ensures c.if-is_miscounted.ensures
+    (c.new.ensures.report ∙ ap (at_offset DataCountDiffer) c.original_position.ensures.offset)
 
 pub returns : goal.returns
-returns c = items_read (past_of c.args.self.now) c.args.id c.args.size (place c.args.reader.now) c.in_ok-window.window (place c.window.new.reader) c.in_ok-payload.payload c.in_ok-window.ensures.gives c.in_ok-payload.ensures c.if-is_miscounted.ensures
+returns c = items_read (known_context c.args.self.now) c.args.id c.args.size (place c.args.reader.now) c.in_ok-window.window (place c.window.new.reader) c.in_ok-payload.payload c.in_ok-window.ensures.gives c.in_ok-payload.ensures c.if-is_miscounted.ensures

@@ -1,12 +1,12 @@
-use Rattle.wasm_parser.proofs.Following.{tells_next}
-use Rattle.wasm_parser.proofs.Turning.{consumes, faults_within, unchanged}
+use Rattle.wasm_parser.proofs.Following.{gives_next}
+use Rattle.wasm_parser.proofs.AnswerBounds.{consumes, faults_within, unchanged}
 use Rattle.wasm_parser.proofs.parser.Parser.parse.Goals as goal
 
 pub returns-clause-consumes : goal.returns-clause-consumes
 returns-clause-consumes c = consumes c.args.self.now c.answer.new.self c.args.bytes.now c.answer.result c.answer.ensures
 
-pub returns-clause-tells : goal.returns-clause-tells
-returns-clause-tells c = tells_next c.args.self.now c.answer.new.self c.args.bytes.now c.answer.result c.answer.ensures
+pub returns-clause-gives : goal.returns-clause-gives
+returns-clause-gives c = gives_next c.args.self.now c.answer.new.self c.args.bytes.now c.answer.result c.answer.ensures
 
 pub returns-clause-faults : goal.returns-clause-faults
 returns-clause-faults c = faults_within c.args.self.now c.answer.new.self c.args.bytes.now c.answer.result c.answer.ensures

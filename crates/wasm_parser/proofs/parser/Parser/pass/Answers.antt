@@ -1,17 +1,17 @@
 use Rattle.std.proofs.Common.{ℕ, false, ap, ◌∙◌}
 use Rattle.wasm_base.specs.Features.{feature_bits}
-use Rattle.wasm_parser.specs.Answers.{told_by}
+use Rattle.wasm_parser.specs.ParseAnswer.{report_of}
 use Rattle.wasm_parser.specs.StateAfter.{state_after, known_count, missing_bytes}
-use Rattle.wasm_parser.specs.Stands.{Stand}
-use Rattle.wasm_parser.proofs.Parsing.{passes}
+use Rattle.wasm_parser.specs.ParserState.{ParserState}
+use Rattle.wasm_parser.proofs.Parsing.{advances}
 use Rattle.wasm_parser.proofs.parser.Parser.pass.Goals as goal
 
 pub returns : goal.returns
 returns c =
     let p = c.self.inside in
-    let told = told_by c.args.payload.now in
-    let left = c.left_after-self-inside.ensures ∙ ap (λ (taken : ℕ). missing_bytes told taken p.left) c.saturating_sub-taken.ensures in
-    passes c.args.self.now _ c.args.payload.now c.args.end (
+    let report = report_of c.args.payload.now in
+    let left = c.left_after-self-inside.ensures ∙ ap (λ (taken : ℕ). missing_bytes report taken p.left) c.saturating_sub-taken.ensures in
+    advances c.args.self.now _ c.args.payload.now c.args.end (
     (λ i. record {
       offset = c.args.end;
       features = feature_bits p.features;
@@ -24,4 +24,4 @@ returns c =
       data_counts = (c.count_after-self-inside-4.ensures ∙ ap (λ t. known_count 12 t p.data_counts) c.count_in-counted.ensures) i;
       bodies = c.bodies_after-self-inside.ensures i;
       left = left i;
-    }) ∙ ap (λ (s : Stand). state_after s c.args.end told) c.self.view_is)
+    }) ∙ ap (λ (s : ParserState). state_after s c.args.end report) c.self.view_is)

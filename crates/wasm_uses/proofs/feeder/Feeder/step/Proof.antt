@@ -5,24 +5,24 @@ use Rattle.std.specs.Prelude.{Result}
 use Rattle.std.specs.Io.BufRead.{Rests}
 use Rattle.wasm_base.specs.declared.error.Error.{Error}
 use Rattle.wasm_uses.specs.declared.feeder.Step.{Step}
-use Rattle.wasm_uses.specs.declared.feeder.Turned.{Turned}
+use Rattle.wasm_uses.specs.declared.feeder.Advanced.{Advanced}
 use Rattle.wasm_uses.specs.Feed.{Feed, rest_at}
 use Rattle.wasm_uses.specs.Step.{Tells, Steps}
-use Rattle.wasm_uses.specs.Turned.{HasTurned}
+use Rattle.wasm_uses.specs.Advanced.{HasAdvanced}
 use Rattle.std.specs.contracts.result.Result as result-row
 use Rattle.std.proofs.result.Result.TheLaws as result-laws
 use Rattle.wasm_base.specs.contracts.error.Error as error-row
 use Rattle.wasm_base.proofs.error.Error.TheLaws as error-laws
 use Rattle.wasm_uses.specs.contracts.feeder.Step as step-row
 use Rattle.wasm_uses.proofs.feeder.Step.TheLaws as step-laws
-use Rattle.wasm_uses.specs.contracts.feeder.Turned as turned-row
-use Rattle.wasm_uses.proofs.feeder.Turned.TheLaws as turned-laws
+use Rattle.wasm_uses.specs.contracts.feeder.Advanced as turned-row
+use Rattle.wasm_uses.proofs.feeder.Advanced.TheLaws as turned-laws
 use Rattle.wasm_uses.specs.contracts.feeder.Feeder.{the_row as R}
 use Rattle.wasm_uses.specs.contracts.feeder.Feeder.step as f
 use Rattle.wasm_uses.proofs.feeder.Feeder.step.Statement.{statement}
 use Rattle.wasm_uses.proofs.feeder.Feeder.step.Code as code
 use Rattle.wasm_uses.specs.contracts.feeder.Feeder.turned as g
-use Rattle.wasm_uses.proofs.feeder.Feeder.turned.Met.{met as turned_met}
+use Rattle.wasm_uses.proofs.feeder.Feeder.turned.Met.{met as advanced_met}
 use Rattle.wasm_uses.specs.contracts.feeder.show as h
 use Rattle.wasm_uses.proofs.feeder.show.Met.{met as show_met}
 
@@ -44,11 +44,11 @@ step_spec 𝓤 𝓛 𝓜 𝓡 wired =
     qed 𝓛 (raw (G.pre z) ∷ []) ∵ enter ! _ _ _ _ _ $
     alloc_all ! (λ l. pass_all ! refl ((tt, tt), tt) $
     sets ! (addr ! (through ! refl (stop !))) refl (tt, tt) $
-    calls_at ! fm G (turned_met 𝓤 𝓛 𝓜 𝓡 (code.calls-wasm_uses::feeder::Feeder::turned 𝓡.env wired)) z (and_then ! (get ! refl) (no_more !)) (λ v.
-    use1 𝓛 (later (some (λ (t : Turned). (tokens ⊛ ‵ (Tr.own_val t (v ∷ []))) ⊛
-    some (λ (ws : Lasts g.ended κs a). ‵ (lasts g.ended κs a ws) ⊛ ‵ (Rests R a.0 (HasTurned old t)))))) (id⊢ 𝓤 _) $
+    calls_at ! fm G (advanced_met 𝓤 𝓛 𝓜 𝓡 (code.calls-wasm_uses::feeder::Feeder::turned 𝓡.env wired)) z (and_then ! (get ! refl) (no_more !)) (λ v.
+    use1 𝓛 (later (some (λ (t : Advanced). (tokens ⊛ ‵ (Tr.own_val t (v ∷ []))) ⊛
+    some (λ (ws : Lasts g.ended κs a). ‵ (lasts g.ended κs a ws) ⊛ ‵ (Rests R a.0 (HasAdvanced old t)))))) (id⊢ 𝓤 _) $
     await ! tt $ pick ! (λ t. split ! $ split ! $ move ! (2 ∷ []) $ pick ! (λ ws. split ! $ drop ! $
-    use1 𝓛 (some (λ (s : (x : Feed) × HasTurned old t x). ‵ (fres γ (R.coded.code s.0)))) (rests_open 𝓛 R a.0 (HasTurned old t)) $ pick ! (λ s.
+    use1 𝓛 (some (λ (s : (x : Feed) × HasAdvanced old t x). ‵ (fres γ (R.coded.code s.0)))) (rests_open 𝓛 R a.0 (HasAdvanced old t)) $ pick ! (λ s.
     move ! (2 ∷ []) $ peeks ! Tr _ (shows 𝓛 Tr) t (v ∷ []) (λ is.
     let word = (turned-laws.lowers ℓ).lowered t in let e = (turned-laws.lowers ℓ).val_is t (v ∷ []) is in
     let y : K.Ghost = ((κs, qs, bounds, (t, tt), (word ∷ [], tt)), tt) in

@@ -7,26 +7,26 @@ use Rattle.wasm_base.specs.Number.{read}
 use Rattle.wasm_parser.specs.declared.payload.Encoding.{Encoding}
 use Rattle.wasm_parser.specs.declared.payload.Encoding.TheVariants.{Module}
 use Rattle.wasm_parser.specs.Content.{Kind, code, kind_of, rank_of, value_of}
-use Rattle.wasm_parser.specs.Grammar.{section, code_head, body, Tile, tile, Past, verdict, content_grammar, wrong_count}
-use Rattle.wasm_parser.specs.Tiling.{front, past, bodies_left, bytes_left, encoding_of}
+use Rattle.wasm_parser.specs.Grammar.{section, code_head, body, Tile, tile, SectionContext, verdict, content_grammar, wrong_count}
+use Rattle.wasm_parser.specs.Tiling.{bytes_of, context_of, bodies_left, bytes_left, encoding_of}
 use Rattle.wasm_parser.specs.Accepted.{Sized, sized_bytes, IsNumber, IsSized, Frame, frame_bytes, frame_count, frame_rank, IsFrame, FitsAfter, CodeDivision, IsSection}
-use Rattle.wasm_parser.proofs.StandsLaws.{Follows}
-use Rattle.wasm_parser.proofs.TextbookLists.{split_last}
-use Rattle.wasm_parser.proofs.TextbookCounts.{Knows}
-use Rattle.wasm_parser.proofs.TextbookContents.{good_from}
+use Rattle.wasm_parser.proofs.StateLaws.{Follows}
+use Rattle.wasm_parser.proofs.AcceptedLists.{split_last}
+use Rattle.wasm_parser.proofs.AcceptedCounts.{Knows}
+use Rattle.wasm_parser.proofs.AcceptedContents.{good_from}
 use Rattle.wasm_parser.proofs.KindIds.{code_id}
-use Rattle.wasm_parser.proofs.TextbookFits.{rank_from, CodeFits, code_from, data_from}
-use Rattle.wasm_parser.proofs.TextbookTiles.{made, IsWhole, number_on}
-use Rattle.wasm_parser.proofs.TextbookParts.{SectionParts, WholeParts, content_parts, HeadParts, head_parts, BodyParts}
-use Rattle.wasm_parser.proofs.TextbookKnows.{knows_section, knows_code, knows_body}
-use Rattle.wasm_parser.proofs.TextbookWalks.{stream_of, stream_more}
+use Rattle.wasm_parser.proofs.AcceptedFits.{rank_from, CodeFits, code_from, data_from}
+use Rattle.wasm_parser.proofs.AcceptedTiles.{made, IsWhole, number_on}
+use Rattle.wasm_parser.proofs.AcceptedParts.{SectionParts, WholeParts, content_parts, HeadParts, head_parts, BodyParts}
+use Rattle.wasm_parser.proofs.AcceptedKnows.{knows_section, knows_code, knows_body}
+use Rattle.wasm_parser.proofs.AcceptedWalks.{stream_of, stream_more}
 
 -- good sections in their order
 pub record InOrder (encoding : Encoding) (fs : List Frame) : Type 0 where
   pub each : All (IsFrame encoding) fs
   pub order : (earlier later : List Frame) (f : Frame) → fs ≡ earlier ++ f ∷ later → FitsAfter encoding earlier f
 
--- nothing stands in no list
+-- nothing is in no list
 no_more : (earlier later : List Frame) (f : Frame) → [] ≡ earlier ++ f ∷ later → ⊥
 no_more [] later f e = cc
 no_more (g ∷ earlier) later f e = cc
@@ -54,8 +54,8 @@ in_order_push encoding fs f p i a = record {
 -- The tiles are a header and whole sections.
 pub record Settled (ts : List Tile) : Type 0 where
   pub frames : List Frame
-  pub covers : front ts ≡ stream_of (encoding_of ts) frames
-  pub knows : Knows (encoding_of ts) frames (past ts)
+  pub covers : bytes_of ts ≡ stream_of (encoding_of ts) frames
+  pub knows : Knows (encoding_of ts) frames (context_of ts)
   pub sections : InOrder (encoding_of ts) frames
   pub closed : nat_eq (bodies_left ts + bytes_left ts) 0 ≡ true
 
@@ -74,10 +74,10 @@ pub record Pending (ts : List Tile) : Type 0 where
   -- its bodies so far
   pub bodies : List Sized
   pub each : All IsSized bodies
-  pub covers : front ts ≡ stream_of Module frames ++ 10 ∷ (field ++ (head ++ flat_map sized_bytes bodies))
+  pub covers : bytes_of ts ≡ stream_of Module frames ++ 10 ∷ (field ++ (head ++ flat_map sized_bytes bodies))
   pub bodies_miss : count ≡ length bodies + bodies_left ts
   pub bytes_miss : size ≡ length head + length (flat_map sized_bytes bodies) + bytes_left ts
-  pub knows : (f : Frame) → f.id ≡ 10 → frame_count f ≡ count → Knows Module (frames ++ f ∷ []) (past ts)
+  pub knows : (f : Frame) → f.id ≡ 10 → frame_count f ≡ count → Knows Module (frames ++ f ∷ []) (context_of ts)
   pub fits : (f : Frame) → f.id ≡ 10 → frame_count f ≡ count → FitsAfter Module frames f
 
 -- the section that has all its bodies
@@ -94,11 +94,11 @@ settles ts p e =
     let c : frame_count f ≡ p.count = ap value_of (number_on p.head (flat_map sized_bytes p.bodies) p.count p.counted) in
     let d : CodeDivision f.sized.content = record { field = p.head; bodies = p.bodies; whole = refl; count = p.counted ∙ ap (λ (n : ℕ). read n (length p.head)) m; each = p.each } in
     let i : IsFrame Module f = record { id = lit< tt; sized = p.sized ∙ ap (λ (n : ℕ). read n (length p.field)) s; content = d } in
-    let w : front ts ≡ stream_of Module (p.frames ++ f ∷ []) = p.covers ∙ stream_more Module p.frames f (stream_of Module p.frames) refl in
+    let w : bytes_of ts ≡ stream_of Module (p.frames ++ f ∷ []) = p.covers ∙ stream_more Module p.frames f (stream_of Module p.frames) refl in
     record {
       frames = p.frames ++ f ∷ [];
       covers = w ∙ ap (λ (x : Encoding). stream_of x (p.frames ++ f ∷ [])) (sym p.of_module);
-      knows = subst (λ (x : Encoding). Knows x (p.frames ++ f ∷ []) (past ts)) (sym p.of_module) (p.knows f refl c);
+      knows = subst (λ (x : Encoding). Knows x (p.frames ++ f ∷ []) (context_of ts)) (sym p.of_module) (p.knows f refl c);
       sections = subst (λ (x : Encoding). InOrder x (p.frames ++ f ∷ [])) (sym p.of_module) (in_order_push Module p.frames f p.sections i (p.fits f refl c));
       closed = e;
     }
@@ -108,7 +108,7 @@ abbrev frame_of : ℕ → List ℕ → List ℕ → Frame
 frame_of id field content = record { id = id; sized = record { field = field; content = content } }
 
 -- a section that is one tile is good
-whole_frame : (p : Past) (o : ℕ) (t : Tile) (s : SectionParts p o t) (at : ℕ) → IsWhole (kind_of p.encoding s.id) → (c : WholeParts p (kind_of p.encoding s.id) s.id at s.size s.rest)
+whole_frame : (p : SectionContext) (o : ℕ) (t : Tile) (s : SectionParts p o t) (at : ℕ) → IsWhole (kind_of p.encoding s.id) → (c : WholeParts p (kind_of p.encoding s.id) s.id at s.size s.rest)
     → IsFrame p.encoding (frame_of s.id s.field c.content)
 whole_frame p o t s at w c = record {
   id = s.below;
@@ -116,8 +116,8 @@ whole_frame p o t s at w c = record {
   content = good_from (kind_of p.encoding s.id) at c.content w c.right;
 }
 
--- a section that is one tile fits behind the frames before it
-whole_fits : (p : Past) (fs : List Frame) (o : ℕ) (t : Tile) (s : SectionParts p o t) (at : ℕ) → Knows p.encoding fs p → IsWhole (kind_of p.encoding s.id) → (c : WholeParts p (kind_of p.encoding s.id) s.id at s.size s.rest)
+-- a section that is one tile fits after the frames before it
+whole_fits : (p : SectionContext) (fs : List Frame) (o : ℕ) (t : Tile) (s : SectionParts p o t) (at : ℕ) → Knows p.encoding fs p → IsWhole (kind_of p.encoding s.id) → (c : WholeParts p (kind_of p.encoding s.id) s.id at s.size s.rest)
     → FitsAfter p.encoding fs (frame_of s.id s.field c.content)
 whole_fits p fs o t s at k w c =
     let f : Frame = frame_of s.id s.field c.content in
@@ -129,25 +129,25 @@ whole_fits p fs o t s at k w c =
       segments = data_from p.encoding fs p k f (at + s.size) c.counted;
     }
 
--- behind whole sections, one more that is one tile
-pub whole_settled : (ts : List Tile) (o : ℕ) (t : Tile) → Settled ts → (s : SectionParts (past ts) o t) → IsWhole (kind_of (encoding_of ts) s.id) → Settled (t ∷ ts)
+-- after whole sections, one more that is one tile
+pub whole_settled : (ts : List Tile) (o : ℕ) (t : Tile) → Settled ts → (s : SectionParts (context_of ts) o t) → IsWhole (kind_of (encoding_of ts) s.id) → Settled (t ∷ ts)
 whole_settled ts o t q s w =
     let e : Encoding = encoding_of ts in
     let at : ℕ = o + 1 + length s.field in
-    let c : WholeParts (past ts) (kind_of e s.id) s.id at s.size s.rest = content_parts (past ts) (kind_of e s.id) s.id at s.size s.others s.rest w s.goes_on in
+    let c : WholeParts (context_of ts) (kind_of e s.id) s.id at s.size s.rest = content_parts (context_of ts) (kind_of e s.id) s.id at s.size s.others s.rest w s.goes_on in
     let f : Frame = frame_of s.id s.field c.content in
     let z : t ≡ made (section (kind_of e s.id) s.id c.content) (frame_bytes f) = s.is ∙ ap (λ (x : Tile). made x.shape (s.id ∷ (s.field ++ x.bytes))) c.is in
     let r : Settled (made (section (kind_of e s.id) s.id c.content) (frame_bytes f) ∷ ts) = record {
       frames = q.frames ++ f ∷ [];
-      covers = stream_more e q.frames f (front ts) q.covers;
+      covers = stream_more e q.frames f (bytes_of ts) q.covers;
       knows = knows_section e q.frames ts f (frame_bytes f) w q.knows;
-      sections = in_order_push e q.frames f q.sections (whole_frame (past ts) o t s at w c) (whole_fits (past ts) q.frames o t s at q.knows w c);
+      sections = in_order_push e q.frames f q.sections (whole_frame (context_of ts) o t s at w c) (whole_fits (context_of ts) q.frames o t s at q.knows w c);
       closed = refl;
     } in
     subst (λ (x : Tile). Settled (x ∷ ts)) (sym z) r
 
--- a code section with the right rank and count fits behind the frames before it
-code_fits : (p : Past) (fs : List Frame) → Knows Module fs p → (at count : ℕ) → Follows p (rank_of (kind_of Module 10) 10) → wrong_count p at count ≡ None → (f : Frame) → f.id ≡ 10 → frame_count f ≡ count → FitsAfter Module fs f
+-- a code section with the right rank and count fits after the frames before it
+code_fits : (p : SectionContext) (fs : List Frame) → Knows Module fs p → (at count : ℕ) → Follows p (rank_of (kind_of Module 10) 10) → wrong_count p at count ≡ None → (f : Frame) → f.id ≡ 10 → frame_count f ≡ count → FitsAfter Module fs f
 code_fits p fs k at count r w f z c =
     let g : CodeFits Module fs (frame_count f) = subst (CodeFits Module fs) (sym c) (code_from Module fs p k at count w) in
     record {
@@ -157,20 +157,20 @@ code_fits p fs k at count r w f z c =
       segments = λ y. let u : 10 ≡ 11 = sym z ∙ y.1 in absurd (omega arith);
     }
 
--- behind whole sections, the head of a code section
-pub code_pending : (ts : List Tile) (o : ℕ) (t : Tile) → Settled ts → (s : SectionParts (past ts) o t) → kind_of (encoding_of ts) s.id ≡ code → Pending (t ∷ ts)
+-- after whole sections, the head of a code section
+pub code_pending : (ts : List Tile) (o : ℕ) (t : Tile) → Settled ts → (s : SectionParts (context_of ts) o t) → kind_of (encoding_of ts) s.id ≡ code → Pending (t ∷ ts)
 code_pending ts o t q s e =
     let (m, i) = code_id (encoding_of ts) s.id e in
     let at : ℕ = o + 1 + length s.field in
-    let v : verdict (content_grammar (past ts) code s.id at s.size) s.others ≡ tile s.rest = subst (λ (x : Kind). verdict (content_grammar (past ts) x s.id at s.size) s.others ≡ tile s.rest) e s.goes_on in
-    let h : HeadParts (past ts) at s.size s.rest = head_parts (past ts) at s.size s.others s.rest v in
+    let v : verdict (content_grammar (context_of ts) code s.id at s.size) s.others ≡ tile s.rest = subst (λ (x : Kind). verdict (content_grammar (context_of ts) x s.id at s.size) s.others ≡ tile s.rest) e s.goes_on in
+    let h : HeadParts (context_of ts) at s.size s.rest = head_parts (context_of ts) at s.size s.others s.rest v in
     let n : ℕ = s.size - length h.head in
     let b : List ℕ = 10 ∷ (s.field ++ h.head) in
     let z : t ≡ made (code_head h.count (length h.head) n) b =
     s.is ∙ (ap (λ (x : Tile). made x.shape (s.id ∷ (s.field ++ x.bytes))) h.is ∙ ap (λ (x : ℕ). made (code_head h.count (length h.head) n) (x ∷ (s.field ++ h.head))) i) in
-    let k : Knows Module q.frames (past ts) = subst (λ (x : Encoding). Knows x q.frames (past ts)) m q.knows in
-    let y : Follows (past ts) (rank_of (kind_of Module s.id) s.id) = subst (λ (x : Encoding). Follows (past ts) (rank_of (kind_of x s.id) s.id)) m s.follows in
-    let w : front ts ≡ stream_of Module q.frames = q.covers ∙ ap (λ (x : Encoding). stream_of x q.frames) m in
+    let k : Knows Module q.frames (context_of ts) = subst (λ (x : Encoding). Knows x q.frames (context_of ts)) m q.knows in
+    let y : Follows (context_of ts) (rank_of (kind_of Module s.id) s.id) = subst (λ (x : Encoding). Follows (context_of ts) (rank_of (kind_of x s.id) s.id)) m s.follows in
+    let w : bytes_of ts ≡ stream_of Module q.frames = q.covers ∙ ap (λ (x : Encoding). stream_of x q.frames) m in
     let l : s.size ≡ length h.head + 0 + n = omega (arith, h.fits) in
     let r : Pending (made (code_head h.count (length h.head) n) b ∷ ts) = record {
       of_module = m;
@@ -188,16 +188,16 @@ code_pending ts o t q s e =
       bodies_miss = omega arith;
       bytes_miss = l;
       knows = λ f a c. knows_code q.frames ts f h.count (length h.head) n b a c k;
-      fits = code_fits (past ts) q.frames k at h.count (subst (λ (x : ℕ). Follows (past ts) (rank_of (kind_of Module x) x)) i y) h.right;
+      fits = code_fits (context_of ts) q.frames k at h.count (subst (λ (x : ℕ). Follows (context_of ts) (rank_of (kind_of Module x) x)) i y) h.right;
     } in
     subst (λ (x : Tile). Pending (x ∷ ts)) (sym z) r
 
 -- the bytes of a code section with one more body
-body_covers : (front field head : List ℕ) (bodies : List Sized) (s : Sized) → (front ++ 10 ∷ (field ++ (head ++ flat_map sized_bytes bodies))) ++ sized_bytes s ≡ front ++ 10 ∷ (field ++ (head ++ flat_map sized_bytes (bodies ++ s ∷ [])))
-body_covers front field head bodies s =
-    append_assoc front (10 ∷ (field ++ (head ++ flat_map sized_bytes bodies))) (sized_bytes s)
-    ∙ (ap (λ (x : List ℕ). front ++ 10 ∷ x) (append_assoc field (head ++ flat_map sized_bytes bodies) (sized_bytes s))
-    ∙ ap (λ (x : List ℕ). front ++ 10 ∷ (field ++ x)) (flat_map_more sized_bytes head bodies s))
+body_covers : (first field head : List ℕ) (bodies : List Sized) (s : Sized) → (first ++ 10 ∷ (field ++ (head ++ flat_map sized_bytes bodies))) ++ sized_bytes s ≡ first ++ 10 ∷ (field ++ (head ++ flat_map sized_bytes (bodies ++ s ∷ [])))
+body_covers first field head bodies s =
+    append_assoc first (10 ∷ (field ++ (head ++ flat_map sized_bytes bodies))) (sized_bytes s)
+    ∙ (ap (λ (x : List ℕ). first ++ 10 ∷ x) (append_assoc field (head ++ flat_map sized_bytes bodies) (sized_bytes s))
+    ∙ ap (λ (x : List ℕ). first ++ 10 ∷ (field ++ x)) (flat_map_more sized_bytes head bodies s))
 
 -- how many they are
 body_bytes : (head : List ℕ) (bodies : List Sized) (s : Sized) → length head + length (flat_map sized_bytes bodies) + length (sized_bytes s) ≡ length head + length (flat_map sized_bytes (bodies ++ s ∷ []))

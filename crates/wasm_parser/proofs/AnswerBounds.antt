@@ -4,17 +4,17 @@ use Rattle.std.proofs.lemmas.Bool.Decides.{nat_tests}
 use Rattle.wasm_base.specs.FaultAt.{FaultAt, at_offset}
 use Rattle.wasm_base.specs.declared.error.Error.{Error}
 use Rattle.wasm_base.specs.declared.fault.Fault.TheVariants.{OffsetRange}
-use Rattle.wasm_parser.specs.Answers.{told_by, is_end, Consumes, Answers, IsFaultAlone, Parses, FaultsWithin, IsUnchanged, ItemsBegin}
+use Rattle.wasm_parser.specs.ParseAnswer.{report_of, is_end, Consumes, Answers, IsFaultAlone, ParseAnswer, FaultsWithin, IsUnchanged, ItemsBegin}
 use Rattle.wasm_parser.specs.Content.{custom, items, index, data_count, code, unknown, fault, ended}
 use Rattle.wasm_parser.specs.Grammar.{Shape, header, section, code_head, body, Tile, Verdict, tile, final, header_grammar, verdict}
-use Rattle.wasm_parser.specs.Reading.{told_of, told_custom}
-use Rattle.wasm_parser.specs.Stands.{Stand, past_of, grammar_of}
+use Rattle.wasm_parser.specs.Reading.{tile_report, custom_report}
+use Rattle.wasm_parser.specs.ParserState.{ParserState, known_context, grammar_of}
 use Rattle.wasm_parser.specs.Tiling.{inside}
 use Rattle.wasm_parser.specs.declared.payload.Payload.{Payload}
 use Rattle.wasm_parser.specs.declared.payload.Chunk.{Chunk}
 use Rattle.wasm_parser.specs.declared.payload.Chunk.TheVariants.{NeedMoreData, Parsed}
 use Rattle.wasm_base.specs.Name.{Name, named, refused, name_limit, name}
-use Rattle.wasm_parser.proofs.Bounds.{stand_lies}
+use Rattle.wasm_parser.proofs.Bounds.{parser_fault_lies}
 use Rattle.wasm_parser.proofs.GrammarLaws.{Cut, verdict-cut}
 use Rattle.wasm_parser.proofs.TileLaws.{Guarded-header, Guarded-inside_at, least_header, least_inside}
 
@@ -26,25 +26,25 @@ pub record Takes (xs : List ℕ) (t : Tile) : Type 0 where
   pub rest : List ℕ
   pub split : xs ≡ t.bytes ++ rest
 
-takes_at : (h : Bool) (p : Stand) (xs : List ℕ) (t : Tile) → verdict (cond h (header_grammar p.offset) (inside (past_of p) p.bodies p.left p.offset)) xs ≡ tile t → Takes xs t
+takes_at : (h : Bool) (p : ParserState) (xs : List ℕ) (t : Tile) → verdict (cond h (header_grammar p.offset) (inside (known_context p) p.bodies p.left p.offset)) xs ≡ tile t → Takes xs t
 takes_at true p xs t e =
     let c : Cut (header_grammar p.offset) xs t = verdict-cut (header_grammar p.offset) (Guarded-header p.offset) xs t e in
     record { some = least_header p.offset xs t e; rest = c.rest; split = c.split }
 takes_at false p xs t e =
     let b : Bool = nat_eq (p.bodies + p.left) 0 in
-    let c : Cut (inside (past_of p) p.bodies p.left p.offset) xs t = verdict-cut (inside (past_of p) p.bodies p.left p.offset) (Guarded-inside_at (nat_eq (p.bodies + p.left) 0) (past_of p) p.bodies p.left p.offset) xs t e in
-    record { some = least_inside (nat_eq (p.bodies + p.left) 0) (past_of p) p.bodies p.left p.offset xs t e; rest = c.rest; split = c.split }
+    let c : Cut (inside (known_context p) p.bodies p.left p.offset) xs t = verdict-cut (inside (known_context p) p.bodies p.left p.offset) (Guarded-inside_at (nat_eq (p.bodies + p.left) 0) (known_context p) p.bodies p.left p.offset) xs t e in
+    record { some = least_inside (nat_eq (p.bodies + p.left) 0) (known_context p) p.bodies p.left p.offset xs t e; rest = c.rest; split = c.split }
 
-pub tile_takes : (p : Stand) (xs : List ℕ) (t : Tile) → verdict (grammar_of p) xs ≡ tile t → Takes xs t
+pub tile_takes : (p : ParserState) (xs : List ℕ) (t : Tile) → verdict (grammar_of p) xs ≡ tile t → Takes xs t
 tile_takes p xs t e = takes_at p.expects_header p xs t e
 
--- ---- what is told of a tile is no end
+-- ---- what is reported of a tile is no end
 
-custom_goes_on : (features from to : ℕ) (content : List ℕ) (n : Name) → is_end (told_custom features from to content n) ≡ false
+custom_goes_on : (features from to : ℕ) (content : List ℕ) (n : Name) → is_end (custom_report features from to content n) ≡ false
 custom_goes_on features from to content (named text used) = refl
 custom_goes_on features from to content (refused f place) = refl
 
-pub goes_on : (features from to : ℕ) (shape : Shape) → is_end (told_of features from to shape) ≡ false
+pub goes_on : (features from to : ℕ) (shape : Shape) → is_end (tile_report features from to shape) ≡ false
 goes_on features from to (header num encoding) = refl
 goes_on features from to (section items id content) = refl
 goes_on features from to (section index id content) = refl
@@ -60,8 +60,8 @@ not_zero n l = grind (arith, nat_tests)
 
 -- ---- what a call consumes
 
-consumes_at : (p new : Stand) (rest : List ℕ) (consumed : ℕ) (payload : Payload) (v : Verdict) → verdict (grammar_of p) rest ≡ v → Answers p v (Ok (Parsed consumed payload)) new
-    → (consumed ≤ length rest) × (nat_eq consumed 0 ≡ is_end (told_by payload))
+consumes_at : (p new : ParserState) (rest : List ℕ) (consumed : ℕ) (payload : Payload) (v : Verdict) → verdict (grammar_of p) rest ≡ v → Answers p v (Ok (Parsed consumed payload)) new
+    → (consumed ≤ length rest) × (nat_eq consumed 0 ≡ is_end (report_of payload))
 consumes_at p new rest consumed payload (tile t) e a =
     let k : Takes rest t = tile_takes p rest t e in
     let n : length rest ≡ length t.bytes + length k.rest = ap (λ (x : List ℕ). length x) k.split ∙ length-append t.bytes k.rest in (
@@ -72,33 +72,33 @@ consumes_at p new rest consumed payload (final (fault f)) e a = absurd a
 consumes_at p new rest consumed payload (final (ended o)) e a = let z : consumed ≡ 0 = a.0 in (omega (arith, z), ap (λ (n : ℕ). nat_eq n 0) z ∙ sym (ap is_end a.1.0))
 
 -- what the answers of a parser consume
-consumes_any : (p new : Stand) (rest : List ℕ) (r : Result Chunk Error) → Answers p (verdict (grammar_of p) rest) r new → Consumes rest r
+consumes_any : (p new : ParserState) (rest : List ℕ) (r : Result Chunk Error) → Answers p (verdict (grammar_of p) rest) r new → Consumes rest r
 consumes_any p new rest (Ok (Parsed consumed payload)) a = consumes_at p new rest consumed payload (verdict (grammar_of p) rest) refl a
 consumes_any p new rest (Ok (NeedMoreData hint)) a = tt
 consumes_any p new rest (Err e) a = tt
 
-alone_consumes : (f : FaultAt) (p new : Stand) (rest : List ℕ) (r : Result Chunk Error) → IsFaultAlone f p r new → Consumes rest r
+alone_consumes : (f : FaultAt) (p new : ParserState) (rest : List ℕ) (r : Result Chunk Error) → IsFaultAlone f p r new → Consumes rest r
 alone_consumes f p new rest (Ok chunk) a = absurd a
 alone_consumes f p new rest (Err e) a = tt
 
-consumes_by : (b : Bool) (p new : Stand) (rest : List ℕ) (r : Result Chunk Error) → nat_lt (p.offset + length rest) (2 ^ 64) ≡ b → Parses p rest r new → Consumes rest r
+consumes_by : (b : Bool) (p new : ParserState) (rest : List ℕ) (r : Result Chunk Error) → nat_lt (p.offset + length rest) (2 ^ 64) ≡ b → ParseAnswer p rest r new → Consumes rest r
 consumes_by true p new rest r t h = consumes_any p new rest r (h.within (ltb-true _ _ t))
 consumes_by false p new rest r t h = alone_consumes (at_offset OffsetRange p.offset) p new rest r (h.past_the_top (ltb-false _ _ t))
 
-pub consumes : (p new : Stand) (rest : List ℕ) (r : Result Chunk Error) → Parses p rest r new → Consumes rest r
+pub consumes : (p new : ParserState) (rest : List ℕ) (r : Result Chunk Error) → ParseAnswer p rest r new → Consumes rest r
 consumes p new rest r h = consumes_by (nat_lt (p.offset + length rest) (2 ^ 64)) p new rest r refl h
 
--- ---- where its faults stand
+-- ---- where its faults are
 
-faults_at : (p new : Stand) (rest : List ℕ) (e : Error) (v : Verdict) → verdict (grammar_of p) rest ≡ v → Answers p v (Err e) new → FaultsWithin p rest (Err e)
+faults_at : (p new : ParserState) (rest : List ℕ) (e : Error) (v : Verdict) → verdict (grammar_of p) rest ≡ v → Answers p v (Err e) new → FaultsWithin p rest (Err e)
 faults_at p new rest e (tile t) q a = absurd a
 faults_at p new rest e (final (fault f)) q a =
-    let (l, m) = stand_lies p rest f q in
+    let (l, m) = parser_fault_lies p rest f q in
     let z = ap (λ (x : FaultAt). x.offset) a.0 in
     (omega (arith, l, z), omega (arith, m, z))
 faults_at p new rest e (final (ended o)) q a = absurd a
 
-faults_by : (b : Bool) (p new : Stand) (rest : List ℕ) (r : Result Chunk Error) → nat_lt (p.offset + length rest) (2 ^ 64) ≡ b → Parses p rest r new → FaultsWithin p rest r
+faults_by : (b : Bool) (p new : ParserState) (rest : List ℕ) (r : Result Chunk Error) → nat_lt (p.offset + length rest) (2 ^ 64) ≡ b → ParseAnswer p rest r new → FaultsWithin p rest r
 faults_by b p new rest (Ok chunk) t h = tt
 faults_by true p new rest (Err e) t h = faults_at p new rest e (verdict (grammar_of p) rest) refl (h.within (ltb-true _ _ t))
 faults_by false p new rest (Err e) t h =
@@ -106,41 +106,41 @@ faults_by false p new rest (Err e) t h =
     let z = ap (λ (x : FaultAt). x.offset) a.0 in
     (omega (arith, z), omega (arith, z))
 
-pub faults_within : (p new : Stand) (rest : List ℕ) (r : Result Chunk Error) → Parses p rest r new → FaultsWithin p rest r
+pub faults_within : (p new : ParserState) (rest : List ℕ) (r : Result Chunk Error) → ParseAnswer p rest r new → FaultsWithin p rest r
 faults_within p new rest r h = faults_by (nat_lt (p.offset + length rest) (2 ^ 64)) p new rest r refl h
 
 -- ---- what a fault leaves
 
-unchanged_at : (p new : Stand) (e : Error) (v : Verdict) → Answers p v (Err e) new → new ≡ p
+unchanged_at : (p new : ParserState) (e : Error) (v : Verdict) → Answers p v (Err e) new → new ≡ p
 unchanged_at p new e (tile t) a = absurd a
 unchanged_at p new e (final (fault f)) a = a.1
 unchanged_at p new e (final (ended o)) a = absurd a
 
-asks_never : (p new : Stand) (hint : ℕ) (v : Verdict) → Answers p v (Ok (NeedMoreData hint)) new → ⊥
+asks_never : (p new : ParserState) (hint : ℕ) (v : Verdict) → Answers p v (Ok (NeedMoreData hint)) new → ⊥
 asks_never p new hint (tile t) a = a
 asks_never p new hint (final (fault f)) a = a
 asks_never p new hint (final (ended o)) a = a
 
-unchanged_by : (b : Bool) (p new : Stand) (rest : List ℕ) (r : Result Chunk Error) → nat_lt (p.offset + length rest) (2 ^ 64) ≡ b → Parses p rest r new → IsUnchanged p r new
+unchanged_by : (b : Bool) (p new : ParserState) (rest : List ℕ) (r : Result Chunk Error) → nat_lt (p.offset + length rest) (2 ^ 64) ≡ b → ParseAnswer p rest r new → IsUnchanged p r new
 unchanged_by b p new rest (Ok (Parsed consumed payload)) t h = tt
 unchanged_by true p new rest (Ok (NeedMoreData hint)) t h = absurd (asks_never p new hint (verdict (grammar_of p) rest) (h.within (ltb-true _ _ t)))
 unchanged_by false p new rest (Ok (NeedMoreData hint)) t h = absurd (h.past_the_top (ltb-false _ _ t))
 unchanged_by true p new rest (Err e) t h = unchanged_at p new e (verdict (grammar_of p) rest) (h.within (ltb-true _ _ t))
 unchanged_by false p new rest (Err e) t h = (h.past_the_top (ltb-false _ _ t)).1
 
-pub unchanged : (p new : Stand) (rest : List ℕ) (r : Result Chunk Error) → Parses p rest r new → IsUnchanged p r new
+pub unchanged : (p new : ParserState) (rest : List ℕ) (r : Result Chunk Error) → ParseAnswer p rest r new → IsUnchanged p r new
 unchanged p new rest r h = unchanged_by (nat_lt (p.offset + length rest) (2 ^ 64)) p new rest r refl h
 
 -- ---- what its payloads hold
 
-holds_at : (p new : Stand) (consumed : ℕ) (payload : Payload) (v : Verdict) → Answers p v (Ok (Parsed consumed payload)) new → ItemsBegin payload
+holds_at : (p new : ParserState) (consumed : ℕ) (payload : Payload) (v : Verdict) → Answers p v (Ok (Parsed consumed payload)) new → ItemsBegin payload
 holds_at p new consumed payload (tile t) a = a.1.1
 holds_at p new consumed payload (final (fault f)) a = absurd a
 holds_at p new consumed payload (final (ended o)) a = a.1.1
 
-holds_by : (b : Bool) (p new : Stand) (rest : List ℕ) (consumed : ℕ) (payload : Payload) → nat_lt (p.offset + length rest) (2 ^ 64) ≡ b → Parses p rest (Ok (Parsed consumed payload)) new → ItemsBegin payload
+holds_by : (b : Bool) (p new : ParserState) (rest : List ℕ) (consumed : ℕ) (payload : Payload) → nat_lt (p.offset + length rest) (2 ^ 64) ≡ b → ParseAnswer p rest (Ok (Parsed consumed payload)) new → ItemsBegin payload
 holds_by true p new rest consumed payload t h = holds_at p new consumed payload (verdict (grammar_of p) rest) (h.within (ltb-true _ _ t))
 holds_by false p new rest consumed payload t h = absurd (h.past_the_top (ltb-false _ _ t))
 
-pub holds_items : (p new : Stand) (rest : List ℕ) (consumed : ℕ) (payload : Payload) → Parses p rest (Ok (Parsed consumed payload)) new → ItemsBegin payload
+pub holds_items : (p new : ParserState) (rest : List ℕ) (consumed : ℕ) (payload : Payload) → ParseAnswer p rest (Ok (Parsed consumed payload)) new → ItemsBegin payload
 holds_items p new rest consumed payload h = holds_by (nat_lt (p.offset + length rest) (2 ^ 64)) p new rest consumed payload refl h

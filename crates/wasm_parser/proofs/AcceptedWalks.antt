@@ -7,17 +7,17 @@ use Rattle.std.proofs.lemmas.List.Elements.{All-head, All-tail}
 use Rattle.wasm_parser.specs.declared.payload.Encoding.{Encoding}
 use Rattle.wasm_parser.specs.declared.payload.Encoding.TheVariants.{Module, Component}
 use Rattle.wasm_parser.specs.Content.{Kind, code, kind_of, ended}
-use Rattle.wasm_parser.specs.Grammar.{header, section, code_head, Tile, tile, final, Past, Grammar, verdict, end_of, section_grammar}
-use Rattle.wasm_parser.specs.Tiling.{front, grammar, Faultless, past, bodies_left, bytes_left}
+use Rattle.wasm_parser.specs.Grammar.{header, section, code_head, Tile, tile, final, SectionContext, Grammar, verdict, end_of, section_grammar}
+use Rattle.wasm_parser.specs.Tiling.{bytes_of, grammar, Faultless, context_of, bodies_left, bytes_left}
 use Rattle.wasm_parser.specs.Reading.{Reads}
-use Rattle.wasm_parser.specs.Stands.{is_start}
+use Rattle.wasm_parser.specs.ParserState.{is_start}
 use Rattle.wasm_parser.specs.Accepted.{sized_bytes, Frame, frame_bytes, IsFrame, IsGood, FitsAfter, CodeDivision, IsAccepted, header_bytes}
-use Rattle.wasm_parser.proofs.TextbookCounts.{Knows}
+use Rattle.wasm_parser.proofs.AcceptedCounts.{Knows}
 use Rattle.wasm_parser.proofs.KindIds.{code_id}
-use Rattle.wasm_parser.proofs.TextbookEnds.{end_to}
-use Rattle.wasm_parser.proofs.TextbookTiles.{made, IsWhole, whole_or_code, header_version, header_tile}
-use Rattle.wasm_parser.proofs.TextbookKnows.{grammar_closed, knows_header, knows_section, knows_code}
-use Rattle.wasm_parser.proofs.TextbookSteps.{section_step, code_step, division_count, division_length, Through, bodies_walk}
+use Rattle.wasm_parser.proofs.AcceptedEndings.{end_to}
+use Rattle.wasm_parser.proofs.AcceptedTiles.{made, IsWhole, whole_or_code, header_version, header_tile}
+use Rattle.wasm_parser.proofs.AcceptedKnows.{grammar_closed, knows_header, knows_section, knows_code}
+use Rattle.wasm_parser.proofs.AcceptedSteps.{section_step, code_step, division_count, division_length, Through, bodies_walk}
 
 -- the bytes of a header and these frames
 abbrev pub stream_of : Encoding → List Frame → List ℕ
@@ -27,8 +27,8 @@ stream_of encoding fs = header_bytes encoding ++ flat_map frame_bytes fs
 pub record Closed (start : ℕ) (encoding : Encoding) (fs : List Frame) (tiles : List Tile) : Type 0 where
   pub begun : is_start tiles ≡ false
   pub faultless : Faultless start tiles
-  pub covers : front tiles ≡ stream_of encoding fs
-  pub knows : Knows encoding fs (past tiles)
+  pub covers : bytes_of tiles ≡ stream_of encoding fs
+  pub knows : Knows encoding fs (context_of tiles)
   pub closed : nat_eq (bodies_left tiles + bytes_left tiles) 0 ≡ true
 
 -- some tiles are
@@ -36,20 +36,20 @@ pub record Reached (start : ℕ) (encoding : Encoding) (fs : List Frame) : Type 
   pub tiles : List Tile
   pub there : Closed start encoding fs tiles
 
--- a section behind them, as it stands in the stream
+-- a section after them, as it is in the stream
 closed_verdict : (start : ℕ) (encoding : Encoding) (fs : List Frame) (ts : List Tile) (c : Closed start encoding fs ts) (bytes : List ℕ) (t : Tile)
-    → verdict (section_grammar (past ts) (start + length (front ts))) bytes ≡ tile t → verdict (grammar start ts) bytes ≡ tile t
+    → verdict (section_grammar (context_of ts) (start + length (bytes_of ts))) bytes ≡ tile t → verdict (grammar start ts) bytes ≡ tile t
 closed_verdict start encoding fs ts c bytes t h = subst (λ (g : Grammar). verdict g bytes ≡ tile t) (sym (grammar_closed start ts c.begun c.closed)) h
 
 -- the bytes of one more frame
-pub stream_more : (encoding : Encoding) (fs : List Frame) (f : Frame) (covered : List ℕ) → covered ≡ stream_of encoding fs → covered ++ frame_bytes f ≡ stream_of encoding (fs ++ f ∷ [])
-stream_more encoding fs f covered e = ap (λ (x : List ℕ). x ++ frame_bytes f) e ∙ flat_map_more frame_bytes (header_bytes encoding) fs f
+pub stream_more : (encoding : Encoding) (fs : List Frame) (f : Frame) (prefix : List ℕ) → prefix ≡ stream_of encoding fs → prefix ++ frame_bytes f ≡ stream_of encoding (fs ++ f ∷ [])
+stream_more encoding fs f prefix e = ap (λ (x : List ℕ). x ++ frame_bytes f) e ∙ flat_map_more frame_bytes (header_bytes encoding) fs f
 
 -- one more frame ends below 2^64
-room_for : (start : ℕ) (encoding : Encoding) (fs : List Frame) (f : Frame) (covered : List ℕ) → covered ≡ stream_of encoding fs → start + length (stream_of encoding (fs ++ f ∷ [])) < 2 ^ 64
-    → (start + length covered) + length (frame_bytes f) < 2 ^ 64
-room_for start encoding fs f covered e r =
-    let l : length covered + length (frame_bytes f) ≡ length (stream_of encoding (fs ++ f ∷ [])) = sym (length-append covered (frame_bytes f)) ∙ ap (λ (x : List ℕ). length x) (stream_more encoding fs f covered e) in
+room_for : (start : ℕ) (encoding : Encoding) (fs : List Frame) (f : Frame) (prefix : List ℕ) → prefix ≡ stream_of encoding fs → start + length (stream_of encoding (fs ++ f ∷ [])) < 2 ^ 64
+    → (start + length prefix) + length (frame_bytes f) < 2 ^ 64
+room_for start encoding fs f prefix e r =
+    let l : length prefix + length (frame_bytes f) ≡ length (stream_of encoding (fs ++ f ∷ [])) = sym (length-append prefix (frame_bytes f)) ∙ ap (λ (x : List ℕ). length x) (stream_more encoding fs f prefix e) in
     omega arith
 
 -- one more frame that fits and is no code section
@@ -59,25 +59,25 @@ whole_step start encoding fs f q r i a w =
     let ts : List Tile = q.tiles in
     let c : Closed start encoding fs ts = q.there in
     let v : verdict (grammar start ts) (frame_bytes f) ≡ tile (made (section (kind_of encoding f.id) f.id f.sized.content) (frame_bytes f)) =
-    closed_verdict start encoding fs ts c _ _ (section_step encoding (past ts) fs (start + length (front ts)) f (room_for start encoding fs f (front ts) c.covers r) c.knows i a w) in
+    closed_verdict start encoding fs ts c _ _ (section_step encoding (context_of ts) fs (start + length (bytes_of ts)) f (room_for start encoding fs f (bytes_of ts) c.covers r) c.knows i a w) in
     record {
       tiles = made (section (kind_of encoding f.id) f.id f.sized.content) (frame_bytes f) ∷ ts;
       there = record {
         begun = refl;
         faultless = (c.faultless, v);
-        covers = stream_more encoding fs f (front ts) c.covers;
+        covers = stream_more encoding fs f (bytes_of ts) c.covers;
         knows = knows_section encoding fs ts f (frame_bytes f) w c.knows;
         closed = refl;
       };
     }
 
 -- the bytes of a code section's head and bodies are the section's
-code_bytes : (f : Frame) (d : CodeDivision f.sized.content) → f.id ≡ 10 → (covered : List ℕ) → (covered ++ 10 ∷ (f.sized.field ++ d.field)) ++ flat_map sized_bytes d.bodies ≡ covered ++ frame_bytes f
-code_bytes f d z covered =
-    append_assoc covered (10 ∷ (f.sized.field ++ d.field)) (flat_map sized_bytes d.bodies)
-    ∙ (ap (λ (x : List ℕ). covered ++ 10 ∷ x) (append_assoc f.sized.field d.field (flat_map sized_bytes d.bodies))
-    ∙ (ap (λ (x : List ℕ). covered ++ 10 ∷ (f.sized.field ++ x)) (sym d.whole)
-    ∙ ap (λ (n : ℕ). covered ++ n ∷ (f.sized.field ++ f.sized.content)) (sym z)))
+code_bytes : (f : Frame) (d : CodeDivision f.sized.content) → f.id ≡ 10 → (prefix : List ℕ) → (prefix ++ 10 ∷ (f.sized.field ++ d.field)) ++ flat_map sized_bytes d.bodies ≡ prefix ++ frame_bytes f
+code_bytes f d z prefix =
+    append_assoc prefix (10 ∷ (f.sized.field ++ d.field)) (flat_map sized_bytes d.bodies)
+    ∙ (ap (λ (x : List ℕ). prefix ++ 10 ∷ x) (append_assoc f.sized.field d.field (flat_map sized_bytes d.bodies))
+    ∙ (ap (λ (x : List ℕ). prefix ++ 10 ∷ (f.sized.field ++ x)) (sym d.whole)
+    ∙ ap (λ (n : ℕ). prefix ++ n ∷ (f.sized.field ++ f.sized.content)) (sym z)))
 
 -- one more code section that fits
 module_step : (start : ℕ) (fs : List Frame) (f : Frame) → f.id ≡ 10 → CodeDivision f.sized.content → Reached start Module fs → start + length (stream_of Module (fs ++ f ∷ [])) < 2 ^ 64 → IsFrame Module f → FitsAfter Module fs f
@@ -89,7 +89,7 @@ module_step start fs f z d q r i a =
     let hb : List ℕ = 10 ∷ (f.sized.field ++ d.field) in
     let h : Tile = made (code_head (length d.bodies) (length d.field) n) hb in
     let v : verdict (grammar start ts) hb ≡ tile h =
-    closed_verdict start Module fs ts c hb h (code_step (past ts) fs (start + length (front ts)) f d z (room_for start Module fs f (front ts) c.covers r) c.knows i a) in
+    closed_verdict start Module fs ts c hb h (code_step (context_of ts) fs (start + length (bytes_of ts)) f d z (room_for start Module fs f (bytes_of ts) c.covers r) c.knows i a) in
     let l : length f.sized.content ≡ length d.field + length (flat_map sized_bytes d.bodies) = division_length f d in
     let t : Through start (h ∷ ts) d.bodies = bodies_walk start d.bodies (h ∷ ts) refl (c.faultless, v) d.each refl (omega arith) in
     record {
@@ -97,7 +97,7 @@ module_step start fs f z d q r i a =
       there = record {
         begun = t.begun;
         faultless = t.faultless;
-        covers = t.covers ∙ (code_bytes f d z (front ts) ∙ stream_more Module fs f (front ts) c.covers);
+        covers = t.covers ∙ (code_bytes f d z (bytes_of ts) ∙ stream_more Module fs f (bytes_of ts) c.covers);
         knows = t.knows Module (fs ++ f ∷ []) (knows_code fs ts f (length d.bodies) (length d.field) n hb z (division_count f d) c.knows);
         closed = t.closed;
       };
@@ -120,8 +120,8 @@ frame_step start encoding fs f q r i a =
     ]
 
 -- the first frames are no longer than all
-stream_front : (encoding : Encoding) (fs later : List Frame) → length (stream_of encoding fs) ≤ length (stream_of encoding (fs ++ later))
-stream_front encoding fs later =
+stream_prefix : (encoding : Encoding) (fs later : List Frame) → length (stream_of encoding fs) ≤ length (stream_of encoding (fs ++ later))
+stream_prefix encoding fs later =
     let e : flat_map frame_bytes (fs ++ later) ≡ flat_map frame_bytes fs ++ flat_map frame_bytes later = flat_map-append frame_bytes fs later in
     rw e (omega (arith, length-append (header_bytes encoding) (flat_map frame_bytes fs), length-append (header_bytes encoding) (flat_map frame_bytes fs ++ flat_map frame_bytes later), length-append (flat_map frame_bytes fs) (flat_map frame_bytes later)))
 
@@ -132,7 +132,7 @@ frames_walk : (start : ℕ) (encoding : Encoding) (all : List Frame) → start +
 frames_walk start encoding all r order [] earlier e a q = subst (Reached start encoding) (sym (append-nil earlier) ∙ e) q
 frames_walk start encoding all r order (f ∷ later) earlier e a q =
     let w : (earlier ++ f ∷ []) ++ later ≡ all = append_assoc earlier (f ∷ []) later ∙ e in
-    let l : length (stream_of encoding (earlier ++ f ∷ [])) ≤ length (stream_of encoding all) = subst (λ (x : List Frame). length (stream_of encoding (earlier ++ f ∷ [])) ≤ length (stream_of encoding x)) w (stream_front encoding (earlier ++ f ∷ []) later) in
+    let l : length (stream_of encoding (earlier ++ f ∷ [])) ≤ length (stream_of encoding all) = subst (λ (x : List Frame). length (stream_of encoding (earlier ++ f ∷ [])) ≤ length (stream_of encoding x)) w (stream_prefix encoding (earlier ++ f ∷ []) later) in
     frames_walk start encoding all r order later (earlier ++ f ∷ []) w (All-tail (IsFrame encoding) f later a)
     (frame_step start encoding earlier f q (omega arith) (All-head (IsFrame encoding) f later a) (order earlier later f (sym e)))
 
@@ -150,7 +150,7 @@ begins start encoding = record {
 }
 
 -- where a stream may end and nothing follows it ends
-end_verdict : (p : Past) (o : ℕ) → end_of p o ≡ ended o → verdict (section_grammar p o) [] ≡ final (ended o)
+end_verdict : (p : SectionContext) (o : ℕ) → end_of p o ≡ ended o → verdict (section_grammar p o) [] ≡ final (ended o)
 unfolding verdict section_grammar
 end_verdict p o e = ap final e
 
@@ -160,14 +160,14 @@ accepted_reads stream start r a =
     let q : Reached start a.encoding a.frames =
     frames_walk start a.encoding a.frames (subst (λ (x : List ℕ). start + length x < 2 ^ 64) a.whole r) a.order a.frames [] refl a.each (begins start a.encoding) in
     let c : Closed start a.encoding a.frames q.tiles = q.there in
-    let w : front q.tiles ≡ stream = c.covers ∙ sym a.whole in
-    let o : ℕ = start + length (front q.tiles) in
+    let w : bytes_of q.tiles ≡ stream = c.covers ∙ sym a.whole in
+    let o : ℕ = start + length (bytes_of q.tiles) in
     let v : verdict (grammar start q.tiles) [] ≡ final (ended o) =
-    subst (λ (g : Grammar). verdict g [] ≡ final (ended o)) (sym (grammar_closed start q.tiles c.begun c.closed)) (end_verdict (past q.tiles) o (end_to a.encoding a.frames (past q.tiles) c.knows o a.functions a.segments)) in (
+    subst (λ (g : Grammar). verdict g [] ≡ final (ended o)) (sym (grammar_closed start q.tiles c.begun c.closed)) (end_verdict (context_of q.tiles) o (end_to a.encoding a.frames (context_of q.tiles) c.knows o a.functions a.segments)) in (
       q.tiles,
       record {
         rest = [];
-        whole = sym w ∙ sym (append-nil (front q.tiles));
+        whole = sym w ∙ sym (append-nil (bytes_of q.tiles));
         faultless = c.faultless;
         stops = v ∙ ap (λ (x : List ℕ). final (ended (start + length x))) w;
       },

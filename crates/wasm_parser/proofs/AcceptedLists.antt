@@ -29,9 +29,9 @@ module _ {X : Type 0} where
   any_to p P h xs a = list_any-from_Any p xs (a.0, a.1, a.2, a.3, h a.1 a.4)
 
   -- what holds of each holds of each of the first
-  pub all_front : (P : X → Type 0) (xs ys : List X) → All P (xs ++ ys) → All P xs
-  all_front P [] ys a = All-nil P
-  all_front P (x ∷ xs) ys a = All-cons P x xs (All-head P x (xs ++ ys) a) (all_front P xs ys (All-tail P x (xs ++ ys) a))
+  pub all_prefix : (P : X → Type 0) (xs ys : List X) → All P (xs ++ ys) → All P xs
+  all_prefix P [] ys a = All-nil P
+  all_prefix P (x ∷ xs) ys a = All-cons P x xs (All-head P x (xs ++ ys) a) (all_prefix P xs ys (All-tail P x (xs ++ ys) a))
 
   -- a test that no element passes says something of each
   pub none_of : (p : X → Bool) (P : X → Type 0) → ((x : X) → p x ≡ false → P x) → (xs : List X) → list_any p xs ≡ false → All P xs

@@ -6,11 +6,11 @@ use Rattle.wasm_base.specs.FaultAt.{FaultAt, at_offset}
 use Rattle.wasm_base.specs.declared.fault.Fault.TheVariants.{FunctionWithoutCode, DataCountWithoutData}
 use Rattle.wasm_parser.specs.declared.payload.Encoding.{Encoding}
 use Rattle.wasm_parser.specs.Content.{fault, ended}
-use Rattle.wasm_parser.specs.Grammar.{Past, end_of}
+use Rattle.wasm_parser.specs.Grammar.{SectionContext, end_of}
 use Rattle.wasm_parser.specs.Accepted.{Frame, frame_count, IsSection, IsMatched}
-use Rattle.wasm_parser.proofs.TextbookLists.{any_of, none_of}
-use Rattle.wasm_parser.proofs.TextbookCounts.{is_section, counts_of, Knows, section_yes, yes_section, any_counts, offends}
-use Rattle.wasm_parser.proofs.TextbookFits.{some_to, some_from}
+use Rattle.wasm_parser.proofs.AcceptedLists.{any_of, none_of}
+use Rattle.wasm_parser.proofs.AcceptedCounts.{is_section, counts_of, Knows, section_yes, yes_section, any_counts, offends}
+use Rattle.wasm_parser.proofs.AcceptedFits.{some_to, some_from}
 
 -- whether a section has a count above 0, and there is no other section
 abbrev pub misses : Encoding → ℕ → ℕ → List Frame → Bool
@@ -66,17 +66,17 @@ ends_from true b e f o p h = cc
 ends_from false true e f o p h = cc
 ends_from false false e f o p h = (refl, refl)
 
--- how a stream ends, told of its frames
-misses_same : (encoding : Encoding) (fs : List Frame) (p : Past) → Knows encoding fs p → (o : ℕ)
+-- how a stream ends, reported of its frames
+misses_same : (encoding : Encoding) (fs : List Frame) (p : SectionContext) → Knows encoding fs p → (o : ℕ)
     → end_of p o ≡ cond (misses encoding 3 10 fs) (fault (at_offset FunctionWithoutCode o)) (cond (misses encoding 12 11 fs) (fault (at_offset DataCountWithoutData o)) (ended o))
 misses_same encoding fs p k o = rw (k.functions, k.codes, k.datas, k.data_counts) refl
 
--- behind frames that are matched a stream may end
-pub end_to : (encoding : Encoding) (fs : List Frame) (p : Past) → Knows encoding fs p → (o : ℕ) → IsMatched encoding 3 10 fs → IsMatched encoding 12 11 fs → end_of p o ≡ ended o
+-- after frames that are matched a stream may end
+pub end_to : (encoding : Encoding) (fs : List Frame) (p : SectionContext) → Knows encoding fs p → (o : ℕ) → IsMatched encoding 3 10 fs → IsMatched encoding 12 11 fs → end_of p o ≡ ended o
 end_to encoding fs p k o a b = misses_same encoding fs p k o ∙ ends_to _ _ _ _ o (matched_to encoding 3 10 fs a) (matched_to encoding 12 11 fs b)
 
--- frames behind which a stream may end are matched
-pub end_from : (encoding : Encoding) (fs : List Frame) (p : Past) → Knows encoding fs p → (o e : ℕ) → end_of p o ≡ ended e → IsMatched encoding 3 10 fs × IsMatched encoding 12 11 fs
+-- frames after which a stream may end are matched
+pub end_from : (encoding : Encoding) (fs : List Frame) (p : SectionContext) → Knows encoding fs p → (o e : ℕ) → end_of p o ≡ ended e → IsMatched encoding 3 10 fs × IsMatched encoding 12 11 fs
 end_from encoding fs p k o e h =
     let q : ((misses encoding 3 10 fs ≡ false) × (misses encoding 12 11 fs ≡ false)) = ends_from _ _ _ _ o e (sym (misses_same encoding fs p k o) ∙ h) in
     (matched_from encoding 3 10 fs q.0, matched_from encoding 12 11 fs q.1)

@@ -1,4 +1,4 @@
--- A section may follow other tiles exactly if it fits behind their frames.
+-- A section may follow other tiles exactly if it fits after their frames.
 use Rattle.std.proofs.Common.{◌≡◌, ℕ, zero, suc, ◌<◌, ◌⊎◌, inl, inr, ◌==◌, Bool, true, false, cond, not, ◌&&◌, List, length, refl, sym, ap, subst, ◌∙◌, arith, Some, None, nat_lt, nat_eq, eqb-true, eq-eqb, ltb-true, lt-ltb}
 use Rattle.std.proofs.lemmas.Bool.{not-false}
 use Rattle.std.specs.List.{All, Any, list_all, list_any}
@@ -7,11 +7,11 @@ use Rattle.wasm_base.specs.declared.fault.Fault.TheVariants.{FunctionCodeDiffer,
 use Rattle.wasm_parser.specs.declared.payload.Encoding.{Encoding}
 use Rattle.wasm_parser.specs.declared.payload.Encoding.TheVariants.{Module, Component}
 use Rattle.wasm_parser.specs.Content.{Kind, custom, items, index, data_count, code, unknown, kind_of, when}
-use Rattle.wasm_parser.specs.Grammar.{Past, wrong_count, wrong_data}
+use Rattle.wasm_parser.specs.Grammar.{SectionContext, wrong_count, wrong_data}
 use Rattle.wasm_parser.specs.Accepted.{Frame, frame_count, frame_rank, IsSection}
-use Rattle.wasm_parser.proofs.StandsLaws.{Follows, follows_all}
-use Rattle.wasm_parser.proofs.TextbookLists.{all_of, all_to, any_of, any_to}
-use Rattle.wasm_parser.proofs.TextbookCounts.{is_section, counts_of, Knows, section_yes, yes_section, no_counts, HasCount, same_to, same_of}
+use Rattle.wasm_parser.proofs.StateLaws.{Follows, follows_all}
+use Rattle.wasm_parser.proofs.AcceptedLists.{all_of, all_to, any_of, any_to}
+use Rattle.wasm_parser.proofs.AcceptedCounts.{is_section, counts_of, Knows, section_yes, yes_section, no_counts, HasCount, same_to, same_of}
 
 -- a rank that is asked for only above 0
 follows_to : (r : ℕ) (b : Bool) → (0 < r → b ≡ true) → (nat_lt 0 r && not b) ≡ false
@@ -19,12 +19,12 @@ follows_to zero b h = refl
 follows_to (suc r) b h = let e : b ≡ true = h (omega arith) in rw (e, lt-ltb 0 (suc r) (omega arith))
 
 -- a section that ranks above the frames may follow
-pub rank_to : (encoding : Encoding) (fs : List Frame) (p : Past) → Knows encoding fs p → (r : ℕ) → (0 < r → All (λ g. frame_rank encoding g < r) fs) → Follows p r
+pub rank_to : (encoding : Encoding) (fs : List Frame) (p : SectionContext) → Knows encoding fs p → (r : ℕ) → (0 < r → All (λ g. frame_rank encoding g < r) fs) → Follows p r
 rank_to encoding fs p k r h = follows_to r (p.may_follow r)
     (λ l. k.ranks r l ∙ all_to (λ (g : Frame). nat_lt (frame_rank encoding g) r) (λ g. frame_rank encoding g < r) (λ g. lt-ltb (frame_rank encoding g) r) fs (h l))
 
 -- a section that may follow ranks above the frames
-pub rank_from : (encoding : Encoding) (fs : List Frame) (p : Past) → Knows encoding fs p → (r : ℕ) → Follows p r → 0 < r → All (λ g. frame_rank encoding g < r) fs
+pub rank_from : (encoding : Encoding) (fs : List Frame) (p : SectionContext) → Knows encoding fs p → (r : ℕ) → Follows p r → 0 < r → All (λ g. frame_rank encoding g < r) fs
 rank_from encoding fs p k r f l =
     all_of (λ (g : Frame). nat_lt (frame_rank encoding g) r) (λ g. frame_rank encoding g < r) (λ g. ltb-true (frame_rank encoding g) r) fs
     (sym (k.ranks r l) ∙ follows_all r (p.may_follow r) f l)
@@ -54,7 +54,7 @@ right_count all none c e f a (inl b) = rw (a, b) (when_right (nat_lt 0 c))
 right_count all none c e f a (inr b) = rw (a, b) refl
 
 -- a code section that fits has the right count
-pub code_to : (encoding : Encoding) (fs : List Frame) (p : Past) → Knows encoding fs p → (o c : ℕ) → CodeFits encoding fs c → wrong_count p o c ≡ None
+pub code_to : (encoding : Encoding) (fs : List Frame) (p : SectionContext) → Knows encoding fs p → (o c : ℕ) → CodeFits encoding fs c → wrong_count p o c ≡ None
 code_to encoding fs p k o c h =
     right_count (list_all (nat_eq c) p.functions) (nat_eq (length p.functions) 0) c (at_offset FunctionCodeDiffer o) (at_offset CodeWithoutFunction o)
     (ap (list_all (nat_eq c)) k.functions ∙ same_to encoding 3 c fs h.bodies)
@@ -68,7 +68,7 @@ count_right true true zero e f h = (refl, inr refl)
 count_right true true (suc c) e f h = let z : nat_lt 0 (suc c) ≡ true = lt-ltb 0 (suc c) (omega arith) in let w : Some f ≡ None = rw z at h in cc
 
 -- a code section with the right count fits
-pub code_from : (encoding : Encoding) (fs : List Frame) (p : Past) → Knows encoding fs p → (o c : ℕ) → wrong_count p o c ≡ None → CodeFits encoding fs c
+pub code_from : (encoding : Encoding) (fs : List Frame) (p : SectionContext) → Knows encoding fs p → (o c : ℕ) → wrong_count p o c ≡ None → CodeFits encoding fs c
 code_from encoding fs p k o c h =
     let r : ((list_all (nat_eq c) p.functions ≡ true) × ((nat_eq (length p.functions) 0 ≡ false) ⊎ (c ≡ 0))) =
     count_right (list_all (nat_eq c) p.functions) (nat_eq (length p.functions) 0) c (at_offset FunctionCodeDiffer o) (at_offset CodeWithoutFunction o) h in
@@ -99,7 +99,7 @@ items_in Module id e = refl
 items_in Component id e = absurd (no_items id e)
 
 -- a section that fits has the right count of segments
-pub data_to : (encoding : Encoding) (fs : List Frame) (p : Past) → Knows encoding fs p → (f : Frame) (o : ℕ) → (IsSection encoding 11 f → HasCount encoding 12 (frame_count f) fs)
+pub data_to : (encoding : Encoding) (fs : List Frame) (p : SectionContext) → Knows encoding fs p → (f : Frame) (o : ℕ) → (IsSection encoding 11 f → HasCount encoding 12 (frame_count f) fs)
     → (kind : Kind) → kind_of encoding f.id ≡ kind → wrong_data p kind f.id o f.sized.content ≡ None
 data_to encoding fs p k f o h items e =
     data_right (f.id == 11) (list_all (nat_eq (frame_count f)) p.data_counts) (at_offset DataCountDiffer o)
@@ -111,7 +111,7 @@ data_to encoding fs p k f o h code e = refl
 data_to encoding fs p k f o h unknown e = refl
 
 -- a section with the right count of segments fits
-pub data_from : (encoding : Encoding) (fs : List Frame) (p : Past) → Knows encoding fs p → (f : Frame) (o : ℕ) → wrong_data p (kind_of encoding f.id) f.id o f.sized.content ≡ None
+pub data_from : (encoding : Encoding) (fs : List Frame) (p : SectionContext) → Knows encoding fs p → (f : Frame) (o : ℕ) → wrong_data p (kind_of encoding f.id) f.id o f.sized.content ≡ None
     → IsSection encoding 11 f → HasCount encoding 12 (frame_count f) fs
 data_from encoding fs p k f o h s =
     let z : kind_of encoding f.id ≡ items = ap (λ (x : Encoding). kind_of x f.id) s.0 ∙ ap (kind_of Module) s.1 in

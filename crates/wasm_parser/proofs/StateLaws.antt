@@ -10,13 +10,13 @@ use Rattle.wasm_base.specs.FaultAt.{FaultAt}
 use Rattle.wasm_base.specs.Name.{Name, named, refused, name_limit, name}
 use Rattle.wasm_base.specs.Number.{Number, read, bad, short, number as number_at}
 use Rattle.wasm_parser.specs.Content.{Kind, items, data_count, custom, index, code, unknown, rank_of, ranks, count_of, kind_of, Ending, when}
-use Rattle.wasm_parser.specs.Grammar.{Shape, header, section, code_head, body, Tile, Verdict, tile, final, behind, behind_number, Past, Grammar, takes, stops, refuse, number, bytes, section_start, verdict, header_grammar, section_grammar, body_grammar, content_grammar, header_of}
-use Rattle.wasm_parser.specs.Tiling.{front, grammar, past, inside, encoding_of, encoding_in, tile_rank, count_in, counts, bodies_left, bytes_left, bodies_after, bytes_after}
-use Rattle.wasm_parser.specs.Reading.{told_of, told_custom}
+use Rattle.wasm_parser.specs.Grammar.{Shape, header, section, code_head, body, Tile, Verdict, tile, final, after, after_number, SectionContext, Grammar, accept, reject, check, number, bytes, section_start, verdict, header_grammar, section_grammar, body_grammar, content_grammar, header_of}
+use Rattle.wasm_parser.specs.Tiling.{bytes_of, grammar, context_of, inside, encoding_of, encoding_in, tile_rank, count_in, counts, bodies_left, bytes_left, bodies_after, bytes_after}
+use Rattle.wasm_parser.specs.Reading.{tile_report, custom_report}
 use Rattle.wasm_parser.specs.StateAfter.{known_rank, state_after, state_after_tile}
-use Rattle.wasm_parser.specs.Stands.{Stand, greatest, is_start, Stands, past_of, grammar_of}
+use Rattle.wasm_parser.specs.ParserState.{ParserState, greatest, is_start, IsStateAfter, known_context, grammar_of}
 use Rattle.wasm_base.specs.declared.fault.NumberKind.TheVariants.{VarU32}
-use Rattle.wasm_parser.proofs.GrammarLaws.{behind-tile}
+use Rattle.wasm_parser.proofs.GrammarLaws.{after-tile}
 use Rattle.wasm_parser.proofs.KindIds.{IdOf, id_of_kind}
 use Rattle.wasm_parser.proofs.ReadingLaws.{Grown, grows}
 
@@ -31,8 +31,8 @@ pub may_same : (t : Tile) (ts : List Tile) (r : ℕ) → nat_lt (greatest (t ∷
 may_same t [] r = one_lt (tile_rank t.shape) r
 may_same t (u ∷ ts) r = max_lt (tile_rank t.shape) (greatest (u ∷ ts)) r ∙ ap (λ (b : Bool). nat_lt (tile_rank t.shape) r && b) (may_same u ts r)
 
-past_same : (p : Stand) (start : ℕ) (covered : List ℕ) (s : Stands p start covered) (t : Tile) (ts : List Tile) → s.tiles ≡ t ∷ ts → past_of p ≡ past (t ∷ ts)
-past_same p start covered s t ts z =
+context_same : (p : ParserState) (start : ℕ) (prefix : List ℕ) (s : IsStateAfter p start prefix) (t : Tile) (ts : List Tile) → s.tiles ≡ t ∷ ts → known_context p ≡ context_of (t ∷ ts)
+context_same p start prefix s t ts z =
     let f : (λ (r : ℕ). nat_lt p.rank r) ≡ (λ (r : ℕ). list_all (λ (u : Tile). nat_lt (tile_rank u.shape) r) (t ∷ ts)) =
     fun_ext (λ (r : ℕ). ap (λ (x : ℕ). nat_lt x r) (s.rank ∙ ap greatest z) ∙ may_same t ts r) in
     let e : p.encoding ≡ encoding_of (t ∷ ts) = s.encoding ∙ ap encoding_of z in
@@ -42,38 +42,38 @@ past_same p start covered s t ts z =
     let d : option_to_list p.data_counts ≡ counts 12 (t ∷ ts) = s.data_counts ∙ ap (counts 12) z in
     λ i. record { encoding = e i; may_follow = f i; functions = a i; codes = b i; datas = c i; data_counts = d i }
 
-grammar_at : (p : Stand) (start : ℕ) (covered : List ℕ) (s : Stands p start covered) (ts : List Tile) → s.tiles ≡ ts → grammar_of p ≡ grammar start ts
-grammar_at p start covered s [] z =
+grammar_at : (p : ParserState) (start : ℕ) (prefix : List ℕ) (s : IsStateAfter p start prefix) (ts : List Tile) → s.tiles ≡ ts → grammar_of p ≡ grammar start ts
+grammar_at p start prefix s [] z =
     let h : p.expects_header ≡ true = s.expects_header ∙ ap is_start z in
-    let c : covered ≡ [] = sym s.covers ∙ ap front z in
+    let c : prefix ≡ [] = sym s.covers ∙ ap bytes_of z in
     let o : p.offset ≡ start = s.offset ∙ (ap (λ (x : List ℕ). start + length x) c ∙ add-zero start) in
     rw h (ap header_grammar o)
-grammar_at p start covered s (t ∷ ts) z =
+grammar_at p start prefix s (t ∷ ts) z =
     let h : p.expects_header ≡ false = s.expects_header ∙ ap is_start z in
-    let o : p.offset ≡ start + length (front (t ∷ ts)) = s.offset ∙ ap (λ (x : List ℕ). start + length x) (sym s.covers ∙ ap front z) in
+    let o : p.offset ≡ start + length (bytes_of (t ∷ ts)) = s.offset ∙ ap (λ (x : List ℕ). start + length x) (sym s.covers ∙ ap bytes_of z) in
     let m : p.bodies ≡ bodies_left (t ∷ ts) = s.bodies ∙ ap bodies_left z in
     let l : p.left ≡ bytes_left (t ∷ ts) = s.left ∙ ap bytes_left z in
-    let q : past_of p ≡ past (t ∷ ts) = past_same p start covered s t ts z in
+    let q : known_context p ≡ context_of (t ∷ ts) = context_same p start prefix s t ts z in
     rw h (λ i. inside (q i) (m i) (l i) (o i))
 
--- what may stand behind a front is what the parser that stands there expects
-pub grammar_same : (p : Stand) (start : ℕ) (covered : List ℕ) (s : Stands p start covered) → grammar_of p ≡ grammar start s.tiles
-grammar_same p start covered s = grammar_at p start covered s s.tiles refl
+-- what may come after a first is what the parser that is there expects
+pub grammar_same : (p : ParserState) (start : ℕ) (prefix : List ℕ) (s : IsStateAfter p start prefix) → grammar_of p ≡ grammar start s.tiles
+grammar_same p start prefix s = grammar_at p start prefix s s.tiles refl
 
 -- what each tile of a grammar is known to be
 abbrev pub Each : (Shape → Type 0) → Grammar → Type 0
-Each P (takes s) = P s
-Each P (stops e) = Unit {0}
-Each P (refuse e next) = e ≡ None → Each P next
+Each P (accept s) = P s
+Each P (reject e) = Unit {0}
+Each P (check e next) = e ≡ None → Each P next
 Each P (number offset next) = (v k : ℕ) → Each P (next v k)
 Each P (bytes count offset next) = (b : List ℕ) → Each P (next b)
 Each P (section_start offset e next) = (id : ℕ) → Each P (next id)
 
-each_behind : (P : Shape → Type 0) (f : List ℕ) (v : Verdict) (t : Tile) → ((s : Tile) → v ≡ tile s → P s.shape) → behind f v ≡ tile t → P t.shape
-each_behind P f v t h e = let (s, r, q) = behind-tile f v t e in subst (λ (x : Tile). P x.shape) (sym q) (h s r)
+each_after : (P : Shape → Type 0) (f : List ℕ) (v : Verdict) (t : Tile) → ((s : Tile) → v ≡ tile s → P s.shape) → after f v ≡ tile t → P t.shape
+each_after P f v t h e = let (s, r, q) = after-tile f v t e in subst (λ (x : Tile). P x.shape) (sym q) (h s r)
 
-each_number : (P : Shape → Type 0) (o : ℕ) (xs : List ℕ) (n : Number) (next : ℕ → ℕ → Verdict) (t : Tile) → ((v k : ℕ) (s : Tile) → next v k ≡ tile s → P s.shape) → behind_number o xs n next ≡ tile t → P t.shape
-each_number P o xs (read v k) next t h e = each_behind P _ (next v k) t (h v k) e
+each_number : (P : Shape → Type 0) (o : ℕ) (xs : List ℕ) (n : Number) (next : ℕ → ℕ → Verdict) (t : Tile) → ((v k : ℕ) (s : Tile) → next v k ≡ tile s → P s.shape) → after_number o xs n next ≡ tile t → P t.shape
+each_number P o xs (read v k) next t h e = each_after P _ (next v k) t (h v k) e
 each_number P o xs (bad f p) next t h e = cc
 each_number P o xs short next t h e = cc
 
@@ -87,24 +87,24 @@ each_test' P false v e t h w = h w
 
 pub each_tile : (P : Shape → Type 0) (g : Grammar) → Each P g → (xs : List ℕ) (t : Tile) → verdict g xs ≡ tile t → P t.shape
 unfolding verdict
-each_tile P (takes s) h xs t e = let z : s ≡ t.shape = shape_is s t e in subst P z h
+each_tile P (accept s) h xs t e = let z : s ≡ t.shape = shape_is s t e in subst P z h
   where
     shape_is : (s : Shape) (t : Tile) → tile (record { shape = s; bytes = [] }) ≡ tile t → s ≡ t.shape
     shape_is s t e = let z : record { shape = s; bytes = [] } ≡ t = cc in ap (λ (x : Tile). x.shape) z
-each_tile P (stops e) h xs t w = cc
-each_tile P (refuse (Some e) next) h xs t w = cc
-each_tile P (refuse None next) h xs t w = each_tile P next (h refl) xs t w
+each_tile P (reject e) h xs t w = cc
+each_tile P (check (Some e) next) h xs t w = cc
+each_tile P (check None next) h xs t w = each_tile P next (h refl) xs t w
 each_tile P (number o next) h xs t w = each_number P o xs (number_at VarU32 xs) (λ v k. verdict (next v k) (drop k xs)) t (λ v k. each_tile P (next v k) (h v k) (drop k xs)) w
-each_tile P (bytes n o next) h xs t w = each_test P (nat_le n (length xs)) _ _ t (each_behind P (take n xs) (verdict (next (take n xs)) (drop n xs)) t (each_tile P (next (take n xs)) (h (take n xs)) (drop n xs))) w
+each_tile P (bytes n o next) h xs t w = each_test P (nat_le n (length xs)) _ _ t (each_after P (take n xs) (verdict (next (take n xs)) (drop n xs)) t (each_tile P (next (take n xs)) (h (take n xs)) (drop n xs))) w
 each_tile P (section_start o z next) h [] t w = cc
-each_tile P (section_start o z next) h (id ∷ xs) t w = each_test' P _ _ _ t (each_behind P (id ∷ []) (verdict (next id) xs) t (each_tile P (next id) (h id) xs)) w
+each_tile P (section_start o z next) h (id ∷ xs) t w = each_test' P _ _ _ t (each_after P (id ∷ []) (verdict (next id) xs) t (each_tile P (next id) (h id) xs)) w
 
 -- a section of this rank may follow
-abbrev pub Follows : Past → ℕ → Type 0
+abbrev pub Follows : SectionContext → ℕ → Type 0
 Follows p r = (nat_lt 0 r && not (p.may_follow r)) ≡ false
 
 -- the tile is a section that may follow, or its head
-abbrev pub Placed : Past → Shape → Type 0
+abbrev pub Placed : SectionContext → Shape → Type 0
 Placed p (section kind id content) = Follows p (rank_of kind id)
 Placed p (code_head count width size) = Follows p (rank_of code 10)
 Placed p (header version encoding) = ⊥
@@ -115,7 +115,7 @@ pub none_when : (b : Bool) (e : FaultAt) → when b e ≡ None → b ≡ false
 none_when true e h = cc
 none_when false e h = refl
 
-placed_content : (p : Past) (kind : Kind) (id o n : ℕ) → Follows p (rank_of kind id) → Each (Placed p) (content_grammar p kind id o n)
+placed_content : (p : SectionContext) (kind : Kind) (id o n : ℕ) → Follows p (rank_of kind id) → Each (Placed p) (content_grammar p kind id o n)
 placed_content p custom id o n f = λ b x y. f
 placed_content p items id o n f = λ b x y. f
 placed_content p index id o n f = λ b x y. f
@@ -123,7 +123,7 @@ placed_content p data_count id o n f = λ b x y. f
 placed_content p unknown id o n f = λ b x y. f
 placed_content p code id o n f = λ v k x y. f
 
-pub placed : (p : Past) (o : ℕ) (xs : List ℕ) (t : Tile) → verdict (section_grammar p o) xs ≡ tile t → Placed p t.shape
+pub placed : (p : SectionContext) (o : ℕ) (xs : List ℕ) (t : Tile) → verdict (section_grammar p o) xs ≡ tile t → Placed p t.shape
 unfolding section_grammar
 placed p o xs t e = each_tile (Placed p) (section_grammar p o)
     (λ id x n k y z. placed_content p (kind_of p.encoding id) id (o + 1 + k) n (none_when _ _ z)) xs t e
@@ -167,7 +167,7 @@ follows_all r false e h = let z : nat_lt 0 r ≡ true = lt-ltb 0 r h in absurd (
     true_false : (true && not false) ≡ false → ⊥
     true_false e = cc
 
-fresh_placed : (ts : List Tile) (s : Shape) → Placed (past ts) s → Fresh ts s
+fresh_placed : (ts : List Tile) (s : Shape) → Placed (context_of ts) s → Fresh ts s
 fresh_placed ts (section kind id content) f h = follows_all (rank_of kind id) _ f h
 fresh_placed ts (code_head count width size) f h = follows_all (rank_of code 10) _ f h
 fresh_placed ts (header version encoding) f h = absurd f
@@ -179,13 +179,13 @@ fresh_body ts (section kind id content) f h = absurd f
 fresh_body ts (code_head count width size) f h = absurd f
 fresh_body ts (header version encoding) f h = absurd f
 
-fresh_at : (b : Bool) (ts : List Tile) (m l o : ℕ) (d : List ℕ) (t : Tile) → verdict (cond b (section_grammar (past ts) o) (body_grammar m l o)) d ≡ tile t → Fresh ts t.shape
-fresh_at true ts m l o d t e = fresh_placed ts t.shape (placed (past ts) o d t e)
+fresh_at : (b : Bool) (ts : List Tile) (m l o : ℕ) (d : List ℕ) (t : Tile) → verdict (cond b (section_grammar (context_of ts) o) (body_grammar m l o)) d ≡ tile t → Fresh ts t.shape
+fresh_at true ts m l o d t e = fresh_placed ts t.shape (placed (context_of ts) o d t e)
 fresh_at false ts m l o d t e = fresh_body ts t.shape (bodied m l o d t e)
 
 pub fresh : (start : ℕ) (ts : List Tile) (d : List ℕ) (t : Tile) → verdict (grammar start ts) d ≡ tile t → Fresh ts t.shape
 fresh start [] d t e = λ h. refl
-fresh start (u ∷ ts) d t e = fresh_at (nat_eq (bodies_left (u ∷ ts) + bytes_left (u ∷ ts)) 0) (u ∷ ts) (bodies_left (u ∷ ts)) (bytes_left (u ∷ ts)) (start + length (front (u ∷ ts))) d t e
+fresh start (u ∷ ts) d t e = fresh_at (nat_eq (bodies_left (u ∷ ts) + bytes_left (u ∷ ts)) 0) (u ∷ ts) (bodies_left (u ∷ ts)) (bytes_left (u ∷ ts)) (start + length (bytes_of (u ∷ ts))) d t e
 
 below_self : (r s : ℕ) → nat_lt s r ≡ true → s ≡ r → ⊥
 below_self r s e z = let l : s < r = ltb-true s r e in omega arith
@@ -258,7 +258,7 @@ rank_grows zero old g e f = omega arith
 rank_grows (suc r) old g e f = let l : g < suc r = f (omega arith) in omega arith
 
 -- the state after one more tile, by what the tile is
-abbrev after_shape : Stand → Tile → Stand
+abbrev after_shape : ParserState → Tile → ParserState
 after_shape p t = record {
   offset = p.offset + length t.bytes;
   features = p.features;
@@ -287,7 +287,7 @@ HasItsId (header num encoding) = Unit {0}
 HasItsId (code_head count width size) = Unit {0}
 HasItsId (body content) = Unit {0}
 
-content_id : (p : Past) (kind : Kind) (id o n : ℕ) → IdOf p.encoding kind id → Each HasItsId (content_grammar p kind id o n)
+content_id : (p : SectionContext) (kind : Kind) (id o n : ℕ) → IdOf p.encoding kind id → Each HasItsId (content_grammar p kind id o n)
 content_id p index id o n h = λ b x y. h
 content_id p data_count id o n h = λ b x y. h
 content_id p items id o n h = λ b x y. tt
@@ -295,7 +295,7 @@ content_id p custom id o n h = λ b x y. tt
 content_id p unknown id o n h = λ b x y. tt
 content_id p code id o n h = λ v k x y. tt
 
-section_id : (p : Past) (o : ℕ) (xs : List ℕ) (t : Tile) → verdict (section_grammar p o) xs ≡ tile t → HasItsId t.shape
+section_id : (p : SectionContext) (o : ℕ) (xs : List ℕ) (t : Tile) → verdict (section_grammar p o) xs ≡ tile t → HasItsId t.shape
 unfolding section_grammar
 section_id p o xs t e = each_tile HasItsId (section_grammar p o) (λ id x n k y z. content_id p (kind_of p.encoding id) id (o + 1 + k) n (id_of_kind p.encoding id)) xs t e
 
@@ -311,25 +311,25 @@ body_id (section kind id content) h = absurd h
 body_id (code_head count width size) h = absurd h
 body_id (header num encoding) h = absurd h
 
-inside_id : (b : Bool) (p : Past) (m l o : ℕ) (xs : List ℕ) (t : Tile) → verdict (cond b (section_grammar p o) (body_grammar m l o)) xs ≡ tile t → HasItsId t.shape
+inside_id : (b : Bool) (p : SectionContext) (m l o : ℕ) (xs : List ℕ) (t : Tile) → verdict (cond b (section_grammar p o) (body_grammar m l o)) xs ≡ tile t → HasItsId t.shape
 inside_id true p m l o xs t e = section_id p o xs t e
 inside_id false p m l o xs t e = body_id t.shape (bodied m l o xs t e)
 
-tile_id : (h : Bool) (p : Stand) (xs : List ℕ) (t : Tile) → verdict (cond h (header_grammar p.offset) (inside (past_of p) p.bodies p.left p.offset)) xs ≡ tile t → HasItsId t.shape
+tile_id : (h : Bool) (p : ParserState) (xs : List ℕ) (t : Tile) → verdict (cond h (header_grammar p.offset) (inside (known_context p) p.bodies p.left p.offset)) xs ≡ tile t → HasItsId t.shape
 tile_id true p xs t e = header_id t.shape (headed p.offset xs t e)
-tile_id false p xs t e = inside_id (nat_eq (p.bodies + p.left) 0) (past_of p) p.bodies p.left p.offset xs t e
+tile_id false p xs t e = inside_id (nat_eq (p.bodies + p.left) 0) (known_context p) p.bodies p.left p.offset xs t e
 
--- ---- the state after a tile, by what is told of it
+-- ---- the state after a tile, by what is reported of it
 
 -- a tile of these bytes
 abbrev tile_of : Shape → List ℕ → Tile
 tile_of shape b = record { shape = shape; bytes = b }
 
-after_custom : (p : Stand) (from to : ℕ) (content : List ℕ) (n : Name) → state_after p to (told_custom p.features from to content n) ≡ record p { offset = to; expects_header = false; bodies = 0; left = 0 }
+after_custom : (p : ParserState) (from to : ℕ) (content : List ℕ) (n : Name) → state_after p to (custom_report p.features from to content n) ≡ record p { offset = to; expects_header = false; bodies = 0; left = 0 }
 after_custom p from to content (named text used) = refl
 after_custom p from to content (refused f place) = refl
 
-after_at : (p : Stand) (shape : Shape) (b : List ℕ) → HasItsId shape → state_after_tile p (tile_of shape b) ≡ after_shape p (tile_of shape b)
+after_at : (p : ParserState) (shape : Shape) (b : List ℕ) → HasItsId shape → state_after_tile p (tile_of shape b) ≡ after_shape p (tile_of shape b)
 after_at p (header num encoding) b h = refl
 after_at p (section items id content) b h = refl
 after_at p (section index id content) b h = ap (λ (i : ℕ). after_shape p (tile_of (section index i content) b)) (sym h)
@@ -343,34 +343,34 @@ after_at p (body content) b h =
     rw t refl
 
 -- the state after a tile that comes next
-state_same : (p : Stand) (d : List ℕ) (t : Tile) → verdict (grammar_of p) d ≡ tile t → state_after_tile p t ≡ after_shape p t
+state_same : (p : ParserState) (d : List ℕ) (t : Tile) → verdict (grammar_of p) d ≡ tile t → state_after_tile p t ≡ after_shape p t
 state_same p d t e = after_at p t.shape t.bytes (tile_id p.expects_header p d t e)
 
 -- a parser whose state is that after the tile that comes next knows what the tiles say, with that one
-pub stands_on : (p : Stand) (start : ℕ) (covered : List ℕ) (s : Stands p start covered) (d : List ℕ) (t : Tile) → verdict (grammar_of p) d ≡ tile t → Stands (state_after_tile p t) start (covered ++ t.bytes)
-stands_on p start covered s d t e =
-    let v : verdict (grammar start s.tiles) d ≡ tile t = subst (λ (g : Grammar). verdict g d ≡ tile t) (grammar_same p start covered s) e in
+pub state_goes_on : (p : ParserState) (start : ℕ) (prefix : List ℕ) (s : IsStateAfter p start prefix) (d : List ℕ) (t : Tile) → verdict (grammar_of p) d ≡ tile t → IsStateAfter (state_after_tile p t) start (prefix ++ t.bytes)
+state_goes_on p start prefix s d t e =
+    let v : verdict (grammar start s.tiles) d ≡ tile t = subst (λ (g : Grammar). verdict g d ≡ tile t) (grammar_same p start prefix s) e in
     let g : Grown start s.tiles d t = grows start s.tiles d t s.faultless v in
     let f : Fresh s.tiles t.shape = fresh start s.tiles d t v in
-    let o : p.offset ≡ start + length covered = s.offset in
+    let o : p.offset ≡ start + length prefix = s.offset in
     let q : state_after_tile p t ≡ after_shape p t = state_same p d t e in
     record {
       tiles = t ∷ s.tiles;
       faultless = g.faultless;
       covers = ap (λ (x : List ℕ). x ++ t.bytes) s.covers;
-      offset = omega (arith, length-append covered t.bytes);
+      offset = omega (arith, length-append prefix t.bytes);
       expects_header = refl;
-      encoding = ap (λ (x : Stand). x.encoding) q ∙ ap (encoding_in t.shape) s.encoding;
-      rank = ap (λ (x : Stand). x.rank) q ∙ rank_grows (tile_rank t.shape) p.rank (greatest s.tiles) s.rank (λ h. greatest_lt (tile_rank t.shape) s.tiles h (f h));
-      functions = ap (λ (x : Stand). option_to_list x.functions) q ∙ count_same 3 t.shape p.functions s.tiles (lit< tt) s.functions f;
-      codes = ap (λ (x : Stand). option_to_list x.codes) q ∙ count_same 10 t.shape p.codes s.tiles (lit< tt) s.codes f;
-      datas = ap (λ (x : Stand). option_to_list x.datas) q ∙ count_same 11 t.shape p.datas s.tiles (lit< tt) s.datas f;
-      data_counts = ap (λ (x : Stand). option_to_list x.data_counts) q ∙ count_same 12 t.shape p.data_counts s.tiles (lit< tt) s.data_counts f;
-      bodies = ap (λ (x : Stand). x.bodies) q ∙ ap (bodies_after t.shape) s.bodies;
-      left = ap (λ (x : Stand). x.left) q ∙ ap (bytes_after t t.shape) s.left;
+      encoding = ap (λ (x : ParserState). x.encoding) q ∙ ap (encoding_in t.shape) s.encoding;
+      rank = ap (λ (x : ParserState). x.rank) q ∙ rank_grows (tile_rank t.shape) p.rank (greatest s.tiles) s.rank (λ h. greatest_lt (tile_rank t.shape) s.tiles h (f h));
+      functions = ap (λ (x : ParserState). option_to_list x.functions) q ∙ count_same 3 t.shape p.functions s.tiles (lit< tt) s.functions f;
+      codes = ap (λ (x : ParserState). option_to_list x.codes) q ∙ count_same 10 t.shape p.codes s.tiles (lit< tt) s.codes f;
+      datas = ap (λ (x : ParserState). option_to_list x.datas) q ∙ count_same 11 t.shape p.datas s.tiles (lit< tt) s.datas f;
+      data_counts = ap (λ (x : ParserState). option_to_list x.data_counts) q ∙ count_same 12 t.shape p.data_counts s.tiles (lit< tt) s.data_counts f;
+      bodies = ap (λ (x : ParserState). x.bodies) q ∙ ap (bodies_after t.shape) s.bodies;
+      left = ap (λ (x : ParserState). x.left) q ∙ ap (bytes_after t t.shape) s.left;
     }
 
 -- its tiles are one more
-pub stands_on-tiles : (p : Stand) (start : ℕ) (covered : List ℕ) (s : Stands p start covered) (d : List ℕ) (t : Tile) (e : verdict (grammar_of p) d ≡ tile t) → (stands_on p start covered s d t e).tiles ≡ t ∷ s.tiles
-unfolding stands_on
-stands_on-tiles p start covered s d t e = refl
+pub state_goes_on-tiles : (p : ParserState) (start : ℕ) (prefix : List ℕ) (s : IsStateAfter p start prefix) (d : List ℕ) (t : Tile) (e : verdict (grammar_of p) d ≡ tile t) → (state_goes_on p start prefix s d t e).tiles ≡ t ∷ s.tiles
+unfolding state_goes_on
+state_goes_on-tiles p start prefix s d t e = refl

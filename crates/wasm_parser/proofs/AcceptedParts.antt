@@ -8,15 +8,15 @@ use Rattle.wasm_base.specs.declared.fault.NumberKind.TheVariants.{VarU32}
 use Rattle.wasm_base.specs.declared.fault.Fault.TheVariants.{MagicAtSection, UnexpectedEof}
 use Rattle.wasm_base.proofs.NumberLaws.{number-used, Used}
 use Rattle.wasm_parser.specs.Content.{Kind, custom, items, index, data_count, code, unknown, kind_of, rank_of, Ending, fault, when, wrong_content}
-use Rattle.wasm_parser.specs.Grammar.{Shape, section, code_head, body, Tile, tile, final, behind, Past, Grammar, takes, refuse, number, bytes, verdict, section_grammar, body_grammar, content_grammar, whole_grammar, code_grammar, sized, framed, wrong_count, wrong_data}
+use Rattle.wasm_parser.specs.Grammar.{Shape, section, code_head, body, Tile, tile, final, after, SectionContext, Grammar, accept, check, number, bytes, verdict, section_grammar, body_grammar, content_grammar, whole_grammar, code_grammar, after_length, after_id, wrong_count, wrong_data}
 use Rattle.wasm_parser.specs.Accepted.{IsNumber}
-use Rattle.wasm_parser.proofs.GrammarLaws.{behind-tile}
-use Rattle.wasm_parser.proofs.StandsLaws.{Follows, none_when}
+use Rattle.wasm_parser.proofs.GrammarLaws.{after-tile}
+use Rattle.wasm_parser.proofs.StateLaws.{Follows, none_when}
 use Rattle.wasm_parser.proofs.TileLaws.{Numbered, numbered}
-use Rattle.wasm_parser.proofs.TextbookTiles.{made, IsWhole}
+use Rattle.wasm_parser.proofs.AcceptedTiles.{made, IsWhole}
 
--- nothing is wrong in front of a tile
-pub refuse_parts : (e : Option FaultAt) (next : Grammar) (xs : List ℕ) (t : Tile) → verdict (refuse e next) xs ≡ tile t → (e ≡ None) × (verdict next xs ≡ tile t)
+-- nothing is wrong in prefix of a tile
+pub refuse_parts : (e : Option FaultAt) (next : Grammar) (xs : List ℕ) (t : Tile) → verdict (check e next) xs ≡ tile t → (e ≡ None) × (verdict next xs ≡ tile t)
 unfolding verdict
 refuse_parts (Some e) next xs t h = cc
 refuse_parts None next xs t h = (refl, h)
@@ -31,7 +31,7 @@ record NumberParts (next : ℕ → ℕ → Grammar) (t : Tile) : Type 0 where
   pub goes_on : verdict (next value (length field)) others ≡ tile rest
   pub is : t ≡ made rest.shape (field ++ rest.bytes)
 
--- what a tile behind a number consists of
+-- what a tile after a number consists of
 number_parts : (o : ℕ) (next : ℕ → ℕ → Grammar) (xs : List ℕ) (t : Tile) → verdict (number o next) xs ≡ tile t → NumberParts next t
 number_parts o next xs t h =
     let n : Numbered next xs t = numbered o next xs t h in
@@ -49,38 +49,38 @@ number_parts o next xs t h =
 
 -- a tile that begins with so many bytes
 pub record BytesParts (n : ℕ) (next : List ℕ → Grammar) (t : Tile) : Type 0 where
-  pub front : List ℕ
-  pub size : length front ≡ n
+  pub prefix : List ℕ
+  pub size : length prefix ≡ n
   pub others : List ℕ
   pub rest : Tile
-  pub goes_on : verdict (next front) others ≡ tile rest
-  pub is : t ≡ made rest.shape (front ++ rest.bytes)
+  pub goes_on : verdict (next prefix) others ≡ tile rest
+  pub is : t ≡ made rest.shape (prefix ++ rest.bytes)
 
--- what a tile behind so many bytes consists of, if they are there
+-- what a tile after so many bytes consists of, if they are there
 bytes_at : (b : Bool) (n : ℕ) (next : List ℕ → Grammar) (xs : List ℕ) (e : Ending) (t : Tile) → nat_le n (length xs) ≡ b
-    → cond b (behind (take n xs) (verdict (next (take n xs)) (drop n xs))) (final e) ≡ tile t → BytesParts n next t
+    → cond b (after (take n xs) (verdict (next (take n xs)) (drop n xs))) (final e) ≡ tile t → BytesParts n next t
 bytes_at true n next xs e t l h =
-    let (s, r, q) = behind-tile (take n xs) (verdict (next (take n xs)) (drop n xs)) t h in
-    record { front = take n xs; size = length-take-le n xs (leb-true _ _ l); others = drop n xs; rest = s; goes_on = r; is = q }
+    let (s, r, q) = after-tile (take n xs) (verdict (next (take n xs)) (drop n xs)) t h in
+    record { prefix = take n xs; size = length-take-le n xs (leb-true _ _ l); others = drop n xs; rest = s; goes_on = r; is = q }
 bytes_at false n next xs e t l h = cc
 
--- what a tile behind so many bytes consists of
+-- what a tile after so many bytes consists of
 pub bytes_parts : (n o : ℕ) (next : List ℕ → Grammar) (xs : List ℕ) (t : Tile) → verdict (bytes n o next) xs ≡ tile t → BytesParts n next t
 unfolding verdict
 bytes_parts n o next xs t h = bytes_at (nat_le n (length xs)) n next xs _ t refl h
 
 -- a tile that is whole has no more bytes
-pub takes_parts : (s : Shape) (xs : List ℕ) (t : Tile) → verdict (takes s) xs ≡ tile t → t ≡ made s []
+pub takes_parts : (s : Shape) (xs : List ℕ) (t : Tile) → verdict (accept s) xs ≡ tile t → t ≡ made s []
 unfolding verdict
 takes_parts s xs t h = cc
 
--- a tile behind bytes with which it ends
-pub ends_there : (t u : Tile) (s : Shape) (front : List ℕ) → t ≡ made u.shape (front ++ u.bytes) → u ≡ made s [] → t ≡ made s front
-ends_there t u s front e f =
-    e ∙ (ap (λ (x : Tile). made x.shape (front ++ x.bytes)) f ∙ ap (made s) (append-nil front))
+-- a tile after bytes with which it ends
+pub ends_there : (t u : Tile) (s : Shape) (prefix : List ℕ) → t ≡ made u.shape (prefix ++ u.bytes) → u ≡ made s [] → t ≡ made s prefix
+ends_there t u s prefix e f =
+    e ∙ (ap (λ (x : Tile). made x.shape (prefix ++ x.bytes)) f ∙ ap (made s) (append-nil prefix))
 
 -- a section whose head is right, and what follows it
-pub record SectionParts (p : Past) (o : ℕ) (t : Tile) : Type 0 where
+pub record SectionParts (p : SectionContext) (o : ℕ) (t : Tile) : Type 0 where
   pub id : ℕ
   pub below : id < 128
   pub field : List ℕ
@@ -92,11 +92,11 @@ pub record SectionParts (p : Past) (o : ℕ) (t : Tile) : Type 0 where
   pub goes_on : verdict (content_grammar p (kind_of p.encoding id) id (o + 1 + length field) size) others ≡ tile rest
   pub is : t ≡ made rest.shape (id ∷ (field ++ rest.bytes))
 
--- what a section's tile consists of behind its id
-framed_parts : (p : Past) (o id : ℕ) (xs : List ℕ) (s t : Tile) → verdict (framed p o id) xs ≡ tile s → t ≡ made s.shape (id ∷ s.bytes) → SectionParts p o t
+-- what a section's tile consists of after its id
+framed_parts : (p : SectionContext) (o id : ℕ) (xs : List ℕ) (s t : Tile) → verdict (after_id p o id) xs ≡ tile s → t ≡ made s.shape (id ∷ s.bytes) → SectionParts p o t
 framed_parts p o id xs s t h e =
     let a : ((when (nat_le 128 id) _ ≡ None) × (verdict _ xs ≡ tile s)) = refuse_parts _ _ xs s h in
-    let n : NumberParts (λ size width. sized p (kind_of p.encoding id) id (o + 1) (o + 1 + width) size) s = number_parts (o + 1) _ xs s a.1 in
+    let n : NumberParts (λ size width. after_length p (kind_of p.encoding id) id (o + 1) (o + 1 + width) size) s = number_parts (o + 1) _ xs s a.1 in
     let b : ((_ ≡ None) × (verdict _ n.others ≡ tile n.rest)) = refuse_parts _ _ n.others n.rest n.goes_on in
     let c : ((when (nat_lt 0 (rank_of (kind_of p.encoding id) id) && not (p.may_follow (rank_of (kind_of p.encoding id) id))) _ ≡ None) × (verdict (content_grammar p (kind_of p.encoding id) id (o + 1 + length n.field) n.value) n.others ≡ tile n.rest)) = refuse_parts _ _ n.others n.rest b.1 in
     record {
@@ -113,20 +113,20 @@ framed_parts p o id xs s t h e =
     }
 
 -- what a section's tile consists of, if it begins no header
-start_at : (b : Bool) (p : Past) (o id : ℕ) (xs : List ℕ) (x : FaultAt) (t : Tile) → cond b (final (fault x)) (behind (id ∷ []) (verdict (framed p o id) xs)) ≡ tile t → SectionParts p o t
+start_at : (b : Bool) (p : SectionContext) (o id : ℕ) (xs : List ℕ) (x : FaultAt) (t : Tile) → cond b (final (fault x)) (after (id ∷ []) (verdict (after_id p o id) xs)) ≡ tile t → SectionParts p o t
 start_at true p o id xs x t h = cc
 start_at false p o id xs x t h =
-    let (s, r, q) = behind-tile (id ∷ []) (verdict (framed p o id) xs) t h in
+    let (s, r, q) = after-tile (id ∷ []) (verdict (after_id p o id) xs) t h in
     framed_parts p o id xs s t r q
 
 -- what a section's tile consists of
-pub section_parts : (p : Past) (o : ℕ) (xs : List ℕ) (t : Tile) → verdict (section_grammar p o) xs ≡ tile t → SectionParts p o t
+pub section_parts : (p : SectionContext) (o : ℕ) (xs : List ℕ) (t : Tile) → verdict (section_grammar p o) xs ≡ tile t → SectionParts p o t
 unfolding verdict section_grammar
 section_parts p o [] t h = cc
 section_parts p o (id ∷ xs) t h = start_at (agree (id ∷ xs) magic && nat_le 4 (length (id ∷ xs))) p o id xs (at_offset MagicAtSection o) t h
 
 -- a section that is one tile: its content
-pub record WholeParts (p : Past) (kind : Kind) (id o size : ℕ) (t : Tile) : Type 0 where
+pub record WholeParts (p : SectionContext) (kind : Kind) (id o size : ℕ) (t : Tile) : Type 0 where
   pub content : List ℕ
   pub long : length content ≡ size
   pub right : wrong_content kind o content ≡ None
@@ -134,21 +134,21 @@ pub record WholeParts (p : Past) (kind : Kind) (id o size : ℕ) (t : Tile) : Ty
   pub is : t ≡ made (section kind id content) content
 
 -- the content of a section that is one tile
-whole_parts : (p : Past) (kind : Kind) (id o size : ℕ) (xs : List ℕ) (t : Tile) → verdict (whole_grammar p kind id o size) xs ≡ tile t → WholeParts p kind id o size t
+whole_parts : (p : SectionContext) (kind : Kind) (id o size : ℕ) (xs : List ℕ) (t : Tile) → verdict (whole_grammar p kind id o size) xs ≡ tile t → WholeParts p kind id o size t
 whole_parts p kind id o size xs t h =
-    let b : BytesParts size (λ content. refuse (wrong_content kind o content) (refuse (wrong_data p kind id (o + size) content) (takes (section kind id content)))) t = bytes_parts size o _ xs t h in
-    let c : ((wrong_content kind o b.front ≡ None) × (verdict _ b.others ≡ tile b.rest)) = refuse_parts _ _ b.others b.rest b.goes_on in
-    let d : ((wrong_data p kind id (o + size) b.front ≡ None) × (verdict (takes (section kind id b.front)) b.others ≡ tile b.rest)) = refuse_parts _ _ b.others b.rest c.1 in
+    let b : BytesParts size (λ content. check (wrong_content kind o content) (check (wrong_data p kind id (o + size) content) (accept (section kind id content)))) t = bytes_parts size o _ xs t h in
+    let c : ((wrong_content kind o b.prefix ≡ None) × (verdict _ b.others ≡ tile b.rest)) = refuse_parts _ _ b.others b.rest b.goes_on in
+    let d : ((wrong_data p kind id (o + size) b.prefix ≡ None) × (verdict (accept (section kind id b.prefix)) b.others ≡ tile b.rest)) = refuse_parts _ _ b.others b.rest c.1 in
     record {
-      content = b.front;
+      content = b.prefix;
       long = b.size;
       right = c.0;
       counted = d.0;
-      is = ends_there t b.rest (section kind id b.front) b.front b.is (takes_parts _ b.others b.rest d.1);
+      is = ends_there t b.rest (section kind id b.prefix) b.prefix b.is (takes_parts _ b.others b.rest d.1);
     }
 
 -- the same for each of its kinds
-pub content_parts : (p : Past) (kind : Kind) (id o size : ℕ) (xs : List ℕ) (t : Tile) → IsWhole kind → verdict (content_grammar p kind id o size) xs ≡ tile t → WholeParts p kind id o size t
+pub content_parts : (p : SectionContext) (kind : Kind) (id o size : ℕ) (xs : List ℕ) (t : Tile) → IsWhole kind → verdict (content_grammar p kind id o size) xs ≡ tile t → WholeParts p kind id o size t
 content_parts p custom id o size xs t w h = whole_parts p custom id o size xs t h
 content_parts p items id o size xs t w h = whole_parts p items id o size xs t h
 content_parts p index id o size xs t w h = whole_parts p index id o size xs t h
@@ -157,7 +157,7 @@ content_parts p unknown id o size xs t w h = whole_parts p unknown id o size xs 
 content_parts p code id o size xs t w h = absurd w
 
 -- a code section up to its count: that count
-pub record HeadParts (p : Past) (o size : ℕ) (t : Tile) : Type 0 where
+pub record HeadParts (p : SectionContext) (o size : ℕ) (t : Tile) : Type 0 where
   pub count : ℕ
   pub head : List ℕ
   pub whole : IsNumber head count
@@ -166,11 +166,11 @@ pub record HeadParts (p : Past) (o size : ℕ) (t : Tile) : Type 0 where
   pub is : t ≡ made (code_head count (length head) (size - length head)) head
 
 -- what the head of a code section consists of
-pub head_parts : (p : Past) (o size : ℕ) (xs : List ℕ) (t : Tile) → verdict (code_grammar p o size) xs ≡ tile t → HeadParts p o size t
+pub head_parts : (p : SectionContext) (o size : ℕ) (xs : List ℕ) (t : Tile) → verdict (code_grammar p o size) xs ≡ tile t → HeadParts p o size t
 head_parts p o size xs t h =
-    let n : NumberParts (λ count width. refuse (when (nat_lt size width) _) (refuse (wrong_count p o count) (takes (code_head count width (size - width))))) t = number_parts o _ xs t h in
+    let n : NumberParts (λ count width. check (when (nat_lt size width) _) (check (wrong_count p o count) (accept (code_head count width (size - width))))) t = number_parts o _ xs t h in
     let a : ((when (nat_lt size (length n.field)) _ ≡ None) × (verdict _ n.others ≡ tile n.rest)) = refuse_parts _ _ n.others n.rest n.goes_on in
-    let b : ((wrong_count p o n.value ≡ None) × (verdict (takes (code_head n.value (length n.field) (size - length n.field))) n.others ≡ tile n.rest)) = refuse_parts _ _ n.others n.rest a.1 in
+    let b : ((wrong_count p o n.value ≡ None) × (verdict (accept (code_head n.value (length n.field) (size - length n.field))) n.others ≡ tile n.rest)) = refuse_parts _ _ n.others n.rest a.1 in
     record {
       count = n.value;
       head = n.field;
@@ -195,15 +195,15 @@ pub body_parts : (m l o : ℕ) (xs : List ℕ) (t : Tile) → verdict (body_gram
 unfolding body_grammar verdict
 body_parts zero l o xs t h = cc
 body_parts (suc m) l o xs t h =
-    let n : NumberParts (λ size width. bytes size (o + width) (λ content. refuse (when (nat_lt l (width + size)) (at_offset UnexpectedEof o)) (takes (body content)))) t = number_parts o _ xs t h in
-    let b : BytesParts n.value (λ content. refuse (when (nat_lt l (length n.field + n.value)) (at_offset UnexpectedEof o)) (takes (body content))) n.rest = bytes_parts n.value (o + length n.field) _ n.others n.rest n.goes_on in
-    let a : ((when (nat_lt l (length n.field + n.value)) (at_offset UnexpectedEof o) ≡ None) × (verdict (takes (body b.front)) b.others ≡ tile b.rest)) = refuse_parts _ _ b.others b.rest b.goes_on in
-    let r : n.rest ≡ made (body b.front) b.front = ends_there n.rest b.rest (body b.front) b.front b.is (takes_parts _ b.others b.rest a.1) in
+    let n : NumberParts (λ size width. bytes size (o + width) (λ content. check (when (nat_lt l (width + size)) (at_offset UnexpectedEof o)) (accept (body content)))) t = number_parts o _ xs t h in
+    let b : BytesParts n.value (λ content. check (when (nat_lt l (length n.field + n.value)) (at_offset UnexpectedEof o)) (accept (body content))) n.rest = bytes_parts n.value (o + length n.field) _ n.others n.rest n.goes_on in
+    let a : ((when (nat_lt l (length n.field + n.value)) (at_offset UnexpectedEof o) ≡ None) × (verdict (accept (body b.prefix)) b.others ≡ tile b.rest)) = refuse_parts _ _ b.others b.rest b.goes_on in
+    let r : n.rest ≡ made (body b.prefix) b.prefix = ends_there n.rest b.rest (body b.prefix) b.prefix b.is (takes_parts _ b.others b.rest a.1) in
     record {
       others = m;
       missing = refl;
       field = n.field;
-      content = b.front;
+      content = b.prefix;
       whole = n.whole ∙ ap (λ (x : ℕ). read x (length n.field)) (sym b.size);
       fits = omega (arith, b.size, ltb-false l (length n.field + n.value) (none_when _ _ a.0));
       is = n.is ∙ ap (λ (x : Tile). made x.shape (n.field ++ x.bytes)) r;

@@ -4,7 +4,7 @@ use Rattle.std.specs.Prelude.{Some, None}
 use Rattle.std.proofs.lemmas.Bool.{eqb-true, eq-eqb}
 use Rattle.std.specs.Option.{option_eq}
 use Rattle.std.specs.contracts.prelude.BoolPartialEq.TheImpl as Truth
-use Rattle.wasm_base.specs.Comparing.{TellsSame}
+use Rattle.wasm_base.specs.Comparing.{DecidesSame}
 use mathlib.Core.Logic.{inl, inr}
 use denote.Struct.Field.{Field}
 use denote.Struct.Values.{Values}
@@ -13,21 +13,21 @@ use denote.Enum.Compared.{Each, by}
 use denote.Enum.Declared.{Choice, Declared, Record, values_one}
 
 -- a comparison that is true of a value and itself, and of no others
-pub record Tells {A : Type 0} (compare : A → A → Bool) : Type 0 where
+pub record Decides {A : Type 0} (compare : A → A → Bool) : Type 0 where
   pub same : (one other : A) → compare one other ≡ true → one ≡ other
   pub itself : (one : A) → compare one one ≡ true
 
-pub back : {A : Type 0} {compare : A → A → Bool} → Tells compare → {one other : A} → one ≡ other → compare one other ≡ true
+pub back : {A : Type 0} {compare : A → A → Bool} → Decides compare → {one other : A} → one ≡ other → compare one other ≡ true
 back {A = A} {compare = compare} t {one = one} is = subst (λ (x : A). compare one x ≡ true) is (t.itself one)
 
-pub told : {A : Type 0} {compare : A → A → Bool} → Tells compare → TellsSame compare
-told t one other = (t.same one other, back t)
+pub item_or_fault : {A : Type 0} {compare : A → A → Bool} → Decides compare → DecidesSame compare
+item_or_fault t one other = (t.same one other, back t)
 
 pub both_of : {s t : Bool} → (s && t) ≡ true → (s ≡ true) × (t ≡ true)
 both_of {s = true} {t = t} h = (refl, h)
 both_of {s = false} {t = t} h = cc
 
-pub number : Tells nat_eq
+pub number : Decides nat_eq
 number = record { same = eqb-true; itself = λ n. eq-eqb n n refl }
 
 truth_same : (one other : Bool) → (Truth.ghosts).eq one other ≡ true → one ≡ other
@@ -39,29 +39,29 @@ truth_itself : (one : Bool) → (Truth.ghosts).eq one one ≡ true
 truth_itself true = refl
 truth_itself false = refl
 
-pub truth : Tells (Truth.ghosts).eq
+pub truth : Decides (Truth.ghosts).eq
 truth = record { same = truth_same; itself = truth_itself }
 
-option_same : {A : Type 0} {compare : A → A → Bool} → Tells compare → (one other : Option A) → option_eq compare one other ≡ true → one ≡ other
+option_same : {A : Type 0} {compare : A → A → Bool} → Decides compare → (one other : Option A) → option_eq compare one other ≡ true → one ≡ other
 option_same t None None h = refl
 option_same t (Some one) (Some other) h = ap Some (t.same one other h)
 option_same t one other h = cc
 
-option_itself : {A : Type 0} {compare : A → A → Bool} → Tells compare → (one : Option A) → option_eq compare one one ≡ true
+option_itself : {A : Type 0} {compare : A → A → Bool} → Decides compare → (one : Option A) → option_eq compare one one ≡ true
 option_itself t None = refl
 option_itself t (Some one) = t.itself one
 
-pub option : {A : Type 0} {compare : A → A → Bool} → Tells compare → Tells (option_eq compare)
+pub option : {A : Type 0} {compare : A → A → Bool} → Decides compare → Decides (option_eq compare)
 option t = record { same = option_same t; itself = option_itself t }
 
 -- an enum whose variants have no fields
-pub bare : (D : Declared) → Bare D.parts → Tells (sameb D)
+pub bare : (D : Declared) → Bare D.parts → Decides (sameb D)
 bare D none = record { same = same_true D none; itself = λ one. true_same D one one refl }
 
 -- a comparison of the fields of a variant
 pub record Compared (Fs : List Field) : Type 1 where
   pub compare : Values Fs → Values Fs → Bool
-  pub tells : Tells compare
+  pub tells : Decides compare
 
 -- one for each variant that has fields
 abbrev pub ComparedEach : List (List Field) → Type 1
@@ -94,14 +94,14 @@ choices_itself ((F ∷ Fs) ∷ Fss) each (inl x) = each.0.tells.itself x
 choices_itself ((F ∷ Fs) ∷ Fss) each (inr x) = choices_itself Fss each.1 x
 
 -- the one field of a variant
-abbrev pub field : (F : Field) {compare : F.Value → F.Value → Bool} → Tells compare → Compared (F ∷ [])
+abbrev pub field : (F : Field) {compare : F.Value → F.Value → Bool} → Decides compare → Compared (F ∷ [])
 field F {compare = compare} t = record {
   compare = λ one other. compare one.0 other.0;
   tells = record { same = λ one other h i. (t.same one.0 other.0 h i, tt); itself = λ one. t.itself one.0 };
 }
 
 -- an enum of which some variants have fields
-pub variants : (N : Record) (each : ComparedEach N.parts) → Tells (λ one other. by false false N.parts (compares N.parts each) (N.as_values one) (N.as_values other))
+pub variants : (N : Record) (each : ComparedEach N.parts) → Decides (λ one other. by false false N.parts (compares N.parts each) (N.as_values one) (N.as_values other))
 variants N each = record {
   same = λ one other h. values_one N one other (choices_same N.parts each (N.as_values one) (N.as_values other) h);
   itself = λ one. choices_itself N.parts each (N.as_values one);

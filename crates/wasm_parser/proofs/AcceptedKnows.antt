@@ -8,15 +8,15 @@ use Rattle.wasm_parser.specs.declared.payload.Encoding.{Encoding}
 use Rattle.wasm_parser.specs.declared.payload.Encoding.TheVariants.{Module, Component}
 use Rattle.wasm_parser.specs.Content.{Kind, custom, items, index, data_count, code, unknown, kind_of, rank_of, count_of}
 use Rattle.wasm_parser.specs.Grammar.{header, section, code_head, body, Tile, Grammar, section_grammar, body_grammar}
-use Rattle.wasm_parser.specs.Tiling.{front, grammar, past, tile_rank, count_in, counts, bodies_left, bytes_left}
-use Rattle.wasm_parser.specs.Stands.{is_start}
+use Rattle.wasm_parser.specs.Tiling.{bytes_of, grammar, context_of, tile_rank, count_in, counts, bodies_left, bytes_left}
+use Rattle.wasm_parser.specs.ParserState.{is_start}
 use Rattle.wasm_parser.specs.Accepted.{Frame, frame_count, frame_rank}
-use Rattle.wasm_parser.proofs.TextbookCounts.{one_count, counts_of, counts_push, Knows}
-use Rattle.wasm_parser.proofs.TextbookTiles.{made, IsWhole, header_version}
+use Rattle.wasm_parser.proofs.AcceptedCounts.{one_count, counts_of, counts_push, Knows}
+use Rattle.wasm_parser.proofs.AcceptedTiles.{made, IsWhole, header_version}
 
--- what may stand behind tiles that are at the end of a section
+-- what may come after tiles that are at the end of a section
 pub grammar_closed : (start : ℕ) (ts : List Tile) → is_start ts ≡ false → nat_eq (bodies_left ts + bytes_left ts) 0 ≡ true
-    → grammar start ts ≡ section_grammar (past ts) (start + length (front ts))
+    → grammar start ts ≡ section_grammar (context_of ts) (start + length (bytes_of ts))
 grammar_closed start [] b e = cc
 grammar_closed start (t ∷ ts) b e = closed_at (nat_eq (bodies_left (t ∷ ts) + bytes_left (t ∷ ts)) 0) _ _ e
   where
@@ -24,9 +24,9 @@ grammar_closed start (t ∷ ts) b e = closed_at (nat_eq (bodies_left (t ∷ ts) 
     closed_at true g h e = refl
     closed_at false g h e = cc
 
--- what may stand behind tiles that are within a code section
+-- what may come after tiles that are within a code section
 pub grammar_open : (start : ℕ) (ts : List Tile) → is_start ts ≡ false → nat_eq (bodies_left ts + bytes_left ts) 0 ≡ false
-    → grammar start ts ≡ body_grammar (bodies_left ts) (bytes_left ts) (start + length (front ts))
+    → grammar start ts ≡ body_grammar (bodies_left ts) (bytes_left ts) (start + length (bytes_of ts))
 grammar_open start [] b e = cc
 grammar_open start (t ∷ ts) b e = open_at (nat_eq (bodies_left (t ∷ ts) + bytes_left (t ∷ ts)) 0) _ _ e
   where
@@ -34,8 +34,8 @@ grammar_open start (t ∷ ts) b e = open_at (nat_eq (bodies_left (t ∷ ts) + by
     open_at true g h e = cc
     open_at false g h e = refl
 
--- behind a header there is no frame yet
-pub knows_header : (encoding : Encoding) (bytes : List ℕ) → Knows encoding [] (past (made (header (header_version encoding) encoding) bytes ∷ []))
+-- after a header there is no frame yet
+pub knows_header : (encoding : Encoding) (bytes : List ℕ) → Knows encoding [] (context_of (made (header (header_version encoding) encoding) bytes ∷ []))
 knows_header encoding bytes = record {
   named = refl;
   ranks = λ r l. and_from (nat_lt 0 r) true (lt-ltb 0 r l) refl;
@@ -46,7 +46,7 @@ knows_header encoding bytes = record {
 }
 
 -- a body says nothing
-pub knows_body : (encoding : Encoding) (fs : List Frame) (ts : List Tile) (content bytes : List ℕ) → Knows encoding fs (past ts) → Knows encoding fs (past (made (body content) bytes ∷ ts))
+pub knows_body : (encoding : Encoding) (fs : List Frame) (ts : List Tile) (content bytes : List ℕ) → Knows encoding fs (context_of ts) → Knows encoding fs (context_of (made (body content) bytes ∷ ts))
 knows_body encoding fs ts content bytes k = record {
   named = k.named;
   ranks = λ r l. ap (λ (b : Bool). b && list_all (λ (t : Tile). nat_lt (tile_rank t.shape) r) ts) (lt-ltb 0 r l) ∙ k.ranks r l;
@@ -112,8 +112,8 @@ counts_more : (encoding : Encoding) (n : ℕ) (fs : List Frame) (f : Frame) (old
 counts_more encoding n fs f old new e h = h ∙ (ap (λ (x : List ℕ). one_count encoding n f ++ x) e ∙ sym (counts_push encoding n fs f))
 
 -- a section that is one tile says what its frame says
-pub knows_section : (encoding : Encoding) (fs : List Frame) (ts : List Tile) (f : Frame) (bytes : List ℕ) → IsWhole (kind_of encoding f.id) → Knows encoding fs (past ts)
-    → Knows encoding (fs ++ f ∷ []) (past (made (section (kind_of encoding f.id) f.id f.sized.content) bytes ∷ ts))
+pub knows_section : (encoding : Encoding) (fs : List Frame) (ts : List Tile) (f : Frame) (bytes : List ℕ) → IsWhole (kind_of encoding f.id) → Knows encoding fs (context_of ts)
+    → Knows encoding (fs ++ f ∷ []) (context_of (made (section (kind_of encoding f.id) f.id f.sized.content) bytes ∷ ts))
 knows_section encoding fs ts f bytes w k = record {
   named = k.named;
   ranks = λ r l.
@@ -130,8 +130,8 @@ code_count true d c count others e z = rw (e, z) refl
 code_count false d c count others e z = rw e refl
 
 -- the head of a code section says what its frame says
-pub knows_code : (fs : List Frame) (ts : List Tile) (f : Frame) (count width size : ℕ) (bytes : List ℕ) → f.id ≡ 10 → frame_count f ≡ count → Knows Module fs (past ts)
-    → Knows Module (fs ++ f ∷ []) (past (made (code_head count width size) bytes ∷ ts))
+pub knows_code : (fs : List Frame) (ts : List Tile) (f : Frame) (count width size : ℕ) (bytes : List ℕ) → f.id ≡ 10 → frame_count f ≡ count → Knows Module fs (context_of ts)
+    → Knows Module (fs ++ f ∷ []) (context_of (made (code_head count width size) bytes ∷ ts))
 knows_code fs ts f count width size bytes z c k = record {
   named = k.named;
   ranks = λ r l.

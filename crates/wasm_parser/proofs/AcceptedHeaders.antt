@@ -9,13 +9,13 @@ use Rattle.wasm_base.specs.declared.fault.Fault.TheVariants.{BadMagic}
 use Rattle.wasm_parser.specs.declared.payload.Encoding.{Encoding}
 use Rattle.wasm_parser.specs.declared.payload.Encoding.TheVariants.{Module, Component}
 use Rattle.wasm_parser.specs.Content.{when}
-use Rattle.wasm_parser.specs.Grammar.{header, Tile, tile, refuse, bytes, verdict, encoding_named, header_of, version_of, header_grammar}
+use Rattle.wasm_parser.specs.Grammar.{header, Tile, tile, check, bytes, verdict, encoding_named, header_of, version_of, header_grammar}
 use Rattle.wasm_parser.specs.Accepted.{header_bytes}
-use Rattle.wasm_parser.proofs.StandsLaws.{none_when}
-use Rattle.wasm_parser.proofs.TextbookTiles.{made, header_version}
-use Rattle.wasm_parser.proofs.TextbookParts.{BytesParts, bytes_parts, refuse_parts, takes_parts, ends_there}
+use Rattle.wasm_parser.proofs.StateLaws.{none_when}
+use Rattle.wasm_parser.proofs.AcceptedTiles.{made, header_version}
+use Rattle.wasm_parser.proofs.AcceptedParts.{BytesParts, bytes_parts, refuse_parts, takes_parts, ends_there}
 
--- the 32 bits behind the magic
+-- the 32 bits after the magic
 abbrev pub header_bits : Encoding → ℕ
 header_bits Module = 1
 header_bits Component = 65549
@@ -57,7 +57,7 @@ named_bits bits encoding e =
       | inr b ↦ component_bits bits encoding b.0 b.1
     ]
 
--- a header's tile behind its bits
+-- a header's tile after its bits
 of_header : (o bits : ℕ) (e : Option Encoding) (xs : List ℕ) (t : Tile) → encoding_named (bits % 65536) (bits / 65536) ≡ e → verdict (header_of o bits e) xs ≡ tile t
     → (encoding : Encoding) × (bits ≡ header_bits encoding) × (t ≡ made (header (header_version encoding) encoding) [])
 unfolding verdict
@@ -123,15 +123,15 @@ pub record HeaderParts (t : Tile) : Type 0 where
 pub header_parts : (o : ℕ) (xs : List ℕ) (t : Tile) → All (λ b. b < 256) t.bytes → verdict (header_grammar o) xs ≡ tile t → HeaderParts t
 unfolding header_grammar
 header_parts o xs t each h =
-    let m : BytesParts 4 (λ front. refuse (when (not (agree front magic)) (at_offset BadMagic o)) (bytes 4 (o + 4) (λ four. version_of o (of_four four)))) t = bytes_parts 4 o _ xs t h in
-    let a : ((when (not (agree m.front magic)) (at_offset BadMagic o) ≡ None) × (verdict (bytes 4 (o + 4) (λ four. version_of o (of_four four))) m.others ≡ tile m.rest)) = refuse_parts _ _ m.others m.rest m.goes_on in
-    let z : m.front ≡ magic = agree_whole m.front magic m.size (not-false _ (none_when _ _ a.0)) in
+    let m : BytesParts 4 (λ prefix. check (when (not (agree prefix magic)) (at_offset BadMagic o)) (bytes 4 (o + 4) (λ four. version_of o (of_four four)))) t = bytes_parts 4 o _ xs t h in
+    let a : ((when (not (agree m.prefix magic)) (at_offset BadMagic o) ≡ None) × (verdict (bytes 4 (o + 4) (λ four. version_of o (of_four four))) m.others ≡ tile m.rest)) = refuse_parts _ _ m.others m.rest m.goes_on in
+    let z : m.prefix ≡ magic = agree_whole m.prefix magic m.size (not-false _ (none_when _ _ a.0)) in
     let f : BytesParts 4 (λ four. version_of o (of_four four)) m.rest = bytes_parts 4 (o + 4) _ m.others m.rest a.1 in
-    let (encoding, b, r) = of_header o (of_four f.front) (encoding_named (of_four f.front % 65536) (of_four f.front / 65536)) f.others f.rest refl f.goes_on in
-    let u : m.rest ≡ made (header (header_version encoding) encoding) f.front = ends_there m.rest f.rest (header (header_version encoding) encoding) f.front f.is r in
-    let w : t ≡ made (header (header_version encoding) encoding) (magic ++ f.front) = m.is ∙ (ap (λ (x : Tile). made x.shape (m.front ++ x.bytes)) u ∙ ap (λ (x : List ℕ). made (header (header_version encoding) encoding) (x ++ f.front)) z) in
-    let e : All (λ b. b < 256) (magic ++ f.front) = subst (λ (x : Tile). All (λ b. b < 256) x.bytes) w each in
-    let l : f.front ≡ last_four encoding = four_bytes encoding f.front f.size e b in
+    let (encoding, b, r) = of_header o (of_four f.prefix) (encoding_named (of_four f.prefix % 65536) (of_four f.prefix / 65536)) f.others f.rest refl f.goes_on in
+    let u : m.rest ≡ made (header (header_version encoding) encoding) f.prefix = ends_there m.rest f.rest (header (header_version encoding) encoding) f.prefix f.is r in
+    let w : t ≡ made (header (header_version encoding) encoding) (magic ++ f.prefix) = m.is ∙ (ap (λ (x : Tile). made x.shape (m.prefix ++ x.bytes)) u ∙ ap (λ (x : List ℕ). made (header (header_version encoding) encoding) (x ++ f.prefix)) z) in
+    let e : All (λ b. b < 256) (magic ++ f.prefix) = subst (λ (x : Tile). All (λ b. b < 256) x.bytes) w each in
+    let l : f.prefix ≡ last_four encoding = four_bytes encoding f.prefix f.size e b in
     record {
       encoding = encoding;
       is = w ∙ ap (made (header (header_version encoding) encoding)) (ap (λ (x : List ℕ). magic ++ x) l ∙ header_whole encoding);

@@ -1,10 +1,10 @@
--- Where a parser stands in a stream.
+-- Where a parser is in a stream.
 use Rattle.std.specs.Prelude.{◌≡◌, ℕ, zero, suc, ◌+◌, max, Bool, true, false, List, [], ◌∷◌, length, option_to_list, Option, Some, None, nat_lt, nat_eq, if◌then◌else◌}
 use Rattle.wasm_parser.specs.declared.payload.Encoding.{Encoding}
 use Rattle.wasm_parser.specs.declared.payload.Encoding.TheVariants.{Module}
 use Rattle.wasm_parser.specs.Content.{items, data_count, custom, index, code, unknown, count_of}
-use Rattle.wasm_parser.specs.Grammar.{Shape, header, section, code_head, body, Tile, Past, Grammar, header_grammar}
-use Rattle.wasm_parser.specs.Tiling.{front, Faultless, inside, encoding_of, encoding_in, tile_rank, counts, bodies_left, bytes_left, bodies_after, bytes_after}
+use Rattle.wasm_parser.specs.Grammar.{Shape, header, section, code_head, body, Tile, SectionContext, Grammar, header_grammar}
+use Rattle.wasm_parser.specs.Tiling.{bytes_of, Faultless, inside, encoding_of, encoding_in, tile_rank, counts, bodies_left, bytes_left, bodies_after, bytes_after}
 
 -- the greatest rank of these tiles
 abbrev pub greatest : List Tile → ℕ
@@ -17,7 +17,7 @@ is_start [] = true
 is_start (t ∷ earlier) = false
 
 -- what a parser knows of the part of a stream that it has passed
-pub record Stand : Type 0 where
+pub record ParserState : Type 0 where
   pub offset : ℕ
   pub features : ℕ
   pub expects_header : Bool
@@ -34,15 +34,15 @@ pub record Stand : Type 0 where
   pub left : ℕ
 
 -- a parser that has passed nothing of a stream
-abbrev pub new_stand : (offset features : ℕ) → Stand
-new_stand offset features = record { offset = offset; features = features; expects_header = true; encoding = Module; rank = 0; functions = None; codes = None; datas = None; data_counts = None; bodies = 0; left = 0 }
+abbrev pub initial_state : (offset features : ℕ) → ParserState
+initial_state offset features = record { offset = offset; features = features; expects_header = true; encoding = Module; rank = 0; functions = None; codes = None; datas = None; data_counts = None; bodies = 0; left = 0 }
 
--- The parser stands behind this front of a stream that starts at this offset.
-pub record Stands (p : Stand) (start : ℕ) (covered : List ℕ) : Type 0 where
+-- The parser is after this first of a stream that starts at this offset.
+pub record IsStateAfter (p : ParserState) (start : ℕ) (prefix : List ℕ) : Type 0 where
   pub tiles : List Tile
   pub faultless : Faultless start tiles
-  pub covers : front tiles ≡ covered
-  pub offset : p.offset ≡ start + length covered
+  pub covers : bytes_of tiles ≡ prefix
+  pub offset : p.offset ≡ start + length prefix
   pub expects_header : p.expects_header ≡ is_start tiles
   pub encoding : p.encoding ≡ encoding_of tiles
   pub rank : p.rank ≡ greatest tiles
@@ -54,8 +54,8 @@ pub record Stands (p : Stand) (start : ℕ) (covered : List ℕ) : Type 0 where
   pub left : p.left ≡ bytes_left tiles
 
 -- what a parser knows of the tiles before
-abbrev pub past_of : Stand → Past
-past_of p = record {
+abbrev pub known_context : ParserState → SectionContext
+known_context p = record {
   encoding = p.encoding;
   may_follow = λ r. nat_lt p.rank r;
   functions = option_to_list p.functions;
@@ -64,6 +64,6 @@ past_of p = record {
   data_counts = option_to_list p.data_counts;
 }
 
--- what may stand where the parser stands
-abbrev pub grammar_of : Stand → Grammar
-grammar_of p = if p.expects_header then header_grammar p.offset else inside (past_of p) p.bodies p.left p.offset
+-- what may come where the parser is
+abbrev pub grammar_of : ParserState → Grammar
+grammar_of p = if p.expects_header then header_grammar p.offset else inside (known_context p) p.bodies p.left p.offset

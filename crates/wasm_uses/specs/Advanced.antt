@@ -1,9 +1,9 @@
--- A feeder behind a turn.
+-- A feeder after a turn.
 use Rattle.std.specs.Prelude.{◌≡◌, length}
 use Rattle.wasm_uses.specs.Feed.{Feed, HasMoved}
-use Rattle.wasm_uses.specs.declared.feeder.Turned.{Turned}
+use Rattle.wasm_uses.specs.declared.feeder.Advanced.{Advanced}
 
-pub record HasTurned (old : Feed) (result : Turned) (new : Feed) : Type 0 where
+pub record HasAdvanced (old : Feed) (result : Advanced) (new : Feed) : Type 0 where
   pub before : new.before ≡ old.stand
   pub from : result.from ≡ length old.spent
   pub here : result.feeder.now ≡ new

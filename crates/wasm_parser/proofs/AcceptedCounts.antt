@@ -1,4 +1,4 @@
--- What the tiles before a section say to it, told of the frames before it.
+-- What the tiles before a section say to it, reported of the frames before it.
 use Rattle.std.proofs.Common.{◌≡◌, ℕ, ◌<◌, Bool, true, false, cond, not, ◌&&◌, ◌||◌, List, [], ◌∷◌, ◌++◌, length, refl, sym, ap, ◌∙◌, nat_lt, nat_eq, eqb-true, eq-eqb, append-nil, append_assoc}
 use Rattle.std.specs.List.{All, list_all, list_any}
 use Rattle.std.proofs.Math.Bool.{and_comm, or_comm}
@@ -6,9 +6,9 @@ use Rattle.std.proofs.Math.Dec.{eqb-suc-zero}
 use Rattle.std.proofs.lemmas.List.Folds.{list_all-append, list_any-append}
 use Rattle.wasm_parser.specs.declared.payload.Encoding.{Encoding}
 use Rattle.wasm_parser.specs.declared.payload.Encoding.TheVariants.{Module, Component}
-use Rattle.wasm_parser.specs.Grammar.{Past}
+use Rattle.wasm_parser.specs.Grammar.{SectionContext}
 use Rattle.wasm_parser.specs.Accepted.{Frame, frame_count, frame_rank, IsSection}
-use Rattle.wasm_parser.proofs.TextbookLists.{all_of, all_to}
+use Rattle.wasm_parser.proofs.AcceptedLists.{all_of, all_to}
 
 -- whether a frame is a module's section with this id
 abbrev pub is_section : Encoding → ℕ → Frame → Bool
@@ -25,7 +25,7 @@ counts_of encoding n [] = []
 counts_of encoding n (f ∷ fs) = counts_of encoding n fs ++ one_count encoding n f
 
 -- these are the tiles' words for these frames
-pub record Knows (encoding : Encoding) (frames : List Frame) (p : Past) : Type 0 where
+pub record Knows (encoding : Encoding) (frames : List Frame) (p : SectionContext) : Type 0 where
   pub named : p.encoding ≡ encoding
   pub ranks : (r : ℕ) → 0 < r → p.may_follow r ≡ list_all (λ (f : Frame). nat_lt (frame_rank encoding f) r) frames
   pub functions : p.functions ≡ counts_of encoding 3 frames
@@ -43,15 +43,15 @@ pub yes_section : (encoding : Encoding) (n : ℕ) (f : Frame) → IsSection enco
 yes_section Module n f s = eq-eqb f.id n s.1
 yes_section Component n f s = let z : Component ≡ Module = s.0 in cc
 
--- one more frame behind others puts its count first
+-- one more frame after others puts its count first
 pub counts_push : (encoding : Encoding) (n : ℕ) (fs : List Frame) (f : Frame) → counts_of encoding n (fs ++ f ∷ []) ≡ one_count encoding n f ++ counts_of encoding n fs
 counts_push encoding n [] f = sym (append-nil (one_count encoding n f))
 counts_push encoding n (g ∷ fs) f =
     ap (λ (x : List ℕ). x ++ one_count encoding n g) (counts_push encoding n fs f) ∙ append_assoc (one_count encoding n f) (counts_of encoding n fs) (one_count encoding n g)
 
 -- a frame passes a test of its count, if it is such a section
-abbrev pub passes : Encoding → ℕ → (ℕ → Bool) → Frame → Bool
-passes encoding n p f = not (is_section encoding n f) || p (frame_count f)
+abbrev pub advances : Encoding → ℕ → (ℕ → Bool) → Frame → Bool
+advances encoding n p f = not (is_section encoding n f) || p (frame_count f)
 
 -- a frame is such a section, and its count passes a test
 abbrev pub offends : Encoding → ℕ → (ℕ → Bool) → Frame → Bool
@@ -68,13 +68,13 @@ one_any true p c = or_comm (p c) false
 one_any false p c = refl
 
 -- each count passes exactly if each frame does
-pub all_counts : (encoding : Encoding) (n : ℕ) (p : ℕ → Bool) (fs : List Frame) → list_all p (counts_of encoding n fs) ≡ list_all (passes encoding n p) fs
+pub all_counts : (encoding : Encoding) (n : ℕ) (p : ℕ → Bool) (fs : List Frame) → list_all p (counts_of encoding n fs) ≡ list_all (advances encoding n p) fs
 all_counts encoding n p [] = refl
 all_counts encoding n p (f ∷ fs) =
     list_all-append p (counts_of encoding n fs) (one_count encoding n f)
     ∙ (and_comm (list_all p (counts_of encoding n fs)) (list_all p (one_count encoding n f))
     ∙ (ap (λ (b : Bool). b && list_all p (counts_of encoding n fs)) (one_all (is_section encoding n f) p (frame_count f))
-    ∙ ap (λ (b : Bool). passes encoding n p f && b) (all_counts encoding n p fs)))
+    ∙ ap (λ (b : Bool). advances encoding n p f && b) (all_counts encoding n p fs)))
 
 -- a count passes exactly if a frame does
 pub any_counts : (encoding : Encoding) (n : ℕ) (p : ℕ → Bool) (fs : List Frame) → list_any p (counts_of encoding n fs) ≡ list_any (offends encoding n p) fs
@@ -113,11 +113,11 @@ HasCount encoding n c fs = All (λ g. IsSection encoding n g → frame_count g �
 -- the test of counts is right
 pub same_to : (encoding : Encoding) (n c : ℕ) (fs : List Frame) → HasCount encoding n c fs → list_all (nat_eq c) (counts_of encoding n fs) ≡ true
 same_to encoding n c fs a = all_counts encoding n (nat_eq c) fs
-    ∙ all_to (passes encoding n (nat_eq c)) (λ g. IsSection encoding n g → frame_count g ≡ c)
+    ∙ all_to (advances encoding n (nat_eq c)) (λ g. IsSection encoding n g → frame_count g ≡ c)
     (λ g h. passes_to (is_section encoding n g) (nat_eq c (frame_count g)) (λ e. eq-eqb c (frame_count g) (sym (h (section_yes encoding n g e))))) fs a
 
 -- what the test of counts says
 pub same_of : (encoding : Encoding) (n c : ℕ) (fs : List Frame) → list_all (nat_eq c) (counts_of encoding n fs) ≡ true → HasCount encoding n c fs
 same_of encoding n c fs e =
-    all_of (passes encoding n (nat_eq c)) (λ g. IsSection encoding n g → frame_count g ≡ c)
+    all_of (advances encoding n (nat_eq c)) (λ g. IsSection encoding n g → frame_count g ≡ c)
     (λ g h s. sym (eqb-true c (frame_count g) (passes_of (is_section encoding n g) (nat_eq c (frame_count g)) h (yes_section encoding n g s)))) fs (sym (all_counts encoding n (nat_eq c) fs) ∙ e)

@@ -8,8 +8,8 @@ use Rattle.wasm_base.specs.declared.fault.Fault.{Fault}
 use Rattle.wasm_base.specs.declared.fault.NumberKind.TheVariants.{VarU32}
 use Rattle.wasm_parser.specs.Content.{wrong_single, value_of}
 
--- From here to the window's end there is nothing but the number, or this is wrong with it; a byte behind it is the
+-- From here to the window's end there is nothing but the number, or this is wrong with it; a byte after it is the
 -- given fault.
-abbrev pub ReadsSingle : Fault → Place → Result ℕ Error → Type 0
-ReadsSingle left p (Ok value) = (wrong_single left p.offset p.rest (number VarU32 p.rest) ≡ None) × (value_of (number VarU32 p.rest) ≡ value)
-ReadsSingle left p (Err e) = wrong_single left p.offset p.rest (number VarU32 p.rest) ≡ Some (fault_at e)
+abbrev pub ReadsSingleNumber : Fault → Place → Result ℕ Error → Type 0
+ReadsSingleNumber left p (Ok value) = (wrong_single left p.offset p.rest (number VarU32 p.rest) ≡ None) × (value_of (number VarU32 p.rest) ≡ value)
+ReadsSingleNumber left p (Err e) = wrong_single left p.offset p.rest (number VarU32 p.rest) ≡ Some (fault_at e)

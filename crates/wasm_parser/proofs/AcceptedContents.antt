@@ -11,8 +11,8 @@ use Rattle.wasm_parser.specs.declared.payload.Encoding.{Encoding}
 use Rattle.wasm_parser.specs.declared.payload.Encoding.TheVariants.{Module, Component}
 use Rattle.wasm_parser.specs.Content.{Kind, custom, items, index, data_count, code, unknown, kind_of, wrong_name, wrong_number, wrong_single, wrong_content}
 use Rattle.wasm_parser.specs.Accepted.{IsNumber, IsGood}
-use Rattle.wasm_parser.proofs.StandsLaws.{none_when}
-use Rattle.wasm_parser.proofs.TextbookTiles.{IsWhole}
+use Rattle.wasm_parser.proofs.StateLaws.{none_when}
+use Rattle.wasm_parser.proofs.AcceptedTiles.{IsWhole}
 
 -- nothing is wrong with content that is one number
 single_to : (left : Fault) (o n : ℕ) (content : List ℕ) → IsNumber content n → wrong_single left o content (number VarU32 content) ≡ None

@@ -6,7 +6,7 @@ use wasm_base::Result;
 
 /// The payloads of a whole stream, in its order.
 ///
-/// Behind `End`, and behind a fault, nothing comes.
+/// After `End`, and after a fault, nothing comes.
 #[derive(Drop)]
 pub struct ParseAll<'a> {
     parser: Parser,
@@ -15,7 +15,7 @@ pub struct ParseAll<'a> {
 }
 
 impl<'a> Model for ParseAll<'a> {
-    ghost use Rattle.wasm_parser.specs.Turns.{Walk};
+    ghost use Rattle.wasm_parser.specs.ParseAll.{Walk};
 
     ghost Value = { Walk };
 
@@ -24,9 +24,9 @@ impl<'a> Model for ParseAll<'a> {
 
 impl<'a> ParseAll<'a> {
     ghost use Rattle.std.specs.Prelude.{◌≡◌};
-    ghost use Rattle.wasm_parser.specs.Turns.{walk_over};
+    ghost use Rattle.wasm_parser.specs.ParseAll.{walk_over};
 
-    // A walk over these bytes, from where the parser stands.
+    // A walk over these bytes, from where the parser is.
     pub(crate) fn over(parser: Parser, bytes: &'a [u8]) -> Self
         ensures { result ≡ walk_over parser bytes.now }
     {
@@ -40,7 +40,7 @@ impl<'a> ParseAll<'a> {
 
 impl<'a> Iterator for ParseAll<'a> {
     ghost use Rattle.std.specs.Iterator.{at_most};
-    ghost use Rattle.wasm_parser.specs.Turns.{NextPayload, most_payloads};
+    ghost use Rattle.wasm_parser.specs.ParseAll.{NextPayload, most_payloads};
 
     type Item = Result<Payload<'a>>;
 

@@ -13,9 +13,9 @@ use Rattle.wasm_base.proofs.NumberLaws.{number-more, number-used, Used}
 use Rattle.wasm_parser.specs.declared.payload.Encoding.{Encoding}
 use Rattle.wasm_parser.specs.declared.payload.Encoding.TheVariants.{Module, Component}
 use Rattle.wasm_parser.specs.Content.{Kind, custom, items, index, data_count, code, unknown, kind_of, rank_of, Ending, when, wrong_content}
-use Rattle.wasm_parser.specs.Grammar.{Shape, header, section, code_head, body, Tile, tile, Past, Grammar, takes, refuse, number, bytes, section_start, verdict, header_grammar, section_grammar, body_grammar, content_grammar, whole_grammar, code_grammar, framed, wrong_count, wrong_data}
+use Rattle.wasm_parser.specs.Grammar.{Shape, header, section, code_head, body, Tile, tile, SectionContext, Grammar, accept, check, number, bytes, section_start, verdict, header_grammar, section_grammar, body_grammar, content_grammar, whole_grammar, code_grammar, after_id, wrong_count, wrong_data}
 use Rattle.wasm_parser.specs.Accepted.{IsNumber, header_bytes}
-use Rattle.wasm_parser.proofs.StandsLaws.{Follows}
+use Rattle.wasm_parser.proofs.StateLaws.{Follows}
 use Rattle.wasm_parser.proofs.TileLaws.{one_byte}
 
 -- a tile of this shape with these bytes
@@ -39,23 +39,23 @@ number_tile o next field rest v s b e h =
     rw m (rw (t, d) (rw h refl))
 
 -- so many bytes, and then a tile
-bytes_tile : (n o : ℕ) (next : List ℕ → Grammar) (front rest : List ℕ) (s : Shape) (b : List ℕ) → length front ≡ n
-    → verdict (next front) rest ≡ tile (made s b) → verdict (bytes n o next) (front ++ rest) ≡ tile (made s (front ++ b))
+bytes_tile : (n o : ℕ) (next : List ℕ → Grammar) (prefix rest : List ℕ) (s : Shape) (b : List ℕ) → length prefix ≡ n
+    → verdict (next prefix) rest ≡ tile (made s b) → verdict (bytes n o next) (prefix ++ rest) ≡ tile (made s (prefix ++ b))
 unfolding verdict
-bytes_tile n o next front rest s b len h =
-    let l : nat_le n (length (front ++ rest)) ≡ true = le-leb _ _ (omega (arith, length-append front rest)) in
-    let t : take n (front ++ rest) ≡ front = take_at front rest n len in
-    let d : drop n (front ++ rest) ≡ rest = drop_at front rest n len in
+bytes_tile n o next prefix rest s b len h =
+    let l : nat_le n (length (prefix ++ rest)) ≡ true = le-leb _ _ (omega (arith, length-append prefix rest)) in
+    let t : take n (prefix ++ rest) ≡ prefix = take_at prefix rest n len in
+    let d : drop n (prefix ++ rest) ≡ rest = drop_at prefix rest n len in
     rw l (rw (t, d) (rw h refl))
 
 -- nothing is wrong, and then a tile
-refuse_tile : (e : Option FaultAt) (next : Grammar) (xs : List ℕ) (t : Tile) → e ≡ None → verdict next xs ≡ tile t → verdict (refuse e next) xs ≡ tile t
+refuse_tile : (e : Option FaultAt) (next : Grammar) (xs : List ℕ) (t : Tile) → e ≡ None → verdict next xs ≡ tile t → verdict (check e next) xs ≡ tile t
 unfolding verdict
 refuse_tile (Some e) next xs t z h = cc
 refuse_tile None next xs t z h = h
 
 -- a test that fails, and then a tile
-when_tile : (b : Bool) (e : FaultAt) (next : Grammar) (xs : List ℕ) (t : Tile) → b ≡ false → verdict next xs ≡ tile t → verdict (refuse (when b e) next) xs ≡ tile t
+when_tile : (b : Bool) (e : FaultAt) (next : Grammar) (xs : List ℕ) (t : Tile) → b ≡ false → verdict next xs ≡ tile t → verdict (check (when b e) next) xs ≡ tile t
 when_tile b e next xs t z h = refuse_tile (when b e) next xs t (ap (λ (x : Bool). when x e) z) h
 
 -- an id that begins no header, and then a tile
@@ -65,7 +65,7 @@ unfolding verdict
 start_tile o e next id xs s b m h = rw m (rw h refl)
 
 -- a tile that is whole has no more bytes
-takes_tile : (s : Shape) (xs : List ℕ) → verdict (takes s) xs ≡ tile (made s [])
+takes_tile : (s : Shape) (xs : List ℕ) → verdict (accept s) xs ≡ tile (made s [])
 unfolding verdict
 takes_tile s xs = refl
 
@@ -74,7 +74,7 @@ all_of_it : (g : Grammar) (s : Shape) (xs : List ℕ) → verdict g (xs ++ []) �
 all_of_it g s xs h = subst (λ (x : List ℕ). verdict g x ≡ tile (made s x)) (append-nil xs) h
 
 -- content with no fault is a tile
-whole_tile : (p : Past) (kind : Kind) (id o : ℕ) (content : List ℕ) → wrong_content kind o content ≡ None → wrong_data p kind id (o + length content) content ≡ None
+whole_tile : (p : SectionContext) (kind : Kind) (id o : ℕ) (content : List ℕ) → wrong_content kind o content ≡ None → wrong_data p kind id (o + length content) content ≡ None
     → verdict (whole_grammar p kind id o (length content)) content ≡ tile (made (section kind id content) content)
 whole_tile p kind id o content a b =
     all_of_it (whole_grammar p kind id o (length content)) (section kind id content) content
@@ -100,7 +100,7 @@ whole_or_code code = inr refl
 whole_or_code unknown = inl tt
 
 -- the same for each kind of section that is one tile
-content_tile : (p : Past) (kind : Kind) (id o : ℕ) (content : List ℕ) → IsWhole kind → wrong_content kind o content ≡ None → wrong_data p kind id (o + length content) content ≡ None
+content_tile : (p : SectionContext) (kind : Kind) (id o : ℕ) (content : List ℕ) → IsWhole kind → wrong_content kind o content ≡ None → wrong_data p kind id (o + length content) content ≡ None
     → verdict (content_grammar p kind id o (length content)) content ≡ tile (made (section kind id content) content)
 content_tile p custom id o content w a b = whole_tile p custom id o content a b
 content_tile p items id o content w a b = whole_tile p items id o content a b
@@ -109,21 +109,21 @@ content_tile p data_count id o content w a b = whole_tile p data_count id o cont
 content_tile p unknown id o content w a b = whole_tile p unknown id o content a b
 content_tile p code id o content w a b = absurd w
 
--- what stands in front of a section's content is right
-pub record Fronts (p : Past) (o id : ℕ) (field : List ℕ) (size : ℕ) : Type 0 where
+-- what is in prefix of a section's content is right
+pub record HeadIsRight (p : SectionContext) (o id : ℕ) (field : List ℕ) (size : ℕ) : Type 0 where
   pub below : id < 128
   pub number : IsNumber field size
   pub room : o + 1 + length field + size < 2 ^ 64
   pub follows : Follows p (rank_of (kind_of p.encoding id) id)
 
--- a right front, and then a tile
-framed_tile : (p : Past) (o id : ℕ) (field : List ℕ) (size : ℕ) (xs : List ℕ) (s : Shape) → Fronts p o id field size
+-- a right prefix, and then a tile
+framed_tile : (p : SectionContext) (o id : ℕ) (field : List ℕ) (size : ℕ) (xs : List ℕ) (s : Shape) → HeadIsRight p o id field size
     → (agree (id ∷ (field ++ xs)) magic && nat_le 4 (length (id ∷ (field ++ xs)))) ≡ false
     → verdict (content_grammar p (kind_of p.encoding id) id (o + 1 + length field) size) xs ≡ tile (made s xs)
     → verdict (section_grammar p o) (id ∷ (field ++ xs)) ≡ tile (made s (id ∷ (field ++ xs)))
 unfolding section_grammar
 framed_tile p o id field size xs s f m h =
-    start_tile o _ (framed p o) id (field ++ xs) s (field ++ xs) m
+    start_tile o _ (after_id p o) id (field ++ xs) s (field ++ xs) m
     (when_tile (nat_le 128 id) _ _ (field ++ xs) _ (small id f.below)
     (number_tile (o + 1) _ field xs size s xs f.number
     (when_tile (nat_lt (2 ^ 64 - 1) (o + 1 + length field + size)) _ _ xs _ (fits (o + 1 + length field + size) f.room)
@@ -183,7 +183,7 @@ no_magic id field content e n = false_from_ne_true _ (λ h.
     magic_field field content m.0 m.1 e r.1 m.2)
 
 -- a section that is one tile
-pub section_tile : (p : Past) (o id : ℕ) (field content : List ℕ) → Fronts p o id field (length content) → IsWhole (kind_of p.encoding id)
+pub section_tile : (p : SectionContext) (o id : ℕ) (field content : List ℕ) → HeadIsRight p o id field (length content) → IsWhole (kind_of p.encoding id)
     → (id ≡ 0 → (text : List ℕ) × (used : ℕ) × (name (Some name_limit) content ≡ named text used))
     → ((at : ℕ) → wrong_content (kind_of p.encoding id) at content ≡ None) → ((at : ℕ) → wrong_data p (kind_of p.encoding id) id at content ≡ None)
     → verdict (section_grammar p o) (id ∷ (field ++ content)) ≡ tile (made (section (kind_of p.encoding id) id content) (id ∷ (field ++ content)))
@@ -192,7 +192,7 @@ section_tile p o id field content f w n a b =
     (content_tile p (kind_of p.encoding id) id (o + 1 + length field) content w (a _) (b _))
 
 -- a right count is the head of a code section
-code_tile : (p : Past) (o size count : ℕ) (head : List ℕ) → IsNumber head count → length head ≤ size → wrong_count p o count ≡ None
+code_tile : (p : SectionContext) (o size count : ℕ) (head : List ℕ) → IsNumber head count → length head ≤ size → wrong_count p o count ≡ None
     → verdict (code_grammar p o size) head ≡ tile (made (code_head count (length head) (size - length head)) head)
 code_tile p o size count head e l w =
     all_of_it (code_grammar p o size) (code_head count (length head) (size - length head)) head
@@ -200,7 +200,7 @@ code_tile p o size count head e l w =
     (when_tile (nat_lt size (length head)) _ _ [] _ (le-ltb size (length head) l) (refuse_tile _ _ [] _ w (takes_tile _ []))))
 
 -- a code section up to its count
-pub code_head_tile : (p : Past) (o size count : ℕ) (field head : List ℕ) → Fronts p o 10 field size → kind_of p.encoding 10 ≡ code → IsNumber head count → length head ≤ size
+pub code_head_tile : (p : SectionContext) (o size count : ℕ) (field head : List ℕ) → HeadIsRight p o 10 field size → kind_of p.encoding 10 ≡ code → IsNumber head count → length head ≤ size
     → ((at : ℕ) → wrong_count p at count ≡ None)
     → verdict (section_grammar p o) (10 ∷ (field ++ head)) ≡ tile (made (code_head count (length head) (size - length head)) (10 ∷ (field ++ head)))
 code_head_tile p o size count field head f k e l w =

@@ -1,4 +1,4 @@
--- A good section that fits behind other tiles is one tile more, or the head of a code section and its bodies.
+-- A good section that fits after other tiles is one tile more, or the head of a code section and its bodies.
 use Rattle.std.proofs.Common.{◌≡◌, ℕ, suc, ◌+◌, ◌-◌, ◌^◌, ◌<◌, ◌≤◌, true, false, List, [], ◌∷◌, ◌++◌, length, Some, nat_eq, refl, sym, ap, subst, ◌∙◌, arith, length-append, append-nil, append_assoc, lit<}
 use Rattle.std.specs.List.{All, flat_map}
 use Rattle.std.proofs.lemmas.Bool.{ne_eqb}
@@ -7,21 +7,21 @@ use Rattle.wasm_base.specs.Name.{named, name_limit, name}
 use Rattle.wasm_parser.specs.declared.payload.Encoding.{Encoding}
 use Rattle.wasm_parser.specs.declared.payload.Encoding.TheVariants.{Module, Component}
 use Rattle.wasm_parser.specs.Content.{kind_of, rank_of, value_of, count_of}
-use Rattle.wasm_parser.specs.Grammar.{section, code_head, body, Tile, tile, Past, Grammar, verdict, section_grammar, body_grammar}
-use Rattle.wasm_parser.specs.Tiling.{front, grammar, Faultless, past, bodies_left, bytes_left}
-use Rattle.wasm_parser.specs.Stands.{is_start}
+use Rattle.wasm_parser.specs.Grammar.{section, code_head, body, Tile, tile, SectionContext, Grammar, verdict, section_grammar, body_grammar}
+use Rattle.wasm_parser.specs.Tiling.{bytes_of, grammar, Faultless, context_of, bodies_left, bytes_left}
+use Rattle.wasm_parser.specs.ParserState.{is_start}
 use Rattle.wasm_parser.specs.Accepted.{Sized, sized_bytes, IsSized, Frame, frame_bytes, frame_count, frame_rank, IsFrame, IsGood, FitsAfter, CodeDivision}
-use Rattle.wasm_parser.proofs.StandsLaws.{Follows}
-use Rattle.wasm_parser.proofs.TextbookCounts.{Knows}
-use Rattle.wasm_parser.proofs.TextbookFits.{rank_to, CodeFits, code_to, data_to}
-use Rattle.wasm_parser.proofs.TextbookContents.{good_to}
-use Rattle.wasm_parser.proofs.TextbookTiles.{made, IsWhole, Fronts, number_on, section_tile, code_head_tile, body_tile}
-use Rattle.wasm_parser.proofs.TextbookKnows.{grammar_open, knows_body}
+use Rattle.wasm_parser.proofs.StateLaws.{Follows}
+use Rattle.wasm_parser.proofs.AcceptedCounts.{Knows}
+use Rattle.wasm_parser.proofs.AcceptedFits.{rank_to, CodeFits, code_to, data_to}
+use Rattle.wasm_parser.proofs.AcceptedContents.{good_to}
+use Rattle.wasm_parser.proofs.AcceptedTiles.{made, IsWhole, HeadIsRight, number_on, section_tile, code_head_tile, body_tile}
+use Rattle.wasm_parser.proofs.AcceptedKnows.{grammar_open, knows_body}
 
--- what stands in front of a good section's content is right, if the section fits
-fronts_of : (p : Past) (fs : List Frame) (o : ℕ) (f : Frame) → Knows p.encoding fs p → IsFrame p.encoding f → FitsAfter p.encoding fs f → o + length (frame_bytes f) < 2 ^ 64
-    → Fronts p o f.id f.sized.field (length f.sized.content)
-fronts_of p fs o f k i a r = record {
+-- what is in prefix of a good section's content is right, if the section fits
+head_of_frame : (p : SectionContext) (fs : List Frame) (o : ℕ) (f : Frame) → Knows p.encoding fs p → IsFrame p.encoding f → FitsAfter p.encoding fs f → o + length (frame_bytes f) < 2 ^ 64
+    → HeadIsRight p o f.id f.sized.field (length f.sized.content)
+head_of_frame p fs o f k i a r = record {
   below = i.id;
   number = i.sized;
   room = omega (arith, length-append f.sized.field f.sized.content);
@@ -33,16 +33,16 @@ named_zero : (encoding : Encoding) (id : ℕ) (content : List ℕ) → IsGood (k
 named_zero Module id content g z = subst (λ (x : ℕ). IsGood (kind_of Module x) content) z g
 named_zero Component id content g z = subst (λ (x : ℕ). IsGood (kind_of Component x) content) z g
 
--- a good section that fits behind tiles of its own encoding is a tile
-section_at : (p : Past) (fs : List Frame) (o : ℕ) (f : Frame) → o + length (frame_bytes f) < 2 ^ 64 → Knows p.encoding fs p → IsFrame p.encoding f → FitsAfter p.encoding fs f
+-- a good section that fits after tiles of its own encoding is a tile
+section_at : (p : SectionContext) (fs : List Frame) (o : ℕ) (f : Frame) → o + length (frame_bytes f) < 2 ^ 64 → Knows p.encoding fs p → IsFrame p.encoding f → FitsAfter p.encoding fs f
     → IsWhole (kind_of p.encoding f.id) → verdict (section_grammar p o) (frame_bytes f) ≡ tile (made (section (kind_of p.encoding f.id) f.id f.sized.content) (frame_bytes f))
 section_at p fs o f r k i a w =
-    section_tile p o f.id f.sized.field f.sized.content (fronts_of p fs o f k i a r) w (named_zero p.encoding f.id f.sized.content i.content)
+    section_tile p o f.id f.sized.field f.sized.content (head_of_frame p fs o f k i a r) w (named_zero p.encoding f.id f.sized.content i.content)
     (λ at. good_to (kind_of p.encoding f.id) at f.sized.content w i.content)
     (λ at. data_to p.encoding fs p k f at a.segments (kind_of p.encoding f.id) refl)
 
 -- a good section that fits and is no code section is a tile
-pub section_step : (encoding : Encoding) (p : Past) (fs : List Frame) (o : ℕ) (f : Frame) → o + length (frame_bytes f) < 2 ^ 64 → Knows encoding fs p → IsFrame encoding f → FitsAfter encoding fs f
+pub section_step : (encoding : Encoding) (p : SectionContext) (fs : List Frame) (o : ℕ) (f : Frame) → o + length (frame_bytes f) < 2 ^ 64 → Knows encoding fs p → IsFrame encoding f → FitsAfter encoding fs f
     → IsWhole (kind_of encoding f.id) → verdict (section_grammar p o) (frame_bytes f) ≡ tile (made (section (kind_of encoding f.id) f.id f.sized.content) (frame_bytes f))
 section_step encoding p fs o f r k i a w =
     subst (λ (e : Encoding). Knows e fs p → IsFrame e f → FitsAfter e fs f → IsWhole (kind_of e f.id) → verdict (section_grammar p o) (frame_bytes f) ≡ tile (made (section (kind_of e f.id) f.id f.sized.content) (frame_bytes f)))
@@ -56,10 +56,10 @@ division_count f d = ap count_of d.whole ∙ ap value_of (number_on d.field (fla
 pub division_length : (f : Frame) (d : CodeDivision f.sized.content) → length f.sized.content ≡ length d.field + length (flat_map sized_bytes d.bodies)
 division_length f d = ap (λ (x : List ℕ). length x) d.whole ∙ length-append d.field (flat_map sized_bytes d.bodies)
 
--- what stands in front of a good code section's content is right, if the section fits
-code_fronts : (p : Past) (fs : List Frame) (o : ℕ) (f : Frame) → f.id ≡ 10 → Knows Module fs p → IsFrame Module f → FitsAfter Module fs f → o + length (frame_bytes f) < 2 ^ 64
-    → Fronts p o 10 f.sized.field (length f.sized.content)
-code_fronts p fs o f z k i a r =
+-- what is in prefix of a good code section's content is right, if the section fits
+head_of_code : (p : SectionContext) (fs : List Frame) (o : ℕ) (f : Frame) → f.id ≡ 10 → Knows Module fs p → IsFrame Module f → FitsAfter Module fs f → o + length (frame_bytes f) < 2 ^ 64
+    → HeadIsRight p o 10 f.sized.field (length f.sized.content)
+head_of_code p fs o f z k i a r =
     let q : Follows p (frame_rank Module f) = rank_to Module fs p k (frame_rank Module f) a.ranks in
     let s : Follows p (rank_of (kind_of Module 10) 10) = subst (λ (x : ℕ). Follows p (rank_of (kind_of Module x) x)) z q in
     record {
@@ -70,22 +70,22 @@ code_fronts p fs o f z k i a r =
     }
 
 -- a good code section that fits begins with the tile of its head
-pub code_step : (p : Past) (fs : List Frame) (o : ℕ) (f : Frame) (d : CodeDivision f.sized.content) → f.id ≡ 10 → o + length (frame_bytes f) < 2 ^ 64 → Knows Module fs p → IsFrame Module f → FitsAfter Module fs f
+pub code_step : (p : SectionContext) (fs : List Frame) (o : ℕ) (f : Frame) (d : CodeDivision f.sized.content) → f.id ≡ 10 → o + length (frame_bytes f) < 2 ^ 64 → Knows Module fs p → IsFrame Module f → FitsAfter Module fs f
     → verdict (section_grammar p o) (10 ∷ (f.sized.field ++ d.field)) ≡ tile (made (code_head (length d.bodies) (length d.field) (length f.sized.content - length d.field)) (10 ∷ (f.sized.field ++ d.field)))
 code_step p fs o f d z r k i a =
     let c : frame_count f ≡ length d.bodies = division_count f d in
     let g : CodeFits Module fs (frame_count f) = record { bodies = a.bodies (refl, z); functions = a.functions (refl, z) } in
-    code_head_tile p o (length f.sized.content) (length d.bodies) f.sized.field d.field (code_fronts p fs o f z k i a r) (ap (λ (e : Encoding). kind_of e 10) k.named) d.count
+    code_head_tile p o (length f.sized.content) (length d.bodies) f.sized.field d.field (head_of_code p fs o f z k i a r) (ap (λ (e : Encoding). kind_of e 10) k.named) d.count
     (omega (arith, division_length f d)) (λ at. code_to Module fs p k at (length d.bodies) (subst (CodeFits Module fs) c g))
 
--- tiles behind all bodies of a code section
+-- tiles after all bodies of a code section
 pub record Through (start : ℕ) (ts : List Tile) (bodies : List Sized) : Type 0 where
   pub tiles : List Tile
   pub begun : is_start tiles ≡ false
   pub faultless : Faultless start tiles
-  pub covers : front tiles ≡ front ts ++ flat_map sized_bytes bodies
+  pub covers : bytes_of tiles ≡ bytes_of ts ++ flat_map sized_bytes bodies
   pub closed : nat_eq (bodies_left tiles + bytes_left tiles) 0 ≡ true
-  pub knows : (encoding : Encoding) (fs : List Frame) → Knows encoding fs (past ts) → Knows encoding fs (past tiles)
+  pub knows : (encoding : Encoding) (fs : List Frame) → Knows encoding fs (context_of ts) → Knows encoding fs (context_of tiles)
 
 -- where a body is missing, a code section isn't at its end
 some_left : (a b n : ℕ) → a ≡ suc n → nat_eq (a + b) 0 ≡ false
@@ -96,8 +96,8 @@ body_at : (start : ℕ) (ts : List Tile) (s : Sized) (n : ℕ) → is_start ts �
     → verdict (grammar start ts) (sized_bytes s) ≡ tile (made (body s.content) (sized_bytes s))
 body_at start ts s n b i e l =
     subst (λ (g : Grammar). verdict g (sized_bytes s) ≡ tile (made (body s.content) (sized_bytes s))) (sym (grammar_open start ts b (some_left (bodies_left ts) (bytes_left ts) n e)))
-    (subst (λ (m : ℕ). verdict (body_grammar m (bytes_left ts) (start + length (front ts))) (sized_bytes s) ≡ tile (made (body s.content) (sized_bytes s))) (sym e)
-    (body_tile n (bytes_left ts) (start + length (front ts)) s.field s.content i (omega (arith, length-append s.field s.content))))
+    (subst (λ (m : ℕ). verdict (body_grammar m (bytes_left ts) (start + length (bytes_of ts))) (sized_bytes s) ≡ tile (made (body s.content) (sized_bytes s))) (sym e)
+    (body_tile n (bytes_left ts) (start + length (bytes_of ts)) s.field s.content i (omega (arith, length-append s.field s.content))))
 
 -- bodies that a code section misses are tiles
 pub bodies_walk : (start : ℕ) (bodies : List Sized) (ts : List Tile) → is_start ts ≡ false → Faultless start ts → All IsSized bodies
@@ -106,7 +106,7 @@ bodies_walk start [] ts b f a m l = record {
   tiles = ts;
   begun = b;
   faultless = f;
-  covers = sym (append-nil (front ts));
+  covers = sym (append-nil (bytes_of ts));
   closed = rw (m, l) refl;
   knows = λ encoding fs k. k;
 }
@@ -119,7 +119,7 @@ bodies_walk start (s ∷ bodies) ts b f a m l =
       tiles = t.tiles;
       begun = t.begun;
       faultless = t.faultless;
-      covers = t.covers ∙ append_assoc (front ts) (sized_bytes s) (flat_map sized_bytes bodies);
+      covers = t.covers ∙ append_assoc (bytes_of ts) (sized_bytes s) (flat_map sized_bytes bodies);
       closed = t.closed;
       knows = λ encoding fs k. t.knows encoding fs (knows_body encoding fs ts s.content (sized_bytes s) k);
     }
