@@ -1,7 +1,7 @@
 // Items as values.
 mod aliases;
-mod windows;
 mod values;
+mod windows;
 
 use crate::{ConstExpr, FunctionBody, HeapType, RefType, ValType};
 use std::test::Fail;

@@ -16,9 +16,9 @@ ghost use Rattle.wasm_parser.specs.GivesNextEvent.{GivesNextEvent};
 ghost use Rattle.wasm_parser.specs.ParseAll.{walk_over, WalksWhole};
 ghost use Rattle.wasm_parser.specs.declared.payload.Encoding.TheVariants.{Module, Component};
 
-use crate::parse_all::ParseAll;
 use crate::contents::{counted, custom, data_count, start, unknown, window};
 use crate::header::{magic_follows, read_header};
+use crate::parse_all::ParseAll;
 use crate::payload::{Chunk, Encoding, Payload};
 use crate::sections::{
     CODE_SECTION, DATA_COUNT_SECTION, DATA_SECTION, FUNCTION_SECTION, Kind, kind_of, rank_of,

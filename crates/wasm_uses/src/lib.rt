@@ -11,6 +11,6 @@ mod walks;
 
 pub use bodies::size_of_bodies;
 pub use careless::{AnyByte, Nothing};
-pub use feeder::{Feeder, Step, Advanced};
+pub use feeder::{Advanced, Feeder, Step};
 pub use streams::{end_of, start_of};
 pub use walks::{check, total};
