@@ -5,6 +5,7 @@ use crate::fault::Fault;
 use std::alloc::AllocFailed;
 use std::fmt;
 
+/// What a read answers: a value, or the error at which it ended.
 pub type Result<T, E = Error> = std::result::Result<T, E>;
 
 /// A fault, the offset in the whole stream at which it is, and the number that belongs to it.
@@ -67,6 +68,7 @@ impl Error {
         Error { hint: None, ..self }
     }
 
+    /// What is wrong.
     pub fn fault(&self) -> Fault
         ensures { result ≡ (fault_at self.now).fault }
     {
@@ -87,6 +89,7 @@ impl Error {
         self.offset
     }
 
+    /// The number that belongs to the fault, where it has one: a version, a length, or the byte that was read.
     pub fn number(&self) -> Option<u64>
         ensures { result ≡ (fault_at self.now).number }
     {

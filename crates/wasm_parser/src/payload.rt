@@ -37,8 +37,11 @@ pub enum Encoding {
 pub enum Payload<'a> {
     /// The header: its version, and what it announces.
     Version {
+        /// The 16-bit version: 1 of a module, 13 of a component.
         num: u16,
+        /// What the header announces.
         encoding: Encoding,
+        /// The offsets of the eight bytes, in the whole stream.
         range: Range<u64>,
     },
     /// The types of a module.
@@ -59,14 +62,18 @@ pub enum Payload<'a> {
     ExportSection(ExportSectionReader<'a>),
     /// The index of the function that starts a module; the range is that of the index.
     StartSection {
+        /// The index of the function.
         func: u32,
+        /// The offsets of the content, in the whole stream.
         range: Range<u64>,
     },
     /// The element segments of a module.
     ElementSection(ElementSectionReader<'a>),
     /// How many data segments are to come; the range is that of the count.
     DataCountSection {
+        /// How many data segments are announced.
         count: u32,
+        /// The offsets of the content, in the whole stream.
         range: Range<u64>,
     },
     /// The data segments of a module.
@@ -74,8 +81,11 @@ pub enum Payload<'a> {
     /// The start of a code section: how many bodies follow, the offsets of its content, of which not all needs to be
     /// there yet, and how many bytes of that content are after the count.
     CodeSectionStart {
+        /// How many bodies follow.
         count: u32,
+        /// The offsets of the content in the whole stream, the count among it. Not all of it needs to be there.
         unchecked_range: Range<u64>,
+        /// How many bytes of the content come after the count.
         size: u32,
     },
     /// One body of a code section.
@@ -84,8 +94,11 @@ pub enum Payload<'a> {
     CustomSection(CustomSectionReader<'a>),
     /// A section with an id that isn't known: its content, and the offsets of that.
     UnknownSection {
+        /// The section's id, from 1 to 127.
         id: u8,
+        /// The content's bytes.
         contents: &'a [u8],
+        /// The offsets of the content, in the whole stream.
         range: Range<u64>,
     },
     /// The end of the stream, at this offset.
@@ -99,7 +112,9 @@ pub enum Chunk<'a> {
     NeedMoreData(usize),
     /// So many bytes were consumed, and are this.
     Parsed {
+        /// How many bytes were consumed: some, but at the end of the stream.
         consumed: usize,
+        /// What they are.
         payload: Payload<'a>,
     },
 }

@@ -15,7 +15,9 @@ pub enum Step<'a> {
     NeedMoreData(usize),
     /// These bytes were consumed, and are this.
     Parsed {
+        /// The bytes that were consumed.
         bytes: &'a [u8],
+        /// What they are.
         payload: Payload<'a>,
     },
 }
