@@ -96,7 +96,7 @@ impl<'a, T> SectionLimited<'a, T> {
         self.count
     }
 
-    /// The offset after the count, in the whole stream.
+    /// The offset after the count, in the whole stream; of a section made from an iterator, where that was.
     pub fn original_position(&self) -> u64
         ensures offset { result ≡ (place self.now.reader).offset }
         ensures fits { result + length (place self.now.reader).rest < 2 ^ 64 }

@@ -113,8 +113,8 @@ impl Sink for BoundedSink {
     }
 }
 
-/// A sink over a writer. A writer that takes 0 bytes of a `buf` that has some fails. Its bytes are known where those of the writer are
-/// does not say.
+/// A sink over a writer. A writer that takes 0 bytes of a `buf` that has some fails. Its bytes are known where those of
+/// the writer are.
 #[derive(Drop)]
 pub struct WriteSink<W> {
     writer: W,

@@ -77,7 +77,7 @@ events_later start features (t ∷ later) ts =
 
 -- ---- the next event
 
--- what a first of a stream is, by a parser that is there
+-- what a prefix of a stream is, by a parser that is there
 record AtPrefix (p : ParserState) (start : ℕ) (prefix rest : List ℕ) : Type 0 where
   s : IsStateAfter p start prefix
   offset : p.offset ≡ start + length (bytes_of s.tiles)

@@ -56,7 +56,7 @@ grammar_at p start prefix s (t ∷ ts) z =
     let q : known_context p ≡ context_of (t ∷ ts) = context_same p start prefix s t ts z in
     rw h (λ i. inside (q i) (m i) (l i) (o i))
 
--- what may come after a first is what the parser that is there expects
+-- what may come after a prefix is what the parser that is there expects
 pub grammar_same : (p : ParserState) (start : ℕ) (prefix : List ℕ) (s : IsStateAfter p start prefix) → grammar_of p ≡ grammar start s.tiles
 grammar_same p start prefix s = grammar_at p start prefix s s.tiles refl
 

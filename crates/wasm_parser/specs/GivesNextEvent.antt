@@ -9,8 +9,8 @@ use Rattle.wasm_parser.specs.ParserState.{ParserState, IsStateAfter}
 use Rattle.wasm_parser.specs.declared.payload.Chunk.{Chunk}
 use Rattle.wasm_parser.specs.declared.payload.Chunk.TheVariants.{NeedMoreData, Parsed}
 
--- The event was reported after what is covered of a stream: by a payload that consumed its bytes, after which the parser
--- then is; or by a fault, which changed nothing.
+-- The event was reported after this prefix of a stream: by a payload that consumed its bytes, after which the parser then
+-- is; or by a fault, which changed nothing.
 abbrev pub GivesEvent : Event → ParserState → (start : ℕ) (prefix rest : List ℕ) → Result Chunk Error → ParserState → Type 0
 GivesEvent e old start prefix rest (Ok (NeedMoreData hint)) new = ⊥
 GivesEvent e old start prefix rest (Ok (Parsed consumed payload)) new = IsPayload e.report payload × (consumed ≡ length e.consumed) × (take consumed rest ≡ e.consumed) × IsStateAfter new start (prefix ++ e.consumed) × (new.features ≡ old.features)

@@ -109,7 +109,7 @@ Consumes rest (Ok (Parsed consumed payload)) = (consumed ≤ length rest) × (na
 Consumes rest (Ok (NeedMoreData hint)) = Unit {0}
 Consumes rest (Err e) = Unit {0}
 
--- The parser has passed the tile that this payload says of, and that ends at this offset.
+-- The parser has passed the tile that this payload reports, and that ends at this offset.
 abbrev pub Advances : ParserState → Payload → (to : ℕ) → ParserState → Type 0
 Advances old payload to new = (rest : List ℕ) (t : Tile) → verdict (grammar_of old) rest ≡ tile t → to ≡ old.offset + length t.bytes
     → IsPayload (tile_report old.features old.offset to t.shape) payload → new ≡ state_after_tile old t

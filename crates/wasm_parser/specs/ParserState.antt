@@ -37,7 +37,7 @@ pub record ParserState : Type 0 where
 abbrev pub initial_state : (offset features : ℕ) → ParserState
 initial_state offset features = record { offset = offset; features = features; expects_header = true; encoding = Module; rank = 0; functions = None; codes = None; datas = None; data_counts = None; bodies = 0; left = 0 }
 
--- The parser is after this first of a stream that starts at this offset.
+-- The parser is after this prefix of a stream that starts at this offset.
 pub record IsStateAfter (p : ParserState) (start : ℕ) (prefix : List ℕ) : Type 0 where
   pub tiles : List Tile
   pub faultless : Faultless start tiles

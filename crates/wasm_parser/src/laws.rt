@@ -1,4 +1,4 @@
-//! Laws of the definitions of framing, and what comparing and copying encodings says, each the contract of a function
+//! Laws of the definitions of framing, and what comparing and copying encodings say, each the contract of a function
 //! that does nothing.
 ghost use Rattle.wasm_base.specs.Comparing.{DecidesSame, CopiesSame, CopiesAlways};
 ghost use Rattle.wasm_parser.specs.Laws.{AcceptedEnds, EventsLieEndToEnd, FaultEnds, EventsSayTheirBytes, FaultLiesWithin, LongestTiling, OneReading, ParserSuffices, SomeNextEvent, SomeReading, StartOnlyMoves, TilesStandAlone};
@@ -51,7 +51,7 @@ pub fn start_only_moves()
     ensures { StartOnlyMoves }
 {}
 
-/// What a tile is depends on its own bytes alone: it is after the same tiles in every stream that has its bytes
+/// What a tile is depends on its own bytes alone: it comes after the same tiles in every stream that has its bytes
 /// there.
 pub fn tiles_stand_alone()
     ensures { TilesStandAlone }
@@ -73,7 +73,7 @@ pub fn edges_of_rules()
     ensures { EdgesOfRules }
 {}
 
-/// An accepted stream is its header and then the sections that its reading says, in their order, and nothing between
+/// An accepted stream is its header and then the sections that its reading reports, in their order, and nothing between
 /// them or after: of each its id, its length, and its content, which is the bytes of the range that is reported.
 pub fn sections_tile_an_accepted_stream()
     ensures { SectionsTile }

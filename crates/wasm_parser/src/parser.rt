@@ -214,7 +214,7 @@ impl Parser {
         rank > 0 && rank <= self.rank
     }
 
-    // What is where a section may start, and bytes are left.
+    // What comes where a section may start, and bytes are left.
     fn section<'a>(&self, reader: &mut BinaryReader<'a>) -> Result<Payload<'a>>
         requires { 0 < length (place reader.old).rest }
         ensures { ReadsByGrammar (section_grammar (known_context self.now) (place reader.old).offset) (place reader.old) result (place reader.new) }
@@ -282,7 +282,7 @@ impl Parser {
         }
     }
 
-    // What is where the parser is, if bytes are left there, or a header or a body is expected.
+    // What comes where the parser is, if bytes are left there, or a header or a body is expected.
     fn read<'a>(&self, reader: &mut BinaryReader<'a>) -> Result<Payload<'a>>
         requires starts { (place reader.old).offset ≡ self.now.offset }
         requires some { self.now.expects_header ≡ false → nat_eq (self.now.bodies + self.now.left) 0 ≡ true → 0 < length (place reader.old).rest }
@@ -336,7 +336,9 @@ impl Parser {
 
     /// Reads what comes next in the stream of which these bytes are all the rest.
     ///
-    /// The parser then is after it, `consumed` bytes further; a caller hands in the bytes after those:
+    /// `eof` says that no bytes come after these, so that missing bytes are a fault; so far it has to be true.
+    ///
+    /// The parser is then after it, `consumed` bytes further; a caller hands in the bytes after those:
     ///
     /// ```text
     /// loop {

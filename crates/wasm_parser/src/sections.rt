@@ -46,7 +46,7 @@ pub(crate) enum Kind {
 }
 
 // The form of a module's section with this id, and its place in the order of sections, counted from 1, or 0: it may
-// are anywhere.
+// come anywhere.
 fn form_and_place(id: u8) -> (Kind, u8)
     ensures form { kind_is result.0 ≡ form_of Module id }
     ensures place { result.1 ≡ slice_index ranks id }
