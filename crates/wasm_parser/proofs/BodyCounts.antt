@@ -63,7 +63,8 @@ body_in_custom : (features from to : ℕ) (content : List ℕ) (n : Name) (w : W
 body_in_custom features from to content (named text used) w e = cc
 body_in_custom features from to content (refused f place) w e = cc
 
-body_in_section : (features from to : ℕ) (kind : Kind) (id : ℕ) (content : List ℕ) (w : Window) → section_report features from to kind id content ≡ code_entry w → ⊥
+-- what is reported of a section is no body
+pub body_in_section : (features from to : ℕ) (kind : Kind) (id : ℕ) (content : List ℕ) (w : Window) → section_report features from to kind id content ≡ code_entry w → ⊥
 body_in_section features from to custom id content w e = body_in_custom features from to content (name (Some name_limit) content) w e
 body_in_section features from to items id content w e = cc
 body_in_section features from to index id content w e = cc

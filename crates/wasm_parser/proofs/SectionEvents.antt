@@ -14,6 +14,7 @@ use Rattle.wasm_parser.specs.SectionEvents.{bytes_of_bodies, SaysContent, IsSect
 use Rattle.wasm_parser.specs.Sections.{section_of}
 use Rattle.wasm_parser.specs.EventRanges.{AtOffsets}
 use Rattle.wasm_parser.specs.Tiling.{bytes_of, context_of, grammar, bodies_left, bytes_left, Faultless}
+use Rattle.wasm_parser.proofs.BodyCounts.{body_in_section}
 use Rattle.wasm_parser.proofs.Ends.{at_offsets_more, tiles_consume}
 use Rattle.wasm_parser.proofs.StateLaws.{IsHeader, headed}
 use Rattle.wasm_parser.proofs.AcceptedContents.{good_from}
@@ -110,19 +111,6 @@ head_event features o id size count field head z n c i range e =
 
 -- ---- the event of a tile
 
--- what is reported of a section is no body
-no_body_named : (features from to : ℕ) (content : List ℕ) (n : Name) (window : Window) → custom_report features from to content n ≡ code_entry window → ⊥
-no_body_named features from to content (named text used) window e = cc
-no_body_named features from to content (refused f place) window e = cc
-
-no_body : (features from to : ℕ) (kind : Kind) (id : ℕ) (content : List ℕ) (window : Window) → section_report features from to kind id content ≡ code_entry window → ⊥
-no_body features from to custom id content window e = no_body_named features from to content (name (Some name_limit) content) window e
-no_body features from to items id content window e = cc
-no_body features from to index id content window e = cc
-no_body features from to data_count id content window e = cc
-no_body features from to code id content window e = cc
-no_body features from to unknown id content window e = cc
-
 -- The section that is reported of a tile is the one that ends where the tile does.
 abbrev ReportedThere : (features o : ℕ) → Tile → Type 0
 ReportedThere features o t = section_of (event_of features o t).report ≡ section_at (o + length t.bytes) t.shape
@@ -134,7 +122,7 @@ whole_says features o id field content kind n w g q =
     let high : ℕ = o + length (id ∷ (field ++ content)) in
     record {
       section = λ i range e. whole_event features o id field content kind n w g i range (sym q ∙ e);
-      body = λ window e. absurd (no_body features (high - length content) high kind id content window e);
+      body = λ window e. absurd (body_in_section features (high - length content) high kind id content window e);
     }
 
 -- the event of the head of a code section
