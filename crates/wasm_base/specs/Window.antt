@@ -23,11 +23,11 @@ place w = record { features = w.features; offset = w.start + w.position; rest = 
 abbrev pub advanced : ℕ → Place → Place
 advanced n p = record { features = p.features; offset = p.offset + n; rest = drop n p.rest }
 
--- the window that has the rest of another at its prefix
+-- the window that begins where another is read
 abbrev pub whole_window : Place → Window
 whole_window p = record { features = p.features; start = p.offset; bytes = p.rest; position = 0 }
 
--- The window is the same, and its reader does is not before where it was.
+-- The window is the same, and its reader is not before where it was.
 pub record KeepsWindow (old new : Window) : Type 0 where
   pub features : new.features ≡ old.features
   pub start : new.start ≡ old.start

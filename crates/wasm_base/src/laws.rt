@@ -23,27 +23,57 @@ use std::hash::Hash;
 /// The items of a window are those that are announced, and then nothing, or one `SizeMismatch` where bytes are left;
 /// after an item's fault, nothing.
 pub fn items_of_a_window<'a, T: FromReader<'a>>()
-    ensures items { (s : Items) → GivesItems ⟦<SectionLimitedIntoIter<'a, T> as Iterator>⟧.next_gives T.meaning s }
-    ensures with_offsets { (s : Items) → GivesItems ⟦<SectionLimitedIntoIterWithOffsets<'a, T> as Iterator>⟧.next_gives (AtItsOffset T.meaning) s }
+    ensures items { (s : Items) →
+        GivesItems ⟦<SectionLimitedIntoIter<'a, T> as Iterator>⟧.next_gives T.meaning s }
+    ensures with_offsets { (s : Items) →
+        GivesItems
+        ⟦<SectionLimitedIntoIterWithOffsets<'a, T> as Iterator>⟧.next_gives
+        (AtItsOffset T.meaning) s }
 {}
 
 /// Both iterators give the same items and the same fault, where the meaning of an item allows one outcome: equal
 /// ones, where it determines the value and all.
 pub fn both_iterators_give_the_same_items<'a, T: FromReader<'a>>()
-    ensures same { AllowsOne T.meaning → (s : Items) → GivesTheSame T.meaning ⟦<SectionLimitedIntoIter<'a, T> as Iterator>⟧.next_gives item_or_fault s ⟦<SectionLimitedIntoIterWithOffsets<'a, T> as Iterator>⟧.next_gives item_alone s }
-    ensures equal { Determines T.meaning → (s : Items) → GivesEqual ⟦<SectionLimitedIntoIter<'a, T> as Iterator>⟧.next_gives item_or_fault s ⟦<SectionLimitedIntoIterWithOffsets<'a, T> as Iterator>⟧.next_gives item_alone s }
+    ensures same { AllowsOne T.meaning → (s : Items) →
+        GivesTheSame T.meaning
+        ⟦<SectionLimitedIntoIter<'a, T> as Iterator>⟧.next_gives item_or_fault s
+        ⟦<SectionLimitedIntoIterWithOffsets<'a, T> as Iterator>⟧.next_gives item_alone s }
+    ensures equal { Determines T.meaning → (s : Items) →
+        GivesEqual
+        ⟦<SectionLimitedIntoIter<'a, T> as Iterator>⟧.next_gives item_or_fault s
+        ⟦<SectionLimitedIntoIterWithOffsets<'a, T> as Iterator>⟧.next_gives item_alone s }
 {}
 
 /// A clone of a section gives the same items and the same fault, where the meaning of an item allows one outcome.
 pub fn a_clone_gives_the_same_items<'a, T: FromReader<'a>>()
-    ensures same { AllowsOne T.meaning → (section copy : Section) → ⟦<SectionLimited<'a, T> as Clone>⟧.is_clone section copy → (s t : Items) → ⟦<SectionLimited<'a, T> as IntoIterator>⟧.into_iter_gives section s → ⟦<SectionLimited<'a, T> as IntoIterator>⟧.into_iter_gives copy t → GivesTheSame T.meaning ⟦<SectionLimitedIntoIter<'a, T> as Iterator>⟧.next_gives item_or_fault s ⟦<SectionLimitedIntoIter<'a, T> as Iterator>⟧.next_gives item_or_fault t }
-    ensures equal { Determines T.meaning → (section copy : Section) → ⟦<SectionLimited<'a, T> as Clone>⟧.is_clone section copy → (s t : Items) → ⟦<SectionLimited<'a, T> as IntoIterator>⟧.into_iter_gives section s → ⟦<SectionLimited<'a, T> as IntoIterator>⟧.into_iter_gives copy t → GivesEqual ⟦<SectionLimitedIntoIter<'a, T> as Iterator>⟧.next_gives item_or_fault s ⟦<SectionLimitedIntoIter<'a, T> as Iterator>⟧.next_gives item_or_fault t }
+    ensures same { AllowsOne T.meaning → (section copy : Section) →
+        ⟦<SectionLimited<'a, T> as Clone>⟧.is_clone section copy → (s t : Items) →
+        ⟦<SectionLimited<'a, T> as IntoIterator>⟧.into_iter_gives section s →
+        ⟦<SectionLimited<'a, T> as IntoIterator>⟧.into_iter_gives copy t →
+        GivesTheSame T.meaning
+        ⟦<SectionLimitedIntoIter<'a, T> as Iterator>⟧.next_gives item_or_fault s
+        ⟦<SectionLimitedIntoIter<'a, T> as Iterator>⟧.next_gives item_or_fault t }
+    ensures equal { Determines T.meaning → (section copy : Section) →
+        ⟦<SectionLimited<'a, T> as Clone>⟧.is_clone section copy → (s t : Items) →
+        ⟦<SectionLimited<'a, T> as IntoIterator>⟧.into_iter_gives section s →
+        ⟦<SectionLimited<'a, T> as IntoIterator>⟧.into_iter_gives copy t →
+        GivesEqual
+        ⟦<SectionLimitedIntoIter<'a, T> as Iterator>⟧.next_gives item_or_fault s
+        ⟦<SectionLimitedIntoIter<'a, T> as Iterator>⟧.next_gives item_or_fault t }
 {}
 
 /// A clone of an iterator gives the same items and the same fault, where the meaning of an item allows one outcome.
 pub fn a_cloned_iterator_gives_the_same_items<'a, T: FromReader<'a> + Clone>()
-    ensures same { AllowsOne T.meaning → (s t : Items) → ⟦<SectionLimitedIntoIter<'a, T> as Clone>⟧.is_clone s t → GivesTheSame T.meaning ⟦<SectionLimitedIntoIter<'a, T> as Iterator>⟧.next_gives item_or_fault s ⟦<SectionLimitedIntoIter<'a, T> as Iterator>⟧.next_gives item_or_fault t }
-    ensures equal { Determines T.meaning → (s t : Items) → ⟦<SectionLimitedIntoIter<'a, T> as Clone>⟧.is_clone s t → GivesEqual ⟦<SectionLimitedIntoIter<'a, T> as Iterator>⟧.next_gives item_or_fault s ⟦<SectionLimitedIntoIter<'a, T> as Iterator>⟧.next_gives item_or_fault t }
+    ensures same { AllowsOne T.meaning → (s t : Items) →
+        ⟦<SectionLimitedIntoIter<'a, T> as Clone>⟧.is_clone s t →
+        GivesTheSame T.meaning
+        ⟦<SectionLimitedIntoIter<'a, T> as Iterator>⟧.next_gives item_or_fault s
+        ⟦<SectionLimitedIntoIter<'a, T> as Iterator>⟧.next_gives item_or_fault t }
+    ensures equal { Determines T.meaning → (s t : Items) →
+        ⟦<SectionLimitedIntoIter<'a, T> as Clone>⟧.is_clone s t →
+        GivesEqual
+        ⟦<SectionLimitedIntoIter<'a, T> as Iterator>⟧.next_gives item_or_fault s
+        ⟦<SectionLimitedIntoIter<'a, T> as Iterator>⟧.next_gives item_or_fault t }
 {}
 
 /// Truths, numbers and names allow one outcome, and so does a pair of what allows one. Truths and numbers are

@@ -225,7 +225,7 @@ report_no_ending f s to (section custom id content) o h = by_name (to - length c
 report_no_ending f s to (code_head count width size) o h = cc
 report_no_ending f s to (body content) o h = cc
 
--- a payload that says an end is one
+-- a payload whose report is an end is one
 only_end : (payload : Payload) (o : ℕ) → report_of payload ≡ ending o → (at : ℕ) × (payload ≡ payloads.End at)
 only_end (payloads.Version num encoding range) o h = cc
 only_end (payloads.TypeSection s) o h = cc

@@ -15,7 +15,7 @@ use Rattle.wasm_parser.proofs.StateLaws.{Follows, none_when}
 use Rattle.wasm_parser.proofs.TileLaws.{Numbered, numbered}
 use Rattle.wasm_parser.proofs.AcceptedTiles.{made, IsWhole}
 
--- nothing is wrong in prefix of a tile
+-- nothing is wrong before a tile
 pub refuse_parts : (e : Option FaultAt) (next : Grammar) (xs : List ℕ) (t : Tile) → verdict (check e next) xs ≡ tile t → (e ≡ None) × (verdict next xs ≡ tile t)
 unfolding verdict
 refuse_parts (Some e) next xs t h = cc

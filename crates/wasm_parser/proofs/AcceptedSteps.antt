@@ -18,7 +18,7 @@ use Rattle.wasm_parser.proofs.AcceptedContents.{good_to}
 use Rattle.wasm_parser.proofs.AcceptedTiles.{made, IsWhole, HeadIsRight, number_on, section_tile, code_head_tile, body_tile}
 use Rattle.wasm_parser.proofs.AcceptedKnows.{grammar_open, knows_body}
 
--- what is in prefix of a good section's content is right, if the section fits
+-- what comes before a good section's content is right, if the section fits
 head_of_frame : (p : SectionContext) (fs : List Frame) (o : ℕ) (f : Frame) → Knows p.encoding fs p → IsFrame p.encoding f → FitsAfter p.encoding fs f → o + length (frame_bytes f) < 2 ^ 64
     → HeadIsRight p o f.id f.sized.field (length f.sized.content)
 head_of_frame p fs o f k i a r = record {
@@ -56,7 +56,7 @@ division_count f d = ap count_of d.whole ∙ ap value_of (number_on d.field (fla
 pub division_length : (f : Frame) (d : CodeDivision f.sized.content) → length f.sized.content ≡ length d.field + length (flat_map sized_bytes d.bodies)
 division_length f d = ap (λ (x : List ℕ). length x) d.whole ∙ length-append d.field (flat_map sized_bytes d.bodies)
 
--- what is in prefix of a good code section's content is right, if the section fits
+-- what comes before a good code section's content is right, if the section fits
 head_of_code : (p : SectionContext) (fs : List Frame) (o : ℕ) (f : Frame) → f.id ≡ 10 → Knows Module fs p → IsFrame Module f → FitsAfter Module fs f → o + length (frame_bytes f) < 2 ^ 64
     → HeadIsRight p o 10 f.sized.field (length f.sized.content)
 head_of_code p fs o f z k i a r =

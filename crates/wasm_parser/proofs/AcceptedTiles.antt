@@ -109,7 +109,7 @@ content_tile p data_count id o content w a b = whole_tile p data_count id o cont
 content_tile p unknown id o content w a b = whole_tile p unknown id o content a b
 content_tile p code id o content w a b = absurd w
 
--- what is in prefix of a section's content is right
+-- what comes before a section's content is right
 pub record HeadIsRight (p : SectionContext) (o id : ℕ) (field : List ℕ) (size : ℕ) : Type 0 where
   pub below : id < 128
   pub number : IsNumber field size

@@ -34,7 +34,7 @@ split_end {X} xs earlier later x y e = elim (split_last xs earlier later x y e) 
     before_end more p = sym (tail_same y y (more ++ x ∷ []) later (append_cancel_left earlier (y ∷ (more ++ x ∷ [])) (y ∷ later)
         (sym (append_assoc earlier (y ∷ more) (x ∷ [])) ∙ subst (λ (l : List X). l ++ x ∷ [] ≡ earlier ++ y ∷ later) p e)))
 
--- ---- what says a start or a body
+-- ---- which reports are a start or a body
 
 start_in_custom : (features from to : ℕ) (content : List ℕ) (n : Name) (count a b size : ℕ) → custom_report features from to content n ≡ code_start count a b size → ⊥
 start_in_custom features from to content (named text used) count a b size e = cc
@@ -72,7 +72,7 @@ body_in_section features from to data_count id content w e = cc
 body_in_section features from to code id content w e = cc
 body_in_section features from to unknown id content w e = cc
 
--- only a body's tile says a body
+-- only a body's tile is reported as a body
 report_body : (features low high : ℕ) (s : Shape) (w : Window) → tile_report features low high s ≡ code_entry w → IsBody s
 report_body features low high (section kind id content) w e = absurd (body_in_section features _ _ kind id content w e)
 report_body features low high (code_head n width left) w e = cc

@@ -121,7 +121,7 @@ same_items id s x e =
     let z : (id, s) ≡ x = cc in
     λ i. counted_by (z i).0 (z i).1
 
--- what a payload says that holds this section
+-- what a payload reports that holds this section
 given_reports : (payload : Payload) (x : ℕ × Section) → items_in payload ≡ Some x → report_of payload ≡ counted_by x.0 x.1
 given_reports (TypeSection s) x e = same_items 1 s x e
 given_reports (ImportSection s) x e = same_items 2 s x e

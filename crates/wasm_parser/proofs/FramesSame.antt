@@ -17,7 +17,7 @@ prefixes_same xs ys us vs l e = (
   sym (drop_at xs us (length xs) refl) ∙ (ap (drop (length xs)) e ∙ drop_at ys vs (length xs) (sym l)),
 )
 
--- numbers at the prefix of the same bytes are one
+-- numbers that begin the same bytes are one
 numbers_same : (xs ys us vs : List ℕ) (m n : ℕ) → IsNumber xs m → IsNumber ys n → xs ++ us ≡ ys ++ vs → (m ≡ n) × (length xs ≡ length ys)
 numbers_same xs ys us vs m n p q e =
     let z : read m (length xs) ≡ read n (length ys) = sym (number_on xs us m p) ∙ (ap (number_at VarU32) e ∙ number_on ys vs n q) in

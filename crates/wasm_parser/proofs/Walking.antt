@@ -33,7 +33,7 @@ over_gives_nothing : (s t : Walk) (given : List (Result Payload Error)) → s.en
 over_gives_nothing s t [] e run = refl
 over_gives_nothing s t (x ∷ given) e run = absurd (let z = (run.1.over e).0 in cc)
 
--- a reading whose events after these tiles say this
+-- a reading whose events after these tiles have these reports
 record ReadsOn (start features : ℕ) (stream : List ℕ) (tiles : List Tile) (report : List Report) : Type 0 where
   events : List Event
   reading : Reading stream start features (events_of start features tiles ++ events)
@@ -106,7 +106,7 @@ steps_on start features stream s m tiles w t consumed v n p b =
     } in
     subst (λ (y : Walk). Walked start features stream y (t ∷ tiles)) (λ i. record { stand = sym p i; bytes = sym d i; ended = m.ended }) on
 
--- what a payload says of a tile there
+-- what a payload reports of a tile there
 report_there : (start features : ℕ) (stream : List ℕ) (s : Walk) (tiles : List Tile) (w : Walked start features stream s tiles) (t : Tile) (x : Report) → x ≡ tile_report s.stand.features s.stand.offset (s.stand.offset + length t.bytes) t.shape
     → x ≡ event_report (event_of features (start + length (bytes_of tiles)) t)
 report_there start features stream s tiles w t x e =

@@ -30,7 +30,7 @@ kind_of Module id = slice_index_or (custom ∷ items ∷ items ∷ items ∷ ite
 kind_of Component id = slice_index_or (custom ∷ []) id unknown
 
 -- by id, the places of the sections in their order, counted from 1: type, import, function, table, memory, tag,
--- global, export, start, element, data count, code, data. Section 0 is anywhere.
+-- global, export, start, element, data count, code, data. Section 0 may come anywhere.
 abbrev pub ranks : List ℕ
 ranks = 0 ∷ 1 ∷ 2 ∷ 3 ∷ 4 ∷ 5 ∷ 7 ∷ 8 ∷ 9 ∷ 10 ∷ 12 ∷ 13 ∷ 11 ∷ 6 ∷ []
 

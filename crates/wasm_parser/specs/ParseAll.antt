@@ -42,7 +42,7 @@ pub record NextPayload (s : Walk) (given : Option (Result Payload Error)) (t : W
   pub over : s.ended ≡ true → (given ≡ None) × (t ≡ s)
   pub going : s.ended ≡ false → GivesAnswer s given t
 
--- what a payload says, or a fault
+-- what a payload reports, or a fault
 abbrev pub given_report : Result Payload Error → Report
 given_report (Ok payload) = report_of payload
 given_report (Err e) = stopped (fault_at e)

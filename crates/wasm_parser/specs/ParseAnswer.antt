@@ -26,7 +26,7 @@ unread w = record w { position = 0 }
 abbrev pub counted_by : ℕ → Section → Report
 counted_by id s = counted id s.count (unread s.reader)
 
--- what a payload says
+-- what a payload reports
 abbrev pub report_of : Payload → Report
 report_of (Version num encoding range) = version num encoding range.start range.end
 report_of (TypeSection s) = counted_by 1 s
@@ -69,7 +69,7 @@ items_in other = None
 abbrev pub ItemsBegin : Payload → Type 0
 ItemsBegin payload = IfSome (items_in payload) (λ x. BeginsAfterCount x.1)
 
--- The payload says this, and what it holds is read from the right place on.
+-- The payload reports this, and what it holds is read from the right place on.
 abbrev pub IsPayload : Report → Payload → Type 0
 IsPayload report payload = (report_of payload ≡ report) × ItemsBegin payload
 

@@ -8,7 +8,7 @@ use Rattle.wasm_parser.specs.Grammar.{Shape, header, section, code_head, body, T
 use Rattle.wasm_parser.specs.Tiling.{bytes_of, grammar, Faultless}
 use Rattle.wasm_parser.specs.declared.payload.Encoding.{Encoding}
 
--- what a reader of the stream is reported of a tile, with the offsets of the stream
+-- what is reported of a tile, with the offsets of the stream
 pub data Report : Type 0 where
   version : (num : ℕ) (encoding : Encoding) (from to : ℕ) → Report
   counted : (id count : ℕ) (window : Window) → Report

@@ -1,4 +1,4 @@
--- Laws of the sections that a reading says.
+-- Laws of the sections that a reading reports.
 use Rattle.std.specs.Prelude.{◌≡◌, ℕ, List, ◌∷◌, ◌++◌, AllPairs}
 use Rattle.wasm_parser.specs.declared.payload.Encoding.{Encoding}
 use Rattle.wasm_parser.specs.Accepted.{IsAccepted}
@@ -6,7 +6,7 @@ use Rattle.wasm_parser.specs.Reading.{code_start, Event, Reading}
 use Rattle.wasm_parser.specs.Sections.{sections_of, TiledBySections, BeginsAs, RanksBelow, BodiesFollow}
 use Rattle.wasm_parser.specs.Stream.{Stream}
 
--- an accepted stream is its header and then the sections that its reading says, in their order: of each its id, its
+-- an accepted stream is its header and then the sections that its reading reports, in their order: of each its id, its
 -- length, and the bytes of its range
 abbrev pub SectionsTile : Type 0
 SectionsTile = (stream : List ℕ) (start features : ℕ) (events : List Event) → Stream stream start → (a : IsAccepted stream) → Reading stream start features events
@@ -17,7 +17,7 @@ abbrev pub RanksAscend : Type 0
 RanksAscend = (stream : List ℕ) (start features : ℕ) (events : List Event) (encoding : Encoding) → Reading stream start features events → BeginsAs encoding events
     → AllPairs (RanksBelow encoding) (sections_of events)
 
--- after the start of a code section a reading says as many bodies as it counts, or fewer and then a fault
+-- after the start of a code section a reading has as many bodies as it counts, or fewer and then a fault
 abbrev pub BodiesFollowTheirCount : Type 0
 BodiesFollowTheirCount = (stream : List ℕ) (start features : ℕ) (events before after : List Event) (e : Event) (count from to size : ℕ) → Reading stream start features events
     → events ≡ before ++ e ∷ after → e.report ≡ code_start count from to size → BodiesFollow count after

@@ -1,4 +1,4 @@
--- The sections that a reading says. Core specification, Binary format, Modules, Sections.
+-- The sections that a reading reports. Core specification, Binary format, Modules, Sections.
 use Rattle.std.specs.declared.ops.Range.{Range}
 use Rattle.std.specs.Prelude.{◌≡◌, ℕ, ◌+◌, ◌-◌, ◌<◌, ◌⊎◌, List, [], ◌∷◌, ◌++◌, length, take, drop, map, filter_map, flat_map, All, Option, Some, None, option_map}
 use Rattle.wasm_base.specs.FaultAt.{FaultAt}
@@ -39,7 +39,7 @@ id_and_count (Some s) = option_map (λ n. (s.0, n)) s.2
 abbrev pub count_report : Report → Option (ℕ × ℕ)
 count_report report = id_and_count (parts_of report)
 
--- the sections that events say, in their order
+-- the sections that events report, in their order
 abbrev pub sections_of : List Event → List (ℕ × Range ℕ)
 sections_of events = filter_map (λ e. section_of e.report) events
 

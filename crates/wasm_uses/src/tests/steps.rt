@@ -10,7 +10,7 @@ use wasm_parser::{Encoding, Payload};
 // A header, a function section, and a code section with one body.
 const MODULE: &[u8] = b"\0asm\x01\0\0\0\x03\x02\x01\0\x0a\x04\x01\x02\0\x0b";
 
-// Of each step of the module the bytes, the id of its section, and the offsets that its payload says.
+// Of each step of the module the bytes, the id of its section, and the offsets that its payload has.
 const STEPS: [(&[u8], Option<u8>, u64, u64); 5] = [
     (b"\0asm\x01\0\0\0", None, 0, 8),
     (b"\x03\x02\x01\0", Some(3), 10, 12),
