@@ -8,7 +8,7 @@ use Rattle.wasm_base.specs.declared.error.Error.{Error}
 use Rattle.wasm_parser.specs.ParseAnswer.{report_of, Answers, ParseAnswer}
 use Rattle.wasm_parser.specs.Content.{custom, items, index, data_count, code, unknown, Ending, fault, ended}
 use Rattle.wasm_base.specs.Name.{Name, named, refused, name_limit, name}
-use Rattle.wasm_parser.specs.Grammar.{Shape, header, section, code_head, body, Tile, Verdict, tile, final, Grammar, verdict}
+use Rattle.wasm_parser.specs.Grammar.{Shape, version, section, code_start, code_entry, Tile, Verdict, tile, final, Grammar, verdict}
 use Rattle.wasm_list.specs.Listing.{line_of, event_line, listing_of}
 use Rattle.wasm_list.specs.Lists.{all_features, IsEndedBy, IsListed, IsBeginning, Writes, IsCutShort, ListsBytes, Lists}
 use Rattle.wasm_parser.specs.Reading.{ending, stopped, Event, tile_report, custom_report, event_of, events_of, last_event, Reads, Reading}
@@ -211,7 +211,7 @@ nothing_yet stream taken =
 -- ---- the turns of the loop
 
 report_no_ending : (f s to : ℕ) (shape : Shape) (o : ℕ) → tile_report f s to shape ≡ ending o → ⊥
-report_no_ending f s to (header num e) o h = cc
+report_no_ending f s to (version num e) o h = cc
 report_no_ending f s to (section items id content) o h = cc
 report_no_ending f s to (section index id content) o h = cc
 report_no_ending f s to (section data_count id content) o h = cc
@@ -222,8 +222,8 @@ report_no_ending f s to (section custom id content) o h = by_name (to - length c
     by_name : (from to : ℕ) (n : Name) → custom_report f from to content n ≡ ending o → ⊥
     by_name from to (named text used) h = cc
     by_name from to (refused g i) h = cc
-report_no_ending f s to (code_head count width size) o h = cc
-report_no_ending f s to (body content) o h = cc
+report_no_ending f s to (code_start count width size) o h = cc
+report_no_ending f s to (code_entry content) o h = cc
 
 -- a payload whose report is an end is one
 only_end : (payload : Payload) (o : ℕ) → report_of payload ≡ ending o → (at : ℕ) × (payload ≡ payloads.End at)

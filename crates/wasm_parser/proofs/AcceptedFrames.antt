@@ -3,7 +3,7 @@ use Rattle.std.proofs.Common.{◌≡◌, ℕ, ◌+◌, ◌<◌, ◌⊎◌, inl, 
 use Rattle.std.specs.List.{All}
 use Rattle.wasm_parser.specs.declared.payload.Encoding.{Encoding}
 use Rattle.wasm_parser.specs.Content.{kind_of, ended}
-use Rattle.wasm_parser.specs.Grammar.{header, Tile, tile, Grammar, verdict, header_grammar, section_grammar, body_grammar}
+use Rattle.wasm_parser.specs.Grammar.{version, Tile, tile, Grammar, verdict, header_grammar, section_grammar, body_grammar}
 use Rattle.wasm_parser.specs.Tiling.{bytes_of, grammar, Faultless, context_of, bodies_left, bytes_left, encoding_of}
 use Rattle.wasm_parser.specs.Reading.{Reads}
 use Rattle.wasm_parser.specs.Accepted.{IsAccepted, IsMatched, header_bytes}
@@ -21,7 +21,7 @@ header_settled : (start : ℕ) (t : Tile) → All (λ b. b < 256) t.bytes → ve
 header_settled start t a h =
     let p : HeaderParts t = header_parts start t.bytes t a h in
     let e : Encoding = p.encoding in
-    let r : Settled (made (header (header_version e) e) (header_bytes e) ∷ []) = record {
+    let r : Settled (made (version (header_version e) e) (header_bytes e) ∷ []) = record {
       frames = [];
       covers = sym (append-nil (header_bytes e));
       knows = knows_header e (header_bytes e);

@@ -9,7 +9,7 @@ use Rattle.wasm_base.specs.declared.fault.Fault.TheVariants.{BadMagic}
 use Rattle.wasm_parser.specs.declared.payload.Encoding.{Encoding}
 use Rattle.wasm_parser.specs.declared.payload.Encoding.TheVariants.{Module, Component}
 use Rattle.wasm_parser.specs.Content.{when}
-use Rattle.wasm_parser.specs.Grammar.{header, Tile, tile, check, bytes, verdict, encoding_named, header_of, version_of, header_grammar}
+use Rattle.wasm_parser.specs.Grammar.{version, Tile, tile, check, bytes, verdict, encoding_named, header_of, version_of, header_grammar}
 use Rattle.wasm_parser.specs.Accepted.{header_bytes}
 use Rattle.wasm_parser.proofs.StateLaws.{none_when}
 use Rattle.wasm_parser.proofs.AcceptedTiles.{made, header_version}
@@ -59,11 +59,11 @@ named_bits bits encoding e =
 
 -- a header's tile after its bits
 of_header : (o bits : ℕ) (e : Option Encoding) (xs : List ℕ) (t : Tile) → encoding_named (bits % 65536) (bits / 65536) ≡ e → verdict (header_of o bits e) xs ≡ tile t
-    → (encoding : Encoding) × (bits ≡ header_bits encoding) × (t ≡ made (header (header_version encoding) encoding) [])
+    → (encoding : Encoding) × (bits ≡ header_bits encoding) × (t ≡ made (version (header_version encoding) encoding) [])
 unfolding verdict
 of_header o bits (Some encoding) xs t e h =
     let (b, v) = named_bits bits encoding e in
-    (encoding, b, takes_parts (header (bits % 65536) encoding) xs t h ∙ ap (λ (x : ℕ). made (header x encoding) []) v)
+    (encoding, b, takes_parts (version (bits % 65536) encoding) xs t h ∙ ap (λ (x : ℕ). made (version x encoding) []) v)
 of_header o bits None xs t e h = cc
 
 -- lists of one length that agree are one
@@ -117,7 +117,7 @@ header_whole Component = refl
 -- what a header's tile is
 pub record HeaderParts (t : Tile) : Type 0 where
   pub encoding : Encoding
-  pub is : t ≡ made (header (header_version encoding) encoding) (header_bytes encoding)
+  pub is : t ≡ made (version (header_version encoding) encoding) (header_bytes encoding)
 
 -- a header's tile is a header
 pub header_parts : (o : ℕ) (xs : List ℕ) (t : Tile) → All (λ b. b < 256) t.bytes → verdict (header_grammar o) xs ≡ tile t → HeaderParts t
@@ -128,11 +128,11 @@ header_parts o xs t each h =
     let z : m.prefix ≡ magic = agree_whole m.prefix magic m.size (not-false _ (none_when _ _ a.0)) in
     let f : BytesParts 4 (λ four. version_of o (of_four four)) m.rest = bytes_parts 4 (o + 4) _ m.others m.rest a.1 in
     let (encoding, b, r) = of_header o (of_four f.prefix) (encoding_named (of_four f.prefix % 65536) (of_four f.prefix / 65536)) f.others f.rest refl f.goes_on in
-    let u : m.rest ≡ made (header (header_version encoding) encoding) f.prefix = ends_there m.rest f.rest (header (header_version encoding) encoding) f.prefix f.is r in
-    let w : t ≡ made (header (header_version encoding) encoding) (magic ++ f.prefix) = m.is ∙ (ap (λ (x : Tile). made x.shape (m.prefix ++ x.bytes)) u ∙ ap (λ (x : List ℕ). made (header (header_version encoding) encoding) (x ++ f.prefix)) z) in
+    let u : m.rest ≡ made (version (header_version encoding) encoding) f.prefix = ends_there m.rest f.rest (version (header_version encoding) encoding) f.prefix f.is r in
+    let w : t ≡ made (version (header_version encoding) encoding) (magic ++ f.prefix) = m.is ∙ (ap (λ (x : Tile). made x.shape (m.prefix ++ x.bytes)) u ∙ ap (λ (x : List ℕ). made (version (header_version encoding) encoding) (x ++ f.prefix)) z) in
     let e : All (λ b. b < 256) (magic ++ f.prefix) = subst (λ (x : Tile). All (λ b. b < 256) x.bytes) w each in
     let l : f.prefix ≡ last_four encoding = four_bytes encoding f.prefix f.size e b in
     record {
       encoding = encoding;
-      is = w ∙ ap (made (header (header_version encoding) encoding)) (ap (λ (x : List ℕ). magic ++ x) l ∙ header_whole encoding);
+      is = w ∙ ap (made (version (header_version encoding) encoding)) (ap (λ (x : List ℕ). magic ++ x) l ∙ header_whole encoding);
     }

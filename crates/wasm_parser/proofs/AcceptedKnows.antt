@@ -7,7 +7,7 @@ use Rattle.std.proofs.lemmas.List.Folds.{list_all-append}
 use Rattle.wasm_parser.specs.declared.payload.Encoding.{Encoding}
 use Rattle.wasm_parser.specs.declared.payload.Encoding.TheVariants.{Module, Component}
 use Rattle.wasm_parser.specs.Content.{Kind, custom, items, index, data_count, code, unknown, kind_of, rank_of, count_of}
-use Rattle.wasm_parser.specs.Grammar.{header, section, code_head, body, Tile, Grammar, section_grammar, body_grammar}
+use Rattle.wasm_parser.specs.Grammar.{version, section, code_start, code_entry, Tile, Grammar, section_grammar, body_grammar}
 use Rattle.wasm_parser.specs.Tiling.{bytes_of, grammar, context_of, tile_rank, count_in, counts, bodies_left, bytes_left}
 use Rattle.wasm_parser.specs.ParserState.{is_start}
 use Rattle.wasm_parser.specs.Accepted.{Frame, frame_count, frame_rank}
@@ -35,7 +35,7 @@ grammar_open start (t ∷ ts) b e = open_at (nat_eq (bodies_left (t ∷ ts) + by
     open_at false g h e = refl
 
 -- after a header there is no frame yet
-pub knows_header : (encoding : Encoding) (bytes : List ℕ) → Knows encoding [] (context_of (made (header (header_version encoding) encoding) bytes ∷ []))
+pub knows_header : (encoding : Encoding) (bytes : List ℕ) → Knows encoding [] (context_of (made (version (header_version encoding) encoding) bytes ∷ []))
 knows_header encoding bytes = record {
   named = refl;
   ranks = λ r l. and_from (nat_lt 0 r) true (lt-ltb 0 r l) refl;
@@ -46,7 +46,7 @@ knows_header encoding bytes = record {
 }
 
 -- a body says nothing
-pub knows_body : (encoding : Encoding) (fs : List Frame) (ts : List Tile) (content bytes : List ℕ) → Knows encoding fs (context_of ts) → Knows encoding fs (context_of (made (body content) bytes ∷ ts))
+pub knows_body : (encoding : Encoding) (fs : List Frame) (ts : List Tile) (content bytes : List ℕ) → Knows encoding fs (context_of ts) → Knows encoding fs (context_of (made (code_entry content) bytes ∷ ts))
 knows_body encoding fs ts content bytes k = record {
   named = k.named;
   ranks = λ r l. ap (λ (b : Bool). b && list_all (λ (t : Tile). nat_lt (tile_rank t.shape) r) ts) (lt-ltb 0 r l) ∙ k.ranks r l;
@@ -131,7 +131,7 @@ code_count false d c count others e z = rw e refl
 
 -- the head of a code section says what its frame says
 pub knows_code : (fs : List Frame) (ts : List Tile) (f : Frame) (count width size : ℕ) (bytes : List ℕ) → f.id ≡ 10 → frame_count f ≡ count → Knows Module fs (context_of ts)
-    → Knows Module (fs ++ f ∷ []) (context_of (made (code_head count width size) bytes ∷ ts))
+    → Knows Module (fs ++ f ∷ []) (context_of (made (code_start count width size) bytes ∷ ts))
 knows_code fs ts f count width size bytes z c k = record {
   named = k.named;
   ranks = λ r l.

@@ -8,7 +8,7 @@ use Rattle.wasm_base.specs.declared.fault.NumberKind.TheVariants.{VarU32}
 use Rattle.wasm_base.specs.declared.fault.Fault.TheVariants.{MagicAtSection, UnexpectedEof}
 use Rattle.wasm_base.proofs.NumberLaws.{number-used, Used}
 use Rattle.wasm_parser.specs.Content.{Kind, custom, items, index, data_count, code, unknown, kind_of, rank_of, Ending, fault, when, wrong_content}
-use Rattle.wasm_parser.specs.Grammar.{Shape, section, code_head, body, Tile, tile, final, after, SectionContext, Grammar, accept, check, number, bytes, verdict, section_grammar, body_grammar, content_grammar, whole_grammar, code_grammar, after_length, after_id, wrong_count, wrong_data}
+use Rattle.wasm_parser.specs.Grammar.{Shape, section, code_start, code_entry, Tile, tile, final, after, SectionContext, Grammar, accept, check, number, bytes, verdict, section_grammar, body_grammar, content_grammar, whole_grammar, code_grammar, after_length, after_id, wrong_count, wrong_data}
 use Rattle.wasm_parser.specs.Accepted.{IsNumber}
 use Rattle.wasm_parser.proofs.GrammarLaws.{after-tile}
 use Rattle.wasm_parser.proofs.StateLaws.{Follows, none_when}
@@ -163,21 +163,21 @@ pub record HeadParts (p : SectionContext) (o size : ℕ) (t : Tile) : Type 0 whe
   pub whole : IsNumber head count
   pub fits : length head ≤ size
   pub right : wrong_count p o count ≡ None
-  pub is : t ≡ made (code_head count (length head) (size - length head)) head
+  pub is : t ≡ made (code_start count (length head) (size - length head)) head
 
 -- what the head of a code section consists of
 pub head_parts : (p : SectionContext) (o size : ℕ) (xs : List ℕ) (t : Tile) → verdict (code_grammar p o size) xs ≡ tile t → HeadParts p o size t
 head_parts p o size xs t h =
-    let n : NumberParts (λ count width. check (when (nat_lt size width) _) (check (wrong_count p o count) (accept (code_head count width (size - width))))) t = number_parts o _ xs t h in
+    let n : NumberParts (λ count width. check (when (nat_lt size width) _) (check (wrong_count p o count) (accept (code_start count width (size - width))))) t = number_parts o _ xs t h in
     let a : ((when (nat_lt size (length n.field)) _ ≡ None) × (verdict _ n.others ≡ tile n.rest)) = refuse_parts _ _ n.others n.rest n.goes_on in
-    let b : ((wrong_count p o n.value ≡ None) × (verdict (accept (code_head n.value (length n.field) (size - length n.field))) n.others ≡ tile n.rest)) = refuse_parts _ _ n.others n.rest a.1 in
+    let b : ((wrong_count p o n.value ≡ None) × (verdict (accept (code_start n.value (length n.field) (size - length n.field))) n.others ≡ tile n.rest)) = refuse_parts _ _ n.others n.rest a.1 in
     record {
       count = n.value;
       head = n.field;
       whole = n.whole;
       fits = ltb-false size (length n.field) (none_when _ _ a.0);
       right = b.0;
-      is = ends_there t n.rest (code_head n.value (length n.field) (size - length n.field)) n.field n.is (takes_parts _ n.others n.rest b.1);
+      is = ends_there t n.rest (code_start n.value (length n.field) (size - length n.field)) n.field n.is (takes_parts _ n.others n.rest b.1);
     }
 
 -- a body, in a code section of which so many bodies and bytes are left
@@ -188,17 +188,17 @@ pub record BodyParts (m l : ℕ) (t : Tile) : Type 0 where
   pub content : List ℕ
   pub whole : IsNumber field (length content)
   pub fits : length field + length content ≤ l
-  pub is : t ≡ made (body content) (field ++ content)
+  pub is : t ≡ made (code_entry content) (field ++ content)
 
 -- what a body consists of
 pub body_parts : (m l o : ℕ) (xs : List ℕ) (t : Tile) → verdict (body_grammar m l o) xs ≡ tile t → BodyParts m l t
 unfolding body_grammar verdict
 body_parts zero l o xs t h = cc
 body_parts (suc m) l o xs t h =
-    let n : NumberParts (λ size width. bytes size (o + width) (λ content. check (when (nat_lt l (width + size)) (at_offset UnexpectedEof o)) (accept (body content)))) t = number_parts o _ xs t h in
-    let b : BytesParts n.value (λ content. check (when (nat_lt l (length n.field + n.value)) (at_offset UnexpectedEof o)) (accept (body content))) n.rest = bytes_parts n.value (o + length n.field) _ n.others n.rest n.goes_on in
-    let a : ((when (nat_lt l (length n.field + n.value)) (at_offset UnexpectedEof o) ≡ None) × (verdict (accept (body b.prefix)) b.others ≡ tile b.rest)) = refuse_parts _ _ b.others b.rest b.goes_on in
-    let r : n.rest ≡ made (body b.prefix) b.prefix = ends_there n.rest b.rest (body b.prefix) b.prefix b.is (takes_parts _ b.others b.rest a.1) in
+    let n : NumberParts (λ size width. bytes size (o + width) (λ content. check (when (nat_lt l (width + size)) (at_offset UnexpectedEof o)) (accept (code_entry content)))) t = number_parts o _ xs t h in
+    let b : BytesParts n.value (λ content. check (when (nat_lt l (length n.field + n.value)) (at_offset UnexpectedEof o)) (accept (code_entry content))) n.rest = bytes_parts n.value (o + length n.field) _ n.others n.rest n.goes_on in
+    let a : ((when (nat_lt l (length n.field + n.value)) (at_offset UnexpectedEof o) ≡ None) × (verdict (accept (code_entry b.prefix)) b.others ≡ tile b.rest)) = refuse_parts _ _ b.others b.rest b.goes_on in
+    let r : n.rest ≡ made (code_entry b.prefix) b.prefix = ends_there n.rest b.rest (code_entry b.prefix) b.prefix b.is (takes_parts _ b.others b.rest a.1) in
     record {
       others = m;
       missing = refl;

@@ -7,7 +7,7 @@ use Rattle.wasm_base.specs.Number.{read}
 use Rattle.wasm_parser.specs.declared.payload.Encoding.{Encoding}
 use Rattle.wasm_parser.specs.declared.payload.Encoding.TheVariants.{Module}
 use Rattle.wasm_parser.specs.Content.{Kind, code, kind_of, rank_of, value_of}
-use Rattle.wasm_parser.specs.Grammar.{section, code_head, body, Tile, tile, SectionContext, verdict, content_grammar, wrong_count}
+use Rattle.wasm_parser.specs.Grammar.{section, code_start, code_entry, Tile, tile, SectionContext, verdict, content_grammar, wrong_count}
 use Rattle.wasm_parser.specs.Tiling.{bytes_of, context_of, bodies_left, bytes_left, encoding_of}
 use Rattle.wasm_parser.specs.Accepted.{Sized, sized_bytes, IsNumber, IsSized, Frame, frame_bytes, frame_count, frame_rank, IsFrame, FitsAfter, CodeDivision, IsSection}
 use Rattle.wasm_parser.proofs.StateLaws.{Follows}
@@ -166,13 +166,13 @@ code_pending ts o t q s e =
     let h : HeadParts (context_of ts) at s.size s.rest = head_parts (context_of ts) at s.size s.others s.rest v in
     let n : ℕ = s.size - length h.head in
     let b : List ℕ = 10 ∷ (s.field ++ h.head) in
-    let z : t ≡ made (code_head h.count (length h.head) n) b =
-    s.is ∙ (ap (λ (x : Tile). made x.shape (s.id ∷ (s.field ++ x.bytes))) h.is ∙ ap (λ (x : ℕ). made (code_head h.count (length h.head) n) (x ∷ (s.field ++ h.head))) i) in
+    let z : t ≡ made (code_start h.count (length h.head) n) b =
+    s.is ∙ (ap (λ (x : Tile). made x.shape (s.id ∷ (s.field ++ x.bytes))) h.is ∙ ap (λ (x : ℕ). made (code_start h.count (length h.head) n) (x ∷ (s.field ++ h.head))) i) in
     let k : Knows Module q.frames (context_of ts) = subst (λ (x : Encoding). Knows x q.frames (context_of ts)) m q.knows in
     let y : Follows (context_of ts) (rank_of (kind_of Module s.id) s.id) = subst (λ (x : Encoding). Follows (context_of ts) (rank_of (kind_of x s.id) s.id)) m s.follows in
     let w : bytes_of ts ≡ stream_of Module q.frames = q.covers ∙ ap (λ (x : Encoding). stream_of x q.frames) m in
     let l : s.size ≡ length h.head + 0 + n = omega (arith, h.fits) in
-    let r : Pending (made (code_head h.count (length h.head) n) b ∷ ts) = record {
+    let r : Pending (made (code_start h.count (length h.head) n) b ∷ ts) = record {
       of_module = m;
       frames = q.frames;
       sections = subst (λ (x : Encoding). InOrder x q.frames) m q.sections;
@@ -214,7 +214,7 @@ body_pending ts t q h =
     let n : length b ≡ length h.field + length h.content = length-append h.field h.content in
     let m : q.count ≡ length (q.bodies ++ s ∷ []) + (bodies_left ts - 1) = omega (arith, q.bodies_miss, h.missing) in
     let y : q.size ≡ length q.head + length (flat_map sized_bytes (q.bodies ++ s ∷ [])) + (bytes_left ts - length b) = omega (arith, q.bytes_miss, h.fits, body_bytes q.head q.bodies s) in
-    let r : Pending (made (body h.content) b ∷ ts) = record {
+    let r : Pending (made (code_entry h.content) b ∷ ts) = record {
       of_module = q.of_module;
       frames = q.frames;
       sections = q.sections;

@@ -7,7 +7,7 @@ use Rattle.wasm_base.specs.Name.{named, name_limit, name}
 use Rattle.wasm_parser.specs.declared.payload.Encoding.{Encoding}
 use Rattle.wasm_parser.specs.declared.payload.Encoding.TheVariants.{Module, Component}
 use Rattle.wasm_parser.specs.Content.{kind_of, rank_of, value_of, count_of}
-use Rattle.wasm_parser.specs.Grammar.{section, code_head, body, Tile, tile, SectionContext, Grammar, verdict, section_grammar, body_grammar}
+use Rattle.wasm_parser.specs.Grammar.{section, code_start, code_entry, Tile, tile, SectionContext, Grammar, verdict, section_grammar, body_grammar}
 use Rattle.wasm_parser.specs.Tiling.{bytes_of, grammar, Faultless, context_of, bodies_left, bytes_left}
 use Rattle.wasm_parser.specs.ParserState.{is_start}
 use Rattle.wasm_parser.specs.Accepted.{Sized, sized_bytes, IsSized, Frame, frame_bytes, frame_count, frame_rank, IsFrame, IsGood, FitsAfter, CodeDivision}
@@ -71,7 +71,7 @@ head_of_code p fs o f z k i a r =
 
 -- a good code section that fits begins with the tile of its head
 pub code_step : (p : SectionContext) (fs : List Frame) (o : ℕ) (f : Frame) (d : CodeDivision f.sized.content) → f.id ≡ 10 → o + length (frame_bytes f) < 2 ^ 64 → Knows Module fs p → IsFrame Module f → FitsAfter Module fs f
-    → verdict (section_grammar p o) (10 ∷ (f.sized.field ++ d.field)) ≡ tile (made (code_head (length d.bodies) (length d.field) (length f.sized.content - length d.field)) (10 ∷ (f.sized.field ++ d.field)))
+    → verdict (section_grammar p o) (10 ∷ (f.sized.field ++ d.field)) ≡ tile (made (code_start (length d.bodies) (length d.field) (length f.sized.content - length d.field)) (10 ∷ (f.sized.field ++ d.field)))
 code_step p fs o f d z r k i a =
     let c : frame_count f ≡ length d.bodies = division_count f d in
     let g : CodeFits Module fs (frame_count f) = record { bodies = a.bodies (refl, z); functions = a.functions (refl, z) } in
@@ -93,10 +93,10 @@ some_left a b n e = ne_eqb (a + b) 0 (λ z. absurd (omega arith))
 
 -- a body that a code section misses is a tile
 body_at : (start : ℕ) (ts : List Tile) (s : Sized) (n : ℕ) → is_start ts ≡ false → IsSized s → bodies_left ts ≡ suc n → length (sized_bytes s) ≤ bytes_left ts
-    → verdict (grammar start ts) (sized_bytes s) ≡ tile (made (body s.content) (sized_bytes s))
+    → verdict (grammar start ts) (sized_bytes s) ≡ tile (made (code_entry s.content) (sized_bytes s))
 body_at start ts s n b i e l =
-    subst (λ (g : Grammar). verdict g (sized_bytes s) ≡ tile (made (body s.content) (sized_bytes s))) (sym (grammar_open start ts b (some_left (bodies_left ts) (bytes_left ts) n e)))
-    (subst (λ (m : ℕ). verdict (body_grammar m (bytes_left ts) (start + length (bytes_of ts))) (sized_bytes s) ≡ tile (made (body s.content) (sized_bytes s))) (sym e)
+    subst (λ (g : Grammar). verdict g (sized_bytes s) ≡ tile (made (code_entry s.content) (sized_bytes s))) (sym (grammar_open start ts b (some_left (bodies_left ts) (bytes_left ts) n e)))
+    (subst (λ (m : ℕ). verdict (body_grammar m (bytes_left ts) (start + length (bytes_of ts))) (sized_bytes s) ≡ tile (made (code_entry s.content) (sized_bytes s))) (sym e)
     (body_tile n (bytes_left ts) (start + length (bytes_of ts)) s.field s.content i (omega (arith, length-append s.field s.content))))
 
 -- bodies that a code section misses are tiles
@@ -112,9 +112,9 @@ bodies_walk start [] ts b f a m l = record {
 }
 bodies_walk start (s ∷ bodies) ts b f a m l =
     let h : length (flat_map sized_bytes (s ∷ bodies)) ≡ length (sized_bytes s) + length (flat_map sized_bytes bodies) = length-append (sized_bytes s) (flat_map sized_bytes bodies) in
-    let v : verdict (grammar start ts) (sized_bytes s) ≡ tile (made (body s.content) (sized_bytes s)) = body_at start ts s (length bodies) b (All-head IsSized s bodies a) m (omega arith) in
-    let t : Through start (made (body s.content) (sized_bytes s) ∷ ts) bodies =
-    bodies_walk start bodies (made (body s.content) (sized_bytes s) ∷ ts) refl (f, v) (All-tail IsSized s bodies a) (omega arith) (omega arith) in
+    let v : verdict (grammar start ts) (sized_bytes s) ≡ tile (made (code_entry s.content) (sized_bytes s)) = body_at start ts s (length bodies) b (All-head IsSized s bodies a) m (omega arith) in
+    let t : Through start (made (code_entry s.content) (sized_bytes s) ∷ ts) bodies =
+    bodies_walk start bodies (made (code_entry s.content) (sized_bytes s) ∷ ts) refl (f, v) (All-tail IsSized s bodies a) (omega arith) (omega arith) in
     record {
       tiles = t.tiles;
       begun = t.begun;

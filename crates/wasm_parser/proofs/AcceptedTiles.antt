@@ -13,7 +13,7 @@ use Rattle.wasm_base.proofs.NumberLaws.{number-more, number-used, Used}
 use Rattle.wasm_parser.specs.declared.payload.Encoding.{Encoding}
 use Rattle.wasm_parser.specs.declared.payload.Encoding.TheVariants.{Module, Component}
 use Rattle.wasm_parser.specs.Content.{Kind, custom, items, index, data_count, code, unknown, kind_of, rank_of, Ending, when, wrong_content}
-use Rattle.wasm_parser.specs.Grammar.{Shape, header, section, code_head, body, Tile, tile, SectionContext, Grammar, accept, check, number, bytes, section_start, verdict, header_grammar, section_grammar, body_grammar, content_grammar, whole_grammar, code_grammar, after_id, wrong_count, wrong_data}
+use Rattle.wasm_parser.specs.Grammar.{Shape, version, section, code_start, code_entry, Tile, tile, SectionContext, Grammar, accept, check, number, bytes, section_start, verdict, header_grammar, section_grammar, body_grammar, content_grammar, whole_grammar, code_grammar, after_id, wrong_count, wrong_data}
 use Rattle.wasm_parser.specs.Accepted.{IsNumber, header_bytes}
 use Rattle.wasm_parser.proofs.StateLaws.{Follows}
 use Rattle.wasm_parser.proofs.TileLaws.{one_byte}
@@ -193,29 +193,29 @@ section_tile p o id field content f w n a b =
 
 -- a right count is the head of a code section
 code_tile : (p : SectionContext) (o size count : ℕ) (head : List ℕ) → IsNumber head count → length head ≤ size → wrong_count p o count ≡ None
-    → verdict (code_grammar p o size) head ≡ tile (made (code_head count (length head) (size - length head)) head)
+    → verdict (code_grammar p o size) head ≡ tile (made (code_start count (length head) (size - length head)) head)
 code_tile p o size count head e l w =
-    all_of_it (code_grammar p o size) (code_head count (length head) (size - length head)) head
-    (number_tile o _ head [] count (code_head count (length head) (size - length head)) [] e
+    all_of_it (code_grammar p o size) (code_start count (length head) (size - length head)) head
+    (number_tile o _ head [] count (code_start count (length head) (size - length head)) [] e
     (when_tile (nat_lt size (length head)) _ _ [] _ (le-ltb size (length head) l) (refuse_tile _ _ [] _ w (takes_tile _ []))))
 
 -- a code section up to its count
 pub code_head_tile : (p : SectionContext) (o size count : ℕ) (field head : List ℕ) → HeadIsRight p o 10 field size → kind_of p.encoding 10 ≡ code → IsNumber head count → length head ≤ size
     → ((at : ℕ) → wrong_count p at count ≡ None)
-    → verdict (section_grammar p o) (10 ∷ (field ++ head)) ≡ tile (made (code_head count (length head) (size - length head)) (10 ∷ (field ++ head)))
+    → verdict (section_grammar p o) (10 ∷ (field ++ head)) ≡ tile (made (code_start count (length head) (size - length head)) (10 ∷ (field ++ head)))
 code_head_tile p o size count field head f k e l w =
-    framed_tile p o 10 field size head (code_head count (length head) (size - length head)) f refl
+    framed_tile p o 10 field size head (code_start count (length head) (size - length head)) f refl
     (rw k (code_tile p (o + 1 + length field) size count head e l (w _)))
 
 -- a body
 pub body_tile : (m l o : ℕ) (field content : List ℕ) → IsNumber field (length content) → length field + length content ≤ l
-    → verdict (body_grammar (suc m) l o) (field ++ content) ≡ tile (made (body content) (field ++ content))
+    → verdict (body_grammar (suc m) l o) (field ++ content) ≡ tile (made (code_entry content) (field ++ content))
 unfolding body_grammar
 body_tile m l o field content e h =
-    number_tile o _ field content (length content) (body content) content e
-    (all_of_it _ (body content) content
-    (bytes_tile (length content) (o + length field) _ content [] (body content) [] refl
-    (when_tile (nat_lt l (length field + length content)) _ _ [] _ (le-ltb l (length field + length content) h) (takes_tile (body content) []))))
+    number_tile o _ field content (length content) (code_entry content) content e
+    (all_of_it _ (code_entry content) content
+    (bytes_tile (length content) (o + length field) _ content [] (code_entry content) [] refl
+    (when_tile (nat_lt l (length field + length content)) _ _ [] _ (le-ltb l (length field + length content) h) (takes_tile (code_entry content) []))))
 
 -- the version of an encoding
 abbrev pub header_version : Encoding → ℕ
@@ -223,7 +223,7 @@ header_version Module = 1
 header_version Component = 13
 
 -- a header
-pub header_tile : (o : ℕ) (encoding : Encoding) → verdict (header_grammar o) (header_bytes encoding) ≡ tile (made (header (header_version encoding) encoding) (header_bytes encoding))
+pub header_tile : (o : ℕ) (encoding : Encoding) → verdict (header_grammar o) (header_bytes encoding) ≡ tile (made (version (header_version encoding) encoding) (header_bytes encoding))
 unfolding verdict header_grammar
 header_tile o Module = refl
 header_tile o Component = refl

@@ -7,7 +7,7 @@ use Rattle.std.proofs.lemmas.List.Elements.{All-head, All-tail}
 use Rattle.wasm_parser.specs.declared.payload.Encoding.{Encoding}
 use Rattle.wasm_parser.specs.declared.payload.Encoding.TheVariants.{Module, Component}
 use Rattle.wasm_parser.specs.Content.{Kind, code, kind_of, ended}
-use Rattle.wasm_parser.specs.Grammar.{header, section, code_head, Tile, tile, final, SectionContext, Grammar, verdict, end_of, section_grammar}
+use Rattle.wasm_parser.specs.Grammar.{version, section, code_start, Tile, tile, final, SectionContext, Grammar, verdict, end_of, section_grammar}
 use Rattle.wasm_parser.specs.Tiling.{bytes_of, grammar, Faultless, context_of, bodies_left, bytes_left}
 use Rattle.wasm_parser.specs.Reading.{Reads}
 use Rattle.wasm_parser.specs.ParserState.{is_start}
@@ -87,7 +87,7 @@ module_step start fs f z d q r i a =
     let c : Closed start Module fs ts = q.there in
     let n : ℕ = length f.sized.content - length d.field in
     let hb : List ℕ = 10 ∷ (f.sized.field ++ d.field) in
-    let h : Tile = made (code_head (length d.bodies) (length d.field) n) hb in
+    let h : Tile = made (code_start (length d.bodies) (length d.field) n) hb in
     let v : verdict (grammar start ts) hb ≡ tile h =
     closed_verdict start Module fs ts c hb h (code_step (context_of ts) fs (start + length (bytes_of ts)) f d z (room_for start Module fs f (bytes_of ts) c.covers r) c.knows i a) in
     let l : length f.sized.content ≡ length d.field + length (flat_map sized_bytes d.bodies) = division_length f d in
@@ -139,7 +139,7 @@ frames_walk start encoding all r order (f ∷ later) earlier e a q =
 -- a header is no frame yet
 begins : (start : ℕ) (encoding : Encoding) → Reached start encoding []
 begins start encoding = record {
-  tiles = made (header (header_version encoding) encoding) (header_bytes encoding) ∷ [];
+  tiles = made (version (header_version encoding) encoding) (header_bytes encoding) ∷ [];
   there = record {
     begun = refl;
     faultless = (tt, header_tile start encoding);

@@ -6,7 +6,7 @@ use Rattle.wasm_base.specs.declared.error.Error.{Error}
 use Rattle.wasm_base.specs.declared.fault.Fault.TheVariants.{OffsetRange}
 use Rattle.wasm_parser.specs.ParseAnswer.{report_of, is_end, Consumes, Answers, IsFaultAlone, ParseAnswer, FaultsWithin, IsUnchanged, ItemsBegin}
 use Rattle.wasm_parser.specs.Content.{custom, items, index, data_count, code, unknown, fault, ended}
-use Rattle.wasm_parser.specs.Grammar.{Shape, header, section, code_head, body, Tile, Verdict, tile, final, header_grammar, verdict}
+use Rattle.wasm_parser.specs.Grammar.{Shape, version, section, code_start, code_entry, Tile, Verdict, tile, final, header_grammar, verdict}
 use Rattle.wasm_parser.specs.Reading.{tile_report, custom_report}
 use Rattle.wasm_parser.specs.ParserState.{ParserState, known_context, grammar_of}
 use Rattle.wasm_parser.specs.Tiling.{inside}
@@ -45,15 +45,15 @@ custom_goes_on features from to content (named text used) = refl
 custom_goes_on features from to content (refused f place) = refl
 
 pub goes_on : (features from to : ℕ) (shape : Shape) → is_end (tile_report features from to shape) ≡ false
-goes_on features from to (header num encoding) = refl
+goes_on features from to (version num encoding) = refl
 goes_on features from to (section items id content) = refl
 goes_on features from to (section index id content) = refl
 goes_on features from to (section data_count id content) = refl
 goes_on features from to (section custom id content) = custom_goes_on features (to - length content) to content (name (Some name_limit) content)
 goes_on features from to (section code id content) = refl
 goes_on features from to (section unknown id content) = refl
-goes_on features from to (code_head count width size) = refl
-goes_on features from to (body content) = refl
+goes_on features from to (code_start count width size) = refl
+goes_on features from to (code_entry content) = refl
 
 not_zero : (n : ℕ) → 0 < n → nat_eq n 0 ≡ false
 not_zero n l = grind (arith, nat_tests)

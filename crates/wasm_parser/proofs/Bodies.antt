@@ -11,7 +11,8 @@ use Rattle.wasm_base.specs.declared.fault.NumberKind.TheVariants.{VarU32}
 use Rattle.wasm_parser.specs.ParseAnswer.{IsPayload, MatchesVerdict, ReadsByGrammar}
 use Rattle.wasm_parser.specs.Content.{when}
 use Rattle.wasm_parser.specs.ContentAt.{content_at}
-use Rattle.wasm_parser.specs.Grammar.{SectionContext, Grammar, accept, check, number, code_head, body, verdict, wrong_count, code_grammar, body_of, body_grammar}
+use Rattle.wasm_parser.specs.Grammar
+use Rattle.wasm_parser.specs.Grammar.{SectionContext, Grammar, accept, check, number, verdict, wrong_count, code_grammar, body_of, body_grammar}
 use Rattle.wasm_parser.specs.Reading.{code_start, code_entry, window_over}
 use Rattle.wasm_parser.specs.declared.payload.Payload.{Payload}
 use Rattle.wasm_parser.proofs.Framed.{HasContent, has_content, too_few}
@@ -24,7 +25,7 @@ abbrev counted_grammar : SectionContext → (offset size count width : ℕ) → 
 counted_grammar context offset size count width =
     check (when (nat_lt size width) (at_offset UnexpectedEof offset)) (
     check (wrong_count context offset count) (
-    accept (code_head count width (size - width))))
+    accept (Grammar.code_start count width (size - width))))
 
 -- a count that is not read
 pub code_no_count : (context : SectionContext) (size : ℕ) (p : Place) (e : Error) (a : Place) → unsigned_at VarU32 p ≡ Err (fault_at e) → ReadsByGrammar (code_grammar context p.offset size) p (Err e) a
@@ -41,7 +42,7 @@ code_short context size p q count e a h l f =
 
 -- a count that lies in the section, and that of the functions
 counted_right : (context : SectionContext) (size : ℕ) (p q : Place) (count : ℕ) (r : Result Payload Error) (a : Place) (m : ReadNumber p count q) → q.offset ≤ p.offset + size
-    → ((s : ℕ) → MatchesVerdict s (advanced m.used p) (verdict (check (wrong_count context p.offset count) (accept (code_head count m.used (size - m.used)))) (advanced m.used p).rest) r a) → ReadsByGrammar (code_grammar context p.offset size) p r a
+    → ((s : ℕ) → MatchesVerdict s (advanced m.used p) (verdict (check (wrong_count context p.offset count) (accept (Grammar.code_start count m.used (size - m.used)))) (advanced m.used p).rest) r a) → ReadsByGrammar (code_grammar context p.offset size) p r a
 counted_right context size p q count r a m l next =
     let o : q.offset ≡ p.offset + m.used = ap (λ (x : Place). x.offset) m.after in
     let w : when (nat_lt size m.used) (at_offset UnexpectedEof p.offset) ≡ None = rw (le-ltb size m.used (omega arith)) refl in
@@ -64,7 +65,7 @@ code_read context size p q count payload h l w report =
     let left : p.offset + size - q.offset ≡ size - m.used = omega arith in
     let said : IsPayload (code_start count (p.offset + m.used - m.used) (p.offset + m.used + (size - m.used)) (size - m.used)) payload =
     (report.0 ∙ (λ i. code_start count (from i) (to i) (left i)), report.1) in
-    counted_right context size p q count (Ok payload) q m l (λ s. report_right s (advanced m.used p) (wrong_count context p.offset count) _ (Ok payload) q w (report_whole s (advanced m.used p) (code_head count m.used (size - m.used)) payload q m.after said))
+    counted_right context size p q count (Ok payload) q m l (λ s. report_right s (advanced m.used p) (wrong_count context p.offset count) _ (Ok payload) q w (report_whole s (advanced m.used p) (Grammar.code_start count m.used (size - m.used)) payload q m.after said))
 
 -- what is wrong with a count, by two tests
 pub counts_differ : (context : SectionContext) (offset count : ℕ) (f : FaultAt) → true ≡ not (list_all (nat_eq count) context.functions) → f ≡ at_offset FunctionCodeDiffer offset → wrong_count context offset count ≡ Some f
@@ -116,7 +117,7 @@ body_missing bodies left p q size e a l h c =
 
 -- what is after all its bytes
 whole_body : (bodies left : ℕ) (p q : Place) (size : ℕ) (w : Window) (b : Place) (r : Result Payload Error) (a : Place) (m : ReadNumber p size q) (c : HasContent size (advanced m.used p) w b) → 0 < bodies
-    → ((s : ℕ) → MatchesVerdict s (advanced size (advanced m.used p)) (verdict (check (when (nat_lt left (m.used + size)) (at_offset UnexpectedEof p.offset)) (accept (body (take size (drop m.used p.rest))))) (advanced size (advanced m.used p)).rest) r a)
+    → ((s : ℕ) → MatchesVerdict s (advanced size (advanced m.used p)) (verdict (check (when (nat_lt left (m.used + size)) (at_offset UnexpectedEof p.offset)) (accept (Grammar.code_entry (take size (drop m.used p.rest))))) (advanced size (advanced m.used p)).rest) r a)
     → ReadsByGrammar (body_grammar bodies left p.offset) p r a
 whole_body bodies left p q size w b r a m c l next = body_there bodies left p r a l (λ s. report_number s p p.offset (λ size width. body_of p.offset left size width) r a size m.used m.reads (
     report_bytes s (advanced m.used p) size (p.offset + m.used) _ r a c.there (next s)))
@@ -149,4 +150,4 @@ body_read bodies left p q size w b payload l h k fits report =
     (report.0 ∙ (ap code_entry c.window ∙ ap (λ (x : ℕ). code_entry (window_over p.features x (take size (drop m.used p.rest)))) from), report.1) in
     let right : when (nat_lt left (m.used + size)) (at_offset UnexpectedEof p.offset) ≡ None = rw (le-ltb left (m.used + size) (omega arith)) refl in
     whole_body bodies left p q size w b (Ok payload) b m c l (λ s. report_right s (advanced size (advanced m.used p)) (when (nat_lt left (m.used + size)) (at_offset UnexpectedEof p.offset)) _ (Ok payload) b right (
-    report_whole s (advanced size (advanced m.used p)) (body (take size (drop m.used p.rest))) payload b c.after said))
+    report_whole s (advanced size (advanced m.used p)) (Grammar.code_entry (take size (drop m.used p.rest))) payload b c.after said))

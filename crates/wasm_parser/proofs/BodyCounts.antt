@@ -6,7 +6,8 @@ use Rattle.std.proofs.lemmas.List.Elements.{All-nil, All-push}
 use Rattle.wasm_base.specs.Name.{Name, named, refused, name_limit, name}
 use Rattle.wasm_base.specs.Window.{Window}
 use Rattle.wasm_parser.specs.Content.{Kind, custom, items, index, data_count, code, unknown, Ending, fault, ended}
-use Rattle.wasm_parser.specs.Grammar.{Shape, header, section, code_head, body, Tile, tile, final, SectionContext, verdict, section_grammar, body_grammar}
+use Rattle.wasm_parser.specs.Grammar
+use Rattle.wasm_parser.specs.Grammar.{Shape, section, Tile, tile, final, SectionContext, verdict, section_grammar, body_grammar}
 use Rattle.wasm_parser.specs.Reading.{code_start, code_entry, Event, custom_report, section_report, tile_report, event_of, ending_report, last_event, events_of}
 use Rattle.wasm_parser.specs.SectionLaws.{BodiesFollowTheirCount}
 use Rattle.wasm_parser.specs.Sections.{TellsBody, TellsFault, BodiesFollow}
@@ -50,10 +51,10 @@ start_in_section features from to unknown id content count a b size e = cc
 
 -- the tile of a start misses the bodies that are reported
 start_misses : (features low high old : ℕ) (s : Shape) (count from to size : ℕ) → tile_report features low high s ≡ code_start count from to size → bodies_after s old ≡ count
-start_misses features low high old (header num encoding) count from to size e = cc
+start_misses features low high old (Grammar.version num encoding) count from to size e = cc
 start_misses features low high old (section kind id content) count from to size e = absurd (start_in_section features _ _ kind id content count from to size e)
-start_misses features low high old (code_head n width left) count from to size e = cc
-start_misses features low high old (body content) count from to size e = cc
+start_misses features low high old (Grammar.code_start n width left) count from to size e = cc
+start_misses features low high old (Grammar.code_entry content) count from to size e = cc
 
 no_start : (end : Ending) (count from to size : ℕ) → ending_report end ≡ code_start count from to size → ⊥
 no_start (fault f) count from to size e = cc
@@ -75,21 +76,21 @@ body_in_section features from to unknown id content w e = cc
 -- only a body's tile is reported as a body
 report_body : (features low high : ℕ) (s : Shape) (w : Window) → tile_report features low high s ≡ code_entry w → IsBody s
 report_body features low high (section kind id content) w e = absurd (body_in_section features _ _ kind id content w e)
-report_body features low high (code_head n width left) w e = cc
-report_body features low high (header num encoding) w e = cc
-report_body features low high (body content) w e = tt
+report_body features low high (Grammar.code_start n width left) w e = cc
+report_body features low high (Grammar.version num encoding) w e = cc
+report_body features low high (Grammar.code_entry content) w e = tt
 
 placed_apart : (p : SectionContext) (s : Shape) → Placed p s → IsBody s → ⊥
 placed_apart p (section kind id content) q b = b
-placed_apart p (code_head n width left) q b = b
-placed_apart p (header num encoding) q b = b
-placed_apart p (body content) q b = q
+placed_apart p (Grammar.code_start n width left) q b = b
+placed_apart p (Grammar.version num encoding) q b = b
+placed_apart p (Grammar.code_entry content) q b = q
 
 header_apart : (s : Shape) → IsHeader s → IsBody s → ⊥
 header_apart (section kind id content) q b = b
-header_apart (code_head n width left) q b = b
-header_apart (header num encoding) q b = b
-header_apart (body content) q b = q
+header_apart (Grammar.code_start n width left) q b = b
+header_apart (Grammar.version num encoding) q b = b
+header_apart (Grammar.code_entry content) q b = q
 
 no_last : (end : Ending) (w : Window) → ending_report end ≡ code_entry w → ⊥
 no_last (fault f) w e = cc
@@ -146,7 +147,7 @@ open_more start features u ts t count after true z o e s =
     inr (shuts features o count t (u ∷ ts) after (placed_apart (context_of (u ∷ ts)) t.shape p) (omega arith) s)
 open_more start features u ts t count after false z o e s =
     let p : BodyParts (bodies_left (u ∷ ts)) (bytes_left (u ∷ ts)) t = body_parts (bodies_left (u ∷ ts)) (bytes_left (u ∷ ts)) o t.bytes t e in
-    let h : t.shape ≡ body p.content = ap (λ (x : Tile). x.shape) p.is in
+    let h : t.shape ≡ Grammar.code_entry p.content = ap (λ (x : Tile). x.shape) p.is in
     let l : bodies_left (t ∷ u ∷ ts) ≡ bodies_left (u ∷ ts) - 1 = ap (λ (x : Shape). bodies_after x (bodies_left (u ∷ ts))) h in
     inl (record {
       each = All-push TellsBody after (event_of features o t) s.each (_, ap (tile_report features o (o + length t.bytes)) h);

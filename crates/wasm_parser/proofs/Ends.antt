@@ -11,7 +11,7 @@ use Rattle.wasm_base.specs.declared.fault.Fault.TheVariants.{UnexpectedEof, Magi
 use Rattle.wasm_base.specs.declared.fault.NumberKind.TheVariants.{VarU32}
 use Rattle.wasm_base.proofs.NumberLaws.{Used, number-used}
 use Rattle.wasm_parser.specs.Content.{Kind, custom, items, index, data_count, code, unknown, kind_of, Ending, fault, ended}
-use Rattle.wasm_parser.specs.Grammar.{Shape, header, section, code_head, body, Tile, Verdict, tile, final, Grammar, accept, reject, check, number, bytes, section_start, after, after_number, verdict, SectionContext, header_of, header_grammar, end_of, content_grammar, section_grammar, body_grammar}
+use Rattle.wasm_parser.specs.Grammar.{Shape, version, section, code_start, code_entry, Tile, Verdict, tile, final, Grammar, accept, reject, check, number, bytes, section_start, after, after_number, verdict, SectionContext, header_of, header_grammar, end_of, content_grammar, section_grammar, body_grammar}
 use Rattle.wasm_parser.specs.Laws.{EventsLieEndToEnd}
 use Rattle.wasm_parser.specs.Reading.{Event, window_over, custom_report, section_report, tile_report, event_of, ending_report, last_event, events_of, Reads}
 use Rattle.wasm_parser.specs.EventRanges.{consumed_by, IsPart, LiesIn, LiesBetween, AtOffsets, EndToEnd}
@@ -24,10 +24,10 @@ use Rattle.wasm_parser.proofs.Places.{name_used}
 -- ---- a tile's bytes end with its content
 
 abbrev pub Closes : Shape → (passed : List ℕ) → Type 0
-Closes (header version encoding) passed = Unit {0}
+Closes (version num encoding) passed = Unit {0}
 Closes (section kind id content) passed = (prefix : List ℕ) × (passed ≡ prefix ++ content)
-Closes (code_head count width size) passed = width ≤ length passed
-Closes (body content) passed = (prefix : List ℕ) × (passed ≡ prefix ++ content)
+Closes (code_start count width size) passed = width ≤ length passed
+Closes (code_entry content) passed = (prefix : List ℕ) × (passed ≡ prefix ++ content)
 
 -- each tile of this grammar ends with its content, where these bytes of it have been passed
 abbrev pub Closing : (passed : List ℕ) → Grammar → Type 0
@@ -201,11 +201,11 @@ section_lies stream start low high features unknown id content p = (whole_range 
 
 lies_between : (stream earlier passed rest : List ℕ) (start low high features : ℕ) (shape : Shape) → stream ≡ earlier ++ (passed ++ rest) → low ≡ start + length earlier → high ≡ low + length passed → Closes shape passed
     → LiesBetween stream start features low high (tile_report features low high shape)
-lies_between stream earlier passed rest start low high features (header version encoding) w l h c = (refl, refl)
+lies_between stream earlier passed rest start low high features (version num encoding) w l h c = (refl, refl)
 lies_between stream earlier passed rest start low high features (section kind id content) w l h (before, c) =
     section_lies stream start low high features kind id content (placed stream earlier before content rest start low high (w ∙ ap (λ (x : List ℕ). earlier ++ (x ++ rest)) c) l (h ∙ ap (λ (x : List ℕ). low + length x) c))
-lies_between stream earlier passed rest start low high features (code_head count width size) w l h c = (record { above = omega arith; order = omega arith; below = le_refl high }, refl)
-lies_between stream earlier passed rest start low high features (body content) w l h (before, c) =
+lies_between stream earlier passed rest start low high features (code_start count width size) w l h c = (record { above = omega arith; order = omega arith; below = le_refl high }, refl)
+lies_between stream earlier passed rest start low high features (code_entry content) w l h (before, c) =
     let p : Placed stream start low high content = placed stream earlier before content rest start low high (w ∙ ap (λ (x : List ℕ). earlier ++ (x ++ rest)) c) l (h ∙ ap (λ (x : List ℕ). low + length x) c) in
     (part_is stream start low high content features p, range_is stream start low high content p, p.ends)
 

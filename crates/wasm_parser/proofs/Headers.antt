@@ -9,7 +9,7 @@ use Rattle.wasm_base.specs.declared.error.Error.{Error}
 use Rattle.wasm_base.specs.declared.fault.Fault.TheVariants.{UnexpectedEof, BadMagic, UnknownVersion}
 use Rattle.wasm_parser.specs.ParseAnswer.{IsPayload, MatchesVerdict}
 use Rattle.wasm_parser.specs.Content.{when}
-use Rattle.wasm_parser.specs.Grammar.{header, verdict, encoding_named, version_of, header_grammar}
+use Rattle.wasm_parser.specs.Grammar.{version, verdict, encoding_named, version_of, header_grammar}
 use Rattle.wasm_parser.specs.Reading.{tile_report}
 use Rattle.wasm_parser.specs.declared.payload.Encoding.{Encoding}
 use Rattle.wasm_parser.specs.declared.payload.Payload.{Payload}
@@ -77,9 +77,9 @@ report_eight s p bits q r a h t =
 
 -- a header of a known version
 pub header_report : (p : Place) (bits : ℕ) (q : Place) (e : Encoding) (payload : Payload) → header_version_at p ≡ Ok (bits, q) → Some e ≡ encoding_named (bits % 65536) (bits / 65536)
-    → IsPayload (tile_report q.features p.offset q.offset (header (bits % 65536) e)) payload → MatchesVerdict p.offset p (verdict (header_grammar p.offset) p.rest) (Ok payload) q
+    → IsPayload (tile_report q.features p.offset q.offset (version (bits % 65536) e)) payload → MatchesVerdict p.offset p (verdict (header_grammar p.offset) p.rest) (Ok payload) q
 header_report p bits q e payload h n t =
-    report_eight p.offset p bits q (Ok payload) q (header_read p bits q h) (rw (← n) (report_whole p.offset q (header (bits % 65536) e) payload q refl t))
+    report_eight p.offset p bits q (Ok payload) q (header_read p bits q h) (rw (← n) (report_whole p.offset q (version (bits % 65536) e) payload q refl t))
 
 -- one of an unknown version
 pub header_unnamed : (p : Place) (bits : ℕ) (q : Place) (e : Error) → header_version_at p ≡ Ok (bits, q) → None ≡ encoding_named (bits % 65536) (bits / 65536)

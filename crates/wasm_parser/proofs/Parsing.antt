@@ -8,7 +8,7 @@ use Rattle.wasm_base.specs.declared.fault.Fault.TheVariants.{FunctionWithoutCode
 use Rattle.wasm_parser.specs.ParseAnswer.{report_of, Answers, Advances, ParseAnswer}
 use Rattle.wasm_parser.specs.StateAfter.{state_after}
 use Rattle.wasm_parser.specs.Content.{Kind, custom, items, index, data_count, code, unknown, kind_of, Ending, fault, ended}
-use Rattle.wasm_parser.specs.Grammar.{Shape, header, section, code_head, body, Tile, Verdict, tile, final, SectionContext, end_of, section_grammar, body_grammar, content_grammar, header_grammar, verdict}
+use Rattle.wasm_parser.specs.Grammar.{Shape, version, section, code_start, code_entry, Tile, Verdict, tile, final, SectionContext, end_of, section_grammar, body_grammar, content_grammar, header_grammar, verdict}
 use Rattle.wasm_parser.specs.Reading.{ending, tile_report, custom_report}
 use Rattle.wasm_parser.specs.ParserState.{ParserState, known_context, grammar_of}
 use Rattle.wasm_parser.specs.Tiling.{inside}

@@ -7,7 +7,7 @@ use Rattle.wasm_base.specs.Name.{Name, named, refused, name_limit, name}
 use Rattle.wasm_parser.specs.declared.payload.Encoding.{Encoding}
 use Rattle.wasm_parser.specs.declared.payload.Encoding.TheVariants.{Module, Component}
 use Rattle.wasm_parser.specs.Content.{Kind, custom, items, index, data_count, code, unknown, kind_of, Ending, fault, ended}
-use Rattle.wasm_parser.specs.Grammar.{Shape, header, section, code_head, body, Tile, tile, SectionContext, verdict, section_grammar, body_grammar, content_grammar}
+use Rattle.wasm_parser.specs.Grammar.{Shape, version, section, code_start, code_entry, Tile, tile, SectionContext, verdict, section_grammar, body_grammar, content_grammar}
 use Rattle.wasm_parser.specs.Reading.{Event, custom_report, section_report, tile_report, event_of, last_event, events_of}
 use Rattle.wasm_parser.specs.Sections.{section_of, sections_of}
 use Rattle.wasm_parser.specs.Tiling.{bytes_of, context_of, grammar, encoding_of, bodies_left, bytes_left}
@@ -20,9 +20,9 @@ use Rattle.wasm_parser.proofs.KindIds.{IdOf, id_as, code_id}
 -- the tile's kind is that of its id, and a code section's head is in a module
 abbrev pub Kinded : Encoding → Shape → Type 0
 Kinded encoding (section kind id content) = kind ≡ kind_of encoding id
-Kinded encoding (code_head count width size) = encoding ≡ Module
-Kinded encoding (body content) = Unit {0}
-Kinded encoding (header version other) = ⊥
+Kinded encoding (code_start count width size) = encoding ≡ Module
+Kinded encoding (code_entry content) = Unit {0}
+Kinded encoding (version num other) = ⊥
 
 kinded_content : (p : SectionContext) (kind : Kind) (id o n : ℕ) → kind ≡ kind_of p.encoding id → Each (Kinded p.encoding) (content_grammar p kind id o n)
 kinded_content p custom id o n e = λ b x y. e
@@ -38,10 +38,10 @@ kinded_section p o xs t e = each_tile (Kinded p.encoding) (section_grammar p o)
     (λ id x n k y z. kinded_content p (kind_of p.encoding id) id (o + 1 + k) n refl) xs t e
 
 kinded_body : (encoding : Encoding) (s : Shape) → IsBody s → Kinded encoding s
-kinded_body encoding (body content) b = tt
+kinded_body encoding (code_entry content) b = tt
 kinded_body encoding (section kind id content) b = absurd b
-kinded_body encoding (code_head count width size) b = absurd b
-kinded_body encoding (header version other) b = absurd b
+kinded_body encoding (code_start count width size) b = absurd b
+kinded_body encoding (version num other) b = absurd b
 
 kinded_at : (b : Bool) (p : SectionContext) (m l o : ℕ) (xs : List ℕ) (t : Tile) → verdict (cond b (section_grammar p o) (body_grammar m l o)) xs ≡ tile t → Kinded p.encoding t.shape
 kinded_at true p m l o xs t e = kinded_section p o xs t e
@@ -54,9 +54,9 @@ kinded start u ts xs t e =
 
 encoding_kept : (t : Tile) (ts : List Tile) (s : Shape) → t.shape ≡ s → Kinded (encoding_of ts) s → encoding_of (t ∷ ts) ≡ encoding_of ts
 encoding_kept t ts (section kind id content) e k = rw e refl
-encoding_kept t ts (code_head count width size) e k = rw e refl
-encoding_kept t ts (body content) e k = rw e refl
-encoding_kept t ts (header version other) e k = absurd k
+encoding_kept t ts (code_start count width size) e k = rw e refl
+encoding_kept t ts (code_entry content) e k = rw e refl
+encoding_kept t ts (version num other) e k = absurd k
 
 -- it names no other encoding
 pub same_encoding : (t : Tile) (ts : List Tile) → Kinded (encoding_of ts) t.shape → encoding_of (t ∷ ts) ≡ encoding_of ts
@@ -67,9 +67,9 @@ same_encoding t ts k = encoding_kept t ts t.shape refl k
 -- the section that is reported of a tile that ends at this offset
 abbrev pub section_at : (high : ℕ) → Shape → Option (ℕ × Range ℕ)
 section_at high (section kind id content) = Some (id, record { start = high - length content; end = high })
-section_at high (code_head count width size) = Some (10, record { start = high - width; end = high + size })
-section_at high (body content) = None
-section_at high (header version encoding) = None
+section_at high (code_start count width size) = Some (10, record { start = high - width; end = high + size })
+section_at high (code_entry content) = None
+section_at high (version num encoding) = None
 
 -- the id that is reported of a section of this kind
 abbrev id_report : Kind → ℕ → ℕ
@@ -111,19 +111,19 @@ report_shape encoding features low bytes (section kind id content) k (before, c)
     let i : id_report kind id ≡ id = id_same encoding kind id (id_as encoding kind id (sym k)) in
     report_kind features (low + length bytes - length content) (low + length bytes) kind id content (omega arith)
     ∙ ap (λ (x : ℕ). over x (low + length bytes - length content) (low + length bytes)) i
-report_shape encoding features low bytes (code_head count width size) k c = refl
-report_shape encoding features low bytes (body content) k c = refl
-report_shape encoding features low bytes (header version other) k c = absurd k
+report_shape encoding features low bytes (code_start count width size) k c = refl
+report_shape encoding features low bytes (code_entry content) k c = refl
+report_shape encoding features low bytes (version num other) k c = absurd k
 
 -- what is reported of a tile after a header
 pub report_after : (start features low : ℕ) (u : Tile) (ts : List Tile) (t : Tile) → verdict (grammar start (u ∷ ts)) t.bytes ≡ tile t → section_of (event_of features low t).report ≡ section_at (low + length t.bytes) t.shape
 report_after start features low u ts t e = report_shape (encoding_of (u ∷ ts)) features low t.bytes t.shape (kinded start u ts t.bytes t e) (tile_closes start (u ∷ ts) t.bytes t e)
 
 report_header : (features low high : ℕ) (s : Shape) → IsHeader s → section_of (tile_report features low high s) ≡ None
-report_header features low high (header version other) h = refl
+report_header features low high (version num other) h = refl
 report_header features low high (section kind id content) h = absurd h
-report_header features low high (code_head count width size) h = absurd h
-report_header features low high (body content) h = absurd h
+report_header features low high (code_start count width size) h = absurd h
+report_header features low high (code_entry content) h = absurd h
 
 -- ---- what is reported of all tiles
 

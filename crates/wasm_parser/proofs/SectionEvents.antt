@@ -7,7 +7,8 @@ use Rattle.wasm_base.specs.Number.{read}
 use Rattle.wasm_base.specs.Window.{Window}
 use Rattle.wasm_parser.specs.Accepted.{IsNumber, IsGood}
 use Rattle.wasm_parser.specs.Content.{Kind, custom, items, index, data_count, code, unknown, kind_of, Ending, fault, ended, value_of}
-use Rattle.wasm_parser.specs.Grammar.{Shape, header, section, code_head, body, Tile, tile, SectionContext, verdict, section_grammar, body_grammar, content_grammar, code_grammar}
+use Rattle.wasm_parser.specs.Grammar
+use Rattle.wasm_parser.specs.Grammar.{Shape, section, Tile, tile, SectionContext, verdict, section_grammar, body_grammar, content_grammar, code_grammar}
 use Rattle.wasm_parser.specs.Laws.{EventsSayTheirBytes}
 use Rattle.wasm_parser.specs.Reading.{Report, code_entry, window_over, custom_report, section_report, event_of, last_event, events_of}
 use Rattle.wasm_parser.specs.SectionEvents.{bytes_of_bodies, SaysContent, IsSectionEvent, SaysItsBytes}
@@ -90,12 +91,12 @@ whole_event features o id field content kind n w g i range e =
 
 -- the head of a code section
 head_event : (features o id size count : ℕ) (field head : List ℕ) → id ≡ 10 → IsNumber field (length head + size) → IsNumber head count
-    → (i : ℕ) (range : Range ℕ) → Same i range (section_at (o + length (id ∷ (field ++ head))) (code_head count (length head) size))
-    → IsSectionEvent features o i range (event_of features o (made (code_head count (length head) size) (id ∷ (field ++ head))))
+    → (i : ℕ) (range : Range ℕ) → Same i range (section_at (o + length (id ∷ (field ++ head))) (Grammar.code_start count (length head) size))
+    → IsSectionEvent features o i range (event_of features o (made (Grammar.code_start count (length head) size) (id ∷ (field ++ head))))
 head_event features o id size count field head z n c i range e =
     let high : ℕ = o + length (id ∷ (field ++ head)) in
     let l : length (field ++ head) ≡ length field + length head = length-append field head in
-    let at : IsSectionEvent features o id (record { start = high - length head; end = high + size }) (event_of features o (made (code_head count (length head) size) (id ∷ (field ++ head)))) = record {
+    let at : IsSectionEvent features o id (record { start = high - length head; end = high + size }) (event_of features o (made (Grammar.code_start count (length head) size) (id ∷ (field ++ head)))) = record {
       field = field;
       content = head;
       bytes = refl;
@@ -106,8 +107,8 @@ head_event features o id size count field head z n c i range e =
     } in
     let a : id ≡ i = z ∙ id_is 10 i (record { start = high - length head; end = high + size }) range e in
     let r : record { start = high - length head; end = high + size } ≡ range = range_is 10 i (record { start = high - length head; end = high + size }) range e in
-    subst (λ (x : ℕ). IsSectionEvent features o x range (event_of features o (made (code_head count (length head) size) (id ∷ (field ++ head))))) a
-    (subst (λ (x : Range ℕ). IsSectionEvent features o id x (event_of features o (made (code_head count (length head) size) (id ∷ (field ++ head))))) r at)
+    subst (λ (x : ℕ). IsSectionEvent features o x range (event_of features o (made (Grammar.code_start count (length head) size) (id ∷ (field ++ head))))) a
+    (subst (λ (x : Range ℕ). IsSectionEvent features o id x (event_of features o (made (Grammar.code_start count (length head) size) (id ∷ (field ++ head))))) r at)
 
 -- ---- the event of a tile
 
@@ -127,7 +128,7 @@ whole_says features o id field content kind n w g q =
 
 -- the event of the head of a code section
 head_says : (features o id size count : ℕ) (field head : List ℕ) → id ≡ 10 → IsNumber field (length head + size) → IsNumber head count
-    → ReportedThere features o (made (code_head count (length head) size) (id ∷ (field ++ head))) → SaysItsBytes features o (event_of features o (made (code_head count (length head) size) (id ∷ (field ++ head))))
+    → ReportedThere features o (made (Grammar.code_start count (length head) size) (id ∷ (field ++ head))) → SaysItsBytes features o (event_of features o (made (Grammar.code_start count (length head) size) (id ∷ (field ++ head))))
 head_says features o id size count field head z n c q = record {
   section = λ i range e. head_event features o id size count field head z n c i range (sym q ∙ e);
   body = λ window e. cc;
@@ -137,7 +138,7 @@ head_says features o id size count field head z n c q = record {
 window_same : (v w : Window) → (let report : Report = code_entry v in report) ≡ code_entry w → v ≡ w
 window_same v w e = cc
 
-body_says : (features o : ℕ) (field content : List ℕ) → IsNumber field (length content) → SaysItsBytes features o (event_of features o (made (body content) (field ++ content)))
+body_says : (features o : ℕ) (field content : List ℕ) → IsNumber field (length content) → SaysItsBytes features o (event_of features o (made (Grammar.code_entry content) (field ++ content)))
 body_says features o field content n =
     let high : ℕ = o + length (field ++ content) in
     let l : length (field ++ content) ≡ length field + length content = length-append field content in
@@ -167,7 +168,7 @@ section_says features o p t q s = at (whole_or_code (kind_of p.encoding s.id))
     at (inr k) =
         let g : verdict (code_grammar p (o + 1 + length s.field) s.size) s.others ≡ tile s.rest = subst (λ (x : Kind). verdict (content_grammar p x s.id (o + 1 + length s.field) s.size) s.others ≡ tile s.rest) k s.goes_on in
         let c : HeadParts p (o + 1 + length s.field) s.size s.rest = head_parts p (o + 1 + length s.field) s.size s.others s.rest g in
-        let z : t ≡ made (code_head c.count (length c.head) (s.size - length c.head)) (s.id ∷ (s.field ++ c.head)) = s.is ∙ ap (λ (x : Tile). made x.shape (s.id ∷ (s.field ++ x.bytes))) c.is in
+        let z : t ≡ made (Grammar.code_start c.count (length c.head) (s.size - length c.head)) (s.id ∷ (s.field ++ c.head)) = s.is ∙ ap (λ (x : Tile). made x.shape (s.id ∷ (s.field ++ x.bytes))) c.is in
         let n : IsNumber s.field (length c.head + (s.size - length c.head)) = subst (IsNumber s.field) (omega (arith, c.fits)) s.whole in
         subst (λ (x : Tile). SaysItsBytes features o (event_of features o x)) (sym z)
         (head_says features o s.id (s.size - length c.head) c.count s.field c.head (code_id p.encoding s.id k).1 n c.whole (subst (ReportedThere features o) z q))
@@ -177,10 +178,10 @@ body_tile_says features o m l t b = subst (λ (x : Tile). SaysItsBytes features 
 
 -- the event of a header
 header_says : (features o : ℕ) (t : Tile) (s : Shape) → t.shape ≡ s → IsHeader s → SaysItsBytes features o (event_of features o t)
-header_says features o t (header version encoding) e h = record { section = λ i range x. cc; body = λ window x. cc }
+header_says features o t (Grammar.version num encoding) e h = record { section = λ i range x. cc; body = λ window x. cc }
 header_says features o t (section kind id content) e h = absurd h
-header_says features o t (code_head count width size) e h = absurd h
-header_says features o t (body content) e h = absurd h
+header_says features o t (Grammar.code_start count width size) e h = absurd h
+header_says features o t (Grammar.code_entry content) e h = absurd h
 
 -- the event of a tile after a header
 inside_says : (features o : ℕ) (b : Bool) (p : SectionContext) (m l : ℕ) (t : Tile) → ReportedThere features o t → verdict (cond b (section_grammar p o) (body_grammar m l o)) t.bytes ≡ tile t → SaysItsBytes features o (event_of features o t)

@@ -7,7 +7,7 @@ use Rattle.std.proofs.lemmas.List.Elements.{All-nil, All-push, All-weaker}
 use Rattle.wasm_base.specs.Number.{read}
 use Rattle.wasm_parser.specs.Accepted.{header_bytes, IsNumber, IsSized, Frame, frame_bytes, IsFrame, IsAccepted}
 use Rattle.wasm_parser.specs.Content.{Kind, code, kind_of, ended}
-use Rattle.wasm_parser.specs.Grammar.{section, code_head, Tile, tile, verdict, section_grammar, body_grammar, content_grammar}
+use Rattle.wasm_parser.specs.Grammar.{section, code_start, Tile, tile, verdict, section_grammar, body_grammar, content_grammar}
 use Rattle.wasm_parser.specs.Reading.{events_of, Reads}
 use Rattle.wasm_parser.specs.SectionLaws.{SectionsTile}
 use Rattle.wasm_parser.specs.Sections.{sections_of, bytes_in, id_and_bytes, id_and_content, places_of}
@@ -160,8 +160,8 @@ closed_code start features u ts o t h q s e =
     let c : HeadParts (context_of (u ∷ ts)) at s.size s.rest = head_parts (context_of (u ∷ ts)) at s.size s.others s.rest v in
     let left : ℕ = s.size - length c.head in
     let bytes : List ℕ = 10 ∷ (s.field ++ c.head) in
-    let z : t ≡ made (code_head c.count (length c.head) left) bytes =
-    s.is ∙ (ap (λ (x : Tile). made x.shape (s.id ∷ (s.field ++ x.bytes))) c.is ∙ ap (λ (x : ℕ). made (code_head c.count (length c.head) left) (x ∷ (s.field ++ c.head))) i) in
+    let z : t ≡ made (code_start c.count (length c.head) left) bytes =
+    s.is ∙ (ap (λ (x : Tile). made x.shape (s.id ∷ (s.field ++ x.bytes))) c.is ∙ ap (λ (x : ℕ). made (code_start c.count (length c.head) left) (x ∷ (s.field ++ c.head))) i) in
     let low : ℕ = start + length (bytes_of (u ∷ ts)) in
     let n : length (bytes_of (u ∷ ts)) ≡ length (stream_of q.encoding q.frames) = ap (λ (x : List ℕ). length x) q.covers in
     let m : length (s.field ++ c.head) ≡ length s.field + length c.head = length-append s.field c.head in

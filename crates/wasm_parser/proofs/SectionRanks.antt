@@ -8,7 +8,8 @@ use Rattle.std.proofs.lemmas.List.Quantifiers.{all_pairs_push}
 use Rattle.wasm_parser.specs.declared.payload.Encoding.{Encoding}
 use Rattle.wasm_parser.specs.declared.payload.Encoding.TheVariants.{Module}
 use Rattle.wasm_parser.specs.Content.{Kind, code, kind_of, Ending, fault, ended, rank_of}
-use Rattle.wasm_parser.specs.Grammar.{Shape, header, section, code_head, body, Tile}
+use Rattle.wasm_parser.specs.Grammar
+use Rattle.wasm_parser.specs.Grammar.{Shape, section, Tile}
 use Rattle.wasm_parser.specs.Reading.{version, Event, tile_report, event_of, ending_report, last_event, events_of}
 use Rattle.wasm_parser.specs.SectionLaws.{RanksAscend}
 use Rattle.wasm_parser.specs.Sections.{sections_of, BeginsAs, rank_in, RanksBelow}
@@ -31,9 +32,9 @@ Under encoding r s = rank_in encoding s.0 < r
 
 under_push : (encoding : Encoding) (r high : ℕ) (s : Shape) (xs : List (ℕ × Range ℕ)) → Kinded encoding s → tile_rank s < r → All (Under encoding r) xs → All (Under encoding r) (xs ++ option_to_list (section_at high s))
 under_push encoding r high (section kind id content) xs k l a = All-push (Under encoding r) xs _ a (let e = rank_report encoding kind id k in omega arith)
-under_push encoding r high (code_head count width size) xs k l a = All-push (Under encoding r) xs _ a (let e = code_report encoding k in omega arith)
-under_push encoding r high (body content) xs k l a = subst (All (Under encoding r)) (sym (append-nil xs)) a
-under_push encoding r high (header num other) xs k l a = absurd k
+under_push encoding r high (Grammar.code_start count width size) xs k l a = All-push (Under encoding r) xs _ a (let e = code_report encoding k in omega arith)
+under_push encoding r high (Grammar.code_entry content) xs k l a = subst (All (Under encoding r)) (sym (append-nil xs)) a
+under_push encoding r high (Grammar.version num other) xs k l a = absurd k
 
 all_under : (start features r : ℕ) (t : Tile) (ts : List Tile) → Faultless start (t ∷ ts) → list_all (λ (u : Tile). nat_lt (tile_rank u.shape) r) (t ∷ ts) ≡ true
     → All (Under (encoding_of (t ∷ ts)) r) (sections_of (events_of start features (t ∷ ts)))
@@ -55,9 +56,9 @@ pair_push encoding xs x r e u a =
 
 pairs_more : (encoding : Encoding) (high : ℕ) (s : Shape) (xs : List (ℕ × Range ℕ)) → Kinded encoding s → (0 < tile_rank s → All (Under encoding (tile_rank s)) xs) → AllPairs (RanksBelow encoding) xs → AllPairs (RanksBelow encoding) (xs ++ option_to_list (section_at high s))
 pairs_more encoding high (section kind id content) xs k u a = pair_push encoding xs _ (rank_of kind id) (rank_report encoding kind id k) u a
-pairs_more encoding high (code_head count width size) xs k u a = pair_push encoding xs _ (rank_of code 10) (code_report encoding k) u a
-pairs_more encoding high (body content) xs k u a = subst (AllPairs (RanksBelow encoding)) (sym (append-nil xs)) a
-pairs_more encoding high (header num other) xs k u a = absurd k
+pairs_more encoding high (Grammar.code_start count width size) xs k u a = pair_push encoding xs _ (rank_of code 10) (code_report encoding k) u a
+pairs_more encoding high (Grammar.code_entry content) xs k u a = subst (AllPairs (RanksBelow encoding)) (sym (append-nil xs)) a
+pairs_more encoding high (Grammar.version num other) xs k u a = absurd k
 
 pairs : (start features : ℕ) (t : Tile) (ts : List Tile) → Faultless start (t ∷ ts) → AllPairs (RanksBelow (encoding_of (t ∷ ts))) (sections_of (events_of start features (t ∷ ts)))
 pairs start features t [] f = subst (AllPairs (RanksBelow (encoding_of (t ∷ [])))) (sym (sections_first start features t f.1)) (λ i j d l within. absurd (omega arith))
@@ -72,10 +73,10 @@ pairs start features t (u ∷ ts) f =
 -- ---- the header's encoding
 
 named_report : (features low high : ℕ) (s : Shape) (num : ℕ) (encoding other : Encoding) (from to : ℕ) → IsHeader s → tile_report features low high s ≡ version num encoding from to → encoding_in s other ≡ encoding
-named_report features low high (header n x) num encoding other from to h e = cc
+named_report features low high (Grammar.version n x) num encoding other from to h e = cc
 named_report features low high (section kind id content) num encoding other from to h e = absurd h
-named_report features low high (code_head count width size) num encoding other from to h e = absurd h
-named_report features low high (body content) num encoding other from to h e = absurd h
+named_report features low high (Grammar.code_start count width size) num encoding other from to h e = absurd h
+named_report features low high (Grammar.code_entry content) num encoding other from to h e = absurd h
 
 -- events that begin with those of tiles name their encoding
 first_named : (start features : ℕ) (t : Tile) (ts : List Tile) (more : List Event) (encoding : Encoding) → Faultless start (t ∷ ts) → BeginsAs encoding (events_of start features (t ∷ ts) ++ more) → encoding_of (t ∷ ts) ≡ encoding

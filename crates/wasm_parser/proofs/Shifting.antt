@@ -11,7 +11,8 @@ use Rattle.wasm_base.specs.declared.fault.Fault.{Fault}
 use Rattle.wasm_base.specs.declared.fault.Fault.TheVariants.{UnexpectedEof, MagicAtSection, SectionTooLarge, StartContent, DataCountContent, UnknownVersion, OutOfOrder, MalformedSectionId, BadMagic, FunctionCodeDiffer, CodeWithoutFunction, FunctionWithoutCode, DataCountWithoutData, DataCountDiffer}
 use Rattle.wasm_base.specs.declared.fault.NumberKind.TheVariants.{VarU32}
 use Rattle.wasm_parser.specs.Content.{Kind, custom, items, index, data_count, code, unknown, kind_of, rank_of, Ending, fault, ended, when, wrong_number, wrong_single, wrong_name, wrong_content}
-use Rattle.wasm_parser.specs.Grammar.{Shape, header, section, code_head, body, Tile, Verdict, tile, final, Grammar, accept, reject, check, number, bytes, section_start, after, after_number, verdict, SectionContext, header_of, version_of, header_grammar, end_of, wrong_count, code_grammar, wrong_data, whole_grammar, content_grammar, after_length, after_id, section_grammar, body_of, body_grammar}
+use Rattle.wasm_parser.specs.Grammar
+use Rattle.wasm_parser.specs.Grammar.{Shape, section, Tile, Verdict, tile, final, Grammar, accept, reject, check, number, bytes, section_start, after, after_number, verdict, SectionContext, header_of, version_of, header_grammar, end_of, wrong_count, code_grammar, wrong_data, whole_grammar, content_grammar, after_length, after_id, section_grammar, body_of, body_grammar}
 use Rattle.wasm_parser.specs.Laws.{StartOnlyMoves}
 use Rattle.wasm_parser.specs.Shifted.{shifted_fault, shifted_ending, shifted_report, shifted_event, shifted_events, PassesTheTop}
 use Rattle.wasm_parser.specs.Reading.{code_start, code_entry, custom_section, window_over, custom_report, section_report, tile_report, event_of, last_event, events_of, Reads}
@@ -214,7 +215,7 @@ Like-section by p o = (after_id p (o + by), ap (λ (x : Ending). section_start (
 Like-body_of : (by o left n width : ℕ) → Like by (body_of o left n width) (body_of (o + by) left n width)
 Like-body_of by o left n width = (
   _,
-  ap (λ (x : ℕ). bytes n x (λ content. check (when (nat_lt left (width + n)) (at_offset UnexpectedEof (o + by))) (accept (body content)))) (omega arith),
+  ap (λ (x : ℕ). bytes n x (λ content. check (when (nat_lt left (width + n)) (at_offset UnexpectedEof (o + by))) (accept (Grammar.code_entry content)))) (omega arith),
   λ content. (_, _, refl, when_moves by (nat_lt left (width + n)) (at_offset UnexpectedEof o) (at_offset UnexpectedEof (o + by)) refl, refl),
 )
 
@@ -296,14 +297,14 @@ content_place by low high passed before content h c =
     omega arith
 
 report_moves : (by features low high : ℕ) (shape : Shape) (passed : List ℕ) → high ≡ low + length passed → Closes shape passed → tile_report features (low + by) (high + by) shape ≡ shifted_report by (tile_report features low high shape)
-report_moves by features low high (header version encoding) passed h c = refl
+report_moves by features low high (Grammar.version num encoding) passed h c = refl
 report_moves by features low high (section kind id content) passed h (before, c) =
     ap (λ (x : ℕ). section_report features x (high + by) kind id content) (content_place by low high passed before content h c) ∙ section_moves by features (high - length content) high kind id content
-report_moves by features low high (code_head count width size) passed h c =
+report_moves by features low high (Grammar.code_start count width size) passed h c =
     let a : high + by - width ≡ (high - width) + by = omega arith in
     let b : high + by + size ≡ high + size + by = omega arith in
     (λ i. code_start count (a i) (b i) size)
-report_moves by features low high (body content) passed h (before, c) =
+report_moves by features low high (Grammar.code_entry content) passed h (before, c) =
     ap (λ (x : ℕ). code_entry (window_over features x content)) (content_place by low high passed before content h c)
 
 event_moves : (by features o : ℕ) (t : Tile) → Closes t.shape t.bytes → event_of features (o + by) t ≡ shifted_event by (event_of features o t)

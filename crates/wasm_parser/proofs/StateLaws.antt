@@ -10,7 +10,7 @@ use Rattle.wasm_base.specs.FaultAt.{FaultAt}
 use Rattle.wasm_base.specs.Name.{Name, named, refused, name_limit, name}
 use Rattle.wasm_base.specs.Number.{Number, read, bad, short, number as number_at}
 use Rattle.wasm_parser.specs.Content.{Kind, items, data_count, custom, index, code, unknown, rank_of, ranks, count_of, kind_of, Ending, when}
-use Rattle.wasm_parser.specs.Grammar.{Shape, header, section, code_head, body, Tile, Verdict, tile, final, after, after_number, SectionContext, Grammar, accept, reject, check, number, bytes, section_start, verdict, header_grammar, section_grammar, body_grammar, content_grammar, header_of}
+use Rattle.wasm_parser.specs.Grammar.{Shape, version, section, code_start, code_entry, Tile, Verdict, tile, final, after, after_number, SectionContext, Grammar, accept, reject, check, number, bytes, section_start, verdict, header_grammar, section_grammar, body_grammar, content_grammar, header_of}
 use Rattle.wasm_parser.specs.Tiling.{bytes_of, grammar, context_of, inside, encoding_of, encoding_in, tile_rank, count_in, counts, bodies_left, bytes_left, bodies_after, bytes_after}
 use Rattle.wasm_parser.specs.Reading.{tile_report, custom_report}
 use Rattle.wasm_parser.specs.StateAfter.{known_rank, state_after, state_after_tile}
@@ -106,9 +106,9 @@ Follows p r = (nat_lt 0 r && not (p.may_follow r)) ≡ false
 -- the tile is a section that may follow, or its head
 abbrev pub Placed : SectionContext → Shape → Type 0
 Placed p (section kind id content) = Follows p (rank_of kind id)
-Placed p (code_head count width size) = Follows p (rank_of code 10)
-Placed p (header version encoding) = ⊥
-Placed p (body content) = ⊥
+Placed p (code_start count width size) = Follows p (rank_of code 10)
+Placed p (version num encoding) = ⊥
+Placed p (code_entry content) = ⊥
 
 -- a test that finds nothing wrong fails
 pub none_when : (b : Bool) (e : FaultAt) → when b e ≡ None → b ≡ false
@@ -130,10 +130,10 @@ placed p o xs t e = each_tile (Placed p) (section_grammar p o)
 
 -- the tile is a body
 abbrev pub IsBody : Shape → Type 0
-IsBody (body content) = Unit {0}
+IsBody (code_entry content) = Unit {0}
 IsBody (section kind id content) = ⊥
-IsBody (code_head count width size) = ⊥
-IsBody (header version encoding) = ⊥
+IsBody (code_start count width size) = ⊥
+IsBody (version num encoding) = ⊥
 
 pub bodied : (m l o : ℕ) (xs : List ℕ) (t : Tile) → verdict (body_grammar m l o) xs ≡ tile t → IsBody t.shape
 unfolding body_grammar
@@ -142,10 +142,10 @@ bodied (suc m) l o xs t e = each_tile IsBody (body_grammar (suc m) l o) (λ v k 
 
 -- the tile is a header
 abbrev pub IsHeader : Shape → Type 0
-IsHeader (header version encoding) = Unit {0}
+IsHeader (version num encoding) = Unit {0}
 IsHeader (section kind id content) = ⊥
-IsHeader (code_head count width size) = ⊥
-IsHeader (body content) = ⊥
+IsHeader (code_start count width size) = ⊥
+IsHeader (code_entry content) = ⊥
 
 header_each : (o bits : ℕ) (e : Option Encoding) → Each IsHeader (header_of o bits e)
 header_each o bits (Some e) = tt
@@ -169,15 +169,15 @@ follows_all r false e h = let z : nat_lt 0 r ≡ true = lt-ltb 0 r h in absurd (
 
 fresh_placed : (ts : List Tile) (s : Shape) → Placed (context_of ts) s → Fresh ts s
 fresh_placed ts (section kind id content) f h = follows_all (rank_of kind id) _ f h
-fresh_placed ts (code_head count width size) f h = follows_all (rank_of code 10) _ f h
-fresh_placed ts (header version encoding) f h = absurd f
-fresh_placed ts (body content) f h = absurd f
+fresh_placed ts (code_start count width size) f h = follows_all (rank_of code 10) _ f h
+fresh_placed ts (version num encoding) f h = absurd f
+fresh_placed ts (code_entry content) f h = absurd f
 
 fresh_body : (ts : List Tile) (s : Shape) → IsBody s → Fresh ts s
-fresh_body ts (body content) f h = absurd (omega arith)
+fresh_body ts (code_entry content) f h = absurd (omega arith)
 fresh_body ts (section kind id content) f h = absurd f
-fresh_body ts (code_head count width size) f h = absurd f
-fresh_body ts (header version encoding) f h = absurd f
+fresh_body ts (code_start count width size) f h = absurd f
+fresh_body ts (version num encoding) f h = absurd f
 
 fresh_at : (b : Bool) (ts : List Tile) (m l o : ℕ) (d : List ℕ) (t : Tile) → verdict (cond b (section_grammar (context_of ts) o) (body_grammar m l o)) d ≡ tile t → Fresh ts t.shape
 fresh_at true ts m l o d t e = fresh_placed ts t.shape (placed (context_of ts) o d t e)
@@ -206,9 +206,9 @@ none_in n (section custom id content) xs e f = f
 none_in n (section index id content) xs e f = f
 none_in n (section code id content) xs e f = f
 none_in n (section unknown id content) xs e f = f
-none_in n (code_head count width size) xs e f = none_cons (nat_eq 10 n) _ xs (not_true _ (λ z. below_self (slice_index ranks n) (slice_index ranks 10) e (ap (slice_index ranks) (eqb-true 10 n z)))) f
-none_in n (header version encoding) xs e f = f
-none_in n (body content) xs e f = f
+none_in n (code_start count width size) xs e f = none_cons (nat_eq 10 n) _ xs (not_true _ (λ z. below_self (slice_index ranks n) (slice_index ranks 10) e (ap (slice_index ranks) (eqb-true 10 n z)))) f
+none_in n (version num encoding) xs e f = f
+none_in n (code_entry content) xs e f = f
 
 pub counts_none : (n : ℕ) (ts : List Tile) → list_all (λ (u : Tile). nat_lt (tile_rank u.shape) (slice_index ranks n)) ts ≡ true → counts n ts ≡ []
 counts_none n [] e = refl
@@ -230,7 +230,7 @@ none_of_rank n id ts h f z =
 abbrev count_after : ℕ → Shape → Option ℕ → Option ℕ
 count_after n (section items id content) old = cond (nat_eq id n) (Some (count_of content)) old
 count_after n (section data_count id content) old = cond (nat_eq id n) (Some (count_of content)) old
-count_after n (code_head count width size) old = cond (nat_eq 10 n) (Some count) old
+count_after n (code_start count width size) old = cond (nat_eq 10 n) (Some count) old
 count_after n other old = old
 
 -- a parser keeps the one count that there is
@@ -241,9 +241,9 @@ count_same n (section custom id content) old ts h e f = e
 count_same n (section index id content) old ts h e f = e
 count_same n (section code id content) old ts h e f = e
 count_same n (section unknown id content) old ts h e f = e
-count_same n (code_head count width size) old ts h e f = one_count (nat_eq 10 n) count old (counts n ts) e (none_of_rank n 10 ts h f)
-count_same n (header version encoding) old ts h e f = e
-count_same n (body content) old ts h e f = e
+count_same n (code_start count width size) old ts h e f = one_count (nat_eq 10 n) count old (counts n ts) e (none_of_rank n 10 ts h f)
+count_same n (version num encoding) old ts h e f = e
+count_same n (code_entry content) old ts h e f = e
 
 greatest_lt : (r : ℕ) (ts : List Tile) → 0 < r → list_all (λ (u : Tile). nat_lt (tile_rank u.shape) r) ts ≡ true → greatest ts < r
 greatest_lt r [] h e = h
@@ -283,9 +283,9 @@ HasItsId (section items id content) = Unit {0}
 HasItsId (section custom id content) = Unit {0}
 HasItsId (section code id content) = ⊥
 HasItsId (section unknown id content) = Unit {0}
-HasItsId (header num encoding) = Unit {0}
-HasItsId (code_head count width size) = Unit {0}
-HasItsId (body content) = Unit {0}
+HasItsId (version num encoding) = Unit {0}
+HasItsId (code_start count width size) = Unit {0}
+HasItsId (code_entry content) = Unit {0}
 
 content_id : (p : SectionContext) (kind : Kind) (id o n : ℕ) → IdOf p.encoding kind id → Each HasItsId (content_grammar p kind id o n)
 content_id p index id o n h = λ b x y. h
@@ -300,16 +300,16 @@ unfolding section_grammar
 section_id p o xs t e = each_tile HasItsId (section_grammar p o) (λ id x n k y z. content_id p (kind_of p.encoding id) id (o + 1 + k) n (id_of_kind p.encoding id)) xs t e
 
 header_id : (s : Shape) → IsHeader s → HasItsId s
-header_id (header num encoding) h = tt
+header_id (version num encoding) h = tt
 header_id (section kind id content) h = absurd h
-header_id (code_head count width size) h = absurd h
-header_id (body content) h = absurd h
+header_id (code_start count width size) h = absurd h
+header_id (code_entry content) h = absurd h
 
 body_id : (s : Shape) → IsBody s → HasItsId s
-body_id (body content) h = tt
+body_id (code_entry content) h = tt
 body_id (section kind id content) h = absurd h
-body_id (code_head count width size) h = absurd h
-body_id (header num encoding) h = absurd h
+body_id (code_start count width size) h = absurd h
+body_id (version num encoding) h = absurd h
 
 inside_id : (b : Bool) (p : SectionContext) (m l o : ℕ) (xs : List ℕ) (t : Tile) → verdict (cond b (section_grammar p o) (body_grammar m l o)) xs ≡ tile t → HasItsId t.shape
 inside_id true p m l o xs t e = section_id p o xs t e
@@ -330,15 +330,15 @@ after_custom p from to content (named text used) = refl
 after_custom p from to content (refused f place) = refl
 
 after_at : (p : ParserState) (shape : Shape) (b : List ℕ) → HasItsId shape → state_after_tile p (tile_of shape b) ≡ after_shape p (tile_of shape b)
-after_at p (header num encoding) b h = refl
+after_at p (version num encoding) b h = refl
 after_at p (section items id content) b h = refl
 after_at p (section index id content) b h = ap (λ (i : ℕ). after_shape p (tile_of (section index i content) b)) (sym h)
 after_at p (section data_count id content) b h = ap (λ (i : ℕ). after_shape p (tile_of (section data_count i content) b)) (sym h)
 after_at p (section custom id content) b h = after_custom p (p.offset + length b - length content) (p.offset + length b) content (name (Some name_limit) content)
 after_at p (section code id content) b h = absurd h
 after_at p (section unknown id content) b h = refl
-after_at p (code_head count width size) b h = refl
-after_at p (body content) b h =
+after_at p (code_start count width size) b h = refl
+after_at p (code_entry content) b h =
     let t : p.offset + length b - p.offset ≡ length b = omega arith in
     rw t refl
 

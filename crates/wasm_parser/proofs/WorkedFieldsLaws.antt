@@ -6,7 +6,7 @@ use Rattle.std.proofs.lemmas.Str.Ascii.{IsAscii-nil, IsAscii-cons}
 use Rattle.wasm_base.specs.Name.{name}
 use Rattle.wasm_base.specs.Number.{number}
 use Rattle.wasm_parser.specs.Content.{Kind, custom, items, index, data_count, unknown, ended, wrong_content}
-use Rattle.wasm_parser.specs.Grammar.{section, code_head, body, Tile, verdict, header_grammar, section_grammar, body_grammar}
+use Rattle.wasm_parser.specs.Grammar.{section, code_start, code_entry, Tile, verdict, header_grammar, section_grammar, body_grammar}
 use Rattle.wasm_parser.specs.WorkedFields.{WholeReadings, LongFields, TwoFaults}
 use Rattle.wasm_parser.proofs.WorkedLaws.{head, component_head, small_tile, empty_name}
 
@@ -16,11 +16,11 @@ framed_tile kind id field content = record { shape = section kind id content; by
 
 -- the head of a code section with these fields, and so many bytes of bodies
 abbrev head_tile : (field : List ℕ) (count : ℕ) (counted : List ℕ) (size : ℕ) → Tile
-head_tile field count counted size = record { shape = code_head count (length counted) size; bytes = 10 ∷ (field ++ counted) }
+head_tile field count counted size = record { shape = code_start count (length counted) size; bytes = 10 ∷ (field ++ counted) }
 
 -- a body with this size field
 abbrev sized_tile : (field content : List ℕ) → Tile
-sized_tile field content = record { shape = body content; bytes = field ++ content }
+sized_tile field content = record { shape = code_entry content; bytes = field ++ content }
 
 name_a : is_utf8 (97 ∷ []) ≡ true
 name_a = is_utf8-from_IsUtf8 (97 ∷ []) (IsUtf8-from_ascii (97 ∷ []) (IsAscii-cons 97 [] (lit< tt) IsAscii-nil))

@@ -5,15 +5,15 @@ use Rattle.std.proofs.lemmas.Str.{IsUtf8-nil, is_utf8-from_IsUtf8}
 use Rattle.wasm_base.specs.Name.{name}
 use Rattle.wasm_base.specs.Number.{number}
 use Rattle.wasm_parser.specs.Content.{Kind, custom, items, index, data_count, unknown, ended, wrong_content}
-use Rattle.wasm_parser.specs.Grammar.{header, section, code_head, body, Tile, verdict, header_grammar, section_grammar, body_grammar}
+use Rattle.wasm_parser.specs.Grammar.{version, section, code_start, code_entry, Tile, verdict, header_grammar, section_grammar, body_grammar}
 use Rattle.wasm_parser.specs.Worked.{m, component, EdgesOfRules, WorkedStreams}
 use Rattle.wasm_parser.specs.declared.payload.Encoding.TheVariants.{Module, Component}
 
 abbrev pub head : Tile
-head = record { shape = header 1 Module; bytes = m }
+head = record { shape = version 1 Module; bytes = m }
 
 abbrev pub component_head : Tile
-component_head = record { shape = header 13 Component; bytes = component }
+component_head = record { shape = version 13 Component; bytes = component }
 
 abbrev pub section_tile : Kind → ℕ → List ℕ → Tile
 section_tile kind id content = record { shape = section kind id content; bytes = id ∷ length content ∷ content }
@@ -22,10 +22,10 @@ abbrev functions : ℕ → Tile
 functions n = section_tile items 3 (n ∷ 0 ∷ [])
 
 abbrev code : ℕ → ℕ → Tile
-code size count = record { shape = code_head count 1 (size - 1); bytes = 0x0a ∷ size ∷ count ∷ [] }
+code size count = record { shape = code_start count 1 (size - 1); bytes = 0x0a ∷ size ∷ count ∷ [] }
 
 abbrev body_tile : List ℕ → Tile
-body_tile content = record { shape = body content; bytes = length content ∷ content }
+body_tile content = record { shape = code_entry content; bytes = length content ∷ content }
 
 -- a section whose content is one byte, 0
 abbrev pub small_tile : Kind → ℕ → Tile

@@ -13,11 +13,11 @@ use Rattle.wasm_parser.specs.declared.payload.Encoding.TheVariants.{Module, Comp
 
 -- what tiles a stream: its header, whole sections that are no code section, a code section up to its count, and its bodies
 pub data Shape : Type 0 where
-  header : (version : ℕ) → Encoding → Shape
+  version : (num : ℕ) → Encoding → Shape
   section : Kind → (id : ℕ) (content : List ℕ) → Shape
   -- the bodies that it announces, the bytes of that count, and the bytes of the bodies
-  code_head : (count width size : ℕ) → Shape
-  body : (content : List ℕ) → Shape
+  code_start : (count width size : ℕ) → Shape
+  code_entry : (content : List ℕ) → Shape
 
 -- one tile, with all its bytes
 pub record Tile : Type 0 where
@@ -83,13 +83,13 @@ pub record SectionContext : Type 0 where
   pub data_counts : List ℕ
 
 -- the encoding of a header with this 16-bit version and 16-bit kind. Core specification, Binary format, Modules
-abbrev pub encoding_named : (version layer : ℕ) → Option Encoding
-encoding_named version layer =
-    if version == 1 && layer == 0 then Some Module else
-    if version == 13 && layer == 1 then Some Component else None
+abbrev pub encoding_named : (num layer : ℕ) → Option Encoding
+encoding_named num layer =
+    if num == 1 && layer == 0 then Some Module else
+    if num == 13 && layer == 1 then Some Component else None
 
 abbrev pub header_of : (offset bits : ℕ) → Option Encoding → Grammar
-header_of offset bits (Some encoding) = accept (header (bits % 65536) encoding)
+header_of offset bits (Some encoding) = accept (version (bits % 65536) encoding)
 header_of offset bits None = reject (record { fault = UnknownVersion; offset = offset + 4; number = Some bits })
 
 -- a header whose magic is followed by these 32 bits: the lower half is its version, the upper one its kind
@@ -120,7 +120,7 @@ abbrev pub code_grammar : SectionContext → (offset length : ℕ) → Grammar
 code_grammar context offset size = number offset (λ count width.
     check (when (nat_lt size width) (at_offset UnexpectedEof offset)) (
     check (wrong_count context offset count) (
-    accept (code_head count width (size - width)))))
+    accept (code_start count width (size - width)))))
 
 -- what a counted section that ends at this offset is wrong in: the data section has as many segments as were announced
 abbrev pub wrong_data : SectionContext → Kind → (id offset : ℕ) → List ℕ → Option FaultAt
@@ -162,7 +162,7 @@ abbrev pub body_of : (offset left size width : ℕ) → Grammar
 body_of offset left size width =
     bytes size (offset + width) (λ content.
     check (when (nat_lt left (width + size)) (at_offset UnexpectedEof offset)) (
-    accept (body content)))
+    accept (code_entry content)))
 
 -- what may come in a code section of which so many bodies and bytes are left
 unfoldable pub body_grammar : (bodies left offset : ℕ) → Grammar

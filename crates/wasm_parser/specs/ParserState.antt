@@ -3,7 +3,7 @@ use Rattle.std.specs.Prelude.{◌≡◌, ℕ, zero, suc, ◌+◌, max, Bool, tru
 use Rattle.wasm_parser.specs.declared.payload.Encoding.{Encoding}
 use Rattle.wasm_parser.specs.declared.payload.Encoding.TheVariants.{Module}
 use Rattle.wasm_parser.specs.Content.{items, data_count, custom, index, code, unknown, count_of}
-use Rattle.wasm_parser.specs.Grammar.{Shape, header, section, code_head, body, Tile, SectionContext, Grammar, header_grammar}
+use Rattle.wasm_parser.specs.Grammar.{Shape, version, section, code_start, code_entry, Tile, SectionContext, Grammar, header_grammar}
 use Rattle.wasm_parser.specs.Tiling.{bytes_of, Faultless, inside, encoding_of, encoding_in, tile_rank, counts, bodies_left, bytes_left, bodies_after, bytes_after}
 
 -- the greatest rank of these tiles

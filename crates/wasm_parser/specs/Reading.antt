@@ -4,7 +4,8 @@ use Rattle.wasm_base.specs.FaultAt.{FaultAt}
 use Rattle.wasm_base.specs.Name.{Name, named, refused, name_limit, name}
 use Rattle.wasm_base.specs.Window.{Window}
 use Rattle.wasm_parser.specs.Content.{Kind, items, data_count, custom, index, code, unknown, count_of, Ending, fault, ended}
-use Rattle.wasm_parser.specs.Grammar.{Shape, header, section, code_head, body, Tile, final, verdict}
+use Rattle.wasm_parser.specs.Grammar
+use Rattle.wasm_parser.specs.Grammar.{Shape, section, Tile, final, verdict}
 use Rattle.wasm_parser.specs.Tiling.{bytes_of, grammar, Faultless}
 use Rattle.wasm_parser.specs.declared.payload.Encoding.{Encoding}
 
@@ -46,10 +47,10 @@ section_report features from to unknown id content = unknown_section id content 
 
 -- what is reported of a tile between these offsets
 abbrev pub tile_report : (features from to : ℕ) → Shape → Report
-tile_report features from to (header num encoding) = version num encoding from to
+tile_report features from to (Grammar.version num encoding) = version num encoding from to
 tile_report features from to (section kind id content) = section_report features (to - length content) to kind id content
-tile_report features from to (code_head count width size) = code_start count (to - width) (to + size) size
-tile_report features from to (body content) = code_entry (window_over features (to - length content) content)
+tile_report features from to (Grammar.code_start count width size) = code_start count (to - width) (to + size) size
+tile_report features from to (Grammar.code_entry content) = code_entry (window_over features (to - length content) content)
 
 -- the event of a tile at this offset
 abbrev pub event_of : (features offset : ℕ) → Tile → Event

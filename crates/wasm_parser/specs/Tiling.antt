@@ -2,7 +2,7 @@
 use Rattle.std.specs.Prelude.{◌≡◌, ℕ, ◌+◌, ◌-◌, List, [], ◌∷◌, ◌++◌, length, nat_lt, nat_eq, if◌then◌else◌}
 use Rattle.std.specs.List.{list_all}
 use Rattle.wasm_parser.specs.Content.{items, data_count, custom, index, code, unknown, rank_of, count_of}
-use Rattle.wasm_parser.specs.Grammar.{Shape, header, section, code_head, body, Tile, tile, SectionContext, Grammar, verdict, header_grammar, section_grammar, body_grammar}
+use Rattle.wasm_parser.specs.Grammar.{Shape, version, section, code_start, code_entry, Tile, tile, SectionContext, Grammar, verdict, header_grammar, section_grammar, body_grammar}
 use Rattle.wasm_parser.specs.declared.payload.Encoding.{Encoding}
 use Rattle.wasm_parser.specs.declared.payload.Encoding.TheVariants.{Module}
 
@@ -15,7 +15,7 @@ bytes_of (t ∷ earlier) = bytes_of earlier ++ t.bytes
 
 -- the encoding that the header names
 abbrev pub encoding_in : Shape → Encoding → Encoding
-encoding_in (header version encoding) other = encoding
+encoding_in (version num encoding) other = encoding
 encoding_in other known = known
 
 abbrev pub encoding_of : List Tile → Encoding
@@ -25,14 +25,14 @@ encoding_of (t ∷ earlier) = encoding_in t.shape (encoding_of earlier)
 -- the rank of a tile, where it has one
 abbrev pub tile_rank : Shape → ℕ
 tile_rank (section kind id content) = rank_of kind id
-tile_rank (code_head count width size) = rank_of code 10
+tile_rank (code_start count width size) = rank_of code 10
 tile_rank other = 0
 
 -- the count of a section with this id, before other counts
 abbrev pub count_in : ℕ → Shape → List ℕ → List ℕ
 count_in n (section items id content) others = if nat_eq id n then count_of content ∷ others else others
 count_in n (section data_count id content) others = if nat_eq id n then count_of content ∷ others else others
-count_in n (code_head count width size) others = if nat_eq 10 n then count ∷ others else others
+count_in n (code_start count width size) others = if nat_eq 10 n then count ∷ others else others
 count_in n other others = others
 
 -- the counts of the sections with this id
@@ -42,13 +42,13 @@ counts n (t ∷ earlier) = count_in n t.shape (counts n earlier)
 
 -- the bodies that a code section still misses, and the bytes
 abbrev pub bodies_after : Shape → ℕ → ℕ
-bodies_after (code_head count width size) earlier = count
-bodies_after (body content) earlier = earlier - 1
+bodies_after (code_start count width size) earlier = count
+bodies_after (code_entry content) earlier = earlier - 1
 bodies_after other earlier = 0
 
 abbrev pub bytes_after : Tile → Shape → ℕ → ℕ
-bytes_after t (code_head count width size) earlier = size
-bytes_after t (body content) earlier = earlier - length t.bytes
+bytes_after t (code_start count width size) earlier = size
+bytes_after t (code_entry content) earlier = earlier - length t.bytes
 bytes_after t other earlier = 0
 
 abbrev pub bodies_left : List Tile → ℕ
