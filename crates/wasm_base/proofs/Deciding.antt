@@ -61,7 +61,7 @@ bare D none = record { same = same_true D none; itself = λ one. true_same D one
 -- a comparison of the fields of a variant
 pub record Compared (Fs : List Field) : Type 1 where
   pub compare : Values Fs → Values Fs → Bool
-  pub tells : Decides compare
+  pub says : Decides compare
 
 -- one for each variant that has fields
 abbrev pub ComparedEach : List (List Field) → Type 1
@@ -81,7 +81,7 @@ choices_same ([] ∷ Fss) each (inl x) (inl y) h = refl
 choices_same ([] ∷ Fss) each (inr x) (inr y) h = ap inr (choices_same Fss each x y h)
 choices_same ([] ∷ Fss) each (inl x) (inr y) h = cc
 choices_same ([] ∷ Fss) each (inr x) (inl y) h = cc
-choices_same ((F ∷ Fs) ∷ Fss) each (inl x) (inl y) h = ap inl (each.0.tells.same x y h)
+choices_same ((F ∷ Fs) ∷ Fss) each (inl x) (inl y) h = ap inl (each.0.says.same x y h)
 choices_same ((F ∷ Fs) ∷ Fss) each (inr x) (inr y) h = ap inr (choices_same Fss each.1 x y h)
 choices_same ((F ∷ Fs) ∷ Fss) each (inl x) (inr y) h = cc
 choices_same ((F ∷ Fs) ∷ Fss) each (inr x) (inl y) h = cc
@@ -90,14 +90,14 @@ choices_itself : (Fss : List (List Field)) (each : ComparedEach Fss) (c : Choice
 choices_itself [] each c = absurd c
 choices_itself ([] ∷ Fss) each (inl x) = refl
 choices_itself ([] ∷ Fss) each (inr x) = choices_itself Fss each x
-choices_itself ((F ∷ Fs) ∷ Fss) each (inl x) = each.0.tells.itself x
+choices_itself ((F ∷ Fs) ∷ Fss) each (inl x) = each.0.says.itself x
 choices_itself ((F ∷ Fs) ∷ Fss) each (inr x) = choices_itself Fss each.1 x
 
 -- the one field of a variant
 abbrev pub field : (F : Field) {compare : F.Value → F.Value → Bool} → Decides compare → Compared (F ∷ [])
 field F {compare = compare} t = record {
   compare = λ one other. compare one.0 other.0;
-  tells = record { same = λ one other h i. (t.same one.0 other.0 h i, tt); itself = λ one. t.itself one.0 };
+  says = record { same = λ one other h i. (t.same one.0 other.0 h i, tt); itself = λ one. t.itself one.0 };
 }
 
 -- an enum of which some variants have fields

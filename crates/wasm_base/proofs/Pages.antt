@@ -30,12 +30,12 @@ power_from_ones (suc bound) n below one =
           (0, omega (arith, none, odd.1))
     ]
 
-power_up_to_tells : (k n : ℕ) → is_power_up_to k n ≡ true → (j : ℕ) × ((j ≤ k) × (n ≡ 2 ^ j))
-power_up_to_tells zero n h = (0, (omega arith, eqb-true n 1 h))
-power_up_to_tells (suc k) n h = elim (eqb_tells n (2 ^ suc k)) [
+power_up_to_says : (k n : ℕ) → is_power_up_to k n ≡ true → (j : ℕ) × ((j ≤ k) × (n ≡ 2 ^ j))
+power_up_to_says zero n h = (0, (omega arith, eqb-true n 1 h))
+power_up_to_says (suc k) n h = elim (eqb_tells n (2 ^ suc k)) [
   | inl is ↦ (suc k, (omega arith, is.1))
   | inr is_not ↦
-      let less = power_up_to_tells k n (ap (λ b. b || is_power_up_to k n) (sym is_not.0) ∙ h) in
+      let less = power_up_to_says k n (ap (λ b. b || is_power_up_to k n) (sym is_not.0) ∙ h) in
       (less.0, (omega (arith, less.1.0), less.1.1))
 ]
 
@@ -59,9 +59,9 @@ exponent_below k le = elim (leb_tells k 16) [
       omega (arith, more, le)
 ]
 
-pub page_size_tells : (size : ℕ) → is_page_size size ≡ true → IsPowerOfTwo size × (size ≤ 65536)
-page_size_tells size h =
-    let power = power_up_to_tells 16 size h in
+pub page_size_says : (size : ℕ) → is_page_size size ≡ true → IsPowerOfTwo size × (size ≤ 65536)
+page_size_says size h =
+    let power = power_up_to_says 16 size h in
     let below : 2 ^ power.0 ≤ 2 ^ 16 = pow-le-pow_right {n = 2} (omega arith) {i = power.0} {j = 16} power.1.0 in
     ((power.0, power.1.1), omega (arith, power.1.1, below))
 
@@ -71,7 +71,7 @@ page_size_holds size power le =
 
 pub page_size_positive : (size : ℕ) → is_page_size size ≡ true → 0 < size
 page_size_positive size h =
-    let power = (page_size_tells size h).0 in
+    let power = (page_size_says size h).0 in
     omega (arith, power.1, pow_pos power.0)
 
 -- a number with one bit is a page's size where it is small enough
@@ -79,11 +79,11 @@ pub page_size_of_one_bit : (size : ℕ) → size < 2 ^ 64 → is_power_of_two si
 page_size_of_one_bit size below one = elim (leb_tells size 65536) [
   | inl small ↦ small.0 ∙ sym (page_size_holds size (power_from_ones 64 size below (eqb-true (count_ones size) 1 one)) small.1)
   | inr large ↦
-      large.0 ∙ sym (false_from_ne_true (is_page_size size) (λ h. omega (arith, large.1, (page_size_tells size h).1)))
+      large.0 ∙ sym (false_from_ne_true (is_page_size size) (λ h. omega (arith, large.1, (page_size_says size h).1)))
 ]
 
 -- a number with more bits, or none, is no page's size
 pub page_size_of_more_bits : (size : ℕ) → is_power_of_two size ≡ false → is_page_size size ≡ false
 page_size_of_more_bits size more = false_from_ne_true (is_page_size size) (λ h.
-    let power = (page_size_tells size h).0 in
+    let power = (page_size_says size h).0 in
     true≢false (sym (eq-eqb (count_ones size) 1 (ap count_ones power.1 ∙ ones_of_power power.0)) ∙ more))

@@ -109,7 +109,7 @@ pub fn features_are_hashed_as_their_bits()
 {}
 
 /// Two errors are equal exactly if they say the same: fault, offset and number. The hint is not compared.
-pub fn equal_errors_tell_the_same()
+pub fn equal_errors_are_the_same()
     ensures { DecidesWhether (λ one other. fault_at one ≡ fault_at other) ⟦<Error as PartialEq>⟧.eq }
 {}
 

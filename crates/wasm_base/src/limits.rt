@@ -87,14 +87,14 @@ pub const DEFAULT_WASM_PAGE_SIZE: u64 = 65_536;
 
 /// Whether a memory's pages may have so many bytes: a power of two of at most 65,536.
 pub fn is_page_size(page_size: u64) -> bool
-    ensures tells { result ≡ is_page_size page_size }
+    ensures says { result ≡ is_page_size page_size }
     ensures power { IsTrue result ↔ (IsPowerOfTwo page_size × (page_size ≤ 65536)) }
 {
     page_size.is_power_of_two() && page_size <= DEFAULT_WASM_PAGE_SIZE
 }
 
 /// The most pages of so many bytes that a memory with 32-bit addresses may have: all of them lie below 2^32, and their
-/// number has 32 bits. `is_page_size` tells whether pages may have so many bytes.
+/// number has 32 bits. `is_page_size` says whether pages may have so many bytes.
 #[tactic(auto, using(crate::proofs::Pages::page_size_positive))]
 pub fn max_wasm_memory32_pages(page_size: u64) -> u64
     requires { IsTrue (is_page_size page_size) }
@@ -104,7 +104,7 @@ pub fn max_wasm_memory32_pages(page_size: u64) -> u64
 }
 
 /// The most pages of so many bytes that a memory with 64-bit addresses may have: all of them lie below 2^64, and their
-/// number has 64 bits. `is_page_size` tells whether pages may have so many bytes.
+/// number has 64 bits. `is_page_size` says whether pages may have so many bytes.
 #[tactic(auto, using(crate::proofs::Pages::page_size_positive))]
 pub fn max_wasm_memory64_pages(page_size: u64) -> u64
     requires { IsTrue (is_page_size page_size) }

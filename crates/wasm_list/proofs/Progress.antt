@@ -11,7 +11,7 @@ use Rattle.wasm_base.specs.Name.{Name, named, refused, name_limit, name}
 use Rattle.wasm_parser.specs.Grammar.{Shape, version, section, code_start, code_entry, Tile, Verdict, tile, final, Grammar, verdict}
 use Rattle.wasm_list.specs.Listing.{line_of, event_line, listing_of}
 use Rattle.wasm_list.specs.Lists.{all_features, IsEndedBy, IsListed, IsBeginning, Writes, IsCutShort, ListsBytes, Lists}
-use Rattle.wasm_parser.specs.Reading.{ending, stopped, Event, tile_report, custom_report, event_of, events_of, last_event, Reads, Reading}
+use Rattle.wasm_parser.specs.Reading.{stream_end, Event, tile_report, custom_report, event_of, events_of, last_event, Reads, Reading}
 use Rattle.wasm_parser.specs.ParserState.{ParserState, initial_state, IsStateAfter, grammar_of}
 use Rattle.wasm_parser.specs.StateAfter.{state_after_tile}
 use Rattle.wasm_parser.specs.Tiling.{bytes_of, grammar, Faultless}
@@ -28,15 +28,15 @@ use Rattle.wasm_parser.proofs.StateLaws.{grammar_same, state_goes_on, state_goes
 -- The lines of a beginning of the stream are written, and the parser is after it.
 pub record Progress (stream : List ℕ) (taken written : Option (List ℕ)) (p : ParserState) (rest : List ℕ) : Type 0 where
   pub prefix : List ℕ
-  pub stands : IsStateAfter p 0 prefix
+  pub is_after : IsStateAfter p 0 prefix
   pub whole : stream ≡ prefix ++ rest
   pub features : p.features ≡ all_features
-  pub listed : Appends taken written (listing_of (events_of 0 all_features stands.tiles))
+  pub listed : Appends taken written (listing_of (events_of 0 all_features is_after.tiles))
 
 pub begun : (stream : List ℕ) (taken : Option (List ℕ)) → Progress stream taken taken (initial_state 0 all_features) stream
 begun stream taken = record {
   prefix = [];
-  stands = record { tiles = []; faultless = tt; covers = refl; offset = refl; expects_header = refl; encoding = refl; rank = refl; functions = refl; codes = refl; datas = refl; data_counts = refl; bodies = refl; left = refl };
+  is_after = record { tiles = []; faultless = tt; is_prefix = refl; offset = refl; expects_header = refl; encoding = refl; rank = refl; functions = refl; codes = refl; datas = refl; data_counts = refl; bodies = refl; left = refl };
   whole = refl;
   features = refl;
   listed = Appends-nil taken;
@@ -63,14 +63,14 @@ verdict_same p prefix rest s = ap (λ (g : Grammar). verdict g rest) (grammar_sa
 -- the parser's place, and the room above it
 offset_is : (stream : List ℕ) (taken written : Option (List ℕ)) (p : ParserState) (rest : List ℕ) (g : Progress stream taken written p rest) → p.offset + length rest ≡ length stream
 offset_is stream taken written p rest g =
-    let o : p.offset ≡ 0 + length g.prefix = g.stands.offset in
+    let o : p.offset ≡ 0 + length g.prefix = g.is_after.offset in
     let w : length stream ≡ length g.prefix + length rest = ap (λ (x : List ℕ). length x) g.whole ∙ length-append g.prefix rest in
     omega arith
 
 -- what parse answered with a payload: a tile, or the end
 pub data Came (p : ParserState) (rest : List ℕ) (consumed : ℕ) (payload : Payload) (p' : ParserState) : Type 0 where
   tile_came : (t : Tile) → verdict (grammar_of p) rest ≡ tile t → consumed ≡ length t.bytes → report_of payload ≡ tile_report p.features p.offset (p.offset + length t.bytes) t.shape → p' ≡ state_after_tile p t → Came p rest consumed payload p'
-  end_came : (offset : ℕ) → verdict (grammar_of p) rest ≡ final (ended offset) → report_of payload ≡ ending offset → Came p rest consumed payload p'
+  end_came : (offset : ℕ) → verdict (grammar_of p) rest ≡ final (ended offset) → report_of payload ≡ stream_end (ended offset) → Came p rest consumed payload p'
 
 came_at : (p : ParserState) (rest : List ℕ) (consumed : ℕ) (payload : Payload) (p' : ParserState) (v : Verdict) → verdict (grammar_of p) rest ≡ v → Answers p v (Ok (Parsed consumed payload)) p' → Came p rest consumed payload p'
 came_at p rest consumed payload p' (tile t) e a = tile_came t e a.0 a.1.0 a.2
@@ -89,23 +89,23 @@ report_line : (ts : List Tile) (t : Tile) (p : ParserState) (payload : Payload) 
 report_line ts t p payload f o h = ap line_of h ∙ (λ i. line_of (tile_report (f i) (o i) (o i + length t.bytes) t.shape))
 
 state_offset : (p : ParserState) (prefix : List ℕ) (s : IsStateAfter p 0 prefix) → p.offset ≡ 0 + length (bytes_of s.tiles)
-state_offset p prefix s = s.offset ∙ ap (λ (x : List ℕ). 0 + length x) (sym s.covers)
+state_offset p prefix s = s.offset ∙ ap (λ (x : List ℕ). 0 + length x) (sym s.is_prefix)
 
 -- a tile whose line is written is one more of the listing
 pub one_tile : (stream : List ℕ) (taken written written' : Option (List ℕ)) (p p' : ParserState) (rest : List ℕ) (consumed : ℕ) (payload : Payload) (t : Tile) → Progress stream taken written p rest
     → verdict (grammar_of p) rest ≡ tile t → consumed ≡ length t.bytes → report_of payload ≡ tile_report p.features p.offset (p.offset + length t.bytes) t.shape → p' ≡ state_after_tile p t
     → Appends written written' (line_of (report_of payload)) → Progress stream taken written' p' (drop consumed rest)
 one_tile stream taken written written' p p' rest consumed payload t g v k h e w =
-    let v' : verdict (grammar 0 g.stands.tiles) rest ≡ tile t = sym (verdict_same p g.prefix rest g.stands) ∙ v in
-    let gr : Grown 0 g.stands.tiles rest t = grows 0 g.stands.tiles rest t g.stands.faultless v' in
+    let v' : verdict (grammar 0 g.is_after.tiles) rest ≡ tile t = sym (verdict_same p g.prefix rest g.is_after) ∙ v in
+    let gr : Grown 0 g.is_after.tiles rest t = grows 0 g.is_after.tiles rest t g.is_after.faultless v' in
     let d : drop consumed rest ≡ gr.rest = ap (λ (n : ℕ). drop n rest) k ∙ (ap (drop (length t.bytes)) gr.split ∙ drop_at t.bytes gr.rest (length t.bytes) refl) in
-    let line : line_of (report_of payload) ≡ event_line (event_of all_features (0 + length (bytes_of g.stands.tiles)) t) = report_line g.stands.tiles t p payload g.features (state_offset p g.prefix g.stands) h in
-    let more : (state_goes_on p 0 g.prefix g.stands rest t v).tiles ≡ t ∷ g.stands.tiles = state_goes_on-tiles p 0 g.prefix g.stands rest t v in
-    let lines : Appends taken written' (listing_of (events_of 0 all_features (t ∷ g.stands.tiles))) =
-    written_more taken written written' (events_of 0 all_features g.stands.tiles) (event_of all_features (0 + length (bytes_of g.stands.tiles)) t) g.listed (subst (Appends written written') line w) in
+    let line : line_of (report_of payload) ≡ event_line (event_of all_features (0 + length (bytes_of g.is_after.tiles)) t) = report_line g.is_after.tiles t p payload g.features (state_offset p g.prefix g.is_after) h in
+    let more : (state_goes_on p 0 g.prefix g.is_after rest t v).tiles ≡ t ∷ g.is_after.tiles = state_goes_on-tiles p 0 g.prefix g.is_after rest t v in
+    let lines : Appends taken written' (listing_of (events_of 0 all_features (t ∷ g.is_after.tiles))) =
+    written_more taken written written' (events_of 0 all_features g.is_after.tiles) (event_of all_features (0 + length (bytes_of g.is_after.tiles)) t) g.listed (subst (Appends written written') line w) in
     let after : Progress stream taken written' (state_after_tile p t) gr.rest = record {
       prefix = g.prefix ++ t.bytes;
-      stands = state_goes_on p 0 g.prefix g.stands rest t v;
+      is_after = state_goes_on p 0 g.prefix g.is_after rest t v;
       whole = g.whole ∙ (ap (λ (x : List ℕ). g.prefix ++ x) gr.split ∙ sym (append_assoc g.prefix t.bytes gr.rest));
       features = g.features;
       listed = subst (λ (x : List Tile). Appends taken written' (listing_of (events_of 0 all_features x))) (sym more) lines;
@@ -115,27 +115,27 @@ one_tile stream taken written written' p p' rest consumed payload t g v k h e w 
 -- a tile takes bytes that are there
 pub tile_takes : (stream : List ℕ) (taken written : Option (List ℕ)) (p : ParserState) (rest : List ℕ) (t : Tile) → Progress stream taken written p rest → verdict (grammar_of p) rest ≡ tile t → (0 < length t.bytes) × (length t.bytes ≤ length rest)
 tile_takes stream taken written p rest t g v =
-    let v' : verdict (grammar 0 g.stands.tiles) rest ≡ tile t = sym (verdict_same p g.prefix rest g.stands) ∙ v in
-    let gr : Grown 0 g.stands.tiles rest t = grows 0 g.stands.tiles rest t g.stands.faultless v' in
+    let v' : verdict (grammar 0 g.is_after.tiles) rest ≡ tile t = sym (verdict_same p g.prefix rest g.is_after) ∙ v in
+    let gr : Grown 0 g.is_after.tiles rest t = grows 0 g.is_after.tiles rest t g.is_after.faultless v' in
     let n : length rest ≡ length t.bytes + length gr.rest = ap (λ (x : List ℕ). length x) gr.split ∙ length-append t.bytes gr.rest in
     (gr.some, omega arith)
 
 -- the stream as tiles and what stops there
-reads_now : (stream : List ℕ) (taken written : Option (List ℕ)) (p : ParserState) (rest : List ℕ) (end : Ending) (g : Progress stream taken written p rest) → verdict (grammar_of p) rest ≡ final end → Reads stream 0 g.stands.tiles end
+reads_now : (stream : List ℕ) (taken written : Option (List ℕ)) (p : ParserState) (rest : List ℕ) (end : Ending) (g : Progress stream taken written p rest) → verdict (grammar_of p) rest ≡ final end → Reads stream 0 g.is_after.tiles end
 reads_now stream taken written p rest end g v = record {
   rest = rest;
-  whole = g.whole ∙ ap (λ (x : List ℕ). x ++ rest) (sym g.stands.covers);
-  faultless = g.stands.faultless;
-  stops = sym (verdict_same p g.prefix rest g.stands) ∙ v;
+  whole = g.whole ∙ ap (λ (x : List ℕ). x ++ rest) (sym g.is_after.is_prefix);
+  faultless = g.is_after.faultless;
+  stops = sym (verdict_same p g.prefix rest g.is_after) ∙ v;
 }
 
 -- the end, whose line is written
 pub at_the_end : (stream : List ℕ) (taken written written' : Option (List ℕ)) (p : ParserState) (rest : List ℕ) (end : Ending) (how : Ended) → Progress stream taken written p rest → verdict (grammar_of p) rest ≡ final end → IsEndedBy how end
     → Appends written written' (event_line (last_event end)) → IsListed stream taken written' how
 at_the_end stream taken written written' p rest end how g v h w = record {
-  events = events_of 0 all_features g.stands.tiles ++ last_event end ∷ [];
-  reading = record { tiles = g.stands.tiles; end = end; reads = reads_now stream taken written p rest end g v; listed = refl };
-  listed = written_more taken written written' (events_of 0 all_features g.stands.tiles) (last_event end) g.listed w;
+  events = events_of 0 all_features g.is_after.tiles ++ last_event end ∷ [];
+  reading = record { tiles = g.is_after.tiles; end = end; reads = reads_now stream taken written p rest end g v; listed = refl };
+  listed = written_more taken written written' (events_of 0 all_features g.is_after.tiles) (last_event end) g.listed w;
   ends = h;
 }
 
@@ -175,12 +175,12 @@ pub reading_from : (stream : List ℕ) (ts : List Tile) (rest : List ℕ) → Fa
 reading_from stream ts rest f w = reading_on stream (length rest) ts rest (le_refl (length rest)) f w
 
 -- the reading that ends here
-pub ends_reading : (stream : List ℕ) (taken written : Option (List ℕ)) (p : ParserState) (rest : List ℕ) (end : Ending) (g : Progress stream taken written p rest) → verdict (grammar_of p) rest ≡ final end → ReadingFrom stream (events_of 0 all_features g.stands.tiles ++ last_event end ∷ [])
+pub ends_reading : (stream : List ℕ) (taken written : Option (List ℕ)) (p : ParserState) (rest : List ℕ) (end : Ending) (g : Progress stream taken written p rest) → verdict (grammar_of p) rest ≡ final end → ReadingFrom stream (events_of 0 all_features g.is_after.tiles ++ last_event end ∷ [])
 ends_reading stream taken written p rest end g v = record {
-  events = events_of 0 all_features g.stands.tiles ++ last_event end ∷ [];
+  events = events_of 0 all_features g.is_after.tiles ++ last_event end ∷ [];
   more = [];
-  reading = record { tiles = g.stands.tiles; end = end; reads = reads_now stream taken written p rest end g v; listed = refl };
-  begins = sym (append-nil (events_of 0 all_features g.stands.tiles ++ last_event end ∷ []));
+  reading = record { tiles = g.is_after.tiles; end = end; reads = reads_now stream taken written p rest end g v; listed = refl };
+  begins = sym (append-nil (events_of 0 all_features g.is_after.tiles ++ last_event end ∷ []));
 }
 
 -- a line of the listing was cut
@@ -210,7 +210,7 @@ nothing_yet stream taken =
 
 -- ---- the turns of the loop
 
-report_no_ending : (f s to : ℕ) (shape : Shape) (o : ℕ) → tile_report f s to shape ≡ ending o → ⊥
+report_no_ending : (f s to : ℕ) (shape : Shape) (o : ℕ) → tile_report f s to shape ≡ stream_end (ended o) → ⊥
 report_no_ending f s to (version num e) o h = cc
 report_no_ending f s to (section items id content) o h = cc
 report_no_ending f s to (section index id content) o h = cc
@@ -219,14 +219,14 @@ report_no_ending f s to (section code id content) o h = cc
 report_no_ending f s to (section unknown id content) o h = cc
 report_no_ending f s to (section custom id content) o h = by_name (to - length content) to (name (Some name_limit) content) h
   where
-    by_name : (from to : ℕ) (n : Name) → custom_report f from to content n ≡ ending o → ⊥
+    by_name : (from to : ℕ) (n : Name) → custom_report f from to content n ≡ stream_end (ended o) → ⊥
     by_name from to (named text used) h = cc
     by_name from to (refused g i) h = cc
 report_no_ending f s to (code_start count width size) o h = cc
 report_no_ending f s to (code_entry content) o h = cc
 
 -- a payload whose report is an end is one
-only_end : (payload : Payload) (o : ℕ) → report_of payload ≡ ending o → (at : ℕ) × (payload ≡ payloads.End at)
+only_end : (payload : Payload) (o : ℕ) → report_of payload ≡ stream_end (ended o) → (at : ℕ) × (payload ≡ payloads.End at)
 only_end (payloads.Version num encoding range) o h = cc
 only_end (payloads.TypeSection s) o h = cc
 only_end (payloads.ImportSection s) o h = cc
@@ -250,7 +250,7 @@ only_end (payloads.End at) o h = (at, refl)
 pub ends_listed : (stream : List ℕ) (taken written written' : Option (List ℕ)) (p p' : ParserState) (rest : List ℕ) (consumed : ℕ) (payload : Payload) (o : ℕ) → Progress stream taken written p rest
     → Came p rest consumed payload p' → payload ≡ payloads.End o → Appends written written' (line_of (report_of payload)) → IsListed stream taken written' End
 ends_listed stream taken written written' p p' rest consumed payload o g (tile_came t v k h e) is w =
-    let z : tile_report p.features p.offset (p.offset + length t.bytes) t.shape ≡ ending o = sym h ∙ ap report_of is in
+    let z : tile_report p.features p.offset (p.offset + length t.bytes) t.shape ≡ stream_end (ended o) = sym h ∙ ap report_of is in
     absurd (report_no_ending p.features p.offset (p.offset + length t.bytes) t.shape o z)
 ends_listed stream taken written written' p p' rest consumed payload o g (end_came x v h) is w = at_the_end stream taken written written' p rest (ended x) End g v tt (subst (Appends written written') (ap line_of h) w)
 
@@ -265,13 +265,13 @@ goes_on stream taken written written' p p' rest consumed payload g (end_came x v
 
 -- the line that the payload has in the reading
 came_reading : (stream : List ℕ) (taken written : Option (List ℕ)) (p p' : ParserState) (rest : List ℕ) (consumed : ℕ) (payload : Payload) (g : Progress stream taken written p rest) → Came p rest consumed payload p'
-    → (e : Event) × ReadingFrom stream (events_of 0 all_features g.stands.tiles ++ e ∷ []) × (line_of (report_of payload) ≡ event_line e)
+    → (e : Event) × ReadingFrom stream (events_of 0 all_features g.is_after.tiles ++ e ∷ []) × (line_of (report_of payload) ≡ event_line e)
 came_reading stream taken written p p' rest consumed payload g (tile_came t v k h e) =
-    let v' : verdict (grammar 0 g.stands.tiles) rest ≡ tile t = sym (verdict_same p g.prefix rest g.stands) ∙ v in
-    let gr : Grown 0 g.stands.tiles rest t = grows 0 g.stands.tiles rest t g.stands.faultless v' in
-    let whole : stream ≡ bytes_of g.stands.tiles ++ rest = g.whole ∙ ap (λ (x : List ℕ). x ++ rest) (sym g.stands.covers) in
-    let r : ReadingFrom stream (events_of 0 all_features (t ∷ g.stands.tiles)) = reading_from stream (t ∷ g.stands.tiles) gr.rest gr.faultless (whole ∙ (ap (λ (x : List ℕ). bytes_of g.stands.tiles ++ x) gr.split ∙ sym (append_assoc (bytes_of g.stands.tiles) t.bytes gr.rest))) in
-    (event_of all_features (0 + length (bytes_of g.stands.tiles)) t, r, report_line g.stands.tiles t p payload g.features (state_offset p g.prefix g.stands) h)
+    let v' : verdict (grammar 0 g.is_after.tiles) rest ≡ tile t = sym (verdict_same p g.prefix rest g.is_after) ∙ v in
+    let gr : Grown 0 g.is_after.tiles rest t = grows 0 g.is_after.tiles rest t g.is_after.faultless v' in
+    let whole : stream ≡ bytes_of g.is_after.tiles ++ rest = g.whole ∙ ap (λ (x : List ℕ). x ++ rest) (sym g.is_after.is_prefix) in
+    let r : ReadingFrom stream (events_of 0 all_features (t ∷ g.is_after.tiles)) = reading_from stream (t ∷ g.is_after.tiles) gr.rest gr.faultless (whole ∙ (ap (λ (x : List ℕ). bytes_of g.is_after.tiles ++ x) gr.split ∙ sym (append_assoc (bytes_of g.is_after.tiles) t.bytes gr.rest))) in
+    (event_of all_features (0 + length (bytes_of g.is_after.tiles)) t, r, report_line g.is_after.tiles t p payload g.features (state_offset p g.prefix g.is_after) h)
 came_reading stream taken written p p' rest consumed payload g (end_came x v h) = (last_event (ended x), ends_reading stream taken written p rest (ended x) g v, ap line_of h)
 
 -- a line that was refused
@@ -285,7 +285,7 @@ pub stops_listing : (stream : List ℕ) (taken written written' : Option (List �
     → Came p rest consumed payload p' → Writes written written' (line_of (report_of payload)) (Err x) → ListsBytes stream taken written' (Err x)
 stops_listing stream taken written written' p p' rest consumed payload x g c w =
     let r = came_reading stream taken written p p' rest consumed payload g c in
-    cut_by stream taken written written' (events_of 0 all_features g.stands.tiles) r.0 (line_of (report_of payload)) x r.1 g.listed r.2 w
+    cut_by stream taken written written' (events_of 0 all_features g.is_after.tiles) r.0 (line_of (report_of payload)) x r.1 g.listed r.2 w
 
 -- what parse refused is there
 refused_at : (p : ParserState) (rest : List ℕ) (e : Error) (p' : ParserState) (v : Verdict) → verdict (grammar_of p) rest ≡ v → Answers p v (Err e) p' → verdict (grammar_of p) rest ≡ final (fault (fault_at e))
@@ -301,16 +301,16 @@ refused_here stream taken written p rest e p' g l a =
 
 -- the line of the fault is written, or refused
 pub fault_listed : (stream : List ℕ) (taken written written' : Option (List ℕ)) (p p' : ParserState) (rest : List ℕ) (e : Error) → Progress stream taken written p rest → length stream < 2 ^ 64 → ParseAnswer p rest (Err e) p'
-    → Appends written written' (line_of (stopped (fault_at e))) → IsListed stream taken written' (Fault e)
+    → Appends written written' (line_of (stream_end (fault (fault_at e)))) → IsListed stream taken written' (Fault e)
 fault_listed stream taken written written' p p' rest e g l a w =
     let r = refused_here stream taken written p rest e p' g l a in
     at_the_end stream taken written written' p rest (fault (fault_at e)) (Fault e) g r refl w
 
 pub fault_cut : (stream : List ℕ) (taken written written' : Option (List ℕ)) (p p' : ParserState) (rest : List ℕ) (e : Error) (x : ListError) → Progress stream taken written p rest → length stream < 2 ^ 64 → ParseAnswer p rest (Err e) p'
-    → Writes written written' (line_of (stopped (fault_at e))) (Err x) → ListsBytes stream taken written' (Err x)
+    → Writes written written' (line_of (stream_end (fault (fault_at e)))) (Err x) → ListsBytes stream taken written' (Err x)
 fault_cut stream taken written written' p p' rest e x g l a w =
     let r = refused_here stream taken written p rest e p' g l a in
-    cut_by stream taken written written' (events_of 0 all_features g.stands.tiles) (last_event (fault (fault_at e))) (line_of (stopped (fault_at e))) x (ends_reading stream taken written p rest (fault (fault_at e)) g r) g.listed refl w
+    cut_by stream taken written written' (events_of 0 all_features g.is_after.tiles) (last_event (fault (fault_at e))) (line_of (stream_end (fault (fault_at e)))) x (ends_reading stream taken written p rest (fault (fault_at e)) g r) g.listed refl w
 
 -- a source that was not read to its end: nothing is written
 pub not_read : (left rest taken : Option (List ℕ)) (x : ListError) → IsCutShort left rest x → Lists left rest taken taken (Err x)

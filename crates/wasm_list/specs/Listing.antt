@@ -3,7 +3,8 @@ use Rattle.std.specs.Prelude.{ℕ, ◌+◌, List, ◌++◌, length, codes, decim
 use Rattle.std.specs.List.{flat_map}
 use Rattle.wasm_base.specs.Message.{message_of}
 use Rattle.wasm_base.specs.Window.{Window}
-use Rattle.wasm_parser.specs.Reading.{Report, version, counted, start_section, data_count_section, code_start, code_entry, custom_section, unknown_section, stopped, ending, Event}
+use Rattle.wasm_parser.specs.Content.{ended, fault}
+use Rattle.wasm_parser.specs.Reading.{Report, version, counted, start_section, data_count_section, code_start, code_entry, custom_section, unknown_section, stream_end, Event}
 use Rattle.wasm_parser.specs.declared.payload.Encoding.{Encoding}
 use Rattle.wasm_parser.specs.declared.payload.Encoding.TheVariants.{Module, Component}
 
@@ -34,8 +35,8 @@ line_of (code_start count from to size) = codes "code" ++ field from (field to (
 line_of (code_entry window) = codes "body" ++ window_fields window (codes "\n")
 line_of (custom_section name data_offset window) = codes "custom" ++ window_fields window (field data_offset (codes "\n"))
 line_of (unknown_section id contents from to) = codes "unknown" ++ field id (field from (field to (codes "\n")))
-line_of (stopped f) = codes "fault" ++ field f.offset (codes " " ++ (message_of f.fault ++ fault_number f.number (codes "\n")))
-line_of (ending offset) = codes "end" ++ field offset (codes "\n")
+line_of (stream_end (fault f)) = codes "fault" ++ field f.offset (codes " " ++ (message_of f.fault ++ fault_number f.number (codes "\n")))
+line_of (stream_end (ended offset)) = codes "end" ++ field offset (codes "\n")
 
 -- the line of an event
 abbrev pub event_line : Event → List ℕ

@@ -3,7 +3,8 @@ ghost use Rattle.std.specs.Prelude.{◌≡◌, ◌++◌, Some, IfOk, codes, stri
 ghost use Rattle.wasm_base.specs.FaultAt.{fault_at};
 ghost use Rattle.wasm_parser.specs.ParseAnswer.{report_of};
 ghost use Rattle.wasm_list.specs.Listing.{encoding_name as name_of, field, line_of};
-ghost use Rattle.wasm_parser.specs.Reading.{code_start, counted, stopped};
+ghost use Rattle.wasm_parser.specs.Content.{fault};
+ghost use Rattle.wasm_parser.specs.Reading.{code_start, counted, stream_end};
 
 use std::alloc::{AllocError, Allocator};
 use std::ops::Range;
@@ -121,7 +122,7 @@ pub(crate) fn payload_line<A: Allocator>(
 /// The line of a fault.
 #[tactic(auto, unfolding(crate::specs::Listing::line_of))]
 pub(crate) fn fault_line<A: Allocator>(alloc: A, error: &Error) -> Result<String<A>, AllocError>
-    ensures { IfOk result (λ line. string_bytes line ≡ line_of (stopped (fault_at error.now))) }
+    ensures { IfOk result (λ line. string_bytes line ≡ line_of (stream_end (fault (fault_at error.now)))) }
 {
     let (offset, message) = (error.offset(), error.message());
     match error.number() {

@@ -12,7 +12,8 @@ ghost use Rattle.wasm_list.specs.Lists.{
   input_failed,
   output_failed,
 };
-ghost use Rattle.wasm_parser.specs.Reading.{stopped};
+ghost use Rattle.wasm_parser.specs.Content.{fault};
+ghost use Rattle.wasm_parser.specs.Reading.{stream_end};
 
 use crate::lines::{fault_line, payload_line};
 use crate::sink::{Sink, write_all};
@@ -63,7 +64,7 @@ fn write_line<W: Sink>(output: &mut W, line: &str) -> Result<(), ListError>
 }
 
 // Writes the line of a payload.
-fn tell<A: Allocator, W: Sink>(alloc: A, output: &mut W, payload: &Payload) -> Result<(), ListError>
+fn write_payload<A: Allocator, W: Sink>(alloc: A, output: &mut W, payload: &Payload) -> Result<(), ListError>
     ensures writes { Writes (W.taken output.old) (W.taken output.new)
         (line_of (report_of payload.now)) result }
     ensures failed { W.has_failed output.new ≡ output_failed result (W.has_failed output.old) }
@@ -73,13 +74,13 @@ fn tell<A: Allocator, W: Sink>(alloc: A, output: &mut W, payload: &Payload) -> R
 }
 
 // Writes the line of a fault.
-fn tell_fault<A: Allocator, W: Sink>(
+fn write_fault<A: Allocator, W: Sink>(
     alloc: A,
     output: &mut W,
     error: &Error,
 ) -> Result<(), ListError>
     ensures writes { Writes (W.taken output.old) (W.taken output.new)
-        (line_of (stopped (fault_at error.now))) result }
+        (line_of (stream_end (fault (fault_at error.now)))) result }
     ensures failed { W.has_failed output.new ≡ output_failed result (W.has_failed output.old) }
 {
     let line = fault_line(alloc, error)?;
@@ -122,7 +123,7 @@ fn list_bytes<A: Allocator + Copy, W: Sink>(
     'events: loop {
         match parser.parse(rest, true) {
             Ok(Chunk::Parsed { consumed, payload }) => {
-                tell(alloc, output, &payload)?;
+                write_payload(alloc, output, &payload)?;
                 if let Payload::End(_) = payload {
                     return Ok(Ended::End);
                 }
@@ -132,7 +133,7 @@ fn list_bytes<A: Allocator + Copy, W: Sink>(
             }
             Ok(Chunk::NeedMoreData(_)) => unreachable!(),
             Err(error) => {
-                tell_fault(alloc, output, &error)?;
+                write_fault(alloc, output, &error)?;
                 return Ok(Ended::Fault(error));
             }
         }

@@ -123,7 +123,7 @@ fn lists_modules(rt: HostRuntime) -> Result<(), Fail> {
 }
 
 #[test]
-fn tells_how_a_stream_ends(rt: HostRuntime) -> Result<(), Fail> {
+fn says_how_a_stream_ends(rt: HostRuntime) -> Result<(), Fail> {
     let unknown = Error::new(Fault::UnknownVersion, 4).with_number(16843009);
     let streams: [(&[u8], Result<Ended, ListError>, &[u8]); 7] = [
         (

@@ -23,7 +23,7 @@ header_settled start t a h =
     let e : Encoding = p.encoding in
     let r : Settled (made (version (header_version e) e) (header_bytes e) ∷ []) = record {
       frames = [];
-      covers = sym (append-nil (header_bytes e));
+      joined = sym (append-nil (header_bytes e));
       knows = knows_header e (header_bytes e);
       sections = in_order_none e;
       closed = refl;
@@ -78,7 +78,7 @@ reads_accepted stream start p (t ∷ ts) a r =
     record {
       encoding = encoding_of us;
       frames = q.frames;
-      whole = r.whole ∙ (ap (λ (x : List ℕ). bytes_of us ++ x) d ∙ (append-nil (bytes_of us) ∙ q.covers));
+      whole = r.whole ∙ (ap (λ (x : List ℕ). bytes_of us ++ x) d ∙ (append-nil (bytes_of us) ∙ q.joined));
       each = q.sections.each;
       order = q.sections.order;
       functions = m.0;

@@ -54,7 +54,7 @@ in_order_push encoding fs f p i a = record {
 -- The tiles are a header and whole sections.
 pub record Settled (ts : List Tile) : Type 0 where
   pub frames : List Frame
-  pub covers : bytes_of ts ≡ stream_of (encoding_of ts) frames
+  pub joined : bytes_of ts ≡ stream_of (encoding_of ts) frames
   pub knows : Knows (encoding_of ts) frames (context_of ts)
   pub sections : InOrder (encoding_of ts) frames
   pub closed : nat_eq (bodies_left ts + bytes_left ts) 0 ≡ true
@@ -74,7 +74,7 @@ pub record Pending (ts : List Tile) : Type 0 where
   -- its bodies so far
   pub bodies : List Sized
   pub each : All IsSized bodies
-  pub covers : bytes_of ts ≡ stream_of Module frames ++ 10 ∷ (field ++ (head ++ flat_map sized_bytes bodies))
+  pub joined : bytes_of ts ≡ stream_of Module frames ++ 10 ∷ (field ++ (head ++ flat_map sized_bytes bodies))
   pub bodies_miss : count ≡ length bodies + bodies_left ts
   pub bytes_miss : size ≡ length head + length (flat_map sized_bytes bodies) + bytes_left ts
   pub knows : (f : Frame) → f.id ≡ 10 → frame_count f ≡ count → Knows Module (frames ++ f ∷ []) (context_of ts)
@@ -94,10 +94,10 @@ settles ts p e =
     let c : frame_count f ≡ p.count = ap value_of (number_on p.head (flat_map sized_bytes p.bodies) p.count p.counted) in
     let d : CodeDivision f.sized.content = record { field = p.head; bodies = p.bodies; whole = refl; count = p.counted ∙ ap (λ (n : ℕ). read n (length p.head)) m; each = p.each } in
     let i : IsFrame Module f = record { id = lit< tt; sized = p.sized ∙ ap (λ (n : ℕ). read n (length p.field)) s; content = d } in
-    let w : bytes_of ts ≡ stream_of Module (p.frames ++ f ∷ []) = p.covers ∙ stream_more Module p.frames f (stream_of Module p.frames) refl in
+    let w : bytes_of ts ≡ stream_of Module (p.frames ++ f ∷ []) = p.joined ∙ stream_more Module p.frames f (stream_of Module p.frames) refl in
     record {
       frames = p.frames ++ f ∷ [];
-      covers = w ∙ ap (λ (x : Encoding). stream_of x (p.frames ++ f ∷ [])) (sym p.of_module);
+      joined = w ∙ ap (λ (x : Encoding). stream_of x (p.frames ++ f ∷ [])) (sym p.of_module);
       knows = subst (λ (x : Encoding). Knows x (p.frames ++ f ∷ []) (context_of ts)) (sym p.of_module) (p.knows f refl c);
       sections = subst (λ (x : Encoding). InOrder x (p.frames ++ f ∷ [])) (sym p.of_module) (in_order_push Module p.frames f p.sections i (p.fits f refl c));
       closed = e;
@@ -139,7 +139,7 @@ whole_settled ts o t q s w =
     let z : t ≡ made (section (kind_of e s.id) s.id c.content) (frame_bytes f) = s.is ∙ ap (λ (x : Tile). made x.shape (s.id ∷ (s.field ++ x.bytes))) c.is in
     let r : Settled (made (section (kind_of e s.id) s.id c.content) (frame_bytes f) ∷ ts) = record {
       frames = q.frames ++ f ∷ [];
-      covers = stream_more e q.frames f (bytes_of ts) q.covers;
+      joined = stream_more e q.frames f (bytes_of ts) q.joined;
       knows = knows_section e q.frames ts f (frame_bytes f) w q.knows;
       sections = in_order_push e q.frames f q.sections (whole_frame (context_of ts) o t s at w c) (whole_fits (context_of ts) q.frames o t s at q.knows w c);
       closed = refl;
@@ -170,7 +170,7 @@ code_pending ts o t q s e =
     s.is ∙ (ap (λ (x : Tile). made x.shape (s.id ∷ (s.field ++ x.bytes))) h.is ∙ ap (λ (x : ℕ). made (code_start h.count (length h.head) n) (x ∷ (s.field ++ h.head))) i) in
     let k : Knows Module q.frames (context_of ts) = subst (λ (x : Encoding). Knows x q.frames (context_of ts)) m q.knows in
     let y : Follows (context_of ts) (rank_of (kind_of Module s.id) s.id) = subst (λ (x : Encoding). Follows (context_of ts) (rank_of (kind_of x s.id) s.id)) m s.follows in
-    let w : bytes_of ts ≡ stream_of Module q.frames = q.covers ∙ ap (λ (x : Encoding). stream_of x q.frames) m in
+    let w : bytes_of ts ≡ stream_of Module q.frames = q.joined ∙ ap (λ (x : Encoding). stream_of x q.frames) m in
     let l : s.size ≡ length h.head + 0 + n = omega (arith, h.fits) in
     let r : Pending (made (code_start h.count (length h.head) n) b ∷ ts) = record {
       of_module = m;
@@ -184,7 +184,7 @@ code_pending ts o t q s e =
       counted = h.whole;
       bodies = [];
       each = All-nil IsSized;
-      covers = ap (λ (x : List ℕ). x ++ b) w ∙ ap (λ (x : List ℕ). stream_of Module q.frames ++ 10 ∷ (s.field ++ x)) (sym (append-nil h.head));
+      joined = ap (λ (x : List ℕ). x ++ b) w ∙ ap (λ (x : List ℕ). stream_of Module q.frames ++ 10 ∷ (s.field ++ x)) (sym (append-nil h.head));
       bodies_miss = omega arith;
       bytes_miss = l;
       knows = λ f a c. knows_code q.frames ts f h.count (length h.head) n b a c k;
@@ -193,8 +193,8 @@ code_pending ts o t q s e =
     subst (λ (x : Tile). Pending (x ∷ ts)) (sym z) r
 
 -- the bytes of a code section with one more body
-body_covers : (first field head : List ℕ) (bodies : List Sized) (s : Sized) → (first ++ 10 ∷ (field ++ (head ++ flat_map sized_bytes bodies))) ++ sized_bytes s ≡ first ++ 10 ∷ (field ++ (head ++ flat_map sized_bytes (bodies ++ s ∷ [])))
-body_covers first field head bodies s =
+body_joined : (first field head : List ℕ) (bodies : List Sized) (s : Sized) → (first ++ 10 ∷ (field ++ (head ++ flat_map sized_bytes bodies))) ++ sized_bytes s ≡ first ++ 10 ∷ (field ++ (head ++ flat_map sized_bytes (bodies ++ s ∷ [])))
+body_joined first field head bodies s =
     append_assoc first (10 ∷ (field ++ (head ++ flat_map sized_bytes bodies))) (sized_bytes s)
     ∙ (ap (λ (x : List ℕ). first ++ 10 ∷ x) (append_assoc field (head ++ flat_map sized_bytes bodies) (sized_bytes s))
     ∙ ap (λ (x : List ℕ). first ++ 10 ∷ (field ++ x)) (flat_map_more sized_bytes head bodies s))
@@ -226,7 +226,7 @@ body_pending ts t q h =
       counted = q.counted;
       bodies = q.bodies ++ s ∷ [];
       each = All-push IsSized q.bodies s q.each h.whole;
-      covers = ap (λ (x : List ℕ). x ++ b) q.covers ∙ body_covers (stream_of Module q.frames) q.field q.head q.bodies s;
+      joined = ap (λ (x : List ℕ). x ++ b) q.joined ∙ body_joined (stream_of Module q.frames) q.field q.head q.bodies s;
       bodies_miss = m;
       bytes_miss = y;
       knows = λ f a c. knows_body Module (q.frames ++ f ∷ []) ts h.content b (q.knows f a c);

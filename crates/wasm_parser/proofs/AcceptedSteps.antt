@@ -83,7 +83,7 @@ pub record Through (start : ℕ) (ts : List Tile) (bodies : List Sized) : Type 0
   pub tiles : List Tile
   pub begun : is_start tiles ≡ false
   pub faultless : Faultless start tiles
-  pub covers : bytes_of tiles ≡ bytes_of ts ++ flat_map sized_bytes bodies
+  pub joined : bytes_of tiles ≡ bytes_of ts ++ flat_map sized_bytes bodies
   pub closed : nat_eq (bodies_left tiles + bytes_left tiles) 0 ≡ true
   pub knows : (encoding : Encoding) (fs : List Frame) → Knows encoding fs (context_of ts) → Knows encoding fs (context_of tiles)
 
@@ -106,7 +106,7 @@ bodies_walk start [] ts b f a m l = record {
   tiles = ts;
   begun = b;
   faultless = f;
-  covers = sym (append-nil (bytes_of ts));
+  joined = sym (append-nil (bytes_of ts));
   closed = rw (m, l) refl;
   knows = λ encoding fs k. k;
 }
@@ -119,7 +119,7 @@ bodies_walk start (s ∷ bodies) ts b f a m l =
       tiles = t.tiles;
       begun = t.begun;
       faultless = t.faultless;
-      covers = t.covers ∙ append_assoc (bytes_of ts) (sized_bytes s) (flat_map sized_bytes bodies);
+      joined = t.joined ∙ append_assoc (bytes_of ts) (sized_bytes s) (flat_map sized_bytes bodies);
       closed = t.closed;
       knows = λ encoding fs k. t.knows encoding fs (knows_body encoding fs ts s.content (sized_bytes s) k);
     }

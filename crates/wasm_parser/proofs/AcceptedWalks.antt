@@ -27,7 +27,7 @@ stream_of encoding fs = header_bytes encoding ++ flat_map frame_bytes fs
 pub record Closed (start : ℕ) (encoding : Encoding) (fs : List Frame) (tiles : List Tile) : Type 0 where
   pub begun : is_start tiles ≡ false
   pub faultless : Faultless start tiles
-  pub covers : bytes_of tiles ≡ stream_of encoding fs
+  pub joined : bytes_of tiles ≡ stream_of encoding fs
   pub knows : Knows encoding fs (context_of tiles)
   pub closed : nat_eq (bodies_left tiles + bytes_left tiles) 0 ≡ true
 
@@ -59,13 +59,13 @@ whole_step start encoding fs f q r i a w =
     let ts : List Tile = q.tiles in
     let c : Closed start encoding fs ts = q.there in
     let v : verdict (grammar start ts) (frame_bytes f) ≡ tile (made (section (kind_of encoding f.id) f.id f.sized.content) (frame_bytes f)) =
-    closed_verdict start encoding fs ts c _ _ (section_step encoding (context_of ts) fs (start + length (bytes_of ts)) f (room_for start encoding fs f (bytes_of ts) c.covers r) c.knows i a w) in
+    closed_verdict start encoding fs ts c _ _ (section_step encoding (context_of ts) fs (start + length (bytes_of ts)) f (room_for start encoding fs f (bytes_of ts) c.joined r) c.knows i a w) in
     record {
       tiles = made (section (kind_of encoding f.id) f.id f.sized.content) (frame_bytes f) ∷ ts;
       there = record {
         begun = refl;
         faultless = (c.faultless, v);
-        covers = stream_more encoding fs f (bytes_of ts) c.covers;
+        joined = stream_more encoding fs f (bytes_of ts) c.joined;
         knows = knows_section encoding fs ts f (frame_bytes f) w c.knows;
         closed = refl;
       };
@@ -89,7 +89,7 @@ module_step start fs f z d q r i a =
     let hb : List ℕ = 10 ∷ (f.sized.field ++ d.field) in
     let h : Tile = made (code_start (length d.bodies) (length d.field) n) hb in
     let v : verdict (grammar start ts) hb ≡ tile h =
-    closed_verdict start Module fs ts c hb h (code_step (context_of ts) fs (start + length (bytes_of ts)) f d z (room_for start Module fs f (bytes_of ts) c.covers r) c.knows i a) in
+    closed_verdict start Module fs ts c hb h (code_step (context_of ts) fs (start + length (bytes_of ts)) f d z (room_for start Module fs f (bytes_of ts) c.joined r) c.knows i a) in
     let l : length f.sized.content ≡ length d.field + length (flat_map sized_bytes d.bodies) = division_length f d in
     let t : Through start (h ∷ ts) d.bodies = bodies_walk start d.bodies (h ∷ ts) refl (c.faultless, v) d.each refl (omega arith) in
     record {
@@ -97,7 +97,7 @@ module_step start fs f z d q r i a =
       there = record {
         begun = t.begun;
         faultless = t.faultless;
-        covers = t.covers ∙ (code_bytes f d z (bytes_of ts) ∙ stream_more Module fs f (bytes_of ts) c.covers);
+        joined = t.joined ∙ (code_bytes f d z (bytes_of ts) ∙ stream_more Module fs f (bytes_of ts) c.joined);
         knows = t.knows Module (fs ++ f ∷ []) (knows_code fs ts f (length d.bodies) (length d.field) n hb z (division_count f d) c.knows);
         closed = t.closed;
       };
@@ -143,7 +143,7 @@ begins start encoding = record {
   there = record {
     begun = refl;
     faultless = (tt, header_tile start encoding);
-    covers = sym (append-nil (header_bytes encoding));
+    joined = sym (append-nil (header_bytes encoding));
     knows = knows_header encoding (header_bytes encoding);
     closed = refl;
   };
@@ -160,7 +160,7 @@ accepted_reads stream start r a =
     let q : Reached start a.encoding a.frames =
     frames_walk start a.encoding a.frames (subst (λ (x : List ℕ). start + length x < 2 ^ 64) a.whole r) a.order a.frames [] refl a.each (begins start a.encoding) in
     let c : Closed start a.encoding a.frames q.tiles = q.there in
-    let w : bytes_of q.tiles ≡ stream = c.covers ∙ sym a.whole in
+    let w : bytes_of q.tiles ≡ stream = c.joined ∙ sym a.whole in
     let o : ℕ = start + length (bytes_of q.tiles) in
     let v : verdict (grammar start q.tiles) [] ≡ final (ended o) =
     subst (λ (g : Grammar). verdict g [] ≡ final (ended o)) (sym (grammar_closed start q.tiles c.begun c.closed)) (end_verdict (context_of q.tiles) o (end_to a.encoding a.frames (context_of q.tiles) c.knows o a.functions a.segments)) in (

@@ -8,7 +8,7 @@ use Rattle.wasm_base.specs.Window.{Window}
 use Rattle.wasm_parser.specs.Content.{Kind, custom, items, index, data_count, code, unknown, Ending, fault, ended}
 use Rattle.wasm_parser.specs.Grammar
 use Rattle.wasm_parser.specs.Grammar.{Shape, section, Tile, tile, final, SectionContext, verdict, section_grammar, body_grammar}
-use Rattle.wasm_parser.specs.Reading.{code_start, code_entry, Event, custom_report, section_report, tile_report, event_of, ending_report, last_event, events_of}
+use Rattle.wasm_parser.specs.Reading.{code_start, code_entry, Event, custom_report, section_report, tile_report, event_of, stream_end, last_event, events_of}
 use Rattle.wasm_parser.specs.SectionLaws.{BodiesFollowTheirCount}
 use Rattle.wasm_parser.specs.Sections.{TellsBody, TellsFault, BodiesFollow}
 use Rattle.wasm_parser.specs.Tiling.{bytes_of, context_of, grammar, bodies_left, bytes_left, bodies_after, Faultless}
@@ -56,7 +56,7 @@ start_misses features low high old (section kind id content) count from to size 
 start_misses features low high old (Grammar.code_start n width left) count from to size e = cc
 start_misses features low high old (Grammar.code_entry content) count from to size e = cc
 
-no_start : (end : Ending) (count from to size : ℕ) → ending_report end ≡ code_start count from to size → ⊥
+no_start : (end : Ending) (count from to size : ℕ) → stream_end end ≡ code_start count from to size → ⊥
 no_start (fault f) count from to size e = cc
 no_start (ended o) count from to size e = cc
 
@@ -92,7 +92,7 @@ header_apart (Grammar.code_start n width left) q b = b
 header_apart (Grammar.version num encoding) q b = b
 header_apart (Grammar.code_entry content) q b = q
 
-no_last : (end : Ending) (w : Window) → ending_report end ≡ code_entry w → ⊥
+no_last : (end : Ending) (w : Window) → stream_end end ≡ code_entry w → ⊥
 no_last (fault f) w e = cc
 no_last (ended o) w e = cc
 

@@ -13,7 +13,7 @@ use Rattle.wasm_base.proofs.NumberLaws.{Used, number-used}
 use Rattle.wasm_parser.specs.Content.{Kind, custom, items, index, data_count, code, unknown, kind_of, Ending, fault, ended}
 use Rattle.wasm_parser.specs.Grammar.{Shape, version, section, code_start, code_entry, Tile, Verdict, tile, final, Grammar, accept, reject, check, number, bytes, section_start, after, after_number, verdict, SectionContext, header_of, header_grammar, end_of, content_grammar, section_grammar, body_grammar}
 use Rattle.wasm_parser.specs.Laws.{EventsLieEndToEnd}
-use Rattle.wasm_parser.specs.Reading.{Event, window_over, custom_report, section_report, tile_report, event_of, ending_report, last_event, events_of, Reads}
+use Rattle.wasm_parser.specs.Reading.{Event, window_over, custom_report, section_report, tile_report, event_of, stream_end, last_event, events_of, Reads}
 use Rattle.wasm_parser.specs.EventRanges.{consumed_by, IsPart, LiesIn, LiesBetween, AtOffsets, EndToEnd}
 use Rattle.wasm_parser.specs.Tiling.{context_of, grammar, bodies_left, bytes_left, bytes_of, Faultless}
 use Rattle.wasm_parser.specs.declared.payload.Encoding.{Encoding}
@@ -234,7 +234,7 @@ tiles_lie stream start features (t ∷ ts) rest f w =
     (tiles_lie stream start features ts (t.bytes ++ rest) f.0 z)
     (lies_between stream (bytes_of ts) t.bytes rest start (start + length (bytes_of ts)) (start + length (bytes_of ts) + length t.bytes) features t.shape z refl refl (tile_closes start ts t.bytes t f.1))
 
-last_lies : (stream : List ℕ) (start features : ℕ) (ts : List Tile) (end : Ending) → Reads stream start ts end → LiesBetween stream start features (start + length (bytes_of ts)) (start + length (bytes_of ts) + 0) (ending_report end)
+last_lies : (stream : List ℕ) (start features : ℕ) (ts : List Tile) (end : Ending) → Reads stream start ts end → LiesBetween stream start features (start + length (bytes_of ts)) (start + length (bytes_of ts) + 0) (stream_end end)
 last_lies stream start features ts (fault f) r = tt
 last_lies stream start features ts (ended x) r = let z : x ≡ start + length (bytes_of ts) = (ends_after_all stream start ts x r).1 in (z, omega arith)
 

@@ -3,10 +3,11 @@ use Rattle.std.proofs.Common.{◌≡◌, ℕ, ◌+◌, ◌<◌, List, [], ◌∷
 use Rattle.std.proofs.lemmas.List.{append_cancel_left, take_at}
 use Rattle.std.specs.Prelude.{◌⊎◌}
 use Rattle.wasm_base.specs.declared.error.Error.{Error}
+use Rattle.wasm_base.specs.FaultAt.{FaultAt}
 use Rattle.wasm_parser.specs.ParseAnswer.{IsPayload, Answers, ParseAnswer}
 use Rattle.wasm_parser.specs.Content.{Ending, fault, ended}
 use Rattle.wasm_parser.specs.Grammar.{Tile, Verdict, tile, final, Grammar, verdict}
-use Rattle.wasm_parser.specs.Reading.{Event, stopped, tile_report, event_of, events_of, last_event, Reads, Reading}
+use Rattle.wasm_parser.specs.Reading.{Event, stream_end, tile_report, event_of, events_of, last_event, Reads, Reading}
 use Rattle.wasm_parser.specs.EventRanges.{consumed_by}
 use Rattle.wasm_parser.specs.ParserState.{ParserState, IsStateAfter, grammar_of}
 use Rattle.wasm_parser.specs.Laws.{SomeNextEvent}
@@ -87,9 +88,9 @@ record AtPrefix (p : ParserState) (start : ℕ) (prefix rest : List ℕ) : Type 
 at_prefix : (p : ParserState) (start : ℕ) (prefix rest : List ℕ) → IsStateAfter p start prefix → AtPrefix p start prefix rest
 at_prefix p start prefix rest s = record {
   s = s;
-  offset = s.offset ∙ ap (λ (x : List ℕ). start + length x) (sym s.covers);
-  whole = ap (λ (x : List ℕ). x ++ rest) (sym s.covers);
-  consumes = tiles_consume start p.features s.tiles ∙ s.covers;
+  offset = s.offset ∙ ap (λ (x : List ℕ). start + length x) (sym s.is_prefix);
+  whole = ap (λ (x : List ℕ). x ++ rest) (sym s.is_prefix);
+  consumes = tiles_consume start p.features s.tiles ∙ s.is_prefix;
 }
 
 -- the event of the tile that comes next
@@ -143,7 +144,7 @@ gives_last p new start prefix rest s (ended o) (Ok (Parsed consumed payload)) a 
   subst₂ (λ (q : ParserState) (x : List ℕ). IsStateAfter q start x) (sym a.2) (sym (append-nil prefix)) s,
   ap (λ (q : ParserState). q.features) a.2,
 )
-gives_last p new start prefix rest s (fault f) (Err e) a = (ap stopped (sym a.0), refl, a.1)
+gives_last p new start prefix rest s (fault f) (Err e) a = (ap (λ (x : FaultAt). stream_end (fault x)) (sym a.0), refl, a.1)
 gives_last p new start prefix rest s (ended o) (Err e) a = absurd a
 
 gives_at : (p new : ParserState) (start : ℕ) (prefix rest : List ℕ) (f : AtPrefix p start prefix rest) (r : Result Chunk Error) (v : Verdict) → verdict (grammar_of p) rest ≡ v → Answers p v r new
@@ -163,11 +164,11 @@ gives_next p new rest r h start prefix s l events reading next =
 
 pub some_next_event : SomeNextEvent
 some_next_event p start features prefix rest events s r =
-    let l = longest (prefix ++ rest) start r.tiles s.tiles r.end rest r.reads s.faultless (ap (λ (x : List ℕ). x ++ rest) (sym s.covers)) in
+    let l = longest (prefix ++ rest) start r.tiles s.tiles r.end rest r.reads s.faultless (ap (λ (x : List ℕ). x ++ rest) (sym s.is_prefix)) in
     let m : MoreEvents (events_of start features s.tiles) (events_of start features (l.0 ++ s.tiles)) = events_later start features l.0 s.tiles in
     at m.more (r.listed ∙ (ap (λ (y : List Tile). events_of start features y ++ last_event r.end ∷ []) l.1 ∙ (ap (λ (y : List Event). y ++ last_event r.end ∷ []) m.parts
     ∙ append_assoc (events_of start features s.tiles) m.more (last_event r.end ∷ []))))
   where
     at : (more : List Event) → events ≡ events_of start features s.tiles ++ (more ++ last_event r.end ∷ []) → NextEvent events prefix
-    at [] e = record { before = events_of start features s.tiles; event = last_event r.end; later = []; whole = e; consumed = tiles_consume start features s.tiles ∙ s.covers }
-    at (x ∷ more) e = record { before = events_of start features s.tiles; event = x; later = more ++ last_event r.end ∷ []; whole = e; consumed = tiles_consume start features s.tiles ∙ s.covers }
+    at [] e = record { before = events_of start features s.tiles; event = last_event r.end; later = []; whole = e; consumed = tiles_consume start features s.tiles ∙ s.is_prefix }
+    at (x ∷ more) e = record { before = events_of start features s.tiles; event = x; later = more ++ last_event r.end ∷ []; whole = e; consumed = tiles_consume start features s.tiles ∙ s.is_prefix }

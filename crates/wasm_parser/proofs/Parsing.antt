@@ -9,7 +9,7 @@ use Rattle.wasm_parser.specs.ParseAnswer.{report_of, Answers, Advances, ParseAns
 use Rattle.wasm_parser.specs.StateAfter.{state_after}
 use Rattle.wasm_parser.specs.Content.{Kind, custom, items, index, data_count, code, unknown, kind_of, Ending, fault, ended}
 use Rattle.wasm_parser.specs.Grammar.{Shape, version, section, code_start, code_entry, Tile, Verdict, tile, final, SectionContext, end_of, section_grammar, body_grammar, content_grammar, header_grammar, verdict}
-use Rattle.wasm_parser.specs.Reading.{ending, tile_report, custom_report}
+use Rattle.wasm_parser.specs.Reading.{stream_end, tile_report, custom_report}
 use Rattle.wasm_parser.specs.ParserState.{ParserState, known_context, grammar_of}
 use Rattle.wasm_parser.specs.Tiling.{inside}
 use Rattle.wasm_parser.specs.declared.payload.Encoding.{Encoding}
@@ -51,7 +51,7 @@ data_count_alone p x l h c a b f = ends_as p (fault (at_offset DataCountWithoutD
 -- nothing is lacking
 pub nothing_lacks : (p : ParserState) (o : ℕ) → o ≡ p.offset → p.offset < 2 ^ 64 → p.expects_header ≡ false → nat_eq (p.bodies + p.left) 0 ≡ true → false ≡ is_lacking p.functions p.codes → false ≡ is_lacking p.data_counts p.datas
     → ParseAnswer p [] (Ok (Parsed 0 (End o))) p
-nothing_lacks p o e l h c a b = ends_as p (ended p.offset) (Ok (Parsed 0 (End o))) l h c (rw (← a, ← b) refl) (refl, (ap ending e, tt), refl)
+nothing_lacks p o e l h c a b = ends_as p (ended p.offset) (Ok (Parsed 0 (End o))) l h c (rw (← a, ← b) refl) (refl, (ap (λ (x : ℕ). stream_end (ended x)) e, tt), refl)
 
 -- ---- the state after a payload
 

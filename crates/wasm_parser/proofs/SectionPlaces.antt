@@ -69,7 +69,7 @@ record Closed (start features : ℕ) (ts : List Tile) : Type 0 where
   encoding : Encoding
   frames : List Frame
   sized : All (λ f. IsSized f.sized) frames
-  covers : bytes_of ts ≡ stream_of encoding frames
+  joined : bytes_of ts ≡ stream_of encoding frames
   places : sections_of (events_of start features ts) ≡ places_of (start + length (header_bytes encoding)) frames
   whole : bodies_left ts + bytes_left ts ≡ 0
 
@@ -83,7 +83,7 @@ record Open (start features : ℕ) (ts : List Tile) : Type 0 where
   long : IsNumber field size
   inner : List ℕ
   misses : size ≡ length inner + bytes_left ts
-  covers : bytes_of ts ≡ stream_of encoding frames ++ 10 ∷ (field ++ inner)
+  joined : bytes_of ts ≡ stream_of encoding frames ++ 10 ∷ (field ++ inner)
   places : sections_of (events_of start features ts)
       ≡ places_of (start + length (header_bytes encoding)) frames ++ (10, record { start = start + length (stream_of encoding frames) + 1 + length field; end = start + length (stream_of encoding frames) + 1 + length field + size }) ∷ []
 
@@ -106,7 +106,7 @@ header_closed start features t a h =
       encoding = p.encoding;
       frames = [];
       sized = All-nil (λ f. IsSized f.sized);
-      covers = ap (λ (x : Tile). x.bytes) p.is ∙ sym (append-nil (header_bytes p.encoding));
+      joined = ap (λ (x : Tile). x.bytes) p.is ∙ sym (append-nil (header_bytes p.encoding));
       places = sections_first start features t h;
       whole = ap (λ (x : Tile). bodies_left (x ∷ []) + bytes_left (x ∷ [])) p.is;
     }
@@ -121,7 +121,7 @@ closes start features ts q z =
       encoding = q.encoding;
       frames = q.frames ++ f ∷ [];
       sized = All-push (λ g. IsSized g.sized) q.frames f q.sized s;
-      covers = q.covers ∙ stream_more q.encoding q.frames f (stream_of q.encoding q.frames) refl;
+      joined = q.joined ∙ stream_more q.encoding q.frames f (stream_of q.encoding q.frames) refl;
       places = q.places ∙ push_places start q.encoding q.frames f _ _ refl (omega (arith, n));
       whole = z;
     }
@@ -136,7 +136,7 @@ closed_whole start features u ts o t h q s w =
     let f : Frame = record { id = s.id; sized = record { field = s.field; content = c.content } } in
     let z : t ≡ made (section kind s.id c.content) (frame_bytes f) = s.is ∙ ap (λ (x : Tile). made x.shape (s.id ∷ (s.field ++ x.bytes))) c.is in
     let low : ℕ = start + length (bytes_of (u ∷ ts)) in
-    let n : length (bytes_of (u ∷ ts)) ≡ length (stream_of q.encoding q.frames) = ap (λ (x : List ℕ). length x) q.covers in
+    let n : length (bytes_of (u ∷ ts)) ≡ length (stream_of q.encoding q.frames) = ap (λ (x : List ℕ). length x) q.joined in
     let m : length (s.field ++ c.content) ≡ length s.field + length c.content = length-append s.field c.content in
     let p : sections_of (events_of start features (t ∷ u ∷ ts)) ≡ sections_of (events_of start features (u ∷ ts)) ++ (s.id, record { start = low + length (frame_bytes f) - length c.content; end = low + length (frame_bytes f) }) ∷ [] =
     sections_more start features u ts t h ∙ ap (λ (x : Tile). sections_of (events_of start features (u ∷ ts)) ++ option_to_list (section_at (low + length x.bytes) x.shape)) z in
@@ -144,7 +144,7 @@ closed_whole start features u ts o t h q s w =
       encoding = q.encoding;
       frames = q.frames ++ f ∷ [];
       sized = All-push (λ g. IsSized g.sized) q.frames f q.sized (s.whole ∙ ap (λ (x : ℕ). read x (length s.field)) (sym c.long));
-      covers = ap (λ (x : Tile). bytes_of (u ∷ ts) ++ x.bytes) z ∙ stream_more q.encoding q.frames f (bytes_of (u ∷ ts)) q.covers;
+      joined = ap (λ (x : Tile). bytes_of (u ∷ ts) ++ x.bytes) z ∙ stream_more q.encoding q.frames f (bytes_of (u ∷ ts)) q.joined;
       places = p ∙ (ap (λ (l : List (ℕ × Range ℕ)). l ++ (s.id, record { start = low + length (frame_bytes f) - length c.content; end = low + length (frame_bytes f) }) ∷ []) q.places
           ∙ push_places start q.encoding q.frames f (low + length (frame_bytes f) - length c.content) (low + length (frame_bytes f)) (omega arith) (omega arith));
       whole = ap (λ (x : Tile). bodies_left (x ∷ u ∷ ts) + bytes_left (x ∷ u ∷ ts)) z;
@@ -163,7 +163,7 @@ closed_code start features u ts o t h q s e =
     let z : t ≡ made (code_start c.count (length c.head) left) bytes =
     s.is ∙ (ap (λ (x : Tile). made x.shape (s.id ∷ (s.field ++ x.bytes))) c.is ∙ ap (λ (x : ℕ). made (code_start c.count (length c.head) left) (x ∷ (s.field ++ c.head))) i) in
     let low : ℕ = start + length (bytes_of (u ∷ ts)) in
-    let n : length (bytes_of (u ∷ ts)) ≡ length (stream_of q.encoding q.frames) = ap (λ (x : List ℕ). length x) q.covers in
+    let n : length (bytes_of (u ∷ ts)) ≡ length (stream_of q.encoding q.frames) = ap (λ (x : List ℕ). length x) q.joined in
     let m : length (s.field ++ c.head) ≡ length s.field + length c.head = length-append s.field c.head in
     let from : ℕ = start + length (stream_of q.encoding q.frames) + 1 + length s.field in
     let a : low + length bytes - length c.head ≡ from = omega arith in
@@ -180,7 +180,7 @@ closed_code start features u ts o t h q s e =
       long = s.whole;
       inner = c.head;
       misses = omega (arith, c.fits, l);
-      covers = (λ k. q.covers k ++ (z k).bytes);
+      joined = (λ k. q.joined k ++ (z k).bytes);
       places = p ∙ (λ k. q.places k ++ (10, record { start = a k; end = b k }) ∷ []);
     }
 
@@ -202,7 +202,7 @@ open_body start features u ts t h q c =
       long = q.long;
       inner = q.inner ++ t.bytes;
       misses = omega (arith, q.misses, c.fits, length-append c.field c.content, length-append q.inner t.bytes);
-      covers = ap (λ (x : List ℕ). x ++ t.bytes) q.covers ∙ (append_assoc (stream_of q.encoding q.frames) (10 ∷ (q.field ++ q.inner)) t.bytes
+      joined = ap (λ (x : List ℕ). x ++ t.bytes) q.joined ∙ (append_assoc (stream_of q.encoding q.frames) (10 ∷ (q.field ++ q.inner)) t.bytes
           ∙ ap (λ (x : List ℕ). stream_of q.encoding q.frames ++ 10 ∷ x) (append_assoc q.field q.inner t.bytes));
       places = p ∙ q.places;
     }
@@ -250,7 +250,7 @@ closed_end stream start features p (t ∷ ts) a r =
 report_sections : (stream : List ℕ) (start features : ℕ) (a : IsAccepted stream) (ts : List Tile) → Closed start features ts → stream ≡ bytes_of ts → All (λ f. IsSized f.sized) a.frames
     → sections_of (events_of start features ts) ≡ places_of (start + length (header_bytes a.encoding)) a.frames
 report_sections stream start features a ts c w s =
-    let q : ((c.encoding ≡ a.encoding) × (flat_map frame_bytes c.frames ≡ flat_map frame_bytes a.frames)) = headers_same c.encoding a.encoding (flat_map frame_bytes c.frames) (flat_map frame_bytes a.frames) (sym c.covers ∙ (sym w ∙ a.whole)) in
+    let q : ((c.encoding ≡ a.encoding) × (flat_map frame_bytes c.frames ≡ flat_map frame_bytes a.frames)) = headers_same c.encoding a.encoding (flat_map frame_bytes c.frames) (flat_map frame_bytes a.frames) (sym c.joined ∙ (sym w ∙ a.whole)) in
     let f : c.frames ≡ a.frames = frames_same c.frames a.frames c.sized s q.1 in
     c.places ∙ (λ i. places_of (start + length (header_bytes (q.0 i))) (f i))
 

@@ -10,7 +10,7 @@ use Rattle.wasm_parser.specs.declared.payload.Encoding.TheVariants.{Module}
 use Rattle.wasm_parser.specs.Content.{Kind, code, kind_of, Ending, fault, ended, rank_of}
 use Rattle.wasm_parser.specs.Grammar
 use Rattle.wasm_parser.specs.Grammar.{Shape, section, Tile}
-use Rattle.wasm_parser.specs.Reading.{version, Event, tile_report, event_of, ending_report, last_event, events_of}
+use Rattle.wasm_parser.specs.Reading.{version, Event, tile_report, event_of, stream_end, last_event, events_of}
 use Rattle.wasm_parser.specs.SectionLaws.{RanksAscend}
 use Rattle.wasm_parser.specs.Sections.{sections_of, BeginsAs, rank_in, RanksBelow}
 use Rattle.wasm_parser.specs.Tiling.{bytes_of, encoding_in, encoding_of, tile_rank, Faultless}
@@ -89,7 +89,7 @@ first_named start features t (u ∷ ts) more encoding f b =
     let e : Event = event_of features (start + length (bytes_of (u ∷ ts))) t in
     same_encoding t (u ∷ ts) k ∙ first_named start features u ts (e ∷ more) encoding f.0 (subst (BeginsAs encoding) (append_assoc (events_of start features (u ∷ ts)) (e ∷ []) more) b)
 
-no_version : (e : Ending) (num : ℕ) (encoding : Encoding) (from to : ℕ) → ending_report e ≡ version num encoding from to → ⊥
+no_version : (e : Ending) (num : ℕ) (encoding : Encoding) (from to : ℕ) → stream_end e ≡ version num encoding from to → ⊥
 no_version (fault f) num encoding from to e = cc
 no_version (ended o) num encoding from to e = cc
 

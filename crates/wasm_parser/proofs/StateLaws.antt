@@ -45,12 +45,12 @@ context_same p start prefix s t ts z =
 grammar_at : (p : ParserState) (start : ℕ) (prefix : List ℕ) (s : IsStateAfter p start prefix) (ts : List Tile) → s.tiles ≡ ts → grammar_of p ≡ grammar start ts
 grammar_at p start prefix s [] z =
     let h : p.expects_header ≡ true = s.expects_header ∙ ap is_start z in
-    let c : prefix ≡ [] = sym s.covers ∙ ap bytes_of z in
+    let c : prefix ≡ [] = sym s.is_prefix ∙ ap bytes_of z in
     let o : p.offset ≡ start = s.offset ∙ (ap (λ (x : List ℕ). start + length x) c ∙ add-zero start) in
     rw h (ap header_grammar o)
 grammar_at p start prefix s (t ∷ ts) z =
     let h : p.expects_header ≡ false = s.expects_header ∙ ap is_start z in
-    let o : p.offset ≡ start + length (bytes_of (t ∷ ts)) = s.offset ∙ ap (λ (x : List ℕ). start + length x) (sym s.covers ∙ ap bytes_of z) in
+    let o : p.offset ≡ start + length (bytes_of (t ∷ ts)) = s.offset ∙ ap (λ (x : List ℕ). start + length x) (sym s.is_prefix ∙ ap bytes_of z) in
     let m : p.bodies ≡ bodies_left (t ∷ ts) = s.bodies ∙ ap bodies_left z in
     let l : p.left ≡ bytes_left (t ∷ ts) = s.left ∙ ap bytes_left z in
     let q : known_context p ≡ context_of (t ∷ ts) = context_same p start prefix s t ts z in
@@ -357,7 +357,7 @@ state_goes_on p start prefix s d t e =
     record {
       tiles = t ∷ s.tiles;
       faultless = g.faultless;
-      covers = ap (λ (x : List ℕ). x ++ t.bytes) s.covers;
+      is_prefix = ap (λ (x : List ℕ). x ++ t.bytes) s.is_prefix;
       offset = omega (arith, length-append prefix t.bytes);
       expects_header = refl;
       encoding = ap (λ (x : ParserState). x.encoding) q ∙ ap (encoding_in t.shape) s.encoding;

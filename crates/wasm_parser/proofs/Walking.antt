@@ -6,12 +6,12 @@ use Rattle.std.specs.declared.ops.Range.{Range}
 use Rattle.std.specs.List.{cons_option}
 use Rattle.std.specs.Prelude.{◌↔◌, map, filter_map, All}
 use Rattle.std.specs.Iterator.{Yields, Drains}
-use Rattle.wasm_base.specs.FaultAt.{fault_at}
+use Rattle.wasm_base.specs.FaultAt.{FaultAt, fault_at}
 use Rattle.wasm_base.specs.declared.error.Error.{Error}
 use Rattle.wasm_parser.specs.ParseAnswer.{report_of, is_end, Answers}
 use Rattle.wasm_parser.specs.Content.{Ending, fault, ended}
 use Rattle.wasm_parser.specs.Grammar.{Tile, Verdict, tile, final, Grammar, verdict}
-use Rattle.wasm_parser.specs.Reading.{Report, stopped, ending, tile_report, ending_report, Event, event_of, events_of, last_event, Reads, Reading}
+use Rattle.wasm_parser.specs.Reading.{Report, stream_end, tile_report, Event, event_of, events_of, last_event, Reads, Reading}
 use Rattle.wasm_parser.specs.Sections.{section_of, sections_of, TiledBySections}
 use Rattle.wasm_parser.specs.ParserState.{ParserState, IsStateAfter, initial_state, grammar_of}
 use Rattle.wasm_parser.specs.StateAfter.{state_after_tile}
@@ -42,28 +42,28 @@ record ReadsOn (start features : ℕ) (stream : List ℕ) (tiles : List Tile) (r
 -- the walk is after these tiles of a stream
 record Walked (start features : ℕ) (stream : List ℕ) (s : Walk) (tiles : List Tile) : Type 0 where
   prefix : List ℕ
-  stands : IsStateAfter s.stand start prefix
-  same : stands.tiles ≡ tiles
+  is_after : IsStateAfter s.state start prefix
+  same : is_after.tiles ≡ tiles
   whole : stream ≡ prefix ++ s.bytes
-  takes : s.stand.features ≡ features
+  takes : s.state.features ≡ features
   fits : start + length stream < 2 ^ 64
 
 -- what comes next there
-here : (start features : ℕ) (stream : List ℕ) (s : Walk) (tiles : List Tile) → Walked start features stream s tiles → verdict (grammar_of s.stand) s.bytes ≡ verdict (grammar start tiles) s.bytes
-here start features stream s tiles w = ap (λ (g : Grammar). verdict g s.bytes) (grammar_same s.stand start w.prefix w.stands ∙ ap (grammar start) w.same)
+here : (start features : ℕ) (stream : List ℕ) (s : Walk) (tiles : List Tile) → Walked start features stream s tiles → verdict (grammar_of s.state) s.bytes ≡ verdict (grammar start tiles) s.bytes
+here start features stream s tiles w = ap (λ (g : Grammar). verdict g s.bytes) (grammar_same s.state start w.prefix w.is_after ∙ ap (grammar start) w.same)
 
-within : (start features : ℕ) (stream : List ℕ) (s : Walk) (tiles : List Tile) → Walked start features stream s tiles → s.stand.offset + length s.bytes < 2 ^ 64
+within : (start features : ℕ) (stream : List ℕ) (s : Walk) (tiles : List Tile) → Walked start features stream s tiles → s.state.offset + length s.bytes < 2 ^ 64
 within start features stream s tiles w =
-    let o : s.stand.offset ≡ start + length w.prefix = w.stands.offset in
+    let o : s.state.offset ≡ start + length w.prefix = w.is_after.offset in
     let n : length stream ≡ length w.prefix + length s.bytes = ap (λ (x : List ℕ). length x) w.whole ∙ length-append w.prefix s.bytes in
     let f : start + length stream < 2 ^ 64 = w.fits in
     omega arith
 
-covers : (start features : ℕ) (stream : List ℕ) (s : Walk) (tiles : List Tile) (w : Walked start features stream s tiles) → bytes_of tiles ≡ w.prefix
-covers start features stream s tiles w = ap bytes_of (sym w.same) ∙ w.stands.covers
+is_prefix : (start features : ℕ) (stream : List ℕ) (s : Walk) (tiles : List Tile) (w : Walked start features stream s tiles) → bytes_of tiles ≡ w.prefix
+is_prefix start features stream s tiles w = ap bytes_of (sym w.same) ∙ w.is_after.is_prefix
 
 -- a reading that stops here
-stops_here : (start features : ℕ) (stream : List ℕ) (s : Walk) (tiles : List Tile) (w : Walked start features stream s tiles) (end : Ending) (x : Report) → verdict (grammar_of s.stand) s.bytes ≡ final end → x ≡ ending_report end → ReadsOn start features stream tiles (x ∷ [])
+stops_here : (start features : ℕ) (stream : List ℕ) (s : Walk) (tiles : List Tile) (w : Walked start features stream s tiles) (end : Ending) (x : Report) → verdict (grammar_of s.state) s.bytes ≡ final end → x ≡ stream_end end → ReadsOn start features stream tiles (x ∷ [])
 stops_here start features stream s tiles w end x v t = record {
   events = last_event end ∷ [];
   reading = record {
@@ -71,8 +71,8 @@ stops_here start features stream s tiles w end x v t = record {
     end = end;
     reads = record {
       rest = s.bytes;
-      whole = w.whole ∙ ap (λ (y : List ℕ). y ++ s.bytes) (sym (covers start features stream s tiles w));
-      faultless = subst (λ (y : List Tile). Faultless start y) w.same w.stands.faultless;
+      whole = w.whole ∙ ap (λ (y : List ℕ). y ++ s.bytes) (sym (is_prefix start features stream s tiles w));
+      faultless = subst (λ (y : List Tile). Faultless start y) w.same w.is_after.faultless;
       stops = sym (here start features stream s tiles w) ∙ v;
     };
     listed = refl;
@@ -90,27 +90,27 @@ goes_further start features stream tiles t x others e r = record {
 }
 
 -- the walk after a tile
-steps_on : (start features : ℕ) (stream : List ℕ) (s m : Walk) (tiles : List Tile) (w : Walked start features stream s tiles) (t : Tile) (consumed : ℕ) → verdict (grammar_of s.stand) s.bytes ≡ tile t → consumed ≡ length t.bytes
-    → m.stand ≡ state_after_tile s.stand t → m.bytes ≡ drop consumed s.bytes → Walked start features stream m (t ∷ tiles)
+steps_on : (start features : ℕ) (stream : List ℕ) (s m : Walk) (tiles : List Tile) (w : Walked start features stream s tiles) (t : Tile) (consumed : ℕ) → verdict (grammar_of s.state) s.bytes ≡ tile t → consumed ≡ length t.bytes
+    → m.state ≡ state_after_tile s.state t → m.bytes ≡ drop consumed s.bytes → Walked start features stream m (t ∷ tiles)
 steps_on start features stream s m tiles w t consumed v n p b =
-    let v' : verdict (grammar start w.stands.tiles) s.bytes ≡ tile t = subst (λ (g : Grammar). verdict g s.bytes ≡ tile t) (grammar_same s.stand start w.prefix w.stands) v in
-    let g : Grown start w.stands.tiles s.bytes t = grows start w.stands.tiles s.bytes t w.stands.faultless v' in
+    let v' : verdict (grammar start w.is_after.tiles) s.bytes ≡ tile t = subst (λ (g : Grammar). verdict g s.bytes ≡ tile t) (grammar_same s.state start w.prefix w.is_after) v in
+    let g : Grown start w.is_after.tiles s.bytes t = grows start w.is_after.tiles s.bytes t w.is_after.faultless v' in
     let d : m.bytes ≡ g.rest = b ∙ (ap (λ (k : ℕ). drop k s.bytes) n ∙ (ap (drop (length t.bytes)) g.split ∙ drop_at t.bytes g.rest (length t.bytes) refl)) in
-    let on : Walked start features stream (record { stand = state_after_tile s.stand t; bytes = g.rest; ended = m.ended }) (t ∷ tiles) = record {
+    let on : Walked start features stream (record { state = state_after_tile s.state t; bytes = g.rest; ended = m.ended }) (t ∷ tiles) = record {
       prefix = w.prefix ++ t.bytes;
-      stands = state_goes_on s.stand start w.prefix w.stands s.bytes t v;
-      same = state_goes_on-tiles s.stand start w.prefix w.stands s.bytes t v ∙ ap (λ (y : List Tile). t ∷ y) w.same;
+      is_after = state_goes_on s.state start w.prefix w.is_after s.bytes t v;
+      same = state_goes_on-tiles s.state start w.prefix w.is_after s.bytes t v ∙ ap (λ (y : List Tile). t ∷ y) w.same;
       whole = w.whole ∙ (ap (λ (y : List ℕ). w.prefix ++ y) g.split ∙ sym (append_assoc w.prefix t.bytes g.rest));
       takes = w.takes;
       fits = w.fits;
     } in
-    subst (λ (y : Walk). Walked start features stream y (t ∷ tiles)) (λ i. record { stand = sym p i; bytes = sym d i; ended = m.ended }) on
+    subst (λ (y : Walk). Walked start features stream y (t ∷ tiles)) (λ i. record { state = sym p i; bytes = sym d i; ended = m.ended }) on
 
 -- what a payload reports of a tile there
-report_there : (start features : ℕ) (stream : List ℕ) (s : Walk) (tiles : List Tile) (w : Walked start features stream s tiles) (t : Tile) (x : Report) → x ≡ tile_report s.stand.features s.stand.offset (s.stand.offset + length t.bytes) t.shape
+report_there : (start features : ℕ) (stream : List ℕ) (s : Walk) (tiles : List Tile) (w : Walked start features stream s tiles) (t : Tile) (x : Report) → x ≡ tile_report s.state.features s.state.offset (s.state.offset + length t.bytes) t.shape
     → x ≡ event_report (event_of features (start + length (bytes_of tiles)) t)
 report_there start features stream s tiles w t x e =
-    let o : s.stand.offset ≡ start + length (bytes_of tiles) = w.stands.offset ∙ ap (λ (y : List ℕ). start + length y) (sym (covers start features stream s tiles w)) in
+    let o : s.state.offset ≡ start + length (bytes_of tiles) = w.is_after.offset ∙ ap (λ (y : List ℕ). start + length y) (sym (is_prefix start features stream s tiles w)) in
     e ∙ (λ i. tile_report (w.takes i) (o i) (o i + length t.bytes) t.shape)
 
 -- ---- the whole walk
@@ -122,21 +122,21 @@ walks start features stream [] s t u tiles w going run end = absurd (subst (λ (
 walks start features stream (Err e ∷ given) s t u tiles w going run end =
     let step = run.1.going going in
     let none : given ≡ [] = over_gives_nothing run.0 t given step.2 run.2 in
-    let r : ReadsOn start features stream tiles (stopped (fault_at e) ∷ []) = refused (verdict (grammar_of s.stand) s.bytes) refl (step.0.within (within start features stream s tiles w)) in
-    subst (λ (y : List (Result Payload Error)). ReadsOn start features stream tiles (stopped (fault_at e) ∷ map given_report y)) (sym none) r
+    let r : ReadsOn start features stream tiles (stream_end (fault (fault_at e)) ∷ []) = refused (verdict (grammar_of s.state) s.bytes) refl (step.0.within (within start features stream s tiles w)) in
+    subst (λ (y : List (Result Payload Error)). ReadsOn start features stream tiles (stream_end (fault (fault_at e)) ∷ map given_report y)) (sym none) r
   where
-    refused : (v : Verdict) → verdict (grammar_of s.stand) s.bytes ≡ v → Answers s.stand v (Err e) run.0.stand → ReadsOn start features stream tiles (stopped (fault_at e) ∷ [])
+    refused : (v : Verdict) → verdict (grammar_of s.state) s.bytes ≡ v → Answers s.state v (Err e) run.0.state → ReadsOn start features stream tiles (stream_end (fault (fault_at e)) ∷ [])
     refused (tile x) q a = absurd a
-    refused (final (fault f)) q a = stops_here start features stream s tiles w (fault f) (stopped (fault_at e)) q (ap stopped a.0)
+    refused (final (fault f)) q a = stops_here start features stream s tiles w (fault f) (stream_end (fault (fault_at e))) q (ap (λ (x : FaultAt). stream_end (fault x)) a.0)
     refused (final (ended o)) q a = absurd a
 walks start features stream (Ok payload ∷ given) s t u tiles w going run end =
     let step = run.1.going going in
-    answered (λ ts on still. walks start features stream given run.0 t u ts on still run.2 end) (verdict (grammar_of s.stand) s.bytes) refl (step.0.within (within start features stream s tiles w))
+    answered (λ ts on still. walks start features stream given run.0 t u ts on still run.2 end) (verdict (grammar_of s.state) s.bytes) refl (step.0.within (within start features stream s tiles w))
   where
-    answered : ((ts : List Tile) → Walked start features stream run.0 ts → run.0.ended ≡ false → ReadsOn start features stream ts (map given_report given)) → (v : Verdict) → verdict (grammar_of s.stand) s.bytes ≡ v → Answers s.stand v (Ok (Parsed (consumed_between s run.0) payload)) run.0.stand → ReadsOn start features stream tiles (report_of payload ∷ map given_report given)
+    answered : ((ts : List Tile) → Walked start features stream run.0 ts → run.0.ended ≡ false → ReadsOn start features stream ts (map given_report given)) → (v : Verdict) → verdict (grammar_of s.state) s.bytes ≡ v → Answers s.state v (Ok (Parsed (consumed_between s run.0) payload)) run.0.state → ReadsOn start features stream tiles (report_of payload ∷ map given_report given)
     answered next (tile x) q a =
         let on : Walked start features stream run.0 (x ∷ tiles) = steps_on start features stream s run.0 tiles w x (consumed_between s run.0) q a.0 a.2 (run.1.going going).1 in
-        let still : run.0.ended ≡ false = (run.1.going going).2 ∙ (ap is_end a.1.0 ∙ goes_on s.stand.features s.stand.offset (s.stand.offset + length x.bytes) x.shape) in
+        let still : run.0.ended ≡ false = (run.1.going going).2 ∙ (ap is_end a.1.0 ∙ goes_on s.state.features s.state.offset (s.state.offset + length x.bytes) x.shape) in
         goes_further start features stream tiles x (report_of payload) (map given_report given) (report_there start features stream s tiles w x (report_of payload) a.1.0) (next (x ∷ tiles) on still)
     answered next (final (fault f)) q a = absurd a
     answered next (final (ended o)) q a =
@@ -148,7 +148,7 @@ walks start features stream (Ok payload ∷ given) s t u tiles w going run end =
 begins : (start features : ℕ) (bytes : List ℕ) → start + length bytes < 2 ^ 64 → Walked start features bytes (walk_over (initial_state start features) bytes) []
 begins start features bytes l = record {
   prefix = [];
-  stands = record { tiles = []; faultless = tt; covers = refl; offset = omega arith; expects_header = refl; encoding = refl; rank = refl; functions = refl; codes = refl; datas = refl; data_counts = refl; bodies = refl; left = refl };
+  is_after = record { tiles = []; faultless = tt; is_prefix = refl; offset = omega arith; expects_header = refl; encoding = refl; rank = refl; functions = refl; codes = refl; datas = refl; data_counts = refl; bodies = refl; left = refl };
   same = refl;
   whole = refl;
   takes = refl;
@@ -160,7 +160,7 @@ walk_reads start features bytes l given run = walks start features bytes given (
 
 -- ---- how it ends
 
-ends_append : (o : ℕ) (xs : List Report) (x : Report) → EndsAt o (xs ++ x ∷ []) ↔ (x ≡ ending o)
+ends_append : (o : ℕ) (xs : List Report) (x : Report) → EndsAt o (xs ++ x ∷ []) ↔ (x ≡ stream_end (ended o))
 ends_append o [] x = (λ h. h, λ h. h)
 ends_append o (y ∷ []) x = (λ h. h, λ h. h)
 ends_append o (y ∷ (z ∷ zs)) x = ends_append o (z ∷ zs) x
@@ -170,7 +170,7 @@ map_append [] ys = refl
 map_append (x ∷ xs) ys = ap (λ (l : List Report). x.report ∷ l) (map_append xs ys)
 
 -- the end that was reported is that of the reading
-report_end : (o : ℕ) (e : Ending) → ending_report e ≡ ending o → e ≡ ended o
+report_end : (o : ℕ) (e : Ending) → stream_end e ≡ stream_end (ended o) → e ≡ ended o
 report_end o (fault f) h = cc
 report_end o (ended x) h = let z : x ≡ o = cc in ap ended z
 
@@ -186,7 +186,7 @@ same_sections given events e = mapped event_report section_of events ∙ (ap (fi
 -- each payload that a walk gives holds its items
 holds_one : (b : Bool) (s t : Walk) (x : Result Payload Error) → s.ended ≡ b → NextPayload s (Some x) t → HoldsItems x
 holds_one true s t x e n = absurd (let z = (n.over e).0 in cc)
-holds_one false s t (Ok payload) e n = holds_items s.stand t.stand s.bytes (consumed_between s t) payload (n.going e).0
+holds_one false s t (Ok payload) e n = holds_items s.state t.state s.bytes (consumed_between s t) payload (n.going e).0
 holds_one false s t (Err f) e n = tt
 
 holds_all : (given : List (Result Payload Error)) (s t : Walk) → Yields NextPayload s given t → All HoldsItems given
@@ -202,13 +202,13 @@ gives_reading start features bytes stream = record {
   accepted = λ given run.
       let w : ReadsOn start features bytes [] (map given_report given) = walk_reads start features bytes stream.fits given run in
       let a = accepted_ends bytes start stream in
-      let l : map given_report given ≡ map event_report (events_of start features w.reading.tiles) ++ ending_report w.reading.end ∷ [] =
+      let l : map given_report given ≡ map event_report (events_of start features w.reading.tiles) ++ stream_end w.reading.end ∷ [] =
       w.gives ∙ (ap (map event_report) w.reading.listed ∙ map_append (events_of start features w.reading.tiles) (last_event w.reading.end ∷ [])) in
-      let e = ends_append (start + length bytes) (map event_report (events_of start features w.reading.tiles)) (ending_report w.reading.end) in (
+      let e = ends_append (start + length bytes) (map event_report (events_of start features w.reading.tiles)) (stream_end w.reading.end) in (
         λ h.
             let (ts, reads) = a.0 h in
             let same : w.reading.end ≡ ended (start + length bytes) = (reads_same bytes start w.reading.tiles ts w.reading.end (ended (start + length bytes)) w.reading.reads reads).1 in
-            subst (EndsAt (start + length bytes)) (sym l) (e.1 (ap ending_report same)),
+            subst (EndsAt (start + length bytes)) (sym l) (e.1 (ap stream_end same)),
         λ h.
             let same : w.reading.end ≡ ended (start + length bytes) = report_end (start + length bytes) w.reading.end (e.0 (subst (EndsAt (start + length bytes)) l h)) in
             a.1 (w.reading.tiles, subst (Reads bytes start w.reading.tiles) same w.reading.reads),

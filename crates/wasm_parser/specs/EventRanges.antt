@@ -1,7 +1,8 @@
 -- Where events are in their stream.
 use Rattle.std.specs.Prelude.{◌≡◌, ℕ, ◌+◌, ◌-◌, ◌≤◌, List, [], ◌∷◌, length, take, drop, flat_map}
 use Rattle.wasm_base.specs.Window.{Window}
-use Rattle.wasm_parser.specs.Reading.{Report, version, counted, start_section, data_count_section, code_start, code_entry, custom_section, unknown_section, stopped, ending, Event}
+use Rattle.wasm_parser.specs.Content.{ended, fault}
+use Rattle.wasm_parser.specs.Reading.{Report, version, counted, start_section, data_count_section, code_start, code_entry, custom_section, unknown_section, stream_end, Event}
 
 -- the bytes that events consumed, joined
 abbrev pub consumed_by : List Event → List ℕ
@@ -31,8 +32,8 @@ LiesBetween stream start features low high (code_start count from to size) = Lie
 LiesBetween stream start features low high (code_entry window) = IsPart stream start features window × LiesIn window.start (window.start + length window.bytes) low high × (window.start + length window.bytes ≡ high)
 LiesBetween stream start features low high (custom_section name data_offset window) = IsPart stream start features window × LiesIn window.start (window.start + length window.bytes) low high × (window.start + length window.bytes ≡ high) × LiesIn data_offset high window.start high
 LiesBetween stream start features low high (unknown_section id contents from to) = LiesIn from to low high × (to ≡ high) × (take (length contents) (drop (from - start) stream) ≡ contents) × (from + length contents ≡ to)
-LiesBetween stream start features low high (stopped f) = Unit {0}
-LiesBetween stream start features low high (ending offset) = (offset ≡ low) × (offset ≡ high)
+LiesBetween stream start features low high (stream_end (fault f)) = Unit {0}
+LiesBetween stream start features low high (stream_end (ended offset)) = (offset ≡ low) × (offset ≡ high)
 
 -- This holds of each event, at the offset where the ones before it end.
 abbrev pub AtOffsets : (ℕ → Event → Type 0) → (at : ℕ) → List Event → Type 0

@@ -3,7 +3,8 @@ use Rattle.std.specs.Prelude.{◌≡◌, ℕ, ◌+◌, ◌<◌, ◌^◌, List, [
 use Rattle.wasm_base.specs.FaultAt.{fault_at}
 use Rattle.wasm_base.specs.declared.error.Error.{Error}
 use Rattle.wasm_parser.specs.ParseAnswer.{IsPayload}
-use Rattle.wasm_parser.specs.Reading.{Event, stopped, Reading}
+use Rattle.wasm_parser.specs.Content.{fault}
+use Rattle.wasm_parser.specs.Reading.{Event, stream_end, Reading}
 use Rattle.wasm_parser.specs.NextEvent.{NextEvent}
 use Rattle.wasm_parser.specs.ParserState.{ParserState, IsStateAfter}
 use Rattle.wasm_parser.specs.declared.payload.Chunk.{Chunk}
@@ -14,7 +15,7 @@ use Rattle.wasm_parser.specs.declared.payload.Chunk.TheVariants.{NeedMoreData, P
 abbrev pub GivesEvent : Event → ParserState → (start : ℕ) (prefix rest : List ℕ) → Result Chunk Error → ParserState → Type 0
 GivesEvent e old start prefix rest (Ok (NeedMoreData hint)) new = ⊥
 GivesEvent e old start prefix rest (Ok (Parsed consumed payload)) new = IsPayload e.report payload × (consumed ≡ length e.consumed) × (take consumed rest ≡ e.consumed) × IsStateAfter new start (prefix ++ e.consumed) × (new.features ≡ old.features)
-GivesEvent e old start prefix rest (Err f) new = (e.report ≡ stopped (fault_at f)) × (e.consumed ≡ []) × (new ≡ old)
+GivesEvent e old start prefix rest (Err f) new = (e.report ≡ stream_end (fault (fault_at f))) × (e.consumed ≡ []) × (new ≡ old)
 
 -- Wherever the parser is in a stream whose rest this is, the next event of the stream's reading was reported: the first
 -- one after the events that consumed the prefix.

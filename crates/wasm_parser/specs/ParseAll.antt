@@ -6,7 +6,8 @@ use Rattle.wasm_base.specs.FaultAt.{fault_at}
 use Rattle.wasm_base.specs.declared.error.Error.{Error}
 use Rattle.wasm_parser.specs.Accepted.{IsAccepted}
 use Rattle.wasm_parser.specs.ParseAnswer.{report_of, is_end, ItemsBegin, ParseAnswer}
-use Rattle.wasm_parser.specs.Reading.{Report, stopped, ending, Event, Reading}
+use Rattle.wasm_parser.specs.Content.{ended, fault}
+use Rattle.wasm_parser.specs.Reading.{Report, stream_end, Event, Reading}
 use Rattle.wasm_parser.specs.Sections.{section_of, TiledBySections}
 use Rattle.wasm_parser.specs.ParserState.{ParserState, initial_state}
 use Rattle.wasm_parser.specs.declared.payload.Chunk.TheVariants.{Parsed}
@@ -14,13 +15,13 @@ use Rattle.wasm_parser.specs.declared.payload.Payload.{Payload}
 
 -- where a walk is: its parser, the bytes that are left, and whether it is over
 pub record Walk : Type 0 where
-  pub stand : ParserState
+  pub state : ParserState
   pub bytes : List ℕ
   pub ended : Bool
 
 -- a walk that has not begun
 abbrev pub walk_over : ParserState → List ℕ → Walk
-walk_over p bytes = record { stand = p; bytes = bytes; ended = false }
+walk_over p bytes = record { state = p; bytes = bytes; ended = false }
 
 -- how many payloads and faults may still come: each takes a byte, and then the end comes
 abbrev pub most_payloads : Walk → ℕ
@@ -34,8 +35,8 @@ consumed_between s t = length s.bytes - length t.bytes
 abbrev pub GivesAnswer : Walk → Option (Result Payload Error) → Walk → Type 0
 GivesAnswer s None t = ⊥
 GivesAnswer s (Some (Ok payload)) t =
-    ParseAnswer s.stand s.bytes (Ok (Parsed (consumed_between s t) payload)) t.stand × (t.bytes ≡ drop (consumed_between s t) s.bytes) × (t.ended ≡ is_end (report_of payload))
-GivesAnswer s (Some (Err e)) t = ParseAnswer s.stand s.bytes (Err e) t.stand × (t.bytes ≡ s.bytes) × (t.ended ≡ true)
+    ParseAnswer s.state s.bytes (Ok (Parsed (consumed_between s t) payload)) t.state × (t.bytes ≡ drop (consumed_between s t) s.bytes) × (t.ended ≡ is_end (report_of payload))
+GivesAnswer s (Some (Err e)) t = ParseAnswer s.state s.bytes (Err e) t.state × (t.bytes ≡ s.bytes) × (t.ended ≡ true)
 
 -- one call of `next`
 pub record NextPayload (s : Walk) (given : Option (Result Payload Error)) (t : Walk) : Type 0 where
@@ -45,7 +46,7 @@ pub record NextPayload (s : Walk) (given : Option (Result Payload Error)) (t : W
 -- what a payload reports, or a fault
 abbrev pub given_report : Result Payload Error → Report
 given_report (Ok payload) = report_of payload
-given_report (Err e) = stopped (fault_at e)
+given_report (Err e) = stream_end (fault (fault_at e))
 
 abbrev pub event_report : Event → Report
 event_report e = e.report
@@ -53,7 +54,7 @@ event_report e = e.report
 -- The last of these is the end at this offset.
 abbrev pub EndsAt : (offset : ℕ) → List Report → Type 0
 EndsAt offset [] = ⊥
-EndsAt offset (x ∷ []) = x ≡ ending offset
+EndsAt offset (x ∷ []) = x ≡ stream_end (ended offset)
 EndsAt offset (x ∷ (y ∷ ys)) = EndsAt offset (y ∷ ys)
 
 -- the sections that payloads are: of each its id, and the offsets of its content

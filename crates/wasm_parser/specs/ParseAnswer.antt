@@ -9,7 +9,7 @@ use Rattle.wasm_base.specs.declared.fault.Fault.TheVariants.{OffsetRange}
 use Rattle.wasm_base.specs.declared.fault.NumberKind.TheVariants.{VarU32}
 use Rattle.wasm_parser.specs.Content.{fault, ended}
 use Rattle.wasm_parser.specs.Grammar.{Tile, Verdict, tile, final, Grammar, verdict}
-use Rattle.wasm_parser.specs.Reading.{Report, version, counted, start_section, data_count_section, code_start, code_entry, custom_section, unknown_section, stopped, ending, tile_report}
+use Rattle.wasm_parser.specs.Reading.{Report, version, counted, start_section, data_count_section, code_start, code_entry, custom_section, unknown_section, stream_end, tile_report}
 use Rattle.wasm_items.specs.Windows.{body_window}
 use Rattle.wasm_parser.specs.ParserState.{ParserState, grammar_of}
 use Rattle.wasm_parser.specs.StateAfter.{state_after_tile}
@@ -45,7 +45,7 @@ report_of (CodeSectionStart count unchecked_range size) = code_start count unche
 report_of (CodeSectionEntry body) = code_entry (body_window body)
 report_of (CustomSection s) = custom_section s.name (place s.reader).offset (unread s.reader)
 report_of (UnknownSection id contents range) = unknown_section id contents.now range.start range.end
-report_of (End at) = ending at
+report_of (End at) = stream_end (ended at)
 
 -- The section's items begin after its count.
 abbrev pub BeginsAfterCount : Section → Type 0
@@ -93,14 +93,14 @@ Answers old v (Ok (NeedMoreData hint)) new = ⊥
 Answers old (tile t) (Ok (Parsed consumed payload)) new =
     (consumed ≡ length t.bytes) × IsPayload (tile_report old.features old.offset (old.offset + length t.bytes) t.shape) payload × (new ≡ state_after_tile old t)
 Answers old (tile t) (Err e) new = ⊥
-Answers old (final (ended offset)) (Ok (Parsed consumed payload)) new = (consumed ≡ 0) × IsPayload (ending offset) payload × (new ≡ old)
+Answers old (final (ended offset)) (Ok (Parsed consumed payload)) new = (consumed ≡ 0) × IsPayload (stream_end (ended offset)) payload × (new ≡ old)
 Answers old (final (fault f)) (Ok (Parsed consumed payload)) new = ⊥
 Answers old (final (fault f)) (Err e) new = (fault_at e ≡ f) × (new ≡ old)
 Answers old (final (ended offset)) (Err e) new = ⊥
 
 -- whether the end is reported
 abbrev pub is_end : Report → Bool
-is_end (ending offset) = true
+is_end (stream_end (ended offset)) = true
 is_end other = false
 
 -- The bytes that are consumed are there, and there are some of them but at the end.

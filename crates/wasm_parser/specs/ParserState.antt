@@ -41,7 +41,7 @@ initial_state offset features = record { offset = offset; features = features; e
 pub record IsStateAfter (p : ParserState) (start : ℕ) (prefix : List ℕ) : Type 0 where
   pub tiles : List Tile
   pub faultless : Faultless start tiles
-  pub covers : bytes_of tiles ≡ prefix
+  pub is_prefix : bytes_of tiles ≡ prefix
   pub offset : p.offset ≡ start + length prefix
   pub expects_header : p.expects_header ≡ is_start tiles
   pub encoding : p.encoding ≡ encoding_of tiles

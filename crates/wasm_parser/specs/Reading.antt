@@ -19,8 +19,8 @@ pub data Report : Type 0 where
   code_entry : (window : Window) → Report
   custom_section : (name : List ℕ) (data_offset : ℕ) (window : Window) → Report
   unknown_section : (id : ℕ) (contents : List ℕ) (from to : ℕ) → Report
-  stopped : FaultAt → Report
-  ending : (offset : ℕ) → Report
+  -- the last one
+  stream_end : Ending → Report
 
 -- what is reported, and the bytes that it consumed
 pub record Event : Type 0 where
@@ -57,12 +57,8 @@ abbrev pub event_of : (features offset : ℕ) → Tile → Event
 event_of features offset t = record { report = tile_report features offset (offset + length t.bytes) t.shape; consumed = t.bytes }
 
 -- how the stream ends is reported last, and consumes nothing
-abbrev pub ending_report : Ending → Report
-ending_report (fault f) = stopped f
-ending_report (ended offset) = ending offset
-
 abbrev pub last_event : Ending → Event
-last_event end = record { report = ending_report end; consumed = [] }
+last_event end = record { report = stream_end end; consumed = [] }
 
 -- the events of tiles, in the order of the stream
 abbrev pub events_of : (start features : ℕ) → List Tile → List Event

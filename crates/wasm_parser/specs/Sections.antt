@@ -5,8 +5,8 @@ use Rattle.wasm_base.specs.FaultAt.{FaultAt}
 use Rattle.wasm_base.specs.Window.{Window}
 use Rattle.wasm_parser.specs.declared.payload.Encoding.{Encoding}
 use Rattle.wasm_parser.specs.Accepted.{header_bytes, Frame, frame_bytes, IsSized}
-use Rattle.wasm_parser.specs.Content.{kind_of, rank_of}
-use Rattle.wasm_parser.specs.Reading.{Report, version, counted, start_section, data_count_section, code_start, code_entry, custom_section, unknown_section, stopped, ending, Event}
+use Rattle.wasm_parser.specs.Content.{kind_of, rank_of, fault}
+use Rattle.wasm_parser.specs.Reading.{Report, version, counted, start_section, data_count_section, code_start, code_entry, custom_section, unknown_section, stream_end, Event}
 
 -- the offsets of a window's bytes
 abbrev pub window_range : Window → Range ℕ
@@ -96,7 +96,7 @@ TellsBody e = (window : Window) × (e.report ≡ code_entry window)
 
 -- A fault is reported.
 abbrev pub TellsFault : Event → Type 0
-TellsFault e = (f : FaultAt) × (e.report ≡ stopped f)
+TellsFault e = (f : FaultAt) × (e.report ≡ stream_end (fault f))
 
 -- These events follow the start of a code section of so many bodies: all its bodies, and then another event; or fewer,
 -- and then a fault, which is reported last.

@@ -4,7 +4,7 @@ use Rattle.wasm_base.specs.FaultAt.{FaultAt}
 use Rattle.wasm_base.specs.Window.{Window}
 use Rattle.wasm_base.specs.declared.fault.Fault.TheVariants.{SectionTooLarge}
 use Rattle.wasm_parser.specs.Content.{Ending, fault, ended}
-use Rattle.wasm_parser.specs.Reading.{Report, version, counted, start_section, data_count_section, code_start, code_entry, custom_section, unknown_section, stopped, ending, Event}
+use Rattle.wasm_parser.specs.Reading.{Report, version, counted, start_section, data_count_section, code_start, code_entry, custom_section, unknown_section, stream_end, Event}
 
 abbrev pub shifted_fault : (by : ℕ) → FaultAt → FaultAt
 shifted_fault by f = record f { offset = f.offset + by }
@@ -25,8 +25,8 @@ shifted_report by (code_start count from to size) = code_start count (from + by)
 shifted_report by (code_entry window) = code_entry (shifted_window by window)
 shifted_report by (custom_section name data_offset window) = custom_section name (data_offset + by) (shifted_window by window)
 shifted_report by (unknown_section id contents from to) = unknown_section id contents (from + by) (to + by)
-shifted_report by (stopped f) = stopped (shifted_fault by f)
-shifted_report by (ending offset) = ending (offset + by)
+shifted_report by (stream_end (fault f)) = stream_end (fault (shifted_fault by f))
+shifted_report by (stream_end (ended offset)) = stream_end (ended (offset + by))
 
 abbrev pub shifted_event : (by : ℕ) → Event → Event
 shifted_event by e = record e { report = shifted_report by e.report }

@@ -6,7 +6,7 @@ use Rattle.wasm_base.specs.declared.fault.Fault.TheVariants.{OutOfOrder, Functio
 use Rattle.wasm_base.specs.declared.fault.NumberKind.TheVariants.{VarU32}
 use Rattle.wasm_parser.specs.Content.{Ending, fault, ended}
 use Rattle.wasm_parser.specs.Grammar.{Tile}
-use Rattle.wasm_parser.specs.Reading.{version, counted, start_section, data_count_section, code_start, code_entry, custom_section, unknown_section, ending, Report, Event, Reads, Reading}
+use Rattle.wasm_parser.specs.Reading.{version, counted, start_section, data_count_section, code_start, code_entry, custom_section, unknown_section, stream_end, Report, Event, Reads, Reading}
 use Rattle.wasm_parser.specs.declared.payload.Encoding.TheVariants.{Module, Component}
 
 -- a module's header
@@ -39,7 +39,7 @@ ABody = Reading (m ++ 3 ∷ 2 ∷ 1 ∷ 0 ∷ 0x0a ∷ 4 ∷ 1 ∷ 2 ∷ 0 ∷ 0
     ∷ event (counted 3 1 (window 3 10 (1 ∷ 0 ∷ []))) (3 ∷ 2 ∷ 1 ∷ 0 ∷ [])
     ∷ event (code_start 1 14 18 3) (0x0a ∷ 4 ∷ 1 ∷ [])
     ∷ event (code_entry (window 3 16 (0 ∷ 0x0b ∷ []))) (2 ∷ 0 ∷ 0x0b ∷ [])
-    ∷ event (ending 18) [] ∷ [])
+    ∷ event (stream_end (ended 18)) [] ∷ [])
 
 -- a section with this id whose content is one byte, 0
 abbrev pub small : ℕ → List ℕ
@@ -59,14 +59,14 @@ EverySection = Reading (m ++ flat_map small (1 ∷ 2 ∷ 3 ∷ 4 ∷ 5 ∷ 13 �
     ∷ event (code_start 0 43 44 0) (small 10)
     ∷ counted_none 11 46
     ∷ event (custom_section [] 50 (window 3 49 (0 ∷ []))) (small 0)
-    ∷ event (ending 50) [] ∷ [])
+    ∷ event (stream_end (ended 50)) [] ∷ [])
 
 -- a component, whose type section is an unknown one
 abbrev pub AComponent : Type 0
 AComponent = Reading (component ++ 1 ∷ 1 ∷ 0 ∷ []) 0 3
     (event (version 13 Component 0 8) component
     ∷ event (unknown_section 1 (0 ∷ []) 10 11) (1 ∷ 1 ∷ 0 ∷ [])
-    ∷ event (ending 11) [] ∷ [])
+    ∷ event (stream_end (ended 11)) [] ∷ [])
 
 -- worked streams, by what is peculiar to each
 pub record WorkedStreams : Type 0 where

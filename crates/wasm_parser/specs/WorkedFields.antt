@@ -3,8 +3,8 @@ use Rattle.std.specs.Prelude.{ℕ, ◌+◌, [], ◌∷◌, ◌++◌, flat_map, S
 use Rattle.wasm_base.specs.FaultAt.{at_offset}
 use Rattle.wasm_base.specs.declared.fault.Fault.TheVariants.{UnexpectedEof, BadMagic, MagicAtSection, MalformedSectionId, SectionTooLarge, OutOfOrder, StartContent, DataCountContent, FunctionCodeDiffer, FunctionWithoutCode, CodeWithoutFunction, DataCountDiffer, TrailingCode, NumberTooLong, NumberTooLarge, StringSize}
 use Rattle.wasm_base.specs.declared.fault.NumberKind.TheVariants.{VarU32}
-use Rattle.wasm_parser.specs.Content.{fault}
-use Rattle.wasm_parser.specs.Reading.{version, counted, start_section, code_start, code_entry, custom_section, unknown_section, ending, Event, Reading}
+use Rattle.wasm_parser.specs.Content.{fault, ended}
+use Rattle.wasm_parser.specs.Reading.{version, counted, start_section, code_start, code_entry, custom_section, unknown_section, stream_end, Event, Reading}
 use Rattle.wasm_parser.specs.Worked.{m, component, event, window, small, EndsFrom}
 use Rattle.wasm_parser.specs.declared.payload.Encoding.TheVariants.{Module, Component}
 
@@ -13,7 +13,7 @@ abbrev pub NameAndData : Type 0
 NameAndData = Reading (m ++ 0 ∷ 3 ∷ 1 ∷ 97 ∷ 7 ∷ []) 0 3
     (event (version 1 Module 0 8) m
     ∷ event (custom_section (97 ∷ []) 12 (window 3 10 (1 ∷ 97 ∷ 7 ∷ []))) (0 ∷ 3 ∷ 1 ∷ 97 ∷ 7 ∷ [])
-    ∷ event (ending 13) [] ∷ [])
+    ∷ event (stream_end (ended 13)) [] ∷ [])
 
 -- a section of a component with this id, which is unknown and is at this offset
 abbrev pub unknown_one : (id from : ℕ) → Event
@@ -25,7 +25,7 @@ AllIdsOfAComponent = Reading (component ++ flat_map small (0 ∷ 1 ∷ 2 ∷ 3 �
     (event (version 13 Component 0 8) component
     ∷ event (custom_section [] 11 (window 3 10 (0 ∷ []))) (small 0)
     ∷ unknown_one 1 13 ∷ unknown_one 2 16 ∷ unknown_one 3 19 ∷ unknown_one 4 22 ∷ unknown_one 5 25 ∷ unknown_one 6 28 ∷ unknown_one 7 31 ∷ unknown_one 8 34 ∷ unknown_one 9 37 ∷ unknown_one 10 40 ∷ unknown_one 11 43 ∷ unknown_one 12 46 ∷ unknown_one 13 49
-    ∷ event (ending 50) [] ∷ [])
+    ∷ event (stream_end (ended 50)) [] ∷ [])
 
 -- a module that starts at 1000, read with the first feature alone, whose fields take several bytes
 abbrev pub Elsewhere : Type 0
@@ -37,7 +37,7 @@ Elsewhere = Reading (m ++ 1 ∷ 0x83 ∷ 0 ∷ 0x80 ∷ 1 ∷ 9 ∷ 3 ∷ 0x83 �
     ∷ event (code_start 1 1028 1035 5) (10 ∷ 0x87 ∷ 0 ∷ 0x81 ∷ 0 ∷ [])
     ∷ event (code_entry (window 1 1032 (0 ∷ 65 ∷ 11 ∷ []))) (0x83 ∷ 0 ∷ 0 ∷ 65 ∷ 11 ∷ [])
     ∷ event (custom_section (97 ∷ []) 1040 (window 1 1038 (1 ∷ 97 ∷ 5 ∷ 6 ∷ []))) (0 ∷ 0x84 ∷ 0 ∷ 1 ∷ 97 ∷ 5 ∷ 6 ∷ [])
-    ∷ event (ending 1042) [] ∷ [])
+    ∷ event (stream_end (ended 1042)) [] ∷ [])
 
 -- whole readings
 pub record WholeReadings : Type 0 where

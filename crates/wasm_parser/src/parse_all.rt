@@ -19,7 +19,7 @@ impl<'a> Model for ParseAll<'a> {
 
     ghost Value = { Walk };
 
-    ghost view = { λ s. record { stand = s.parser; bytes = s.bytes.now; ended = s.ended } };
+    ghost view = { λ s. record { state = s.parser; bytes = s.bytes.now; ended = s.ended } };
 }
 
 impl<'a> ParseAll<'a> {

@@ -224,11 +224,11 @@ impl Parser {
             return Err(Error::new(Fault::MagicAtSection, start));
         }
         let id = reader.read_u8()?;
-        self.framed(start, id, reader)
+        self.after_id(start, id, reader)
     }
 
     // A section with this id, which is at this offset, just before the reader.
-    fn framed<'a>(&self, start: u64, id: u8, reader: &mut BinaryReader<'a>) -> Result<Payload<'a>>
+    fn after_id<'a>(&self, start: u64, id: u8, reader: &mut BinaryReader<'a>) -> Result<Payload<'a>>
         requires { start + 1 ≡ (place reader.old).offset }
         ensures { ReadsByGrammar (after_id_grammar (known_context self.now) start id) (place reader.old) result (place reader.new) }
     {
@@ -237,11 +237,11 @@ impl Parser {
         }
         let field = reader.original_position();
         let size = reader.read_var_u32()?;
-        self.sized(id, field, size, reader)
+        self.after_length(id, field, size, reader)
     }
 
     // A section with this id and size, whose length field begins at this offset.
-    fn sized<'a>(
+    fn after_length<'a>(
         &self,
         id: u8,
         field: u64,
@@ -316,8 +316,8 @@ impl Parser {
         })
     }
 
-    // Passes what was read, which ends at this offset. A section that has a rank ranks above all earlier ones.
-    fn pass(&mut self, payload: &Payload, end: u64)
+    // Goes on to the end of what was read, which is at this offset. A section that has a rank ranks above all earlier ones.
+    fn advance(&mut self, payload: &Payload, end: u64)
         ensures { Advances self.old payload.now end self.new }
     {
         let taken = end.saturating_sub(self.offset);
@@ -325,7 +325,7 @@ impl Parser {
         self.expects_header = false;
         let counted = count_in(payload);
         self.encoding = encoding_after(payload, self.encoding);
-        self.rank = rank_after(payload, self.rank);
+        self.rank = rank_after(payload, counted, self.rank);
         self.functions = count_after(counted, FUNCTION_SECTION, self.functions);
         self.codes = count_after(counted, CODE_SECTION, self.codes);
         self.datas = count_after(counted, DATA_SECTION, self.datas);
@@ -385,7 +385,7 @@ impl Parser {
         let mut reader = self.reader(bytes);
         let payload = self.read(&mut reader)?;
         let end = reader.original_position();
-        self.pass(&payload, end);
+        self.advance(&payload, end);
         Ok(Chunk::Parsed {
             consumed: (end - start) as usize,
             payload,

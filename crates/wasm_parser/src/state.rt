@@ -18,20 +18,22 @@ pub(crate) fn encoding_after(payload: &Payload, known: Encoding) -> Encoding
 }
 
 /// The rank of a section that has one, or the one that was known.
-pub(crate) fn rank_after(payload: &Payload, known: u8) -> u8
+pub(crate) fn rank_after(payload: &Payload, counted: Option<(u8, u32)>, known: u8) -> u8
+    requires { counted ≡ count_report (report_of payload.now) }
     ensures { result ≡ known_rank (rank_report (report_of payload.now)) known }
 {
-    let rank = rank_in(payload);
+    let rank = rank_of(payload, counted);
     if rank > 0 { rank } else { known }
 }
 
-// The rank of a section, or 0.
-fn rank_in(payload: &Payload) -> u8
+// The rank of a section, of which this is the id and count, or 0.
+fn rank_of(payload: &Payload, counted: Option<(u8, u32)>) -> u8
+    requires { counted ≡ count_report (report_of payload.now) }
     ensures { result ≡ rank_report (report_of payload.now) }
 {
     match payload {
         Payload::StartSection { .. } => place_of(START_SECTION),
-        _ => match count_in(payload) {
+        _ => match counted {
             Some((id, _)) => place_of(id),
             None => 0,
         },

@@ -88,8 +88,8 @@ features_stay : (p : ParserState) (v : Verdict) → (state_after_verdict p v).fe
 features_stay p (tile t) = refl
 features_stay p (final end) = refl
 
-same_features : (old new : Feed) (x : Result Step Error) → Steps old x new → new.stand.features ≡ old.stand.features
-same_features old new x s = ap (λ (p : ParserState). p.features) (moves old.stand new.stand old.held (answer_of x) s.parses).stand ∙ features_stay old.stand (next_at old.stand old.held)
+same_features : (old new : Feed) (x : Result Step Error) → Steps old x new → new.state.features ≡ old.state.features
+same_features old new x s = ap (λ (p : ParserState). p.features) (moves old.state new.state old.held (answer_of x) s.parses).state ∙ features_stay old.state (next_at old.state old.held)
 
 -- ---- a step
 
@@ -99,7 +99,7 @@ module _ (old new : Feed) (bytes : Bor (List ℕ)) (payload : Payload) (s : Step
 
   some_bytes : is_end (report_of payload) ≡ false → 0 < length bytes.now
   some_bytes going =
-      let c = (consumes old.stand new.stand old.held (Ok (Chunk (length bytes.now) payload)) s.parses).1 in
+      let c = (consumes old.state new.state old.held (Ok (Chunk (length bytes.now) payload)) s.parses).1 in
       let z : nat_eq (length bytes.now) 0 ≡ false = c ∙ going in positive (length bytes.now) z
     where
       positive : (k : ℕ) → nat_eq k 0 ≡ false → 0 < k
@@ -110,10 +110,10 @@ module _ (old new : Feed) (bytes : Bor (List ℕ)) (payload : Payload) (s : Step
   lengths = ap (λ (l : List ℕ). length l) s.shows ∙ length-append bytes.now new.held
 
   -- the event that was reported, and where the rest of the reading then is
-  module _ (start : ℕ) (prefix : List ℕ) (stands : IsStateAfter old.stand start prefix) (fits : start + length prefix + length old.held < 2 ^ 64) (before later : List Event) (e : Event)
-      (reading : Reading (prefix ++ old.held) start old.stand.features (before ++ e ∷ later)) (c : consumed_by before ≡ prefix) where
-    report : GivesEvent e old.stand start prefix old.held (Ok (Chunk (length bytes.now) payload)) new.stand
-    report = gives_next old.stand new.stand old.held (Ok (Chunk (length bytes.now) payload)) s.parses start prefix stands fits (before ++ e ∷ later) reading (record { before = before; event = e; later = later; whole = refl; consumed = c })
+  module _ (start : ℕ) (prefix : List ℕ) (is_after : IsStateAfter old.state start prefix) (fits : start + length prefix + length old.held < 2 ^ 64) (before later : List Event) (e : Event)
+      (reading : Reading (prefix ++ old.held) start old.state.features (before ++ e ∷ later)) (c : consumed_by before ≡ prefix) where
+    report : GivesEvent e old.state start prefix old.held (Ok (Chunk (length bytes.now) payload)) new.state
+    report = gives_next old.state new.state old.held (Ok (Chunk (length bytes.now) payload)) s.parses start prefix is_after fits (before ++ e ∷ later) reading (record { before = before; event = e; later = later; whole = refl; consumed = c })
 
     same_bytes : e.consumed ≡ bytes.now
     same_bytes = sym report.2 ∙ (ap (take (length bytes.now)) s.shows ∙ take_at bytes.now new.held (length bytes.now) refl)
@@ -127,36 +127,36 @@ module _ (old new : Feed) (bytes : Bor (List ℕ)) (payload : Payload) (s : Step
     fits_on : start + length (prefix ++ e.consumed) + length new.held < 2 ^ 64
     fits_on = omega (arith, fits, length-append prefix e.consumed, report.1, lengths)
 
-    reading_on : Reading ((prefix ++ e.consumed) ++ new.held) start new.stand.features ((before ++ e ∷ []) ++ later)
+    reading_on : Reading ((prefix ++ e.consumed) ++ new.held) start new.state.features ((before ++ e ∷ []) ++ later)
     reading_on =
-        subst (Reading ((prefix ++ e.consumed) ++ new.held) start new.stand.features) (sym (append_assoc before (e ∷ []) later))
+        subst (Reading ((prefix ++ e.consumed) ++ new.held) start new.state.features) (sym (append_assoc before (e ∷ []) later))
         (subst (λ (f : ℕ). Reading ((prefix ++ e.consumed) ++ new.held) start f (before ++ e ∷ later)) (sym (same_features old new (Ok (Parsed bytes payload)) s))
-        (subst (λ (l : List ℕ). Reading l start old.stand.features (before ++ e ∷ later)) whole reading))
+        (subst (λ (l : List ℕ). Reading l start old.state.features (before ++ e ∷ later)) whole reading))
 
     consumed_on : consumed_by (before ++ e ∷ []) ≡ prefix ++ e.consumed
     consumed_on = flat_map-append (λ (x : Event). x.consumed) before (e ∷ []) ∙ (λ i. c i ++ append-nil e.consumed i)
 
-  sum_on : (sum : Result ℕ FaultAt) (start : ℕ) (prefix : List ℕ) (stands : IsStateAfter old.stand start prefix) (fits : start + length prefix + length old.held < 2 ^ 64) (before later : List Event) (e : Event)
-      (reading : Reading (prefix ++ old.held) start old.stand.features (before ++ e ∷ later)) (c : consumed_by before ≡ prefix) → is_end (report_of payload) ≡ false → SumIs new.stand new.held sum → bodies_in later ≡ sum
-  sum_on sum start prefix stands fits before [] e reading c going rest =
-      let t = report start prefix stands fits before [] e reading c in
-      absurd (omega (arith, some_bytes going, t.1, last_takes_none (prefix ++ old.held) start old.stand.features before e reading))
-  sum_on sum start prefix stands fits before (x ∷ later) e reading c going rest =
-      let t = report start prefix stands fits before (x ∷ later) e reading c in
-      rest start (prefix ++ e.consumed) t.3 (fits_on start prefix stands fits before (x ∷ later) e reading c) (before ++ e ∷ []) later x (reading_on start prefix stands fits before (x ∷ later) e reading c) (consumed_on start prefix stands fits before (x ∷ later) e reading c)
+  sum_on : (sum : Result ℕ FaultAt) (start : ℕ) (prefix : List ℕ) (is_after : IsStateAfter old.state start prefix) (fits : start + length prefix + length old.held < 2 ^ 64) (before later : List Event) (e : Event)
+      (reading : Reading (prefix ++ old.held) start old.state.features (before ++ e ∷ later)) (c : consumed_by before ≡ prefix) → is_end (report_of payload) ≡ false → SumIs new.state new.held sum → bodies_in later ≡ sum
+  sum_on sum start prefix is_after fits before [] e reading c going rest =
+      let t = report start prefix is_after fits before [] e reading c in
+      absurd (omega (arith, some_bytes going, t.1, last_takes_none (prefix ++ old.held) start old.state.features before e reading))
+  sum_on sum start prefix is_after fits before (x ∷ later) e reading c going rest =
+      let t = report start prefix is_after fits before (x ∷ later) e reading c in
+      rest start (prefix ++ e.consumed) t.3 (fits_on start prefix is_after fits before (x ∷ later) e reading c) (before ++ e ∷ []) later x (reading_on start prefix is_after fits before (x ∷ later) e reading c) (consumed_on start prefix is_after fits before (x ∷ later) e reading c)
 
   adds_some : (k : ℕ) → size_report (length bytes.now) (report_of payload) ≡ Some k → Adds old (Ok (Some k)) new
   adds_some k z =
       let f = (found (length bytes.now) payload).some k z in (
         omega (arith, f.0, lengths),
         omega (arith, some_bytes f.1, lengths),
-        λ sum rest start prefix stands fits before later e reading c.
-            added start prefix stands fits before later e reading c (bodies_in later) ∙ (f.2 (bodies_in later) ∙ ap (plus k) (sum_on sum start prefix stands fits before later e reading c f.1 rest)),
+        λ sum rest start prefix is_after fits before later e reading c.
+            added start prefix is_after fits before later e reading c (bodies_in later) ∙ (f.2 (bodies_in later) ∙ ap (plus k) (sum_on sum start prefix is_after fits before later e reading c f.1 rest)),
       )
 
   adds_none : size_report (length bytes.now) (report_of payload) ≡ None → Adds old (Ok None) new
-  adds_none z start prefix stands fits before later e reading c =
-      added start prefix stands fits before later e reading c (bodies_in later) ∙ (found (length bytes.now) payload).none z (bodies_in later)
+  adds_none z start prefix is_after fits before later e reading c =
+      added start prefix is_after fits before later e reading c (bodies_in later) ∙ (found (length bytes.now) payload).none z (bodies_in later)
 
   adds_by : (size : Option ℕ) → size_report (length bytes.now) (report_of payload) ≡ size → Adds old (Ok size) new
   adds_by (Some k) z = adds_some k z
@@ -166,8 +166,8 @@ module _ (old new : Feed) (bytes : Bor (List ℕ)) (payload : Payload) (s : Step
   payload_adds = adds_by (size_report (length bytes.now) (report_of payload)) refl
 
 pub fault_adds : (old new : Feed) (f : Error) → Steps old (Err f) new → Adds old (Err f) new
-fault_adds old new f s start prefix stands fits before later e reading c =
-    let t = gives_next old.stand new.stand old.held (Err f) s.parses start prefix stands fits (before ++ e ∷ later) reading (record { before = before; event = e; later = later; whole = refl; consumed = c }) in
+fault_adds old new f s start prefix is_after fits before later e reading c =
+    let t = gives_next old.state new.state old.held (Err f) s.parses start prefix is_after fits (before ++ e ∷ later) reading (record { before = before; event = e; later = later; whole = refl; consumed = c }) in
     ap (λ (x : Report). adds (length e.consumed) x (bodies_in later)) t.0
 
 -- ---- the whole stream
@@ -175,7 +175,7 @@ fault_adds old new f s start prefix stands fits before later e reading c =
 -- So much of a stream's sum was found, and the rest of it is that of the bytes that are left.
 pub record Counted (stream : List ℕ) (total : ℕ) (feed : Feed) : Type 0 where
   pub room : total + length feed.held ≤ length stream
-  pub so_far : (sum : Result ℕ FaultAt) → SumIs feed.stand feed.held sum → SumIs (initial_state 0 3) stream (plus total sum)
+  pub so_far : (sum : Result ℕ FaultAt) → SumIs feed.state feed.held sum → SumIs (initial_state 0 3) stream (plus total sum)
 
 pub begun : (stream : List ℕ) → Counted stream 0 (new_feed 0 stream)
 begun stream = record {
@@ -196,10 +196,10 @@ sum_of_all : (stream : List ℕ) (sum : Result ℕ FaultAt) → length stream < 
 sum_of_all stream sum small h [] r =
     let n : 0 ≡ length (events_of 0 3 r.tiles ++ last_event r.end ∷ []) = ap (λ (l : List Event). length l) r.listed in
     absurd (omega (arith, length-append (events_of 0 3 r.tiles) (last_event r.end ∷ [])))
-sum_of_all stream sum small h (e ∷ later) r = h 0 [] stands (omega arith) [] later e r refl
+sum_of_all stream sum small h (e ∷ later) r = h 0 [] is_after (omega arith) [] later e r refl
   where
-    stands : IsStateAfter (initial_state 0 3) 0 []
-    stands = record { tiles = []; faultless = tt; covers = refl; offset = refl; expects_header = refl; encoding = refl; rank = refl; functions = refl; codes = refl; datas = refl; data_counts = refl; bodies = refl; left = refl }
+    is_after : IsStateAfter (initial_state 0 3) 0 []
+    is_after = record { tiles = []; faultless = tt; is_prefix = refl; offset = refl; expects_header = refl; encoding = refl; rank = refl; functions = refl; codes = refl; datas = refl; data_counts = refl; bodies = refl; left = refl }
 
 pub all_counted : (stream : List ℕ) (total : ℕ) (old new : Feed) → length stream < 2 ^ 64 → Counted stream total old → Adds old (Ok None) new → (events : List Event) → Reading stream 0 3 events → bodies_in events ≡ Ok total
 all_counted stream total old new small c a = sum_of_all stream (Ok total) small (subst (λ (n : ℕ). SumIs (initial_state 0 3) stream (Ok n)) (omega arith) (c.so_far (Ok 0) a))

@@ -6,7 +6,7 @@ use Rattle.wasm_base.specs.declared.error.Error.{Error}
 use Rattle.wasm_parser.specs.ParseAnswer.{report_of, is_end, Answers, ParseAnswer}
 use Rattle.wasm_parser.specs.Content.{Ending, fault, ended}
 use Rattle.wasm_parser.specs.Grammar.{Verdict, tile, final, Grammar, verdict}
-use Rattle.wasm_parser.specs.Reading.{ending, Event, Reads, Reading}
+use Rattle.wasm_parser.specs.Reading.{stream_end, Event, Reads, Reading}
 use Rattle.wasm_parser.specs.ParserState.{ParserState, initial_state, IsStateAfter, grammar_of}
 use Rattle.wasm_parser.specs.declared.payload.Chunk.TheVariants.{Parsed}
 use Rattle.wasm_parser.specs.declared.payload.Payload.{Payload}
@@ -24,7 +24,7 @@ pub record Passed (stream : List ℕ) (p : ParserState) (rest : List ℕ) : Type
 pub begun : (stream : List ℕ) → Passed stream (initial_state 0 3) stream
 begun stream = record {
   prefix = [];
-  place = record { tiles = []; faultless = tt; covers = refl; offset = refl; expects_header = refl; encoding = refl; rank = refl; functions = refl; codes = refl; datas = refl; data_counts = refl; bodies = refl; left = refl };
+  place = record { tiles = []; faultless = tt; is_prefix = refl; offset = refl; expects_header = refl; encoding = refl; rank = refl; functions = refl; codes = refl; datas = refl; data_counts = refl; bodies = refl; left = refl };
   whole = refl;
 }
 
@@ -41,17 +41,17 @@ module _ (stream : List ℕ) (p : ParserState) (rest : List ℕ) (g : Passed str
   only_ending end v events r =
       let here : Reads stream 0 g.place.tiles end = record {
         rest = rest;
-        whole = g.whole ∙ ap (λ (x : List ℕ). x ++ rest) (sym g.place.covers);
+        whole = g.whole ∙ ap (λ (x : List ℕ). x ++ rest) (sym g.place.is_prefix);
         faultless = g.place.faultless;
         stops = sym (ap (λ (x : Grammar). verdict x rest) (grammar_same p 0 g.prefix g.place)) ∙ v;
       } in (reads_same stream 0 r.tiles g.place.tiles r.end end r.reads here).1
 
 -- a payload that is an end
-only_end : (payload : Payload) (o : ℕ) → report_of payload ≡ ending o → (at : ℕ) × (payload ≡ End at)
+only_end : (payload : Payload) (o : ℕ) → report_of payload ≡ stream_end (ended o) → (at : ℕ) × (payload ≡ End at)
 only_end (End at) o h = (at, refl)
 only_end payload o h = cc
 
-same_end : (a b : ℕ) → ending a ≡ ending b → a ≡ b
+same_end : (a b : ℕ) → stream_end (ended a) ≡ stream_end (ended b) → a ≡ b
 same_end a b h = cc
 
 -- one step on, over some bytes that are there

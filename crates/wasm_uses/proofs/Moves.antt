@@ -24,16 +24,16 @@ answers_by false p new rest (Err e) t h = h.past_the_top (ltb-false _ _ t)
 
 -- where the parser then is, and how many bytes that took
 pub record Moves (p : ParserState) (v : Verdict) (r : Result Chunk Error) (new : ParserState) : Type 0 where
-  pub stand : new ≡ state_after_verdict p v
+  pub state : new ≡ state_after_verdict p v
   pub size : taken_by r ≡ size_of v
 
 moves_at : (p new : ParserState) (v : Verdict) (r : Result Chunk Error) → Answers p v r new → Moves p v r new
 moves_at p new v (Ok (NeedMoreData hint)) a = absurd a
-moves_at p new (tile t) (Ok (Parsed consumed payload)) a = record { stand = a.2; size = a.0 }
+moves_at p new (tile t) (Ok (Parsed consumed payload)) a = record { state = a.2; size = a.0 }
 moves_at p new (final (fault f)) (Ok (Parsed consumed payload)) a = absurd a
-moves_at p new (final (ended o)) (Ok (Parsed consumed payload)) a = record { stand = a.2; size = a.0 }
+moves_at p new (final (ended o)) (Ok (Parsed consumed payload)) a = record { state = a.2; size = a.0 }
 moves_at p new (tile t) (Err e) a = absurd a
-moves_at p new (final (fault f)) (Err e) a = record { stand = a.1; size = refl }
+moves_at p new (final (fault f)) (Err e) a = record { state = a.1; size = refl }
 moves_at p new (final (ended o)) (Err e) a = absurd a
 
 pub moves : (p new : ParserState) (rest : List ℕ) (r : Result Chunk Error) → ParseAnswer p rest r new → Moves p (next_at p rest) r new
@@ -44,11 +44,11 @@ take-plus m n xs = grind (arith, common_steps, sym (take-append-drop m (take (m 
 
 -- a feeder with these bytes, of which so many were consumed, after an answer to the others
 pub moved : (p new before after : ParserState) (m : ℕ) (xs : List ℕ) (r : Result Chunk Error) → ParseAnswer p (drop m xs) r new
-    → HasMoved (record { stand = p; before = before; spent = take m xs; held = drop m xs }) (record { stand = new; before = after; spent = take (m + taken_by r) xs; held = drop (m + taken_by r) xs })
+    → HasMoved (record { state = p; before = before; spent = take m xs; held = drop m xs }) (record { state = new; before = after; spent = take (m + taken_by r) xs; held = drop (m + taken_by r) xs })
 moved p new before after m xs r h =
     let k : Moves p (next_at p (drop m xs)) r new = moves p new (drop m xs) r h in
     let n : ℕ = size_of (next_at p (drop m xs)) in record {
-      stand = k.stand;
+      state = k.state;
       spent = ap (λ (j : ℕ). take (m + j) xs) k.size ∙ take-plus m n xs;
       held = ap (λ (j : ℕ). drop (m + j) xs) k.size ∙ sym (drop-drop n m xs);
     }

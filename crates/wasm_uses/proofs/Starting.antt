@@ -4,7 +4,8 @@ use Rattle.std.specs.Iterator.{Yields, Drains}
 use Rattle.wasm_base.specs.FaultAt.{FaultAt, fault_at}
 use Rattle.wasm_base.specs.declared.error.Error.{Error}
 use Rattle.wasm_parser.specs.ParseAnswer.{report_of}
-use Rattle.wasm_parser.specs.Reading.{Report, stopped, Event, Reading}
+use Rattle.wasm_parser.specs.Content.{fault}
+use Rattle.wasm_parser.specs.Reading.{Report, stream_end, Event, Reading}
 use Rattle.wasm_parser.specs.ParserState.{ParserState, initial_state}
 use Rattle.wasm_parser.specs.ParseAll.{Walk, NextPayload, given_report, event_report, GivesReading, WalksWhole}
 use Rattle.wasm_parser.specs.declared.payload.Payload.{Payload}
@@ -47,7 +48,7 @@ known_more given start found payload is known later =
 
 -- a fault
 pub known_stops : (given : List (Result Payload Error)) (start : Option ℕ) (e : Error) → Known given start → start_from None (map given_report (given ++ Err e ∷ []) ++ []) ≡ Err (fault_at e)
-known_stops given start e known = ap (start_from None) (map_more given (Err e) []) ∙ known (stopped (fault_at e) ∷ [])
+known_stops given start e known = ap (start_from None) (map_more given (Err e) []) ∙ known (stream_end (fault (fault_at e)) ∷ [])
 
 -- after a fault nothing comes
 yields_more : (s t u : Walk) (xs : List (Result Payload Error)) (x : Result Payload Error) → Yields NextPayload s xs t → NextPayload t (Some x) u → Yields NextPayload s (xs ++ x ∷ []) u

@@ -21,7 +21,7 @@ plus_twice m n (Err e) = refl
 abbrev pub numbers : Place → Outcome ℕ → Type 0
 numbers = ReadsAs (λ n. n) (unsigned_at VarU32)
 
--- a turn that gave a number
+-- a step that gave a number
 pub after_number : (all : Result ℕ FaultAt) (s t : Items) (total x : ℕ) → all ≡ plus total (total_at s.left (place s.reader)) → s.ended ≡ false → NextItem numbers s (Some (Ok x)) t
     → (t.ended ≡ false) × (t.left + 1 ≡ s.left) × (all ≡ plus (total + x) (total_at t.left (place t.reader)))
 after_number all s t total x so_far going next =
@@ -39,6 +39,6 @@ fault_total zero p f h = by_rest (nat_lt 0 (length p.rest)) h
     by_rest false e = cc
 fault_total (suc left) p f h = rw h.0 refl
 
--- the turn that gave a fault
+-- the step that gave a fault
 pub at_a_fault : (all : Result ℕ FaultAt) (s t : Items) (total : ℕ) (e : Error) → all ≡ plus total (total_at s.left (place s.reader)) → s.ended ≡ false → NextItem numbers s (Some (Err e)) t → all ≡ Err (fault_at e)
 at_a_fault all s t total e so_far going next = rw (fault_total s.left (place s.reader) (fault_at e) (fault_came numbers s t e going next)) at so_far

@@ -2,7 +2,8 @@
 use Rattle.std.specs.Prelude.{◌≡◌, ℕ, ◌+◌, ◌<◌, ◌≤◌, ◌^◌, List, [], ◌∷◌, ◌++◌, length, Option, Some, None, Result, Ok, Err, MatchResult}
 use Rattle.wasm_base.specs.FaultAt.{FaultAt, fault_at}
 use Rattle.wasm_base.specs.declared.error.Error.{Error}
-use Rattle.wasm_parser.specs.Reading.{Report, version, counted, start_section, data_count_section, code_start, code_entry, custom_section, unknown_section, stopped, ending, Event, Reading}
+use Rattle.wasm_parser.specs.Content.{ended, fault}
+use Rattle.wasm_parser.specs.Reading.{Report, version, counted, start_section, data_count_section, code_start, code_entry, custom_section, unknown_section, stream_end, Event, Reading}
 use Rattle.wasm_parser.specs.EventRanges.{consumed_by}
 use Rattle.wasm_parser.specs.ParserState.{ParserState, IsStateAfter}
 use Rattle.wasm_uses.specs.Feed.{Feed}
@@ -11,7 +12,7 @@ use Rattle.wasm_uses.specs.Totals.{plus}
 -- of so many bytes those that are a body, unless this is the end
 abbrev pub size_report : ℕ → Report → Option ℕ
 size_report n (code_entry window) = Some n
-size_report n (ending offset) = None
+size_report n (stream_end (ended offset)) = None
 size_report n (version num encoding from to) = Some 0
 size_report n (counted id count window) = Some 0
 size_report n (start_section func from to) = Some 0
@@ -19,13 +20,13 @@ size_report n (data_count_section count from to) = Some 0
 size_report n (code_start count from to size) = Some 0
 size_report n (custom_section name data_offset window) = Some 0
 size_report n (unknown_section id contents from to) = Some 0
-size_report n (stopped f) = Some 0
+size_report n (stream_end (fault f)) = Some 0
 
 -- an event that took so many bytes, before what comes of the later ones
 abbrev pub adds : ℕ → Report → Result ℕ FaultAt → Result ℕ FaultAt
 adds n (code_entry window) later = plus n later
-adds n (ending offset) later = Ok 0
-adds n (stopped f) later = Err f
+adds n (stream_end (ended offset)) later = Ok 0
+adds n (stream_end (fault f)) later = Err f
 adds n (version num encoding from to) later = later
 adds n (counted id count window) later = later
 adds n (start_section func from to) later = later
@@ -53,6 +54,6 @@ SumIs p rest sum =
 -- One step gave so much of the sum, and the rest of the bytes gives the rest of it; or the sum ends here, or a fault ends it.
 abbrev pub Adds : Feed → Result (Option ℕ) Error → Feed → Type 0
 Adds old (Ok (Some n)) new =
-    (n + length new.held ≤ length old.held) × (length new.held < length old.held) × ((sum : Result ℕ FaultAt) → SumIs new.stand new.held sum → SumIs old.stand old.held (plus n sum))
-Adds old (Ok None) new = SumIs old.stand old.held (Ok 0)
-Adds old (Err e) new = SumIs old.stand old.held (Err (fault_at e))
+    (n + length new.held ≤ length old.held) × (length new.held < length old.held) × ((sum : Result ℕ FaultAt) → SumIs new.state new.held sum → SumIs old.state old.held (plus n sum))
+Adds old (Ok None) new = SumIs old.state old.held (Ok 0)
+Adds old (Err e) new = SumIs old.state old.held (Err (fault_at e))

@@ -25,11 +25,11 @@ shown (Ok (Parsed bytes payload)) = bytes.now
 shown (Err e) = []
 
 -- The step is what a parser that is here answers on all the rest of a stream, and shows the bytes that it consumed.
-pub record Tells (p : ParserState) (rest : List ℕ) (result : Result Step Error) : Type 0 where
+pub record GivesStep (p : ParserState) (rest : List ℕ) (result : Result Step Error) : Type 0 where
   pub parses : ParseAnswer p rest (answer_of result) (state_after_verdict p (next_at p rest))
   pub shows : rest ≡ shown result ++ drop (length (shown result)) rest
 
 -- The feeder's parser answered this and has passed it, and the feeder holds what is after the bytes that are shown.
 pub record Steps (old : Feed) (result : Result Step Error) (new : Feed) : Type 0 where
-  pub parses : ParseAnswer old.stand old.held (answer_of result) new.stand
+  pub parses : ParseAnswer old.state old.held (answer_of result) new.state
   pub shows : old.held ≡ shown result ++ new.held

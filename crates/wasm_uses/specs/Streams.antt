@@ -3,7 +3,7 @@ use Rattle.std.specs.Prelude.{◌≡◌, ℕ, List, [], ◌∷◌, map, Option, 
 use Rattle.wasm_base.specs.FaultAt.{FaultAt, fault_at}
 use Rattle.wasm_base.specs.declared.error.Error.{Error}
 use Rattle.wasm_parser.specs.Content.{fault, ended}
-use Rattle.wasm_parser.specs.Reading.{Report, version, counted, start_section, data_count_section, code_start, code_entry, custom_section, unknown_section, stopped, ending, Event, Reading}
+use Rattle.wasm_parser.specs.Reading.{Report, version, counted, start_section, data_count_section, code_start, code_entry, custom_section, unknown_section, stream_end, Event, Reading}
 use Rattle.wasm_parser.specs.ParseAll.{event_report}
 
 -- The stream's reading ends at this offset, with no fault; or at this fault.
@@ -20,8 +20,8 @@ started_by (code_start count from to size) = None
 started_by (code_entry window) = None
 started_by (custom_section name data_offset window) = None
 started_by (unknown_section id contents from to) = None
-started_by (stopped f) = None
-started_by (ending offset) = None
+started_by (stream_end (fault f)) = None
+started_by (stream_end (ended offset)) = None
 
 -- the later one, if it is there
 abbrev pub latest : (known later : Option ℕ) → Option ℕ
@@ -30,7 +30,7 @@ latest known (Some n) = Some n
 
 -- the fault at which a part stops the stream, before what comes of the later parts
 abbrev pub unless_stopped : Report → Result (Option ℕ) FaultAt → Result (Option ℕ) FaultAt
-unless_stopped (stopped f) later = Err f
+unless_stopped (stream_end (fault f)) later = Err f
 unless_stopped (version num encoding from to) later = later
 unless_stopped (counted id count window) later = later
 unless_stopped (start_section func from to) later = later
@@ -39,7 +39,7 @@ unless_stopped (code_start count from to size) later = later
 unless_stopped (code_entry window) later = later
 unless_stopped (custom_section name data_offset window) later = later
 unless_stopped (unknown_section id contents from to) later = later
-unless_stopped (ending offset) later = later
+unless_stopped (stream_end (ended offset)) later = later
 
 -- the function that the last start section of these parts names, where this one was known before; or the fault
 abbrev pub start_from : (known : Option ℕ) → List Report → Result (Option ℕ) FaultAt

@@ -23,7 +23,7 @@ pub fn size_of_bodies(bytes: Vec<u8>) -> Result<u64>
 fn next_size(feeder: &mut Feeder) -> Result<Option<u64>>
     ensures { Adds feeder.old result feeder.new }
 {
-    match feeder.turned().step()? {
+    match feeder.advanced().step()? {
         Step::NeedMoreData(_) => unreachable!(),
         Step::Parsed { bytes, payload } => Ok(size_in(bytes, payload)),
     }

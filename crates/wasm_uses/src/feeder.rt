@@ -1,7 +1,7 @@
 // A feeder: it holds the bytes of a stream and a parser, and lends the payloads one by one.
 ghost use Rattle.std.specs.Prelude.{◌≡◌, ◌≤◌, length};
 ghost use Rattle.wasm_uses.specs.Feed.{new_feed, rest_at, HasMoved};
-ghost use Rattle.wasm_uses.specs.Step.{Tells};
+ghost use Rattle.wasm_uses.specs.Step.{GivesStep};
 ghost use Rattle.wasm_uses.specs.Taken.{taken_by};
 
 use std::marker::Model;
@@ -26,7 +26,7 @@ pub enum Step<'a> {
 #[derive(Drop)]
 pub struct Feeder {
     parser: Parser,
-    // The parser before the last turn.
+    // The parser before the last step.
     before: Parser,
     bytes: Vec<u8>,
     // How many of the bytes were consumed.
@@ -39,7 +39,7 @@ impl Model for Feeder {
 
     ghost Value = { Feed };
 
-    ghost view = { λ f. record { stand = f.parser; before = f.before; spent = take f.mark f.bytes.items; held = drop f.mark f.bytes.items } };
+    ghost view = { λ f. record { state = f.parser; before = f.before; spent = take f.mark f.bytes.items; held = drop f.mark f.bytes.items } };
 
     ghost invariant = { λ f. f.mark ≤ vec_len f.bytes };
 }
@@ -64,8 +64,8 @@ impl Feeder {
     }
 
     // A step whose payload is let go. It gives where the bytes of the step begin.
-    fn turn(&mut self) -> usize
-        ensures before { self.new.before ≡ self.old.stand }
+    fn advance(&mut self) -> usize
+        ensures before { self.new.before ≡ self.old.state }
         ensures from { result ≡ length self.old.spent }
         ensures moved { HasMoved self.old self.new }
     {
@@ -78,20 +78,20 @@ impl Feeder {
     }
 
     /// A step that can still be looked at, as long as the feeder isn't used again.
-    pub fn turned(&mut self) -> Advanced<'_>
+    pub fn advanced(&mut self) -> Advanced<'_>
         ensures* after { sem 𝓛 (Rests the_row self.entry (HasAdvanced self.old result)) }
     {
-        let from = self.turn();
+        let from = self.advance();
         Advanced { feeder: self, from }
     }
 
-    /// One step along the stream. A caller that goes on with the feeder afterwards calls `turned().step()`, by which
+    /// One step along the stream. A caller that goes on with the feeder afterwards calls `advanced().step()`, by which
     /// more is known.
     pub fn step(&mut self) -> Result<Step<'_>>
         ensures* after { sem 𝓛 (Rests the_row self.entry (Steps self.old result)) }
-        ensures tells { Tells self.old.stand self.old.held result }
+        ensures gives { GivesStep self.old.state self.old.held result }
     {
-        show(self.turned())
+        show(self.advanced())
     }
 }
 
@@ -122,7 +122,7 @@ pub struct Advanced<'a> {
 impl<'a> Advanced<'a> {
     /// The step that the feeder made.
     pub fn step(self) -> Result<Step<'a>>
-        ensures { Tells self.entry.feeder.now.before
+        ensures { GivesStep self.entry.feeder.now.before
             (rest_at self.entry.feeder.now self.entry.from) result }
     {
         show(self)
@@ -130,11 +130,11 @@ impl<'a> Advanced<'a> {
 }
 
 // The step that the feeder made: what is at its beginning is parsed again.
-fn show(turned: Advanced<'_>) -> Result<Step<'_>>
-    ensures { Tells turned.entry.feeder.now.before
-        (rest_at turned.entry.feeder.now turned.entry.from) result }
+fn show(advanced: Advanced<'_>) -> Result<Step<'_>>
+    ensures { GivesStep advanced.entry.feeder.now.before
+        (rest_at advanced.entry.feeder.now advanced.entry.from) result }
 {
-    let Advanced { feeder, from } = turned;
+    let Advanced { feeder, from } = advanced;
     let mut parser = feeder.before.clone().unwrap();
     let rest = &feeder.bytes[from..];
     match parser.parse(rest, true) {

@@ -49,10 +49,10 @@ fn steps_of_a_module(rt: HostRuntime) -> std::result::Result<(), Fail> {
 }
 
 #[test]
-fn turns_of_a_module(rt: HostRuntime) -> std::result::Result<(), Fail> {
+fn advances_along_a_module(rt: HostRuntime) -> std::result::Result<(), Fail> {
     let mut feeder = Feeder::new(MODULE.to_vec(rt.alloc())?, 0);
     for (wanted, id, from, to) in STEPS {
-        match feeder.turned().step()? {
+        match feeder.advanced().step()? {
             Step::Parsed { bytes, payload } => {
                 assert_eq!(rt; bytes, wanted);
                 assert_eq!(rt; id_of(&payload), id);
@@ -77,7 +77,7 @@ fn payloads_are_read(rt: HostRuntime) -> std::result::Result<(), Fail> {
         } => assert_eq!(rt; (num, encoding), (1, Encoding::Module)),
         _other => assert!(rt; false),
     }
-    match feeder.turned().step()? {
+    match feeder.advanced().step()? {
         Step::Parsed {
             payload: Payload::FunctionSection(types),
             ..
@@ -98,7 +98,7 @@ fn a_fault_is_report_again(rt: HostRuntime) -> std::result::Result<(), Fail> {
     let fault = Error::new(Fault::UnexpectedEof, 10);
     for _ in 0..2 {
         assert_eq!(rt; feeder.step().err(), Some(fault));
-        assert_eq!(rt; feeder.turned().step().err(), Some(fault));
+        assert_eq!(rt; feeder.advanced().step().err(), Some(fault));
     }
     Ok(())
 }
@@ -108,7 +108,7 @@ fn past_the_top_of_the_offsets(rt: HostRuntime) -> std::result::Result<(), Fail>
     let mut feeder = Feeder::new(MODULE.to_vec(rt.alloc())?, u64::MAX);
     let fault = Error::new(Fault::OffsetRange, u64::MAX);
     assert_eq!(rt; feeder.step().err(), Some(fault));
-    assert_eq!(rt; feeder.turned().step().err(), Some(fault));
+    assert_eq!(rt; feeder.advanced().step().err(), Some(fault));
     Ok(())
 }
 

@@ -11,5 +11,5 @@ returns-in_err-item g c =
 pub loop-item-preserved : goal.loop-item-preserved
 loop-item-preserved g c =
     let next = rw c.in_ok-item.was at c.in-Some.ensures.steps in
-    let turn = after_item g.T.FromReader.meaning c.args.section.count _ c.loop-item.item-iterator c.next.new.self c.in_ok-item.field-0 c.loop-item.invariant.walked c.loop-item.invariant.going next in
-    record { can = tt; finite = tt; going = turn.0; walked = turn.1 }
+    let step = after_item g.T.FromReader.meaning c.args.section.count _ c.loop-item.item-iterator c.next.new.self c.in_ok-item.field-0 c.loop-item.invariant.walked c.loop-item.invariant.going next in
+    record { can = tt; finite = tt; going = step.0; walked = step.1 }

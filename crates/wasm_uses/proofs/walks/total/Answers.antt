@@ -12,11 +12,11 @@ returns-in_err-number c =
 pub loop-number-preserved : goal.loop-number-preserved
 loop-number-preserved c =
     let next = rw c.in_ok-number.was at c.in-Some.ensures.steps in
-    let turn = after_number _ c.loop-number.number-iterator c.next.new.self c.loop-number.total c.in_ok-number.field-0 c.loop-number.invariant.so_far c.loop-number.invariant.going next in
+    let step = after_number _ c.loop-number.number-iterator c.next.new.self c.loop-number.total c.in_ok-number.field-0 c.loop-number.invariant.so_far c.loop-number.invariant.going next in
     record {
       can = tt;
       finite = tt;
-      going = turn.0;
-      room = omega (arith, turn.1);
-      so_far = rw c.from.ensures turn.2;
+      going = step.0;
+      room = omega (arith, step.1);
+      so_far = rw c.from.ensures step.2;
     }

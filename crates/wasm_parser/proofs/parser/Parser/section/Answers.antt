@@ -12,5 +12,5 @@ returns-then-magic_follows c =
 
 pub returns : goal.returns
 returns c =
-    section_framed (known_context c.args.self.now) (place c.args.reader.now) (place c.read_u8.new.self) c.in_ok-id.id c.framed.result _ c.if-magic_follows.ensures c.in_ok-id.ensures.gives
-    (rw c.original_position-start.ensures.offset at c.framed.ensures)
+    section_framed (known_context c.args.self.now) (place c.args.reader.now) (place c.read_u8.new.self) c.in_ok-id.id c.after_id.result _ c.if-magic_follows.ensures c.in_ok-id.ensures.gives
+    (rw c.original_position-start.ensures.offset at c.after_id.ensures)

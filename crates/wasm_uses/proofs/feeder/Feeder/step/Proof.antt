@@ -1,5 +1,5 @@
 use Rattle.wasm_uses.proofs.ByHand.{[], ◌∷◌, List, Val, refl, ap, subst, proved, leaves, id⊢, ftrue, flft, fres, named, fact, fact_i, emp, tables, ‵, raw, ◌⊛◌, some, later, ◌$◌, ◌∵◌, !, qed, by, move, keep, drop, use0, use1, use2, split, join, pick, await, rewrite, fjoin, enter, addr, stop, no_more, and_then, returns, alloc_all, pass_all, free_all, look_at, get, through, sets, lands_as, shows, Is, mut_vals, mut_Tells, no, plain, named_lft, mut_ref_to, nothing, heard, peeks, only, calls_at, Lasts, lasts, triple_of, Stays, stay_dropped, Goes-spent_ref, framed}
-use Rattle.wasm_uses.proofs.Stepping.{tells, steps}
+use Rattle.wasm_uses.proofs.Stepping.{gives, steps}
 use Rattle.wasm_uses.proofs.Resting.{rests_open, rests_close}
 use Rattle.std.specs.Prelude.{Result}
 use Rattle.std.specs.Io.BufRead.{Rests}
@@ -7,7 +7,7 @@ use Rattle.wasm_base.specs.declared.error.Error.{Error}
 use Rattle.wasm_uses.specs.declared.feeder.Step.{Step}
 use Rattle.wasm_uses.specs.declared.feeder.Advanced.{Advanced}
 use Rattle.wasm_uses.specs.Feed.{Feed, rest_at}
-use Rattle.wasm_uses.specs.Step.{Tells, Steps}
+use Rattle.wasm_uses.specs.Step.{GivesStep, Steps}
 use Rattle.wasm_uses.specs.Advanced.{HasAdvanced}
 use Rattle.std.specs.contracts.result.Result as result-row
 use Rattle.std.proofs.result.Result.TheLaws as result-laws
@@ -15,14 +15,14 @@ use Rattle.wasm_base.specs.contracts.error.Error as error-row
 use Rattle.wasm_base.proofs.error.Error.TheLaws as error-laws
 use Rattle.wasm_uses.specs.contracts.feeder.Step as step-row
 use Rattle.wasm_uses.proofs.feeder.Step.TheLaws as step-laws
-use Rattle.wasm_uses.specs.contracts.feeder.Advanced as turned-row
-use Rattle.wasm_uses.proofs.feeder.Advanced.TheLaws as turned-laws
+use Rattle.wasm_uses.specs.contracts.feeder.Advanced as advanced-row
+use Rattle.wasm_uses.proofs.feeder.Advanced.TheLaws as advanced-laws
 use Rattle.wasm_uses.specs.contracts.feeder.Feeder.{the_row as R}
 use Rattle.wasm_uses.specs.contracts.feeder.Feeder.step as f
 use Rattle.wasm_uses.proofs.feeder.Feeder.step.Statement.{statement}
 use Rattle.wasm_uses.proofs.feeder.Feeder.step.Code as code
-use Rattle.wasm_uses.specs.contracts.feeder.Feeder.turned as g
-use Rattle.wasm_uses.proofs.feeder.Feeder.turned.Met.{met as advanced_met}
+use Rattle.wasm_uses.specs.contracts.feeder.Feeder.advanced as g
+use Rattle.wasm_uses.proofs.feeder.Feeder.advanced.Met.{met as advanced_met}
 use Rattle.wasm_uses.specs.contracts.feeder.show as h
 use Rattle.wasm_uses.proofs.feeder.show.Met.{met as show_met}
 
@@ -36,7 +36,7 @@ step_spec 𝓤 𝓛 𝓜 𝓡 wired =
     f.Key.name code.function (code.unfolded 𝓤 𝓛.H 𝓜 𝓡 wired)
     (λ κs. (mut_vals, tt)) (λ κs. (mut_Tells (named 0) κs.0 R, tt)) (λ κs qs bounds a _ are.
     let ℓ = named_lft 1 0 tt κs in let vs = mut_vals a.0 in let γ = a.0.ghost_name in let old = a.0.now in
-    let Tr = turned-row.the_row ℓ in let Rr = result-row.the_row (step-row.the_row ℓ) error-row.the_row in
+    let Tr = advanced-row.the_row ℓ in let Rr = result-row.the_row (step-row.the_row ℓ) error-row.the_row in
     let G = triple_of 𝓛 g.signature (g.spec 𝓛 𝓜.mem 𝓡.returns) in
     let z : G.Ghost = ((κs, qs, bounds, a, (vs, tt)), tt) in
     let K = triple_of 𝓛 h.signature (h.spec 𝓛 𝓜.mem 𝓡.returns) in
@@ -44,28 +44,28 @@ step_spec 𝓤 𝓛 𝓜 𝓡 wired =
     qed 𝓛 (raw (G.pre z) ∷ []) ∵ enter ! _ _ _ _ _ $
     alloc_all ! (λ l. pass_all ! refl ((tt, tt), tt) $
     sets ! (addr ! (through ! refl (stop !))) refl (tt, tt) $
-    calls_at ! fm G (advanced_met 𝓤 𝓛 𝓜 𝓡 (code.calls-wasm_uses::feeder::Feeder::turned 𝓡.env wired)) z (and_then ! (get ! refl) (no_more !)) (λ v.
+    calls_at ! fm G (advanced_met 𝓤 𝓛 𝓜 𝓡 (code.calls-wasm_uses::feeder::Feeder::advanced 𝓡.env wired)) z (and_then ! (get ! refl) (no_more !)) (λ v.
     use1 𝓛 (later (some (λ (t : Advanced). (tokens ⊛ ‵ (Tr.own_val t (v ∷ []))) ⊛
     some (λ (ws : Lasts g.ended κs a). ‵ (lasts g.ended κs a ws) ⊛ ‵ (Rests R a.0 (HasAdvanced old t)))))) (id⊢ 𝓤 _) $
     await ! tt $ pick ! (λ t. split ! $ split ! $ move ! (2 ∷ []) $ pick ! (λ ws. split ! $ drop ! $
     use1 𝓛 (some (λ (s : (x : Feed) × HasAdvanced old t x). ‵ (fres γ (R.coded.code s.0)))) (rests_open 𝓛 R a.0 (HasAdvanced old t)) $ pick ! (λ s.
     move ! (2 ∷ []) $ peeks ! Tr _ (shows 𝓛 Tr) t (v ∷ []) (λ is.
-    let word = (turned-laws.lowers ℓ).lowered t in let e = (turned-laws.lowers ℓ).val_is t (v ∷ []) is in
+    let word = (advanced-laws.lowers ℓ).lowered t in let e = (advanced-laws.lowers ℓ).val_is t (v ∷ []) is in
     let y : K.Ghost = ((κs, qs, bounds, (t, tt), (word ∷ [], tt)), tt) in
     rewrite ! 0 (λ (ws' : List Val). ‵ (Tr.own_val t ws')) e refl $
-    lands_as ! (ap only e) refl (((turned-laws.the_row_laws ℓ).lawful 𝓛).typed t (word ∷ []) (subst (λ (ws' : List Val). Is Tr t ws') e is)).0 $
-    -- [what the turn gave; the feeder's last value; the tokens]
+    lands_as ! (ap only e) refl (((advanced-laws.the_row_laws ℓ).lawful 𝓛).typed t (word ∷ []) (subst (λ (ws' : List Val). Is Tr t ws') e is)).0 $
+    -- [what the step gave; the feeder's last value; the tokens]
     nothing ! $ move ! (1 ∷ 0 ∷ []) $ join ! $ move ! (2 ∷ 0 ∷ []) $ join ! $
     nothing ! $ move ! (1 ∷ 0 ∷ []) $ use2 𝓛 (raw (K.pre y)) (id⊢ 𝓤 _) $
     calls_at ! fm K (show_met 𝓤 𝓛 𝓜 𝓡 (code.calls-wasm_uses::feeder::show 𝓡.env wired)) y (and_then ! (get ! refl) (no_more !)) (λ u.
     use1 𝓛 (later (some (λ (x : Result Step Error). (tokens ⊛ ‵ (Rr.own_val x (u ∷ []))) ⊛
-    some (λ (ws' : Lasts h.ended κs (t, tt)). ‵ (lasts h.ended κs (t, tt) ws') ⊛ raw (fact 𝓤 (Tells t.feeder.now.before (rest_at t.feeder.now t.from) x)))))) (id⊢ 𝓤 _) $
+    some (λ (ws' : Lasts h.ended κs (t, tt)). ‵ (lasts h.ended κs (t, tt) ws') ⊛ raw (fact 𝓤 (GivesStep t.feeder.now.before (rest_at t.feeder.now t.from) x)))))) (id⊢ 𝓤 _) $
     await ! tt $ pick ! (λ x. split ! $ split ! $ move ! (2 ∷ []) $ pick ! (λ ws'. split ! $ drop ! $ heard ! _ (λ shown.
     -- [the tokens; the answer; the feeder's last value]
     move ! (1 ∷ []) $ peeks ! Rr _ (shows 𝓛 Rr) x (u ∷ []) (λ is'.
     lands_as ! refl refl (((result-laws.the_row_laws (step-row.the_row ℓ) error-row.the_row (step-laws.the_row_laws ℓ) error-laws.the_row_laws).lawful 𝓛).typed x (u ∷ []) is').0 $
     returns ! (look_at ! 0 refl) $ free_all ! refl $
     move ! (2 ∷ []) $ use1 𝓛 (‵ (Rests R a.0 (Steps old x))) (rests_close 𝓛 R a.0 (Steps old x) s.0 (steps old t x s.0 s.1 shown)) $
-    use0 𝓛 (raw (fact 𝓤 (Tells old.stand old.held x))) (fact_i 𝓤 _ (emp 𝓤) (tells old t x s.0 s.1 shown)) $ move ! (1 ∷ 0 ∷ []) $ join ! $
+    use0 𝓛 (raw (fact 𝓤 (GivesStep old.state old.held x))) (fact_i 𝓤 _ (emp 𝓤) (gives old t x s.0 s.1 shown)) $ move ! (1 ∷ 0 ∷ []) $ join ! $
     nothing ! $ nothing ! $ fjoin ! $ keep ! (3 ∷ 0 ∷ 2 ∷ 1 ∷ []) $
     by ! (leaves 𝓛 f.ended stayed c ((κs, qs, bounds, a, (vs, tt)), tt) u x (tt, tt) (tt, tt))))))))))))))

@@ -4,7 +4,7 @@ use Rattle.wasm_parser.specs.ParseAnswer.{report_of}
 use Rattle.wasm_parser.specs.StateAfter.{state_after, known_count, missing_bytes}
 use Rattle.wasm_parser.specs.ParserState.{ParserState}
 use Rattle.wasm_parser.proofs.Parsing.{advances}
-use Rattle.wasm_parser.proofs.parser.Parser.pass.Goals as goal
+use Rattle.wasm_parser.proofs.parser.Parser.advance.Goals as goal
 
 pub returns : goal.returns
 returns c =

@@ -6,7 +6,7 @@ use Rattle.wasm_parser.specs.Content.{kind_of}
 use Rattle.wasm_parser.specs.Kinds.{kind_is}
 use Rattle.wasm_parser.specs.ParserState.{known_context}
 use Rattle.wasm_parser.proofs.Framed.{sized_large, sized_as, sized_disordered, sized_ordered}
-use Rattle.wasm_parser.proofs.parser.Parser.sized.Goals as goal
+use Rattle.wasm_parser.proofs.parser.Parser.after_length.Goals as goal
 
 pub returns-then-from-original_position : goal.returns-then-from-original_position
 returns-then-from-original_position c =

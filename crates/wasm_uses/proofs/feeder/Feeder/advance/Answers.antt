@@ -1,7 +1,7 @@
 use Rattle.std.proofs.Common.{◌≡◌, ◌-◌, length, take, drop, arith, take_all, length-drop}
 use Rattle.wasm_parser.specs.ParseAnswer.{ParseAnswer}
 use Rattle.wasm_uses.proofs.Moves.{moved, moved_from}
-use Rattle.wasm_uses.proofs.feeder.Feeder.turn.Goals as goal
+use Rattle.wasm_uses.proofs.feeder.Feeder.advance.Goals as goal
 
 pub returns-clause-moved : goal.returns-clause-moved
 returns-clause-moved c =
