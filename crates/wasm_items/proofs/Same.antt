@@ -4,7 +4,8 @@ use lib.Pointwise.{pointwise}
 use Rattle.std.specs.Cmp.Derive.{both_true}
 use Rattle.std.specs.Cmp.Lexicographic.{same_text}
 use Rattle.std.proofs.lemmas.Cmp.{nat_list_eq_equiv}
-use Rattle.wasm_base.proofs.Deciding.{Decides, back, both_of, number, truth, option}
+use denote.Struct.Field.{u32-field}
+use Rattle.wasm_base.proofs.Deciding.{Decides, back, bare, both_of, number, truth, option, variants, field as field_of}
 use Rattle.wasm_base.specs.Comparing.{DecidesWhether}
 use Rattle.wasm_items.specs.Same.{IsSameImport, IsSameItem, IsSameExport}
 use Rattle.wasm_items.specs.contracts.types.HeapTypePartialEq.TheImpl as HeapTypeCompared
@@ -37,46 +38,20 @@ use Rattle.wasm_items.specs.declared.exports.ExternalKind.{ExternalKind}
 use Rattle.wasm_items.specs.declared.imports.Import.{Import}
 use Rattle.wasm_items.specs.declared.imports.ImportItemCompact.{ImportItemCompact}
 use Rattle.wasm_items.specs.declared.exports.Export.{Export}
-use Rattle.wasm_items.specs.declared.types.HeapType.TheVariants as Heap
-use Rattle.wasm_items.specs.declared.types.ValType.TheVariants as Value
-use Rattle.wasm_items.specs.declared.types.StorageType.TheVariants as Storage
-use Rattle.wasm_items.specs.declared.types.TagKind.TheVariants as Kind
-use Rattle.wasm_items.specs.declared.imports.TypeRef.TheVariants as External
-use Rattle.wasm_items.specs.declared.exports.ExternalKind.TheVariants as Exported
-
-heap_same : (one other : HeapType) → (HeapTypeCompared.ghosts).eq one other ≡ true → one ≡ other
-heap_same Heap.Func Heap.Func h = refl
-heap_same Heap.Extern Heap.Extern h = refl
-heap_same Heap.Any Heap.Any h = refl
-heap_same Heap.Eq Heap.Eq h = refl
-heap_same Heap.I31 Heap.I31 h = refl
-heap_same Heap.Struct Heap.Struct h = refl
-heap_same Heap.Array Heap.Array h = refl
-heap_same Heap.Exn Heap.Exn h = refl
-heap_same Heap.None Heap.None h = refl
-heap_same Heap.NoExtern Heap.NoExtern h = refl
-heap_same Heap.NoFunc Heap.NoFunc h = refl
-heap_same Heap.NoExn Heap.NoExn h = refl
-heap_same (Heap.Concrete m) (Heap.Concrete n) h = ap Heap.Concrete (number.same m n h)
-heap_same one other h = cc
-
-heap_itself : (one : HeapType) → (HeapTypeCompared.ghosts).eq one one ≡ true
-heap_itself (Heap.Concrete m) = number.itself m
-heap_itself Heap.Func = refl
-heap_itself Heap.Extern = refl
-heap_itself Heap.Any = refl
-heap_itself Heap.Eq = refl
-heap_itself Heap.I31 = refl
-heap_itself Heap.Struct = refl
-heap_itself Heap.Array = refl
-heap_itself Heap.Exn = refl
-heap_itself Heap.None = refl
-heap_itself Heap.NoExtern = refl
-heap_itself Heap.NoFunc = refl
-heap_itself Heap.NoExn = refl
+use Rattle.wasm_items.specs.contracts.types.HeapType as Heap
+use Rattle.wasm_items.specs.contracts.types.ValType as Value
+use Rattle.wasm_items.specs.contracts.types.RefType as Reference
+use Rattle.wasm_items.specs.contracts.types.TableType as Table
+use Rattle.wasm_items.specs.contracts.types.MemoryType as Memory
+use Rattle.wasm_items.specs.contracts.types.GlobalType as Global
+use Rattle.wasm_items.specs.contracts.types.TagType as Tag
+use Rattle.wasm_items.specs.contracts.types.StorageType as Storage
+use Rattle.wasm_items.specs.declared.types.TagKind.TheVariants.{Exception}
+use Rattle.wasm_items.specs.contracts.imports.TypeRef as External
+use Rattle.wasm_items.specs.contracts.exports.ExternalKind as Exported
 
 pub heap : Decides (HeapTypeCompared.ghosts).eq
-heap = record { same = heap_same; itself = heap_itself }
+heap = variants Heap.enum (field_of u32-field number, tt)
 
 reference_same : (one other : RefType) → (RefTypeCompared.ghosts).eq one other ≡ true → one ≡ other
 reference_same one other h =
@@ -89,39 +64,11 @@ reference_itself one = both_true (truth.itself one.nullable) (heap.itself one.he
 pub reference : Decides (RefTypeCompared.ghosts).eq
 reference = record { same = reference_same; itself = reference_itself }
 
-value_same : (one other : ValType) → (ValTypeCompared.ghosts).eq one other ≡ true → one ≡ other
-value_same Value.I32 Value.I32 h = refl
-value_same Value.I64 Value.I64 h = refl
-value_same Value.F32 Value.F32 h = refl
-value_same Value.F64 Value.F64 h = refl
-value_same Value.V128 Value.V128 h = refl
-value_same (Value.Ref m) (Value.Ref n) h = ap Value.Ref (reference.same m n h)
-value_same one other h = cc
-
-value_itself : (one : ValType) → (ValTypeCompared.ghosts).eq one one ≡ true
-value_itself (Value.Ref m) = reference.itself m
-value_itself Value.I32 = refl
-value_itself Value.I64 = refl
-value_itself Value.F32 = refl
-value_itself Value.F64 = refl
-value_itself Value.V128 = refl
-
 pub value : Decides (ValTypeCompared.ghosts).eq
-value = record { same = value_same; itself = value_itself }
-
-storage_same : (one other : StorageType) → (StorageTypeCompared.ghosts).eq one other ≡ true → one ≡ other
-storage_same Storage.I8 Storage.I8 h = refl
-storage_same Storage.I16 Storage.I16 h = refl
-storage_same (Storage.Val m) (Storage.Val n) h = ap Storage.Val (value.same m n h)
-storage_same one other h = cc
-
-storage_itself : (one : StorageType) → (StorageTypeCompared.ghosts).eq one one ≡ true
-storage_itself (Storage.Val m) = value.itself m
-storage_itself Storage.I8 = refl
-storage_itself Storage.I16 = refl
+value = variants Value.enum (field_of Reference.the_field reference, tt)
 
 pub storage : Decides (StorageTypeCompared.ghosts).eq
-storage = record { same = storage_same; itself = storage_itself }
+storage = variants Storage.enum (field_of Value.the_field value, tt)
 
 field_same : (one other : FieldType) → (FieldTypeCompared.ghosts).eq one other ≡ true → one ≡ other
 field_same one other h =
@@ -174,11 +121,12 @@ global_itself one = both_true (value.itself one.content_type) (both_true (truth.
 pub global : Decides (GlobalTypeCompared.ghosts).eq
 global = record { same = global_same; itself = global_itself }
 
+-- of one variant alone
 kind_same : (one other : TagKind) → (TagKindCompared.ghosts).eq one other ≡ true → one ≡ other
-kind_same Kind.Exception Kind.Exception h = refl
+kind_same Exception Exception h = refl
 
 kind_itself : (one : TagKind) → (TagKindCompared.ghosts).eq one one ≡ true
-kind_itself Kind.Exception = refl
+kind_itself Exception = refl
 
 pub kind : Decides (TagKindCompared.ghosts).eq
 kind = record { same = kind_same; itself = kind_itself }
@@ -194,45 +142,17 @@ tag_itself one = both_true (kind.itself one.kind) (number.itself one.func_type_i
 pub tag : Decides (TagTypeCompared.ghosts).eq
 tag = record { same = tag_same; itself = tag_itself }
 
-external_same : (one other : TypeRef) → (TypeRefCompared.ghosts).eq one other ≡ true → one ≡ other
-external_same (External.Func m) (External.Func n) h = ap External.Func (number.same m n h)
-external_same (External.Table m) (External.Table n) h = ap External.Table (table.same m n h)
-external_same (External.Memory m) (External.Memory n) h = ap External.Memory (memory.same m n h)
-external_same (External.Global m) (External.Global n) h = ap External.Global (global.same m n h)
-external_same (External.Tag m) (External.Tag n) h = ap External.Tag (tag.same m n h)
-external_same (External.FuncExact m) (External.FuncExact n) h = ap External.FuncExact (number.same m n h)
-external_same one other h = cc
-
-external_itself : (one : TypeRef) → (TypeRefCompared.ghosts).eq one one ≡ true
-external_itself (External.Func m) = number.itself m
-external_itself (External.Table m) = table.itself m
-external_itself (External.Memory m) = memory.itself m
-external_itself (External.Global m) = global.itself m
-external_itself (External.Tag m) = tag.itself m
-external_itself (External.FuncExact m) = number.itself m
-
 pub external : Decides (TypeRefCompared.ghosts).eq
-external = record { same = external_same; itself = external_itself }
-
-exported_same : (one other : ExternalKind) → (ExternalKindCompared.ghosts).eq one other ≡ true → one ≡ other
-exported_same Exported.Func Exported.Func h = refl
-exported_same Exported.Table Exported.Table h = refl
-exported_same Exported.Memory Exported.Memory h = refl
-exported_same Exported.Global Exported.Global h = refl
-exported_same Exported.Tag Exported.Tag h = refl
-exported_same Exported.FuncExact Exported.FuncExact h = refl
-exported_same one other h = cc
-
-exported_itself : (one : ExternalKind) → (ExternalKindCompared.ghosts).eq one one ≡ true
-exported_itself Exported.Func = refl
-exported_itself Exported.Table = refl
-exported_itself Exported.Memory = refl
-exported_itself Exported.Global = refl
-exported_itself Exported.Tag = refl
-exported_itself Exported.FuncExact = refl
+external = variants External.enum (
+  field_of u32-field number,
+  (
+    field_of Table.the_field table,
+    (field_of Memory.the_field memory, (field_of Global.the_field global, (field_of Tag.the_field tag, (field_of u32-field number, tt)))),
+  ),
+)
 
 pub exported : Decides (ExternalKindCompared.ghosts).eq
-exported = record { same = exported_same; itself = exported_itself }
+exported = bare Exported.the_type tt
 
 text_same : (one other : List ℕ) → pointwise nat_eq one other ≡ true → one ≡ other
 text_same one other h = same_text one other (sym h)

@@ -10,7 +10,7 @@ use Rattle.wasm_base.specs.declared.fault.Fault.TheVariants.{UnexpectedEof, Func
 use Rattle.wasm_base.specs.declared.fault.NumberKind.TheVariants.{VarU32}
 use Rattle.wasm_parser.specs.ParseAnswer.{IsPayload, MatchesVerdict, ReadsByGrammar}
 use Rattle.wasm_parser.specs.Content.{when}
-use Rattle.wasm_parser.specs.ContentAt.{content_at}
+use Rattle.wasm_parser.specs.ReadsPart.{content_at}
 use Rattle.wasm_parser.specs.Grammar
 use Rattle.wasm_parser.specs.Grammar.{SectionContext, Grammar, accept, check, number, verdict, wrong_count, code_grammar, body_of, body_grammar}
 use Rattle.wasm_parser.specs.Reading.{code_start, code_entry, window_over}

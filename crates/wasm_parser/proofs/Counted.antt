@@ -12,11 +12,9 @@ use Rattle.wasm_base.specs.declared.fault.Fault.TheVariants.{UnexpectedEof, Star
 use Rattle.wasm_base.specs.declared.fault.NumberKind.TheVariants.{VarU32}
 use Rattle.wasm_parser.specs.ParseAnswer.{unread, counted_by, report_of, BeginsAfterCount, items_in, ItemsBegin, IsPayload, ReadsByGrammar}
 use Rattle.wasm_parser.specs.Content.{items, index, data_count, wrong_number, wrong_single, when, wrong_content, value_of, count_of}
-use Rattle.wasm_parser.specs.ContentAt.{content_at}
-use Rattle.wasm_parser.specs.Counts.{IsCounted, IsCountedAs, ReadsCounted, is_miscounted_by}
+use Rattle.wasm_parser.specs.ReadsPart.{content_at, ReadsSingleNumber, IsCounted, IsCountedAs, ReadsCounted, is_miscounted_by}
 use Rattle.wasm_parser.specs.Grammar.{SectionContext, whole_grammar, wrong_data}
 use Rattle.wasm_parser.specs.Reading.{Report, counted, start_section, data_count_section, window_over}
-use Rattle.wasm_parser.specs.SingleNumber.{ReadsSingleNumber}
 use Rattle.wasm_parser.specs.declared.payload.Payload.{Payload}
 use Rattle.wasm_parser.specs.declared.payload.Payload.TheVariants.{Version, TypeSection, ImportSection, FunctionSection, TableSection, MemorySection, TagSection, GlobalSection, ExportSection, StartSection, ElementSection, DataCountSection, DataSection, CodeSectionStart, CodeSectionEntry, CustomSection, UnknownSection, End}
 use Rattle.wasm_parser.proofs.Framed.{HasContent, has_content, whole_good, whole_bad, whole_miscounted}

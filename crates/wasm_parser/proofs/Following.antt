@@ -11,8 +11,7 @@ use Rattle.wasm_parser.specs.Reading.{Event, stream_end, tile_report, event_of, 
 use Rattle.wasm_parser.specs.EventRanges.{consumed_by}
 use Rattle.wasm_parser.specs.ParserState.{ParserState, IsStateAfter, grammar_of}
 use Rattle.wasm_parser.specs.Laws.{SomeNextEvent}
-use Rattle.wasm_parser.specs.NextEvent.{NextEvent}
-use Rattle.wasm_parser.specs.GivesNextEvent.{GivesEvent, GivesNextEvent}
+use Rattle.wasm_parser.specs.GivesNextEvent.{NextEvent, GivesEvent, GivesNextEvent}
 use Rattle.wasm_parser.specs.Tiling.{bytes_of, grammar, Faultless}
 use Rattle.wasm_parser.specs.declared.payload.Chunk.{Chunk}
 use Rattle.wasm_parser.specs.declared.payload.Chunk.TheVariants.{NeedMoreData, Parsed}

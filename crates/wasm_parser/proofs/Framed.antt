@@ -13,7 +13,7 @@ use Rattle.wasm_base.specs.declared.fault.Fault.TheVariants.{UnexpectedEof, Magi
 use Rattle.wasm_base.specs.declared.fault.NumberKind.TheVariants.{VarU32}
 use Rattle.wasm_parser.specs.ParseAnswer.{IsPayload, MatchesVerdict, ReadsByGrammar}
 use Rattle.wasm_parser.specs.Content.{Kind, custom, unknown, kind_of, rank_of, when, wrong_content, wrong_name}
-use Rattle.wasm_parser.specs.ContentAt.{content_at}
+use Rattle.wasm_parser.specs.ReadsPart.{content_at}
 use Rattle.wasm_custom.specs.Custom.{Custom, IsCustom}
 use Rattle.wasm_parser.specs.Grammar.{section, SectionContext, Grammar, check, number, verdict, whole_grammar, wrong_data, content_grammar, after_length, after_id, section_grammar}
 use Rattle.wasm_parser.specs.Reading.{section_report, custom_report, window_over, custom_section, unknown_section}

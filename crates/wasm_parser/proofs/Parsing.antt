@@ -1,6 +1,6 @@
 -- What a call of the parser answers.
 use Rattle.std.proofs.Common.{◌≡◌, ℕ, zero, suc, ◌+◌, ◌-◌, ◌^◌, ◌<◌, Bool, true, false, cond, ◌&&◌, List, [], length, option_to_list, Option, Some, Result, Ok, Err, nat_lt, nat_eq, refl, sym, ap, subst, ◌∙◌, arith}
-use Rattle.std.specs.List.{list_any}
+use Rattle.wasm_parser.specs.ReadsPart.{is_lacking}
 use Rattle.wasm_base.specs.FaultAt.{fault_at, at_offset}
 use Rattle.wasm_base.specs.Name.{Name, named, refused, name_limit, name}
 use Rattle.wasm_base.specs.declared.error.Error.{Error}
@@ -26,10 +26,6 @@ use Rattle.wasm_parser.proofs.StateLaws.{Each, each_tile, IsHeader, headed, IsBo
 at_end : (p : ParserState) → p.expects_header ≡ false → nat_eq (p.bodies + p.left) 0 ≡ true → verdict (grammar_of p) [] ≡ final (end_of (known_context p) p.offset)
 unfolding section_grammar verdict
 at_end p h c = rw (h, c) refl
-
--- whether a count above 0 lacks its other section
-abbrev pub is_lacking : Option ℕ → Option ℕ → Bool
-is_lacking count other = list_any (nat_lt 0) (option_to_list count) && nat_eq (length (option_to_list other)) 0
 
 -- an answer to nothing, by what the end is
 ends_as : (p : ParserState) (e : Ending) (r : Result Chunk Error) → p.offset < 2 ^ 64 → p.expects_header ≡ false → nat_eq (p.bodies + p.left) 0 ≡ true → end_of (known_context p) p.offset ≡ e → Answers p (final e) r p → ParseAnswer p [] r p

@@ -11,11 +11,10 @@ use Rattle.wasm_base.specs.declared.error.Error.{Error}
 use Rattle.wasm_parser.specs.ParseAnswer.{report_of, is_end, Answers}
 use Rattle.wasm_parser.specs.Content.{Ending, fault, ended}
 use Rattle.wasm_parser.specs.Grammar.{Tile, Verdict, tile, final, Grammar, verdict}
-use Rattle.wasm_parser.specs.Reading.{Report, stream_end, tile_report, Event, event_of, events_of, last_event, Reads, Reading}
+use Rattle.wasm_parser.specs.Reading.{Report, stream_end, tile_report, Event, event_of, events_of, last_event, Reads, Reading, Stream}
 use Rattle.wasm_parser.specs.Sections.{section_of, sections_of, TiledBySections}
 use Rattle.wasm_parser.specs.ParserState.{ParserState, IsStateAfter, initial_state, grammar_of}
 use Rattle.wasm_parser.specs.StateAfter.{state_after_tile}
-use Rattle.wasm_parser.specs.Stream.{Stream}
 use Rattle.wasm_parser.specs.Tiling.{bytes_of, grammar, Faultless}
 use Rattle.wasm_parser.specs.ParseAll.{HoldsItems, Walk, walk_over, consumed_between, GivesAnswer, NextPayload, sections_given, given_report, event_report, EndsAt, GivesReading, WalksWhole}
 use Rattle.wasm_parser.specs.declared.payload.Chunk.TheVariants.{Parsed}

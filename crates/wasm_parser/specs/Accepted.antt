@@ -1,11 +1,12 @@
 -- The streams that have no fault: a header, and then nothing but sections. Core specification, Binary format, Modules.
-use Rattle.std.specs.Prelude.{◌≡◌, ℕ, ◌<◌, ◌⊎◌, List, [], ◌∷◌, ◌++◌, length, All, Any, flat_map, Some}
+use Rattle.std.specs.Prelude.{◌≡◌, ℕ, ◌<◌, ◌⊎◌, List, [], ◌∷◌, ◌++◌, length, All, Any, flat_map, Some, Bool, nat_eq}
 use Rattle.wasm_base.specs.Name.{named, name_limit, name}
 use Rattle.wasm_base.specs.Number.{read, number}
 use Rattle.wasm_base.specs.declared.fault.NumberKind.TheVariants.{VarU32}
 use Rattle.wasm_parser.specs.Content.{Kind, custom, items, index, data_count, code, unknown, kind_of, rank_of, count_of}
 use Rattle.wasm_parser.specs.declared.payload.Encoding.{Encoding}
 use Rattle.wasm_parser.specs.declared.payload.Encoding.TheVariants.{Module, Component}
+use Rattle.std.specs.List.{starts_with}
 
 -- the eight bytes that begin a stream
 abbrev pub header_bytes : Encoding → List ℕ
@@ -91,3 +92,7 @@ pub record IsAccepted (stream : List ℕ) : Type 0 where
   pub order : (earlier later : List Frame) (f : Frame) → frames ≡ earlier ++ f ∷ later → FitsAfter encoding earlier f
   pub functions : IsMatched encoding 3 10 frames
   pub segments : IsMatched encoding 12 11 frames
+
+-- whether these bytes begin with the eight of such a header
+abbrev pub begins_with_header : Encoding → List ℕ → Bool
+begins_with_header encoding bytes = starts_with nat_eq bytes (header_bytes encoding)

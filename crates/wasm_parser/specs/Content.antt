@@ -8,6 +8,8 @@ use Rattle.wasm_base.specs.declared.fault.Fault.TheVariants.{UnexpectedEof, Star
 use Rattle.wasm_base.specs.declared.fault.NumberKind.TheVariants.{VarU32}
 use Rattle.wasm_parser.specs.declared.payload.Encoding.{Encoding}
 use Rattle.wasm_parser.specs.declared.payload.Encoding.TheVariants.{Module, Component}
+use Rattle.wasm_parser.specs.declared.sections.Kind as Code
+use Rattle.wasm_parser.specs.declared.sections.Kind.TheVariants as Form
 
 -- the forms of a section
 pub data Kind : Type 0 where
@@ -23,6 +25,15 @@ pub data Kind : Type 0 where
   code : Kind
   -- any bytes
   unknown : Kind
+
+-- the same as the code has it
+abbrev pub kind_is : Code.Kind → Kind
+kind_is Form.Custom = custom
+kind_is Form.Items = items
+kind_is Form.Index = index
+kind_is Form.DataCount = data_count
+kind_is Form.Code = code
+kind_is Form.Unknown = unknown
 
 -- the kind of the section with this id: a module has 0 to 13, a component only 0
 abbrev pub kind_of : Encoding → ℕ → Kind

@@ -1,14 +1,22 @@
 -- What a call of a parser says of the reading of a stream.
-use Rattle.std.specs.Prelude.{◌≡◌, ℕ, ◌+◌, ◌<◌, ◌^◌, List, [], ◌++◌, length, take, Result, Ok, Err}
+use Rattle.std.specs.Prelude.{◌≡◌, ℕ, ◌+◌, ◌<◌, ◌^◌, List, [], ◌++◌, length, take, Result, Ok, Err, ◌∷◌}
 use Rattle.wasm_base.specs.FaultAt.{fault_at}
 use Rattle.wasm_base.specs.declared.error.Error.{Error}
 use Rattle.wasm_parser.specs.ParseAnswer.{IsPayload}
 use Rattle.wasm_parser.specs.Content.{fault}
 use Rattle.wasm_parser.specs.Reading.{Event, stream_end, Reading}
-use Rattle.wasm_parser.specs.NextEvent.{NextEvent}
 use Rattle.wasm_parser.specs.ParserState.{ParserState, IsStateAfter}
 use Rattle.wasm_parser.specs.declared.payload.Chunk.{Chunk}
 use Rattle.wasm_parser.specs.declared.payload.Chunk.TheVariants.{NeedMoreData, Parsed}
+use Rattle.wasm_parser.specs.EventRanges.{consumed_by}
+
+-- Of these events, this one comes after those that consumed the prefix.
+pub record NextEvent (events : List Event) (prefix : List ℕ) : Type 0 where
+  pub before : List Event
+  pub event : Event
+  pub later : List Event
+  pub whole : events ≡ before ++ event ∷ later
+  pub consumed : consumed_by before ≡ prefix
 
 -- The event was reported after this prefix of a stream: by a payload that consumed its bytes, after which the parser then
 -- is; or by a fault, which changed nothing.

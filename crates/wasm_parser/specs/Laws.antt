@@ -5,13 +5,12 @@ use Rattle.wasm_base.specs.FaultAt.{FaultAt}
 use Rattle.wasm_parser.specs.Content.{Ending, fault, ended}
 use Rattle.wasm_parser.specs.Grammar.{Tile, tile, verdict}
 use Rattle.wasm_parser.specs.Shifted.{shifted_events, PassesTheTop}
-use Rattle.wasm_parser.specs.Reading.{Event, events_of, last_event, Reads, Reading}
-use Rattle.wasm_parser.specs.NextEvent.{NextEvent}
+use Rattle.wasm_parser.specs.Reading.{Event, events_of, last_event, Reads, Reading, Stream}
+use Rattle.wasm_parser.specs.GivesNextEvent.{NextEvent}
 use Rattle.wasm_parser.specs.SectionEvents.{SaysItsBytes}
 use Rattle.wasm_parser.specs.EventRanges.{consumed_by, AtOffsets, EndToEnd}
 use Rattle.wasm_parser.specs.ParserState.{ParserState, IsStateAfter, grammar_of}
 use Rattle.wasm_parser.specs.StateAfter.{state_after_tile}
-use Rattle.wasm_parser.specs.Stream.{Stream}
 use Rattle.wasm_parser.specs.Tiling.{bytes_of, grammar, Faultless}
 
 -- two readings of one stream are one

@@ -1,5 +1,5 @@
 -- The reading of a whole stream. Core specification, Binary format, Modules.
-use Rattle.std.specs.Prelude.{◌≡◌, ℕ, ◌+◌, ◌-◌, List, [], ◌∷◌, ◌++◌, length, Some}
+use Rattle.std.specs.Prelude.{◌≡◌, ℕ, ◌+◌, ◌-◌, List, [], ◌∷◌, ◌++◌, length, Some, ◌^◌, ◌<◌, All}
 use Rattle.wasm_base.specs.FaultAt.{FaultAt}
 use Rattle.wasm_base.specs.Name.{Name, named, refused, name_limit, name}
 use Rattle.wasm_base.specs.Window.{Window}
@@ -8,6 +8,11 @@ use Rattle.wasm_parser.specs.Grammar
 use Rattle.wasm_parser.specs.Grammar.{Shape, section, Tile, final, verdict}
 use Rattle.wasm_parser.specs.Tiling.{bytes_of, grammar, Faultless}
 use Rattle.wasm_parser.specs.declared.payload.Encoding.{Encoding}
+
+-- A stream: bytes, and the offset at which they begin.
+pub record Stream (bytes : List ℕ) (start : ℕ) : Type 0 where
+  pub each : All (λ b. b < 256) bytes
+  pub fits : start + length bytes < 2 ^ 64
 
 -- what is reported of a tile, with the offsets of the stream
 pub data Report : Type 0 where

@@ -2,9 +2,8 @@
 use Rattle.std.specs.Prelude.{◌≡◌, ℕ, List, ◌∷◌, ◌++◌, AllPairs}
 use Rattle.wasm_parser.specs.declared.payload.Encoding.{Encoding}
 use Rattle.wasm_parser.specs.Accepted.{IsAccepted}
-use Rattle.wasm_parser.specs.Reading.{code_start, Event, Reading}
+use Rattle.wasm_parser.specs.Reading.{code_start, Event, Reading, Stream}
 use Rattle.wasm_parser.specs.Sections.{sections_of, TiledBySections, BeginsAs, RanksBelow, BodiesFollow}
-use Rattle.wasm_parser.specs.Stream.{Stream}
 
 -- an accepted stream is its header and then the sections that its reading reports, in their order: of each its id, its
 -- length, and the bytes of its range

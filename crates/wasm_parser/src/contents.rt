@@ -1,13 +1,10 @@
 // What the content of a section begins with.
-ghost use Rattle.std.specs.Prelude.{◌≡◌};
+ghost use Rattle.std.specs.Prelude.{◌≡◌, ◌+◌, ◌<◌, ◌^◌, option_to_list};
 ghost use Rattle.wasm_base.specs.Outcome.{Gives};
 ghost use Rattle.wasm_base.specs.Window.{place, KeepsWindow};
-ghost use Rattle.wasm_parser.specs.ParseAnswer.{ReadsByGrammar};
 ghost use Rattle.wasm_parser.specs.Content.{custom, items, index, data_count, unknown};
-ghost use Rattle.wasm_parser.specs.ContentAt.{content_at};
-ghost use Rattle.wasm_parser.specs.Counts.{kind_of_module, ReadsCounted};
-ghost use Rattle.wasm_parser.specs.Grammar.{SectionContext, whole_grammar};
-ghost use Rattle.wasm_parser.specs.SingleNumber.{ReadsSingleNumber};
+ghost use Rattle.wasm_parser.specs.ParseAnswer.{report_of};
+ghost use Rattle.wasm_parser.specs.ReadsPart.{content_at, is_lacking, is_miscounted_by, is_other, kind_of_module, ReadsAnywhere, ReadsCodeStart, ReadsCounted, ReadsItems, ReadsSingleNumber};
 
 use crate::payload::Payload;
 use crate::sections::{
@@ -19,7 +16,7 @@ use wasm_custom::CustomSectionReader;
 
 /// The content of a custom section.
 pub(crate) fn custom<'a>(id: u8, size: u32, reader: &mut BinaryReader<'a>) -> Result<Payload<'a>>
-    ensures { (context : SectionContext) → ReadsByGrammar (whole_grammar context custom id (place reader.old).offset size) (place reader.old) result (place reader.new) }
+    ensures { ReadsAnywhere custom id size (place reader.old) result (place reader.new) }
 {
     let window = window(size, reader)?;
     Ok(Payload::CustomSection(CustomSectionReader::new(window)?))
@@ -27,7 +24,7 @@ pub(crate) fn custom<'a>(id: u8, size: u32, reader: &mut BinaryReader<'a>) -> Re
 
 /// The content of a start section: the index of a function.
 pub(crate) fn start<'a>(id: u8, size: u32, reader: &mut BinaryReader<'a>) -> Result<Payload<'a>>
-    ensures { (context : SectionContext) → ReadsByGrammar (whole_grammar context index id (place reader.old).offset size) (place reader.old) result (place reader.new) }
+    ensures { ReadsAnywhere index id size (place reader.old) result (place reader.new) }
 {
     let window = window(size, reader)?;
     let range = window.range();
@@ -41,7 +38,7 @@ pub(crate) fn data_count<'a>(
     size: u32,
     reader: &mut BinaryReader<'a>,
 ) -> Result<Payload<'a>>
-    ensures { (context : SectionContext) → ReadsByGrammar (whole_grammar context data_count id (place reader.old).offset size) (place reader.old) result (place reader.new) }
+    ensures { ReadsAnywhere data_count id size (place reader.old) result (place reader.new) }
 {
     let window = window(size, reader)?;
     let range = window.range();
@@ -51,7 +48,7 @@ pub(crate) fn data_count<'a>(
 
 /// The content of an unknown section.
 pub(crate) fn unknown<'a>(id: u8, size: u32, reader: &mut BinaryReader<'a>) -> Result<Payload<'a>>
-    ensures { (context : SectionContext) → ReadsByGrammar (whole_grammar context unknown id (place reader.old).offset size) (place reader.old) result (place reader.new) }
+    ensures { ReadsAnywhere unknown id size (place reader.old) result (place reader.new) }
 {
     let window = window(size, reader)?;
     Ok(Payload::UnknownSection {
@@ -62,7 +59,7 @@ pub(crate) fn unknown<'a>(id: u8, size: u32, reader: &mut BinaryReader<'a>) -> R
 }
 
 /// So many bytes as a window of their own.
-#[tactic(auto, unfolding(crate::specs::ContentAt::content_at))]
+#[tactic(auto, unfolding(crate::specs::ReadsPart::content_at))]
 pub(crate) fn window<'a>(size: u32, reader: &mut BinaryReader<'a>) -> Result<BinaryReader<'a>>
     ensures gives { Gives (λ window. window) result (place reader.new) (content_at size (place reader.old)) }
     ensures keeps { KeepsWindow reader.old reader.new }
@@ -92,6 +89,63 @@ pub(crate) fn counted<'a>(id: u8, window: BinaryReader<'a>) -> Result<Payload<'a
     })
 }
 
+/// The content of a section that is a count, and so many items. The data section has as many as were announced.
+pub(crate) fn items<'a>(
+    announced: Option<u32>,
+    id: u8,
+    size: u32,
+    reader: &mut BinaryReader<'a>,
+) -> Result<Payload<'a>>
+    requires { kind_of_module id ≡ items }
+    ensures { ReadsItems announced id size (place reader.old) result (place reader.new) }
+{
+    let window = window(size, reader)?;
+    let payload = counted(id, window)?;
+    if is_miscounted(announced, &payload) {
+        return Err(Error::new(Fault::DataCountDiffer, reader.original_position()));
+    }
+    Ok(payload)
+}
+
+// Whether another count of data segments was announced.
+fn is_miscounted(announced: Option<u32>, payload: &Payload) -> bool
+    ensures { result ≡ is_miscounted_by (option_to_list announced) (report_of payload.now) }
+{
+    match payload {
+        Payload::DataSection(section) => differs(announced, section.count()),
+        _ => false,
+    }
+}
+
+/// The start of a code section: a count of bodies, each of which has its function.
+pub(crate) fn code<'a>(
+    functions: Option<u32>,
+    size: u32,
+    reader: &mut BinaryReader<'a>,
+) -> Result<Payload<'a>>
+    requires { (place reader.old).offset + size < 2 ^ 64 }
+    ensures { ReadsCodeStart functions size (place reader.old) result (place reader.new) }
+{
+    let start = reader.original_position();
+    let end = start + u64::from(size);
+    let count = reader.read_var_u32()?;
+    let after = reader.original_position();
+    if end < after {
+        return Err(Error::new(Fault::UnexpectedEof, start));
+    }
+    if differs(functions, count) {
+        return Err(Error::new(Fault::FunctionCodeDiffer, start));
+    }
+    if lacks(Some(count), functions) {
+        return Err(Error::new(Fault::CodeWithoutFunction, start));
+    }
+    Ok(Payload::CodeSectionStart {
+        count,
+        unchecked_range: start..end,
+        size: (end - after) as u32,
+    })
+}
+
 // The one number that the rest of a window is. A byte after the number is this fault.
 fn single(mut window: BinaryReader, left: Fault) -> Result<u32>
     ensures { ReadsSingleNumber left (place window.entry) result }
@@ -101,4 +155,24 @@ fn single(mut window: BinaryReader, left: Fault) -> Result<u32>
         return Err(Error::new(left, window.original_position()));
     }
     Ok(number)
+}
+
+// Whether a count is known, and is not this one.
+fn differs(known: Option<u32>, count: u32) -> bool
+    ensures { result ≡ is_other known count }
+{
+    match known {
+        Some(known) => known != count,
+        None => false,
+    }
+}
+
+/// Whether there is a count above 0, and not the other one that it wants.
+pub(crate) fn lacks(count: Option<u32>, other: Option<u32>) -> bool
+    ensures { result ≡ is_lacking count other }
+{
+    match count {
+        Some(count) => count > 0 && other.is_none(),
+        None => false,
+    }
 }

@@ -2,8 +2,8 @@
 ghost use Rattle.std.specs.Prelude.{◌≡◌, ◌&&◌, length, nat_le};
 ghost use Rattle.wasm_base.specs.Header.{magic, agree};
 ghost use Rattle.wasm_base.specs.Window.{place};
-ghost use Rattle.wasm_parser.specs.ParseAnswer.{MatchesVerdict};
-ghost use Rattle.wasm_parser.specs.Grammar.{verdict, header_grammar, encoding_named as named};
+ghost use Rattle.wasm_parser.specs.Grammar.{encoding_named as named};
+ghost use Rattle.wasm_parser.specs.ReadsPart.{ReadsHeader};
 
 use crate::payload::{Encoding, Payload};
 use wasm_base::{BinaryReader, Error, Fault, Result};
@@ -23,7 +23,7 @@ fn encoding_named(version: u16, kind: u16) -> Option<Encoding>
 
 /// Reads a header.
 pub(crate) fn read_header<'a>(reader: &mut BinaryReader<'a>) -> Result<Payload<'a>>
-    ensures { MatchesVerdict (place reader.old).offset (place reader.old) (verdict (header_grammar (place reader.old).offset) (place reader.old).rest) result (place reader.new) }
+    ensures { ReadsHeader (place reader.old) result (place reader.new) }
 {
     let start = reader.original_position();
     let bits = reader.read_header_version()?;

@@ -1,22 +1,18 @@
 // The parser of a stream.
-ghost use Rattle.std.specs.List.{list_all, list_any};
-ghost use Rattle.std.specs.Prelude.{⊤, ◌≡◌, ◌+◌, ◌-◌, ◌<◌, ◌^◌, ◌==◌, ◌&&◌, not, IsTrue, true, false, [], length, nat_lt, nat_eq, option_to_list};
+ghost use Rattle.std.specs.Prelude.{⊤, ◌≡◌, ◌+◌, ◌<◌, ◌^◌, ◌&&◌, not, IsTrue, true, false, [], length, nat_lt, nat_eq};
 ghost use Rattle.wasm_base.specs.Features.{feature_bits};
-ghost use Rattle.wasm_base.specs.Outcome.{Gives};
 ghost use Rattle.wasm_base.specs.Window.{place};
-ghost use Rattle.wasm_parser.specs.ParseAnswer.{report_of, MatchesVerdict, ReadsByGrammar, Advances, Consumes, ParseAnswer, FaultsWithin, IsUnchanged};
-ghost use Rattle.wasm_parser.specs.Content.{custom, items, data_count, unknown, kind_of as form_of};
-ghost use Rattle.wasm_parser.specs.Counts.{kind_of_module, is_miscounted_by};
-ghost use Rattle.wasm_parser.specs.Grammar.{verdict, section_grammar, after_id as after_id_grammar, after_length as after_length_grammar, content_grammar, whole_grammar, code_grammar, body_grammar};
-ghost use Rattle.wasm_parser.specs.Kinds.{kind_is};
-ghost use Rattle.wasm_parser.specs.Reading.{window_over};
-ghost use Rattle.wasm_parser.specs.BeginsWithHeader.{begins_with_header};
-ghost use Rattle.wasm_parser.specs.ParserState.{initial_state, known_context, grammar_of};
+ghost use Rattle.wasm_parser.specs.Accepted.{begins_with_header};
+ghost use Rattle.wasm_parser.specs.Content.{kind_of as form_of, kind_is};
 ghost use Rattle.wasm_parser.specs.GivesNextEvent.{GivesNextEvent};
 ghost use Rattle.wasm_parser.specs.ParseAll.{walk_over, WalksWhole};
+ghost use Rattle.wasm_parser.specs.ParseAnswer.{Advances, Consumes, ParseAnswer, FaultsWithin, IsUnchanged};
+ghost use Rattle.wasm_parser.specs.ParserState.{initial_state};
+ghost use Rattle.wasm_parser.specs.Reading.{window_over};
+ghost use Rattle.wasm_parser.specs.ReadsPart.{HasSection, ReadsAfterId, ReadsAfterLength, ReadsBody, ReadsContent, ReadsNext, ReadsSection};
 ghost use Rattle.wasm_parser.specs.declared.payload.Encoding.TheVariants.{Module, Component};
 
-use crate::contents::{counted, custom, data_count, start, unknown, window};
+use crate::contents::{code, custom, data_count, items, lacks, start, unknown, window};
 use crate::header::{magic_follows, read_header};
 use crate::parse_all::ParseAll;
 use crate::payload::{Chunk, Encoding, Payload};
@@ -59,7 +55,19 @@ impl Model for Parser {
 
     ghost Value = { ParserState };
 
-    ghost view = { λ p. record { offset = p.offset; features = feature_bits p.features; expects_header = p.expects_header; encoding = p.encoding; rank = p.rank; functions = p.functions; codes = p.codes; datas = p.datas; data_counts = p.data_counts; bodies = p.bodies; left = p.left } };
+    ghost view = { λ p. record {
+      offset = p.offset;
+      features = feature_bits p.features;
+      expects_header = p.expects_header;
+      encoding = p.encoding;
+      rank = p.rank;
+      functions = p.functions;
+      codes = p.codes;
+      datas = p.datas;
+      data_counts = p.data_counts;
+      bodies = p.bodies;
+      left = p.left;
+    } };
 }
 
 impl Clone for Parser {
@@ -217,7 +225,7 @@ impl Parser {
     // What comes where a section may start, and bytes are left.
     fn section<'a>(&self, reader: &mut BinaryReader<'a>) -> Result<Payload<'a>>
         requires { 0 < length (place reader.old).rest }
-        ensures { ReadsByGrammar (section_grammar (known_context self.now) (place reader.old).offset) (place reader.old) result (place reader.new) }
+        ensures { ReadsSection self.now (place reader.old) result (place reader.new) }
     {
         let start = reader.original_position();
         if magic_follows(reader) {
@@ -230,7 +238,7 @@ impl Parser {
     // A section with this id, which is at this offset, just before the reader.
     fn after_id<'a>(&self, start: u64, id: u8, reader: &mut BinaryReader<'a>) -> Result<Payload<'a>>
         requires { start + 1 ≡ (place reader.old).offset }
-        ensures { ReadsByGrammar (after_id_grammar (known_context self.now) start id) (place reader.old) result (place reader.new) }
+        ensures { ReadsAfterId self.now start id (place reader.old) result (place reader.new) }
     {
         if id >= 128 {
             return Err(Error::new(Fault::MalformedSectionId, start));
@@ -248,7 +256,7 @@ impl Parser {
         size: u32,
         reader: &mut BinaryReader<'a>,
     ) -> Result<Payload<'a>>
-        ensures { ReadsByGrammar (after_length_grammar (known_context self.now) (form_of self.now.encoding id) id field (place reader.old).offset size) (place reader.old) result (place reader.new) }
+        ensures { ReadsAfterLength self.now id field size (place reader.old) result (place reader.new) }
     {
         if u64::from(size) > u64::MAX - reader.original_position() {
             return Err(Error::new(Fault::SectionTooLarge, field).with_number(u64::from(size)));
@@ -270,14 +278,14 @@ impl Parser {
     ) -> Result<Payload<'a>>
         requires known { kind_is kind ≡ form_of self.now.encoding id }
         requires fits { (place reader.old).offset + size < 2 ^ 64 }
-        ensures { ReadsByGrammar (content_grammar (known_context self.now) (kind_is kind) id (place reader.old).offset size) (place reader.old) result (place reader.new) }
+        ensures { ReadsContent self.now (kind_is kind) id size (place reader.old) result (place reader.new) }
     {
         match kind {
             Kind::Custom => custom(id, size, reader),
-            Kind::Items => self.items(id, size, reader),
+            Kind::Items => items(self.data_counts, id, size, reader),
             Kind::Index => start(id, size, reader),
             Kind::DataCount => data_count(id, size, reader),
-            Kind::Code => self.code(size, reader),
+            Kind::Code => code(self.functions, size, reader),
             Kind::Unknown => unknown(id, size, reader),
         }
     }
@@ -285,8 +293,8 @@ impl Parser {
     // What comes where the parser is, if bytes are left there, or a header or a body is expected.
     fn read<'a>(&self, reader: &mut BinaryReader<'a>) -> Result<Payload<'a>>
         requires starts { (place reader.old).offset ≡ self.now.offset }
-        requires some { self.now.expects_header ≡ false → nat_eq (self.now.bodies + self.now.left) 0 ≡ true → 0 < length (place reader.old).rest }
-        ensures { MatchesVerdict self.now.offset (place reader.old) (verdict (grammar_of self.now) (place reader.old).rest) result (place reader.new) }
+        requires some { HasSection self.now (place reader.old) }
+        ensures { ReadsNext self.now (place reader.old) result (place reader.new) }
     {
         if self.expects_header {
             read_header(reader)
@@ -392,57 +400,9 @@ impl Parser {
         })
     }
 
-    // The content of a section that is a count, and so many items. The data section has as many as were announced.
-    fn items<'a>(&self, id: u8, size: u32, reader: &mut BinaryReader<'a>) -> Result<Payload<'a>>
-        requires { kind_of_module id ≡ items }
-        ensures { ReadsByGrammar (whole_grammar (known_context self.now) items id (place reader.old).offset size) (place reader.old) result (place reader.new) }
-    {
-        let window = window(size, reader)?;
-        let payload = counted(id, window)?;
-        if self.is_miscounted(&payload) {
-            return Err(Error::new(Fault::DataCountDiffer, reader.original_position()));
-        }
-        Ok(payload)
-    }
-
-    // Whether another count of data segments was announced.
-    fn is_miscounted(&self, payload: &Payload) -> bool
-        ensures { result ≡ is_miscounted_by (option_to_list self.now.data_counts) (report_of payload.now) }
-    {
-        match payload {
-            Payload::DataSection(section) => differs(self.data_counts, section.count()),
-            _ => false,
-        }
-    }
-
-    // The head of a code section: a count of bodies, each of which has its function.
-    fn code<'a>(&self, size: u32, reader: &mut BinaryReader<'a>) -> Result<Payload<'a>>
-        requires { (place reader.old).offset + size < 2 ^ 64 }
-        ensures { ReadsByGrammar (code_grammar (known_context self.now) (place reader.old).offset size) (place reader.old) result (place reader.new) }
-    {
-        let start = reader.original_position();
-        let end = start + u64::from(size);
-        let count = reader.read_var_u32()?;
-        let after = reader.original_position();
-        if end < after {
-            return Err(Error::new(Fault::UnexpectedEof, start));
-        }
-        if differs(self.functions, count) {
-            return Err(Error::new(Fault::FunctionCodeDiffer, start));
-        }
-        if lacks(Some(count), self.functions) {
-            return Err(Error::new(Fault::CodeWithoutFunction, start));
-        }
-        Ok(Payload::CodeSectionStart {
-            count,
-            unchecked_range: start..end,
-            size: (end - after) as u32,
-        })
-    }
-
     // A body of a code section that isn't at its end.
     fn body<'a>(&self, reader: &mut BinaryReader<'a>) -> Result<Payload<'a>>
-        ensures { ReadsByGrammar (body_grammar self.now.bodies self.now.left (place reader.old).offset) (place reader.old) result (place reader.new) }
+        ensures { ReadsBody self.now (place reader.old) result (place reader.new) }
     {
         let start = reader.original_position();
         if self.bodies == 0 {
@@ -454,25 +414,5 @@ impl Parser {
             return Err(Error::new(Fault::UnexpectedEof, start));
         }
         Ok(Payload::CodeSectionEntry(FunctionBody::new(window)))
-    }
-}
-
-// Whether a count is known, and is not this one.
-fn differs(known: Option<u32>, count: u32) -> bool
-    ensures { result ≡ not (list_all (nat_eq count) (option_to_list known)) }
-{
-    match known {
-        Some(known) => known != count,
-        None => false,
-    }
-}
-
-// Whether there is a count above 0, and not the other one that it wants.
-fn lacks(count: Option<u32>, other: Option<u32>) -> bool
-    ensures { result ≡ (list_any (nat_lt 0) (option_to_list count) && nat_eq (length (option_to_list other)) 0) }
-{
-    match count {
-        Some(count) => count > 0 && other.is_none(),
-        None => false,
     }
 }

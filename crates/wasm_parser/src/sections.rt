@@ -1,7 +1,6 @@
 // Sections by their id.
 ghost use Rattle.std.specs.Prelude.{◌≡◌, slice_index};
-ghost use Rattle.wasm_parser.specs.Content.{kind_of as form_of, rank_of as rank_in, ranks};
-ghost use Rattle.wasm_parser.specs.Kinds.{kind_is};
+ghost use Rattle.wasm_parser.specs.Content.{kind_of as form_of, rank_of as rank_in, ranks, kind_is};
 ghost use Rattle.wasm_parser.specs.declared.payload.Encoding.TheVariants.{Module};
 
 use crate::payload::Encoding;

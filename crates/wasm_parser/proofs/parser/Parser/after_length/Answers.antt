@@ -2,8 +2,7 @@ use Rattle.std.proofs.Common.{Some, sym, ap, arith, ◌∙◌}
 use Rattle.wasm_base.specs.FaultAt.{at_offset}
 use Rattle.wasm_base.specs.Window.{place}
 use Rattle.wasm_base.specs.declared.fault.Fault.TheVariants.{OutOfOrder}
-use Rattle.wasm_parser.specs.Content.{kind_of}
-use Rattle.wasm_parser.specs.Kinds.{kind_is}
+use Rattle.wasm_parser.specs.Content.{kind_of, kind_is}
 use Rattle.wasm_parser.specs.ParserState.{known_context}
 use Rattle.wasm_parser.proofs.Framed.{sized_large, sized_as, sized_disordered, sized_ordered}
 use Rattle.wasm_parser.proofs.parser.Parser.after_length.Goals as goal

@@ -2,7 +2,8 @@ use Rattle.std.proofs.Common.{ap, ◌∙◌, arith}
 use Rattle.wasm_base.specs.FaultAt.{at_offset}
 use Rattle.wasm_base.specs.declared.fault.Fault.TheVariants.{FunctionWithoutCode, DataCountWithoutData}
 use Rattle.wasm_parser.specs.ParserState.{ParserState}
-use Rattle.wasm_parser.proofs.Parsing.{is_lacking, functions_alone, data_count_alone, nothing_lacks}
+use Rattle.wasm_parser.specs.ReadsPart.{is_lacking}
+use Rattle.wasm_parser.proofs.Parsing.{functions_alone, data_count_alone, nothing_lacks}
 use Rattle.wasm_parser.proofs.parser.Parser.end.Goals as goal
 
 pub returns-then-lacks : goal.returns-then-lacks

@@ -1,0 +1,112 @@
+-- What each part of a stream is read as, by what a parser knows before it.
+use Rattle.std.specs.Prelude.{nat_lt, ◌≡◌, ℕ, ◌+◌, ◌<◌, false, true, length, Option, option_to_list, nat_eq, Result, Ok, Some, None, Err, Bool, ◌&&◌, not, List, ◌==◌}
+use Rattle.wasm_base.specs.Window.{Place, Window, place, KeepsWindow}
+use Rattle.wasm_base.specs.declared.error.Error.{Error}
+use Rattle.wasm_parser.specs.Content.{Kind, items, kind_of, wrong_single, value_of}
+use Rattle.wasm_parser.specs.Grammar.{SectionContext, verdict, header_grammar, section_grammar, after_id, after_length, content_grammar, whole_grammar, code_grammar, body_grammar}
+use Rattle.wasm_parser.specs.ParseAnswer.{MatchesVerdict, ReadsByGrammar, items_in}
+use Rattle.wasm_parser.specs.ParserState.{ParserState, known_context, grammar_of}
+use Rattle.wasm_parser.specs.declared.payload.Payload.{Payload}
+use Rattle.wasm_base.specs.Name.{bytes_at}
+use Rattle.wasm_base.specs.Outcome.{Outcome, ◌>>=◌}
+use Rattle.wasm_parser.specs.Reading.{window_over, Report, version, counted, start_section, data_count_section, code_start, code_entry, custom_section, unknown_section, stream_end}
+use Rattle.wasm_base.specs.FaultAt.{fault_at}
+use Rattle.wasm_base.specs.Number.{number, unsigned_at}
+use Rattle.wasm_base.specs.declared.fault.Fault.{Fault}
+use Rattle.wasm_base.specs.declared.fault.NumberKind.TheVariants.{VarU32}
+use Rattle.std.specs.List.{list_all, list_any}
+use Rattle.wasm_base.specs.Section.{Section}
+use Rattle.wasm_parser.specs.declared.payload.Encoding.TheVariants.{Module}
+
+-- what comes where the parser is
+abbrev pub ReadsNext : ParserState → (before : Place) → Result Payload Error → (after : Place) → Type 0
+ReadsNext p before result after = MatchesVerdict p.offset before (verdict (grammar_of p) before.rest) result after
+
+-- Bytes are left where a section may start.
+abbrev pub HasSection : ParserState → Place → Type 0
+HasSection p before = p.expects_header ≡ false → nat_eq (p.bodies + p.left) 0 ≡ true → 0 < length before.rest
+
+-- a header
+abbrev pub ReadsHeader : (before : Place) → Result Payload Error → (after : Place) → Type 0
+ReadsHeader before result after = MatchesVerdict before.offset before (verdict (header_grammar before.offset) before.rest) result after
+
+-- a section
+abbrev pub ReadsSection : ParserState → (before : Place) → Result Payload Error → (after : Place) → Type 0
+ReadsSection p before result after = ReadsByGrammar (section_grammar (known_context p) before.offset) before result after
+
+-- what comes after the id of a section, which is at this offset
+abbrev pub ReadsAfterId : ParserState → (start id : ℕ) → (before : Place) → Result Payload Error → (after : Place) → Type 0
+ReadsAfterId p start id before result after = ReadsByGrammar (after_id (known_context p) start id) before result after
+
+-- what comes after the length of a section, whose field is at this offset
+abbrev pub ReadsAfterLength : ParserState → (id field size : ℕ) → (before : Place) → Result Payload Error → (after : Place) → Type 0
+ReadsAfterLength p id field size before result after =
+    ReadsByGrammar (after_length (known_context p) (kind_of p.encoding id) id field before.offset size) before result after
+
+-- the content of a section of this kind
+abbrev pub ReadsContent : ParserState → Kind → (id size : ℕ) → (before : Place) → Result Payload Error → (after : Place) → Type 0
+ReadsContent p kind id size before result after =
+    ReadsByGrammar (content_grammar (known_context p) kind id before.offset size) before result after
+
+-- the content of a section that is whole, whatever came before it
+abbrev pub ReadsAnywhere : Kind → (id size : ℕ) → (before : Place) → Result Payload Error → (after : Place) → Type 0
+ReadsAnywhere kind id size before result after = (context : SectionContext) →
+    ReadsByGrammar (whole_grammar context kind id before.offset size) before result after
+
+-- the content of a section of items, after a data count section with this count, or none
+abbrev pub ReadsItems : Option ℕ → (id size : ℕ) → (before : Place) → Result Payload Error → (after : Place) → Type 0
+ReadsItems announced id size before result after = (context : SectionContext) → context.data_counts ≡ option_to_list announced →
+    ReadsByGrammar (whole_grammar context items id before.offset size) before result after
+
+-- a code section up to its count, after a function section with this count, or none
+abbrev pub ReadsCodeStart : Option ℕ → (size : ℕ) → (before : Place) → Result Payload Error → (after : Place) → Type 0
+ReadsCodeStart functions size before result after = (context : SectionContext) → context.functions ≡ option_to_list functions →
+    ReadsByGrammar (code_grammar context before.offset size) before result after
+
+-- one body
+abbrev pub ReadsBody : ParserState → (before : Place) → Result Payload Error → (after : Place) → Type 0
+ReadsBody p before result after = ReadsByGrammar (body_grammar p.bodies p.left before.offset) before result after
+
+-- so many bytes as a window of their own
+unfoldable pub content_at : ℕ → Place → Outcome Window
+content_at size p = do
+  bytes ← bytes_at size p
+  Ok (window_over p.features p.offset bytes.0, bytes.1)
+
+-- From here to the window's end there is nothing but the number, or this is wrong with it; a byte after it is the
+-- given fault.
+abbrev pub ReadsSingleNumber : Fault → Place → Result ℕ Error → Type 0
+ReadsSingleNumber left p (Ok value) = (wrong_single left p.offset p.rest (number VarU32 p.rest) ≡ None) × (value_of (number VarU32 p.rest) ≡ value)
+ReadsSingleNumber left p (Err e) = wrong_single left p.offset p.rest (number VarU32 p.rest) ≡ Some (fault_at e)
+
+-- the kind of a module's section with this id
+abbrev pub kind_of_module : ℕ → Kind
+kind_of_module id = kind_of Module id
+
+-- The section was made of the window: its count was read, and its reader is after that.
+pub record IsCounted (w : Window) (s : Section) : Type 0 where
+  pub gives : unsigned_at VarU32 (place w) ≡ Ok (s.count, place s.reader)
+  pub keeps : KeepsWindow w s.reader
+
+-- The section with this id was made of the window.
+abbrev pub IsCountedAs : ℕ → Window → Option (ℕ × Section) → Type 0
+IsCountedAs id w (Some x) = (x.0 ≡ id) × IsCounted w x.1
+IsCountedAs id w None = ⊥
+
+-- The section with this id was made of the window, or its count has this fault.
+abbrev pub ReadsCounted : ℕ → Window → Result Payload Error → Type 0
+ReadsCounted id w (Ok payload) = IsCountedAs id w (items_in payload)
+ReadsCounted id w (Err e) = unsigned_at VarU32 (place w) ≡ Err (fault_at e)
+
+-- A data section has another count than these.
+abbrev pub is_miscounted_by : List ℕ → Report → Bool
+is_miscounted_by counts (counted id count window) = id == 11 && not (list_all (nat_eq count) counts)
+is_miscounted_by counts other = false
+
+-- There is a count, and it is not this one.
+abbrev pub is_other : Option ℕ → ℕ → Bool
+is_other known count = not (list_all (nat_eq count) (option_to_list known))
+
+-- There is a count above 0, and not the other one that it wants.
+abbrev pub is_lacking : Option ℕ → Option ℕ → Bool
+is_lacking count other = list_any (nat_lt 0) (option_to_list count) && nat_eq (length (option_to_list other)) 0
