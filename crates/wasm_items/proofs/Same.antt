@@ -1,5 +1,5 @@
 -- Derived comparisons tell whether two values are the same.
-use Rattle.std.proofs.Common.{◌≡◌, ℕ, true, List, nat_eq, refl, ap, subst, sym}
+use Rattle.std.proofs.Common.{◌≡◌, ℕ, true, List, nat_eq, refl, subst, sym}
 use lib.Pointwise.{pointwise}
 use Rattle.std.specs.Cmp.Derive.{both_true}
 use Rattle.std.specs.Cmp.Lexicographic.{same_text}
@@ -23,18 +23,13 @@ use Rattle.wasm_items.specs.contracts.exports.ExternalKindPartialEq.TheImpl as E
 use Rattle.wasm_items.specs.contracts.imports.ImportPartialEq.TheImpl as ImportCompared
 use Rattle.wasm_items.specs.contracts.imports.ImportItemCompactPartialEq.TheImpl as ImportItemCompactCompared
 use Rattle.wasm_items.specs.contracts.exports.ExportPartialEq.TheImpl as ExportCompared
-use Rattle.wasm_items.specs.declared.types.HeapType.{HeapType}
 use Rattle.wasm_items.specs.declared.types.RefType.{RefType}
-use Rattle.wasm_items.specs.declared.types.ValType.{ValType}
-use Rattle.wasm_items.specs.declared.types.StorageType.{StorageType}
 use Rattle.wasm_items.specs.declared.types.FieldType.{FieldType}
 use Rattle.wasm_items.specs.declared.types.TableType.{TableType}
 use Rattle.wasm_items.specs.declared.types.MemoryType.{MemoryType}
 use Rattle.wasm_items.specs.declared.types.GlobalType.{GlobalType}
 use Rattle.wasm_items.specs.declared.types.TagKind.{TagKind}
 use Rattle.wasm_items.specs.declared.types.TagType.{TagType}
-use Rattle.wasm_items.specs.declared.imports.TypeRef.{TypeRef}
-use Rattle.wasm_items.specs.declared.exports.ExternalKind.{ExternalKind}
 use Rattle.wasm_items.specs.declared.imports.Import.{Import}
 use Rattle.wasm_items.specs.declared.imports.ImportItemCompact.{ImportItemCompact}
 use Rattle.wasm_items.specs.declared.exports.Export.{Export}

@@ -1,5 +1,5 @@
 -- Nothing is wrong with a section's content exactly if it is good.
-use Rattle.std.proofs.Common.{◌≡◌, ℕ, zero, suc, ◌+◌, ◌≤◌, List, length, Some, None, nat_lt, refl, ap, subst, arith, le-ltb, ltb-false}
+use Rattle.std.proofs.Common.{◌≡◌, ℕ, ◌+◌, ◌≤◌, List, length, Some, None, nat_lt, refl, ap, subst, arith, le-ltb, ltb-false}
 use Rattle.wasm_base.specs.FaultAt.{at_offset}
 use Rattle.wasm_base.specs.Name.{Name, named, refused, name_limit, name}
 use Rattle.wasm_base.specs.Number.{Number, read, bad, short, number}
@@ -7,9 +7,7 @@ use Rattle.wasm_base.specs.declared.fault.Fault.{Fault}
 use Rattle.wasm_base.specs.declared.fault.Fault.TheVariants.{StartContent, DataCountContent}
 use Rattle.wasm_base.specs.declared.fault.NumberKind.TheVariants.{VarU32}
 use Rattle.wasm_base.proofs.NumberLaws.{number-used, Used}
-use Rattle.wasm_parser.specs.declared.payload.Encoding.{Encoding}
-use Rattle.wasm_parser.specs.declared.payload.Encoding.TheVariants.{Module, Component}
-use Rattle.wasm_parser.specs.Content.{Kind, custom, items, index, data_count, code, unknown, kind_of, wrong_name, wrong_number, wrong_single, wrong_content}
+use Rattle.wasm_parser.specs.Content.{Kind, custom, items, index, data_count, code, unknown, wrong_name, wrong_number, wrong_single, wrong_content}
 use Rattle.wasm_parser.specs.Accepted.{IsNumber, IsGood}
 use Rattle.wasm_parser.proofs.StateLaws.{none_when}
 use Rattle.wasm_parser.proofs.AcceptedTiles.{IsWhole}

@@ -1,10 +1,13 @@
 -- What is at the start of a section, and what is read there.
-use Rattle.std.proofs.Common.{◌≡◌, ℕ, ◌+◌, ◌-◌, ◌^◌, ◌<◌, ◌≤◌, Bool, true, false, cond, not, ◌&&◌, List, [], ◌∷◌, ◌++◌, length, take, drop, Some, None, Result, Ok, Err, nat_le, nat_lt, refl, sym, ap, subst, subst₂, ◌∙◌, arith, le-leb, add-zero, ltb-true, ltb-false, lt-ltb, le-ltb}
-use Rattle.std.proofs.lemmas.Bool.{lt-leb}
-use Rattle.std.proofs.lemmas.List.{length-take-le, take-append-drop}
+use Rattle.std.proofs.Common.{◌≡◌, ℕ, nat_eq, ◌+◌, ◌-◌, ◌^◌, ◌<◌, ◌≤◌, Bool, true, false, cond, not, ◌&&◌, List, [], ◌∷◌, length, take, drop, Some, None, Result, Ok, Err, nat_le, nat_lt, refl, sym, ap, subst, subst₂, ◌∙◌, arith, le-leb, add-zero, ltb-true, ltb-false, lt-ltb, le-ltb}
+use Prim.Native.Nat.compare
+use lib.Dec.{is_le}
+use Rattle.std.specs.List.{starts_with}
+use Rattle.std.proofs.lemmas.Bool.{lt-leb, eqb-true, eq-eqb}
+use Rattle.std.proofs.lemmas.List.{length-take-le}
 use Rattle.wasm_base.specs.FaultAt.{FaultAt, fault_at, at_offset}
 use Rattle.wasm_base.specs.Header.{magic, agree}
-use Rattle.wasm_base.specs.Name.{Name, named, refused, name_limit, name, name_in_window, text_at, first_of, byte_at, peeked_at}
+use Rattle.wasm_base.specs.Name.{Name, named, refused, name_limit, name, name_in_window, text_at, first_of, byte_at}
 use Rattle.wasm_base.specs.Number.{unsigned_at}
 use Rattle.wasm_base.specs.Outcome.{◌>>=◌}
 use Rattle.wasm_base.specs.Window.{Window, Place, place, advanced, KeepsWindow}
@@ -19,7 +22,6 @@ use Rattle.wasm_parser.specs.Grammar.{section, SectionContext, Grammar, check, n
 use Rattle.wasm_parser.specs.Reading.{section_report, custom_report, window_over, custom_section, unknown_section}
 use Rattle.wasm_parser.specs.declared.payload.Payload.{Payload}
 use Rattle.wasm_parser.specs.declared.payload.Payload.TheVariants.{CustomSection}
-use Rattle.wasm_parser.proofs.GrammarLaws.{agree_same}
 use Rattle.wasm_parser.proofs.ReadingFields.{report_at, report_bytes, report_missing, report_number, report_no_number, report_wrong, report_right, report_whole, ReadNumber, read_number}
 
 -- after an id of 128 or more
@@ -260,26 +262,22 @@ pub section_framed : (context : SectionContext) (p q : Place) (id : ℕ) (r : Re
     → ReadsByGrammar (after_id context p.offset id) q r a → ReadsByGrammar (section_grammar context p.offset) p r a
 section_framed context p q id r a m b next = framed_at p.rest context p q id r a refl m b next
 
--- four bytes say whether the magic is there
-and_true : (b : Bool) → b ≡ (b && true)
-and_true true = refl
-and_true false = refl
+-- bytes begin with others exactly if they agree with them, and are as many
+turned : (m n : ℕ) (a b : Bool) → nat_eq m n ≡ a → nat_eq n m ≡ b → a ≡ b
+turned m n true true p q = refl
+turned m n false false p q = refl
+turned m n true false p q = sym (eq-eqb n m (sym (eqb-true m n p))) ∙ q
+turned m n false true p q = sym p ∙ eq-eqb m n (sym (eqb-true n m q))
 
-magic_of_four : (xs : List ℕ) → 4 ≤ length xs → agree (take 4 xs) magic ≡ agree xs magic
-magic_of_four xs l =
-    let n : length (take 4 xs) ≡ 4 = length-take-le 4 xs l in
-    let e : agree (take 4 xs ++ drop 4 xs) magic ≡ agree (take 4 xs) magic = agree_same (take 4 xs) (drop 4 xs) magic (omega arith) in
-    subst (λ (x : List ℕ). agree (take 4 xs) magic ≡ agree x magic) (take-append-drop 4 xs) (sym e)
+begins_at : (b b' : Bool) → b ≡ b' → (r s l : Bool) → r ≡ (s && l) → (b && r) ≡ ((b' && s) && l)
+begins_at true b' e r s l h = rw (← e) h
+begins_at false b' e r s l h = rw (← e) refl
 
-peeked : (b : Bool) (p : Place) (prefix : List ℕ) (q : Place) → nat_lt (length p.rest) 4 ≡ b
-    → (let x : Result (List ℕ × Place) FaultAt = cond b (Err (at_offset UnexpectedEof p.offset)) (Ok (take 4 p.rest, p)) in x) ≡ Ok (prefix, q)
-    → agree prefix magic ≡ (agree p.rest magic && nat_le 4 (length p.rest))
-peeked true p prefix q t h = cc
-peeked false p prefix q t h =
-    let z : (take 4 p.rest, p) ≡ (prefix, q) = cc in
-    let f : take 4 p.rest ≡ prefix = ap (λ (w : List ℕ × Place). w.0) z in
-    let l : 4 ≤ length p.rest = ltb-false _ _ t in
-    rw (le-leb 4 (length p.rest) l) (sym (ap (λ (w : List ℕ). agree w magic) f) ∙ (magic_of_four p.rest l ∙ and_true (agree p.rest magic)))
+begins_with : (first bytes : List ℕ) → starts_with nat_eq bytes first ≡ (agree bytes first && nat_le (length first) (length bytes))
+begins_with [] [] = refl
+begins_with [] (x ∷ bytes) = sym (le-leb 0 (length (x ∷ bytes)) (omega arith))
+begins_with (m ∷ first) [] = sym (lt-leb (length (m ∷ first)) 0 (omega arith))
+begins_with (m ∷ first) (x ∷ bytes) = begins_at (nat_eq m x) (nat_eq x m) (turned m x _ _ refl refl) _ _ _ (begins_with first bytes) ∙ ap (λ o. (nat_eq x m && agree bytes first) && is_le o) (sym (compare.suc-suc (length first) (length bytes)))
 
-pub magic_seen : (p : Place) (prefix : List ℕ) (q : Place) → peeked_at 4 p ≡ Ok (prefix, q) → agree prefix magic ≡ (agree p.rest magic && nat_le 4 (length p.rest))
-magic_seen p prefix q h = peeked (nat_lt (length p.rest) 4) p prefix q refl h
+pub begins_with_magic : (bytes : List ℕ) → starts_with nat_eq bytes magic ≡ (agree bytes magic && nat_le 4 (length bytes))
+begins_with_magic bytes = begins_with magic bytes

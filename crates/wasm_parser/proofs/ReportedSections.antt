@@ -1,11 +1,11 @@
 -- The sections that are reported of tiles.
 use Rattle.std.specs.declared.ops.Range.{Range}
-use Rattle.std.proofs.Common.{◌≡◌, ℕ, zero, suc, ◌+◌, ◌-◌, Bool, true, false, cond, List, [], ◌∷◌, ◌++◌, length, Option, Some, None, option_to_list, nat_eq, refl, sym, ap, subst, ◌∙◌, arith, length-append, append-nil}
+use Rattle.std.proofs.Common.{◌≡◌, ℕ, ◌+◌, ◌-◌, Bool, true, false, cond, List, [], ◌∷◌, ◌++◌, length, Option, Some, None, option_to_list, nat_eq, refl, sym, ap, ◌∙◌, arith, length-append, append-nil}
 use Rattle.std.specs.List.{cons_option}
 use Rattle.std.proofs.lemmas.List.Elements.{filter_map-append}
 use Rattle.wasm_base.specs.Name.{Name, named, refused, name_limit, name}
 use Rattle.wasm_parser.specs.declared.payload.Encoding.{Encoding}
-use Rattle.wasm_parser.specs.declared.payload.Encoding.TheVariants.{Module, Component}
+use Rattle.wasm_parser.specs.declared.payload.Encoding.TheVariants.{Module}
 use Rattle.wasm_parser.specs.Content.{Kind, custom, items, index, data_count, code, unknown, kind_of, Ending, fault, ended}
 use Rattle.wasm_parser.specs.Grammar.{Shape, version, section, code_start, code_entry, Tile, tile, SectionContext, verdict, section_grammar, body_grammar, content_grammar}
 use Rattle.wasm_parser.specs.Reading.{Event, custom_report, section_report, tile_report, event_of, last_event, events_of}

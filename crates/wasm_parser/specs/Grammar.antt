@@ -5,7 +5,7 @@ use Rattle.wasm_base.specs.FaultAt.{FaultAt, at_offset}
 use Rattle.wasm_base.specs.Header.{magic, agree}
 use Rattle.wasm_base.specs.Name.{of_four}
 use Rattle.wasm_base.specs.Number.{Number, read, bad, short, number as number_at}
-use Rattle.wasm_parser.specs.Content.{Kind, custom, items, index, data_count, code, unknown, kind_of, rank_of, Ending, fault, ended, when, wrong_content, count_of}
+use Rattle.wasm_parser.specs.Content.{Kind, items, code, kind_of, rank_of, Ending, fault, ended, when, wrong_content, count_of}
 use Rattle.wasm_base.specs.declared.fault.Fault.TheVariants.{UnexpectedEof, BadMagic, UnknownVersion, MagicAtSection, MalformedSectionId, SectionTooLarge, OutOfOrder, FunctionCodeDiffer, FunctionWithoutCode, CodeWithoutFunction, DataCountDiffer, DataCountWithoutData, TrailingCode}
 use Rattle.wasm_base.specs.declared.fault.NumberKind.TheVariants.{VarU32}
 use Rattle.wasm_parser.specs.declared.payload.Encoding.{Encoding}

@@ -1,10 +1,9 @@
 -- Where a parser is in a stream.
-use Rattle.std.specs.Prelude.{◌≡◌, ℕ, zero, suc, ◌+◌, max, Bool, true, false, List, [], ◌∷◌, length, option_to_list, Option, Some, None, nat_lt, nat_eq, if◌then◌else◌}
+use Rattle.std.specs.Prelude.{◌≡◌, ℕ, ◌+◌, max, Bool, true, false, List, [], ◌∷◌, length, option_to_list, Option, None, nat_lt, if◌then◌else◌}
 use Rattle.wasm_parser.specs.declared.payload.Encoding.{Encoding}
 use Rattle.wasm_parser.specs.declared.payload.Encoding.TheVariants.{Module}
-use Rattle.wasm_parser.specs.Content.{items, data_count, custom, index, code, unknown, count_of}
-use Rattle.wasm_parser.specs.Grammar.{Shape, version, section, code_start, code_entry, Tile, SectionContext, Grammar, header_grammar}
-use Rattle.wasm_parser.specs.Tiling.{bytes_of, Faultless, inside, encoding_of, encoding_in, tile_rank, counts, bodies_left, bytes_left, bodies_after, bytes_after}
+use Rattle.wasm_parser.specs.Grammar.{Tile, SectionContext, Grammar, header_grammar}
+use Rattle.wasm_parser.specs.Tiling.{bytes_of, Faultless, inside, encoding_of, tile_rank, counts, bodies_left, bytes_left}
 
 -- the greatest rank of these tiles
 abbrev pub greatest : List Tile → ℕ

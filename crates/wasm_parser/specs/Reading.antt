@@ -1,9 +1,8 @@
 -- The reading of a whole stream. Core specification, Binary format, Modules.
 use Rattle.std.specs.Prelude.{◌≡◌, ℕ, ◌+◌, ◌-◌, List, [], ◌∷◌, ◌++◌, length, Some, ◌^◌, ◌<◌, All}
-use Rattle.wasm_base.specs.FaultAt.{FaultAt}
 use Rattle.wasm_base.specs.Name.{Name, named, refused, name_limit, name}
 use Rattle.wasm_base.specs.Window.{Window}
-use Rattle.wasm_parser.specs.Content.{Kind, items, data_count, custom, index, code, unknown, count_of, Ending, fault, ended}
+use Rattle.wasm_parser.specs.Content.{Kind, items, data_count, custom, index, code, unknown, count_of, Ending}
 use Rattle.wasm_parser.specs.Grammar
 use Rattle.wasm_parser.specs.Grammar.{Shape, section, Tile, final, verdict}
 use Rattle.wasm_parser.specs.Tiling.{bytes_of, grammar, Faultless}

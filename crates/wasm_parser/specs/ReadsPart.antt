@@ -1,5 +1,5 @@
 -- What each part of a stream is read as, by what a parser knows before it.
-use Rattle.std.specs.Prelude.{nat_lt, ◌≡◌, ℕ, ◌+◌, ◌<◌, false, true, length, Option, option_to_list, nat_eq, Result, Ok, Some, None, Err, Bool, ◌&&◌, not, List, ◌==◌}
+use Rattle.std.specs.Prelude.{nat_lt, nat_le, ◌≡◌, ℕ, ◌+◌, ◌<◌, false, true, length, Option, option_to_list, nat_eq, Result, Ok, Some, None, Err, Bool, ◌&&◌, not, List, ◌==◌}
 use Rattle.wasm_base.specs.Window.{Place, Window, place, KeepsWindow}
 use Rattle.wasm_base.specs.declared.error.Error.{Error}
 use Rattle.wasm_parser.specs.Content.{Kind, items, kind_of, wrong_single, value_of}
@@ -9,7 +9,8 @@ use Rattle.wasm_parser.specs.ParserState.{ParserState, known_context, grammar_of
 use Rattle.wasm_parser.specs.declared.payload.Payload.{Payload}
 use Rattle.wasm_base.specs.Name.{bytes_at}
 use Rattle.wasm_base.specs.Outcome.{Outcome, ◌>>=◌}
-use Rattle.wasm_parser.specs.Reading.{window_over, Report, version, counted, start_section, data_count_section, code_start, code_entry, custom_section, unknown_section, stream_end}
+use Rattle.wasm_parser.specs.Reading.{window_over, Report, counted}
+use Rattle.wasm_base.specs.Header.{magic, agree}
 use Rattle.wasm_base.specs.FaultAt.{fault_at}
 use Rattle.wasm_base.specs.Number.{number, unsigned_at}
 use Rattle.wasm_base.specs.declared.fault.Fault.{Fault}
@@ -29,6 +30,10 @@ HasSection p before = p.expects_header ≡ false → nat_eq (p.bodies + p.left) 
 -- a header
 abbrev pub ReadsHeader : (before : Place) → Result Payload Error → (after : Place) → Type 0
 ReadsHeader before result after = MatchesVerdict before.offset before (verdict (header_grammar before.offset) before.rest) result after
+
+-- The bytes that begin a header are here.
+abbrev pub is_magic_next : Place → Bool
+is_magic_next p = agree p.rest magic && nat_le 4 (length p.rest)
 
 -- a section
 abbrev pub ReadsSection : ParserState → (before : Place) → Result Payload Error → (after : Place) → Type 0

@@ -2,7 +2,7 @@
 use Rattle.std.specs.Prelude.{ℕ, zero, suc, ◌+◌, ◌-◌, false, length, Option, Some, None, nat_eq, slice_index, if◌then◌else◌}
 use Rattle.wasm_parser.specs.Content.{ranks}
 use Rattle.wasm_parser.specs.Grammar.{Tile}
-use Rattle.wasm_parser.specs.Reading.{Report, version, counted, start_section, data_count_section, code_start, code_entry, custom_section, unknown_section, stream_end, tile_report}
+use Rattle.wasm_parser.specs.Reading.{Report, version, counted, start_section, data_count_section, code_start, code_entry, tile_report}
 use Rattle.wasm_parser.specs.Sections.{count_report}
 use Rattle.wasm_parser.specs.ParserState.{ParserState}
 use Rattle.wasm_parser.specs.declared.payload.Encoding.{Encoding}

@@ -1,7 +1,7 @@
 -- The tiles of a stream.
 use Rattle.std.specs.Prelude.{◌≡◌, ℕ, ◌+◌, ◌-◌, List, [], ◌∷◌, ◌++◌, length, nat_lt, nat_eq, if◌then◌else◌}
 use Rattle.std.specs.List.{list_all}
-use Rattle.wasm_parser.specs.Content.{items, data_count, custom, index, code, unknown, rank_of, count_of}
+use Rattle.wasm_parser.specs.Content.{items, data_count, code, rank_of, count_of}
 use Rattle.wasm_parser.specs.Grammar.{Shape, version, section, code_start, code_entry, Tile, tile, SectionContext, Grammar, verdict, header_grammar, section_grammar, body_grammar}
 use Rattle.wasm_parser.specs.declared.payload.Encoding.{Encoding}
 use Rattle.wasm_parser.specs.declared.payload.Encoding.TheVariants.{Module}

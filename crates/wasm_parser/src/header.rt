@@ -1,12 +1,14 @@
 // Headers.
-ghost use Rattle.std.specs.Prelude.{◌≡◌, ◌&&◌, length, nat_le};
-ghost use Rattle.wasm_base.specs.Header.{magic, agree};
+ghost use Rattle.std.specs.Prelude.{◌≡◌};
 ghost use Rattle.wasm_base.specs.Window.{place};
 ghost use Rattle.wasm_parser.specs.Grammar.{encoding_named as named};
-ghost use Rattle.wasm_parser.specs.ReadsPart.{ReadsHeader};
+ghost use Rattle.wasm_parser.specs.ReadsPart.{is_magic_next, ReadsHeader};
 
 use crate::payload::{Encoding, Payload};
 use wasm_base::{BinaryReader, Error, Fault, Result};
+
+// The four bytes that begin a header.
+const MAGIC: [u8; 4] = *b"\0asm";
 
 // The encoding that a header's version and kind name.
 fn encoding_named(version: u16, kind: u16) -> Option<Encoding>
@@ -38,20 +40,9 @@ pub(crate) fn read_header<'a>(reader: &mut BinaryReader<'a>) -> Result<Payload<'
     }
 }
 
-/// Whether a header's magic is here.
+/// Whether the four bytes that begin a header are here.
 pub(crate) fn magic_follows(reader: &BinaryReader) -> bool
-    ensures { result ≡ (agree (place reader.now).rest magic && nat_le 4 (length (place reader.now).rest)) }
+    ensures { result ≡ is_magic_next (place reader.now) }
 {
-    match reader.peek_bytes(4) {
-        Ok(prefix) => is_magic(prefix),
-        Err(_) => false,
-    }
-}
-
-// Whether four bytes are the magic of a header.
-fn is_magic(prefix: &[u8]) -> bool
-    requires { length prefix.now ≡ 4 }
-    ensures { result ≡ agree prefix.now magic }
-{
-    prefix[0] == 0x00 && prefix[1] == 0x61 && prefix[2] == 0x73 && prefix[3] == 0x6d
+    reader.remaining_buffer().starts_with(MAGIC.as_slice())
 }

@@ -6,7 +6,6 @@ use Rattle.wasm_base.specs.Window.{place}
 use Rattle.wasm_base.specs.declared.fault.Fault.TheVariants.{UnexpectedEof, FunctionCodeDiffer, CodeWithoutFunction}
 use Rattle.wasm_parser.specs.Reading.{code_start}
 use Rattle.wasm_parser.proofs.Bodies.{code_no_count, code_short, code_wrong, code_read, counts_differ, no_function, right_count}
-use Rattle.wasm_parser.specs.ReadsPart.{is_lacking}
 use Rattle.wasm_parser.proofs.contents.code.Goals as goal
 
 pub returns-in_err-count : goal.returns-in_err-count

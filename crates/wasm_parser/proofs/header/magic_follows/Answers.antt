@@ -1,7 +1,7 @@
 use Rattle.std.proofs.Common.{◌∙◌}
 use Rattle.wasm_base.specs.Window.{place}
-use Rattle.wasm_parser.proofs.Framed.{magic_seen}
+use Rattle.wasm_parser.proofs.Framed.{begins_with_magic}
 use Rattle.wasm_parser.proofs.header.magic_follows.Goals as goal
 
-pub returns-in-Ok : goal.returns-in-Ok
-returns-in-Ok c = c.is_magic.ensures ∙ magic_seen (place c.args.reader.now) c.in-Ok.prefix.now _ c.in-Ok.ensures.gives
+pub returns : goal.returns
+returns c = (rw (c.as_slice.ensures, c.remaining_buffer.ensures) at c.starts_with.ensures.value) ∙ begins_with_magic (place c.args.reader.now).rest
