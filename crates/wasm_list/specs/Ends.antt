@@ -5,6 +5,6 @@ use Rattle.wasm_list.specs.declared.listing.Ended.{Ended}
 use Rattle.wasm_list.specs.declared.listing.Ended.TheVariants.{End, Fault}
 
 -- the fault at which a listing ended, if it ended at one: the fault, its offset and its number
-abbrev pub fault_of : Ended → Option FaultAt
-fault_of End = None
-fault_of (Fault e) = Some (fault_at e)
+abbrev pub fault_at_end : Ended → Option FaultAt
+fault_at_end End = None
+fault_at_end (Fault e) = Some (fault_at e)

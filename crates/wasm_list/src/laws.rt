@@ -1,7 +1,7 @@
 //! What comparing and copying the ends of listings says.
 ghost use Rattle.wasm_base.specs.Comparing.{DecidesWhether, DecidesSame, CopiesSame, CopiesAlways};
 ghost use Rattle.std.specs.Prelude.{◌≡◌};
-ghost use Rattle.wasm_list.specs.Ends.{fault_of};
+ghost use Rattle.wasm_list.specs.Ends.{fault_at_end};
 
 use crate::listing::{Ended, ListError};
 use crate::source::Failed;
@@ -9,7 +9,7 @@ use crate::source::Failed;
 /// Two ends of listings are equal exactly if both are the end of a stream, or both a fault: the same fault, with the
 /// same offset and number. Two reasons to give up are equal exactly if they are the same.
 pub fn equal_ends_are_the_same()
-    ensures ended { DecidesWhether (λ one other. fault_of one ≡ fault_of other)
+    ensures ended { DecidesWhether (λ one other. fault_at_end one ≡ fault_at_end other)
         ⟦<Ended as PartialEq>⟧.eq }
     ensures list_error { DecidesSame ⟦<ListError as PartialEq>⟧.eq }
     ensures failed { DecidesSame ⟦<Failed as PartialEq>⟧.eq }

@@ -122,7 +122,8 @@ pub(crate) fn payload_line<A: Allocator>(
 /// The line of a fault.
 #[tactic(auto, unfolding(crate::specs::Listing::line_of))]
 pub(crate) fn fault_line<A: Allocator>(alloc: A, error: &Error) -> Result<String<A>, AllocError>
-    ensures { IfOk result (λ line. string_bytes line ≡ line_of (stream_end (fault (fault_at error.now)))) }
+    ensures { IfOk result (λ line.
+        string_bytes line ≡ line_of (stream_end (fault (fault_at error.now)))) }
 {
     let (offset, message) = (error.offset(), error.message());
     match error.number() {

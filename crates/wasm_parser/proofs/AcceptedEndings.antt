@@ -6,7 +6,7 @@ use Rattle.wasm_base.specs.FaultAt.{FaultAt, at_offset}
 use Rattle.wasm_base.specs.declared.fault.Fault.TheVariants.{FunctionWithoutCode, DataCountWithoutData}
 use Rattle.wasm_parser.specs.declared.payload.Encoding.{Encoding}
 use Rattle.wasm_parser.specs.Content.{fault, ended}
-use Rattle.wasm_parser.specs.Grammar.{SectionContext, end_of}
+use Rattle.wasm_parser.specs.Grammar.{SectionContext, end_at_section}
 use Rattle.wasm_parser.specs.Accepted.{Frame, frame_count, IsSection, IsMatched}
 use Rattle.wasm_parser.proofs.AcceptedLists.{any_of, none_of}
 use Rattle.wasm_parser.proofs.AcceptedCounts.{is_section, counts_of, Knows, section_yes, yes_section, any_counts, offends}
@@ -68,15 +68,15 @@ ends_from false false e f o p h = (refl, refl)
 
 -- how a stream ends, reported of its frames
 misses_same : (encoding : Encoding) (fs : List Frame) (p : SectionContext) → Knows encoding fs p → (o : ℕ)
-    → end_of p o ≡ cond (misses encoding 3 10 fs) (fault (at_offset FunctionWithoutCode o)) (cond (misses encoding 12 11 fs) (fault (at_offset DataCountWithoutData o)) (ended o))
+    → end_at_section p o ≡ cond (misses encoding 3 10 fs) (fault (at_offset FunctionWithoutCode o)) (cond (misses encoding 12 11 fs) (fault (at_offset DataCountWithoutData o)) (ended o))
 misses_same encoding fs p k o = rw (k.functions, k.codes, k.datas, k.data_counts) refl
 
 -- after frames that are matched a stream may end
-pub end_to : (encoding : Encoding) (fs : List Frame) (p : SectionContext) → Knows encoding fs p → (o : ℕ) → IsMatched encoding 3 10 fs → IsMatched encoding 12 11 fs → end_of p o ≡ ended o
+pub end_to : (encoding : Encoding) (fs : List Frame) (p : SectionContext) → Knows encoding fs p → (o : ℕ) → IsMatched encoding 3 10 fs → IsMatched encoding 12 11 fs → end_at_section p o ≡ ended o
 end_to encoding fs p k o a b = misses_same encoding fs p k o ∙ ends_to _ _ _ _ o (matched_to encoding 3 10 fs a) (matched_to encoding 12 11 fs b)
 
 -- frames after which a stream may end are matched
-pub end_from : (encoding : Encoding) (fs : List Frame) (p : SectionContext) → Knows encoding fs p → (o e : ℕ) → end_of p o ≡ ended e → IsMatched encoding 3 10 fs × IsMatched encoding 12 11 fs
+pub end_from : (encoding : Encoding) (fs : List Frame) (p : SectionContext) → Knows encoding fs p → (o e : ℕ) → end_at_section p o ≡ ended e → IsMatched encoding 3 10 fs × IsMatched encoding 12 11 fs
 end_from encoding fs p k o e h =
     let q : ((misses encoding 3 10 fs ≡ false) × (misses encoding 12 11 fs ≡ false)) = ends_from _ _ _ _ o e (sym (misses_same encoding fs p k o) ∙ h) in
     (matched_from encoding 3 10 fs q.0, matched_from encoding 12 11 fs q.1)

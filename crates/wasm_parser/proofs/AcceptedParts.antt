@@ -8,7 +8,7 @@ use Rattle.wasm_base.specs.declared.fault.NumberKind.TheVariants.{VarU32}
 use Rattle.wasm_base.specs.declared.fault.Fault.TheVariants.{MagicAtSection, UnexpectedEof}
 use Rattle.wasm_base.proofs.NumberLaws.{number-used, Used}
 use Rattle.wasm_parser.specs.Content.{Kind, custom, items, index, data_count, code, unknown, kind_of, rank_of, Ending, fault, when, wrong_content}
-use Rattle.wasm_parser.specs.Grammar.{Shape, section, code_start, code_entry, Tile, tile, final, after, SectionContext, Grammar, accept, check, number, bytes, verdict, section_grammar, body_grammar, content_grammar, whole_grammar, code_grammar, after_length, after_id, wrong_count, wrong_data}
+use Rattle.wasm_parser.specs.Grammar.{Shape, section, code_start, code_entry, Tile, tile, final, after, SectionContext, Grammar, accept, check, u32_field, bytes, verdict, section_grammar, body_grammar, content_grammar, whole_grammar, code_grammar, after_length, after_id, wrong_count, wrong_data}
 use Rattle.wasm_parser.specs.Accepted.{IsNumber}
 use Rattle.wasm_parser.proofs.GrammarLaws.{after-tile}
 use Rattle.wasm_parser.proofs.StateLaws.{Follows, none_when}
@@ -32,7 +32,7 @@ record NumberParts (next : ℕ → ℕ → Grammar) (t : Tile) : Type 0 where
   pub is : t ≡ made rest.shape (field ++ rest.bytes)
 
 -- what a tile after a number consists of
-number_parts : (o : ℕ) (next : ℕ → ℕ → Grammar) (xs : List ℕ) (t : Tile) → verdict (number o next) xs ≡ tile t → NumberParts next t
+number_parts : (o : ℕ) (next : ℕ → ℕ → Grammar) (xs : List ℕ) (t : Tile) → verdict (u32_field o next) xs ≡ tile t → NumberParts next t
 number_parts o next xs t h =
     let n : Numbered next xs t = numbered o next xs t h in
     let u : Used VarU32 xs n.value n.used = number-used VarU32 xs n.value n.used n.reads in

@@ -6,14 +6,14 @@ use Rattle.std.proofs.lemmas.Bool.Decides.{nat_tests}
 use Rattle.wasm_base.specs.FaultAt.{FaultAt}
 use Rattle.wasm_base.specs.Header.{magic, agree}
 use Rattle.wasm_base.specs.Name.{named, refused, name_limit, name}
-use Rattle.wasm_base.specs.Number.{read, short, number as number_at}
+use Rattle.wasm_base.specs.Number.{read, short, number}
 use Rattle.wasm_base.specs.declared.fault.NumberKind.TheVariants.{VarU32}
 use Rattle.wasm_base.specs.declared.fault.Fault.TheVariants.{UnexpectedEof}
 use Rattle.wasm_base.proofs.NumberLaws.{number-more, number-used, Used}
 use Rattle.wasm_parser.specs.declared.payload.Encoding.{Encoding}
 use Rattle.wasm_parser.specs.declared.payload.Encoding.TheVariants.{Module, Component}
 use Rattle.wasm_parser.specs.Content.{Kind, custom, items, index, data_count, code, unknown, kind_of, rank_of, Ending, when, wrong_content}
-use Rattle.wasm_parser.specs.Grammar.{Shape, version, section, code_start, code_entry, Tile, tile, SectionContext, Grammar, accept, check, number, bytes, section_start, verdict, header_grammar, section_grammar, body_grammar, content_grammar, whole_grammar, code_grammar, after_id, wrong_count, wrong_data}
+use Rattle.wasm_parser.specs.Grammar.{Shape, version, section, code_start, code_entry, Tile, tile, SectionContext, Grammar, accept, check, u32_field, bytes, section_start, verdict, header_grammar, section_grammar, body_grammar, content_grammar, whole_grammar, code_grammar, after_id, wrong_count, wrong_data}
 use Rattle.wasm_parser.specs.Accepted.{IsNumber, header_bytes}
 use Rattle.wasm_parser.proofs.StateLaws.{Follows}
 use Rattle.wasm_parser.proofs.TileLaws.{one_byte}
@@ -23,17 +23,17 @@ abbrev pub made : Shape → List ℕ → Tile
 made s b = record { shape = s; bytes = b }
 
 -- a number's field keeps its value, whatever follows
-pub number_on : (field rest : List ℕ) (v : ℕ) → IsNumber field v → number_at VarU32 (field ++ rest) ≡ read v (length field)
+pub number_on : (field rest : List ℕ) (v : ℕ) → IsNumber field v → number VarU32 (field ++ rest) ≡ read v (length field)
 number_on field rest v e =
-    let ns : number_at VarU32 field ≢ short = λ z. (cc) in
+    let ns : number VarU32 field ≢ short = λ z. (cc) in
     number-more VarU32 field rest ns ∙ e
 
 -- a number, and then a tile
 number_tile : (o : ℕ) (next : ℕ → ℕ → Grammar) (field rest : List ℕ) (v : ℕ) (s : Shape) (b : List ℕ) → IsNumber field v
-    → verdict (next v (length field)) rest ≡ tile (made s b) → verdict (number o next) (field ++ rest) ≡ tile (made s (field ++ b))
+    → verdict (next v (length field)) rest ≡ tile (made s b) → verdict (u32_field o next) (field ++ rest) ≡ tile (made s (field ++ b))
 unfolding verdict
 number_tile o next field rest v s b e h =
-    let m : number_at VarU32 (field ++ rest) ≡ read v (length field) = number_on field rest v e in
+    let m : number VarU32 (field ++ rest) ≡ read v (length field) = number_on field rest v e in
     let t : take (length field) (field ++ rest) ≡ field = take_at field rest (length field) refl in
     let d : drop (length field) (field ++ rest) ≡ rest = drop_at field rest (length field) refl in
     rw m (rw (t, d) (rw h refl))
@@ -136,8 +136,8 @@ framed_tile p o id field size xs s f m h =
     fits n h = grind (arith, nat_tests)
 
 -- 0x73 alone is a number, 115
-another_byte : (xs : List ℕ) → number_at VarU32 (0x73 ∷ xs) ≡ read 0x73 1
-unfolding number_at
+another_byte : (xs : List ℕ) → number VarU32 (0x73 ∷ xs) ≡ read 0x73 1
+unfolding number
 another_byte xs = refl
 
 -- a name of 115 bytes isn't in fewer
@@ -163,13 +163,13 @@ magic_field [] content text used e a n =
 magic_field (x ∷ []) content text used e a n =
     let q : ((nat_eq x 0x61 ≡ true) × (agree content (0x73 ∷ 0x6d ∷ []) ≡ true)) = and_parts _ _ a in
     let z : x ≡ 0x61 = eqb-true x 0x61 q.0 in
-    let f : read 0x61 1 ≡ read (length content) 1 = sym (one_byte []) ∙ subst (λ (y : ℕ). number_at VarU32 (y ∷ []) ≡ read (length content) 1) z e in
+    let f : read 0x61 1 ≡ read (length content) 1 = sym (one_byte []) ∙ subst (λ (y : ℕ). number VarU32 (y ∷ []) ≡ read (length content) 1) z e in
     let l : length content ≡ 0x61 = cc in
     magic_content content text used l q.1 n
 magic_field (x ∷ y ∷ field) content text used e a n =
     let q : ((nat_eq x 0x61 ≡ true) × (agree (y ∷ field ++ content) (0x73 ∷ 0x6d ∷ []) ≡ true)) = and_parts _ _ a in
     let z : x ≡ 0x61 = eqb-true x 0x61 q.0 in
-    let f : read 0x61 1 ≡ read (length content) (suc (suc (length field))) = sym (one_byte (y ∷ field)) ∙ subst (λ (w : ℕ). number_at VarU32 (w ∷ y ∷ field) ≡ read (length content) (suc (suc (length field)))) z e in
+    let f : read 0x61 1 ≡ read (length content) (suc (suc (length field))) = sym (one_byte (y ∷ field)) ∙ subst (λ (w : ℕ). number VarU32 (w ∷ y ∷ field) ≡ read (length content) (suc (suc (length field)))) z e in
     let l : 1 ≡ suc (suc (length field)) = cc in
     absurd (omega arith)
 

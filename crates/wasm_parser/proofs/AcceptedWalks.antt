@@ -7,7 +7,7 @@ use Rattle.std.proofs.lemmas.List.Elements.{All-head, All-tail}
 use Rattle.wasm_parser.specs.declared.payload.Encoding.{Encoding}
 use Rattle.wasm_parser.specs.declared.payload.Encoding.TheVariants.{Module, Component}
 use Rattle.wasm_parser.specs.Content.{Kind, code, kind_of, ended}
-use Rattle.wasm_parser.specs.Grammar.{version, section, code_start, Tile, tile, final, SectionContext, Grammar, verdict, end_of, section_grammar}
+use Rattle.wasm_parser.specs.Grammar.{version, section, code_start, Tile, tile, final, SectionContext, Grammar, verdict, end_at_section, section_grammar}
 use Rattle.wasm_parser.specs.Tiling.{bytes_of, grammar, Faultless, context_of, bodies_left, bytes_left}
 use Rattle.wasm_parser.specs.Reading.{Reads}
 use Rattle.wasm_parser.specs.ParserState.{is_start}
@@ -150,7 +150,7 @@ begins start encoding = record {
 }
 
 -- where a stream may end and nothing follows it ends
-end_verdict : (p : SectionContext) (o : ℕ) → end_of p o ≡ ended o → verdict (section_grammar p o) [] ≡ final (ended o)
+end_verdict : (p : SectionContext) (o : ℕ) → end_at_section p o ≡ ended o → verdict (section_grammar p o) [] ≡ final (ended o)
 unfolding verdict section_grammar
 end_verdict p o e = ap final e
 

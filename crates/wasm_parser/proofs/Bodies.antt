@@ -12,7 +12,7 @@ use Rattle.wasm_parser.specs.ParseAnswer.{IsPayload, MatchesVerdict, ReadsByGram
 use Rattle.wasm_parser.specs.Content.{when}
 use Rattle.wasm_parser.specs.ReadsPart.{content_at}
 use Rattle.wasm_parser.specs.Grammar
-use Rattle.wasm_parser.specs.Grammar.{SectionContext, Grammar, accept, check, number, verdict, wrong_count, code_grammar, body_of, body_grammar}
+use Rattle.wasm_parser.specs.Grammar.{SectionContext, Grammar, accept, check, u32_field, verdict, wrong_count, code_grammar, body_of, body_grammar}
 use Rattle.wasm_parser.specs.Reading.{code_start, code_entry, window_over}
 use Rattle.wasm_parser.specs.declared.payload.Payload.{Payload}
 use Rattle.wasm_parser.proofs.Framed.{HasContent, has_content, too_few}
@@ -89,12 +89,12 @@ right_count context offset count d n = rw (← d, ← lacks_one context count fa
 -- ---- a body
 
 -- where a body is left
-a_body : (bodies left offset : ℕ) → 0 < bodies → body_grammar bodies left offset ≡ number offset (λ size width. body_of offset left size width)
+a_body : (bodies left offset : ℕ) → 0 < bodies → body_grammar bodies left offset ≡ u32_field offset (λ size width. body_of offset left size width)
 unfolding body_grammar
 a_body zero left offset l = absurd (omega arith)
 a_body (suc n) left offset l = refl
 
-body_there : (bodies left : ℕ) (p : Place) (r : Result Payload Error) (a : Place) → 0 < bodies → ReadsByGrammar (number p.offset (λ size width. body_of p.offset left size width)) p r a → ReadsByGrammar (body_grammar bodies left p.offset) p r a
+body_there : (bodies left : ℕ) (p : Place) (r : Result Payload Error) (a : Place) → 0 < bodies → ReadsByGrammar (u32_field p.offset (λ size width. body_of p.offset left size width)) p r a → ReadsByGrammar (body_grammar bodies left p.offset) p r a
 body_there bodies left p r a l h = subst (λ (g : Grammar). ReadsByGrammar g p r a) (sym (a_body bodies left p.offset l)) h
 
 -- none is left

@@ -5,13 +5,13 @@ use Rattle.std.proofs.lemmas.List.{length-take-le, length-drop}
 use Rattle.wasm_base.specs.FaultAt.{FaultAt, at_offset}
 use Rattle.wasm_base.specs.Header.{magic, agree}
 use Rattle.wasm_base.specs.Name.{Name, named, refused, name_limit, name, of_four}
-use Rattle.wasm_base.specs.Number.{Number, read, bad, short, number as number_at}
+use Rattle.wasm_base.specs.Number.{Number, read, bad, short, number}
 use Rattle.wasm_base.specs.declared.fault.Fault.{Fault}
 use Rattle.wasm_base.specs.declared.fault.Fault.TheVariants.{UnexpectedEof, MagicAtSection, StartContent, DataCountContent}
 use Rattle.wasm_base.specs.declared.fault.NumberKind.TheVariants.{VarU32}
 use Rattle.wasm_base.proofs.NumberLaws.{Used, number-used}
 use Rattle.wasm_parser.specs.Content.{Kind, custom, items, index, data_count, code, unknown, kind_of, Ending, fault, ended, when, wrong_number, wrong_single, wrong_name, wrong_content}
-use Rattle.wasm_parser.specs.Grammar.{Tile, Verdict, final, Grammar, accept, reject, check, number, bytes, section_start, after, after_number, verdict, SectionContext, header_of, header_grammar, end_of, wrong_count, code_grammar, wrong_data, whole_grammar, content_grammar, after_length, section_grammar, body_grammar}
+use Rattle.wasm_parser.specs.Grammar.{Tile, Verdict, final, Grammar, accept, reject, check, u32_field, bytes, section_start, after, after_number, verdict, SectionContext, header_of, header_grammar, end_at_section, wrong_count, code_grammar, wrong_data, whole_grammar, content_grammar, after_length, section_grammar, body_grammar}
 use Rattle.wasm_parser.specs.Laws.{FaultLiesWithin}
 use Rattle.wasm_parser.specs.ParserState.{ParserState, known_context, grammar_of}
 use Rattle.wasm_parser.specs.Tiling.{context_of, grammar, bodies_left, bytes_left, bytes_of}
@@ -36,7 +36,7 @@ abbrev pub Within : (low here : ℕ) → Grammar → Type 0
 Within low here (accept shape) = Unit {0}
 Within low here (reject e) = Between low here e.offset
 Within low here (check e next) = MayLie low here e × Within low here next
-Within low here (number o next) = Between low here o × ((v k : ℕ) → Within low (here + k) (next v k))
+Within low here (u32_field o next) = Between low here o × ((v k : ℕ) → Within low (here + k) (next v k))
 Within low here (bytes count o next) = Between low here o × ((b : List ℕ) → length b ≡ count → Within low (here + count) (next b))
 Within low here (section_start o e next) = Between low here o × EndsIn low here e × ((id : ℕ) → Within low (here + 1) (next id))
 
@@ -52,7 +52,7 @@ ending_lies low here more (ended o) f w h = cc
 
 number_lies : (low here o : ℕ) (xs : List ℕ) (next : ℕ → ℕ → Grammar) (f : FaultAt) → Between low here o
     → ((v k : ℕ) (zs : List ℕ) → verdict (next v k) zs ≡ final (fault f) → Between low (here + k + length zs) f.offset)
-    → (n : Number) → number_at VarU32 xs ≡ n → after_number o xs n (λ v k. verdict (next v k) (drop k xs)) ≡ final (fault f) → Between low (here + length xs) f.offset
+    → (n : Number) → number VarU32 xs ≡ n → after_number o xs n (λ v k. verdict (next v k) (drop k xs)) ≡ final (fault f) → Between low (here + length xs) f.offset
 number_lies low here o xs next f w ih (read v k) e h =
     let u : Used VarU32 xs v k = number-used VarU32 xs v k e in
     let (a, b) = ih v k (drop k xs) (after_final (take k xs) _ _ h) in
@@ -106,8 +106,8 @@ verdict_lies low here (check (Some e) next) xs f w h =
     let z : e.offset ≡ f.offset = ap (λ (x : FaultAt). x.offset) (final_same e f h) in
     let (a, b) = w.0 in
     (omega arith, omega arith)
-verdict_lies low here (number o next) xs f w h =
-    number_lies low here o xs next f w.0 (λ v k zs. verdict_lies low (here + k) (next v k) zs f (w.1 v k)) (number_at VarU32 xs) refl h
+verdict_lies low here (u32_field o next) xs f w h =
+    number_lies low here o xs next f w.0 (λ v k zs. verdict_lies low (here + k) (next v k) zs f (w.1 v k)) (number VarU32 xs) refl h
 verdict_lies low here (bytes count o next) xs f w h =
     bytes_lie low here count o xs next f w.0 (λ b zs l. verdict_lies low (here + count) (next b) zs f (w.1 b l)) (nat_le count (length xs)) refl h
 verdict_lies low here (section_start o e next) [] f w h = ending_lies low here 0 e f w.1 h
@@ -123,14 +123,14 @@ when_lies low high false e w = tt
 lies : (low high a : ℕ) → low ≤ a → a ≤ high → Between low high a
 lies low high a l m = (l, m)
 
-number_wrong : (offset : ℕ) (content : List ℕ) (n : Number) → number_at VarU32 content ≡ n → MayLie offset (offset + length content) (wrong_number offset content n)
+number_wrong : (offset : ℕ) (content : List ℕ) (n : Number) → number VarU32 content ≡ n → MayLie offset (offset + length content) (wrong_number offset content n)
 number_wrong offset content (read v k) e = tt
 number_wrong offset content (bad g p) e =
     let l : p < length content = number_place VarU32 content g p e in
     (omega arith, omega arith)
 number_wrong offset content short e = (omega arith, omega arith)
 
-single_wrong : (left : Fault) (offset : ℕ) (content : List ℕ) (n : Number) → number_at VarU32 content ≡ n → MayLie offset (offset + length content) (wrong_single left offset content n)
+single_wrong : (left : Fault) (offset : ℕ) (content : List ℕ) (n : Number) → number VarU32 content ≡ n → MayLie offset (offset + length content) (wrong_single left offset content n)
 single_wrong left offset content (read v k) e =
     let u : Used VarU32 content v k = number-used VarU32 content v k e in
     let l : k ≤ length content = u.there in
@@ -149,9 +149,9 @@ name_wrong offset content (refused g p) e =
 content_wrong : (kind : Kind) (offset : ℕ) (content : List ℕ) → MayLie offset (offset + length content) (wrong_content kind offset content)
 unfolding wrong_content
 content_wrong custom offset content = name_wrong offset content (name (Some name_limit) content) refl
-content_wrong items offset content = number_wrong offset content (number_at VarU32 content) refl
-content_wrong index offset content = single_wrong StartContent offset content (number_at VarU32 content) refl
-content_wrong data_count offset content = single_wrong DataCountContent offset content (number_at VarU32 content) refl
+content_wrong items offset content = number_wrong offset content (number VarU32 content) refl
+content_wrong index offset content = single_wrong StartContent offset content (number VarU32 content) refl
+content_wrong data_count offset content = single_wrong DataCountContent offset content (number VarU32 content) refl
 content_wrong code offset content = tt
 content_wrong unknown offset content = tt
 
@@ -206,7 +206,7 @@ end_lies_at true b offset e f z w = (omega arith, omega arith)
 end_lies_at false true offset e f z w = (omega arith, omega arith)
 end_lies_at false false offset e f z w = tt
 
-end_lies : (p : SectionContext) (offset : ℕ) → EndsIn offset offset (end_of p offset)
+end_lies : (p : SectionContext) (offset : ℕ) → EndsIn offset offset (end_at_section p offset)
 end_lies p offset = end_lies_at (list_any (nat_lt 0) p.functions && nat_eq (length p.codes) 0) (list_any (nat_lt 0) p.data_counts && nat_eq (length p.datas) 0) offset _ _ refl refl
 
 Within-sized : (o : ℕ) (p : SectionContext) (kind : Kind) (id size width : ℕ) → Within o (o + 1 + width) (after_length p kind id (o + 1) (o + 1 + width) size)

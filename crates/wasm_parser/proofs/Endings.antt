@@ -2,19 +2,19 @@
 use Rattle.std.proofs.Common.{◌≡◌, ℕ, zero, suc, ◌+◌, Bool, true, false, cond, ◌&&◌, List, [], ◌∷◌, length, take, drop, Option, Some, None, nat_le, refl}
 use Rattle.wasm_base.specs.FaultAt.{FaultAt, at_offset}
 use Rattle.wasm_base.specs.Header.{magic, agree}
-use Rattle.wasm_base.specs.Number.{Number, read, bad, short, number as number_at}
+use Rattle.wasm_base.specs.Number.{Number, read, bad, short, number}
 use Rattle.wasm_base.specs.declared.fault.Fault.TheVariants.{MagicAtSection, UnexpectedEof}
 use Rattle.wasm_base.specs.declared.fault.NumberKind.TheVariants.{VarU32}
 use Rattle.wasm_parser.specs.declared.payload.Encoding.{Encoding}
 use Rattle.wasm_parser.specs.Content.{Kind, custom, items, index, data_count, code, unknown, kind_of, Ending, fault, ended}
-use Rattle.wasm_parser.specs.Grammar.{Verdict, tile, final, after, after_number, SectionContext, Grammar, accept, reject, check, number, bytes, section_start, verdict, header_of, header_grammar, end_of, section_grammar, body_grammar, content_grammar, after_id}
+use Rattle.wasm_parser.specs.Grammar.{Verdict, tile, final, after, after_number, SectionContext, Grammar, accept, reject, check, u32_field, bytes, section_start, verdict, header_of, header_grammar, end_at_section, section_grammar, body_grammar, content_grammar, after_id}
 
 -- the stream doesn't end within this
 abbrev pub NoEnd : Grammar → Type 0
 NoEnd (accept s) = Unit {0}
 NoEnd (reject e) = Unit {0}
 NoEnd (check e next) = NoEnd next
-NoEnd (number o next) = (v k : ℕ) → NoEnd (next v k)
+NoEnd (u32_field o next) = (v k : ℕ) → NoEnd (next v k)
 NoEnd (bytes n o next) = (b : List ℕ) → NoEnd (next b)
 NoEnd (section_start o e next) = ⊥
 
@@ -41,7 +41,7 @@ no_end (accept s) h d p e = cc
 no_end (reject x) h d p e = cc
 no_end (check (Some x) next) h d p e = cc
 no_end (check None next) h d p e = no_end next h d p e
-no_end (number o next) h d p e = end_number o d (number_at VarU32 d) (λ v k. verdict (next v k) (drop k d)) p (λ v k. no_end (next v k) (h v k) (drop k d) p) e
+no_end (u32_field o next) h d p e = end_number o d (number VarU32 d) (λ v k. verdict (next v k) (drop k d)) p (λ v k. no_end (next v k) (h v k) (drop k d) p) e
 no_end (bytes n o next) h d p e = end_test (nat_le n (length d)) (take n d) (verdict (next (take n d)) (drop n d)) (at_offset UnexpectedEof o) p (no_end (next (take n d)) (h (take n d)) (drop n d) p) e
 no_end (section_start o e next) h d p z = h
 
@@ -90,11 +90,11 @@ start_end o x next h [] p e = (refl, cc)
 start_end o x next h (id ∷ d) p e = absurd (end_magic (agree (id ∷ d) magic && nat_le 4 (length (id ∷ d))) o id (verdict (next id) d) p (no_end (next id) (h id) d p) e)
 
 -- the same of the grammar of sections
-section_end : (q : SectionContext) (o : ℕ) (d : List ℕ) (p : ℕ) → verdict (section_grammar q o) d ≡ final (ended p) → (d ≡ []) × (end_of q o ≡ ended p)
+section_end : (q : SectionContext) (o : ℕ) (d : List ℕ) (p : ℕ) → verdict (section_grammar q o) d ≡ final (ended p) → (d ≡ []) × (end_at_section q o ≡ ended p)
 unfolding section_grammar
-section_end q o d p e = start_end o (end_of q o) (after_id q o) (no_end_framed q o) d p e
+section_end q o d p e = start_end o (end_at_section q o) (after_id q o) (no_end_framed q o) d p e
 
 -- a stream ends at its end only where no body is missing, and only if it may
-pub inside_end : (b : Bool) (q : SectionContext) (m l o : ℕ) (d : List ℕ) (p : ℕ) → verdict (cond b (section_grammar q o) (body_grammar m l o)) d ≡ final (ended p) → (b ≡ true) × (d ≡ []) × (end_of q o ≡ ended p)
+pub inside_end : (b : Bool) (q : SectionContext) (m l o : ℕ) (d : List ℕ) (p : ℕ) → verdict (cond b (section_grammar q o) (body_grammar m l o)) d ≡ final (ended p) → (b ≡ true) × (d ≡ []) × (end_at_section q o ≡ ended p)
 inside_end true q m l o d p e = let (a, c) = section_end q o d p e in (refl, a, c)
 inside_end false q m l o d p e = absurd (no_end (body_grammar m l o) (no_end_body m l o) d p e)

@@ -6,12 +6,12 @@ use Rattle.std.proofs.lemmas.Grind.{flat_map-append}
 use Rattle.wasm_base.specs.FaultAt.{FaultAt, at_offset}
 use Rattle.wasm_base.specs.Header.{magic, agree}
 use Rattle.wasm_base.specs.Name.{Name, named, refused, name_limit, name, of_four}
-use Rattle.wasm_base.specs.Number.{Number, read, bad, short, number as number_at}
+use Rattle.wasm_base.specs.Number.{Number, read, bad, short, number}
 use Rattle.wasm_base.specs.declared.fault.Fault.TheVariants.{UnexpectedEof, MagicAtSection}
 use Rattle.wasm_base.specs.declared.fault.NumberKind.TheVariants.{VarU32}
 use Rattle.wasm_base.proofs.NumberLaws.{Used, number-used}
 use Rattle.wasm_parser.specs.Content.{Kind, custom, items, index, data_count, code, unknown, kind_of, Ending, fault, ended}
-use Rattle.wasm_parser.specs.Grammar.{Shape, version, section, code_start, code_entry, Tile, Verdict, tile, final, Grammar, accept, reject, check, number, bytes, section_start, after, after_number, verdict, SectionContext, header_of, header_grammar, end_of, content_grammar, section_grammar, body_grammar}
+use Rattle.wasm_parser.specs.Grammar.{Shape, version, section, code_start, code_entry, Tile, Verdict, tile, final, Grammar, accept, reject, check, u32_field, bytes, section_start, after, after_number, verdict, SectionContext, header_of, header_grammar, end_at_section, content_grammar, section_grammar, body_grammar}
 use Rattle.wasm_parser.specs.Laws.{EventsLieEndToEnd}
 use Rattle.wasm_parser.specs.Reading.{Event, window_over, custom_report, section_report, tile_report, event_of, stream_end, last_event, events_of, Reads}
 use Rattle.wasm_parser.specs.EventRanges.{consumed_by, IsPart, LiesIn, LiesBetween, AtOffsets, EndToEnd}
@@ -34,7 +34,7 @@ abbrev pub Closing : (passed : List ℕ) → Grammar → Type 0
 Closing passed (accept shape) = Closes shape passed
 Closing passed (reject e) = Unit {0}
 Closing passed (check e next) = Closing passed next
-Closing passed (number o next) = (v k : ℕ) (b : List ℕ) → length b ≡ k → Closing (passed ++ b) (next v k)
+Closing passed (u32_field o next) = (v k : ℕ) (b : List ℕ) → length b ≡ k → Closing (passed ++ b) (next v k)
 Closing passed (bytes count o next) = (b : List ℕ) → Closing (passed ++ b) (next b)
 Closing passed (section_start o e next) = (id : ℕ) → Closing (passed ++ id ∷ []) (next id)
 
@@ -47,7 +47,7 @@ closes_after passed prefix v t ih h =
 
 closes_number : (passed : List ℕ) (o : ℕ) (xs : List ℕ) (next : ℕ → ℕ → Grammar) (t : Tile)
     → ((v k : ℕ) (b zs : List ℕ) (s : Tile) → length b ≡ k → verdict (next v k) zs ≡ tile s → Closes s.shape ((passed ++ b) ++ s.bytes))
-    → (n : Number) → number_at VarU32 xs ≡ n → after_number o xs n (λ v k. verdict (next v k) (drop k xs)) ≡ tile t → Closes t.shape (passed ++ t.bytes)
+    → (n : Number) → number VarU32 xs ≡ n → after_number o xs n (λ v k. verdict (next v k) (drop k xs)) ≡ tile t → Closes t.shape (passed ++ t.bytes)
 closes_number passed o xs next t ih (read v k) e h =
     let u : Used VarU32 xs v k = number-used VarU32 xs v k e in
     closes_after passed (take k xs) (verdict (next v k) (drop k xs)) t (λ s r. ih v k (take k xs) (drop k xs) s (length-take-le k xs u.there) r) h
@@ -73,8 +73,8 @@ closes passed (accept shape) xs t c h =
 closes passed (reject e) xs t c h = cc
 closes passed (check (Some e) next) xs t c h = cc
 closes passed (check None next) xs t c h = closes passed next xs t c h
-closes passed (number o next) xs t c h =
-    closes_number passed o xs next t (λ v k b zs s l. closes (passed ++ b) (next v k) zs s (c v k b l)) (number_at VarU32 xs) refl h
+closes passed (u32_field o next) xs t c h =
+    closes_number passed o xs next t (λ v k b zs s l. closes (passed ++ b) (next v k) zs s (c v k b l)) (number VarU32 xs) refl h
 closes passed (bytes count o next) xs t c h =
     closes_bytes passed count xs next t (fault (at_offset UnexpectedEof o)) (λ b zs s. closes (passed ++ b) (next b) zs s (c b)) (nat_le count (length xs)) h
 closes passed (section_start o e next) [] t c h = cc
@@ -135,7 +135,7 @@ end_is true b o x e f h = cc
 end_is false true o x e f h = cc
 end_is false false o x e f h = ended_same o x h
 
-end_report : (p : SectionContext) (o x : ℕ) → end_of p o ≡ ended x → x ≡ o
+end_report : (p : SectionContext) (o x : ℕ) → end_at_section p o ≡ ended x → x ≡ o
 end_report p o x h = end_is (list_any (nat_lt 0) p.functions && nat_eq (length p.codes) 0) (list_any (nat_lt 0) p.data_counts && nat_eq (length p.datas) 0) o x _ _ h
 
 end_at : (start : ℕ) (ts : List Tile) (xs : List ℕ) (x : ℕ) → verdict (grammar start ts) xs ≡ final (ended x) → IsEndAt (start + length (bytes_of ts)) xs x

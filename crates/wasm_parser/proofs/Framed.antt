@@ -18,7 +18,7 @@ use Rattle.wasm_parser.specs.ParseAnswer.{IsPayload, MatchesVerdict, ReadsByGram
 use Rattle.wasm_parser.specs.Content.{Kind, custom, unknown, kind_of, rank_of, when, wrong_content, wrong_name}
 use Rattle.wasm_parser.specs.ReadsPart.{content_at}
 use Rattle.wasm_custom.specs.Custom.{Custom, IsCustom}
-use Rattle.wasm_parser.specs.Grammar.{section, SectionContext, Grammar, check, number, verdict, whole_grammar, wrong_data, content_grammar, after_length, after_id, section_grammar}
+use Rattle.wasm_parser.specs.Grammar.{section, SectionContext, Grammar, check, u32_field, verdict, whole_grammar, wrong_data, content_grammar, after_length, after_id, section_grammar}
 use Rattle.wasm_parser.specs.Reading.{section_report, custom_report, window_over, custom_section, unknown_section}
 use Rattle.wasm_parser.specs.declared.payload.Payload.{Payload}
 use Rattle.wasm_parser.specs.declared.payload.Payload.TheVariants.{CustomSection}
@@ -38,7 +38,7 @@ good_id start id h = rw (lt-leb 128 id h) refl
 pub framed_no_size : (context : SectionContext) (start id : ℕ) (p : Place) (e : Error) (a : Place) → id < 128 → start + 1 ≡ p.offset → unsigned_at VarU32 p ≡ Err (fault_at e) → ReadsByGrammar (after_id context start id) p (Err e) a
 framed_no_size context start id p e a h o n =
     let next : ℕ → ℕ → ℕ → Grammar = λ x size width. after_length context (kind_of context.encoding id) id x (x + width) size in
-    let r : (s : ℕ) → MatchesVerdict s p (verdict (number (start + 1) (next (start + 1))) p.rest) (Err e) a = λ s. subst (λ (x : ℕ). MatchesVerdict s p (verdict (number x (next x)) p.rest) (Err e) a) (sym o) (report_no_number s p (next p.offset) e a n) in
+    let r : (s : ℕ) → MatchesVerdict s p (verdict (u32_field (start + 1) (next (start + 1))) p.rest) (Err e) a = λ s. subst (λ (x : ℕ). MatchesVerdict s p (verdict (u32_field x (next x)) p.rest) (Err e) a) (sym o) (report_no_number s p (next p.offset) e a n) in
     λ s. report_right s p (when (nat_le 128 id) (at_offset MalformedSectionId start)) _ (Err e) a (good_id start id h) (r s)
 
 -- after a good id and a length
@@ -49,7 +49,7 @@ framed_sized context start id p q v r a h o n next =
     let at_q : (s : ℕ) → MatchesVerdict s (advanced m.used p) (verdict (after_length context (kind_of context.encoding id) id p.offset (p.offset + m.used) v) (drop m.used p.rest)) r a =
     λ s. subst (λ (x : Place). MatchesVerdict s x (verdict (after_length context (kind_of context.encoding id) id p.offset x.offset v) x.rest) r a) m.after (next s) in
     λ s. report_right s p (when (nat_le 128 id) (at_offset MalformedSectionId start)) _ r a (good_id start id h) (
-    subst (λ (y : ℕ). MatchesVerdict s p (verdict (number y (λ size width. after_length context (kind_of context.encoding id) id y (y + width) size)) p.rest) r a) (sym o)
+    subst (λ (y : ℕ). MatchesVerdict s p (verdict (u32_field y (λ size width. after_length context (kind_of context.encoding id) id y (y + width) size)) p.rest) r a) (sym o)
     (report_number s p p.offset (λ size width. after_length context (kind_of context.encoding id) id p.offset (p.offset + width) size) r a v m.used m.reads (at_q s)))
 
 -- a content that would end past the top of the offsets

@@ -3,7 +3,7 @@ use Rattle.std.proofs.Common.{◌≡◌, ℕ, List, [], ◌∷◌, ◌++◌, len
 use Rattle.std.specs.List.{All, flat_map}
 use Rattle.std.proofs.lemmas.List.{take_at, drop_at, append_cancel_left}
 use Rattle.std.proofs.lemmas.List.Elements.{All-head, All-tail}
-use Rattle.wasm_base.specs.Number.{read, number as number_at}
+use Rattle.wasm_base.specs.Number.{read, number}
 use Rattle.wasm_base.specs.declared.fault.NumberKind.TheVariants.{VarU32}
 use Rattle.wasm_parser.specs.Accepted.{header_bytes, IsNumber, Sized, sized_bytes, IsSized, Frame, frame_bytes}
 use Rattle.wasm_parser.specs.declared.payload.Encoding.{Encoding}
@@ -20,7 +20,7 @@ prefixes_same xs ys us vs l e = (
 -- numbers that begin the same bytes are one
 numbers_same : (xs ys us vs : List ℕ) (m n : ℕ) → IsNumber xs m → IsNumber ys n → xs ++ us ≡ ys ++ vs → (m ≡ n) × (length xs ≡ length ys)
 numbers_same xs ys us vs m n p q e =
-    let z : read m (length xs) ≡ read n (length ys) = sym (number_on xs us m p) ∙ (ap (number_at VarU32) e ∙ number_on ys vs n q) in
+    let z : read m (length xs) ≡ read n (length ys) = sym (number_on xs us m p) ∙ (ap (number VarU32) e ∙ number_on ys vs n q) in
     (cc, cc)
 
 -- bytes after their length are

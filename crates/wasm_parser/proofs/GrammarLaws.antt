@@ -2,9 +2,9 @@
 use Rattle.std.proofs.Common.{◌≡◌, ◌≢◌, ℕ, ◌-◌, ◌≤◌, Bool, true, false, cond, ◌&&◌, List, [], ◌∷◌, ◌++◌, length, take, drop, Some, None, nat_le, nat_eq, refl, sym, ap, subst, subst₂, true≢false, ◌∙◌, arith, length-append, leb-true, le-leb, append_assoc}
 use Rattle.std.proofs.lemmas.List.{take-append-le, drop-append-le, take-append-drop, take_at, drop_at, length-take-le}
 use Rattle.wasm_base.specs.FaultAt.{at_offset}
-use Rattle.wasm_base.specs.Number.{Number, read, bad, short, number as number_at}
+use Rattle.wasm_base.specs.Number.{Number, read, bad, short, number}
 use Rattle.wasm_base.specs.Header.{magic, agree}
-use Rattle.wasm_parser.specs.Grammar.{Tile, Verdict, tile, final, after, after_number, Grammar, accept, reject, check, number, bytes, section_start, verdict}
+use Rattle.wasm_parser.specs.Grammar.{Tile, Verdict, tile, final, after, after_number, Grammar, accept, reject, check, u32_field, bytes, section_start, verdict}
 use Rattle.wasm_parser.specs.Content.{Ending, fault}
 use Rattle.wasm_parser.specs.Waiting.{Waiting, enough, wants, later, later_number, waiting}
 use Rattle.wasm_base.specs.declared.fault.NumberKind.TheVariants.{VarU32}
@@ -27,20 +27,20 @@ agree-more (x ∷ xs) ys (z ∷ zs) e = and_false (nat_eq x z) (agree xs zs) (ag
 
 number_more : (offset : ℕ) (xs ys : List ℕ) (next : ℕ → ℕ → Grammar)
     → ((v k : ℕ) (zs : List ℕ) → waiting (next v k) zs ≡ enough → verdict (next v k) (zs ++ ys) ≡ verdict (next v k) zs)
-    → (n : Number) → number_at VarU32 xs ≡ n
+    → (n : Number) → number VarU32 xs ≡ n
     → later_number n (λ v k. waiting (next v k) (drop k xs)) ≡ enough
-    → after_number offset (xs ++ ys) (number_at VarU32 (xs ++ ys)) (λ v k. verdict (next v k) (drop k (xs ++ ys)))
+    → after_number offset (xs ++ ys) (number VarU32 (xs ++ ys)) (λ v k. verdict (next v k) (drop k (xs ++ ys)))
     ≡ after_number offset xs n (λ v k. verdict (next v k) (drop k xs))
 number_more offset xs ys next ih (read v k) e w =
     let u : Used VarU32 xs v k = number-used VarU32 xs v k e in
-    let ns : number_at VarU32 xs ≢ short = λ z. (cc) in
-    let m : number_at VarU32 (xs ++ ys) ≡ read v k = number-more VarU32 xs ys ns ∙ e in
+    let ns : number VarU32 xs ≢ short = λ z. (cc) in
+    let m : number VarU32 (xs ++ ys) ≡ read v k = number-more VarU32 xs ys ns ∙ e in
     let t : take k (xs ++ ys) ≡ take k xs = take-append-le k xs ys u.there in
     let d : drop k (xs ++ ys) ≡ drop k xs ++ ys = drop-append-le k xs ys u.there in
     rw m (rw (t, d) (ap (λ (x : Verdict). after (take k xs) x) (ih v k (drop k xs) (later-enough k _ w))))
 number_more offset xs ys next ih (bad f p) e w =
-    let ns : number_at VarU32 xs ≢ short = λ z. (cc) in
-    let m : number_at VarU32 (xs ++ ys) ≡ bad f p = number-more VarU32 xs ys ns ∙ e in
+    let ns : number VarU32 xs ≢ short = λ z. (cc) in
+    let m : number VarU32 (xs ++ ys) ≡ bad f p = number-more VarU32 xs ys ns ∙ e in
     rw m
 number_more offset xs ys next ih short e w = cc
 
@@ -91,8 +91,8 @@ verdict-more (accept s) xs ys w = refl
 verdict-more (reject e) xs ys w = refl
 verdict-more (check (Some e) next) xs ys w = refl
 verdict-more (check None next) xs ys w = verdict-more next xs ys w
-verdict-more (number offset next) xs ys w =
-    number_more offset xs ys next (λ v k zs. verdict-more (next v k) zs ys) (number_at VarU32 xs) refl w
+verdict-more (u32_field offset next) xs ys w =
+    number_more offset xs ys next (λ v k zs. verdict-more (next v k) zs ys) (number VarU32 xs) refl w
 verdict-more (bytes count offset next) xs ys w =
     bytes_more count offset xs ys next (λ b zs. verdict-more (next b) zs ys) (nat_le count (length xs)) refl w
 verdict-more (section_start offset e next) [] ys w = cc
@@ -112,12 +112,12 @@ pub record Cut (g : Grammar) (xs : List ℕ) (t : Tile) : Type 0 where
   pub waits : waiting g t.bytes ≡ enough
   pub alone : verdict g t.bytes ≡ tile t
 
-number_join : (offset : ℕ) (next : ℕ → ℕ → Grammar) (v k : ℕ) (f zs : List ℕ) (s : Tile) → length f ≡ k → number_at VarU32 f ≡ read v k
-    → Cut (next v k) zs s → Cut (number offset next) (f ++ zs) (record s { bytes = f ++ s.bytes })
+number_join : (offset : ℕ) (next : ℕ → ℕ → Grammar) (v k : ℕ) (f zs : List ℕ) (s : Tile) → length f ≡ k → number VarU32 f ≡ read v k
+    → Cut (next v k) zs s → Cut (u32_field offset next) (f ++ zs) (record s { bytes = f ++ s.bytes })
 unfolding verdict waiting
 number_join offset next v k f zs s len e c =
-    let ns : number_at VarU32 f ≢ short = λ z. (cc) in
-    let m : number_at VarU32 (f ++ s.bytes) ≡ read v k = number-more VarU32 f s.bytes ns ∙ e in
+    let ns : number VarU32 f ≢ short = λ z. (cc) in
+    let m : number VarU32 (f ++ s.bytes) ≡ read v k = number-more VarU32 f s.bytes ns ∙ e in
     let t : take k (f ++ s.bytes) ≡ f = take_at f s.bytes k len in
     let d : drop k (f ++ s.bytes) ≡ s.bytes = drop_at f s.bytes k len in
     record {
@@ -129,14 +129,14 @@ number_join offset next v k f zs s len e c =
 
 number_cut : (offset : ℕ) (xs : List ℕ) (next : ℕ → ℕ → Grammar)
     → ((v k : ℕ) (zs : List ℕ) (s : Tile) → verdict (next v k) zs ≡ tile s → Cut (next v k) zs s)
-    → (n : Number) → number_at VarU32 xs ≡ n → (t : Tile)
-    → after_number offset xs n (λ v k. verdict (next v k) (drop k xs)) ≡ tile t → Cut (number offset next) xs t
+    → (n : Number) → number VarU32 xs ≡ n → (t : Tile)
+    → after_number offset xs n (λ v k. verdict (next v k) (drop k xs)) ≡ tile t → Cut (u32_field offset next) xs t
 number_cut offset xs next ih (read v k) e t w =
     let u : Used VarU32 xs v k = number-used VarU32 xs v k e in
     let (s, r, q) = after-tile (take k xs) (verdict (next v k) (drop k xs)) t w in
-    let j : Cut (number offset next) (take k xs ++ drop k xs) (record s { bytes = take k xs ++ s.bytes }) =
+    let j : Cut (u32_field offset next) (take k xs ++ drop k xs) (record s { bytes = take k xs ++ s.bytes }) =
     number_join offset next v k (take k xs) (drop k xs) s (length-take-le k xs u.there) u.alone (ih v k (drop k xs) s r) in
-    subst₂ (λ (x : List ℕ) (y : Tile). Cut (number offset next) x y) (take-append-drop k xs) (sym q) j
+    subst₂ (λ (x : List ℕ) (y : Tile). Cut (u32_field offset next) x y) (take-append-drop k xs) (sym q) j
 number_cut offset xs next ih (bad f p) e t w = cc
 number_cut offset xs next ih short e t w = cc
 
@@ -170,7 +170,7 @@ abbrev pub Guarded : Grammar → Type 0
 Guarded (accept s) = Unit {0}
 Guarded (reject e) = Unit {0}
 Guarded (check e next) = Guarded next
-Guarded (number offset next) = (v k : ℕ) → Guarded (next v k)
+Guarded (u32_field offset next) = (v k : ℕ) → Guarded (next v k)
 Guarded (bytes count offset next) = (b : List ℕ) → Guarded (next b)
 Guarded (section_start offset e next) = (id : ℕ) → Guarded (next id) × ((xs : List ℕ) (s : Tile) → verdict (next id) xs ≡ tile s → agree (id ∷ s.bytes) magic ≡ true → 4 ≤ length (id ∷ s.bytes))
 
@@ -225,7 +225,7 @@ verdict-cut (check (Some e) next) gd xs t w = cc
 verdict-cut (check None next) gd xs t w =
     let c : Cut next xs t = verdict-cut next gd xs t w in
     record { rest = c.rest; split = c.split; waits = c.waits; alone = c.alone }
-verdict-cut (number offset next) gd xs t w = number_cut offset xs next (λ v k. verdict-cut (next v k) (gd v k)) (number_at VarU32 xs) refl t w
+verdict-cut (u32_field offset next) gd xs t w = number_cut offset xs next (λ v k. verdict-cut (next v k) (gd v k)) (number VarU32 xs) refl t w
 verdict-cut (bytes count offset next) gd xs t w = bytes_cut count offset xs next (λ b. verdict-cut (next b) (gd b)) (nat_le count (length xs)) refl t w
 verdict-cut (section_start offset z next) gd [] t w = cc
 verdict-cut (section_start offset z next) gd (id ∷ xs) t w =

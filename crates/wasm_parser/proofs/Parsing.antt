@@ -7,7 +7,7 @@ use Rattle.wasm_base.specs.declared.fault.Fault.TheVariants.{FunctionWithoutCode
 use Rattle.wasm_parser.specs.ParseAnswer.{report_of, Answers, Advances, ParseAnswer}
 use Rattle.wasm_parser.specs.StateAfter.{state_after}
 use Rattle.wasm_parser.specs.Content.{Ending, fault, ended}
-use Rattle.wasm_parser.specs.Grammar.{Verdict, final, end_of, section_grammar, verdict}
+use Rattle.wasm_parser.specs.Grammar.{Verdict, final, end_at_section, section_grammar, verdict}
 use Rattle.wasm_parser.specs.Reading.{stream_end, tile_report}
 use Rattle.wasm_parser.specs.ParserState.{ParserState, known_context, grammar_of}
 use Rattle.wasm_parser.specs.declared.payload.Payload.{Payload}
@@ -18,12 +18,12 @@ use Rattle.wasm_parser.specs.declared.payload.Chunk.TheVariants.{Parsed}
 -- ---- how the stream ends where a section may start
 
 -- the whole rest is nothing
-at_end : (p : ParserState) → p.expects_header ≡ false → nat_eq (p.bodies + p.left) 0 ≡ true → verdict (grammar_of p) [] ≡ final (end_of (known_context p) p.offset)
+at_end : (p : ParserState) → p.expects_header ≡ false → nat_eq (p.bodies + p.left) 0 ≡ true → verdict (grammar_of p) [] ≡ final (end_at_section (known_context p) p.offset)
 unfolding section_grammar verdict
 at_end p h c = rw (h, c) refl
 
 -- an answer to nothing, by what the end is
-ends_as : (p : ParserState) (e : Ending) (r : Result Chunk Error) → p.offset < 2 ^ 64 → p.expects_header ≡ false → nat_eq (p.bodies + p.left) 0 ≡ true → end_of (known_context p) p.offset ≡ e → Answers p (final e) r p → ParseAnswer p [] r p
+ends_as : (p : ParserState) (e : Ending) (r : Result Chunk Error) → p.offset < 2 ^ 64 → p.expects_header ≡ false → nat_eq (p.bodies + p.left) 0 ≡ true → end_at_section (known_context p) p.offset ≡ e → Answers p (final e) r p → ParseAnswer p [] r p
 ends_as p e r l h c x a = record {
   past_the_top = λ k. absurd (omega arith);
   within = λ k. subst (λ (v : Verdict). Answers p v r p) (sym (at_end p h c ∙ ap final x)) a;

@@ -3,7 +3,7 @@ use Rattle.std.proofs.Common.{◌≡◌, ℕ, ◌+◌, ◌<◌, ◌≤◌, List,
 use Rattle.std.proofs.lemmas.Bool.{lt-leb}
 use Rattle.std.proofs.lemmas.List.{length-take-le}
 use Rattle.wasm_base.specs.FaultAt.{FaultAt, fault_at, at_offset}
-use Rattle.wasm_base.specs.Number.{Number, read, bad, short, number as number_at, in_window, unsigned_at}
+use Rattle.wasm_base.specs.Number.{Number, read, bad, short, number, in_window, unsigned_at}
 use Rattle.wasm_base.specs.Window.{Place, advanced}
 use Rattle.wasm_base.specs.declared.error.Error.{Error}
 use Rattle.wasm_base.specs.declared.fault.Fault.TheVariants.{UnexpectedEof}
@@ -12,7 +12,7 @@ use Rattle.wasm_base.proofs.NumberLaws.{Used, number-used}
 use Rattle.wasm_base.proofs.Texts.{advanced_twice}
 use Rattle.wasm_parser.specs.ParseAnswer.{IsPayload, MatchesVerdict}
 use Rattle.wasm_parser.specs.Content.{fault, ended}
-use Rattle.wasm_parser.specs.Grammar.{Shape, Verdict, tile, final, after, after_number, Grammar, accept, reject, check, number, bytes, verdict}
+use Rattle.wasm_parser.specs.Grammar.{Shape, Verdict, tile, final, after, after_number, Grammar, accept, reject, check, u32_field, bytes, verdict}
 use Rattle.wasm_parser.specs.Reading.{tile_report}
 use Rattle.wasm_parser.specs.declared.payload.Payload.{Payload}
 
@@ -46,8 +46,8 @@ unfolding verdict
 report_missing s p n o next e a l h = rw (lt-leb n (length p.rest) l) h
 
 -- a number, that is read or not
-pub report_number : (s : ℕ) (p : Place) (o : ℕ) (next : ℕ → ℕ → Grammar) (r : Result Payload Error) (a : Place) (v k : ℕ) → number_at VarU32 p.rest ≡ read v k
-    → MatchesVerdict s (advanced k p) (verdict (next v k) (drop k p.rest)) r a → MatchesVerdict s p (verdict (number o next) p.rest) r a
+pub report_number : (s : ℕ) (p : Place) (o : ℕ) (next : ℕ → ℕ → Grammar) (r : Result Payload Error) (a : Place) (v k : ℕ) → number VarU32 p.rest ≡ read v k
+    → MatchesVerdict s (advanced k p) (verdict (next v k) (drop k p.rest)) r a → MatchesVerdict s p (verdict (u32_field o next) p.rest) r a
 unfolding verdict
 report_number s p o next r a v k e h =
     let u : Used VarU32 p.rest v k = number-used VarU32 p.rest v k e in
@@ -62,9 +62,9 @@ no_number s p next e a (bad f i) h = sym (not_ok (at_offset f (p.offset + i)) (f
 no_number s p next e a short h = sym (not_ok (at_offset UnexpectedEof (p.offset + length p.rest)) (fault_at e) h)
 
 pub report_no_number : (s : ℕ) (p : Place) (next : ℕ → ℕ → Grammar) (e : Error) (a : Place) → unsigned_at VarU32 p ≡ Err (fault_at e)
-    → MatchesVerdict s p (verdict (number p.offset next) p.rest) (Err e) a
+    → MatchesVerdict s p (verdict (u32_field p.offset next) p.rest) (Err e) a
 unfolding verdict unsigned_at
-report_no_number s p next e a h = no_number s p (λ v k. verdict (next v k) (drop k p.rest)) e a (number_at VarU32 p.rest) h
+report_no_number s p next e a h = no_number s p (λ v k. verdict (next v k) (drop k p.rest)) e a (number VarU32 p.rest) h
 
 -- something wrong, or nothing
 pub report_wrong : (s : ℕ) (p : Place) (f : Option FaultAt) (next : Grammar) (e : Error) (a : Place) → f ≡ Some (fault_at e) → MatchesVerdict s p (verdict (check f next) p.rest) (Err e) a
@@ -92,11 +92,11 @@ report_stops s p f e a h = h
 -- what was read of a number
 pub record ReadNumber (p : Place) (v : ℕ) (q : Place) : Type 0 where
   pub used : ℕ
-  pub reads : number_at VarU32 p.rest ≡ read v used
+  pub reads : number VarU32 p.rest ≡ read v used
   pub after : q ≡ advanced used p
   pub there : used ≤ length p.rest
 
-read_number_at : (p : Place) (v : ℕ) (q : Place) (n : Number) → number_at VarU32 p.rest ≡ n → in_window p n ≡ Ok (v, q) → ReadNumber p v q
+read_number_at : (p : Place) (v : ℕ) (q : Place) (n : Number) → number VarU32 p.rest ≡ n → in_window p n ≡ Ok (v, q) → ReadNumber p v q
 read_number_at p v q (read w k) e h =
     let z : (w, advanced k p) ≡ (v, q) = cc in
     let x : w ≡ v = ap (λ (y : ℕ × Place). y.0) z in
@@ -107,4 +107,4 @@ read_number_at p v q short e h = cc
 
 pub read_number : (p : Place) (v : ℕ) (q : Place) → unsigned_at VarU32 p ≡ Ok (v, q) → ReadNumber p v q
 unfolding unsigned_at
-read_number p v q h = read_number_at p v q (number_at VarU32 p.rest) refl h
+read_number p v q h = read_number_at p v q (number VarU32 p.rest) refl h

@@ -6,13 +6,13 @@ use Rattle.std.proofs.lemmas.Option.{same_Some}
 use Rattle.wasm_base.specs.FaultAt.{FaultAt, at_offset}
 use Rattle.wasm_base.specs.Header.{magic, agree}
 use Rattle.wasm_base.specs.Name.{Name, named, refused, name_limit, name, of_four}
-use Rattle.wasm_base.specs.Number.{Number, read, bad, short, number as number_at}
+use Rattle.wasm_base.specs.Number.{Number, read, bad, short, number}
 use Rattle.wasm_base.specs.declared.fault.Fault.{Fault}
 use Rattle.wasm_base.specs.declared.fault.Fault.TheVariants.{UnexpectedEof, MagicAtSection, SectionTooLarge, StartContent, DataCountContent, UnknownVersion, OutOfOrder, MalformedSectionId, BadMagic, FunctionCodeDiffer, CodeWithoutFunction, FunctionWithoutCode, DataCountWithoutData, DataCountDiffer}
 use Rattle.wasm_base.specs.declared.fault.NumberKind.TheVariants.{VarU32}
 use Rattle.wasm_parser.specs.Content.{Kind, custom, items, index, data_count, code, unknown, kind_of, rank_of, Ending, fault, ended, when, wrong_number, wrong_single, wrong_name, wrong_content}
 use Rattle.wasm_parser.specs.Grammar
-use Rattle.wasm_parser.specs.Grammar.{Shape, section, Tile, Verdict, tile, final, Grammar, accept, reject, check, number, bytes, section_start, after, after_number, verdict, SectionContext, header_of, version_of, header_grammar, end_of, wrong_count, code_grammar, wrong_data, whole_grammar, content_grammar, after_length, after_id, section_grammar, body_of, body_grammar}
+use Rattle.wasm_parser.specs.Grammar.{Shape, section, Tile, Verdict, tile, final, Grammar, accept, reject, check, u32_field, bytes, section_start, after, after_number, verdict, SectionContext, header_of, version_of, header_grammar, end_at_section, wrong_count, code_grammar, wrong_data, whole_grammar, content_grammar, after_length, after_id, section_grammar, body_of, body_grammar}
 use Rattle.wasm_parser.specs.Laws.{StartOnlyMoves}
 use Rattle.wasm_parser.specs.Shifted.{shifted_fault, shifted_ending, shifted_report, shifted_event, shifted_events, PassesTheTop}
 use Rattle.wasm_parser.specs.Reading.{code_start, code_entry, custom_section, window_over, custom_report, section_report, tile_report, event_of, last_event, events_of, Reads}
@@ -36,7 +36,7 @@ abbrev pub Like : ℕ → Grammar → Grammar → Type 0
 Like by (accept shape) h = h ≡ accept shape
 Like by (reject e) h = h ≡ reject (shifted_fault by e)
 Like by (check e next) h = (f : Option FaultAt) × (then : Grammar) × (h ≡ check f then) × MovesFault by e f × Like by next then
-Like by (number o next) h = (then : ℕ → ℕ → Grammar) × (h ≡ number (o + by) then) × ((v k : ℕ) → Like by (next v k) (then v k))
+Like by (u32_field o next) h = (then : ℕ → ℕ → Grammar) × (h ≡ u32_field (o + by) then) × ((v k : ℕ) → Like by (next v k) (then v k))
 Like by (bytes count o next) h = (then : List ℕ → Grammar) × (h ≡ bytes count (o + by) then) × ((b : List ℕ) → Like by (next b) (then b))
 Like by (section_start o e next) h = (then : ℕ → Grammar) × (h ≡ section_start (o + by) (shifted_ending by e) then) × ((id : ℕ) → Like by (next id) (then id))
 
@@ -97,8 +97,8 @@ verdict_moves by (accept shape) h xs l = inl (ap (λ (x : Grammar). verdict x xs
 verdict_moves by (reject e) h xs l = inl (ap (λ (x : Grammar). verdict x xs) l)
 verdict_moves by (check e next) h xs (f, then, z, m, l) =
     subst (λ (x : Grammar). Moves by (verdict (check e next) xs) (verdict x xs)) (sym z) (refuse_moves by e f next then xs m (verdict_moves by next then xs l))
-verdict_moves by (number o next) h xs (then, z, l) =
-    subst (λ (x : Grammar). Moves by (verdict (number o next) xs) (verdict x xs)) (sym z) (number_moves by o next then xs (λ v k zs. verdict_moves by (next v k) (then v k) zs (l v k)) (number_at VarU32 xs))
+verdict_moves by (u32_field o next) h xs (then, z, l) =
+    subst (λ (x : Grammar). Moves by (verdict (u32_field o next) xs) (verdict x xs)) (sym z) (number_moves by o next then xs (λ v k zs. verdict_moves by (next v k) (then v k) zs (l v k)) (number VarU32 xs))
 verdict_moves by (bytes count o next) h xs (then, z, l) =
     subst (λ (x : Grammar). Moves by (verdict (bytes count o next) xs) (verdict x xs)) (sym z)
     (bytes_move by o (take count xs) (verdict (next (take count xs)) (drop count xs)) (verdict (then (take count xs)) (drop count xs)) (verdict_moves by (next (take count xs)) (then (take count xs)) (drop count xs) (l (take count xs))) (nat_le count (length xs)))
@@ -134,9 +134,9 @@ name_wrong by o (refused kind p) = some_moves by kind o p
 content_wrong : (by : ℕ) (kind : Kind) (o : ℕ) (content : List ℕ) → MovesFault by (wrong_content kind o content) (wrong_content kind (o + by) content)
 unfolding wrong_content
 content_wrong by custom o content = name_wrong by o (name (Some name_limit) content)
-content_wrong by items o content = number_wrong by o content (number_at VarU32 content)
-content_wrong by index o content = single_wrong by StartContent o content (number_at VarU32 content)
-content_wrong by data_count o content = single_wrong by DataCountContent o content (number_at VarU32 content)
+content_wrong by items o content = number_wrong by o content (number VarU32 content)
+content_wrong by index o content = single_wrong by StartContent o content (number VarU32 content)
+content_wrong by data_count o content = single_wrong by DataCountContent o content (number VarU32 content)
 content_wrong by code o content = inl refl
 content_wrong by unknown o content = inl refl
 
@@ -194,7 +194,7 @@ Like-framed by p o id = (
   when_moves by (nat_le 128 id) (at_offset MalformedSectionId o) (at_offset MalformedSectionId (o + by)) refl,
   (
     λ size width. after_length p (kind_of p.encoding id) id (o + by + 1) (o + by + 1 + width) size,
-    ap (λ (x : ℕ). number x (λ size width. after_length p (kind_of p.encoding id) id (o + by + 1) (o + by + 1 + width) size)) (omega arith),
+    ap (λ (x : ℕ). u32_field x (λ size width. after_length p (kind_of p.encoding id) id (o + by + 1) (o + by + 1 + width) size)) (omega arith),
     λ size width. subst₂ (λ (f c : ℕ). Like by (after_length p (kind_of p.encoding id) id (o + 1) (o + 1 + width) size) (after_length p (kind_of p.encoding id) id f c size)) (omega arith) (omega arith) (Like-sized by p (kind_of p.encoding id) id (o + 1) (o + 1 + width) size),
   ),
 )
@@ -204,7 +204,7 @@ end_moves_at by true b o e f = refl
 end_moves_at by false true o e f = refl
 end_moves_at by false false o e f = refl
 
-end_moves : (by : ℕ) (p : SectionContext) (o : ℕ) → end_of p (o + by) ≡ shifted_ending by (end_of p o)
+end_moves : (by : ℕ) (p : SectionContext) (o : ℕ) → end_at_section p (o + by) ≡ shifted_ending by (end_at_section p o)
 end_moves by p o =
     end_moves_at by (list_any (nat_lt 0) p.functions && nat_eq (length p.codes) 0) (list_any (nat_lt 0) p.data_counts && nat_eq (length p.datas) 0) o (at_offset FunctionWithoutCode o) (at_offset DataCountWithoutData o)
 

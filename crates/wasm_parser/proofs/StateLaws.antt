@@ -7,9 +7,9 @@ use mathlib.Core.Path.{fun_ext}
 use Rattle.wasm_parser.specs.declared.payload.Encoding.{Encoding}
 use Rattle.wasm_base.specs.FaultAt.{FaultAt}
 use Rattle.wasm_base.specs.Name.{Name, named, refused, name_limit, name}
-use Rattle.wasm_base.specs.Number.{Number, read, bad, short, number as number_at}
+use Rattle.wasm_base.specs.Number.{Number, read, bad, short, number}
 use Rattle.wasm_parser.specs.Content.{Kind, items, data_count, custom, index, code, unknown, rank_of, ranks, count_of, kind_of, Ending, when}
-use Rattle.wasm_parser.specs.Grammar.{Shape, version, section, code_start, code_entry, Tile, Verdict, tile, final, after, after_number, SectionContext, Grammar, accept, reject, check, number, bytes, section_start, verdict, header_grammar, section_grammar, body_grammar, content_grammar, header_of}
+use Rattle.wasm_parser.specs.Grammar.{Shape, version, section, code_start, code_entry, Tile, Verdict, tile, final, after, after_number, SectionContext, Grammar, accept, reject, check, u32_field, bytes, section_start, verdict, header_grammar, section_grammar, body_grammar, content_grammar, header_of}
 use Rattle.wasm_parser.specs.Tiling.{bytes_of, grammar, context_of, inside, encoding_of, encoding_in, tile_rank, count_in, counts, bodies_left, bytes_left, bodies_after, bytes_after}
 use Rattle.wasm_parser.specs.Reading.{custom_report}
 use Rattle.wasm_parser.specs.StateAfter.{known_rank, state_after, state_after_tile}
@@ -64,7 +64,7 @@ abbrev pub Each : (Shape → Type 0) → Grammar → Type 0
 Each P (accept s) = P s
 Each P (reject e) = Unit {0}
 Each P (check e next) = e ≡ None → Each P next
-Each P (number offset next) = (v k : ℕ) → Each P (next v k)
+Each P (u32_field offset next) = (v k : ℕ) → Each P (next v k)
 Each P (bytes count offset next) = (b : List ℕ) → Each P (next b)
 Each P (section_start offset e next) = (id : ℕ) → Each P (next id)
 
@@ -93,7 +93,7 @@ each_tile P (accept s) h xs t e = let z : s ≡ t.shape = shape_is s t e in subs
 each_tile P (reject e) h xs t w = cc
 each_tile P (check (Some e) next) h xs t w = cc
 each_tile P (check None next) h xs t w = each_tile P next (h refl) xs t w
-each_tile P (number o next) h xs t w = each_number P o xs (number_at VarU32 xs) (λ v k. verdict (next v k) (drop k xs)) t (λ v k. each_tile P (next v k) (h v k) (drop k xs)) w
+each_tile P (u32_field o next) h xs t w = each_number P o xs (number VarU32 xs) (λ v k. verdict (next v k) (drop k xs)) t (λ v k. each_tile P (next v k) (h v k) (drop k xs)) w
 each_tile P (bytes n o next) h xs t w = each_test P (nat_le n (length xs)) _ _ t (each_after P (take n xs) (verdict (next (take n xs)) (drop n xs)) t (each_tile P (next (take n xs)) (h (take n xs)) (drop n xs))) w
 each_tile P (section_start o z next) h [] t w = cc
 each_tile P (section_start o z next) h (id ∷ xs) t w = each_test' P _ _ _ t (each_after P (id ∷ []) (verdict (next id) xs) t (each_tile P (next id) (h id) xs)) w

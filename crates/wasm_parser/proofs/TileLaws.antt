@@ -4,10 +4,10 @@ use Rattle.std.proofs.lemmas.List.{length-take-le}
 use Rattle.std.proofs.lemmas.Bool.{and_parts}
 use Rattle.wasm_base.specs.FaultAt.{FaultAt, at_offset}
 use Rattle.wasm_base.specs.Name.{of_four}
-use Rattle.wasm_base.specs.Number.{Number, read, bad, short, number as number_at}
+use Rattle.wasm_base.specs.Number.{Number, read, bad, short, number}
 use Rattle.wasm_parser.specs.Content.{Kind, custom, items, index, data_count, code, unknown, kind_of, Ending, fault}
 use Rattle.wasm_base.specs.Header.{magic, agree}
-use Rattle.wasm_parser.specs.Grammar.{Tile, Verdict, tile, final, after, after_number, Grammar, check, number, bytes, section_start, verdict, SectionContext, header_of, header_grammar, content_grammar, after_length, after_id, section_grammar, body_of, body_grammar}
+use Rattle.wasm_parser.specs.Grammar.{Tile, Verdict, tile, final, after, after_number, Grammar, check, u32_field, bytes, section_start, verdict, SectionContext, header_of, header_grammar, content_grammar, after_length, after_id, section_grammar, body_of, body_grammar}
 use Rattle.wasm_parser.specs.Tiling.{context_of, grammar, bodies_left, bytes_left, bytes_of}
 use Rattle.wasm_base.specs.declared.fault.NumberKind.TheVariants.{VarU32}
 use Rattle.wasm_base.specs.declared.fault.Fault.TheVariants.{MagicAtSection}
@@ -46,23 +46,23 @@ bytes_least count o next xs t w = bytes_least_at (nat_le count (length xs)) coun
 pub record Numbered (next : ℕ → ℕ → Grammar) (xs : List ℕ) (t : Tile) : Type 0 where
   pub value : ℕ
   pub used : ℕ
-  pub reads : number_at VarU32 xs ≡ read value used
+  pub reads : number VarU32 xs ≡ read value used
   pub rest : Tile
   pub goes_on : verdict (next value used) (drop used xs) ≡ tile rest
   pub is : t ≡ record rest { bytes = take used xs ++ rest.bytes }
 
-numbered_at : (o : ℕ) (next : ℕ → ℕ → Grammar) (xs : List ℕ) (t : Tile) (n : Number) → number_at VarU32 xs ≡ n → after_number o xs n (λ v k. verdict (next v k) (drop k xs)) ≡ tile t → Numbered next xs t
+numbered_at : (o : ℕ) (next : ℕ → ℕ → Grammar) (xs : List ℕ) (t : Tile) (n : Number) → number VarU32 xs ≡ n → after_number o xs n (λ v k. verdict (next v k) (drop k xs)) ≡ tile t → Numbered next xs t
 numbered_at o next xs t (read v k) e w =
     let (s, r, q) = after-tile (take k xs) (verdict (next v k) (drop k xs)) t w in
     record { value = v; used = k; reads = e; rest = s; goes_on = r; is = q }
 numbered_at o next xs t (bad f p) e w = cc
 numbered_at o next xs t short e w = cc
 
-pub numbered : (o : ℕ) (next : ℕ → ℕ → Grammar) (xs : List ℕ) (t : Tile) → verdict (number o next) xs ≡ tile t → Numbered next xs t
+pub numbered : (o : ℕ) (next : ℕ → ℕ → Grammar) (xs : List ℕ) (t : Tile) → verdict (u32_field o next) xs ≡ tile t → Numbered next xs t
 unfolding verdict
-numbered o next xs t w = numbered_at o next xs t (number_at VarU32 xs) refl w
+numbered o next xs t w = numbered_at o next xs t (number VarU32 xs) refl w
 
-pub number_least : (o : ℕ) (next : ℕ → ℕ → Grammar) (xs : List ℕ) (t : Tile) → verdict (number o next) xs ≡ tile t → 0 < length t.bytes
+pub number_least : (o : ℕ) (next : ℕ → ℕ → Grammar) (xs : List ℕ) (t : Tile) → verdict (u32_field o next) xs ≡ tile t → 0 < length t.bytes
 number_least o next xs t w =
     let n : Numbered next xs t = numbered o next xs t w in
     let u : Used VarU32 xs n.value n.used = number-used VarU32 xs n.value n.used n.reads in
@@ -72,8 +72,8 @@ number_least o next xs t w =
     rw z (omega (arith, length-append (take n.used xs) n.rest.bytes))
 
 -- 0x61 alone is a number, 97
-pub one_byte : (xs : List ℕ) → number_at VarU32 (0x61 ∷ xs) ≡ read 0x61 1
-unfolding number_at
+pub one_byte : (xs : List ℕ) → number VarU32 (0x61 ∷ xs) ≡ read 0x61 1
+unfolding number
 one_byte xs = refl
 
 first_is : (k : ℕ) (xs ys : List ℕ) → 0 < k → 0 < length xs → agree (take k xs ++ ys) (0x61 ∷ 0x73 ∷ 0x6d ∷ []) ≡ true → (zs : List ℕ) × (xs ≡ 0x61 ∷ zs)
@@ -99,7 +99,7 @@ longer p o id xs s w e =
     let parts : ((nat_eq id 0 ≡ true) × (agree s.bytes (0x61 ∷ 0x73 ∷ 0x6d ∷ []) ≡ true)) = and_parts (nat_eq id 0) (agree s.bytes (0x61 ∷ 0x73 ∷ 0x6d ∷ [])) e in
     let z : id ≡ 0 = eqb-true id 0 parts.0 in
     let (zs, q) = first_is n.used xs n.rest.bytes u.some (omega (arith, u.some, u.there)) (rw b at parts.1) in
-    let m : number_at VarU32 xs ≡ read 0x61 1 = ap (number_at VarU32) q ∙ one_byte zs in
+    let m : number VarU32 xs ≡ read 0x61 1 = ap (number VarU32) q ∙ one_byte zs in
     let v : n.value ≡ 0x61 = value_is n.value n.used 0x61 1 (sym n.reads ∙ m) in
     let g : verdict (after_length p (kind_of p.encoding 0) 0 (o + 1) (o + 1 + n.used) 0x61) (drop n.used xs) ≡ tile n.rest =
     subst₂ (λ (i x : ℕ). verdict (after_length p (kind_of p.encoding i) i (o + 1) (o + 1 + n.used) x) (drop n.used xs) ≡ tile n.rest) z v n.goes_on in

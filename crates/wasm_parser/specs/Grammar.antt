@@ -4,7 +4,7 @@ use Rattle.std.specs.List.{list_all, list_any}
 use Rattle.wasm_base.specs.FaultAt.{FaultAt, at_offset}
 use Rattle.wasm_base.specs.Header.{magic, agree}
 use Rattle.wasm_base.specs.Name.{of_four}
-use Rattle.wasm_base.specs.Number.{Number, read, bad, short, number as number_at}
+use Rattle.wasm_base.specs.Number.{Number, read, bad, short, number}
 use Rattle.wasm_parser.specs.Content.{Kind, items, code, kind_of, rank_of, Ending, fault, ended, when, wrong_content, count_of}
 use Rattle.wasm_base.specs.declared.fault.Fault.TheVariants.{UnexpectedEof, BadMagic, UnknownVersion, MagicAtSection, MalformedSectionId, SectionTooLarge, OutOfOrder, FunctionCodeDiffer, FunctionWithoutCode, CodeWithoutFunction, DataCountDiffer, DataCountWithoutData, TrailingCode}
 use Rattle.wasm_base.specs.declared.fault.NumberKind.TheVariants.{VarU32}
@@ -38,7 +38,7 @@ pub data Grammar : Type 0 where
   -- the stream ends here, if something is wrong; then what else may come
   check : Option FaultAt → Grammar → Grammar
   -- a u32 at this offset; then what its value and its length in bytes say
-  number : (offset : ℕ) → (ℕ → ℕ → Grammar) → Grammar
+  u32_field : (offset : ℕ) → (ℕ → ℕ → Grammar) → Grammar
   -- so many bytes, which are missed at this offset; then what they say
   bytes : (count offset : ℕ) → (List ℕ → Grammar) → Grammar
   -- the stream may end here, in this way, and a header may not follow; then what the id says
@@ -61,8 +61,8 @@ verdict (accept shape) rest = tile (record { shape = shape; bytes = [] })
 verdict (reject e) rest = final (fault e)
 verdict (check (Some e) next) rest = final (fault e)
 verdict (check None next) rest = verdict next rest
-verdict (number offset next) rest =
-    after_number offset rest (number_at VarU32 rest) (λ value used. verdict (next value used) (drop used rest))
+verdict (u32_field offset next) rest =
+    after_number offset rest (number VarU32 rest) (λ value used. verdict (next value used) (drop used rest))
 verdict (bytes count offset next) rest =
     if nat_le count (length rest) then after (take count rest) (verdict (next (take count rest)) (drop count rest)) else
     final (fault (at_offset UnexpectedEof offset))
@@ -103,8 +103,8 @@ header_grammar offset = bytes 4 offset (λ prefix.
     bytes 4 (offset + 4) (λ four. version_of offset (of_four four))))
 
 -- how a stream ends at the start of a section: a count above 0 wants its other section
-abbrev pub end_of : SectionContext → (offset : ℕ) → Ending
-end_of context offset =
+abbrev pub end_at_section : SectionContext → (offset : ℕ) → Ending
+end_at_section context offset =
     if list_any (nat_lt 0) context.functions && nat_eq (length context.codes) 0 then fault (at_offset FunctionWithoutCode offset) else
     if list_any (nat_lt 0) context.data_counts && nat_eq (length context.datas) 0 then fault (at_offset DataCountWithoutData offset) else
     ended offset
@@ -117,7 +117,7 @@ wrong_count context offset count =
 
 -- the head of a code section of this length, whose content begins at this offset
 abbrev pub code_grammar : SectionContext → (offset length : ℕ) → Grammar
-code_grammar context offset size = number offset (λ count width.
+code_grammar context offset size = u32_field offset (λ count width.
     check (when (nat_lt size width) (at_offset UnexpectedEof offset)) (
     check (wrong_count context offset count) (
     accept (code_start count width (size - width)))))
@@ -151,11 +151,11 @@ after_length context kind id field offset size =
 abbrev pub after_id : SectionContext → (offset id : ℕ) → Grammar
 after_id context offset id =
     check (when (nat_le 128 id) (at_offset MalformedSectionId offset)) (
-    number (offset + 1) (λ size width. after_length context (kind_of context.encoding id) id (offset + 1) (offset + 1 + width) size))
+    u32_field (offset + 1) (λ size width. after_length context (kind_of context.encoding id) id (offset + 1) (offset + 1 + width) size))
 
 -- a section at this offset. Core specification, Binary format, Modules, Sections
 unfoldable pub section_grammar : SectionContext → (offset : ℕ) → Grammar
-section_grammar context offset = section_start offset (end_of context offset) (after_id context offset)
+section_grammar context offset = section_start offset (end_at_section context offset) (after_id context offset)
 
 -- a body, in a code section of which so many bytes are left. Of two faults the missing bytes come first
 abbrev pub body_of : (offset left size width : ℕ) → Grammar
@@ -167,4 +167,4 @@ body_of offset left size width =
 -- what may come in a code section of which so many bodies and bytes are left
 unfoldable pub body_grammar : (bodies left offset : ℕ) → Grammar
 body_grammar zero left offset = reject (at_offset TrailingCode offset)
-body_grammar (suc bodies) left offset = number offset (λ size width. body_of offset left size width)
+body_grammar (suc bodies) left offset = u32_field offset (λ size width. body_of offset left size width)

@@ -36,8 +36,8 @@ abbrev pub is_magic_next : Place → Bool
 is_magic_next p = agree p.rest magic && nat_le 4 (length p.rest)
 
 -- a section
-abbrev pub ReadsSection : ParserState → (before : Place) → Result Payload Error → (after : Place) → Type 0
-ReadsSection p before result after = ReadsByGrammar (section_grammar (known_context p) before.offset) before result after
+abbrev pub ReadsNextSection : ParserState → (before : Place) → Result Payload Error → (after : Place) → Type 0
+ReadsNextSection p before result after = ReadsByGrammar (section_grammar (known_context p) before.offset) before result after
 
 -- what comes after the id of a section, which is at this offset
 abbrev pub ReadsAfterId : ParserState → (start id : ℕ) → (before : Place) → Result Payload Error → (after : Place) → Type 0

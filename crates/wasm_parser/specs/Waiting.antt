@@ -1,8 +1,8 @@
 -- Where bytes that have come don't decide yet what is there.
 use Rattle.std.specs.Prelude.{ℕ, ◌+◌, ◌-◌, List, [], ◌∷◌, length, take, drop, Some, None, nat_le, if◌then◌else◌}
 use Rattle.wasm_base.specs.Header.{magic, agree}
-use Rattle.wasm_base.specs.Number.{Number, read, bad, short, number as number_at}
-use Rattle.wasm_parser.specs.Grammar.{Grammar, accept, reject, check, number, bytes, section_start}
+use Rattle.wasm_base.specs.Number.{Number, read, bad, short, number}
+use Rattle.wasm_parser.specs.Grammar.{Grammar, accept, reject, check, u32_field, bytes, section_start}
 use Rattle.wasm_base.specs.declared.fault.NumberKind.TheVariants.{VarU32}
 
 -- whether the bytes suffice
@@ -28,8 +28,8 @@ waiting (accept shape) prefix = enough
 waiting (reject e) prefix = enough
 waiting (check (Some e) next) prefix = enough
 waiting (check None next) prefix = waiting next prefix
-waiting (number offset next) prefix =
-    later_number (number_at VarU32 prefix) (λ value used. waiting (next value used) (drop used prefix))
+waiting (u32_field offset next) prefix =
+    later_number (number VarU32 prefix) (λ value used. waiting (next value used) (drop used prefix))
 waiting (bytes count offset next) prefix =
     if nat_le count (length prefix) then later count (waiting (next (take count prefix)) (drop count prefix)) else
     wants count (count - length prefix)

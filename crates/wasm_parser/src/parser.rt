@@ -9,7 +9,7 @@ ghost use Rattle.wasm_parser.specs.ParseAll.{walk_over, WalksWhole};
 ghost use Rattle.wasm_parser.specs.ParseAnswer.{Advances, Consumes, ParseAnswer, FaultsWithin, IsUnchanged};
 ghost use Rattle.wasm_parser.specs.ParserState.{initial_state};
 ghost use Rattle.wasm_parser.specs.Reading.{window_over};
-ghost use Rattle.wasm_parser.specs.ReadsPart.{HasSection, ReadsAfterId, ReadsAfterLength, ReadsBody, ReadsContent, ReadsNext, ReadsSection};
+ghost use Rattle.wasm_parser.specs.ReadsPart.{HasSection, ReadsAfterId, ReadsAfterLength, ReadsBody, ReadsContent, ReadsNext, ReadsNextSection};
 ghost use Rattle.wasm_parser.specs.declared.payload.Encoding.TheVariants.{Module, Component};
 
 use crate::contents::{code, custom, data_count, items, lacks, start, unknown, window};
@@ -19,7 +19,7 @@ use crate::payload::{Chunk, Encoding, Payload};
 use crate::sections::{
     CODE_SECTION, DATA_COUNT_SECTION, DATA_SECTION, FUNCTION_SECTION, Kind, kind_of, rank_of,
 };
-use crate::state::{bodies_after, count_after, count_in, encoding_after, left_after, rank_after};
+use crate::state::{missing_bodies, known_count, id_and_count, known_encoding, missing_bytes, known_rank};
 use bitflags::Flags;
 use std::alloc::AllocError;
 use std::marker::Model;
@@ -225,7 +225,7 @@ impl Parser {
     // What comes where a section may start, and bytes are left.
     fn section<'a>(&self, reader: &mut BinaryReader<'a>) -> Result<Payload<'a>>
         requires { 0 < length (place reader.old).rest }
-        ensures { ReadsSection self.now (place reader.old) result (place reader.new) }
+        ensures { ReadsNextSection self.now (place reader.old) result (place reader.new) }
     {
         let start = reader.original_position();
         if magic_follows(reader) {
@@ -256,7 +256,8 @@ impl Parser {
         size: u32,
         reader: &mut BinaryReader<'a>,
     ) -> Result<Payload<'a>>
-        ensures { ReadsAfterLength self.now id field size (place reader.old) result (place reader.new) }
+        ensures { ReadsAfterLength self.now id field size
+            (place reader.old) result (place reader.new) }
     {
         if u64::from(size) > u64::MAX - reader.original_position() {
             return Err(Error::new(Fault::SectionTooLarge, field).with_number(u64::from(size)));
@@ -278,7 +279,8 @@ impl Parser {
     ) -> Result<Payload<'a>>
         requires known { kind_is kind ≡ form_of self.now.encoding id }
         requires fits { (place reader.old).offset + size < 2 ^ 64 }
-        ensures { ReadsContent self.now (kind_is kind) id size (place reader.old) result (place reader.new) }
+        ensures { ReadsContent self.now (kind_is kind) id size
+            (place reader.old) result (place reader.new) }
     {
         match kind {
             Kind::Custom => custom(id, size, reader),
@@ -331,15 +333,15 @@ impl Parser {
         let taken = end.saturating_sub(self.offset);
         self.offset = end;
         self.expects_header = false;
-        let counted = count_in(payload);
-        self.encoding = encoding_after(payload, self.encoding);
-        self.rank = rank_after(payload, counted, self.rank);
-        self.functions = count_after(counted, FUNCTION_SECTION, self.functions);
-        self.codes = count_after(counted, CODE_SECTION, self.codes);
-        self.datas = count_after(counted, DATA_SECTION, self.datas);
-        self.data_counts = count_after(counted, DATA_COUNT_SECTION, self.data_counts);
-        self.bodies = bodies_after(payload, self.bodies);
-        self.left = left_after(payload, taken, self.left);
+        let counted = id_and_count(payload);
+        self.encoding = known_encoding(payload, self.encoding);
+        self.rank = known_rank(payload, counted, self.rank);
+        self.functions = known_count(counted, FUNCTION_SECTION, self.functions);
+        self.codes = known_count(counted, CODE_SECTION, self.codes);
+        self.datas = known_count(counted, DATA_SECTION, self.datas);
+        self.data_counts = known_count(counted, DATA_COUNT_SECTION, self.data_counts);
+        self.bodies = missing_bodies(payload, self.bodies);
+        self.left = missing_bytes(payload, taken, self.left);
     }
 
     /// Reads what comes next in the stream of which these bytes are all the rest.

@@ -8,7 +8,7 @@ use crate::payload::{Encoding, Payload};
 use crate::sections::{START_SECTION, place_of};
 
 /// The encoding that a header names, or the one that was known.
-pub(crate) fn encoding_after(payload: &Payload, known: Encoding) -> Encoding
+pub(crate) fn known_encoding(payload: &Payload, known: Encoding) -> Encoding
     ensures { result ≡ known_encoding (report_of payload.now) known }
 {
     match payload {
@@ -18,16 +18,16 @@ pub(crate) fn encoding_after(payload: &Payload, known: Encoding) -> Encoding
 }
 
 /// The rank of a section that has one, or the one that was known.
-pub(crate) fn rank_after(payload: &Payload, counted: Option<(u8, u32)>, known: u8) -> u8
+pub(crate) fn known_rank(payload: &Payload, counted: Option<(u8, u32)>, known: u8) -> u8
     requires { counted ≡ count_report (report_of payload.now) }
     ensures { result ≡ known_rank (rank_report (report_of payload.now)) known }
 {
-    let rank = rank_of(payload, counted);
+    let rank = rank_in(payload, counted);
     if rank > 0 { rank } else { known }
 }
 
 // The rank of a section, of which this is the id and count, or 0.
-fn rank_of(payload: &Payload, counted: Option<(u8, u32)>) -> u8
+fn rank_in(payload: &Payload, counted: Option<(u8, u32)>) -> u8
     requires { counted ≡ count_report (report_of payload.now) }
     ensures { result ≡ rank_report (report_of payload.now) }
 {
@@ -41,7 +41,7 @@ fn rank_of(payload: &Payload, counted: Option<(u8, u32)>) -> u8
 }
 
 /// The id and the count of a section that has a count.
-pub(crate) fn count_in(payload: &Payload) -> Option<(u8, u32)>
+pub(crate) fn id_and_count(payload: &Payload) -> Option<(u8, u32)>
     ensures { result ≡ count_report (report_of payload.now) }
 {
     match payload.section_parts() {
@@ -51,7 +51,7 @@ pub(crate) fn count_in(payload: &Payload) -> Option<(u8, u32)>
 }
 
 /// The count of the section with this id, if this is its count, or the one that was known.
-pub(crate) fn count_after(counted: Option<(u8, u32)>, id: u8, known: Option<u32>) -> Option<u32>
+pub(crate) fn known_count(counted: Option<(u8, u32)>, id: u8, known: Option<u32>) -> Option<u32>
     ensures { result ≡ known_count id counted known }
 {
     match counted {
@@ -61,7 +61,7 @@ pub(crate) fn count_after(counted: Option<(u8, u32)>, id: u8, known: Option<u32>
 }
 
 /// The bodies that a code section still misses.
-pub(crate) fn bodies_after(payload: &Payload, known: u32) -> u32
+pub(crate) fn missing_bodies(payload: &Payload, known: u32) -> u32
     ensures { result ≡ missing_bodies (report_of payload.now) known }
 {
     match payload {
@@ -72,7 +72,7 @@ pub(crate) fn bodies_after(payload: &Payload, known: u32) -> u32
 }
 
 /// The bytes that a code section still misses, after what took so many.
-pub(crate) fn left_after(payload: &Payload, taken: u64, known: u32) -> u32
+pub(crate) fn missing_bytes(payload: &Payload, taken: u64, known: u32) -> u32
     ensures { result ≡ missing_bytes (report_of payload.now) taken known }
 {
     match payload {
