@@ -215,7 +215,6 @@ report_no_ending f s to (version num e) o h = cc
 report_no_ending f s to (section items id content) o h = cc
 report_no_ending f s to (section index id content) o h = cc
 report_no_ending f s to (section data_count id content) o h = cc
-report_no_ending f s to (section code id content) o h = cc
 report_no_ending f s to (section unknown id content) o h = cc
 report_no_ending f s to (section custom id content) o h = by_name (to - length content) to (name (Some name_limit) content) h
   where

@@ -7,32 +7,30 @@ use Rattle.wasm_base.specs.declared.fault.Fault.{Fault}
 use Rattle.wasm_base.specs.declared.fault.Fault.TheVariants.{StartContent, DataCountContent}
 use Rattle.wasm_base.specs.declared.fault.NumberKind.TheVariants.{VarU32}
 use Rattle.wasm_base.proofs.NumberLaws.{number-used, Used}
-use Rattle.wasm_parser.specs.Content.{Kind, custom, items, index, data_count, code, unknown, wrong_name, wrong_number, wrong_single, wrong_content}
-use Rattle.wasm_parser.specs.Accepted.{IsNumber, IsGood}
+use Rattle.wasm_parser.specs.Content.{custom, items, index, data_count, unknown, wrong_name, wrong_number, wrong_single, wrong_content, Form}
+use Rattle.wasm_parser.specs.Accepted.{IsNumber, IsFormed}
 use Rattle.wasm_parser.proofs.StateLaws.{none_when}
-use Rattle.wasm_parser.proofs.AcceptedTiles.{IsWhole}
 
 -- nothing is wrong with content that is one number
 single_to : (left : Fault) (o n : ℕ) (content : List ℕ) → IsNumber content n → wrong_single left o content (number VarU32 content) ≡ None
 single_to left o n content e = rw e (rw (le-ltb (length content) (length content) (omega arith)) refl)
 
 -- good content has no fault
-pub good_to : (kind : Kind) (o : ℕ) (content : List ℕ) → IsWhole kind → IsGood kind content → wrong_content kind o content ≡ None
+pub good_to : (form : Form) (o : ℕ) (content : List ℕ) → IsFormed form content → wrong_content form o content ≡ None
 unfolding wrong_content
-good_to custom o content w g = ap (wrong_name o) g.2
-good_to items o content w g = ap (wrong_number o content) g.2
-good_to index o content w g = single_to StartContent o g.0 content g.1
-good_to data_count o content w g = single_to DataCountContent o g.0 content g.1
-good_to unknown o content w g = refl
-good_to code o content w g = absurd w
+good_to custom o content g = ap (wrong_name o) g.2
+good_to items o content g = ap (wrong_number o content) g.2
+good_to index o content g = single_to StartContent o g.0 content g.1
+good_to data_count o content g = single_to DataCountContent o g.0 content g.1
+good_to unknown o content g = refl
 
 -- content with no fault in its name has a name
-named_from : (o : ℕ) (content : List ℕ) (n : Name) → name (Some name_limit) content ≡ n → wrong_name o n ≡ None → IsGood custom content
+named_from : (o : ℕ) (content : List ℕ) (n : Name) → name (Some name_limit) content ≡ n → wrong_name o n ≡ None → IsFormed custom content
 named_from o content (named text used) e h = (text, used, e)
 named_from o content (refused f place) e h = cc
 
 -- content with no fault in its number has a number
-read_from : (o : ℕ) (content : List ℕ) (n : Number) → number VarU32 content ≡ n → wrong_number o content n ≡ None → IsGood items content
+read_from : (o : ℕ) (content : List ℕ) (n : Number) → number VarU32 content ≡ n → wrong_number o content n ≡ None → IsFormed items content
 read_from o content (read v k) e h = (v, k, e)
 read_from o content (bad f place) e h = cc
 read_from o content short e h = cc
@@ -48,11 +46,10 @@ single_from left o content (bad f place) e h = cc
 single_from left o content short e h = cc
 
 -- content with no fault is good
-pub good_from : (kind : Kind) (o : ℕ) (content : List ℕ) → IsWhole kind → wrong_content kind o content ≡ None → IsGood kind content
+pub good_from : (form : Form) (o : ℕ) (content : List ℕ) → wrong_content form o content ≡ None → IsFormed form content
 unfolding wrong_content
-good_from custom o content w h = named_from o content (name (Some name_limit) content) refl h
-good_from items o content w h = read_from o content (number VarU32 content) refl h
-good_from index o content w h = single_from StartContent o content (number VarU32 content) refl h
-good_from data_count o content w h = single_from DataCountContent o content (number VarU32 content) refl h
-good_from unknown o content w h = tt
-good_from code o content w h = absurd w
+good_from custom o content h = named_from o content (name (Some name_limit) content) refl h
+good_from items o content h = read_from o content (number VarU32 content) refl h
+good_from index o content h = single_from StartContent o content (number VarU32 content) refl h
+good_from data_count o content h = single_from DataCountContent o content (number VarU32 content) refl h
+good_from unknown o content h = tt

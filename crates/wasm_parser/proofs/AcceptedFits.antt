@@ -4,9 +4,10 @@ use Rattle.std.proofs.lemmas.Bool.{not-false}
 use Rattle.std.specs.List.{All, Any, list_all, list_any}
 use Rattle.wasm_base.specs.FaultAt.{FaultAt, at_offset}
 use Rattle.wasm_base.specs.declared.fault.Fault.TheVariants.{FunctionCodeDiffer, CodeWithoutFunction, DataCountDiffer}
+use Rattle.wasm_parser.proofs.AcceptedTiles.{IsWhole, same_form}
 use Rattle.wasm_parser.specs.declared.payload.Encoding.{Encoding}
 use Rattle.wasm_parser.specs.declared.payload.Encoding.TheVariants.{Module, Component}
-use Rattle.wasm_parser.specs.Content.{Kind, custom, items, index, data_count, code, unknown, kind_of, when}
+use Rattle.wasm_parser.specs.Content.{custom, items, index, data_count, unknown, kind_of, when, Form, whole}
 use Rattle.wasm_parser.specs.Grammar.{SectionContext, wrong_count, wrong_data}
 use Rattle.wasm_parser.specs.Accepted.{Frame, frame_count, frame_rank, IsSection}
 use Rattle.wasm_parser.proofs.StateLaws.{Follows, follows_all}
@@ -89,32 +90,31 @@ right_data true false e h z = cc
 right_data false all e h z = cc
 
 -- a component has no section of items
-pub no_items : (id : ℕ) → kind_of Component id ≡ items → ⊥
+pub no_items : (id : ℕ) → kind_of Component id ≡ whole items → ⊥
 no_items zero e = cc
 no_items (suc id) e = cc
 
 -- sections of items are a module's
-items_in : (encoding : Encoding) (id : ℕ) → kind_of encoding id ≡ items → encoding ≡ Module
+items_in : (encoding : Encoding) (id : ℕ) → kind_of encoding id ≡ whole items → encoding ≡ Module
 items_in Module id e = refl
 items_in Component id e = absurd (no_items id e)
 
 -- a section that fits has the right count of segments
 pub data_to : (encoding : Encoding) (fs : List Frame) (p : SectionContext) → Knows encoding fs p → (f : Frame) (o : ℕ) → (IsSection encoding 11 f → HasCount encoding 12 (frame_count f) fs)
-    → (kind : Kind) → kind_of encoding f.id ≡ kind → wrong_data p kind f.id o f.sized.content ≡ None
+    → (form : Form) → kind_of encoding f.id ≡ whole form → wrong_data p form f.id o f.sized.content ≡ None
 data_to encoding fs p k f o h items e =
     data_right (f.id == 11) (list_all (nat_eq (frame_count f)) p.data_counts) (at_offset DataCountDiffer o)
     (λ z. ap (list_all (nat_eq (frame_count f))) k.data_counts ∙ same_to encoding 12 (frame_count f) fs (h (items_in encoding f.id e, eqb-true f.id 11 z)))
 data_to encoding fs p k f o h custom e = refl
 data_to encoding fs p k f o h index e = refl
 data_to encoding fs p k f o h data_count e = refl
-data_to encoding fs p k f o h code e = refl
 data_to encoding fs p k f o h unknown e = refl
 
 -- a section with the right count of segments fits
-pub data_from : (encoding : Encoding) (fs : List Frame) (p : SectionContext) → Knows encoding fs p → (f : Frame) (o : ℕ) → wrong_data p (kind_of encoding f.id) f.id o f.sized.content ≡ None
+pub data_from : (encoding : Encoding) (fs : List Frame) (p : SectionContext) → Knows encoding fs p → (f : Frame) (o : ℕ) (w : IsWhole (kind_of encoding f.id)) → wrong_data p w.0 f.id o f.sized.content ≡ None
     → IsSection encoding 11 f → HasCount encoding 12 (frame_count f) fs
-data_from encoding fs p k f o h s =
-    let z : kind_of encoding f.id ≡ items = ap (λ (x : Encoding). kind_of x f.id) s.0 ∙ ap (kind_of Module) s.1 in
-    let w : wrong_data p items f.id o f.sized.content ≡ None = subst (λ (x : Kind). wrong_data p x f.id o f.sized.content ≡ None) z h in
+data_from encoding fs p k f o w h s =
+    let z : kind_of encoding f.id ≡ whole items = ap (λ (x : Encoding). kind_of x f.id) s.0 ∙ ap (kind_of Module) s.1 in
+    let v : wrong_data p items f.id o f.sized.content ≡ None = subst (λ (x : Form). wrong_data p x f.id o f.sized.content ≡ None) (same_form w.0 items (sym w.1 ∙ z)) h in
     same_of encoding 12 (frame_count f) fs
-    (sym (ap (list_all (nat_eq (frame_count f))) k.data_counts) ∙ right_data (f.id == 11) (list_all (nat_eq (frame_count f)) p.data_counts) (at_offset DataCountDiffer o) w (eq-eqb f.id 11 s.1))
+    (sym (ap (list_all (nat_eq (frame_count f))) k.data_counts) ∙ right_data (f.id == 11) (list_all (nat_eq (frame_count f)) p.data_counts) (at_offset DataCountDiffer o) v (eq-eqb f.id 11 s.1))

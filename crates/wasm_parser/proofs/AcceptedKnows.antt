@@ -6,13 +6,13 @@ use Rattle.std.proofs.Math.Bool.{and_comm}
 use Rattle.std.proofs.lemmas.List.Folds.{list_all-append}
 use Rattle.wasm_parser.specs.declared.payload.Encoding.{Encoding}
 use Rattle.wasm_parser.specs.declared.payload.Encoding.TheVariants.{Module, Component}
-use Rattle.wasm_parser.specs.Content.{Kind, custom, items, index, data_count, code, unknown, kind_of, rank_of, count_of}
+use Rattle.wasm_parser.specs.Content.{Kind, custom, items, index, data_count, code, unknown, kind_of, rank_of, count_of, Form, whole}
 use Rattle.wasm_parser.specs.Grammar.{version, section, code_start, code_entry, Tile, Grammar, section_grammar, body_grammar}
 use Rattle.wasm_parser.specs.Tiling.{bytes_of, grammar, context_of, tile_rank, count_in, counts, bodies_left, bytes_left}
 use Rattle.wasm_parser.specs.ParserState.{is_start}
 use Rattle.wasm_parser.specs.Accepted.{Frame, frame_count, frame_rank}
 use Rattle.wasm_parser.proofs.AcceptedCounts.{one_count, counts_of, counts_push, Knows}
-use Rattle.wasm_parser.proofs.AcceptedTiles.{made, IsWhole, header_version}
+use Rattle.wasm_parser.proofs.AcceptedTiles.{made, IsWhole, header_version, not_code}
 
 -- what may come after tiles that are at the end of a section
 pub grammar_closed : (start : ℕ) (ts : List Tile) → is_start ts ≡ false → nat_eq (bodies_left ts + bytes_left ts) 0 ≡ true
@@ -62,62 +62,63 @@ all_push p fs f = list_all-append p fs (f ∷ []) ∙ (and_comm (list_all p fs) 
 
 -- a section of this kind has a count
 abbrev pub IsCounting : Kind → Type 0
-IsCounting custom = ⊥
-IsCounting items = Unit {0}
-IsCounting index = ⊥
-IsCounting data_count = Unit {0}
-IsCounting code = ⊥
-IsCounting unknown = ⊥
+IsCounting (whole items) = Unit {0}
+IsCounting (whole data_count) = Unit {0}
+IsCounting other = ⊥
 
 -- a section with another id adds no count
-other_count : (n id : ℕ) (k : Kind) (content others : List ℕ) → nat_eq id n ≡ false → count_in n (section k id content) others ≡ others
+other_count : (n id : ℕ) (k : Form) (content others : List ℕ) → nat_eq id n ≡ false → count_in n (section k id content) others ≡ others
 other_count n id custom content others e = refl
 other_count n id items content others e = rw e refl
 other_count n id index content others e = refl
 other_count n id data_count content others e = rw e refl
-other_count n id code content others e = refl
 other_count n id unknown content others e = refl
 
 -- a section with this id adds its count
-this_count : (n id : ℕ) (k : Kind) (content others : List ℕ) → nat_eq id n ≡ true → IsCounting k → count_in n (section k id content) others ≡ count_of content ∷ others
+this_count : (n id : ℕ) (k : Form) (content others : List ℕ) → nat_eq id n ≡ true → IsCounting (whole k) → count_in n (section k id content) others ≡ count_of content ∷ others
 this_count n id custom content others e c = absurd c
 this_count n id items content others e c = rw e refl
 this_count n id index content others e c = absurd c
 this_count n id data_count content others e c = rw e refl
-this_count n id code content others e c = absurd c
 this_count n id unknown content others e c = absurd c
 
 -- a component's section adds no count
-component_count : (n id : ℕ) (content others : List ℕ) → count_in n (section (kind_of Component id) id content) others ≡ others
+abbrev kind_count : (n id : ℕ) → Kind → (content others : List ℕ) → List ℕ
+kind_count n id (whole form) content others = count_in n (section form id content) others
+kind_count n id code content others = others
+
+component_count : (n id : ℕ) (content others : List ℕ) → kind_count n id (kind_of Component id) content others ≡ others
 component_count n zero content others = refl
 component_count n (suc id) content others = refl
 
 -- a module's section adds its count exactly if it has this id
-module_count : (n id : ℕ) (content others : List ℕ) → IsCounting (kind_of Module n) ⊎ (kind_of Module n ≡ code) → IsWhole (kind_of Module id)
-    → (b : Bool) → nat_eq id n ≡ b → count_in n (section (kind_of Module id) id content) others ≡ cond b (count_of content ∷ []) [] ++ others
+module_count : (n id : ℕ) (content others : List ℕ) → IsCounting (kind_of Module n) ⊎ (kind_of Module n ≡ code) → (w : IsWhole (kind_of Module id))
+    → (b : Bool) → nat_eq id n ≡ b → count_in n (section w.0 id content) others ≡ cond b (count_of content ∷ []) [] ++ others
 module_count n id content others (inl c) w true e =
-    this_count n id (kind_of Module id) content others e (subst (λ (x : ℕ). IsCounting (kind_of Module x)) (sym (eqb-true id n e)) c)
+    this_count n id w.0 content others e (subst IsCounting w.1 (subst (λ (x : ℕ). IsCounting (kind_of Module x)) (sym (eqb-true id n e)) c))
 module_count n id content others (inr c) w true e =
-    absurd (subst IsWhole (ap (kind_of Module) (eqb-true id n e) ∙ c) w)
-module_count n id content others c w false e = other_count n id (kind_of Module id) content others e
+    absurd (not_code w.0 (sym w.1 ∙ (ap (kind_of Module) (eqb-true id n e) ∙ c)))
+module_count n id content others c w false e = other_count n id w.0 content others e
 
 -- a section's tile has the count of its frame
-section_count : (n : ℕ) → IsCounting (kind_of Module n) ⊎ (kind_of Module n ≡ code) → (encoding : Encoding) (f : Frame) (others : List ℕ) → IsWhole (kind_of encoding f.id)
-    → count_in n (section (kind_of encoding f.id) f.id f.sized.content) others ≡ one_count encoding n f ++ others
+section_count : (n : ℕ) → IsCounting (kind_of Module n) ⊎ (kind_of Module n ≡ code) → (encoding : Encoding) (f : Frame) (others : List ℕ) (w : IsWhole (kind_of encoding f.id))
+    → count_in n (section w.0 f.id f.sized.content) others ≡ one_count encoding n f ++ others
 section_count n c Module f others w = module_count n f.id f.sized.content others c w (nat_eq f.id n) refl
-section_count n c Component f others w = component_count n f.id f.sized.content others
+section_count n c Component f others w =
+    ap (λ (k : Kind). kind_count n f.id k f.sized.content others) (sym w.1) ∙ component_count n f.id f.sized.content others
 
 -- counts with those of one more frame are the counts of all frames
 counts_more : (encoding : Encoding) (n : ℕ) (fs : List Frame) (f : Frame) (old new : List ℕ) → old ≡ counts_of encoding n fs → new ≡ one_count encoding n f ++ old → new ≡ counts_of encoding n (fs ++ f ∷ [])
 counts_more encoding n fs f old new e h = h ∙ (ap (λ (x : List ℕ). one_count encoding n f ++ x) e ∙ sym (counts_push encoding n fs f))
 
 -- a section that is one tile says what its frame says
-pub knows_section : (encoding : Encoding) (fs : List Frame) (ts : List Tile) (f : Frame) (bytes : List ℕ) → IsWhole (kind_of encoding f.id) → Knows encoding fs (context_of ts)
-    → Knows encoding (fs ++ f ∷ []) (context_of (made (section (kind_of encoding f.id) f.id f.sized.content) bytes ∷ ts))
+pub knows_section : (encoding : Encoding) (fs : List Frame) (ts : List Tile) (f : Frame) (bytes : List ℕ) (w : IsWhole (kind_of encoding f.id)) → Knows encoding fs (context_of ts)
+    → Knows encoding (fs ++ f ∷ []) (context_of (made (section w.0 f.id f.sized.content) bytes ∷ ts))
 knows_section encoding fs ts f bytes w k = record {
   named = k.named;
   ranks = λ r l.
-      ap (λ (b : Bool). nat_lt (frame_rank encoding f) r && b) (k.ranks r l) ∙ sym (all_push (λ (g : Frame). nat_lt (frame_rank encoding g) r) fs f);
+      ap (λ (x : Kind). nat_lt (rank_of x f.id) r && (context_of ts).may_follow r) (sym w.1)
+      ∙ (ap (λ (b : Bool). nat_lt (frame_rank encoding f) r && b) (k.ranks r l) ∙ sym (all_push (λ (g : Frame). nat_lt (frame_rank encoding g) r) fs f));
   functions = counts_more encoding 3 fs f (counts 3 ts) _ k.functions (section_count 3 (inl tt) encoding f (counts 3 ts) w);
   codes = counts_more encoding 10 fs f (counts 10 ts) _ k.codes (section_count 10 (inr refl) encoding f (counts 10 ts) w);
   datas = counts_more encoding 11 fs f (counts 11 ts) _ k.datas (section_count 11 (inl tt) encoding f (counts 11 ts) w);

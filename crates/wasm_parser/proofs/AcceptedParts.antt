@@ -7,7 +7,7 @@ use Rattle.wasm_base.specs.Number.{read}
 use Rattle.wasm_base.specs.declared.fault.NumberKind.TheVariants.{VarU32}
 use Rattle.wasm_base.specs.declared.fault.Fault.TheVariants.{MagicAtSection, UnexpectedEof}
 use Rattle.wasm_base.proofs.NumberLaws.{number-used, Used}
-use Rattle.wasm_parser.specs.Content.{Kind, custom, items, index, data_count, code, unknown, kind_of, rank_of, Ending, fault, when, wrong_content}
+use Rattle.wasm_parser.specs.Content.{Kind, kind_of, rank_of, Ending, fault, when, wrong_content, Form}
 use Rattle.wasm_parser.specs.Grammar.{Shape, section, code_start, code_entry, Tile, tile, final, after, SectionContext, Grammar, accept, check, u32_field, bytes, verdict, section_grammar, body_grammar, content_grammar, whole_grammar, code_grammar, after_length, after_id, wrong_count, wrong_data}
 use Rattle.wasm_parser.specs.Accepted.{IsNumber}
 use Rattle.wasm_parser.proofs.GrammarLaws.{after-tile}
@@ -126,7 +126,7 @@ section_parts p o [] t h = cc
 section_parts p o (id ∷ xs) t h = start_at (agree (id ∷ xs) magic && nat_le 4 (length (id ∷ xs))) p o id xs (at_offset MagicAtSection o) t h
 
 -- a section that is one tile: its content
-pub record WholeParts (p : SectionContext) (kind : Kind) (id o size : ℕ) (t : Tile) : Type 0 where
+pub record WholeParts (p : SectionContext) (kind : Form) (id o size : ℕ) (t : Tile) : Type 0 where
   pub content : List ℕ
   pub long : length content ≡ size
   pub right : wrong_content kind o content ≡ None
@@ -134,7 +134,7 @@ pub record WholeParts (p : SectionContext) (kind : Kind) (id o size : ℕ) (t : 
   pub is : t ≡ made (section kind id content) content
 
 -- the content of a section that is one tile
-whole_parts : (p : SectionContext) (kind : Kind) (id o size : ℕ) (xs : List ℕ) (t : Tile) → verdict (whole_grammar p kind id o size) xs ≡ tile t → WholeParts p kind id o size t
+whole_parts : (p : SectionContext) (kind : Form) (id o size : ℕ) (xs : List ℕ) (t : Tile) → verdict (whole_grammar p kind id o size) xs ≡ tile t → WholeParts p kind id o size t
 whole_parts p kind id o size xs t h =
     let b : BytesParts size (λ content. check (wrong_content kind o content) (check (wrong_data p kind id (o + size) content) (accept (section kind id content)))) t = bytes_parts size o _ xs t h in
     let c : ((wrong_content kind o b.prefix ≡ None) × (verdict _ b.others ≡ tile b.rest)) = refuse_parts _ _ b.others b.rest b.goes_on in
@@ -148,13 +148,8 @@ whole_parts p kind id o size xs t h =
     }
 
 -- the same for each of its kinds
-pub content_parts : (p : SectionContext) (kind : Kind) (id o size : ℕ) (xs : List ℕ) (t : Tile) → IsWhole kind → verdict (content_grammar p kind id o size) xs ≡ tile t → WholeParts p kind id o size t
-content_parts p custom id o size xs t w h = whole_parts p custom id o size xs t h
-content_parts p items id o size xs t w h = whole_parts p items id o size xs t h
-content_parts p index id o size xs t w h = whole_parts p index id o size xs t h
-content_parts p data_count id o size xs t w h = whole_parts p data_count id o size xs t h
-content_parts p unknown id o size xs t w h = whole_parts p unknown id o size xs t h
-content_parts p code id o size xs t w h = absurd w
+pub content_parts : (p : SectionContext) (kind : Kind) (id o size : ℕ) (xs : List ℕ) (t : Tile) (w : IsWhole kind) → verdict (content_grammar p kind id o size) xs ≡ tile t → WholeParts p w.0 id o size t
+content_parts p kind id o size xs t w h = whole_parts p w.0 id o size xs t (subst (λ (k : Kind). verdict (content_grammar p k id o size) xs ≡ tile t) w.1 h)
 
 -- a code section up to its count: that count
 pub record HeadParts (p : SectionContext) (o size : ℕ) (t : Tile) : Type 0 where

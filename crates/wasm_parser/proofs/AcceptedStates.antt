@@ -9,14 +9,14 @@ use Rattle.wasm_parser.specs.declared.payload.Encoding.TheVariants.{Module}
 use Rattle.wasm_parser.specs.Content.{Kind, code, kind_of, rank_of, value_of}
 use Rattle.wasm_parser.specs.Grammar.{section, code_start, code_entry, Tile, tile, SectionContext, verdict, content_grammar, wrong_count}
 use Rattle.wasm_parser.specs.Tiling.{bytes_of, context_of, bodies_left, bytes_left, encoding_of}
-use Rattle.wasm_parser.specs.Accepted.{Sized, sized_bytes, IsNumber, IsSized, Frame, frame_bytes, frame_count, frame_rank, IsFrame, FitsAfter, CodeDivision, IsSection}
+use Rattle.wasm_parser.specs.Accepted.{Sized, sized_bytes, IsNumber, IsSized, Frame, frame_bytes, frame_count, frame_rank, IsFrame, FitsAfter, CodeDivision, IsSection, IsGood}
 use Rattle.wasm_parser.proofs.StateLaws.{Follows}
 use Rattle.wasm_parser.proofs.AcceptedLists.{split_last}
 use Rattle.wasm_parser.proofs.AcceptedCounts.{Knows}
 use Rattle.wasm_parser.proofs.AcceptedContents.{good_from}
 use Rattle.wasm_parser.proofs.KindIds.{code_id}
 use Rattle.wasm_parser.proofs.AcceptedFits.{rank_from, CodeFits, code_from, data_from}
-use Rattle.wasm_parser.proofs.AcceptedTiles.{made, IsWhole, number_on}
+use Rattle.wasm_parser.proofs.AcceptedTiles.{made, IsWhole, number_on, not_code}
 use Rattle.wasm_parser.proofs.AcceptedParts.{SectionParts, WholeParts, content_parts, HeadParts, head_parts, BodyParts}
 use Rattle.wasm_parser.proofs.AcceptedKnows.{knows_section, knows_code, knows_body}
 use Rattle.wasm_parser.proofs.AcceptedWalks.{stream_of, stream_more}
@@ -108,25 +108,25 @@ abbrev frame_of : ℕ → List ℕ → List ℕ → Frame
 frame_of id field content = record { id = id; sized = record { field = field; content = content } }
 
 -- a section that is one tile is good
-whole_frame : (p : SectionContext) (o : ℕ) (t : Tile) (s : SectionParts p o t) (at : ℕ) → IsWhole (kind_of p.encoding s.id) → (c : WholeParts p (kind_of p.encoding s.id) s.id at s.size s.rest)
+whole_frame : (p : SectionContext) (o : ℕ) (t : Tile) (s : SectionParts p o t) (at : ℕ) (w : IsWhole (kind_of p.encoding s.id)) (c : WholeParts p w.0 s.id at s.size s.rest)
     → IsFrame p.encoding (frame_of s.id s.field c.content)
 whole_frame p o t s at w c = record {
   id = s.below;
   sized = s.whole ∙ ap (λ (n : ℕ). read n (length s.field)) (sym c.long);
-  content = good_from (kind_of p.encoding s.id) at c.content w c.right;
+  content = subst (λ (k : Kind). IsGood k c.content) (sym w.1) (good_from w.0 at c.content c.right);
 }
 
 -- a section that is one tile fits after the frames before it
-whole_fits : (p : SectionContext) (fs : List Frame) (o : ℕ) (t : Tile) (s : SectionParts p o t) (at : ℕ) → Knows p.encoding fs p → IsWhole (kind_of p.encoding s.id) → (c : WholeParts p (kind_of p.encoding s.id) s.id at s.size s.rest)
+whole_fits : (p : SectionContext) (fs : List Frame) (o : ℕ) (t : Tile) (s : SectionParts p o t) (at : ℕ) → Knows p.encoding fs p → (w : IsWhole (kind_of p.encoding s.id)) (c : WholeParts p w.0 s.id at s.size s.rest)
     → FitsAfter p.encoding fs (frame_of s.id s.field c.content)
 whole_fits p fs o t s at k w c =
     let f : Frame = frame_of s.id s.field c.content in
-    let no : IsSection p.encoding 10 f → ⊥ = λ y. subst IsWhole (ap (λ (x : Encoding). kind_of x s.id) y.0 ∙ ap (kind_of Module) y.1) w in
+    let no : IsSection p.encoding 10 f → ⊥ = λ y. not_code w.0 (sym w.1 ∙ (ap (λ (x : Encoding). kind_of x s.id) y.0 ∙ ap (kind_of Module) y.1)) in
     record {
       ranks = rank_from p.encoding fs p k (frame_rank p.encoding f) s.follows;
       bodies = λ y. absurd (no y);
       functions = λ y. absurd (no y);
-      segments = data_from p.encoding fs p k f (at + s.size) c.counted;
+      segments = data_from p.encoding fs p k f (at + s.size) w c.counted;
     }
 
 -- after whole sections, one more that is one tile
@@ -134,10 +134,10 @@ pub whole_settled : (ts : List Tile) (o : ℕ) (t : Tile) → Settled ts → (s 
 whole_settled ts o t q s w =
     let e : Encoding = encoding_of ts in
     let at : ℕ = o + 1 + length s.field in
-    let c : WholeParts (context_of ts) (kind_of e s.id) s.id at s.size s.rest = content_parts (context_of ts) (kind_of e s.id) s.id at s.size s.others s.rest w s.goes_on in
+    let c : WholeParts (context_of ts) w.0 s.id at s.size s.rest = content_parts (context_of ts) (kind_of e s.id) s.id at s.size s.others s.rest w s.goes_on in
     let f : Frame = frame_of s.id s.field c.content in
-    let z : t ≡ made (section (kind_of e s.id) s.id c.content) (frame_bytes f) = s.is ∙ ap (λ (x : Tile). made x.shape (s.id ∷ (s.field ++ x.bytes))) c.is in
-    let r : Settled (made (section (kind_of e s.id) s.id c.content) (frame_bytes f) ∷ ts) = record {
+    let z : t ≡ made (section w.0 s.id c.content) (frame_bytes f) = s.is ∙ ap (λ (x : Tile). made x.shape (s.id ∷ (s.field ++ x.bytes))) c.is in
+    let r : Settled (made (section w.0 s.id c.content) (frame_bytes f) ∷ ts) = record {
       frames = q.frames ++ f ∷ [];
       joined = stream_more e q.frames f (bytes_of ts) q.joined;
       knows = knows_section e q.frames ts f (frame_bytes f) w q.knows;

@@ -6,7 +6,7 @@ use Rattle.std.proofs.lemmas.List.Elements.{All-head, All-tail}
 use Rattle.wasm_base.specs.Name.{named, name_limit, name}
 use Rattle.wasm_parser.specs.declared.payload.Encoding.{Encoding}
 use Rattle.wasm_parser.specs.declared.payload.Encoding.TheVariants.{Module, Component}
-use Rattle.wasm_parser.specs.Content.{kind_of, rank_of, value_of, count_of}
+use Rattle.wasm_parser.specs.Content.{kind_of, rank_of, value_of, count_of, Kind}
 use Rattle.wasm_parser.specs.Grammar.{section, code_start, code_entry, Tile, tile, SectionContext, Grammar, verdict, section_grammar, body_grammar}
 use Rattle.wasm_parser.specs.Tiling.{bytes_of, grammar, Faultless, context_of, bodies_left, bytes_left}
 use Rattle.wasm_parser.specs.ParserState.{is_start}
@@ -35,17 +35,17 @@ named_zero Component id content g z = subst (λ (x : ℕ). IsGood (kind_of Compo
 
 -- a good section that fits after tiles of its own encoding is a tile
 section_at : (p : SectionContext) (fs : List Frame) (o : ℕ) (f : Frame) → o + length (frame_bytes f) < 2 ^ 64 → Knows p.encoding fs p → IsFrame p.encoding f → FitsAfter p.encoding fs f
-    → IsWhole (kind_of p.encoding f.id) → verdict (section_grammar p o) (frame_bytes f) ≡ tile (made (section (kind_of p.encoding f.id) f.id f.sized.content) (frame_bytes f))
+    → (w : IsWhole (kind_of p.encoding f.id)) → verdict (section_grammar p o) (frame_bytes f) ≡ tile (made (section w.0 f.id f.sized.content) (frame_bytes f))
 section_at p fs o f r k i a w =
     section_tile p o f.id f.sized.field f.sized.content (head_of_frame p fs o f k i a r) w (named_zero p.encoding f.id f.sized.content i.content)
-    (λ at. good_to (kind_of p.encoding f.id) at f.sized.content w i.content)
-    (λ at. data_to p.encoding fs p k f at a.segments (kind_of p.encoding f.id) refl)
+    (λ at. good_to w.0 at f.sized.content (subst (λ (k : Kind). IsGood k f.sized.content) w.1 i.content))
+    (λ at. data_to p.encoding fs p k f at a.segments w.0 w.1)
 
 -- a good section that fits and is no code section is a tile
 pub section_step : (encoding : Encoding) (p : SectionContext) (fs : List Frame) (o : ℕ) (f : Frame) → o + length (frame_bytes f) < 2 ^ 64 → Knows encoding fs p → IsFrame encoding f → FitsAfter encoding fs f
-    → IsWhole (kind_of encoding f.id) → verdict (section_grammar p o) (frame_bytes f) ≡ tile (made (section (kind_of encoding f.id) f.id f.sized.content) (frame_bytes f))
+    → (w : IsWhole (kind_of encoding f.id)) → verdict (section_grammar p o) (frame_bytes f) ≡ tile (made (section w.0 f.id f.sized.content) (frame_bytes f))
 section_step encoding p fs o f r k i a w =
-    subst (λ (e : Encoding). Knows e fs p → IsFrame e f → FitsAfter e fs f → IsWhole (kind_of e f.id) → verdict (section_grammar p o) (frame_bytes f) ≡ tile (made (section (kind_of e f.id) f.id f.sized.content) (frame_bytes f)))
+    subst (λ (e : Encoding). Knows e fs p → IsFrame e f → FitsAfter e fs f → (w : IsWhole (kind_of e f.id)) → verdict (section_grammar p o) (frame_bytes f) ≡ tile (made (section w.0 f.id f.sized.content) (frame_bytes f)))
     k.named (section_at p fs o f r) k i a w
 
 -- what a code section's content says it has

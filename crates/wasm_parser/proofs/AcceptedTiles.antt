@@ -12,7 +12,7 @@ use Rattle.wasm_base.specs.declared.fault.Fault.TheVariants.{UnexpectedEof}
 use Rattle.wasm_base.proofs.NumberLaws.{number-more, number-used, Used}
 use Rattle.wasm_parser.specs.declared.payload.Encoding.{Encoding}
 use Rattle.wasm_parser.specs.declared.payload.Encoding.TheVariants.{Module, Component}
-use Rattle.wasm_parser.specs.Content.{Kind, custom, items, index, data_count, code, unknown, kind_of, rank_of, Ending, when, wrong_content}
+use Rattle.wasm_parser.specs.Content.{Kind, code, kind_of, rank_of, Ending, when, wrong_content, Form, whole}
 use Rattle.wasm_parser.specs.Grammar.{Shape, version, section, code_start, code_entry, Tile, tile, SectionContext, Grammar, accept, check, u32_field, bytes, section_start, verdict, header_grammar, section_grammar, body_grammar, content_grammar, whole_grammar, code_grammar, after_id, wrong_count, wrong_data}
 use Rattle.wasm_parser.specs.Accepted.{IsNumber, header_bytes}
 use Rattle.wasm_parser.proofs.StateLaws.{Follows}
@@ -74,7 +74,7 @@ all_of_it : (g : Grammar) (s : Shape) (xs : List ℕ) → verdict g (xs ++ []) �
 all_of_it g s xs h = subst (λ (x : List ℕ). verdict g x ≡ tile (made s x)) (append-nil xs) h
 
 -- content with no fault is a tile
-whole_tile : (p : SectionContext) (kind : Kind) (id o : ℕ) (content : List ℕ) → wrong_content kind o content ≡ None → wrong_data p kind id (o + length content) content ≡ None
+whole_tile : (p : SectionContext) (kind : Form) (id o : ℕ) (content : List ℕ) → wrong_content kind o content ≡ None → wrong_data p kind id (o + length content) content ≡ None
     → verdict (whole_grammar p kind id o (length content)) content ≡ tile (made (section kind id content) content)
 whole_tile p kind id o content a b =
     all_of_it (whole_grammar p kind id o (length content)) (section kind id content) content
@@ -83,31 +83,24 @@ whole_tile p kind id o content a b =
 
 -- a section that is one tile
 abbrev pub IsWhole : Kind → Type 0
-IsWhole code = ⊥
-IsWhole custom = Unit {0}
-IsWhole items = Unit {0}
-IsWhole index = Unit {0}
-IsWhole data_count = Unit {0}
-IsWhole unknown = Unit {0}
+IsWhole kind = (form : Form) × (kind ≡ whole form)
 
 -- each section is one tile, or a code section
 pub whole_or_code : (k : Kind) → IsWhole k ⊎ (k ≡ code)
-whole_or_code custom = inl tt
-whole_or_code items = inl tt
-whole_or_code index = inl tt
-whole_or_code data_count = inl tt
+whole_or_code (whole form) = inl (form, refl)
 whole_or_code code = inr refl
-whole_or_code unknown = inl tt
 
--- the same for each kind of section that is one tile
-content_tile : (p : SectionContext) (kind : Kind) (id o : ℕ) (content : List ℕ) → IsWhole kind → wrong_content kind o content ≡ None → wrong_data p kind id (o + length content) content ≡ None
-    → verdict (content_grammar p kind id o (length content)) content ≡ tile (made (section kind id content) content)
-content_tile p custom id o content w a b = whole_tile p custom id o content a b
-content_tile p items id o content w a b = whole_tile p items id o content a b
-content_tile p index id o content w a b = whole_tile p index id o content a b
-content_tile p data_count id o content w a b = whole_tile p data_count id o content a b
-content_tile p unknown id o content w a b = whole_tile p unknown id o content a b
-content_tile p code id o content w a b = absurd w
+pub not_code : (form : Form) → whole form ≡ code → ⊥
+not_code form e = cc
+
+pub same_form : (one other : Form) → whole one ≡ whole other → one ≡ other
+same_form one other e = cc
+
+-- the same for a kind that is one tile
+content_tile : (p : SectionContext) (kind : Kind) (id o : ℕ) (content : List ℕ) (w : IsWhole kind) → wrong_content w.0 o content ≡ None → wrong_data p w.0 id (o + length content) content ≡ None
+    → verdict (content_grammar p kind id o (length content)) content ≡ tile (made (section w.0 id content) content)
+content_tile p kind id o content w a b =
+    subst (λ (k : Kind). verdict (content_grammar p k id o (length content)) content ≡ tile (made (section w.0 id content) content)) (sym w.1) (whole_tile p w.0 id o content a b)
 
 -- what comes before a section's content is right
 pub record HeadIsRight (p : SectionContext) (o id : ℕ) (field : List ℕ) (size : ℕ) : Type 0 where
@@ -183,12 +176,12 @@ no_magic id field content e n = false_from_ne_true _ (λ h.
     magic_field field content m.0 m.1 e r.1 m.2)
 
 -- a section that is one tile
-pub section_tile : (p : SectionContext) (o id : ℕ) (field content : List ℕ) → HeadIsRight p o id field (length content) → IsWhole (kind_of p.encoding id)
+pub section_tile : (p : SectionContext) (o id : ℕ) (field content : List ℕ) → HeadIsRight p o id field (length content) → (w : IsWhole (kind_of p.encoding id))
     → (id ≡ 0 → (text : List ℕ) × (used : ℕ) × (name (Some name_limit) content ≡ named text used))
-    → ((at : ℕ) → wrong_content (kind_of p.encoding id) at content ≡ None) → ((at : ℕ) → wrong_data p (kind_of p.encoding id) id at content ≡ None)
-    → verdict (section_grammar p o) (id ∷ (field ++ content)) ≡ tile (made (section (kind_of p.encoding id) id content) (id ∷ (field ++ content)))
+    → ((at : ℕ) → wrong_content w.0 at content ≡ None) → ((at : ℕ) → wrong_data p w.0 id at content ≡ None)
+    → verdict (section_grammar p o) (id ∷ (field ++ content)) ≡ tile (made (section w.0 id content) (id ∷ (field ++ content)))
 section_tile p o id field content f w n a b =
-    framed_tile p o id field (length content) content (section (kind_of p.encoding id) id content) f (no_magic id field content f.number n)
+    framed_tile p o id field (length content) content (section w.0 id content) f (no_magic id field content f.number n)
     (content_tile p (kind_of p.encoding id) id (o + 1 + length field) content w (a _) (b _))
 
 -- a right count is the head of a code section

@@ -58,10 +58,10 @@ whole_step : (start : ℕ) (encoding : Encoding) (fs : List Frame) (f : Frame) �
 whole_step start encoding fs f q r i a w =
     let ts : List Tile = q.tiles in
     let c : Closed start encoding fs ts = q.there in
-    let v : verdict (grammar start ts) (frame_bytes f) ≡ tile (made (section (kind_of encoding f.id) f.id f.sized.content) (frame_bytes f)) =
+    let v : verdict (grammar start ts) (frame_bytes f) ≡ tile (made (section w.0 f.id f.sized.content) (frame_bytes f)) =
     closed_verdict start encoding fs ts c _ _ (section_step encoding (context_of ts) fs (start + length (bytes_of ts)) f (room_for start encoding fs f (bytes_of ts) c.joined r) c.knows i a w) in
     record {
-      tiles = made (section (kind_of encoding f.id) f.id f.sized.content) (frame_bytes f) ∷ ts;
+      tiles = made (section w.0 f.id f.sized.content) (frame_bytes f) ∷ ts;
       there = record {
         begun = refl;
         faultless = (c.faultless, v);

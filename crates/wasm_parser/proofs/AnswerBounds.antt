@@ -5,7 +5,7 @@ use Rattle.wasm_base.specs.FaultAt.{FaultAt, at_offset}
 use Rattle.wasm_base.specs.declared.error.Error.{Error}
 use Rattle.wasm_base.specs.declared.fault.Fault.TheVariants.{OffsetRange}
 use Rattle.wasm_parser.specs.ParseAnswer.{report_of, is_end, Consumes, Answers, IsFaultAlone, ParseAnswer, FaultsWithin, IsUnchanged, ItemsBegin}
-use Rattle.wasm_parser.specs.Content.{custom, items, index, data_count, code, unknown, fault, ended}
+use Rattle.wasm_parser.specs.Content.{custom, items, index, data_count, unknown, fault, ended}
 use Rattle.wasm_parser.specs.Grammar.{Shape, version, section, code_start, code_entry, Tile, Verdict, tile, final, header_grammar, verdict}
 use Rattle.wasm_parser.specs.Reading.{tile_report, custom_report}
 use Rattle.wasm_parser.specs.ParserState.{ParserState, known_context, grammar_of}
@@ -50,7 +50,6 @@ goes_on features from to (section items id content) = refl
 goes_on features from to (section index id content) = refl
 goes_on features from to (section data_count id content) = refl
 goes_on features from to (section custom id content) = custom_goes_on features (to - length content) to content (name (Some name_limit) content)
-goes_on features from to (section code id content) = refl
 goes_on features from to (section unknown id content) = refl
 goes_on features from to (code_start count width size) = refl
 goes_on features from to (code_entry content) = refl

@@ -5,7 +5,7 @@ use Rattle.std.proofs.lemmas.List.{append_cancel_left}
 use Rattle.std.proofs.lemmas.List.Elements.{All-nil, All-push}
 use Rattle.wasm_base.specs.Name.{Name, named, refused, name_limit, name}
 use Rattle.wasm_base.specs.Window.{Window}
-use Rattle.wasm_parser.specs.Content.{Kind, custom, items, index, data_count, code, unknown, Ending, fault, ended}
+use Rattle.wasm_parser.specs.Content.{custom, items, index, data_count, unknown, Ending, fault, ended, Form}
 use Rattle.wasm_parser.specs.Grammar
 use Rattle.wasm_parser.specs.Grammar.{Shape, section, Tile, tile, final, SectionContext, verdict, section_grammar, body_grammar}
 use Rattle.wasm_parser.specs.Reading.{code_start, code_entry, Event, custom_report, section_report, tile_report, event_of, stream_end, last_event, events_of}
@@ -41,12 +41,11 @@ start_in_custom : (features from to : ℕ) (content : List ℕ) (n : Name) (coun
 start_in_custom features from to content (named text used) count a b size e = cc
 start_in_custom features from to content (refused f place) count a b size e = cc
 
-start_in_section : (features from to : ℕ) (kind : Kind) (id : ℕ) (content : List ℕ) (count a b size : ℕ) → section_report features from to kind id content ≡ code_start count a b size → ⊥
+start_in_section : (features from to : ℕ) (kind : Form) (id : ℕ) (content : List ℕ) (count a b size : ℕ) → section_report features from to kind id content ≡ code_start count a b size → ⊥
 start_in_section features from to custom id content count a b size e = start_in_custom features from to content (name (Some name_limit) content) count a b size e
 start_in_section features from to items id content count a b size e = cc
 start_in_section features from to index id content count a b size e = cc
 start_in_section features from to data_count id content count a b size e = cc
-start_in_section features from to code id content count a b size e = cc
 start_in_section features from to unknown id content count a b size e = cc
 
 -- the tile of a start misses the bodies that are reported
@@ -65,12 +64,11 @@ body_in_custom features from to content (named text used) w e = cc
 body_in_custom features from to content (refused f place) w e = cc
 
 -- what is reported of a section is no body
-pub body_in_section : (features from to : ℕ) (kind : Kind) (id : ℕ) (content : List ℕ) (w : Window) → section_report features from to kind id content ≡ code_entry w → ⊥
+pub body_in_section : (features from to : ℕ) (kind : Form) (id : ℕ) (content : List ℕ) (w : Window) → section_report features from to kind id content ≡ code_entry w → ⊥
 body_in_section features from to custom id content w e = body_in_custom features from to content (name (Some name_limit) content) w e
 body_in_section features from to items id content w e = cc
 body_in_section features from to index id content w e = cc
 body_in_section features from to data_count id content w e = cc
-body_in_section features from to code id content w e = cc
 body_in_section features from to unknown id content w e = cc
 
 -- only a body's tile is reported as a body

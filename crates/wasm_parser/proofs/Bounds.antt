@@ -10,7 +10,7 @@ use Rattle.wasm_base.specs.declared.fault.Fault.{Fault}
 use Rattle.wasm_base.specs.declared.fault.Fault.TheVariants.{UnexpectedEof, MagicAtSection, StartContent, DataCountContent}
 use Rattle.wasm_base.specs.declared.fault.NumberKind.TheVariants.{VarU32}
 use Rattle.wasm_base.proofs.NumberLaws.{Used, number-used}
-use Rattle.wasm_parser.specs.Content.{Kind, custom, items, index, data_count, code, unknown, kind_of, Ending, fault, ended, when, wrong_number, wrong_single, wrong_name, wrong_content}
+use Rattle.wasm_parser.specs.Content.{Kind, custom, items, index, data_count, code, unknown, kind_of, Ending, fault, ended, when, wrong_number, wrong_single, wrong_name, wrong_content, Form, whole}
 use Rattle.wasm_parser.specs.Grammar.{Tile, Verdict, final, Grammar, accept, reject, check, u32_field, bytes, section_start, after, after_number, verdict, SectionContext, header_of, header_grammar, end_at_section, wrong_count, code_grammar, wrong_data, whole_grammar, content_grammar, after_length, section_grammar, body_grammar}
 use Rattle.wasm_parser.specs.Laws.{FaultLiesWithin}
 use Rattle.wasm_parser.specs.ParserState.{ParserState, known_context, grammar_of}
@@ -146,25 +146,23 @@ name_wrong offset content (refused g p) e =
     let l : p ≤ length content = name_place (Some name_limit) content g p e in
     (omega arith, omega arith)
 
-content_wrong : (kind : Kind) (offset : ℕ) (content : List ℕ) → MayLie offset (offset + length content) (wrong_content kind offset content)
+content_wrong : (kind : Form) (offset : ℕ) (content : List ℕ) → MayLie offset (offset + length content) (wrong_content kind offset content)
 unfolding wrong_content
 content_wrong custom offset content = name_wrong offset content (name (Some name_limit) content) refl
 content_wrong items offset content = number_wrong offset content (number VarU32 content) refl
 content_wrong index offset content = single_wrong StartContent offset content (number VarU32 content) refl
 content_wrong data_count offset content = single_wrong DataCountContent offset content (number VarU32 content) refl
-content_wrong code offset content = tt
 content_wrong unknown offset content = tt
 
 wider : (low low' high high' : ℕ) (e : Option FaultAt) → low' ≤ low → high ≤ high' → MayLie low high e → MayLie low' high' e
 wider low low' high high' None l h w = tt
 wider low low' high high' (Some e) l h w = let (a, b) = w in (omega arith, omega arith)
 
-data_wrong : (p : SectionContext) (kind : Kind) (id offset : ℕ) (content : List ℕ) → MayLie offset offset (wrong_data p kind id offset content)
+data_wrong : (p : SectionContext) (kind : Form) (id offset : ℕ) (content : List ℕ) → MayLie offset offset (wrong_data p kind id offset content)
 data_wrong p items id offset content = when_lies offset offset _ _ (le_refl offset, le_refl offset)
 data_wrong p custom id offset content = tt
 data_wrong p index id offset content = tt
 data_wrong p data_count id offset content = tt
-data_wrong p code id offset content = tt
 data_wrong p unknown id offset content = tt
 
 count_wrong_at : (a b : Bool) (offset : ℕ) (e f : FaultAt) → e.offset ≡ offset → f.offset ≡ offset → MayLie offset offset (cond a (Some e) (when b f))
@@ -175,7 +173,7 @@ count_wrong_at false false offset e f z w = tt
 count_wrong : (p : SectionContext) (offset count : ℕ) → MayLie offset offset (wrong_count p offset count)
 count_wrong p offset count = count_wrong_at (not (list_all (nat_eq count) p.functions)) (nat_lt 0 count && nat_eq (length p.functions) 0) offset _ _ refl refl
 
-Within-whole : (low here : ℕ) (p : SectionContext) (kind : Kind) (id offset size : ℕ) → low ≤ offset → offset ≡ here → Within low here (whole_grammar p kind id offset size)
+Within-whole : (low here : ℕ) (p : SectionContext) (kind : Form) (id offset size : ℕ) → low ≤ offset → offset ≡ here → Within low here (whole_grammar p kind id offset size)
 Within-whole low here p kind id offset size l z = (
   lies low here offset l (omega arith),
   λ content n. (
@@ -195,11 +193,7 @@ Within-code low here p offset size l z = (
 
 Within-content : (low here : ℕ) (p : SectionContext) (kind : Kind) (id offset size : ℕ) → low ≤ offset → offset ≡ here → Within low here (content_grammar p kind id offset size)
 Within-content low here p code id offset size l z = Within-code low here p offset size l z
-Within-content low here p custom id offset size l z = Within-whole low here p custom id offset size l z
-Within-content low here p items id offset size l z = Within-whole low here p items id offset size l z
-Within-content low here p index id offset size l z = Within-whole low here p index id offset size l z
-Within-content low here p data_count id offset size l z = Within-whole low here p data_count id offset size l z
-Within-content low here p unknown id offset size l z = Within-whole low here p unknown id offset size l z
+Within-content low here p (whole form) id offset size l z = Within-whole low here p form id offset size l z
 
 end_lies_at : (a b : Bool) (offset : ℕ) (e f : FaultAt) → e.offset ≡ offset → f.offset ≡ offset → EndsIn offset offset (cond a (fault e) (cond b (fault f) (ended offset)))
 end_lies_at true b offset e f z w = (omega arith, omega arith)

@@ -6,7 +6,7 @@ use Rattle.wasm_base.specs.Number.{Number, read, bad, short, number}
 use Rattle.wasm_base.specs.declared.fault.Fault.TheVariants.{MagicAtSection, UnexpectedEof}
 use Rattle.wasm_base.specs.declared.fault.NumberKind.TheVariants.{VarU32}
 use Rattle.wasm_parser.specs.declared.payload.Encoding.{Encoding}
-use Rattle.wasm_parser.specs.Content.{Kind, custom, items, index, data_count, code, unknown, kind_of, Ending, fault, ended}
+use Rattle.wasm_parser.specs.Content.{Kind, code, kind_of, Ending, fault, ended, whole}
 use Rattle.wasm_parser.specs.Grammar.{Verdict, tile, final, after, after_number, SectionContext, Grammar, accept, reject, check, u32_field, bytes, section_start, verdict, header_of, header_grammar, end_at_section, section_grammar, body_grammar, content_grammar, after_id}
 
 -- the stream doesn't end within this
@@ -47,11 +47,7 @@ no_end (section_start o e next) h d p z = h
 
 -- no end within a section's content
 no_end_content : (p : SectionContext) (k : Kind) (id o n : ℕ) → NoEnd (content_grammar p k id o n)
-no_end_content p custom id o n = λ b. tt
-no_end_content p items id o n = λ b. tt
-no_end_content p index id o n = λ b. tt
-no_end_content p data_count id o n = λ b. tt
-no_end_content p unknown id o n = λ b. tt
+no_end_content p (whole form) id o n = λ b. tt
 no_end_content p code id o n = λ v k. tt
 
 -- no end within a section

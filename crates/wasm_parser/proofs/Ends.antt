@@ -10,7 +10,7 @@ use Rattle.wasm_base.specs.Number.{Number, read, bad, short, number}
 use Rattle.wasm_base.specs.declared.fault.Fault.TheVariants.{UnexpectedEof, MagicAtSection}
 use Rattle.wasm_base.specs.declared.fault.NumberKind.TheVariants.{VarU32}
 use Rattle.wasm_base.proofs.NumberLaws.{Used, number-used}
-use Rattle.wasm_parser.specs.Content.{Kind, custom, items, index, data_count, code, unknown, kind_of, Ending, fault, ended}
+use Rattle.wasm_parser.specs.Content.{Kind, custom, items, index, data_count, code, unknown, kind_of, Ending, fault, ended, Form, whole}
 use Rattle.wasm_parser.specs.Grammar.{Shape, version, section, code_start, code_entry, Tile, Verdict, tile, final, Grammar, accept, reject, check, u32_field, bytes, section_start, after, after_number, verdict, SectionContext, header_of, header_grammar, end_at_section, content_grammar, section_grammar, body_grammar}
 use Rattle.wasm_parser.specs.Laws.{EventsLieEndToEnd}
 use Rattle.wasm_parser.specs.Reading.{Event, window_over, custom_report, section_report, tile_report, event_of, stream_end, last_event, events_of, Reads}
@@ -85,11 +85,7 @@ Closing-code : (passed : List ℕ) (k : ℕ) (b : List ℕ) → length b ≡ k �
 Closing-code passed k b e = omega (arith, length-append passed b)
 
 Closing-content : (passed : List ℕ) (p : SectionContext) (kind : Kind) (id o n : ℕ) → Closing passed (content_grammar p kind id o n)
-Closing-content passed p custom id o n = λ b. (passed, refl)
-Closing-content passed p items id o n = λ b. (passed, refl)
-Closing-content passed p index id o n = λ b. (passed, refl)
-Closing-content passed p data_count id o n = λ b. (passed, refl)
-Closing-content passed p unknown id o n = λ b. (passed, refl)
+Closing-content passed p (whole form) id o n = λ b. (passed, refl)
 Closing-content passed p code id o n = λ v k b e. Closing-code passed k b e
 
 Closing-section : (p : SectionContext) (o : ℕ) → Closing [] (section_grammar p o)
@@ -191,12 +187,11 @@ custom_lies stream start low high features content (named text used) e p =
     (part_is stream start low high content features p, range_is stream start low high content p, p.ends, record { above = omega arith; order = omega arith; below = le_refl high })
 custom_lies stream start low high features content (refused g i) e p = (whole_range stream start low high content p, refl, p.part, p.ends)
 
-section_lies : (stream : List ℕ) (start low high features : ℕ) (kind : Kind) (id : ℕ) (content : List ℕ) → Placed stream start low high content → LiesBetween stream start features low high (section_report features (high - length content) high kind id content)
+section_lies : (stream : List ℕ) (start low high features : ℕ) (kind : Form) (id : ℕ) (content : List ℕ) → Placed stream start low high content → LiesBetween stream start features low high (section_report features (high - length content) high kind id content)
 section_lies stream start low high features custom id content p = custom_lies stream start low high features content (name (Some name_limit) content) refl p
 section_lies stream start low high features items id content p = (part_is stream start low high content features p, range_is stream start low high content p, p.ends)
 section_lies stream start low high features index id content p = (whole_range stream start low high content p, refl)
 section_lies stream start low high features data_count id content p = (whole_range stream start low high content p, refl)
-section_lies stream start low high features code id content p = (part_is stream start low high content features p, range_is stream start low high content p, p.ends)
 section_lies stream start low high features unknown id content p = (whole_range stream start low high content p, refl, p.part, p.ends)
 
 lies_between : (stream earlier passed rest : List ℕ) (start low high features : ℕ) (shape : Shape) → stream ≡ earlier ++ (passed ++ rest) → low ≡ start + length earlier → high ≡ low + length passed → Closes shape passed

@@ -15,7 +15,7 @@ use Rattle.wasm_base.specs.declared.error.Error.{Error}
 use Rattle.wasm_base.specs.declared.fault.Fault.TheVariants.{UnexpectedEof, MagicAtSection, MalformedSectionId, SectionTooLarge, OutOfOrder}
 use Rattle.wasm_base.specs.declared.fault.NumberKind.TheVariants.{VarU32}
 use Rattle.wasm_parser.specs.ParseAnswer.{IsPayload, MatchesVerdict, ReadsByGrammar}
-use Rattle.wasm_parser.specs.Content.{Kind, custom, unknown, kind_of, rank_of, when, wrong_content, wrong_name}
+use Rattle.wasm_parser.specs.Content.{Kind, custom, unknown, kind_of, rank_of, when, wrong_content, wrong_name, Form}
 use Rattle.wasm_parser.specs.ReadsPart.{content_at}
 use Rattle.wasm_custom.specs.Custom.{Custom, IsCustom}
 use Rattle.wasm_parser.specs.Grammar.{section, SectionContext, Grammar, check, u32_field, verdict, whole_grammar, wrong_data, content_grammar, after_length, after_id, section_grammar}
@@ -114,7 +114,7 @@ unfolding content_at
 too_few size p f h = too_few_at (nat_lt (length p.rest) size) size p f refl (sym (content_steps (nat_lt (length p.rest) size) size p) ∙ h)
 
 -- content that isn't all there
-pub whole_missing : (context : SectionContext) (kind : Kind) (id size : ℕ) (p : Place) (e : Error) (a : Place) → content_at size p ≡ Err (fault_at e) → ReadsByGrammar (whole_grammar context kind id p.offset size) p (Err e) a
+pub whole_missing : (context : SectionContext) (kind : Form) (id size : ℕ) (p : Place) (e : Error) (a : Place) → content_at size p ≡ Err (fault_at e) → ReadsByGrammar (whole_grammar context kind id p.offset size) p (Err e) a
 whole_missing context kind id size p e a h =
     let t = too_few size p (fault_at e) h in
     λ s. report_missing s p size p.offset _ e a t.0 t.1
@@ -138,7 +138,7 @@ unfolding content_at
 has_content size p w q h = content_there (nat_lt (length p.rest) size) size p w q refl (sym (content_steps (nat_lt (length p.rest) size) size p) ∙ h)
 
 -- good content, reported by a payload
-pub whole_good : (context : SectionContext) (kind : Kind) (id size : ℕ) (p : Place) (w : Window) (q : Place) (payload : Payload) → content_at size p ≡ Ok (w, q) → wrong_content kind p.offset (take size p.rest) ≡ None
+pub whole_good : (context : SectionContext) (kind : Form) (id size : ℕ) (p : Place) (w : Window) (q : Place) (payload : Payload) → content_at size p ≡ Ok (w, q) → wrong_content kind p.offset (take size p.rest) ≡ None
     → wrong_data context kind id (p.offset + size) (take size p.rest) ≡ None → IsPayload (section_report p.features p.offset (p.offset + size) kind id (take size p.rest)) payload
     → ReadsByGrammar (whole_grammar context kind id p.offset size) p (Ok payload) q
 whole_good context kind id size p w q payload h good counts report =
@@ -153,14 +153,14 @@ whole_good context kind id size p w q payload h good counts report =
     report_whole s (advanced size p) (section kind id (take size p.rest)) payload q c.after said)))
 
 -- bad content
-pub whole_bad : (context : SectionContext) (kind : Kind) (id size : ℕ) (p : Place) (w : Window) (q : Place) (e : Error) (a : Place) → content_at size p ≡ Ok (w, q) → wrong_content kind p.offset (take size p.rest) ≡ Some (fault_at e)
+pub whole_bad : (context : SectionContext) (kind : Form) (id size : ℕ) (p : Place) (w : Window) (q : Place) (e : Error) (a : Place) → content_at size p ≡ Ok (w, q) → wrong_content kind p.offset (take size p.rest) ≡ Some (fault_at e)
     → ReadsByGrammar (whole_grammar context kind id p.offset size) p (Err e) a
 whole_bad context kind id size p w q e a h wrong =
     let c : HasContent size p w q = has_content size p w q h in
     λ s. report_bytes s p size p.offset _ (Err e) a c.there (report_wrong s (advanced size p) (wrong_content kind p.offset (take size p.rest)) _ e a wrong)
 
 -- good content whose count differs from the one that was announced
-pub whole_miscounted : (context : SectionContext) (kind : Kind) (id size : ℕ) (p : Place) (w : Window) (q : Place) (e : Error) (a : Place) → content_at size p ≡ Ok (w, q) → wrong_content kind p.offset (take size p.rest) ≡ None
+pub whole_miscounted : (context : SectionContext) (kind : Form) (id size : ℕ) (p : Place) (w : Window) (q : Place) (e : Error) (a : Place) → content_at size p ≡ Ok (w, q) → wrong_content kind p.offset (take size p.rest) ≡ None
     → wrong_data context kind id (p.offset + size) (take size p.rest) ≡ Some (fault_at e) → ReadsByGrammar (whole_grammar context kind id p.offset size) p (Err e) a
 whole_miscounted context kind id size p w q e a h good wrong =
     let c : HasContent size p w q = has_content size p w q h in

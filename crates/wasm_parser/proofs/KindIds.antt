@@ -2,16 +2,15 @@
 use Rattle.std.proofs.Common.{◌≡◌, ℕ, zero, suc, refl, subst}
 use Rattle.wasm_parser.specs.declared.payload.Encoding.{Encoding}
 use Rattle.wasm_parser.specs.declared.payload.Encoding.TheVariants.{Module, Component}
-use Rattle.wasm_parser.specs.Content.{Kind, custom, items, index, data_count, code, unknown, kind_of}
+use Rattle.wasm_parser.specs.Content.{Kind, custom, index, data_count, code, kind_of, whole}
 
 -- the ids that a section of this kind may have: a code section is a module's
 abbrev pub IdOf : Encoding → Kind → ℕ → Type 0
-IdOf encoding custom id = id ≡ 0
-IdOf encoding index id = id ≡ 8
-IdOf encoding data_count id = id ≡ 12
+IdOf encoding (whole custom) id = id ≡ 0
+IdOf encoding (whole index) id = id ≡ 8
+IdOf encoding (whole data_count) id = id ≡ 12
 IdOf encoding code id = (encoding ≡ Module) × (id ≡ 10)
-IdOf encoding items id = Unit {0}
-IdOf encoding unknown id = Unit {0}
+IdOf encoding other id = Unit {0}
 
 pub id_of_kind : (encoding : Encoding) (id : ℕ) → IdOf encoding (kind_of encoding id) id
 id_of_kind Module zero = refl

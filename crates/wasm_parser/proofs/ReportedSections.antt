@@ -6,7 +6,7 @@ use Rattle.std.proofs.lemmas.List.Elements.{filter_map-append}
 use Rattle.wasm_base.specs.Name.{Name, named, refused, name_limit, name}
 use Rattle.wasm_parser.specs.declared.payload.Encoding.{Encoding}
 use Rattle.wasm_parser.specs.declared.payload.Encoding.TheVariants.{Module}
-use Rattle.wasm_parser.specs.Content.{Kind, custom, items, index, data_count, code, unknown, kind_of, Ending, fault, ended}
+use Rattle.wasm_parser.specs.Content.{Kind, custom, items, index, data_count, code, unknown, kind_of, Ending, fault, ended, Form, whole}
 use Rattle.wasm_parser.specs.Grammar.{Shape, version, section, code_start, code_entry, Tile, tile, SectionContext, verdict, section_grammar, body_grammar, content_grammar}
 use Rattle.wasm_parser.specs.Reading.{Event, custom_report, section_report, tile_report, event_of, last_event, events_of}
 use Rattle.wasm_parser.specs.Sections.{section_of, sections_of}
@@ -19,17 +19,13 @@ use Rattle.wasm_parser.proofs.KindIds.{IdOf, id_as, code_id}
 
 -- the tile's kind is that of its id, and a code section's head is in a module
 abbrev pub Kinded : Encoding → Shape → Type 0
-Kinded encoding (section kind id content) = kind ≡ kind_of encoding id
+Kinded encoding (section form id content) = whole form ≡ kind_of encoding id
 Kinded encoding (code_start count width size) = encoding ≡ Module
 Kinded encoding (code_entry content) = Unit {0}
 Kinded encoding (version num other) = ⊥
 
 kinded_content : (p : SectionContext) (kind : Kind) (id o n : ℕ) → kind ≡ kind_of p.encoding id → Each (Kinded p.encoding) (content_grammar p kind id o n)
-kinded_content p custom id o n e = λ b x y. e
-kinded_content p items id o n e = λ b x y. e
-kinded_content p index id o n e = λ b x y. e
-kinded_content p data_count id o n e = λ b x y. e
-kinded_content p unknown id o n e = λ b x y. e
+kinded_content p (whole form) id o n e = λ b x y. e
 kinded_content p code id o n e = λ v k x y. (code_id p.encoding id (sym e)).0
 
 kinded_section : (p : SectionContext) (o : ℕ) (xs : List ℕ) (t : Tile) → verdict (section_grammar p o) xs ≡ tile t → Kinded p.encoding t.shape
@@ -72,21 +68,19 @@ section_at high (code_entry content) = None
 section_at high (version num encoding) = None
 
 -- the id that is reported of a section of this kind
-abbrev id_report : Kind → ℕ → ℕ
+abbrev id_report : Form → ℕ → ℕ
 id_report custom id = 0
 id_report items id = id
 id_report index id = 8
 id_report data_count id = 12
-id_report code id = id
 id_report unknown id = id
 
 -- it is the section's
-id_same : (encoding : Encoding) (kind : Kind) (id : ℕ) → IdOf encoding kind id → id_report kind id ≡ id
+id_same : (encoding : Encoding) (kind : Form) (id : ℕ) → IdOf encoding (whole kind) id → id_report kind id ≡ id
 id_same encoding custom id h = sym h
 id_same encoding index id h = sym h
 id_same encoding data_count id h = sym h
 id_same encoding items id h = refl
-id_same encoding code id h = refl
 id_same encoding unknown id h = refl
 
 -- the range of a section
@@ -97,18 +91,17 @@ report_name : (features from to : ℕ) (content : List ℕ) (n : Name) → from 
 report_name features from to content (named text used) e = ap (over 0 from) e
 report_name features from to content (refused f place) e = refl
 
-report_kind : (features from to : ℕ) (kind : Kind) (id : ℕ) (content : List ℕ) → from + length content ≡ to → section_of (section_report features from to kind id content) ≡ over (id_report kind id) from to
+report_kind : (features from to : ℕ) (kind : Form) (id : ℕ) (content : List ℕ) → from + length content ≡ to → section_of (section_report features from to kind id content) ≡ over (id_report kind id) from to
 report_kind features from to custom id content e = report_name features from to content (name (Some name_limit) content) e
 report_kind features from to items id content e = ap (over id from) e
 report_kind features from to index id content e = refl
 report_kind features from to data_count id content e = refl
-report_kind features from to code id content e = ap (over id from) e
 report_kind features from to unknown id content e = refl
 
 report_shape : (encoding : Encoding) (features low : ℕ) (bytes : List ℕ) (s : Shape) → Kinded encoding s → Closes s bytes → section_of (tile_report features low (low + length bytes) s) ≡ section_at (low + length bytes) s
 report_shape encoding features low bytes (section kind id content) k (before, c) =
     let n : length bytes ≡ length before + length content = ap (λ (x : List ℕ). length x) c ∙ length-append before content in
-    let i : id_report kind id ≡ id = id_same encoding kind id (id_as encoding kind id (sym k)) in
+    let i : id_report kind id ≡ id = id_same encoding kind id (id_as encoding (whole kind) id (sym k)) in
     report_kind features (low + length bytes - length content) (low + length bytes) kind id content (omega arith)
     ∙ ap (λ (x : ℕ). over x (low + length bytes - length content) (low + length bytes)) i
 report_shape encoding features low bytes (code_start count width size) k c = refl

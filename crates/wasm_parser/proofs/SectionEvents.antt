@@ -5,8 +5,8 @@ use Rattle.std.specs.Prelude.{◌⊎◌}
 use Rattle.wasm_base.specs.Name.{Name, named, refused, name_limit, name}
 use Rattle.wasm_base.specs.Number.{read}
 use Rattle.wasm_base.specs.Window.{Window}
-use Rattle.wasm_parser.specs.Accepted.{IsNumber, IsGood}
-use Rattle.wasm_parser.specs.Content.{Kind, custom, items, index, data_count, code, unknown, kind_of, Ending, fault, ended, value_of}
+use Rattle.wasm_parser.specs.Accepted.{IsNumber, IsFormed}
+use Rattle.wasm_parser.specs.Content.{Kind, custom, items, index, data_count, code, unknown, kind_of, Ending, fault, ended, value_of, Form}
 use Rattle.wasm_parser.specs.Grammar
 use Rattle.wasm_parser.specs.Grammar.{Shape, section, Tile, tile, SectionContext, verdict, section_grammar, body_grammar, content_grammar, code_grammar}
 use Rattle.wasm_parser.specs.Laws.{EventsSayTheirBytes}
@@ -38,13 +38,12 @@ said_name features from to content text used (named other k) e h =
     record { says = (refl, (k, h ∙ (λ i. named (y i) (z i)), refl)); no_bodies = refl }
 said_name features from to content text used (refused f place) e h = cc
 
-said : (features from to : ℕ) (kind : Kind) (id : ℕ) (content : List ℕ) → IsWhole kind → IsGood kind content → Said features from content (section_report features from to kind id content)
-said features from to custom id content w (text, used, h) = said_name features from to content text used (name (Some name_limit) content) h h
-said features from to items id content w (n, used, h) = record { says = (refl, (used, h ∙ ap (λ (x : ℕ). read x used) (sym (ap value_of h)))); no_bodies = refl }
-said features from to index id content w (n, h) = record { says = h ∙ ap (λ (x : ℕ). read x (length content)) (sym (ap value_of h)); no_bodies = refl }
-said features from to data_count id content w (n, h) = record { says = h ∙ ap (λ (x : ℕ). read x (length content)) (sym (ap value_of h)); no_bodies = refl }
-said features from to unknown id content w g = record { says = refl; no_bodies = refl }
-said features from to code id content w g = absurd w
+said : (features from to : ℕ) (kind : Form) (id : ℕ) (content : List ℕ) → IsFormed kind content → Said features from content (section_report features from to kind id content)
+said features from to custom id content (text, used, h) = said_name features from to content text used (name (Some name_limit) content) h h
+said features from to items id content (n, used, h) = record { says = (refl, (used, h ∙ ap (λ (x : ℕ). read x used) (sym (ap value_of h)))); no_bodies = refl }
+said features from to index id content (n, h) = record { says = h ∙ ap (λ (x : ℕ). read x (length content)) (sym (ap value_of h)); no_bodies = refl }
+said features from to data_count id content (n, h) = record { says = h ∙ ap (λ (x : ℕ). read x (length content)) (sym (ap value_of h)); no_bodies = refl }
+said features from to unknown id content g = record { says = refl; no_bodies = refl }
 
 -- ---- the event of a section
 
@@ -67,12 +66,12 @@ range_is : (i j : ℕ) (r s : Range ℕ) → Same j s (Some (i, r)) → r ≡ s
 range_is i j r s e = ap (range_in r) e
 
 -- a section that is one tile
-whole_event : (features o id : ℕ) (field content : List ℕ) (kind : Kind) → IsNumber field (length content) → IsWhole kind → IsGood kind content
+whole_event : (features o id : ℕ) (field content : List ℕ) (kind : Form) → IsNumber field (length content) → IsFormed kind content
     → (i : ℕ) (range : Range ℕ) → Same i range (section_at (o + length (id ∷ (field ++ content))) (section kind id content))
     → IsSectionEvent features o i range (event_of features o (made (section kind id content) (id ∷ (field ++ content))))
-whole_event features o id field content kind n w g i range e =
+whole_event features o id field content kind n g i range e =
     let high : ℕ = o + length (id ∷ (field ++ content)) in
-    let s : Said features (high - length content) content (section_report features (high - length content) high kind id content) = said features (high - length content) high kind id content w g in
+    let s : Said features (high - length content) content (section_report features (high - length content) high kind id content) = said features (high - length content) high kind id content g in
     let b : bytes_of_bodies (section_report features (high - length content) high kind id content) ≡ 0 = s.no_bodies in
     let l : length (field ++ content) ≡ length field + length content = length-append field content in
     let at : IsSectionEvent features o id (record { start = high - length content; end = high }) (event_of features o (made (section kind id content) (id ∷ (field ++ content)))) = record {
@@ -117,12 +116,12 @@ abbrev ReportedThere : (features o : ℕ) → Tile → Type 0
 ReportedThere features o t = section_of (event_of features o t).report ≡ section_at (o + length t.bytes) t.shape
 
 -- the event of a section that is one tile
-whole_says : (features o id : ℕ) (field content : List ℕ) (kind : Kind) → IsNumber field (length content) → IsWhole kind → IsGood kind content
+whole_says : (features o id : ℕ) (field content : List ℕ) (kind : Form) → IsNumber field (length content) → IsFormed kind content
     → ReportedThere features o (made (section kind id content) (id ∷ (field ++ content))) → SaysItsBytes features o (event_of features o (made (section kind id content) (id ∷ (field ++ content))))
-whole_says features o id field content kind n w g q =
+whole_says features o id field content kind n g q =
     let high : ℕ = o + length (id ∷ (field ++ content)) in
     record {
-      section = λ i range e. whole_event features o id field content kind n w g i range (sym q ∙ e);
+      section = λ i range e. whole_event features o id field content kind n g i range (sym q ∙ e);
       body = λ window e. absurd (body_in_section features (high - length content) high kind id content window e);
     }
 
@@ -160,11 +159,11 @@ section_says features o p t q s = at (whole_or_code (kind_of p.encoding s.id))
   where
     at : IsWhole (kind_of p.encoding s.id) ⊎ (kind_of p.encoding s.id ≡ code) → SaysItsBytes features o (event_of features o t)
     at (inl w) =
-        let c : WholeParts p (kind_of p.encoding s.id) s.id (o + 1 + length s.field) s.size s.rest = content_parts p (kind_of p.encoding s.id) s.id (o + 1 + length s.field) s.size s.others s.rest w s.goes_on in
-        let z : t ≡ made (section (kind_of p.encoding s.id) s.id c.content) (s.id ∷ (s.field ++ c.content)) = s.is ∙ ap (λ (x : Tile). made x.shape (s.id ∷ (s.field ++ x.bytes))) c.is in
+        let c : WholeParts p w.0 s.id (o + 1 + length s.field) s.size s.rest = content_parts p (kind_of p.encoding s.id) s.id (o + 1 + length s.field) s.size s.others s.rest w s.goes_on in
+        let z : t ≡ made (section w.0 s.id c.content) (s.id ∷ (s.field ++ c.content)) = s.is ∙ ap (λ (x : Tile). made x.shape (s.id ∷ (s.field ++ x.bytes))) c.is in
         let n : IsNumber s.field (length c.content) = subst (IsNumber s.field) (sym c.long) s.whole in
         subst (λ (x : Tile). SaysItsBytes features o (event_of features o x)) (sym z)
-        (whole_says features o s.id s.field c.content (kind_of p.encoding s.id) n w (good_from (kind_of p.encoding s.id) (o + 1 + length s.field) c.content w c.right) (subst (ReportedThere features o) z q))
+        (whole_says features o s.id s.field c.content w.0 n (good_from w.0 (o + 1 + length s.field) c.content c.right) (subst (ReportedThere features o) z q))
     at (inr k) =
         let g : verdict (code_grammar p (o + 1 + length s.field) s.size) s.others ≡ tile s.rest = subst (λ (x : Kind). verdict (content_grammar p x s.id (o + 1 + length s.field) s.size) s.others ≡ tile s.rest) k s.goes_on in
         let c : HeadParts p (o + 1 + length s.field) s.size s.rest = head_parts p (o + 1 + length s.field) s.size s.others s.rest g in

@@ -132,9 +132,9 @@ closed_whole : (start features : ℕ) (u : Tile) (ts : List Tile) (o : ℕ) (t :
 closed_whole start features u ts o t h q s w =
     let kind : Kind = kind_of (encoding_of (u ∷ ts)) s.id in
     let at : ℕ = o + 1 + length s.field in
-    let c : WholeParts (context_of (u ∷ ts)) kind s.id at s.size s.rest = content_parts (context_of (u ∷ ts)) kind s.id at s.size s.others s.rest w s.goes_on in
+    let c : WholeParts (context_of (u ∷ ts)) w.0 s.id at s.size s.rest = content_parts (context_of (u ∷ ts)) kind s.id at s.size s.others s.rest w s.goes_on in
     let f : Frame = record { id = s.id; sized = record { field = s.field; content = c.content } } in
-    let z : t ≡ made (section kind s.id c.content) (frame_bytes f) = s.is ∙ ap (λ (x : Tile). made x.shape (s.id ∷ (s.field ++ x.bytes))) c.is in
+    let z : t ≡ made (section w.0 s.id c.content) (frame_bytes f) = s.is ∙ ap (λ (x : Tile). made x.shape (s.id ∷ (s.field ++ x.bytes))) c.is in
     let low : ℕ = start + length (bytes_of (u ∷ ts)) in
     let n : length (bytes_of (u ∷ ts)) ≡ length (stream_of q.encoding q.frames) = ap (λ (x : List ℕ). length x) q.joined in
     let m : length (s.field ++ c.content) ≡ length s.field + length c.content = length-append s.field c.content in

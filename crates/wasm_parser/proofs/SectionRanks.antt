@@ -7,7 +7,7 @@ use Rattle.std.proofs.lemmas.List.Elements.{All-nil, All-push}
 use Rattle.std.proofs.lemmas.List.Quantifiers.{all_pairs_push}
 use Rattle.wasm_parser.specs.declared.payload.Encoding.{Encoding}
 use Rattle.wasm_parser.specs.declared.payload.Encoding.TheVariants.{Module}
-use Rattle.wasm_parser.specs.Content.{Kind, code, kind_of, Ending, fault, ended, rank_of}
+use Rattle.wasm_parser.specs.Content.{Kind, code, kind_of, Ending, fault, ended, rank_of, whole}
 use Rattle.wasm_parser.specs.Grammar
 use Rattle.wasm_parser.specs.Grammar.{Shape, section, Tile}
 use Rattle.wasm_parser.specs.Reading.{version, Event, tile_report, event_of, stream_end, last_event, events_of}
@@ -31,7 +31,7 @@ abbrev Under : Encoding → ℕ → (ℕ × Range ℕ) → Type 0
 Under encoding r s = rank_in encoding s.0 < r
 
 under_push : (encoding : Encoding) (r high : ℕ) (s : Shape) (xs : List (ℕ × Range ℕ)) → Kinded encoding s → tile_rank s < r → All (Under encoding r) xs → All (Under encoding r) (xs ++ option_to_list (section_at high s))
-under_push encoding r high (section kind id content) xs k l a = All-push (Under encoding r) xs _ a (let e = rank_report encoding kind id k in omega arith)
+under_push encoding r high (section kind id content) xs k l a = All-push (Under encoding r) xs _ a (let e = rank_report encoding (whole kind) id k in omega arith)
 under_push encoding r high (Grammar.code_start count width size) xs k l a = All-push (Under encoding r) xs _ a (let e = code_report encoding k in omega arith)
 under_push encoding r high (Grammar.code_entry content) xs k l a = subst (All (Under encoding r)) (sym (append-nil xs)) a
 under_push encoding r high (Grammar.version num other) xs k l a = absurd k
@@ -55,7 +55,7 @@ pair_push encoding xs x r e u a =
     all_pairs_push (RanksBelow encoding) xs x a (λ k d l p q. let z : 0 < r = omega arith in let w : rank_in encoding (get_or xs k d).0 < r = u z k d l in omega arith)
 
 pairs_more : (encoding : Encoding) (high : ℕ) (s : Shape) (xs : List (ℕ × Range ℕ)) → Kinded encoding s → (0 < tile_rank s → All (Under encoding (tile_rank s)) xs) → AllPairs (RanksBelow encoding) xs → AllPairs (RanksBelow encoding) (xs ++ option_to_list (section_at high s))
-pairs_more encoding high (section kind id content) xs k u a = pair_push encoding xs _ (rank_of kind id) (rank_report encoding kind id k) u a
+pairs_more encoding high (section kind id content) xs k u a = pair_push encoding xs _ (rank_of (whole kind) id) (rank_report encoding (whole kind) id k) u a
 pairs_more encoding high (Grammar.code_start count width size) xs k u a = pair_push encoding xs _ (rank_of code 10) (code_report encoding k) u a
 pairs_more encoding high (Grammar.code_entry content) xs k u a = subst (AllPairs (RanksBelow encoding)) (sym (append-nil xs)) a
 pairs_more encoding high (Grammar.version num other) xs k u a = absurd k

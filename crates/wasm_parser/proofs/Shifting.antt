@@ -10,7 +10,7 @@ use Rattle.wasm_base.specs.Number.{Number, read, bad, short, number}
 use Rattle.wasm_base.specs.declared.fault.Fault.{Fault}
 use Rattle.wasm_base.specs.declared.fault.Fault.TheVariants.{UnexpectedEof, MagicAtSection, SectionTooLarge, StartContent, DataCountContent, UnknownVersion, OutOfOrder, MalformedSectionId, BadMagic, FunctionCodeDiffer, CodeWithoutFunction, FunctionWithoutCode, DataCountWithoutData, DataCountDiffer}
 use Rattle.wasm_base.specs.declared.fault.NumberKind.TheVariants.{VarU32}
-use Rattle.wasm_parser.specs.Content.{Kind, custom, items, index, data_count, code, unknown, kind_of, rank_of, Ending, fault, ended, when, wrong_number, wrong_single, wrong_name, wrong_content}
+use Rattle.wasm_parser.specs.Content.{Kind, custom, items, index, data_count, code, unknown, kind_of, rank_of, Ending, fault, ended, when, wrong_number, wrong_single, wrong_name, wrong_content, Form, whole}
 use Rattle.wasm_parser.specs.Grammar
 use Rattle.wasm_parser.specs.Grammar.{Shape, section, Tile, Verdict, tile, final, Grammar, accept, reject, check, u32_field, bytes, section_start, after, after_number, verdict, SectionContext, header_of, version_of, header_grammar, end_at_section, wrong_count, code_grammar, wrong_data, whole_grammar, content_grammar, after_length, after_id, section_grammar, body_of, body_grammar}
 use Rattle.wasm_parser.specs.Laws.{StartOnlyMoves}
@@ -131,21 +131,19 @@ name_wrong : (by o : ℕ) (n : Name) → MovesFault by (wrong_name o n) (wrong_n
 name_wrong by o (named text used) = inl refl
 name_wrong by o (refused kind p) = some_moves by kind o p
 
-content_wrong : (by : ℕ) (kind : Kind) (o : ℕ) (content : List ℕ) → MovesFault by (wrong_content kind o content) (wrong_content kind (o + by) content)
+content_wrong : (by : ℕ) (kind : Form) (o : ℕ) (content : List ℕ) → MovesFault by (wrong_content kind o content) (wrong_content kind (o + by) content)
 unfolding wrong_content
 content_wrong by custom o content = name_wrong by o (name (Some name_limit) content)
 content_wrong by items o content = number_wrong by o content (number VarU32 content)
 content_wrong by index o content = single_wrong by StartContent o content (number VarU32 content)
 content_wrong by data_count o content = single_wrong by DataCountContent o content (number VarU32 content)
-content_wrong by code o content = inl refl
 content_wrong by unknown o content = inl refl
 
-data_wrong : (by : ℕ) (p : SectionContext) (kind : Kind) (id o n : ℕ) (content : List ℕ) → MovesFault by (wrong_data p kind id (o + n) content) (wrong_data p kind id (o + by + n) content)
+data_wrong : (by : ℕ) (p : SectionContext) (kind : Form) (id o n : ℕ) (content : List ℕ) → MovesFault by (wrong_data p kind id (o + n) content) (wrong_data p kind id (o + by + n) content)
 data_wrong by p items id o n content = when_moves by _ _ _ (moved_same DataCountDiffer o n by)
 data_wrong by p custom id o n content = inl refl
 data_wrong by p index id o n content = inl refl
 data_wrong by p data_count id o n content = inl refl
-data_wrong by p code id o n content = inl refl
 data_wrong by p unknown id o n content = inl refl
 
 count_wrong_at : (by : ℕ) (a b : Bool) (e f : FaultAt) → MovesFault by (cond a (Some e) (when b f)) (cond a (Some (shifted_fault by e)) (when b (shifted_fault by f)))
@@ -156,7 +154,7 @@ count_wrong_at by false false e f = inl refl
 count_wrong : (by : ℕ) (p : SectionContext) (o count : ℕ) → MovesFault by (wrong_count p o count) (wrong_count p (o + by) count)
 count_wrong by p o count = count_wrong_at by (not (list_all (nat_eq count) p.functions)) (nat_lt 0 count && nat_eq (length p.functions) 0) (at_offset FunctionCodeDiffer o) (at_offset CodeWithoutFunction o)
 
-Like-whole : (by : ℕ) (p : SectionContext) (kind : Kind) (id o n : ℕ) → Like by (whole_grammar p kind id o n) (whole_grammar p kind id (o + by) n)
+Like-whole : (by : ℕ) (p : SectionContext) (kind : Form) (id o n : ℕ) → Like by (whole_grammar p kind id o n) (whole_grammar p kind id (o + by) n)
 Like-whole by p kind id o n = (_, refl, λ content. (_, _, refl, content_wrong by kind o content, (_, _, refl, data_wrong by p kind id o n content, refl)))
 
 Like-code : (by : ℕ) (p : SectionContext) (o n : ℕ) → Like by (code_grammar p o n) (code_grammar p (o + by) n)
@@ -164,11 +162,7 @@ Like-code by p o n = (_, refl, λ count width. (_, _, refl, when_moves by (nat_l
 
 Like-content : (by : ℕ) (p : SectionContext) (kind : Kind) (id o n : ℕ) → Like by (content_grammar p kind id o n) (content_grammar p kind id (o + by) n)
 Like-content by p code id o n = Like-code by p o n
-Like-content by p custom id o n = Like-whole by p custom id o n
-Like-content by p items id o n = Like-whole by p items id o n
-Like-content by p index id o n = Like-whole by p index id o n
-Like-content by p data_count id o n = Like-whole by p data_count id o n
-Like-content by p unknown id o n = Like-whole by p unknown id o n
+Like-content by p (whole form) id o n = Like-whole by p form id o n
 
 top_moves : (by top field o n : ℕ) (a b : Bool) → nat_lt top (o + n) ≡ a → nat_lt top (o + by + n) ≡ b
     → MovesFault by (when a (record { fault = SectionTooLarge; offset = field; number = Some n })) (when b (record { fault = SectionTooLarge; offset = field + by; number = Some n }))
@@ -283,12 +277,11 @@ custom_moves : (by features from to : ℕ) (content : List ℕ) (n : Name) → c
 custom_moves by features from to content (named text used) = ap (λ (x : ℕ). custom_section text x (window_over features (from + by) content)) (omega arith)
 custom_moves by features from to content (refused f p) = refl
 
-section_moves : (by features from to : ℕ) (kind : Kind) (id : ℕ) (content : List ℕ) → section_report features (from + by) (to + by) kind id content ≡ shifted_report by (section_report features from to kind id content)
+section_moves : (by features from to : ℕ) (kind : Form) (id : ℕ) (content : List ℕ) → section_report features (from + by) (to + by) kind id content ≡ shifted_report by (section_report features from to kind id content)
 section_moves by features from to custom id content = custom_moves by features from to content (name (Some name_limit) content)
 section_moves by features from to items id content = refl
 section_moves by features from to index id content = refl
 section_moves by features from to data_count id content = refl
-section_moves by features from to code id content = refl
 section_moves by features from to unknown id content = refl
 
 content_place : (by low high : ℕ) (passed before content : List ℕ) → high ≡ low + length passed → passed ≡ before ++ content → high + by - length content ≡ (high - length content) + by

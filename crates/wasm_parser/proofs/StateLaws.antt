@@ -8,7 +8,7 @@ use Rattle.wasm_parser.specs.declared.payload.Encoding.{Encoding}
 use Rattle.wasm_base.specs.FaultAt.{FaultAt}
 use Rattle.wasm_base.specs.Name.{Name, named, refused, name_limit, name}
 use Rattle.wasm_base.specs.Number.{Number, read, bad, short, number}
-use Rattle.wasm_parser.specs.Content.{Kind, items, data_count, custom, index, code, unknown, rank_of, ranks, count_of, kind_of, Ending, when}
+use Rattle.wasm_parser.specs.Content.{Kind, items, data_count, custom, index, code, unknown, rank_of, ranks, count_of, kind_of, Ending, when, whole}
 use Rattle.wasm_parser.specs.Grammar.{Shape, version, section, code_start, code_entry, Tile, Verdict, tile, final, after, after_number, SectionContext, Grammar, accept, reject, check, u32_field, bytes, section_start, verdict, header_grammar, section_grammar, body_grammar, content_grammar, header_of}
 use Rattle.wasm_parser.specs.Tiling.{bytes_of, grammar, context_of, inside, encoding_of, encoding_in, tile_rank, count_in, counts, bodies_left, bytes_left, bodies_after, bytes_after}
 use Rattle.wasm_parser.specs.Reading.{custom_report}
@@ -104,7 +104,7 @@ Follows p r = (nat_lt 0 r && not (p.may_follow r)) ≡ false
 
 -- the tile is a section that may follow, or its head
 abbrev pub Placed : SectionContext → Shape → Type 0
-Placed p (section kind id content) = Follows p (rank_of kind id)
+Placed p (section kind id content) = Follows p (rank_of (whole kind) id)
 Placed p (code_start count width size) = Follows p (rank_of code 10)
 Placed p (version num encoding) = ⊥
 Placed p (code_entry content) = ⊥
@@ -115,11 +115,11 @@ none_when true e h = cc
 none_when false e h = refl
 
 placed_content : (p : SectionContext) (kind : Kind) (id o n : ℕ) → Follows p (rank_of kind id) → Each (Placed p) (content_grammar p kind id o n)
-placed_content p custom id o n f = λ b x y. f
-placed_content p items id o n f = λ b x y. f
-placed_content p index id o n f = λ b x y. f
-placed_content p data_count id o n f = λ b x y. f
-placed_content p unknown id o n f = λ b x y. f
+placed_content p (whole custom) id o n f = λ b x y. f
+placed_content p (whole items) id o n f = λ b x y. f
+placed_content p (whole index) id o n f = λ b x y. f
+placed_content p (whole data_count) id o n f = λ b x y. f
+placed_content p (whole unknown) id o n f = λ b x y. f
 placed_content p code id o n f = λ v k x y. f
 
 pub placed : (p : SectionContext) (o : ℕ) (xs : List ℕ) (t : Tile) → verdict (section_grammar p o) xs ≡ tile t → Placed p t.shape
@@ -167,7 +167,7 @@ follows_all r false e h = let z : nat_lt 0 r ≡ true = lt-ltb 0 r h in absurd (
     true_false e = cc
 
 fresh_placed : (ts : List Tile) (s : Shape) → Placed (context_of ts) s → Fresh ts s
-fresh_placed ts (section kind id content) f h = follows_all (rank_of kind id) _ f h
+fresh_placed ts (section kind id content) f h = follows_all (rank_of (whole kind) id) _ f h
 fresh_placed ts (code_start count width size) f h = follows_all (rank_of code 10) _ f h
 fresh_placed ts (version num encoding) f h = absurd f
 fresh_placed ts (code_entry content) f h = absurd f
@@ -203,7 +203,6 @@ none_in n (section items id content) xs e f = none_cons (nat_eq id n) _ xs (not_
 none_in n (section data_count id content) xs e f = none_cons (nat_eq id n) _ xs (not_true _ (λ z. below_self (slice_index ranks n) (slice_index ranks id) e (ap (slice_index ranks) (eqb-true id n z)))) f
 none_in n (section custom id content) xs e f = f
 none_in n (section index id content) xs e f = f
-none_in n (section code id content) xs e f = f
 none_in n (section unknown id content) xs e f = f
 none_in n (code_start count width size) xs e f = none_cons (nat_eq 10 n) _ xs (not_true _ (λ z. below_self (slice_index ranks n) (slice_index ranks 10) e (ap (slice_index ranks) (eqb-true 10 n z)))) f
 none_in n (version num encoding) xs e f = f
@@ -238,7 +237,6 @@ count_same n (section items id content) old ts h e f = one_count (nat_eq id n) (
 count_same n (section data_count id content) old ts h e f = one_count (nat_eq id n) (count_of content) old (counts n ts) e (none_of_rank n id ts h f)
 count_same n (section custom id content) old ts h e f = e
 count_same n (section index id content) old ts h e f = e
-count_same n (section code id content) old ts h e f = e
 count_same n (section unknown id content) old ts h e f = e
 count_same n (code_start count width size) old ts h e f = one_count (nat_eq 10 n) count old (counts n ts) e (none_of_rank n 10 ts h f)
 count_same n (version num encoding) old ts h e f = e
@@ -274,24 +272,23 @@ after_shape p t = record {
 
 -- ---- what a tile's kind says of its id
 
--- the id of a tile is that of its kind, and it is never a whole code section
+-- the id of a tile is that of its form
 abbrev HasItsId : Shape → Type 0
 HasItsId (section index id content) = id ≡ 8
 HasItsId (section data_count id content) = id ≡ 12
 HasItsId (section items id content) = Unit {0}
 HasItsId (section custom id content) = Unit {0}
-HasItsId (section code id content) = ⊥
 HasItsId (section unknown id content) = Unit {0}
 HasItsId (version num encoding) = Unit {0}
 HasItsId (code_start count width size) = Unit {0}
 HasItsId (code_entry content) = Unit {0}
 
 content_id : (p : SectionContext) (kind : Kind) (id o n : ℕ) → IdOf p.encoding kind id → Each HasItsId (content_grammar p kind id o n)
-content_id p index id o n h = λ b x y. h
-content_id p data_count id o n h = λ b x y. h
-content_id p items id o n h = λ b x y. tt
-content_id p custom id o n h = λ b x y. tt
-content_id p unknown id o n h = λ b x y. tt
+content_id p (whole index) id o n h = λ b x y. h
+content_id p (whole data_count) id o n h = λ b x y. h
+content_id p (whole items) id o n h = λ b x y. tt
+content_id p (whole custom) id o n h = λ b x y. tt
+content_id p (whole unknown) id o n h = λ b x y. tt
 content_id p code id o n h = λ v k x y. tt
 
 section_id : (p : SectionContext) (o : ℕ) (xs : List ℕ) (t : Tile) → verdict (section_grammar p o) xs ≡ tile t → HasItsId t.shape
@@ -334,7 +331,6 @@ after_at p (section items id content) b h = refl
 after_at p (section index id content) b h = ap (λ (i : ℕ). after_shape p (tile_of (section index i content) b)) (sym h)
 after_at p (section data_count id content) b h = ap (λ (i : ℕ). after_shape p (tile_of (section data_count i content) b)) (sym h)
 after_at p (section custom id content) b h = after_custom p (p.offset + length b - length content) (p.offset + length b) content (name (Some name_limit) content)
-after_at p (section code id content) b h = absurd h
 after_at p (section unknown id content) b h = refl
 after_at p (code_start count width size) b h = refl
 after_at p (code_entry content) b h =

@@ -5,7 +5,7 @@ use Rattle.std.proofs.lemmas.Bool.{and_parts}
 use Rattle.wasm_base.specs.FaultAt.{FaultAt, at_offset}
 use Rattle.wasm_base.specs.Name.{of_four}
 use Rattle.wasm_base.specs.Number.{Number, read, bad, short, number}
-use Rattle.wasm_parser.specs.Content.{Kind, custom, items, index, data_count, code, unknown, kind_of, Ending, fault}
+use Rattle.wasm_parser.specs.Content.{Kind, code, kind_of, Ending, fault, whole}
 use Rattle.wasm_base.specs.Header.{magic, agree}
 use Rattle.wasm_parser.specs.Grammar.{Tile, Verdict, tile, final, after, after_number, Grammar, check, u32_field, bytes, section_start, verdict, SectionContext, header_of, header_grammar, content_grammar, after_length, after_id, section_grammar, body_of, body_grammar}
 use Rattle.wasm_parser.specs.Tiling.{context_of, grammar, bodies_left, bytes_left, bytes_of}
@@ -17,11 +17,7 @@ use Rattle.wasm_base.proofs.NumberLaws.{number-used, Used}
 use Rattle.wasm_parser.proofs.GrammarLaws.{Guarded, after-tile}
 
 Guarded-content : (p : SectionContext) (k : Kind) (id o n : ℕ) → Guarded (content_grammar p k id o n)
-Guarded-content p custom id o n = λ b. tt
-Guarded-content p items id o n = λ b. tt
-Guarded-content p index id o n = λ b. tt
-Guarded-content p data_count id o n = λ b. tt
-Guarded-content p unknown id o n = λ b. tt
+Guarded-content p (whole form) id o n = λ b. tt
 Guarded-content p code id o n = λ v k. tt
 
 -- a tile after a test that fails

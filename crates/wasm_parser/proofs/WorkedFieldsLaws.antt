@@ -5,13 +5,13 @@ use Rattle.std.proofs.lemmas.Str.{IsUtf8-from_ascii, is_utf8-from_IsUtf8}
 use Rattle.std.proofs.lemmas.Str.Ascii.{IsAscii-nil, IsAscii-cons}
 use Rattle.wasm_base.specs.Name.{name}
 use Rattle.wasm_base.specs.Number.{number}
-use Rattle.wasm_parser.specs.Content.{Kind, custom, items, index, data_count, unknown, ended, wrong_content}
+use Rattle.wasm_parser.specs.Content.{custom, items, index, data_count, unknown, ended, wrong_content, Form}
 use Rattle.wasm_parser.specs.Grammar.{section, code_start, code_entry, Tile, verdict, header_grammar, section_grammar, body_grammar}
 use Rattle.wasm_parser.specs.WorkedFields.{WholeReadings, LongFields, TwoFaults}
 use Rattle.wasm_parser.proofs.WorkedLaws.{head, component_head, small_tile, empty_name}
 
 -- a section with this length field
-abbrev framed_tile : Kind → ℕ → (field content : List ℕ) → Tile
+abbrev framed_tile : Form → ℕ → (field content : List ℕ) → Tile
 framed_tile kind id field content = record { shape = section kind id content; bytes = id ∷ (field ++ content) }
 
 -- the head of a code section with these fields, and so many bytes of bodies

@@ -4,7 +4,7 @@ use Rattle.std.specs.Str.{is_utf8}
 use Rattle.std.proofs.lemmas.Str.{IsUtf8-nil, is_utf8-from_IsUtf8}
 use Rattle.wasm_base.specs.Name.{name}
 use Rattle.wasm_base.specs.Number.{number}
-use Rattle.wasm_parser.specs.Content.{Kind, custom, items, index, data_count, unknown, ended, wrong_content}
+use Rattle.wasm_parser.specs.Content.{custom, items, index, data_count, unknown, ended, wrong_content, Form}
 use Rattle.wasm_parser.specs.Grammar.{version, section, code_start, code_entry, Tile, verdict, header_grammar, section_grammar, body_grammar}
 use Rattle.wasm_parser.specs.Worked.{m, component, EdgesOfRules, WorkedStreams}
 use Rattle.wasm_parser.specs.declared.payload.Encoding.TheVariants.{Module, Component}
@@ -15,7 +15,7 @@ head = record { shape = version 1 Module; bytes = m }
 abbrev pub component_head : Tile
 component_head = record { shape = version 13 Component; bytes = component }
 
-abbrev pub section_tile : Kind → ℕ → List ℕ → Tile
+abbrev pub section_tile : Form → ℕ → List ℕ → Tile
 section_tile kind id content = record { shape = section kind id content; bytes = id ∷ length content ∷ content }
 
 abbrev functions : ℕ → Tile
@@ -28,7 +28,7 @@ abbrev body_tile : List ℕ → Tile
 body_tile content = record { shape = code_entry content; bytes = length content ∷ content }
 
 -- a section whose content is one byte, 0
-abbrev pub small_tile : Kind → ℕ → Tile
+abbrev pub small_tile : Form → ℕ → Tile
 small_tile kind id = section_tile kind id (0 ∷ [])
 
 pub empty_name : is_utf8 [] ≡ true

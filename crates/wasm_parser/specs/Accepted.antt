@@ -3,7 +3,7 @@ use Rattle.std.specs.Prelude.{◌≡◌, ℕ, ◌<◌, ◌⊎◌, List, [], ◌�
 use Rattle.wasm_base.specs.Name.{named, name_limit, name}
 use Rattle.wasm_base.specs.Number.{read, number}
 use Rattle.wasm_base.specs.declared.fault.NumberKind.TheVariants.{VarU32}
-use Rattle.wasm_parser.specs.Content.{Kind, custom, items, index, data_count, code, unknown, kind_of, rank_of, count_of}
+use Rattle.wasm_parser.specs.Content.{Kind, custom, items, index, data_count, code, unknown, kind_of, rank_of, count_of, Form, whole}
 use Rattle.wasm_parser.specs.declared.payload.Encoding.{Encoding}
 use Rattle.wasm_parser.specs.declared.payload.Encoding.TheVariants.{Module, Component}
 use Rattle.std.specs.List.{starts_with}
@@ -44,14 +44,18 @@ pub record CodeDivision (content : List ℕ) : Type 0 where
   pub count : IsNumber field (length bodies)
   pub each : All IsSized bodies
 
--- The content begins as its kind wants, and is no longer where its kind is one number.
+-- The content begins as its form wants, and is no longer where its form is one number.
+abbrev pub IsFormed : Form → List ℕ → Type 0
+IsFormed custom content = (text : List ℕ) × (used : ℕ) × (name (Some name_limit) content ≡ named text used)
+IsFormed items content = (n : ℕ) × (used : ℕ) × (number VarU32 content ≡ read n used)
+IsFormed index content = (n : ℕ) × IsNumber content n
+IsFormed data_count content = (n : ℕ) × IsNumber content n
+IsFormed unknown content = Unit {0}
+
+-- the same by its kind
 abbrev pub IsGood : Kind → List ℕ → Type 0
-IsGood custom content = (text : List ℕ) × (used : ℕ) × (name (Some name_limit) content ≡ named text used)
-IsGood items content = (n : ℕ) × (used : ℕ) × (number VarU32 content ≡ read n used)
-IsGood index content = (n : ℕ) × IsNumber content n
-IsGood data_count content = (n : ℕ) × IsNumber content n
+IsGood (whole form) content = IsFormed form content
 IsGood code content = CodeDivision content
-IsGood unknown content = Unit {0}
 
 -- a good section
 pub record IsFrame (encoding : Encoding) (f : Frame) : Type 0 where

@@ -8,37 +8,46 @@ use Rattle.wasm_base.specs.declared.fault.Fault.TheVariants.{UnexpectedEof, Star
 use Rattle.wasm_base.specs.declared.fault.NumberKind.TheVariants.{VarU32}
 use Rattle.wasm_parser.specs.declared.payload.Encoding.{Encoding}
 use Rattle.wasm_parser.specs.declared.payload.Encoding.TheVariants.{Module, Component}
-use Rattle.wasm_parser.specs.declared.sections.Kind as Code
-use Rattle.wasm_parser.specs.declared.sections.Kind.TheVariants as Form
+use Rattle.wasm_parser.specs.declared.sections.Kind as InCode
+use Rattle.wasm_parser.specs.declared.sections.Kind.TheVariants as Variant
 
--- the forms of a section
-pub data Kind : Type 0 where
+-- the forms of a section that is read whole
+pub data Form : Type 0 where
   -- a name, then any bytes
-  custom : Kind
+  custom : Form
   -- a count, then so many items
-  items : Kind
+  items : Form
   -- one index
-  index : Kind
+  index : Form
   -- one count
-  data_count : Kind
-  -- a count, then so many bodies
-  code : Kind
+  data_count : Form
   -- any bytes
-  unknown : Kind
+  unknown : Form
+
+-- a section is read whole, or is a code section: a count, then so many bodies, which are read one by one
+pub data Kind : Type 0 where
+  whole : Form → Kind
+  code : Kind
 
 -- the same as the code has it
-abbrev pub kind_is : Code.Kind → Kind
-kind_is Form.Custom = custom
-kind_is Form.Items = items
-kind_is Form.Index = index
-kind_is Form.DataCount = data_count
-kind_is Form.Code = code
-kind_is Form.Unknown = unknown
+abbrev pub kind_is : InCode.Kind → Kind
+kind_is Variant.Custom = whole custom
+kind_is Variant.Items = whole items
+kind_is Variant.Index = whole index
+kind_is Variant.DataCount = whole data_count
+kind_is Variant.Code = code
+kind_is Variant.Unknown = whole unknown
+
+-- the kinds of a module's sections, by their id
+abbrev pub kinds : List Kind
+kinds =
+    whole custom ∷ whole items ∷ whole items ∷ whole items ∷ whole items ∷ whole items ∷ whole items ∷ whole items ∷
+    whole index ∷ whole items ∷ code ∷ whole items ∷ whole data_count ∷ whole items ∷ []
 
 -- the kind of the section with this id: a module has 0 to 13, a component only 0
 abbrev pub kind_of : Encoding → ℕ → Kind
-kind_of Module id = slice_index_or (custom ∷ items ∷ items ∷ items ∷ items ∷ items ∷ items ∷ items ∷ index ∷ items ∷ code ∷ items ∷ data_count ∷ items ∷ []) id unknown
-kind_of Component id = slice_index_or (custom ∷ []) id unknown
+kind_of Module id = slice_index_or kinds id (whole unknown)
+kind_of Component id = slice_index_or (whole custom ∷ []) id (whole unknown)
 
 -- by id, the places of the sections in their order, counted from 1: type, import, function, table, memory, tag,
 -- global, export, start, element, data count, code, data. Section 0 may come anywhere.
@@ -47,11 +56,11 @@ ranks = 0 ∷ 1 ∷ 2 ∷ 3 ∷ 4 ∷ 5 ∷ 7 ∷ 8 ∷ 9 ∷ 10 ∷ 12 ∷ 13 �
 
 -- the rank of a section of this kind, or 0: it may come anywhere
 abbrev pub rank_of : Kind → ℕ → ℕ
-rank_of custom id = 0
-rank_of unknown id = 0
-rank_of items id = slice_index ranks id
-rank_of index id = slice_index ranks id
-rank_of data_count id = slice_index ranks id
+rank_of (whole custom) id = 0
+rank_of (whole unknown) id = 0
+rank_of (whole items) id = slice_index ranks id
+rank_of (whole index) id = slice_index ranks id
+rank_of (whole data_count) id = slice_index ranks id
 rank_of code id = slice_index ranks 10
 
 -- how a stream ends: at a fault, or at its end
@@ -82,12 +91,11 @@ wrong_name offset (named text used) = None
 wrong_name offset (refused f place) = Some (at_offset f (offset + place))
 
 -- what is wrong with a section's content, which begins at this offset
-unfoldable pub wrong_content : Kind → (offset : ℕ) (content : List ℕ) → Option FaultAt
+unfoldable pub wrong_content : Form → (offset : ℕ) (content : List ℕ) → Option FaultAt
 wrong_content custom offset content = wrong_name offset (name (Some name_limit) content)
 wrong_content items offset content = wrong_number offset content (number VarU32 content)
 wrong_content index offset content = wrong_single StartContent offset content (number VarU32 content)
 wrong_content data_count offset content = wrong_single DataCountContent offset content (number VarU32 content)
-wrong_content code offset content = None
 wrong_content unknown offset content = None
 
 -- the value of a number, or 0

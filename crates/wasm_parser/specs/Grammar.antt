@@ -5,7 +5,7 @@ use Rattle.wasm_base.specs.FaultAt.{FaultAt, at_offset}
 use Rattle.wasm_base.specs.Header.{magic, agree}
 use Rattle.wasm_base.specs.Name.{of_four}
 use Rattle.wasm_base.specs.Number.{Number, read, bad, short, number}
-use Rattle.wasm_parser.specs.Content.{Kind, items, code, kind_of, rank_of, Ending, fault, ended, when, wrong_content, count_of}
+use Rattle.wasm_parser.specs.Content.{Kind, items, code, kind_of, rank_of, Ending, fault, ended, when, wrong_content, count_of, Form, whole}
 use Rattle.wasm_base.specs.declared.fault.Fault.TheVariants.{UnexpectedEof, BadMagic, UnknownVersion, MagicAtSection, MalformedSectionId, SectionTooLarge, OutOfOrder, FunctionCodeDiffer, FunctionWithoutCode, CodeWithoutFunction, DataCountDiffer, DataCountWithoutData, TrailingCode}
 use Rattle.wasm_base.specs.declared.fault.NumberKind.TheVariants.{VarU32}
 use Rattle.wasm_parser.specs.declared.payload.Encoding.{Encoding}
@@ -14,7 +14,7 @@ use Rattle.wasm_parser.specs.declared.payload.Encoding.TheVariants.{Module, Comp
 -- what tiles a stream: its header, whole sections that are no code section, a code section up to its count, and its bodies
 pub data Shape : Type 0 where
   version : (num : ℕ) → Encoding → Shape
-  section : Kind → (id : ℕ) (content : List ℕ) → Shape
+  section : Form → (id : ℕ) (content : List ℕ) → Shape
   -- the bodies that it announces, the bytes of that count, and the bytes of the bodies
   code_start : (count width size : ℕ) → Shape
   code_entry : (content : List ℕ) → Shape
@@ -123,22 +123,22 @@ code_grammar context offset size = u32_field offset (λ count width.
     accept (code_start count width (size - width)))))
 
 -- what a counted section that ends at this offset is wrong in: the data section has as many segments as were announced
-abbrev pub wrong_data : SectionContext → Kind → (id offset : ℕ) → List ℕ → Option FaultAt
+abbrev pub wrong_data : SectionContext → Form → (id offset : ℕ) → List ℕ → Option FaultAt
 wrong_data context items id offset content =
     when (id == 11 && not (list_all (nat_eq (count_of content)) context.data_counts)) (at_offset DataCountDiffer offset)
 wrong_data context other id offset content = None
 
 -- the content of any other section, of this length and at this offset
-abbrev pub whole_grammar : SectionContext → Kind → (id offset length : ℕ) → Grammar
-whole_grammar context kind id offset size = bytes size offset (λ content.
-    check (wrong_content kind offset content) (
-    check (wrong_data context kind id (offset + size) content) (
-    accept (section kind id content))))
+abbrev pub whole_grammar : SectionContext → Form → (id offset length : ℕ) → Grammar
+whole_grammar context form id offset size = bytes size offset (λ content.
+    check (wrong_content form offset content) (
+    check (wrong_data context form id (offset + size) content) (
+    accept (section form id content))))
 
 -- the content of a section, of this length and at this offset
 abbrev pub content_grammar : SectionContext → Kind → (id offset length : ℕ) → Grammar
 content_grammar context code id offset size = code_grammar context offset size
-content_grammar context kind id offset size = whole_grammar context kind id offset size
+content_grammar context (whole form) id offset size = whole_grammar context form id offset size
 
 -- a section of this kind and length, whose length field and content begin at these offsets
 abbrev pub after_length : SectionContext → Kind → (id field offset length : ℕ) → Grammar

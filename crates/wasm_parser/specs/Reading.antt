@@ -2,7 +2,7 @@
 use Rattle.std.specs.Prelude.{◌≡◌, ℕ, ◌+◌, ◌-◌, List, [], ◌∷◌, ◌++◌, length, Some, ◌^◌, ◌<◌, All}
 use Rattle.wasm_base.specs.Name.{Name, named, refused, name_limit, name}
 use Rattle.wasm_base.specs.Window.{Window}
-use Rattle.wasm_parser.specs.Content.{Kind, items, data_count, custom, index, code, unknown, count_of, Ending}
+use Rattle.wasm_parser.specs.Content.{items, data_count, custom, index, unknown, count_of, Ending, Form}
 use Rattle.wasm_parser.specs.Grammar
 use Rattle.wasm_parser.specs.Grammar.{Shape, section, Tile, final, verdict}
 use Rattle.wasm_parser.specs.Tiling.{bytes_of, grammar, Faultless}
@@ -41,18 +41,17 @@ custom_report features from to content (named text used) = custom_section text (
 custom_report features from to content (refused f place) = unknown_section 0 content from to
 
 -- what is reported of a section whose content lies between these offsets
-abbrev pub section_report : (features from to : ℕ) → Kind → (id : ℕ) (content : List ℕ) → Report
+abbrev pub section_report : (features from to : ℕ) → Form → (id : ℕ) (content : List ℕ) → Report
 section_report features from to items id content = counted id (count_of content) (window_over features from content)
 section_report features from to index id content = start_section (count_of content) from to
 section_report features from to data_count id content = data_count_section (count_of content) from to
 section_report features from to custom id content = custom_report features from to content (name (Some name_limit) content)
-section_report features from to code id content = counted id (count_of content) (window_over features from content)
 section_report features from to unknown id content = unknown_section id content from to
 
 -- what is reported of a tile between these offsets
 abbrev pub tile_report : (features from to : ℕ) → Shape → Report
 tile_report features from to (Grammar.version num encoding) = version num encoding from to
-tile_report features from to (section kind id content) = section_report features (to - length content) to kind id content
+tile_report features from to (section form id content) = section_report features (to - length content) to form id content
 tile_report features from to (Grammar.code_start count width size) = code_start count (to - width) (to + size) size
 tile_report features from to (Grammar.code_entry content) = code_entry (window_over features (to - length content) content)
 

@@ -2,7 +2,7 @@
 use Rattle.std.specs.Prelude.{nat_lt, nat_le, ◌≡◌, ℕ, ◌+◌, ◌<◌, false, true, length, Option, option_to_list, nat_eq, Result, Ok, Some, None, Err, Bool, ◌&&◌, not, List, ◌==◌}
 use Rattle.wasm_base.specs.Window.{Place, Window, place, KeepsWindow}
 use Rattle.wasm_base.specs.declared.error.Error.{Error}
-use Rattle.wasm_parser.specs.Content.{Kind, items, kind_of, wrong_single, value_of}
+use Rattle.wasm_parser.specs.Content.{Kind, items, kind_of, wrong_single, value_of, Form}
 use Rattle.wasm_parser.specs.Grammar.{SectionContext, verdict, header_grammar, section_grammar, after_id, after_length, content_grammar, whole_grammar, code_grammar, body_grammar}
 use Rattle.wasm_parser.specs.ParseAnswer.{MatchesVerdict, ReadsByGrammar, items_in}
 use Rattle.wasm_parser.specs.ParserState.{ParserState, known_context, grammar_of}
@@ -54,9 +54,9 @@ ReadsContent p kind id size before result after =
     ReadsByGrammar (content_grammar (known_context p) kind id before.offset size) before result after
 
 -- the content of a section that is whole, whatever came before it
-abbrev pub ReadsAnywhere : Kind → (id size : ℕ) → (before : Place) → Result Payload Error → (after : Place) → Type 0
-ReadsAnywhere kind id size before result after = (context : SectionContext) →
-    ReadsByGrammar (whole_grammar context kind id before.offset size) before result after
+abbrev pub ReadsAnywhere : Form → (id size : ℕ) → (before : Place) → Result Payload Error → (after : Place) → Type 0
+ReadsAnywhere form id size before result after = (context : SectionContext) →
+    ReadsByGrammar (whole_grammar context form id before.offset size) before result after
 
 -- the content of a section of items, after a data count section with this count, or none
 abbrev pub ReadsItems : Option ℕ → (id size : ℕ) → (before : Place) → Result Payload Error → (after : Place) → Type 0

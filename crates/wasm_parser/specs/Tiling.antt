@@ -1,7 +1,7 @@
 -- The tiles of a stream.
 use Rattle.std.specs.Prelude.{◌≡◌, ℕ, ◌+◌, ◌-◌, List, [], ◌∷◌, ◌++◌, length, nat_lt, nat_eq, if◌then◌else◌}
 use Rattle.std.specs.List.{list_all}
-use Rattle.wasm_parser.specs.Content.{items, data_count, code, rank_of, count_of}
+use Rattle.wasm_parser.specs.Content.{items, data_count, code, rank_of, count_of, whole}
 use Rattle.wasm_parser.specs.Grammar.{Shape, version, section, code_start, code_entry, Tile, tile, SectionContext, Grammar, verdict, header_grammar, section_grammar, body_grammar}
 use Rattle.wasm_parser.specs.declared.payload.Encoding.{Encoding}
 use Rattle.wasm_parser.specs.declared.payload.Encoding.TheVariants.{Module}
@@ -24,7 +24,7 @@ encoding_of (t ∷ earlier) = encoding_in t.shape (encoding_of earlier)
 
 -- the rank of a tile, where it has one
 abbrev pub tile_rank : Shape → ℕ
-tile_rank (section kind id content) = rank_of kind id
+tile_rank (section form id content) = rank_of (whole form) id
 tile_rank (code_start count width size) = rank_of code 10
 tile_rank other = 0
 

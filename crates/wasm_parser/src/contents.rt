@@ -2,7 +2,7 @@
 ghost use Rattle.std.specs.Prelude.{◌≡◌, ◌+◌, ◌<◌, ◌^◌, option_to_list};
 ghost use Rattle.wasm_base.specs.Outcome.{Gives};
 ghost use Rattle.wasm_base.specs.Window.{place, KeepsWindow};
-ghost use Rattle.wasm_parser.specs.Content.{custom, items, index, data_count, unknown};
+ghost use Rattle.wasm_parser.specs.Content.{custom, items, index, data_count, unknown, whole};
 ghost use Rattle.wasm_parser.specs.ParseAnswer.{report_of};
 ghost use Rattle.wasm_parser.specs.ReadsPart.{content_at, is_lacking, is_miscounted_by, is_other, kind_of_module, ReadsAnywhere, ReadsCodeStart, ReadsCounted, ReadsItems, ReadsSingleNumber};
 
@@ -72,7 +72,7 @@ pub(crate) fn window<'a>(size: u32, reader: &mut BinaryReader<'a>) -> Result<Bin
 
 /// The section with this id, whose content begins with a count.
 pub(crate) fn counted<'a>(id: u8, window: BinaryReader<'a>) -> Result<Payload<'a>>
-    requires { kind_of_module id ≡ items }
+    requires { kind_of_module id ≡ whole items }
     ensures { ReadsCounted id window.entry result }
 {
     Ok(match id {
@@ -97,7 +97,7 @@ pub(crate) fn items<'a>(
     size: u32,
     reader: &mut BinaryReader<'a>,
 ) -> Result<Payload<'a>>
-    requires { kind_of_module id ≡ items }
+    requires { kind_of_module id ≡ whole items }
     ensures { ReadsItems announced id size (place reader.old) result (place reader.new) }
 {
     let window = window(size, reader)?;
