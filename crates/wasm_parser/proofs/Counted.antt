@@ -11,10 +11,10 @@ use Rattle.wasm_base.specs.declared.fault.Fault.{Fault}
 use Rattle.wasm_base.specs.declared.fault.Fault.TheVariants.{UnexpectedEof, StartContent, DataCountContent, DataCountDiffer}
 use Rattle.wasm_base.specs.declared.fault.NumberKind.TheVariants.{VarU32}
 use Rattle.wasm_parser.specs.ParseAnswer.{unread, counted_by, report_of, BeginsAfterCount, items_in, ItemsBegin, IsPayload, ReadsByGrammar}
-use Rattle.wasm_parser.specs.Content.{items, index, data_count, wrong_number, wrong_single, when, wrong_content, value_of, count_of}
+use Rattle.wasm_parser.specs.Content.{items, index, data_count, wrong_number, wrong_single, when, wrong_content, value_of, count_of, Form}
 use Rattle.wasm_parser.specs.ReadsPart.{content_at, ReadsSingleNumber, IsCounted, IsCountedAs, ReadsCounted, is_miscounted_by}
 use Rattle.wasm_parser.specs.Grammar.{SectionContext, whole_grammar, wrong_data}
-use Rattle.wasm_parser.specs.Reading.{Report, counted, start_section, data_count_section, window_over}
+use Rattle.wasm_parser.specs.Reading.{Report, counted, start_section, data_count_section, window_over, section_report}
 use Rattle.wasm_parser.specs.declared.payload.Payload.{Payload}
 use Rattle.wasm_parser.specs.declared.payload.Payload.TheVariants.{Version, TypeSection, ImportSection, FunctionSection, TableSection, MemorySection, TagSection, GlobalSection, ExportSection, StartSection, ElementSection, DataCountSection, DataSection, CodeSectionStart, CodeSectionEntry, CustomSection, UnknownSection, End}
 use Rattle.wasm_parser.proofs.Framed.{HasContent, has_content, whole_good, whole_bad, whole_miscounted}
@@ -195,37 +195,33 @@ items_refused context id size p w q e a h n =
     let at : place w ≡ content_place size p = at_content size p w k.window in
     whole_bad context items id size p w q e a h (number_refused (content_place size p) (fault_at e) (number VarU32 (take size p.rest)) (subst (λ (x : Place). in_window x (number VarU32 x.rest) ≡ Err (fault_at e)) at n))
 
--- the same for content that is one number
-pub start_read : (context : SectionContext) (id size : ℕ) (p : Place) (w : Window) (q : Place) (v : ℕ) (payload : Payload) → content_at size p ≡ Ok (w, q) → ReadsSingleNumber StartContent (place w) (Ok v)
-    → IsPayload (start_section v w.start (w.start + length w.bytes)) payload → ReadsByGrammar (whole_grammar context index id p.offset size) p (Ok payload) q
-unfolding wrong_content
-start_read context id size p w q v payload h n report =
-    let k : HasContent size p w q = has_content size p w q h in
-    let l : length (take size p.rest) ≡ size = length-take-le size p.rest k.there in
-    let g : ReadsSingleNumber StartContent (content_place size p) (Ok v) = subst (λ (x : Place). ReadsSingleNumber StartContent x (Ok v)) (at_content size p w k.window) n in
-    let at_w : IsPayload (start_section v p.offset (p.offset + length (take size p.rest))) payload = subst (λ (x : Window). IsPayload (start_section v x.start (x.start + length x.bytes)) payload) k.window report in
-    whole_good context index id size p w q payload h g.0 refl (at_w.0 ∙ (λ i. start_section (sym g.1 i) p.offset (p.offset + l i)), at_w.1)
+-- a form whose content is one number: what is wrong with it, and what is reported of it
+pub record IsSingle (left : Fault) (form : Form) (says : (value from to : ℕ) → Report) : Type 0 where
+  pub wrong : (offset : ℕ) (content : List ℕ) → wrong_content form offset content ≡ wrong_single left offset content (number VarU32 content)
+  pub counts : (context : SectionContext) (id offset : ℕ) (content : List ℕ) → wrong_data context form id offset content ≡ None
+  pub report : (features from to id : ℕ) (content : List ℕ) → section_report features from to form id content ≡ says (count_of content) from to
 
-pub start_refused : (context : SectionContext) (id size : ℕ) (p : Place) (w : Window) (q : Place) (e : Error) (a : Place) → content_at size p ≡ Ok (w, q) → ReadsSingleNumber StartContent (place w) (Err e)
-    → ReadsByGrammar (whole_grammar context index id p.offset size) p (Err e) a
+pub start_single : IsSingle StartContent index start_section
 unfolding wrong_content
-start_refused context id size p w q e a h n =
-    let k : HasContent size p w q = has_content size p w q h in
-    whole_bad context index id size p w q e a h (subst (λ (x : Place). ReadsSingleNumber StartContent x (Err e)) (at_content size p w k.window) n)
+start_single = record { wrong = λ offset content. refl; counts = λ context id offset content. refl; report = λ features from to id content. refl }
 
-pub data_count_read : (context : SectionContext) (id size : ℕ) (p : Place) (w : Window) (q : Place) (v : ℕ) (payload : Payload) → content_at size p ≡ Ok (w, q) → ReadsSingleNumber DataCountContent (place w) (Ok v)
-    → IsPayload (data_count_section v w.start (w.start + length w.bytes)) payload → ReadsByGrammar (whole_grammar context data_count id p.offset size) p (Ok payload) q
+pub data_count_single : IsSingle DataCountContent data_count data_count_section
 unfolding wrong_content
-data_count_read context id size p w q v payload h n report =
-    let k : HasContent size p w q = has_content size p w q h in
-    let l : length (take size p.rest) ≡ size = length-take-le size p.rest k.there in
-    let g : ReadsSingleNumber DataCountContent (content_place size p) (Ok v) = subst (λ (x : Place). ReadsSingleNumber DataCountContent x (Ok v)) (at_content size p w k.window) n in
-    let at_w : IsPayload (data_count_section v p.offset (p.offset + length (take size p.rest))) payload = subst (λ (x : Window). IsPayload (data_count_section v x.start (x.start + length x.bytes)) payload) k.window report in
-    whole_good context data_count id size p w q payload h g.0 refl (at_w.0 ∙ (λ i. data_count_section (sym g.1 i) p.offset (p.offset + l i)), at_w.1)
+data_count_single = record { wrong = λ offset content. refl; counts = λ context id offset content. refl; report = λ features from to id content. refl }
 
-pub data_count_refused : (context : SectionContext) (id size : ℕ) (p : Place) (w : Window) (q : Place) (e : Error) (a : Place) → content_at size p ≡ Ok (w, q) → ReadsSingleNumber DataCountContent (place w) (Err e)
-    → ReadsByGrammar (whole_grammar context data_count id p.offset size) p (Err e) a
-unfolding wrong_content
-data_count_refused context id size p w q e a h n =
-    let k : HasContent size p w q = has_content size p w q h in
-    whole_bad context data_count id size p w q e a h (subst (λ (x : Place). ReadsSingleNumber DataCountContent x (Err e)) (at_content size p w k.window) n)
+module _ (left : Fault) (form : Form) (says : (value from to : ℕ) → Report) (f : IsSingle left form says) where
+  pub single_section : (context : SectionContext) (id size : ℕ) (p : Place) (w : Window) (q : Place) (v : ℕ) (payload : Payload) → content_at size p ≡ Ok (w, q) → ReadsSingleNumber left (place w) (Ok v)
+      → IsPayload (says v w.start (w.start + length w.bytes)) payload → ReadsByGrammar (whole_grammar context form id p.offset size) p (Ok payload) q
+  single_section context id size p w q v payload h n report =
+      let k : HasContent size p w q = has_content size p w q h in
+      let l : length (take size p.rest) ≡ size = length-take-le size p.rest k.there in
+      let g : ReadsSingleNumber left (content_place size p) (Ok v) = subst (λ (x : Place). ReadsSingleNumber left x (Ok v)) (at_content size p w k.window) n in
+      let at_w : IsPayload (says v p.offset (p.offset + length (take size p.rest))) payload = subst (λ (x : Window). IsPayload (says v x.start (x.start + length x.bytes)) payload) k.window report in
+      whole_good context form id size p w q payload h (f.wrong p.offset (take size p.rest) ∙ g.0) (f.counts context id (p.offset + size) (take size p.rest))
+      (at_w.0 ∙ ((λ i. says (sym g.1 i) p.offset (p.offset + l i)) ∙ sym (f.report p.features p.offset (p.offset + size) id (take size p.rest))), at_w.1)
+
+  pub single_section_refused : (context : SectionContext) (id size : ℕ) (p : Place) (w : Window) (q : Place) (e : Error) (a : Place) → content_at size p ≡ Ok (w, q) → ReadsSingleNumber left (place w) (Err e)
+      → ReadsByGrammar (whole_grammar context form id p.offset size) p (Err e) a
+  single_section_refused context id size p w q e a h n =
+      let k : HasContent size p w q = has_content size p w q h in
+      whole_bad context form id size p w q e a h (f.wrong p.offset (take size p.rest) ∙ subst (λ (x : Place). ReadsSingleNumber left x (Err e)) (at_content size p w k.window) n)

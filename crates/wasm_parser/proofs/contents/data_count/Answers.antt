@@ -2,7 +2,9 @@ use Rattle.std.proofs.Common.{refl}
 use Rattle.std.proofs.lemmas.Result.{err_from_is_err_and}
 use Rattle.wasm_base.specs.Window.{place}
 use Rattle.wasm_parser.specs.Content.{data_count}
-use Rattle.wasm_parser.proofs.Counted.{data_count_read, data_count_refused}
+use Rattle.wasm_base.specs.declared.fault.Fault.TheVariants.{DataCountContent}
+use Rattle.wasm_parser.specs.Reading.{data_count_section}
+use Rattle.wasm_parser.proofs.Counted.{data_count_single, single_section, single_section_refused}
 use Rattle.wasm_parser.proofs.Framed.{whole_missing}
 use Rattle.wasm_parser.proofs.contents.data_count.Goals as goal
 
@@ -14,7 +16,7 @@ returns-in_err-window c =
 pub returns-in_err-count : goal.returns-in_err-count
 returns-in_err-count c =
     let e = err_from_is_err_and c.from_residual-in_err-count.result c.from_residual-in_err-count.ensures.1 in
-    λ context. rw (e.1, e.2) (data_count_refused context c.args.id c.args.size (place c.args.reader.now) c.in_ok-window.window _ _ _ c.in_ok-window.ensures.gives c.in_err-count.ensures)
+    λ context. rw (e.1, e.2) (single_section_refused DataCountContent data_count data_count_section data_count_single context c.args.id c.args.size (place c.args.reader.now) c.in_ok-window.window _ _ _ c.in_ok-window.ensures.gives c.in_err-count.ensures)
 
 pub returns : goal.returns
-returns c = λ context. data_count_read context c.args.id c.args.size (place c.args.reader.now) c.in_ok-window.window _ c.in_ok-count.count _ c.in_ok-window.ensures.gives c.in_ok-count.ensures (rw c.range-range.ensures (refl, tt))
+returns c = λ context. single_section DataCountContent data_count data_count_section data_count_single context c.args.id c.args.size (place c.args.reader.now) c.in_ok-window.window _ c.in_ok-count.count _ c.in_ok-window.ensures.gives c.in_ok-count.ensures (rw c.range-range.ensures (refl, tt))

@@ -2,7 +2,9 @@ use Rattle.std.proofs.Common.{refl}
 use Rattle.std.proofs.lemmas.Result.{err_from_is_err_and}
 use Rattle.wasm_base.specs.Window.{place}
 use Rattle.wasm_parser.specs.Content.{index}
-use Rattle.wasm_parser.proofs.Counted.{start_read, start_refused}
+use Rattle.wasm_base.specs.declared.fault.Fault.TheVariants.{StartContent}
+use Rattle.wasm_parser.specs.Reading.{start_section}
+use Rattle.wasm_parser.proofs.Counted.{start_single, single_section, single_section_refused}
 use Rattle.wasm_parser.proofs.Framed.{whole_missing}
 use Rattle.wasm_parser.proofs.contents.start.Goals as goal
 
@@ -14,7 +16,7 @@ returns-in_err-window c =
 pub returns-in_err-func : goal.returns-in_err-func
 returns-in_err-func c =
     let e = err_from_is_err_and c.from_residual-in_err-func.result c.from_residual-in_err-func.ensures.1 in
-    λ context. rw (e.1, e.2) (start_refused context c.args.id c.args.size (place c.args.reader.now) c.in_ok-window.window _ _ _ c.in_ok-window.ensures.gives c.in_err-func.ensures)
+    λ context. rw (e.1, e.2) (single_section_refused StartContent index start_section start_single context c.args.id c.args.size (place c.args.reader.now) c.in_ok-window.window _ _ _ c.in_ok-window.ensures.gives c.in_err-func.ensures)
 
 pub returns : goal.returns
-returns c = λ context. start_read context c.args.id c.args.size (place c.args.reader.now) c.in_ok-window.window _ c.in_ok-func.func _ c.in_ok-window.ensures.gives c.in_ok-func.ensures (rw c.range-range.ensures (refl, tt))
+returns c = λ context. single_section StartContent index start_section start_single context c.args.id c.args.size (place c.args.reader.now) c.in_ok-window.window _ c.in_ok-func.func _ c.in_ok-window.ensures.gives c.in_ok-func.ensures (rw c.range-range.ensures (refl, tt))
