@@ -30,6 +30,7 @@ pub mod AcceptedHeaders
 pub mod AcceptedKnows
 pub mod AcceptedLists
 pub mod AcceptedParts
+pub mod OpenSections
 pub mod AcceptedStates
 pub mod AcceptedSteps
 pub mod AcceptedTiles

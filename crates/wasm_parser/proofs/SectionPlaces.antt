@@ -1,17 +1,17 @@
 -- The sections of a reading tile an accepted stream.
 use Rattle.std.specs.declared.ops.Range.{Range}
-use Rattle.std.proofs.Common.{◌≡◌, ℕ, ◌+◌, ◌-◌, ◌<◌, ◌⊎◌, inl, inr, Bool, true, false, cond, List, [], ◌∷◌, ◌++◌, length, take, drop, map, option_to_list, nat_eq, refl, sym, ap, subst, ◌∙◌, arith, length-append, append-nil, append_assoc, eqb-true}
+use Rattle.std.proofs.Common.{◌≡◌, ℕ, ◌+◌, ◌-◌, ◌<◌, List, [], ◌∷◌, ◌++◌, length, take, drop, map, option_to_list, nat_eq, refl, sym, ap, subst, ◌∙◌, arith, length-append, append-nil, append_assoc, eqb-true}
 use Rattle.std.specs.List.{All, flat_map}
 use Rattle.std.proofs.lemmas.List.{take_at, drop_at}
 use Rattle.std.proofs.lemmas.List.Elements.{All-nil, All-push, All-weaker}
 use Rattle.wasm_base.specs.Number.{read}
 use Rattle.wasm_parser.specs.Accepted.{header_bytes, IsNumber, IsSized, Frame, frame_bytes, IsFrame, IsAccepted}
 use Rattle.wasm_parser.specs.Content.{Kind, code, kind_of, ended}
-use Rattle.wasm_parser.specs.Grammar.{section, code_start, Tile, tile, verdict, section_grammar, body_grammar, content_grammar}
+use Rattle.wasm_parser.specs.Grammar.{section, code_start, Tile, tile, verdict, content_grammar}
 use Rattle.wasm_parser.specs.Reading.{events_of, Reads}
 use Rattle.wasm_parser.specs.SectionLaws.{SectionsTile}
 use Rattle.wasm_parser.specs.Sections.{sections_of, bytes_in, id_and_bytes, id_and_content, places_of}
-use Rattle.wasm_parser.specs.Tiling.{bytes_of, context_of, grammar, encoding_of, bodies_left, bytes_left, bytes_after, Faultless}
+use Rattle.wasm_parser.specs.Tiling.{bytes_of, context_of, grammar, encoding_of, bodies_left, bytes_left, bytes_after}
 use Rattle.wasm_parser.specs.declared.payload.Encoding.{Encoding}
 use Rattle.wasm_parser.proofs.Endings.{header_end, inside_end}
 use Rattle.wasm_parser.proofs.FramesSame.{frames_same, headers_same}
@@ -19,9 +19,10 @@ use Rattle.wasm_parser.proofs.ReadingLaws.{reads_same}
 use Rattle.wasm_parser.proofs.KindIds.{code_id}
 use Rattle.wasm_parser.proofs.AcceptedHeaders.{HeaderParts, header_parts}
 use Rattle.wasm_parser.proofs.AcceptedLists.{all_prefix}
-use Rattle.wasm_parser.proofs.AcceptedParts.{SectionParts, section_parts, WholeParts, content_parts, HeadParts, head_parts, BodyParts, body_parts}
-use Rattle.wasm_parser.proofs.AcceptedTiles.{made, IsWhole, whole_or_code}
+use Rattle.wasm_parser.proofs.AcceptedParts.{SectionParts, WholeParts, content_parts, HeadParts, head_parts, BodyParts}
+use Rattle.wasm_parser.proofs.AcceptedTiles.{made, IsWhole}
 use Rattle.wasm_parser.proofs.AcceptedWalks.{stream_of, stream_more, accepted_reads}
+use Rattle.wasm_parser.proofs.OpenSections.{Goes, closed_at, sections_of_tiles}
 use Rattle.wasm_parser.proofs.ReportedSections.{section_at, sections_more, sections_first, sections_all}
 
 -- ---- where sections are
@@ -207,33 +208,16 @@ open_body start features u ts t h q c =
       places = p ∙ q.places;
     }
 
--- whole sections, at the end of a section
-closed_at : (start features : ℕ) (ts : List Tile) → Closed start features ts ⊎ Open start features ts → bodies_left ts + bytes_left ts ≡ 0 → Closed start features ts
-closed_at start features ts (inl q) e = q
-closed_at start features ts (inr q) e = closes start features ts q e
-
--- one tile more
-state_more : (start features : ℕ) (u : Tile) (ts : List Tile) (t : Tile) → verdict (grammar start (u ∷ ts)) t.bytes ≡ tile t → Closed start features (u ∷ ts) ⊎ Open start features (u ∷ ts)
-    → (b : Bool) → nat_eq (bodies_left (u ∷ ts) + bytes_left (u ∷ ts)) 0 ≡ b → (o : ℕ)
-    → verdict (cond b (section_grammar (context_of (u ∷ ts)) o) (body_grammar (bodies_left (u ∷ ts)) (bytes_left (u ∷ ts)) o)) t.bytes ≡ tile t → Closed start features (t ∷ u ∷ ts) ⊎ Open start features (t ∷ u ∷ ts)
-state_more start features u ts t h q true e o v =
-    let c : Closed start features (u ∷ ts) = closed_at start features (u ∷ ts) q (eqb-true _ _ e) in
-    let s : SectionParts (context_of (u ∷ ts)) o t = section_parts (context_of (u ∷ ts)) o t.bytes t v in
-    elim (whole_or_code (kind_of (encoding_of (u ∷ ts)) s.id)) [
-      | inl w ↦ inl (closed_whole start features u ts o t h c s w)
-      | inr k ↦ inr (closed_code start features u ts o t h c s k)
-    ]
-state_more start features u ts t h (inl q) false e o v =
-    let z : nat_eq (bodies_left (u ∷ ts) + bytes_left (u ∷ ts)) 0 ≡ true = ap (λ (x : ℕ). nat_eq x 0) q.whole in cc
-state_more start features u ts t h (inr q) false e o v =
-    inr (open_body start features u ts t h q (body_parts (bodies_left (u ∷ ts)) (bytes_left (u ∷ ts)) o t.bytes t v))
-
--- the tiles of bytes
-states : (start features : ℕ) (t : Tile) (ts : List Tile) → Faultless start (t ∷ ts) → All (λ b. b < 256) (bytes_of (t ∷ ts)) → Closed start features (t ∷ ts) ⊎ Open start features (t ∷ ts)
-states start features t [] f a = inl (header_closed start features t a f.1)
-states start features t (u ∷ ts) f a =
-    state_more start features u ts t f.1 (states start features u ts f.0 (all_prefix (λ b. b < 256) (bytes_of (u ∷ ts)) t.bytes a))
-    (nat_eq (bodies_left (u ∷ ts) + bytes_left (u ∷ ts)) 0) refl (start + length (bytes_of (u ∷ ts))) f.1
+-- whole sections, and a beginning of a code section, go on
+places_go : (start features : ℕ) → Goes start (Closed start features) (Open start features)
+places_go start features = record {
+  header = header_closed start features;
+  section = closed_whole start features;
+  start_of_code = closed_code start features;
+  body = open_body start features;
+  closes = λ ts q e. closes start features ts q (eqb-true _ _ e);
+  closed = λ ts q. ap (λ (x : ℕ). nat_eq x 0) q.whole;
+}
 
 -- ---- the sections of a reading
 
@@ -244,7 +228,7 @@ closed_end stream start features p (t ∷ ts) a r =
     let us : List Tile = t ∷ ts in
     let (b, d, e) = inside_end (nat_eq (bodies_left us + bytes_left us) 0) (context_of us) (bodies_left us) (bytes_left us) (start + length (bytes_of us)) r.rest p r.stops in
     let f : All (λ b. b < 256) (bytes_of us) = all_prefix (λ b. b < 256) (bytes_of us) r.rest (subst (All (λ b. b < 256)) r.whole a) in
-    (closed_at start features us (states start features t ts r.faultless f) (eqb-true _ _ b), r.whole ∙ (ap (λ (x : List ℕ). bytes_of us ++ x) d ∙ append-nil (bytes_of us)))
+    (closed_at start (Closed start features) (Open start features) (places_go start features) us (sections_of_tiles start (Closed start features) (Open start features) (places_go start features) t ts r.faultless f) b, r.whole ∙ (ap (λ (x : List ℕ). bytes_of us ++ x) d ∙ append-nil (bytes_of us)))
 
 -- in one way only
 report_sections : (stream : List ℕ) (start features : ℕ) (a : IsAccepted stream) (ts : List Tile) → Closed start features ts → stream ≡ bytes_of ts → All (λ f. IsSized f.sized) a.frames
