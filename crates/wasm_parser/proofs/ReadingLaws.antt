@@ -139,9 +139,3 @@ stops_at start ts f (tile t) q =
     absurd (omega arith)
 
 -- two faultless tilings of one prefix are one
-pub tiling_same : (start : ℕ) (ts us : List Tile) → Faultless start ts → Faultless start us → bytes_of ts ≡ bytes_of us → ts ≡ us
-tiling_same start ts us f g e =
-    let p : Reads (bytes_of ts) start ts (ending_of (verdict (grammar start ts) [])) = stops_at start ts f (verdict (grammar start ts) []) refl in
-    let q : Reads (bytes_of us) start us (ending_of (verdict (grammar start us) [])) = stops_at start us g (verdict (grammar start us) []) refl in
-    let q' : Reads (bytes_of ts) start us (ending_of (verdict (grammar start us) [])) = subst (λ (x : List ℕ). Reads x start us (ending_of (verdict (grammar start us) []))) (sym e) q in
-    (reads_same (bytes_of ts) start ts us _ _ p q').0

@@ -61,8 +61,7 @@ pub(crate) fn unknown<'a>(id: u8, size: u32, reader: &mut BinaryReader<'a>) -> R
 /// So many bytes as a window of their own.
 #[tactic(auto, unfolding(crate::specs::ReadsPart::content_at))]
 pub(crate) fn window<'a>(size: u32, reader: &mut BinaryReader<'a>) -> Result<BinaryReader<'a>>
-    ensures gives {
-        Gives (λ window. window) result (place reader.new) (content_at size (place reader.old)) }
+    ensures gives { Gives (λ window. window) result (place reader.new) (content_at size (place reader.old)) }
     ensures keeps { KeepsWindow reader.old reader.new }
 {
     let start = reader.original_position();

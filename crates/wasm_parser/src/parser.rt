@@ -19,7 +19,9 @@ use crate::payload::{Chunk, Encoding, Payload};
 use crate::sections::{
     CODE_SECTION, DATA_COUNT_SECTION, DATA_SECTION, FUNCTION_SECTION, Kind, kind_of, rank_of,
 };
-use crate::state::{missing_bodies, known_count, id_and_count, known_encoding, missing_bytes, known_rank};
+use crate::state::{
+    id_and_count, known_count, known_encoding, known_rank, missing_bodies, missing_bytes,
+};
 use bitflags::Flags;
 use std::alloc::AllocError;
 use std::marker::Model;

@@ -40,8 +40,11 @@ impl Model for Feeder {
     ghost Value = { Feed };
 
     ghost view = { λ f. record {
-        state = f.parser; before = f.before;
-        spent = take f.mark f.bytes.items; held = drop f.mark f.bytes.items } };
+      state = f.parser;
+      before = f.before;
+      spent = take f.mark f.bytes.items;
+      held = drop f.mark f.bytes.items;
+    } };
 
     ghost invariant = { λ f. f.mark ≤ vec_len f.bytes };
 }

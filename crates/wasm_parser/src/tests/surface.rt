@@ -2,10 +2,12 @@
 use super::parsing::{HEADER, after_header};
 use crate::{Chunk, Parser, Payload, WasmFeatures};
 use bitflags::Flags;
+use std::ops::Range;
+use std::process::Abort;
 use std::test::Fail;
 
 #[test]
-fn headers_are_report_apart(rt: HostRuntime) -> Result<(), Fail> {
+fn headers_are_distinguished(rt: HostRuntime) -> Result<(), Fail> {
     let component: &[u8] = b"\0asm\x0d\0\x01\0";
     assert!(rt; Parser::is_core_wasm(HEADER));
     assert!(rt; Parser::is_core_wasm(b"\0asm\x01\0\0\0\0"));
@@ -54,6 +56,23 @@ fn a_copy_goes_its_own_way(rt: HostRuntime) -> Result<(), Fail> {
     Ok(())
 }
 
+// The payloads of a stream are these sections, or none.
+fn are_sections(
+    rt: &impl Abort,
+    stream: &[u8],
+    wanted: &[Option<(u8, Range<u64>)>],
+) -> Result<(), Fail> {
+    let mut count = 0usize;
+    for payload in Parser::new(0).parse_all(stream) {
+        let section = payload?.as_section();
+        assert!(rt; count < wanted.len());
+        assert!(rt; section == wanted[count], "{count}");
+        count += 1;
+    }
+    assert_eq!(rt; count, wanted.len());
+    Ok(())
+}
+
 #[test]
 fn sections_by_their_payloads(rt: HostRuntime) -> Result<(), Fail> {
     let stream: &[u8] =
@@ -78,28 +97,12 @@ fn sections_by_their_payloads(rt: HostRuntime) -> Result<(), Fail> {
         Some((14, 56..56)),
         None,
     ];
-    let mut count = 0usize;
-    for payload in Parser::new(0).parse_all(stream) {
-        let section = payload?.as_section();
-        assert!(rt; count < wanted.len());
-        assert!(rt; section == wanted[count], "{count}");
-        count += 1;
-    }
-    assert_eq!(rt; count, wanted.len());
-    Ok(())
+    are_sections(&rt, stream, &wanted)
 }
 
 #[test]
 fn sections_of_a_module_with_a_body(rt: HostRuntime) -> Result<(), Fail> {
     let stream: &[u8] = b"\0asm\x01\0\0\0\x03\x02\x01\0\x0a\x04\x01\x02\0\x0b";
     let wanted = [None, Some((3, 10..12)), Some((10, 14..18)), None, None];
-    let mut count = 0usize;
-    for payload in Parser::new(0).parse_all(stream) {
-        let section = payload?.as_section();
-        assert!(rt; count < wanted.len());
-        assert!(rt; section == wanted[count], "{count}");
-        count += 1;
-    }
-    assert_eq!(rt; count, wanted.len());
-    Ok(())
+    are_sections(&rt, stream, &wanted)
 }

@@ -3,6 +3,7 @@ use crate::bodies::size_of_bodies;
 use crate::feeder::{Feeder, Step};
 use crate::walks::total;
 use std::ops::Range;
+use std::process::Abort;
 use std::test::Fail;
 use wasm_base::{Error, Fault, Result};
 use wasm_parser::{Encoding, Payload};
@@ -32,18 +33,23 @@ fn id_of(payload: &Payload) -> Option<u8> {
     payload.as_section().map(|section| section.0)
 }
 
+// The step consumed these bytes, and is a section with this id in this range.
+fn is_step(rt: &impl Abort, step: Step, wanted: &[u8], id: Option<u8>, range: Range<u64>) {
+    match step {
+        Step::Parsed { bytes, payload } => {
+            assert_eq!(rt; bytes, wanted);
+            assert_eq!(rt; id_of(&payload), id);
+            assert_eq!(rt; range_of(&payload), Some(range));
+        }
+        _other => assert!(rt; false),
+    }
+}
+
 #[test]
 fn steps_of_a_module(rt: HostRuntime) -> std::result::Result<(), Fail> {
     let mut feeder = Feeder::new(MODULE.to_vec(rt.alloc())?, 0);
     for (wanted, id, from, to) in STEPS {
-        match feeder.step()? {
-            Step::Parsed { bytes, payload } => {
-                assert_eq!(rt; bytes, wanted);
-                assert_eq!(rt; id_of(&payload), id);
-                assert_eq!(rt; range_of(&payload), Some(from..to));
-            }
-            _other => assert!(rt; false),
-        }
+        is_step(&rt, feeder.step()?, wanted, id, from..to);
     }
     Ok(())
 }
@@ -52,14 +58,7 @@ fn steps_of_a_module(rt: HostRuntime) -> std::result::Result<(), Fail> {
 fn advances_along_a_module(rt: HostRuntime) -> std::result::Result<(), Fail> {
     let mut feeder = Feeder::new(MODULE.to_vec(rt.alloc())?, 0);
     for (wanted, id, from, to) in STEPS {
-        match feeder.advanced().step()? {
-            Step::Parsed { bytes, payload } => {
-                assert_eq!(rt; bytes, wanted);
-                assert_eq!(rt; id_of(&payload), id);
-                assert_eq!(rt; range_of(&payload), Some(from..to));
-            }
-            _other => assert!(rt; false),
-        }
+        is_step(&rt, feeder.advanced().step()?, wanted, id, from..to);
     }
     Ok(())
 }
