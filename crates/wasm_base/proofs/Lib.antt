@@ -1,3 +1,4 @@
+pub mod InTurn
 pub mod NumberLaws
 pub mod Numbers
 pub mod OneOutcome
