@@ -6,6 +6,7 @@ use Rattle.wasm_base.specs.Hints.{TakesNoMemory, HintsNothing}
 use Rattle.wasm_base.specs.Item.{Alike}
 use Rattle.wasm_base.specs.Number.{unsigned_at}
 use Rattle.wasm_base.specs.Outcome.{Outcome}
+use Rattle.wasm_base.specs.Owned.{UnlessMemory}
 use Rattle.wasm_base.specs.Window.{Window, Place, place, KeepsWindow}
 use Rattle.wasm_base.specs.declared.error.Error.{Error}
 use Rattle.wasm_base.specs.declared.fault.Fault.TheVariants.{SizeMismatch}
@@ -52,6 +53,21 @@ pub record NextItem {T : Type 0} (meaning : Place → Outcome T → Type 0) (s :
   pub count : t.count ≡ s.count
   pub keeps : KeepsWindow s.reader t.reader
   pub memory : IfSome given TakesNoMemory
+  pub no_hint : s.left ≡ 0 → IfSome given HintsNothing
+
+-- An iterator is over exactly if its item was a fault.
+abbrev pub EndsAtFault : {T : Type 0} → Result T Error → Items → Type 0
+EndsAtFault (Ok x) t = t.ended ≡ false
+EndsAtFault (Err e) t = t.ended ≡ true
+
+-- one call of `next` over items that own lists, for which memory may be refused
+pub record NextItemIn {T : Type 0} (meaning : Place → Outcome T → Type 0) (s : Items) (given : Option (Result T Error)) (t : Items) : Type 0 where
+  pub over : s.ended ≡ true → (given ≡ None) × (t ≡ s)
+  pub item : s.ended ≡ false → 0 < s.left → ReadsItem (UnlessMemory meaning) s given t
+  pub last : s.ended ≡ false → s.left ≡ 0 → ReadsEnd s given t
+  pub count : t.count ≡ s.count
+  pub keeps : KeepsWindow s.reader t.reader
+  pub memory : s.left ≡ 0 → IfSome given TakesNoMemory
   pub no_hint : s.left ≡ 0 → IfSome given HintsNothing
 
 -- how many items may still come: one more than are left, for a fault at the end

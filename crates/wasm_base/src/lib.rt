@@ -33,4 +33,7 @@ pub use limits::{
 };
 pub use owned::{FromReaderIn, read_list, read_list_in};
 pub use reader::{BinaryReader, fits};
-pub use section::{SectionLimited, SectionLimitedIntoIter, SectionLimitedIntoIterWithOffsets};
+pub use section::{
+    SectionLimited, SectionLimitedIntoIter, SectionLimitedIntoIterIn,
+    SectionLimitedIntoIterWithOffsets,
+};
