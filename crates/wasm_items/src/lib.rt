@@ -11,6 +11,7 @@ mod globals;
 mod imports;
 mod init;
 pub mod laws;
+mod leading;
 mod memories;
 mod tables;
 mod tags;
