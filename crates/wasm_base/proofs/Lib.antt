@@ -4,6 +4,8 @@ pub mod OneOutcome
 pub mod Pages
 pub mod Runs
 pub mod SameFaults
+pub mod Signed
+pub mod Skipped
 pub mod Deciding
 pub mod Texts
 pub mod Walks

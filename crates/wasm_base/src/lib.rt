@@ -5,6 +5,7 @@
 mod error;
 mod fault;
 mod features;
+mod float;
 mod item;
 pub mod laws;
 mod limits;
@@ -17,6 +18,7 @@ mod tests;
 pub use error::{Error, Result};
 pub use fault::{CoreStart, Fault, Lead, NumberKind};
 pub use features::WasmFeatures;
+pub use float::{Ieee32, Ieee64};
 pub use item::FromReader;
 pub use limits::{
     _MAX_WASM_TABLE_SIZE, DEFAULT_WASM_PAGE_SIZE, MAX_WASM_BR_TABLE_SIZE, MAX_WASM_CATCHES,
