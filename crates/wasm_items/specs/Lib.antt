@@ -1,6 +1,10 @@
 pub mod Exports
 pub mod Externals
+pub mod Init
 pub mod Leading
+pub mod Limits
+pub mod Memories
 pub mod Same
 pub mod Tags
+pub mod Values
 pub mod Windows

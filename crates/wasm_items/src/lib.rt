@@ -12,12 +12,15 @@ mod imports;
 mod init;
 pub mod laws;
 mod leading;
+mod limits;
 mod memories;
 mod tables;
 mod tags;
 #[cfg(test)]
 mod tests;
 mod types;
+mod values;
+mod windows;
 
 pub use code::FunctionBody;
 pub use data::{Data, DataKind, DataSectionReader};
