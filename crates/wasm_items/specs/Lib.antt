@@ -1,2 +1,13 @@
-pub mod Windows
+pub mod Exports
+pub mod Externals
+pub mod Globals
+pub mod Imports
+pub mod Init
+pub mod Leading
+pub mod Limits
+pub mod Memories
 pub mod Same
+pub mod Tables
+pub mod Tags
+pub mod Values
+pub mod Windows

@@ -11,12 +11,16 @@ mod globals;
 mod imports;
 mod init;
 pub mod laws;
+mod leading;
+mod limits;
 mod memories;
 mod tables;
 mod tags;
 #[cfg(test)]
 mod tests;
 mod types;
+mod values;
+mod windows;
 
 pub use code::FunctionBody;
 pub use data::{Data, DataKind, DataSectionReader};
