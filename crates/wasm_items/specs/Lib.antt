@@ -1,6 +1,8 @@
+pub mod Data
 pub mod Exports
 pub mod Externals
 pub mod Globals
+pub mod Groups
 pub mod Imports
 pub mod Init
 pub mod Leading

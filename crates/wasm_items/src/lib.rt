@@ -8,6 +8,7 @@ mod elements;
 mod exports;
 mod functions;
 mod globals;
+mod groups;
 mod imports;
 mod init;
 pub mod laws;
