@@ -1,10 +1,12 @@
 pub mod Data
+pub mod Elements
 pub mod Exports
 pub mod Externals
 pub mod Globals
 pub mod Groups
 pub mod Imports
 pub mod Init
+pub mod Inner
 pub mod Leading
 pub mod Limits
 pub mod Memories
