@@ -1,3 +1,4 @@
+pub mod Inner
 pub mod Instructions
 pub mod Same
 pub mod SameGroup

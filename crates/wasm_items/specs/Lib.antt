@@ -3,6 +3,7 @@ pub mod Externals
 pub mod Globals
 pub mod Imports
 pub mod Init
+pub mod Inner
 pub mod Leading
 pub mod Limits
 pub mod Memories
