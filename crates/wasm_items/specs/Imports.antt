@@ -1,25 +1,27 @@
 -- Imports. Core specification, Binary format, Modules, Import Section, and Types, External Types; the groups are of the proposal for compact
 -- imports.
-use Rattle.std.specs.Prelude.{◌≡◌, ℕ, zero, suc, ◌+◌, ◌-◌, ◌==◌, Bool, List, [], ◌∷◌, ◌++◌, map, Option, Some, None, Result, Ok, Err, result_map, if◌then◌else◌}
+use Rattle.std.specs.Prelude.{ℕ, ◌==◌, Bool, List, [], ◌∷◌, Some, Ok, Err, if◌then◌else◌}
 use Rattle.std.specs.Int.RustNames.{bit_and}
-use Rattle.wasm_base.specs.FaultAt.{FaultAt, at_offset}
+use Rattle.wasm_base.specs.FaultAt.{at_offset}
 use Rattle.wasm_base.specs.Name.{name_limit, text_at, peeked_byte_at}
 use Rattle.wasm_base.specs.Number.{unsigned_at}
 use Rattle.wasm_base.specs.Outcome.{Outcome, ◌>>=◌}
-use Rattle.wasm_base.specs.Section.{Section, at_the_end}
+use Rattle.wasm_base.specs.Section.{Section}
 use Rattle.wasm_base.specs.Skip.{skipped_name_at}
-use Rattle.wasm_base.specs.Window.{Place, place, advanced}
+use Rattle.wasm_base.specs.Window.{Place, advanced}
 use Rattle.wasm_base.specs.declared.fault.Fault.{Fault}
 use Rattle.wasm_base.specs.declared.fault.Fault.TheVariants.{Compact7F, Compact7E}
 use Rattle.wasm_base.specs.declared.fault.NumberKind.TheVariants.{VarU32}
 use Rattle.wasm_items.specs.Externals.{kind_at}
 use Rattle.wasm_items.specs.Globals.{global_type_at}
-use Rattle.wasm_items.specs.Windows.{window_between}
+use Rattle.wasm_items.specs.Inner.{inner_section_at}
 use Rattle.wasm_items.specs.Memories.{memory_type_at}
 use Rattle.wasm_items.specs.Tables.{table_type_at}
 use Rattle.wasm_items.specs.Tags.{tag_type_at}
 use Rattle.wasm_items.specs.declared.exports.ExternalKind.{ExternalKind}
 use Rattle.wasm_items.specs.declared.exports.ExternalKind.TheVariants as Kinds
+use Rattle.wasm_items.specs.declared.imports.Form.{Form}
+use Rattle.wasm_items.specs.declared.imports.Form.TheVariants.{OneImport, ModuleGroup, TypeGroup}
 use Rattle.wasm_items.specs.declared.imports.Import.{Import}
 use Rattle.wasm_items.specs.declared.imports.ImportItemCompact.{ImportItemCompact}
 use Rattle.wasm_items.specs.declared.imports.Imports.{Imports}
@@ -86,25 +88,6 @@ passed_item_at p = do
   ty ← type_ref_at name.1
   Ok (tt, ty.1)
 
--- the place after so many, one after the other
-abbrev pub all_passed_at : (Place → Outcome (Unit {0})) → (count : ℕ) → Place → Outcome (Unit {0})
-all_passed_at pass zero p = Ok (tt, p)
-all_passed_at pass (suc count) p = do
-  one ← pass p
-  all_passed_at pass count one.1
-
--- The section of a count and so many items, which are passed over: its window begins at the count, and its reader is
--- after that.
-abbrev pub section_between : (p : Place) → ℕ × Place → Place → Section
-section_between p count q = record { reader = record (window_between p q) { position = count.1.offset - p.offset }; count = count.0 }
-
--- a count and so many items that are passed over
-unfoldable pub inner_section_at : (Place → Outcome (Unit {0})) → Place → Outcome Section
-inner_section_at pass p = do
-  count ← unsigned_at VarU32 p
-  end ← all_passed_at pass count.0 count.1
-  Ok (section_between p count end.1, end.1)
-
 -- an item of an import section: one import and where it begins, imports of one module, or names of imports of one
 -- module and one type
 pub data Group : Type 0 where
@@ -117,19 +100,14 @@ group_parts (Single offset one) = single offset (import_parts one)
 group_parts (Compact1 from items) = of_module from.now items
 group_parts (Compact2 from ty names) = of_type from.now ty names
 
--- how an item of an import section goes on after its two names
-pub data Form : Type 0 where
-  one_import : Form
-  module_group : Form
-  type_group : Form
-
--- A group has an empty second name, and a byte that is no external kind after it.
+-- How an item of an import section goes on after its two names: a group has an empty second name, and a byte that is no
+-- external kind after it.
 abbrev pub form_of : (name : List ℕ) (byte : ℕ) → Form
 form_of [] byte =
-    if byte == 0x7F then module_group
-    else if byte == 0x7E then type_group
-    else one_import
-form_of (b ∷ name) byte = one_import
+    if byte == 0x7F then ModuleGroup
+    else if byte == 0x7E then TypeGroup
+    else OneImport
+form_of (b ∷ name) byte = OneImport
 
 -- whether groups are taken: the feature of compact imports, which is flag 2 of the features
 abbrev pub has_groups : Place → Bool
@@ -160,9 +138,9 @@ single_at start from name p = do
 
 -- an item of an import section after its two names, by its form
 abbrev pub group_by_form_at : Form → (start : ℕ) (from name : List ℕ) → Place → Outcome Group
-group_by_form_at one_import start from name p = single_at start from name p
-group_by_form_at module_group start from name p = if_groups Compact7F (module_group_at from) p
-group_by_form_at type_group start from name p = if_groups Compact7E (type_group_at from) p
+group_by_form_at OneImport start from name p = single_at start from name p
+group_by_form_at ModuleGroup start from name p = if_groups Compact7F (module_group_at from) p
+group_by_form_at TypeGroup start from name p = if_groups Compact7E (type_group_at from) p
 
 -- an item of an import section
 unfoldable pub group_at : Place → Outcome Group

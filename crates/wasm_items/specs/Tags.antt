@@ -1,5 +1,5 @@
 -- Tags. Core specification, Binary format, Types, Tag Types, and Modules, Tag Section.
-use Rattle.std.specs.Prelude.{ℕ, ◌==◌, Ok, Err, if◌then◌else◌}
+use Rattle.std.specs.Prelude.{◌==◌, Ok, Err, if◌then◌else◌}
 use Rattle.wasm_base.specs.FaultAt.{at_offset}
 use Rattle.wasm_base.specs.Name.{byte_at}
 use Rattle.wasm_base.specs.Number.{unsigned_at}
