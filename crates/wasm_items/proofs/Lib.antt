@@ -1,4 +1,5 @@
 pub mod Inner
 pub mod Instructions
+pub mod OwnBytes
 pub mod Same
 pub mod SameGroup
