@@ -1,3 +1,4 @@
+pub mod Announced
 pub mod Inner
 pub mod Instructions
 pub mod OwnBytes

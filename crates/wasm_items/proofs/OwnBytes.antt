@@ -1,11 +1,11 @@
 -- Readings that depend on no byte after those that they take.
-use Rattle.std.proofs.Common.{length-drop, ◌≡◌, ℕ, zero, suc, ◌+◌, ◌-◌, ◌<◌, ◌≤◌, Bool, true, false, cond, List, [], ◌∷◌, ◌++◌, length, take, drop, Option, Some, None, nat_lt, nat_eq, Result, Ok, Err, refl, sym, ap, subst, arith, ◌∙◌, ℤ, pos, negsuc, ltb-false, le-ltb}
+use Rattle.std.proofs.Common.{length-drop, ◌≡◌, ℕ, zero, suc, ◌+◌, ◌-◌, ◌<◌, ◌≤◌, Bool, true, false, cond, List, [], ◌∷◌, ◌++◌, length, take, drop, Option, Some, None, nat_lt, nat_eq, Ok, Err, refl, sym, ap, subst, arith, ◌∙◌, ℤ, pos, negsuc, ltb-false, le-ltb}
 use Rattle.std.proofs.Math.Seq.{take-add}
 use Rattle.std.proofs.lemmas.List.{drop-take, take-take, length-take}
 use Rattle.wasm_base.proofs.NumberLaws.{Used, number-used, number-more}
 use Rattle.wasm_base.proofs.Texts.{advanced_twice}
 use Rattle.wasm_base.specs.FaultAt.{FaultAt, at_offset}
-use Rattle.wasm_base.specs.Name.{bytes_at, byte_at, first_of, peeked_byte_at, first_peeked}
+use Rattle.wasm_base.specs.Name.{bytes_at, byte_at}
 use Rattle.wasm_base.specs.Number.{Number, read, bad, short, number, in_window, unsigned_at}
 use Rattle.wasm_base.specs.Outcome.{Outcome, ◌>>=◌}
 use Rattle.wasm_base.specs.Signed.{signed_value, signed_at}

@@ -1,3 +1,4 @@
+pub mod Announced
 pub mod Data
 pub mod Elements
 pub mod Exports

@@ -1,5 +1,9 @@
-//! What comparing items says.
+//! What comparing items says, and what holds of items that were read.
+ghost use Rattle.std.specs.Prelude.{Ok};
 ghost use Rattle.wasm_base.specs.Comparing.{DecidesWhether, DecidesSame, CopiesSame, CopiesAlways};
+ghost use Rattle.wasm_base.specs.Item.{AllowsOne, Determines};
+ghost use Rattle.wasm_base.specs.Window.{Place};
+ghost use Rattle.wasm_items.specs.Announced.{ElementsAreGiven};
 ghost use Rattle.wasm_items.specs.Same.{IsSameImport, IsSameItem, IsSameExport, IsSameFunction, IsSameComposite, IsSameSubtype, IsSameGroup};
 
 use crate::code::FunctionBody;
@@ -14,6 +18,7 @@ use crate::types::{
     CompositeType, FieldType, FuncType, GlobalType, HeapType, MemoryType, RecGroup, RefType,
     StorageType, SubType, TableType, TagKind, TagType, ValType,
 };
+use wasm_base::{FromReader, FromReaderIn, SectionLimitedIntoIter};
 
 /// Two types, kinds or externals, which own no list, are equal exactly if they are the same.
 pub fn equal_types_are_the_same()
@@ -104,4 +109,25 @@ pub fn copies_are_always_made<'a>()
     ensures import { CopiesAlways ⟦<Import<'a> as Clone>⟧.is_infallible }
     ensures item { CopiesAlways ⟦<ImportItemCompact<'a> as Clone>⟧.is_infallible }
     ensures export { CopiesAlways ⟦<Export<'a> as Clone>⟧.is_infallible }
+{}
+
+/// The elements of a segment that was read are the announced ones: an iterator over them gives so many, and no fault.
+pub fn elements_that_were_read_are_given<'a>()
+    ensures { (before after : Place) (element : Element) →
+        ⟦<Element<'a> as FromReader<'a>>⟧.meaning before (Ok (element, after)) →
+        ElementsAreGiven
+        ⟦<SectionLimitedIntoIter<'a, u32> as Iterator>⟧.next_gives
+        ⟦<SectionLimitedIntoIter<'a, ConstExpr<'a>> as Iterator>⟧.next_gives element.items }
+{}
+
+/// Segments and types allow one outcome. An element segment and a field are determined by it.
+pub fn segments_and_types_allow_one_outcome<'a>()
+    ensures element { AllowsOne ⟦<Element<'a> as FromReader<'a>>⟧.meaning × Determines ⟦<Element<'a> as FromReader<'a>>⟧.meaning }
+    ensures segment { AllowsOne ⟦<Data<'a> as FromReader<'a>>⟧.meaning }
+    ensures storage { AllowsOne ⟦<StorageType as FromReader<'a>>⟧.meaning × Determines ⟦<StorageType as FromReader<'a>>⟧.meaning }
+    ensures field { AllowsOne ⟦<FieldType as FromReader<'a>>⟧.meaning × Determines ⟦<FieldType as FromReader<'a>>⟧.meaning }
+    ensures function { AllowsOne ⟦<FuncType as FromReaderIn<'a>>⟧.meaning }
+    ensures composite { AllowsOne ⟦<CompositeType as FromReaderIn<'a>>⟧.meaning }
+    ensures subtype { AllowsOne ⟦<SubType as FromReaderIn<'a>>⟧.meaning }
+    ensures group { AllowsOne ⟦<RecGroup as FromReaderIn<'a>>⟧.meaning }
 {}
