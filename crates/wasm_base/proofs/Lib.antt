@@ -1,3 +1,5 @@
+pub mod InTurn
+pub mod Lists
 pub mod NumberLaws
 pub mod Numbers
 pub mod OneOutcome

@@ -12,6 +12,7 @@ pub mod Message
 pub mod Name
 pub mod Number
 pub mod Outcome
+pub mod Owned
 pub mod Section
 pub mod Signed
 pub mod Skip

@@ -7,7 +7,8 @@ ghost use Rattle.wasm_base.specs.FaultAt.{fault_at};
 ghost use Rattle.wasm_base.specs.Features.{feature_bits};
 ghost use Rattle.wasm_base.specs.Float.{bits_of_32, bits_of_64};
 ghost use Rattle.wasm_base.specs.Item.{AllowsOne, Determines};
-ghost use Rattle.wasm_base.specs.Section.{Section, Items, AtItsOffset, GivesItems, GivesTheSame, GivesEqual, item_or_fault, item_alone};
+ghost use Rattle.wasm_base.specs.Owned.{UnlessMemory};
+ghost use Rattle.wasm_base.specs.Section.{Section, Items, AtItsOffset, GivesItems, GivesTheSame, GivesTheSameUnlessMemory, GivesEqual, all_items, item_or_fault, item_alone};
 ghost use Rattle.wasm_base.specs.Widths.{IsLongEnough, ChecksUnused, BoundsSum};
 
 use crate::error::Error;
@@ -15,8 +16,12 @@ use crate::fault::{CoreStart, Fault, Lead, NumberKind};
 use crate::features::WasmFeatures;
 use crate::float::{Ieee32, Ieee64};
 use crate::item::FromReader;
+use crate::owned::FromReaderIn;
 use crate::reader::BinaryReader;
-use crate::section::{SectionLimited, SectionLimitedIntoIter, SectionLimitedIntoIterWithOffsets};
+use crate::section::{
+    SectionLimited, SectionLimitedIntoIter, SectionLimitedIntoIterIn,
+    SectionLimitedIntoIterWithOffsets,
+};
 use std::hash::Hash;
 
 /// Calls of `next` up to the first `None` give the items of the window, and nothing comes after that `None`. The
@@ -31,6 +36,13 @@ pub fn items_of_a_window<'a, T: FromReader<'a>>()
         GivesItems
         ⟦<SectionLimitedIntoIterWithOffsets<'a, T> as Iterator>⟧.next_gives
         (AtItsOffset T.meaning) s }
+{}
+
+/// Of items that own lists, calls of `next` up to the first `None` give the items of the window too, as `items_of_a_window`
+/// says, or in place of one of them `OutOfMemory`, which is the last.
+pub fn owned_items_of_a_window<'a, T: FromReaderIn<'a>>()
+    ensures { (s : Items) →
+        GivesItems ⟦<SectionLimitedIntoIterIn<'a, T> as Iterator>⟧.next_gives (UnlessMemory T.meaning) s }
 {}
 
 /// Both iterators give the same items and the same fault, where the meaning of an item allows one outcome: equal
@@ -62,6 +74,16 @@ pub fn a_clone_gives_the_same_items<'a, T: FromReader<'a>>()
         GivesEqual
         ⟦<SectionLimitedIntoIter<'a, T> as Iterator>⟧.next_gives item_or_fault s
         ⟦<SectionLimitedIntoIter<'a, T> as Iterator>⟧.next_gives item_or_fault t }
+{}
+
+/// A clone of a section gives the same items that own lists and the same fault, up to a want of memory, where the meaning
+/// of an item allows one outcome.
+pub fn a_clone_gives_the_same_owned_items<'a, T: FromReaderIn<'a>>()
+    ensures { AllowsOne T.meaning → (section copy : Section) →
+        ⟦<SectionLimited<'a, T> as Clone>⟧.is_clone section copy →
+        GivesTheSameUnlessMemory T.meaning
+        ⟦<SectionLimitedIntoIterIn<'a, T> as Iterator>⟧.next_gives
+        (all_items section) (all_items copy) }
 {}
 
 /// A clone of an iterator gives the same items and the same fault, where the meaning of an item allows one outcome.

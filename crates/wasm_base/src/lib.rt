@@ -10,6 +10,7 @@ mod item;
 pub mod laws;
 mod limits;
 mod number;
+mod owned;
 mod reader;
 mod section;
 #[cfg(test)]
@@ -30,5 +31,9 @@ pub use limits::{
     MAX_WASM_TABLES, MAX_WASM_TAGS, MAX_WASM_TYPE_SIZE, MAX_WASM_TYPES, is_page_size,
     max_wasm_memory32_pages, max_wasm_memory64_pages,
 };
+pub use owned::{FromReaderIn, read_list, read_list_in};
 pub use reader::{BinaryReader, fits};
-pub use section::{SectionLimited, SectionLimitedIntoIter, SectionLimitedIntoIterWithOffsets};
+pub use section::{
+    SectionLimited, SectionLimitedIntoIter, SectionLimitedIntoIterIn,
+    SectionLimitedIntoIterWithOffsets,
+};

@@ -58,8 +58,26 @@ fn sum_of_groups(bytes: &[u8]) -> u128
     sum
 }
 
-/// The number of this kind that begins with these bytes.
+/// The number of this kind that begins with these bytes. Most numbers have one byte or two.
 pub(crate) fn number_in(kind: NumberKind, bytes: &[u8]) -> Found
+    ensures value { number_of result ≡ number kind bytes.now }
+    ensures within { IsWithin kind result (length bytes.now) }
+{
+    match bytes {
+        [only, ..] if *only < 128 => Found::Read {
+            sum: u128::from(*only),
+            used: 1,
+        },
+        [low, high, ..] if *high < 128 => Found::Read {
+            sum: u128::from(u16::from(*low - 128) + 128 * u16::from(*high)),
+            used: 2,
+        },
+        _ => long_number_in(kind, bytes),
+    }
+}
+
+// The number of this kind that begins with these bytes, however many bytes it has.
+fn long_number_in(kind: NumberKind, bytes: &[u8]) -> Found
     ensures value { number_of result ≡ number kind bytes.now }
     ensures within { IsWithin kind result (length bytes.now) }
 {

@@ -1,7 +1,10 @@
+pub mod Data
+pub mod Elements
 pub mod Exports
 pub mod Externals
 pub mod Flattened
 pub mod Globals
+pub mod Groups
 pub mod Imports
 pub mod Init
 pub mod Inner

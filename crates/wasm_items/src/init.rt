@@ -110,8 +110,8 @@ fn pass_vector_operands(start: u64, reader: &mut BinaryReader<'_>) -> Result<()>
     Ok(())
 }
 
-// Passes over instructions up to the end, which is passed too.
-fn pass_expression(reader: &mut BinaryReader<'_>) -> Result<()>
+/// Passes over instructions up to the end, which is passed too.
+pub(crate) fn pass_expression(reader: &mut BinaryReader<'_>) -> Result<()>
     ensures gives { Gives (λ nothing. nothing) result (place reader.new) (end_of_expression (place reader.old)) }
     ensures keeps { KeepsWindow reader.old reader.new }
     ensures memory { TakesNoMemory result }

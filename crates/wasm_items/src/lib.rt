@@ -9,6 +9,7 @@ mod exports;
 mod flattened;
 mod functions;
 mod globals;
+mod groups;
 mod imports;
 mod init;
 pub mod laws;
