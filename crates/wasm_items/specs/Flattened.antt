@@ -1,6 +1,7 @@
 -- The imports of an import section one by one, without their groups. Core specification, Binary format, Modules, Import Section; the groups
 -- are of the proposal for compact imports.
-use Rattle.std.specs.Prelude.{◌≡◌, ℕ, zero, suc, List, [], ◌∷◌, ◌++◌, Option, Some, None, Result, Ok, Err, if◌then◌else◌}
+use Rattle.std.specs.Prelude.{◌≡◌, ℕ, zero, suc, List, [], ◌∷◌, ◌++◌, map, Option, Some, None, Result, Ok, Err, if◌then◌else◌}
+use Rattle.std.specs.Iterator.{Drains}
 use Rattle.wasm_base.specs.FaultAt.{FaultAt, fault_at}
 use Rattle.wasm_base.specs.Name.{name_limit, text_at}
 use Rattle.wasm_base.specs.Outcome.{Outcome}
@@ -76,3 +77,8 @@ found (Err e) = Err (fault_at e)
 abbrev pub GivesFirst : {A B : Type 0} → (A → B) → List B → Option A → List B → Type 0
 GivesFirst view before (Some given) after = before ≡ view given ∷ after
 GivesFirst view before None after = (before ≡ []) × (after ≡ [])
+
+-- Calls of `next` up to the first `None` give all that is to come, in order, and nothing comes after that `None`.
+pub record GivesAll {A B : Type 0} (view : A → B) (next : List B → Option A → List B → Type 0) : Type 0 where
+  pub items : (s : List B) (given : List A) → Drains next s given → map view given ≡ s
+  pub after : (s t u : List B) (given : Option A) → next s None t → next t given u → given ≡ None
