@@ -4,3 +4,4 @@ pub mod Instructions
 pub mod OwnBytes
 pub mod Same
 pub mod SameGroup
+pub mod ToCome

@@ -3,12 +3,14 @@ pub mod Data
 pub mod Elements
 pub mod Exports
 pub mod Externals
+pub mod Flattened
 pub mod Globals
 pub mod Groups
 pub mod Imports
 pub mod Init
 pub mod Inner
 pub mod Leading
+pub mod Left
 pub mod Limits
 pub mod Memories
 pub mod Same
