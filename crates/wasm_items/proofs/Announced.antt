@@ -19,6 +19,7 @@ use Rattle.wasm_items.specs.Limits.{has_flag}
 use Rattle.wasm_items.specs.Windows.{expression_window, window_between}
 use Rattle.wasm_items.specs.declared.elements.Element.{Element}
 use Rattle.wasm_items.specs.declared.elements.ElementItems.{ElementItems}
+use Rattle.wasm_items.specs.declared.elements.ElementKind.{ElementKind}
 use Rattle.wasm_items.specs.declared.elements.ElementItems.TheVariants.{Functions, Expressions}
 use Rattle.wasm_items.proofs.OwnBytes.{cut, OwnAt, Own, own_nothing, own_both, own_number, own_expression}
 
@@ -159,13 +160,26 @@ elements_given : (flags : ℕ) (t : Bool) (p q : Place) (items : ElementItems) �
 elements_given flags true p q items e = expressions_given flags p q items e
 elements_given flags false p q items e = functions_given flags p q items e
 
+-- a segment whose elements were read last
+segment_given : (kind : ElementKind) (start : ℕ) (o : Outcome ElementItems) (element : Element) (q : Place) → ((items : ElementItems) (r : Place) → o ≡ Ok (items, r) → Given items)
+    → (o >>= λ i. let whole : Outcome Element = Ok (record { kind = kind; items = i.0; range = record { start = start; end = i.1.offset } }, i.1) in whole) ≡ Ok (element, q) → Given element.items
+segment_given kind start (Err f) element q given e = cc
+segment_given kind start (Ok i) element q given e =
+    let read : Element = record { kind = kind; items = i.0; range = record { start = start; end = i.1.offset } } in
+    let same : read ≡ element = ap (λ (r : Element × Place). r.0) (read_as (read, i.1) (element, q) e) in
+    subst (λ (x : Element). Given x.items) same (given i.0 i.1 refl)
+
+kind_given : (flags start : ℕ) (o : Outcome ElementKind) (element : Element) (q : Place)
+    → (o >>= λ k. elements_at flags k.1 >>= λ i. let whole : Outcome Element = Ok (record { kind = k.0; items = i.0; range = record { start = start; end = i.1.offset } }, i.1) in whole) ≡ Ok (element, q) → Given element.items
+kind_given flags start (Err f) element q e = cc
+kind_given flags start (Ok k) element q e = segment_given k.0 start (elements_at flags k.1) element q (λ items r read. elements_given flags (has_flag flags 4) k.1 r items read) e
+
+flags_given : (start : ℕ) (o : Outcome ℕ) (element : Element) (q : Place)
+    → (o >>= λ f. element_kind_at f.0 f.1 >>= λ k. elements_at f.0 k.1 >>= λ i. let whole : Outcome Element = Ok (record { kind = k.0; items = i.0; range = record { start = start; end = i.1.offset } }, i.1) in whole) ≡ Ok (element, q) → Given element.items
+flags_given start (Err f) element q e = cc
+flags_given start (Ok f) element q e = kind_given f.0 start (element_kind_at f.0 f.1) element q e
+
 -- The elements of a segment that was read are given.
 pub element_given : (p q : Place) (element : Element) → element_at p ≡ Ok (element, q) → Given element.items
 unfolding element_at
-element_given p q element e =
-    let flags = in_steps (element_flags_at p) (λ f. element_kind_at f.0 f.1 >>= λ k. elements_at f.0 k.1 >>= λ i. let o : Outcome Element = Ok (record { kind = k.0; items = i.0; range = record { start = p.offset; end = i.1.offset } }, i.1) in o) (element, q) e in
-    let kind = in_steps (element_kind_at flags.between.0 flags.between.1) (λ k. elements_at flags.between.0 k.1 >>= λ i. let o : Outcome Element = Ok (record { kind = k.0; items = i.0; range = record { start = p.offset; end = i.1.offset } }, i.1) in o) (element, q) flags.other in
-    let items = in_steps (elements_at flags.between.0 kind.between.1) (λ i. let o : Outcome Element = Ok (record { kind = kind.between.0; items = i.0; range = record { start = p.offset; end = i.1.offset } }, i.1) in o) (element, q) kind.other in
-    let read : Element = record { kind = kind.between.0; items = items.between.0; range = record { start = p.offset; end = items.between.1.offset } } in
-    let same : read ≡ element = ap (λ (r : Element × Place). r.0) (read_as (read, items.between.1) (element, q) items.other) in
-    subst Given (ap (λ (x : Element). x.items) same) (elements_given flags.between.0 (has_flag flags.between.0 4) kind.between.1 items.between.1 items.between.0 items.one)
+element_given p q element e = flags_given p.offset (element_flags_at p) element q e
