@@ -1,9 +1,13 @@
+pub mod InTurn
+pub mod Lists
 pub mod NumberLaws
 pub mod Numbers
 pub mod OneOutcome
 pub mod Pages
 pub mod Runs
 pub mod SameFaults
+pub mod Signed
+pub mod Skipped
 pub mod Deciding
 pub mod Texts
 pub mod Walks

@@ -197,3 +197,30 @@ is_read kind xs limit i is found w =
     let l : i < most_bytes kind = omega (arith, is, f.1) in
     let u : (i + 1 < most_bytes kind) ⊎ (is_unused_right kind (slice_index xs i) ≡ true) = elim w [ inl n ↦ inl (omega (arith, is, n, l)) | inr e ↦ inr (sym e) ] in
     record { value = sym (last_found kind xs i f.0 l u); there = f.2; below = sum_below kind xs i f.2 l u }
+
+-- Numbers of one byte and of two.
+
+five_at_least : (kind : NumberKind) → 5 ≤ most_bytes kind
+five_at_least VarU32 = omega arith
+five_at_least VarI32 = omega arith
+five_at_least VarS33 = omega arith
+five_at_least VarU64 = omega arith
+five_at_least VarI64 = omega arith
+
+pub one_byte : (kind : NumberKind) (xs : List ℕ) → 1 ≤ length xs → slice_index xs 0 < 128 → read (slice_index xs 0) 1 ≡ number kind xs
+one_byte kind [] l h = absurd (omega arith)
+one_byte kind (b ∷ bs) l h =
+    let t : nat_lt b 128 ≡ true = lt-ltb b 128 h in
+    let e : last_place (b ∷ bs) ≡ Some 0 = rw t refl in
+    let g : b ≡ b % 128 + 128 * 0 = omega (arith, h) in
+    ap (λ n. read n 1) g ∙ sym (last_found kind (b ∷ bs) 0 e (omega (arith, five_at_least kind)) (inl (omega (arith, five_at_least kind))))
+
+pub two_bytes : (kind : NumberKind) (xs : List ℕ) → 2 ≤ length xs → 128 ≤ slice_index xs 0 → slice_index xs 0 < 256 → slice_index xs 1 < 128 → read (slice_index xs 0 - 128 + 128 * slice_index xs 1) 2 ≡ number kind xs
+two_bytes kind [] l m n h = absurd (omega arith)
+two_bytes kind (a ∷ []) l m n h = absurd (omega arith)
+two_bytes kind (a ∷ b ∷ bs) l m n h =
+    let t : nat_lt a 128 ≡ false = le-ltb a 128 m in
+    let u : nat_lt b 128 ≡ true = lt-ltb b 128 h in
+    let e : last_place (a ∷ b ∷ bs) ≡ Some 1 = rw (t, u) refl in
+    let g : a - 128 + 128 * b ≡ a % 128 + 128 * (b % 128 + 128 * 0) = omega (arith, m, n, h) in
+    ap (λ n. read n 2) g ∙ sym (last_found kind (a ∷ b ∷ bs) 1 e (omega (arith, five_at_least kind)) (inl (omega (arith, five_at_least kind))))

@@ -5,11 +5,12 @@ use Rattle.std.specs.Iterator.{Drains}
 use Rattle.wasm_base.specs.FaultAt.{FaultAt, fault_at, at_offset}
 use Rattle.wasm_base.specs.Item.{Determines, Alike, AllowsOne, SameOutcome, ReadsAs, BothInTurn, outcome_map}
 use Rattle.wasm_base.specs.Outcome.{Outcome}
-use Rattle.wasm_base.specs.Section.{Items, NextItem, AtItsOffset, ItemsOf, SameItems, GivesTheSame, GivesEqual, at_the_end, item_or_fault, item_alone}
+use Rattle.wasm_base.specs.Owned.{UnlessMemory}
+use Rattle.wasm_base.specs.Section.{Items, NextItem, NextItemIn, AtItsOffset, ItemsOf, SameItems, SameUnlessMemory, GivesTheSame, GivesTheSameUnlessMemory, GivesEqual, at_the_end, item_or_fault, item_alone}
 use Rattle.wasm_base.specs.Window.{Place, place}
 use Rattle.wasm_base.specs.declared.error.Error.{Error}
 use Rattle.wasm_base.specs.declared.fault.Fault.TheVariants.{SizeMismatch}
-use Rattle.wasm_base.proofs.Runs.{runs_give_items}
+use Rattle.wasm_base.proofs.Runs.{runs_give_items, runs_give_owned_items}
 
 module _ {T : Type 0} (meaning : Place → Outcome T → Type 0) where
   end_self : (b : Bool) (f : FaultAt) → SameItems meaning (cond b (Err f ∷ []) []) (cond b (Err f ∷ []) [])
@@ -102,6 +103,41 @@ module _ {T : Type 0} (meaning : Place → Outcome T → Type 0) where
 
   pub offsets_give_equal : Determines meaning → (s : Items) → GivesEqual (NextItem meaning) item_or_fault s (NextItem (AtItsOffset meaning)) item_alone s
   offsets_give_equal det = offsets_agree (λ xs ys. xs ≡ ys) refl (equal_items det)
+
+-- Of items that own lists the same holds, up to a want of memory.
+module _ {T : Type 0} (meaning : Place → Outcome T → Type 0) where
+  end_again : (b : Bool) (f : FaultAt) → SameUnlessMemory meaning (cond b (Err f ∷ []) []) (cond b (Err f ∷ []) [])
+  end_again true f = inl refl
+  end_again false f = tt
+
+  same_owned_end : (p : Place) (xs ys : List (Result T FaultAt)) → xs ≡ at_the_end p → ys ≡ at_the_end p → SameUnlessMemory meaning xs ys
+  same_owned_end p xs ys e f = rw (e, f) (end_again (nat_lt 0 (length p.rest)) (at_offset SizeMismatch p.offset))
+
+  same_owned_items : AllowsOne meaning → (count : ℕ) (p : Place) (xs ys : List (Result T FaultAt)) → ItemsOf (UnlessMemory meaning) count p xs → ItemsOf (UnlessMemory meaning) count p ys → SameUnlessMemory meaning xs ys
+  same_owned_items one zero p xs ys h k = same_owned_end p xs ys h k
+  same_owned_items one (suc count) p [] ys h k = absurd h
+  same_owned_items one (suc count) p (x ∷ xs) [] h k = absurd k
+  same_owned_items one (suc count) p (Ok x ∷ xs) (Ok y ∷ ys) h k =
+      let same = one.one p (Ok (x, h.0)) (Ok (y, k.0)) h.1 k.1 in
+      let there : meaning p (Ok (x, k.0)) = subst (λ q. meaning p (Ok (x, q))) same.1 h.1 in
+      (((p, k.0, there, k.1), same.0), same_owned_items one count k.0 xs ys (subst (λ q. ItemsOf (UnlessMemory meaning) count q xs) same.1 h.2) k.2)
+  same_owned_items one (suc count) p (Ok x ∷ xs) (Err f ∷ ys) h (inl none, last) = none
+  same_owned_items one (suc count) p (Ok x ∷ xs) (Err f ∷ ys) h (inr fault, last) = absurd (one.one p (Ok (x, h.0)) (Err f) h.1 fault)
+  same_owned_items one (suc count) p (Err e ∷ xs) (Ok y ∷ ys) (inl none, last) k = none
+  same_owned_items one (suc count) p (Err e ∷ xs) (Ok y ∷ ys) (inr fault, last) k = absurd (one.one p (Err e) (Ok (y, k.0)) fault k.1)
+  same_owned_items one (suc count) p (Err e ∷ xs) (Err f ∷ ys) (inl none, last) k = inr (inl none)
+  same_owned_items one (suc count) p (Err e ∷ xs) (Err f ∷ ys) (inr fault, last) (inl none, end) = inr (inr none)
+  same_owned_items one (suc count) p (Err e ∷ xs) (Err f ∷ ys) (inr fault, last) (inr other, end) = inl (one.one p (Err e) (Err f) fault other)
+
+  pub runs_give_the_same_owned : AllowsOne meaning → (s t : Items) → t ≡ s → GivesTheSameUnlessMemory meaning (NextItemIn meaning) s t
+  runs_give_the_same_owned one s t e given others run others_run = by_ended s.ended refl
+    where
+      again : Drains (NextItemIn meaning) s others
+      again = subst (λ (v : Items). Drains (NextItemIn meaning) v others) e others_run
+
+      by_ended : (b : Bool) → s.ended ≡ b → SameUnlessMemory meaning (map item_or_fault given) (map item_or_fault others)
+      by_ended true ended = rw ((runs_give_owned_items meaning s).over ended given run, (runs_give_owned_items meaning s).over ended others again) tt
+      by_ended false going = same_owned_items one s.left (place s.reader) _ _ ((runs_give_owned_items meaning s).items going given run) ((runs_give_owned_items meaning s).items going others again)
 
 -- What is read by a function of the place allows one outcome, whatever counts of its value.
 pub reads_as_one : {X Y : Type 0} (view : X → Y) (reading : Place → Outcome Y) → AllowsOne (ReadsAs view reading)

@@ -1,6 +1,7 @@
 pub mod Comparing
 pub mod FaultAt
 pub mod Features
+pub mod Float
 pub mod Found
 pub mod Groups
 pub mod Header
@@ -11,7 +12,10 @@ pub mod Message
 pub mod Name
 pub mod Number
 pub mod Outcome
+pub mod Owned
 pub mod Section
+pub mod Signed
+pub mod Skip
 pub mod TextOf
 pub mod Widths
 pub mod Window

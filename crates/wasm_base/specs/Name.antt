@@ -6,7 +6,7 @@ use Rattle.wasm_base.specs.Number.{Number, read, bad, short, number, unsigned_at
 use Rattle.wasm_base.specs.Outcome.{Outcome, ◌>>=◌}
 use Rattle.wasm_base.specs.Window.{Window, Place, advanced, whole_window}
 use Rattle.wasm_base.specs.declared.fault.Fault.{Fault}
-use Rattle.wasm_base.specs.declared.fault.Fault.TheVariants.{UnexpectedEof, StringSize, MalformedUtf8}
+use Rattle.wasm_base.specs.declared.fault.Fault.TheVariants.{UnexpectedEof, StringSize, MalformedUtf8, InvalidU7}
 use Rattle.wasm_base.specs.declared.fault.NumberKind.TheVariants.{VarU32}
 
 -- so many raw bytes; where they aren't all there, they are missed where they begin
@@ -20,6 +20,12 @@ first_of p (b ∷ bs) = Ok (b, advanced 1 p)
 -- a byte
 abbrev pub byte_at : Place → Outcome ℕ
 byte_at p = first_of p p.rest
+
+-- a byte below 128
+unfoldable pub u7_at : Place → Outcome ℕ
+u7_at p = do
+  byte ← byte_at p
+  if nat_lt byte.0 128 then Ok byte else Err (at_offset InvalidU7 (byte.1.offset - 1))
 
 -- so many bytes, that are looked at and not passed
 abbrev pub peeked_at : ℕ → Place → Outcome (List ℕ)

@@ -1,11 +1,12 @@
 -- Counted items in a window. Core specification, Binary format, Modules, Sections.
-use Rattle.std.specs.Prelude.{◌≡◌, ℕ, zero, suc, ◌+◌, ◌<◌, ◌≤◌, Bool, true, false, List, [], ◌∷◌, ◌++◌, length, Option, Some, None, IfSome, Result, Ok, Err, nat_lt, if◌then◌else◌, map}
+use Rattle.std.specs.Prelude.{◌≡◌, ℕ, zero, suc, ◌+◌, ◌<◌, ◌≤◌, ◌⊎◌, Bool, true, false, List, [], ◌∷◌, ◌++◌, length, Option, Some, None, IfSome, Result, Ok, Err, nat_lt, if◌then◌else◌, map}
 use Rattle.std.specs.Iterator.{Drains}
 use Rattle.wasm_base.specs.FaultAt.{FaultAt, fault_at, at_offset}
 use Rattle.wasm_base.specs.Hints.{TakesNoMemory, HintsNothing}
 use Rattle.wasm_base.specs.Item.{Alike}
 use Rattle.wasm_base.specs.Number.{unsigned_at}
 use Rattle.wasm_base.specs.Outcome.{Outcome}
+use Rattle.wasm_base.specs.Owned.{UnlessMemory, out_of_memory}
 use Rattle.wasm_base.specs.Window.{Window, Place, place, KeepsWindow}
 use Rattle.wasm_base.specs.declared.error.Error.{Error}
 use Rattle.wasm_base.specs.declared.fault.Fault.TheVariants.{SizeMismatch}
@@ -52,6 +53,21 @@ pub record NextItem {T : Type 0} (meaning : Place → Outcome T → Type 0) (s :
   pub count : t.count ≡ s.count
   pub keeps : KeepsWindow s.reader t.reader
   pub memory : IfSome given TakesNoMemory
+  pub no_hint : s.left ≡ 0 → IfSome given HintsNothing
+
+-- An iterator is over exactly if its item was a fault.
+abbrev pub EndsAtFault : {T : Type 0} → Result T Error → Items → Type 0
+EndsAtFault (Ok x) t = t.ended ≡ false
+EndsAtFault (Err e) t = t.ended ≡ true
+
+-- one call of `next` over items that own lists, for which memory may be refused
+pub record NextItemIn {T : Type 0} (meaning : Place → Outcome T → Type 0) (s : Items) (given : Option (Result T Error)) (t : Items) : Type 0 where
+  pub over : s.ended ≡ true → (given ≡ None) × (t ≡ s)
+  pub item : s.ended ≡ false → 0 < s.left → ReadsItem (UnlessMemory meaning) s given t
+  pub last : s.ended ≡ false → s.left ≡ 0 → ReadsEnd s given t
+  pub count : t.count ≡ s.count
+  pub keeps : KeepsWindow s.reader t.reader
+  pub memory : s.left ≡ 0 → IfSome given TakesNoMemory
   pub no_hint : s.left ≡ 0 → IfSome given HintsNothing
 
 -- how many items may still come: one more than are left, for a fault at the end
@@ -115,6 +131,21 @@ GivesTheSame {T} {A} {B} meaning next view s others_next others_view t = (given 
 -- They give lists that are equal.
 abbrev pub GivesEqual : {T A B : Type 0} → (Items → Option A → Items → Type 0) → (A → Result T FaultAt) → Items → (Items → Option B → Items → Type 0) → (B → Result T FaultAt) → Items → Type 0
 GivesEqual {T} {A} {B} next view s others_next others_view t = (given : List A) (others : List B) → Drains next s given → Drains others_next t others → map view given ≡ map others_view others
+
+-- item by item the same, and the same faults, up to a want of memory in either of them
+abbrev pub SameUnlessMemory : {T : Type 0} → (Place → Outcome T → Type 0) → List (Result T FaultAt) → List (Result T FaultAt) → Type 0
+SameUnlessMemory meaning [] [] = Unit {0}
+SameUnlessMemory meaning [] (y ∷ ys) = ⊥
+SameUnlessMemory meaning (x ∷ xs) [] = ⊥
+SameUnlessMemory meaning (Ok x ∷ xs) (Ok y ∷ ys) = SameItem meaning x y × SameUnlessMemory meaning xs ys
+SameUnlessMemory meaning (Ok x ∷ xs) (Err f ∷ ys) = f ≡ out_of_memory
+SameUnlessMemory meaning (Err e ∷ xs) (Ok y ∷ ys) = e ≡ out_of_memory
+SameUnlessMemory meaning (Err e ∷ xs) (Err f ∷ ys) = (e ≡ f) ⊎ (e ≡ out_of_memory) ⊎ (f ≡ out_of_memory)
+
+-- Two runs over items that own lists give the same items and the same fault, up to a want of memory, each by a relation
+-- that its calls of `next` meet.
+abbrev pub GivesTheSameUnlessMemory : {T : Type 0} → (Place → Outcome T → Type 0) → (Items → Option (Result T Error) → Items → Type 0) → Items → Items → Type 0
+GivesTheSameUnlessMemory {T} meaning next s t = (given others : List (Result T Error)) → Drains next s given → Drains next t others → SameUnlessMemory meaning (map item_or_fault given) (map item_or_fault others)
 
 -- as an item that was read
 abbrev pub as_read : {T : Type 0} → T → Result T FaultAt

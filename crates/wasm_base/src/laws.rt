@@ -5,16 +5,23 @@ ghost use Rattle.std.specs.Prelude.{◌≡◌};
 ghost use Rattle.wasm_base.specs.Comparing.{DecidesWhether, DecidesSame, CopiesSame, CopiesAlways};
 ghost use Rattle.wasm_base.specs.FaultAt.{fault_at};
 ghost use Rattle.wasm_base.specs.Features.{feature_bits};
+ghost use Rattle.wasm_base.specs.Float.{bits_of_32, bits_of_64};
 ghost use Rattle.wasm_base.specs.Item.{AllowsOne, Determines};
-ghost use Rattle.wasm_base.specs.Section.{Section, Items, AtItsOffset, GivesItems, GivesTheSame, GivesEqual, item_or_fault, item_alone};
+ghost use Rattle.wasm_base.specs.Owned.{UnlessMemory};
+ghost use Rattle.wasm_base.specs.Section.{Section, Items, AtItsOffset, GivesItems, GivesTheSame, GivesTheSameUnlessMemory, GivesEqual, all_items, item_or_fault, item_alone};
 ghost use Rattle.wasm_base.specs.Widths.{IsLongEnough, ChecksUnused, BoundsSum};
 
 use crate::error::Error;
 use crate::fault::{CoreStart, Fault, Lead, NumberKind};
 use crate::features::WasmFeatures;
+use crate::float::{Ieee32, Ieee64};
 use crate::item::FromReader;
+use crate::owned::FromReaderIn;
 use crate::reader::BinaryReader;
-use crate::section::{SectionLimited, SectionLimitedIntoIter, SectionLimitedIntoIterWithOffsets};
+use crate::section::{
+    SectionLimited, SectionLimitedIntoIter, SectionLimitedIntoIterIn,
+    SectionLimitedIntoIterWithOffsets,
+};
 use std::hash::Hash;
 
 /// Calls of `next` up to the first `None` give the items of the window, and nothing comes after that `None`. The
@@ -29,6 +36,13 @@ pub fn items_of_a_window<'a, T: FromReader<'a>>()
         GivesItems
         ⟦<SectionLimitedIntoIterWithOffsets<'a, T> as Iterator>⟧.next_gives
         (AtItsOffset T.meaning) s }
+{}
+
+/// Of items that own lists, calls of `next` up to the first `None` give the items of the window too, as `items_of_a_window`
+/// says, or in place of one of them `OutOfMemory`, which is the last.
+pub fn owned_items_of_a_window<'a, T: FromReaderIn<'a>>()
+    ensures { (s : Items) →
+        GivesItems ⟦<SectionLimitedIntoIterIn<'a, T> as Iterator>⟧.next_gives (UnlessMemory T.meaning) s }
 {}
 
 /// Both iterators give the same items and the same fault, where the meaning of an item allows one outcome: equal
@@ -60,6 +74,16 @@ pub fn a_clone_gives_the_same_items<'a, T: FromReader<'a>>()
         GivesEqual
         ⟦<SectionLimitedIntoIter<'a, T> as Iterator>⟧.next_gives item_or_fault s
         ⟦<SectionLimitedIntoIter<'a, T> as Iterator>⟧.next_gives item_or_fault t }
+{}
+
+/// A clone of a section gives the same items that own lists and the same fault, up to a want of memory, where the meaning
+/// of an item allows one outcome.
+pub fn a_clone_gives_the_same_owned_items<'a, T: FromReaderIn<'a>>()
+    ensures { AllowsOne T.meaning → (section copy : Section) →
+        ⟦<SectionLimited<'a, T> as Clone>⟧.is_clone section copy →
+        GivesTheSameUnlessMemory T.meaning
+        ⟦<SectionLimitedIntoIterIn<'a, T> as Iterator>⟧.next_gives
+        (all_items section) (all_items copy) }
 {}
 
 /// A clone of an iterator gives the same items and the same fault, where the meaning of an item allows one outcome.
@@ -108,13 +132,25 @@ pub fn features_are_hashed_as_their_bits()
     ensures { (features : WasmFeatures) → ⟦<WasmFeatures as Hash>⟧.hash_input features ≡ hashed.u32 (feature_bits features) }
 {}
 
+/// Two floats are equal exactly if their bits are: of the same bits each is equal to itself, a NaN too.
+pub fn equal_floats_have_the_same_bits()
+    ensures single { DecidesWhether (λ one other. bits_of_32 one ≡ bits_of_32 other) ⟦<Ieee32 as PartialEq>⟧.eq }
+    ensures double { DecidesWhether (λ one other. bits_of_64 one ≡ bits_of_64 other) ⟦<Ieee64 as PartialEq>⟧.eq }
+{}
+
+/// A float is hashed as its bits.
+pub fn floats_are_hashed_as_their_bits()
+    ensures single { (float : Ieee32) → ⟦<Ieee32 as Hash>⟧.hash_input float ≡ hashed.u32 (bits_of_32 float) }
+    ensures double { (float : Ieee64) → ⟦<Ieee64 as Hash>⟧.hash_input float ≡ hashed.u64 (bits_of_64 float) }
+{}
+
 /// Two errors are equal exactly if they say the same: fault, offset and number. The hint is not compared.
 pub fn equal_errors_are_the_same()
     ensures { DecidesWhether (λ one other. fault_at one ≡ fault_at other) ⟦<Error as PartialEq>⟧.eq }
 {}
 
-/// A copy of a fault, of an error, its hint with it, of a set of features, of a reader, of a section or of an iterator
-/// over its items is the same.
+/// A copy of a fault, of an error, its hint with it, of a set of features, of a float, of a reader, of a section or of an
+/// iterator over its items is the same.
 pub fn copies_are_the_same<'a, T, U: Clone>()
     ensures error { CopiesSame ⟦<Error as Clone>⟧.is_clone }
     ensures fault { CopiesSame ⟦<Fault as Clone>⟧.is_clone }
@@ -122,13 +158,15 @@ pub fn copies_are_the_same<'a, T, U: Clone>()
     ensures lead { CopiesSame ⟦<Lead as Clone>⟧.is_clone }
     ensures core_start { CopiesSame ⟦<CoreStart as Clone>⟧.is_clone }
     ensures features { CopiesSame ⟦<WasmFeatures as Clone>⟧.is_clone }
+    ensures single { CopiesSame ⟦<Ieee32 as Clone>⟧.is_clone }
+    ensures double { CopiesSame ⟦<Ieee64 as Clone>⟧.is_clone }
     ensures reader { CopiesSame ⟦<BinaryReader<'a> as Clone>⟧.is_clone }
     ensures section { CopiesSame ⟦<SectionLimited<'a, T> as Clone>⟧.is_clone }
     ensures items { CopiesSame ⟦<SectionLimitedIntoIter<'a, U> as Clone>⟧.is_clone }
 {}
 
-/// Faults, errors, sets of features, readers, sections and iterators over their items can always be copied: it takes no
-/// memory.
+/// Faults, errors, sets of features, floats, readers, sections and iterators over their items can always be copied: it
+/// takes no memory.
 pub fn copies_are_always_made<'a, T, U: Clone>()
     ensures error { CopiesAlways ⟦<Error as Clone>⟧.is_infallible }
     ensures fault { CopiesAlways ⟦<Fault as Clone>⟧.is_infallible }
@@ -136,6 +174,8 @@ pub fn copies_are_always_made<'a, T, U: Clone>()
     ensures lead { CopiesAlways ⟦<Lead as Clone>⟧.is_infallible }
     ensures core_start { CopiesAlways ⟦<CoreStart as Clone>⟧.is_infallible }
     ensures features { CopiesAlways ⟦<WasmFeatures as Clone>⟧.is_infallible }
+    ensures single { CopiesAlways ⟦<Ieee32 as Clone>⟧.is_infallible }
+    ensures double { CopiesAlways ⟦<Ieee64 as Clone>⟧.is_infallible }
     ensures reader { CopiesAlways ⟦<BinaryReader<'a> as Clone>⟧.is_infallible }
     ensures section { CopiesAlways ⟦<SectionLimited<'a, T> as Clone>⟧.is_infallible }
     ensures items { CopiesAlways ⟦<SectionLimitedIntoIter<'a, U> as Clone>⟧.is_infallible }

@@ -5,10 +5,12 @@
 mod error;
 mod fault;
 mod features;
+mod float;
 mod item;
 pub mod laws;
 mod limits;
 mod number;
+mod owned;
 mod reader;
 mod section;
 #[cfg(test)]
@@ -17,6 +19,7 @@ mod tests;
 pub use error::{Error, Result};
 pub use fault::{CoreStart, Fault, Lead, NumberKind};
 pub use features::WasmFeatures;
+pub use float::{Ieee32, Ieee64};
 pub use item::FromReader;
 pub use limits::{
     _MAX_WASM_TABLE_SIZE, DEFAULT_WASM_PAGE_SIZE, MAX_WASM_BR_TABLE_SIZE, MAX_WASM_CATCHES,
@@ -28,5 +31,9 @@ pub use limits::{
     MAX_WASM_TABLES, MAX_WASM_TAGS, MAX_WASM_TYPE_SIZE, MAX_WASM_TYPES, is_page_size,
     max_wasm_memory32_pages, max_wasm_memory64_pages,
 };
+pub use owned::{FromReaderIn, read_list, read_list_in};
 pub use reader::{BinaryReader, fits};
-pub use section::{SectionLimited, SectionLimitedIntoIter, SectionLimitedIntoIterWithOffsets};
+pub use section::{
+    SectionLimited, SectionLimitedIntoIter, SectionLimitedIntoIterIn,
+    SectionLimitedIntoIterWithOffsets,
+};

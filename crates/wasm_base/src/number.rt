@@ -3,6 +3,7 @@ ghost use Rattle.std.specs.Prelude.{◌≡◌, ◌<◌, ◌≤◌, ◌^◌, ◌*
 ghost use Rattle.wasm_base.specs.Number.{most_bytes, is_unused_right, groups, number};
 ghost use Rattle.wasm_base.specs.Found.{number_of, IsWithin};
 ghost use Rattle.wasm_base.specs.Groups.{is_last};
+ghost use Rattle.wasm_base.specs.Signed.{signed_value, FitsBits};
 
 use crate::fault::{Fault, NumberKind};
 
@@ -57,8 +58,26 @@ fn sum_of_groups(bytes: &[u8]) -> u128
     sum
 }
 
-/// The number of this kind that begins with these bytes.
+/// The number of this kind that begins with these bytes. Most numbers have one byte or two.
 pub(crate) fn number_in(kind: NumberKind, bytes: &[u8]) -> Found
+    ensures value { number_of result ≡ number kind bytes.now }
+    ensures within { IsWithin kind result (length bytes.now) }
+{
+    match bytes {
+        [only, ..] if *only < 128 => Found::Read {
+            sum: u128::from(*only),
+            used: 1,
+        },
+        [low, high, ..] if *high < 128 => Found::Read {
+            sum: u128::from(u16::from(*low - 128) + 128 * u16::from(*high)),
+            used: 2,
+        },
+        _ => long_number_in(kind, bytes),
+    }
+}
+
+// The number of this kind that begins with these bytes, however many bytes it has.
+fn long_number_in(kind: NumberKind, bytes: &[u8]) -> Found
     ensures value { number_of result ≡ number kind bytes.now }
     ensures within { IsWithin kind result (length bytes.now) }
 {
@@ -82,4 +101,18 @@ pub(crate) fn number_in(kind: NumberKind, bytes: &[u8]) -> Found
         sum: sum_of_groups(&bytes[..last + 1]),
         used: last + 1,
     }
+}
+
+/// The signed number whose groups, in so many bytes, have this sum.
+pub(crate) fn signed_of(sum: u128, used: u64) -> i64
+    requires used { used ≤ 10 }
+    requires sum { sum < 2 ^ 70 }
+    requires fits { FitsBits 64 (signed_value sum used) }
+    ensures { result ≡ signed_value sum used }
+{
+    let span = 1u128 << (7 * used);
+    if 2 * sum < span {
+        return sum as i64;
+    }
+    (sum as i128 - span as i128) as i64
 }

@@ -1,26 +1,32 @@
 // A reader of bytes that knows where they are in the whole stream.
-ghost use Rattle.std.specs.Prelude.{⊤, ◌≡◌, ◌+◌, ◌<◌, ◌≤◌, ◌^◌, ◌==◌, ◌↔◌, IsTrue, IfOk, OnOk, OnErr, Some, None, length};
+ghost use Rattle.std.specs.Fn.{FnOnceReturnsAtMut};
+ghost use Rattle.std.specs.Prelude.{⊤, ◌≡◌, ◌+◌, ◌<◌, ◌≤◌, ◌^◌, ◌==◌, ◌↔◌, IsTrue, IfOk, OnOk, OnErr, Some, None, length, true};
 ghost use Rattle.std.specs.Int.RustNames.{bit_and};
 ghost use Rattle.wasm_base.specs.FaultAt.{fault_at, at_offset, hint_of};
 ghost use Rattle.wasm_base.specs.Features.{feature_bits};
+ghost use Rattle.wasm_base.specs.Float.{bits_of_32, bits_of_64, u64_at};
 ghost use Rattle.wasm_base.specs.Groups.{sum_bound};
 ghost use Rattle.wasm_base.specs.Header.{agree, magic, header_version_at};
 ghost use Rattle.wasm_base.specs.Hints.{TakesNoMemory, Hints, missing_at, missing_of_sized, missing_of_header};
 ghost use Rattle.wasm_base.specs.Item.{Means};
-ghost use Rattle.wasm_base.specs.Name.{bytes_at, byte_at, peeked_at, peeked_byte_at, u32_at, name_limit, text_at, window_at};
+ghost use Rattle.wasm_base.specs.Name.{bytes_at, byte_at, peeked_at, peeked_byte_at, of_four, u32_at, u7_at, name_limit, text_at, window_at};
 ghost use Rattle.wasm_base.specs.TextOf.{text_of};
-ghost use Rattle.wasm_base.specs.Number.{unsigned_at};
+ghost use Rattle.wasm_base.specs.Number.{bits_of, unsigned_at};
 ghost use Rattle.wasm_base.specs.Outcome.{Gives};
+ghost use Rattle.wasm_base.specs.Signed.{signed_at, FitsBits};
+ghost use Rattle.wasm_base.specs.Skip.{skipped_name_at, window_of, NeverGoesBack, PassesOver};
+ghost use Rattle.wasm_base.specs.Widths.{is_signed};
 ghost use Rattle.wasm_base.specs.Window.{place, advanced, whole_window, KeepsWindow};
 ghost use Rattle.wasm_base.specs.declared.fault.Fault.TheVariants.{UnexpectedEof};
-ghost use Rattle.wasm_base.specs.declared.fault.NumberKind.TheVariants.{VarU32};
+ghost use Rattle.wasm_base.specs.declared.fault.NumberKind.TheVariants.{VarU32, VarI32, VarU64, VarI64, VarS33};
 
 use crate::error::{Error, Result};
 use crate::fault::{Fault, NumberKind};
 use crate::features::WasmFeatures;
+use crate::float::{Ieee32, Ieee64};
 use crate::item::FromReader;
 use crate::limits::MAX_WASM_STRING_SIZE;
-use crate::number::{Found, number_in};
+use crate::number::{Found, number_in, signed_of};
 use bitflags::Flags;
 use std::alloc::AllocError;
 use std::marker::Model;
@@ -251,6 +257,21 @@ impl<'a> BinaryReader<'a> {
         Ok(byte)
     }
 
+    /// Reads a byte below 128. `UnexpectedEof` here, where none is left; `InvalidU7` at another byte, which is passed.
+    #[tactic(auto, unfolding(crate::specs::Name::u7_at))]
+    pub fn read_u7(&mut self) -> Result<u8>
+        ensures gives { Gives (λ b. b) result (place self.new) (u7_at (place self.old)) }
+        ensures keeps { KeepsWindow self.old self.new }
+        ensures hints { Hints 1 result }
+        ensures memory { TakesNoMemory result }
+    {
+        let byte = self.read_u8()?;
+        if byte >= 128 {
+            return Err(Error::new(Fault::InvalidU7, self.last_offset()));
+        }
+        Ok(byte)
+    }
+
     /// Reads a number of four bytes, the lowest first. `UnexpectedEof` where they begin, if they aren't all there.
     #[tactic(auto, unfolding(crate::specs::Name::u32_at))]
     pub fn read_u32(&mut self) -> Result<u32>
@@ -260,13 +281,34 @@ impl<'a> BinaryReader<'a> {
         ensures memory { TakesNoMemory result }
         ensures unmoved { OnErr result (self.new ≡ self.old) }
     {
-        let bytes = self.read_bytes(4)?;
-        Ok(
-            u32::from(bytes[0])
-                + 256 * u32::from(bytes[1])
-                + 65536 * u32::from(bytes[2])
-                + 16777216 * u32::from(bytes[3]),
-        )
+        Ok(of_four(self.read_bytes(4)?))
+    }
+
+    /// Reads a float of 32 bits, in four bytes, the lowest first (core specification, Binary format, Values,
+    /// Floating-Point). `UnexpectedEof` where they begin, if they aren't all there.
+    pub fn read_f32(&mut self) -> Result<Ieee32>
+        ensures gives { Gives (λ float. bits_of_32 float) result (place self.new) (u32_at (place self.old)) }
+        ensures keeps { KeepsWindow self.old self.new }
+        ensures hints { Hints (missing_at 4 (place self.old)) result }
+        ensures memory { TakesNoMemory result }
+        ensures unmoved { OnErr result (self.new ≡ self.old) }
+    {
+        Ok(Ieee32(self.read_u32()?))
+    }
+
+    /// Reads a float of 64 bits, in eight bytes, the lowest first (core specification, Binary format, Values,
+    /// Floating-Point). `UnexpectedEof` where they begin, if they aren't all there.
+    #[tactic(auto, unfolding(crate::specs::Float::u64_at))]
+    pub fn read_f64(&mut self) -> Result<Ieee64>
+        ensures gives { Gives (λ float. bits_of_64 float) result (place self.new) (u64_at (place self.old)) }
+        ensures keeps { KeepsWindow self.old self.new }
+        ensures hints { Hints (missing_at 8 (place self.old)) result }
+        ensures memory { TakesNoMemory result }
+        ensures unmoved { OnErr result (self.new ≡ self.old) }
+    {
+        let bytes = self.read_bytes(8)?;
+        let (low, high) = (of_four(&bytes[..4]), of_four(&bytes[4..]));
+        Ok(Ieee64(u64::from(low) + 4294967296 * u64::from(high)))
     }
 
     // The groups of the number of this kind.
@@ -310,6 +352,72 @@ impl<'a> BinaryReader<'a> {
         ensures moves { OnOk result ((place self.old).offset < (place self.new).offset) }
     {
         Ok(self.read_groups(NumberKind::VarU32)? as u32)
+    }
+
+    /// Reads a u64 in LEB128, with the faults of `read_var_u32` (core specification, Binary format, Values, Integers).
+    pub fn read_var_u64(&mut self) -> Result<u64>
+        ensures gives { Gives (λ n. n) result (place self.new) (unsigned_at VarU64 (place self.old)) }
+        ensures keeps { KeepsWindow self.old self.new }
+        ensures hints { Hints 1 result }
+        ensures memory { TakesNoMemory result }
+        ensures unmoved { OnErr result (self.new ≡ self.old) }
+        ensures moves { OnOk result ((place self.old).offset < (place self.new).offset) }
+    {
+        Ok(self.read_groups(NumberKind::VarU64)? as u64)
+    }
+
+    // The signed number of this kind.
+    #[tactic(auto, unfolding(crate::specs::Signed::signed_at))]
+    fn read_signed(&mut self, kind: NumberKind) -> Result<i64>
+        requires { is_signed kind ≡ true }
+        ensures gives { Gives (λ n. n) result (place self.new) (signed_at kind (place self.old)) }
+        ensures keeps { KeepsWindow self.old self.new }
+        ensures hints { Hints 1 result }
+        ensures memory { TakesNoMemory result }
+        ensures unmoved { OnErr result (self.new ≡ self.old) }
+        ensures moves { OnOk result ((place self.old).offset < (place self.new).offset) }
+        ensures fits { IfOk result (λ n. FitsBits (bits_of kind) n) }
+    {
+        let start = self.original_position();
+        let sum = self.read_groups(kind)?;
+        Ok(signed_of(sum, self.original_position() - start))
+    }
+
+    /// Reads an s32 in LEB128, with the faults of `read_var_u32` (core specification, Binary format, Values, Integers).
+    pub fn read_var_i32(&mut self) -> Result<i32>
+        ensures gives { Gives (λ n. n) result (place self.new) (signed_at VarI32 (place self.old)) }
+        ensures keeps { KeepsWindow self.old self.new }
+        ensures hints { Hints 1 result }
+        ensures memory { TakesNoMemory result }
+        ensures unmoved { OnErr result (self.new ≡ self.old) }
+        ensures moves { OnOk result ((place self.old).offset < (place self.new).offset) }
+    {
+        Ok(self.read_signed(NumberKind::VarI32)? as i32)
+    }
+
+    /// Reads an s64 in LEB128, with the faults of `read_var_u32` (core specification, Binary format, Values, Integers).
+    pub fn read_var_i64(&mut self) -> Result<i64>
+        ensures gives { Gives (λ n. n) result (place self.new) (signed_at VarI64 (place self.old)) }
+        ensures keeps { KeepsWindow self.old self.new }
+        ensures hints { Hints 1 result }
+        ensures memory { TakesNoMemory result }
+        ensures unmoved { OnErr result (self.new ≡ self.old) }
+        ensures moves { OnOk result ((place self.old).offset < (place self.new).offset) }
+    {
+        self.read_signed(NumberKind::VarI64)
+    }
+
+    /// Reads an s33 in LEB128, with the faults of `read_var_u32` (core specification, Binary format, Values, Integers).
+    pub fn read_var_s33(&mut self) -> Result<i64>
+        ensures gives { Gives (λ n. n) result (place self.new) (signed_at VarS33 (place self.old)) }
+        ensures keeps { KeepsWindow self.old self.new }
+        ensures hints { Hints 1 result }
+        ensures memory { TakesNoMemory result }
+        ensures unmoved { OnErr result (self.new ≡ self.old) }
+        ensures moves { OnOk result ((place self.old).offset < (place self.new).offset) }
+        ensures fits { IfOk result (λ n. FitsBits (bits_of VarS33) n) }
+    {
+        self.read_signed(NumberKind::VarS33)
     }
 
     // Reads so many bytes of text, after their size.
@@ -359,6 +467,55 @@ impl<'a> BinaryReader<'a> {
         self.read_text(size)
     }
 
+    /// Passes over a name: a size of at most 100,000 and so many bytes, which may be no UTF-8.
+    ///
+    /// After the faults of the size: `StringSize` at the size's last byte, for a larger one; `UnexpectedEof` after it, if
+    /// the bytes aren't all there.
+    #[tactic(auto, unfolding(crate::specs::Skip::skipped_name_at))]
+    pub fn skip_string(&mut self) -> Result<()>
+        ensures gives { Gives (λ nothing. nothing) result (place self.new) (skipped_name_at (place self.old)) }
+        ensures keeps { KeepsWindow self.old self.new }
+        ensures hints { Hints (missing_of_sized (place self.old)) result }
+        ensures memory { TakesNoMemory result }
+    {
+        let size = self.read_var_u32()? as usize;
+        if size > MAX_WASM_STRING_SIZE {
+            return Err(Error::new(Fault::StringSize, self.last_offset()));
+        }
+        self.read_bytes(size)?;
+        Ok(())
+    }
+
+    // The next `len` bytes as a window of its own.
+    fn window_of(&self, len: usize) -> BinaryReader<'a>
+        requires { len ≤ length (place self.now).rest }
+        ensures { result ≡ window_of len (place self.now) }
+    {
+        BinaryReader {
+            bytes: &self.bytes[self.position..self.position + len],
+            start: self.start + self.position as u64,
+            position: 0,
+            features: self.features,
+        }
+    }
+
+    /// The window of the bytes that a closure passes over, or the closure's error.
+    ///
+    /// The closure keeps the reader's window, and never goes back: every read of a reader does.
+    pub fn skip<F: FnOnce(&mut BinaryReader<'a>) -> Result<()>>(
+        &mut self,
+        f: F,
+    ) -> Result<BinaryReader<'a>>
+        requires callable { F.IsAlwaysCallable f }
+        requires forward { NeverGoesBack (λ old given new. FnOnceReturnsAtMut F.FnOnce f old given new) }
+        ensures passes { PassesOver (λ old given new. FnOnceReturnsAtMut F.FnOnce f old given new) self.old result self.new }
+        ensures keeps { KeepsWindow self.old self.new }
+    {
+        let before = self.clone().unwrap();
+        f(self)?;
+        Ok(before.window_of(self.position - before.position))
+    }
+
     /// Reads a size, a u32, and a window of so many bytes, with the same features. `UnexpectedEof` after the size,
     /// if the bytes aren't all there.
     #[tactic(auto, unfolding(crate::specs::Name::window_at))]
@@ -399,6 +556,17 @@ impl<'a> BinaryReader<'a> {
         }
         self.read_u32()
     }
+}
+
+// The number of four bytes, the lowest first.
+fn of_four(bytes: &[u8]) -> u32
+    requires { length bytes.now ≡ 4 }
+    ensures { result ≡ of_four bytes.now }
+{
+    u32::from(bytes[0])
+        + 256 * u32::from(bytes[1])
+        + 65536 * u32::from(bytes[2])
+        + 16777216 * u32::from(bytes[3])
 }
 
 // Whether four bytes begin a header.

@@ -3,14 +3,17 @@ ghost use Rattle.std.specs.Prelude.{⊤, ◌≡◌, ◌+◌, ◌<◌, ◌^◌, S
 ghost use Rattle.std.specs.Iterator.{at_most, UpTo};
 ghost use Rattle.std.specs.Iterator.SizeHint.{IsWithinCount};
 ghost use Rattle.wasm_base.specs.Hints.{TakesNoMemory, Hints};
-ghost use Rattle.wasm_base.specs.Section.{Section, ReadsSection, Items, NextItem, AtItsOffset, all_items, most_items};
+ghost use Rattle.wasm_base.specs.Item.{Means};
+ghost use Rattle.wasm_base.specs.Owned.{UnlessMemory};
+ghost use Rattle.wasm_base.specs.Section.{Section, ReadsSection, Items, NextItem, NextItemIn, EndsAtFault, AtItsOffset, all_items, most_items};
 ghost use Rattle.wasm_base.specs.Window.{place, KeepsWindow};
 
 use crate::error::{Error, Result};
 use crate::fault::Fault;
 use crate::item::FromReader;
+use crate::owned::FromReaderIn;
 use crate::reader::BinaryReader;
-use std::alloc::AllocError;
+use std::alloc::{AllocError, Global};
 use std::fmt;
 use std::marker::{Model, PhantomData};
 use std::ops::Range;
@@ -120,6 +123,23 @@ impl<'a, T> SectionLimited<'a, T> {
     {
         SectionLimitedIntoIterWithOffsets {
             items: self.into_iter(),
+        }
+    }
+
+    /// The items, which own lists: these grow by the allocator.
+    pub fn into_iter_in(self, alloc: Global) -> SectionLimitedIntoIterIn<'a, T>
+    where
+        T: FromReaderIn<'a>,
+        ensures items { result ≡ all_items self.entry }
+        ensures fits { self.entry.count < 2 ^ 32 }
+    {
+        SectionLimitedIntoIterIn {
+            alloc,
+            items: SectionLimitedIntoIter {
+                left: self.count,
+                section: self,
+                ended: false,
+            },
         }
     }
 }
@@ -295,5 +315,78 @@ impl<'a, T: FromReader<'a>> Iterator for SectionLimitedIntoIterWithOffsets<'a, T
         ensures exact { (result.0 ≡ 0) × (result.1 ≡ Some (most_items self.now)) }
     {
         self.items.size_hint()
+    }
+}
+
+/// The items of a section that own lists.
+///
+/// They come, and end, as those of `SectionLimitedIntoIter`; `OutOfMemory`, where a growth of an item's list is refused,
+/// is an item's fault like any other.
+pub struct SectionLimitedIntoIterIn<'a, T> {
+    alloc: Global,
+    items: SectionLimitedIntoIter<'a, T>,
+}
+
+impl<'a, T> Model for SectionLimitedIntoIterIn<'a, T> {
+    ghost use Rattle.wasm_base.specs.Section.{Items};
+
+    ghost Value = { Items };
+
+    ghost view = { λ s. s.items };
+}
+
+impl<'a, T> Drop for SectionLimitedIntoIterIn<'a, T> {
+    fn drop(self) {
+        let SectionLimitedIntoIterIn { alloc: _, items: _ } = self;
+    }
+}
+
+// Reads the next item of those that are left.
+fn read_in<'a, T: FromReaderIn<'a>>(
+    alloc: Global,
+    items: &mut SectionLimitedIntoIter<'a, T>,
+) -> Result<T>
+    requires { 0 < items.old.left }
+    ensures means { Means (UnlessMemory T.meaning) (place items.old.reader) result (place items.new.reader) }
+    ensures keeps { KeepsWindow items.old.reader items.new.reader }
+    ensures left { (items.new.left + 1 ≡ items.old.left) × (items.new.count ≡ items.old.count) }
+    ensures ended { EndsAtFault result items.new }
+{
+    items.left -= 1;
+    let item = T::from_reader(alloc, &mut items.section.reader);
+    items.ended = item.is_err();
+    item
+}
+
+impl<'a, T: FromReaderIn<'a>> Iterator for SectionLimitedIntoIterIn<'a, T> {
+    type Item = Result<T>;
+
+    ghost next_gives = { NextItemIn T.meaning };
+
+    ghost remaining = { λ items. at_most (most_items items) };
+
+    fn next(&mut self) -> Option<Result<T>> {
+        if self.items.ended {
+            return None;
+        }
+        if self.items.left == 0 {
+            self.items.ended = true;
+            if self.items.section.reader.eof() {
+                return None;
+            }
+            return Some(Err(Error::new(Fault::SizeMismatch, self.items.original_position())));
+        }
+        Some(read_in(self.alloc, &mut self.items))
+    }
+
+    fn size_hint(&self) -> (usize, Option<usize>)
+        ensures lower { IsWithinCount result.0 (at_most (most_items self.now)) }
+        ensures upper { IfSome result.1 (UpTo (at_most (most_items self.now))) }
+        ensures exact { (result.0 ≡ 0) × (result.1 ≡ Some (most_items self.now)) }
+    {
+        if self.items.ended {
+            return (0, Some(0));
+        }
+        (0, Some(self.items.left as usize + 1))
     }
 }

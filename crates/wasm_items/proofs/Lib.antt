@@ -1,2 +1,7 @@
+pub mod Announced
+pub mod Inner
+pub mod Instructions
+pub mod OwnBytes
 pub mod Same
 pub mod SameGroup
+pub mod ToCome

@@ -1,7 +1,14 @@
 // Data segments.
+ghost use Rattle.std.specs.Prelude.{◌≡◌};
+ghost use Rattle.wasm_base.specs.Hints.{TakesNoMemory};
+ghost use Rattle.wasm_base.specs.Item.{ReadsAs};
+ghost use Rattle.wasm_base.specs.Outcome.{Gives};
+ghost use Rattle.wasm_base.specs.Window.{place, KeepsWindow};
+ghost use Rattle.wasm_items.specs.Data.{data_kind_at};
+
 use crate::init::ConstExpr;
 use std::ops::Range;
-use wasm_base::SectionLimited;
+use wasm_base::{BinaryReader, Error, Fault, FromReader, Result, SectionLimited};
 
 /// The data section: its segments (core specification, Binary format, Modules, Data Section).
 pub type DataSectionReader<'a> = SectionLimited<'a, Data<'a>>;
@@ -29,4 +36,47 @@ pub enum DataKind<'a> {
         /// The address in the memory of the first byte.
         offset_expr: ConstExpr<'a>,
     },
+}
+
+// What becomes of a segment, by its flags.
+#[tactic(auto, unfolding(crate::specs::Data::data_kind_at))]
+fn read_kind<'a>(reader: &mut BinaryReader<'a>) -> Result<DataKind<'a>>
+    ensures gives { Gives (λ kind. kind) result (place reader.new) (data_kind_at (place reader.old)) }
+    ensures keeps { KeepsWindow reader.old reader.new }
+    ensures memory { TakesNoMemory result }
+{
+    let start = reader.original_position();
+    match reader.read_var_u32()? {
+        0 => Ok(DataKind::Active {
+            memory_index: 0,
+            offset_expr: ConstExpr::from_reader(reader)?,
+        }),
+        1 => Ok(DataKind::Passive),
+        2 => Ok(DataKind::Active {
+            memory_index: reader.read_var_u32()?,
+            offset_expr: ConstExpr::from_reader(reader)?,
+        }),
+        _ => Err(Error::new(Fault::DataFlags, start)),
+    }
+}
+
+/// Flags, a u32: 0 and the expression of an offset in memory 0, 1 for a passive segment, or 2, a memory's index and an
+/// expression; then a size and so many bytes. Other flags are `DataFlags` at the segment's start.
+impl<'a> FromReader<'a> for Data<'a> {
+    ghost use Rattle.wasm_items.specs.Data.{data_parts, data_at};
+
+    ghost meaning = { ReadsAs data_parts data_at };
+
+    #[tactic(auto, unfolding(crate::specs::Data::data_at))]
+    fn from_reader(reader: &mut BinaryReader<'a>) -> Result<Self> {
+        let start = reader.original_position();
+        let kind = read_kind(reader)?;
+        let size = reader.read_var_u32()?;
+        let bytes = reader.read_bytes(size as usize)?;
+        Ok(Data {
+            kind,
+            bytes,
+            range: start..reader.original_position(),
+        })
+    }
 }

@@ -1,8 +1,20 @@
 // Element segments.
-use crate::init::ConstExpr;
+ghost use Rattle.std.specs.Prelude.{◌≡◌};
+ghost use Rattle.wasm_base.specs.Hints.{TakesNoMemory};
+ghost use Rattle.wasm_base.specs.Item.{ReadsAs};
+ghost use Rattle.wasm_base.specs.Outcome.{Gives};
+ghost use Rattle.wasm_base.specs.Window.{place, KeepsWindow};
+ghost use Rattle.wasm_items.specs.Elements.{element_flags_at, element_kind_at, after_element_kind, passed_index_at, function_elements_at, element_type_at, expression_elements_at, is_typed};
+ghost use Rattle.wasm_items.specs.Init.{end_of_expression};
+ghost use Rattle.wasm_items.specs.Inner.{all_passed_at, inner_section_at};
+
+use crate::exports::ExternalKind;
+use crate::init::{ConstExpr, pass_expression};
+use crate::limits::has_flag;
 use crate::types::RefType;
+use crate::windows::passed_since;
 use std::ops::Range;
-use wasm_base::SectionLimited;
+use wasm_base::{BinaryReader, Error, Fault, FromReader, Result, SectionLimited};
 
 /// The element section: its segments (core specification, Binary format, Modules, Element Section).
 pub type ElementSectionReader<'a> = SectionLimited<'a, Element<'a>>;
@@ -41,4 +53,191 @@ pub enum ElementItems<'a> {
     Functions(SectionLimited<'a, u32>),
     /// The type of the elements, and an expression for each.
     Expressions(RefType, SectionLimited<'a, ConstExpr<'a>>),
+}
+
+// The flags of a segment.
+#[tactic(auto, unfolding(crate::specs::Elements::element_flags_at))]
+fn read_flags(reader: &mut BinaryReader<'_>) -> Result<u8>
+    ensures gives { Gives (λ flags. flags) result (place reader.new) (element_flags_at (place reader.old)) }
+    ensures keeps { KeepsWindow reader.old reader.new }
+    ensures memory { TakesNoMemory result }
+{
+    let flags = reader.read_var_u32()?;
+    if flags > 7 {
+        return Err(Error::new(Fault::ElementFlags, reader.original_position() - 1));
+    }
+    Ok(flags as u8)
+}
+
+// What becomes of a segment with these flags.
+#[tactic(auto, unfolding(crate::specs::Elements::element_kind_at))]
+fn read_kind<'a>(flags: u8, reader: &mut BinaryReader<'a>) -> Result<ElementKind<'a>>
+    ensures gives { Gives (λ kind. kind) result (place reader.new) (element_kind_at flags (place reader.old)) }
+    ensures keeps { KeepsWindow reader.old reader.new }
+    ensures memory { TakesNoMemory result }
+{
+    if has_flag(flags, 1) {
+        if has_flag(flags, 2) {
+            return Ok(ElementKind::Declared);
+        }
+        return Ok(ElementKind::Passive);
+    }
+    if has_flag(flags, 2) {
+        return Ok(ElementKind::Active {
+            table_index: Some(reader.read_var_u32()?),
+            offset_expr: ConstExpr::from_reader(reader)?,
+        });
+    }
+    Ok(ElementKind::Active {
+        table_index: None,
+        offset_expr: ConstExpr::from_reader(reader)?,
+    })
+}
+
+// Whether the kind or the type of the elements is written.
+fn is_typed(flags: u8) -> bool
+    ensures { result ≡ is_typed flags }
+{
+    has_flag(flags, 1) || has_flag(flags, 2)
+}
+
+// Passes over the kind of the elements, where it is written.
+#[tactic(auto, unfolding(crate::specs::Elements::element_kind_passed_at))]
+fn pass_kind(flags: u8, reader: &mut BinaryReader<'_>) -> Result<()>
+    ensures gives { Gives (λ nothing. nothing) result (place reader.new) (after_element_kind flags (place reader.old)) }
+    ensures keeps { KeepsWindow reader.old reader.new }
+    ensures memory { TakesNoMemory result }
+{
+    if !is_typed(flags) {
+        return Ok(());
+    }
+    let start = reader.original_position();
+    match ExternalKind::from_reader(reader)? {
+        ExternalKind::Func => Ok(()),
+        _ => Err(Error::new(Fault::ElementFunctionOnly, start)),
+    }
+}
+
+// Passes over an index.
+#[tactic(auto, unfolding(crate::specs::Elements::passed_index_at))]
+fn pass_index(reader: &mut BinaryReader<'_>) -> Result<()>
+    ensures gives { Gives (λ nothing. nothing) result (place reader.new) (passed_index_at (place reader.old)) }
+    ensures keeps { KeepsWindow reader.old reader.new }
+    ensures memory { TakesNoMemory result }
+{
+    reader.read_var_u32()?;
+    Ok(())
+}
+
+// Passes over so many indices.
+fn pass_indices(count: u32, reader: &mut BinaryReader<'_>) -> Result<()>
+    ensures gives { Gives (λ nothing. nothing) result (place reader.new) (all_passed_at passed_index_at count (place reader.old)) }
+    ensures keeps { KeepsWindow reader.old reader.new }
+    ensures memory { TakesNoMemory result }
+{
+    'indices: for _ in 0..count {
+        pass_index(reader)?;
+    }
+    Ok(())
+}
+
+// Passes over so many expressions.
+fn pass_expressions(count: u32, reader: &mut BinaryReader<'_>) -> Result<()>
+    ensures gives { Gives (λ nothing. nothing) result (place reader.new) (all_passed_at end_of_expression count (place reader.old)) }
+    ensures keeps { KeepsWindow reader.old reader.new }
+    ensures memory { TakesNoMemory result }
+{
+    'expressions: for _ in 0..count {
+        pass_expression(reader)?;
+    }
+    Ok(())
+}
+
+// A list of indices, as a window.
+#[tactic(auto, unfolding(crate::specs::Inner::inner_section_at))]
+fn read_indices<'a>(reader: &mut BinaryReader<'a>) -> Result<SectionLimited<'a, u32>>
+    ensures gives { Gives (λ section. section) result (place reader.new) (inner_section_at passed_index_at (place reader.old)) }
+    ensures keeps { KeepsWindow reader.old reader.new }
+    ensures memory { TakesNoMemory result }
+{
+    let before = reader.clone().unwrap();
+    let count = reader.read_var_u32()?;
+    pass_indices(count, reader)?;
+    SectionLimited::new(passed_since(&before, reader))
+}
+
+// A list of expressions, as a window.
+#[tactic(auto, unfolding(crate::specs::Inner::inner_section_at))]
+fn read_expressions<'a>(reader: &mut BinaryReader<'a>) -> Result<SectionLimited<'a, ConstExpr<'a>>>
+    ensures gives { Gives (λ section. section) result (place reader.new) (inner_section_at end_of_expression (place reader.old)) }
+    ensures keeps { KeepsWindow reader.old reader.new }
+    ensures memory { TakesNoMemory result }
+{
+    let before = reader.clone().unwrap();
+    let count = reader.read_var_u32()?;
+    pass_expressions(count, reader)?;
+    SectionLimited::new(passed_since(&before, reader))
+}
+
+// Elements that are functions.
+#[tactic(auto, unfolding(crate::specs::Elements::function_elements_at))]
+fn read_functions<'a>(flags: u8, reader: &mut BinaryReader<'a>) -> Result<ElementItems<'a>>
+    ensures gives { Gives (λ items. items) result (place reader.new) (function_elements_at flags (place reader.old)) }
+    ensures keeps { KeepsWindow reader.old reader.new }
+    ensures memory { TakesNoMemory result }
+{
+    pass_kind(flags, reader)?;
+    Ok(ElementItems::Functions(read_indices(reader)?))
+}
+
+// The type of the elements, where it is written.
+fn read_type(flags: u8, reader: &mut BinaryReader<'_>) -> Result<RefType>
+    ensures gives { Gives (λ ty. ty) result (place reader.new) (element_type_at flags (place reader.old)) }
+    ensures keeps { KeepsWindow reader.old reader.new }
+    ensures memory { TakesNoMemory result }
+{
+    if is_typed(flags) {
+        RefType::from_reader(reader)
+    } else {
+        Ok(RefType::FUNCREF)
+    }
+}
+
+// Elements that are expressions.
+#[tactic(auto, unfolding(crate::specs::Elements::expression_elements_at))]
+fn read_typed<'a>(flags: u8, reader: &mut BinaryReader<'a>) -> Result<ElementItems<'a>>
+    ensures gives { Gives (λ items. items) result (place reader.new) (expression_elements_at flags (place reader.old)) }
+    ensures keeps { KeepsWindow reader.old reader.new }
+    ensures memory { TakesNoMemory result }
+{
+    let ty = read_type(flags, reader)?;
+    Ok(ElementItems::Expressions(ty, read_expressions(reader)?))
+}
+
+/// Flags, a u32 below 8; a table's index and the expression of an offset, as the flags say; the kind or the type of the
+/// elements, where it is written; then a list of functions or of expressions.
+///
+/// Larger flags are `ElementFlags` at their last byte, another kind than that of functions is `ElementFunctionOnly` at
+/// it. The elements are passed over, with their own faults: those of an element that was read have none.
+impl<'a> FromReader<'a> for Element<'a> {
+    ghost use Rattle.wasm_items.specs.Elements.{element_at};
+
+    ghost meaning = { ReadsAs (λ element. element) element_at };
+
+    #[tactic(auto, unfolding(crate::specs::Elements::element_at))]
+    fn from_reader(reader: &mut BinaryReader<'a>) -> Result<Self> {
+        let start = reader.original_position();
+        let flags = read_flags(reader)?;
+        let kind = read_kind(flags, reader)?;
+        let items = if has_flag(flags, 4) {
+            read_typed(flags, reader)?
+        } else {
+            read_functions(flags, reader)?
+        };
+        Ok(Element {
+            kind,
+            items,
+            range: start..reader.original_position(),
+        })
+    }
 }

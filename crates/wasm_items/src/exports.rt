@@ -1,5 +1,9 @@
 // Exports.
-use wasm_base::SectionLimited;
+ghost use Rattle.std.specs.Prelude.{◌≡◌};
+ghost use Rattle.wasm_base.specs.Item.{ReadsAs};
+
+use crate::leading::leading_byte_error;
+use wasm_base::{BinaryReader, Error, Fault, FromReader, Lead, Result, SectionLimited};
 
 /// The export section: its exports (core specification, Binary format, Modules, Export Section).
 pub type ExportSectionReader<'a> = SectionLimited<'a, Export<'a>>;
@@ -30,4 +34,45 @@ pub struct Export<'a> {
     pub kind: ExternalKind,
     /// Its index among those of its kind.
     pub index: u32,
+}
+
+/// A byte. One that is no kind is `LeadingByte(External)` at it, with the byte as its number.
+impl<'a> FromReader<'a> for ExternalKind {
+    ghost use Rattle.wasm_items.specs.Externals.{kind_at};
+
+    ghost meaning = { ReadsAs (λ kind. kind) kind_at };
+
+    #[tactic(auto, unfolding(crate::specs::Externals::kind_at))]
+    fn from_reader(reader: &mut BinaryReader<'a>) -> Result<Self> {
+        match reader.read_u8()? {
+            0x00 => Ok(ExternalKind::Func),
+            0x01 => Ok(ExternalKind::Table),
+            0x02 => Ok(ExternalKind::Memory),
+            0x03 => Ok(ExternalKind::Global),
+            0x04 => Ok(ExternalKind::Tag),
+            0x20 => Ok(ExternalKind::FuncExact),
+            byte => {
+                let offset = reader.original_position() - 1;
+                Err(leading_byte_error(Lead::External, byte, offset))
+            }
+        }
+    }
+}
+
+/// A name, a kind and an index, a u32. A kind of exact functions is `ExactExport`, after it.
+impl<'a> FromReader<'a> for Export<'a> {
+    ghost use Rattle.wasm_items.specs.Exports.{export_parts, export_at};
+
+    ghost meaning = { ReadsAs export_parts export_at };
+
+    #[tactic(auto, unfolding(crate::specs::Exports::export_at))]
+    fn from_reader(reader: &mut BinaryReader<'a>) -> Result<Self> {
+        let name = reader.read_string()?;
+        let kind = reader.read()?;
+        if let ExternalKind::FuncExact = kind {
+            return Err(Error::new(Fault::ExactExport, reader.original_position()));
+        }
+        let index = reader.read_var_u32()?;
+        Ok(Export { name, kind, index })
+    }
 }

@@ -1,7 +1,11 @@
 // Globals.
+ghost use Rattle.std.specs.Prelude.{◌≡◌};
+ghost use Rattle.wasm_base.specs.Item.{ReadsAs};
+
 use crate::init::ConstExpr;
-use crate::types::GlobalType;
-use wasm_base::SectionLimited;
+use crate::limits::has_flag;
+use crate::types::{GlobalType, ValType};
+use wasm_base::{BinaryReader, Error, Fault, FromReader, Result, SectionLimited};
 
 /// The global section: its globals (core specification, Binary format, Modules, Global Section).
 pub type GlobalSectionReader<'a> = SectionLimited<'a, Global<'a>>;
@@ -13,4 +17,40 @@ pub struct Global<'a> {
     pub ty: GlobalType,
     /// The expression of its first value.
     pub init_expr: ConstExpr<'a>,
+}
+
+/// The type of the value, and flags. Flags above 3 are `GlobalFlags` at them.
+impl<'a> FromReader<'a> for GlobalType {
+    ghost use Rattle.wasm_items.specs.Globals.{global_type_at};
+
+    ghost meaning = { ReadsAs (λ global. global) global_type_at };
+
+    #[tactic(auto, unfolding(crate::specs::Globals::global_type_at))]
+    fn from_reader(reader: &mut BinaryReader<'a>) -> Result<Self> {
+        let content_type = ValType::from_reader(reader)?;
+        let start = reader.original_position();
+        let flags = reader.read_u8()?;
+        if flags > 3 {
+            return Err(Error::new(Fault::GlobalFlags, start));
+        }
+        Ok(GlobalType {
+            content_type,
+            mutable: has_flag(flags, 1),
+            shared: has_flag(flags, 2),
+        })
+    }
+}
+
+/// A global type and an expression.
+impl<'a> FromReader<'a> for Global<'a> {
+    ghost use Rattle.wasm_items.specs.Globals.{global_at};
+
+    ghost meaning = { ReadsAs (λ global. global) global_at };
+
+    #[tactic(auto, unfolding(crate::specs::Globals::global_at))]
+    fn from_reader(reader: &mut BinaryReader<'a>) -> Result<Self> {
+        let ty = GlobalType::from_reader(reader)?;
+        let init_expr = ConstExpr::from_reader(reader)?;
+        Ok(Global { ty, init_expr })
+    }
 }

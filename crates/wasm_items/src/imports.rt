@@ -1,6 +1,18 @@
 // Imports.
+ghost use Rattle.std.specs.Prelude.{◌≡◌};
+ghost use Rattle.wasm_base.specs.Hints.{TakesNoMemory};
+ghost use Rattle.wasm_base.specs.Item.{ReadsAs};
+ghost use Rattle.wasm_base.specs.Outcome.{Gives};
+ghost use Rattle.wasm_base.specs.Window.{place, KeepsWindow};
+ghost use Rattle.wasm_items.specs.Imports.{form_of, passed_item_at, group_parts, has_groups, module_group_at, type_group_at};
+ghost use Rattle.wasm_items.specs.Inner.{all_passed_at, inner_section_at};
+ghost use Rattle.wasm_base.specs.Skip.{skipped_name_at};
+
+use crate::exports::ExternalKind;
 use crate::types::{GlobalType, MemoryType, TableType, TagType};
-use wasm_base::SectionLimited;
+use crate::windows::passed_since;
+use bitflags::Flags;
+use wasm_base::{BinaryReader, Error, Fault, FromReader, Result, SectionLimited, WasmFeatures};
 
 /// The import section: its imports and groups of imports (core specification, Binary format, Modules, Import Section).
 pub type ImportSectionReader<'a> = SectionLimited<'a, Imports<'a>>;
@@ -66,4 +78,203 @@ pub enum Imports<'a> {
         /// Their names.
         names: SectionLimited<'a, &'a str>,
     },
+}
+
+/// A kind, and the type of it: of a function the index of its type, a u32.
+impl<'a> FromReader<'a> for TypeRef {
+    ghost use Rattle.wasm_items.specs.Imports.{type_ref_at};
+
+    ghost meaning = { ReadsAs (λ ty. ty) type_ref_at };
+
+    #[tactic(auto, unfolding(crate::specs::Imports::type_ref_at))]
+    fn from_reader(reader: &mut BinaryReader<'a>) -> Result<Self> {
+        match ExternalKind::from_reader(reader)? {
+            ExternalKind::Func => Ok(TypeRef::Func(reader.read_var_u32()?)),
+            ExternalKind::Table => Ok(TypeRef::Table(reader.read()?)),
+            ExternalKind::Memory => Ok(TypeRef::Memory(reader.read()?)),
+            ExternalKind::Global => Ok(TypeRef::Global(reader.read()?)),
+            ExternalKind::Tag => Ok(TypeRef::Tag(reader.read()?)),
+            ExternalKind::FuncExact => Ok(TypeRef::FuncExact(reader.read_var_u32()?)),
+        }
+    }
+}
+
+/// The name of a module, a name in it, and what it is.
+impl<'a> FromReader<'a> for Import<'a> {
+    ghost use Rattle.wasm_items.specs.Imports.{import_parts, import_at};
+
+    ghost meaning = { ReadsAs import_parts import_at };
+
+    #[tactic(auto, unfolding(crate::specs::Imports::import_at))]
+    fn from_reader(reader: &mut BinaryReader<'a>) -> Result<Self> {
+        let module = reader.read_string()?;
+        let name = reader.read_string()?;
+        let ty = reader.read()?;
+        Ok(Import { module, name, ty })
+    }
+}
+
+/// A name, and what it is.
+impl<'a> FromReader<'a> for ImportItemCompact<'a> {
+    ghost use Rattle.wasm_items.specs.Imports.{item_parts, item_at};
+
+    ghost meaning = { ReadsAs item_parts item_at };
+
+    #[tactic(auto, unfolding(crate::specs::Imports::item_at))]
+    fn from_reader(reader: &mut BinaryReader<'a>) -> Result<Self> {
+        let name = reader.read_string()?;
+        let ty = reader.read()?;
+        Ok(ImportItemCompact { name, ty })
+    }
+}
+
+// How an item of an import section goes on after its two names.
+#[derive(Clone, Copy)]
+enum Form {
+    OneImport,
+    ModuleGroup,
+    TypeGroup,
+}
+
+fn form_after(name: &str, byte: u8) -> Form
+    ensures { result ≡ form_of name.now byte }
+{
+    if !name.is_empty() {
+        return Form::OneImport;
+    }
+    match byte {
+        0x7f => Form::ModuleGroup,
+        0x7e => Form::TypeGroup,
+        _ => Form::OneImport,
+    }
+}
+
+// Whether a reader takes groups.
+fn has_groups(reader: &BinaryReader<'_>) -> bool
+    ensures { result ≡ has_groups (place reader.now) }
+{
+    reader.features().contains(WasmFeatures::COMPACT_IMPORTS)
+}
+
+// Passes over an import of a group, whose name is not looked at.
+#[tactic(auto, unfolding(crate::specs::Imports::passed_item_at))]
+fn pass_item(reader: &mut BinaryReader<'_>) -> Result<()>
+    ensures gives { Gives (λ nothing. nothing) result (place reader.new) (passed_item_at (place reader.old)) }
+    ensures keeps { KeepsWindow reader.old reader.new }
+    ensures memory { TakesNoMemory result }
+{
+    reader.skip_string()?;
+    TypeRef::from_reader(reader)?;
+    Ok(())
+}
+
+fn pass_items(count: u32, reader: &mut BinaryReader<'_>) -> Result<()>
+    ensures gives { Gives (λ nothing. nothing) result (place reader.new) (all_passed_at passed_item_at count (place reader.old)) }
+    ensures keeps { KeepsWindow reader.old reader.new }
+    ensures memory { TakesNoMemory result }
+{
+    'items: for _ in 0..count {
+        pass_item(reader)?;
+    }
+    Ok(())
+}
+
+fn pass_names(count: u32, reader: &mut BinaryReader<'_>) -> Result<()>
+    ensures gives { Gives (λ nothing. nothing) result (place reader.new) (all_passed_at skipped_name_at count (place reader.old)) }
+    ensures keeps { KeepsWindow reader.old reader.new }
+    ensures memory { TakesNoMemory result }
+{
+    'names: for _ in 0..count {
+        reader.skip_string()?;
+    }
+    Ok(())
+}
+
+// A count and so many imports of a group.
+#[tactic(auto, unfolding(crate::specs::Inner::inner_section_at))]
+fn read_items<'a>(
+    reader: &mut BinaryReader<'a>,
+) -> Result<SectionLimited<'a, ImportItemCompact<'a>>>
+    ensures gives { Gives (λ section. section) result (place reader.new) (inner_section_at passed_item_at (place reader.old)) }
+    ensures keeps { KeepsWindow reader.old reader.new }
+    ensures memory { TakesNoMemory result }
+{
+    let before = reader.clone().unwrap();
+    let count = reader.read_var_u32()?;
+    pass_items(count, reader)?;
+    SectionLimited::new(passed_since(&before, reader))
+}
+
+// A count and so many names.
+#[tactic(auto, unfolding(crate::specs::Inner::inner_section_at))]
+fn read_names<'a>(reader: &mut BinaryReader<'a>) -> Result<SectionLimited<'a, &'a str>>
+    ensures gives { Gives (λ section. section) result (place reader.new) (inner_section_at skipped_name_at (place reader.old)) }
+    ensures keeps { KeepsWindow reader.old reader.new }
+    ensures memory { TakesNoMemory result }
+{
+    let before = reader.clone().unwrap();
+    let count = reader.read_var_u32()?;
+    pass_names(count, reader)?;
+    SectionLimited::new(passed_since(&before, reader))
+}
+
+// Imports of one module, after the byte of such a group.
+#[tactic(auto, unfolding(crate::specs::Imports::module_group_at))]
+fn read_module_group<'a>(module: &'a str, reader: &mut BinaryReader<'a>) -> Result<Imports<'a>>
+    ensures gives { Gives group_parts result (place reader.new) (module_group_at «module».now (place reader.old)) }
+    ensures keeps { KeepsWindow reader.old reader.new }
+    ensures memory { TakesNoMemory result }
+{
+    let items = read_items(reader)?;
+    Ok(Imports::Compact1 { module, items })
+}
+
+// Imports of one module and one type, after the byte of such a group.
+#[tactic(auto, unfolding(crate::specs::Imports::type_group_at))]
+fn read_type_group<'a>(module: &'a str, reader: &mut BinaryReader<'a>) -> Result<Imports<'a>>
+    ensures gives { Gives group_parts result (place reader.new) (type_group_at «module».now (place reader.old)) }
+    ensures keeps { KeepsWindow reader.old reader.new }
+    ensures memory { TakesNoMemory result }
+{
+    let ty = reader.read()?;
+    let names = read_names(reader)?;
+    Ok(Imports::Compact2 { module, ty, names })
+}
+
+/// The name of a module and a name in it, and what is imported; or, where the second name is empty, the byte 0x7F or 0x7E and
+/// a group.
+///
+/// Without the feature `COMPACT_IMPORTS` the byte is `Compact7F` or `Compact7E`, at it. The items of a group are passed
+/// over, with the faults of a skipped name and of a type; that their names are UTF-8 is seen when they are read.
+impl<'a> FromReader<'a> for Imports<'a> {
+    ghost use Rattle.wasm_items.specs.Imports.{group_parts, group_at};
+
+    ghost meaning = { ReadsAs group_parts group_at };
+
+    #[tactic(auto, unfolding(crate::specs::Imports::group_at, crate::specs::Imports::single_at))]
+    fn from_reader(reader: &mut BinaryReader<'a>) -> Result<Self> {
+        let start = reader.original_position();
+        let module = reader.read_string()?;
+        let name = reader.read_string()?;
+        match form_after(name, reader.peek()?) {
+            Form::OneImport => {
+                let ty = reader.read()?;
+                Ok(Imports::Single(start, Import { module, name, ty }))
+            }
+            Form::ModuleGroup => {
+                if !has_groups(reader) {
+                    return Err(Error::new(Fault::Compact7F, reader.original_position()));
+                }
+                reader.read_u8()?;
+                read_module_group(module, reader)
+            }
+            Form::TypeGroup => {
+                if !has_groups(reader) {
+                    return Err(Error::new(Fault::Compact7E, reader.original_position()));
+                }
+                reader.read_u8()?;
+                read_type_group(module, reader)
+            }
+        }
+    }
 }

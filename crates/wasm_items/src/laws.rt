@@ -1,11 +1,17 @@
-//! What comparing items says.
+//! What comparing and copying items says, what holds of items that were read, and of whole runs over them.
+ghost use Rattle.std.specs.Prelude.{Ok};
 ghost use Rattle.wasm_base.specs.Comparing.{DecidesWhether, DecidesSame, CopiesSame, CopiesAlways};
+ghost use Rattle.wasm_base.specs.Item.{AllowsOne, Determines};
+ghost use Rattle.wasm_base.specs.Window.{Place};
+ghost use Rattle.wasm_items.specs.Announced.{ElementsAreGiven};
+ghost use Rattle.wasm_items.specs.Flattened.{GivesAll, found_at, found};
 ghost use Rattle.wasm_items.specs.Same.{IsSameImport, IsSameItem, IsSameExport, IsSameFunction, IsSameComposite, IsSameSubtype, IsSameGroup};
 
 use crate::code::FunctionBody;
 use crate::data::{Data, DataKind};
 use crate::elements::{Element, ElementItems, ElementKind};
 use crate::exports::{Export, ExternalKind};
+use crate::flattened::{ImportsIter, IntoImports, IntoImportsWithOffsets};
 use crate::globals::Global;
 use crate::imports::{Import, ImportItemCompact, Imports, TypeRef};
 use crate::init::ConstExpr;
@@ -14,6 +20,7 @@ use crate::types::{
     CompositeType, FieldType, FuncType, GlobalType, HeapType, MemoryType, RecGroup, RefType,
     StorageType, SubType, TableType, TagKind, TagType, ValType,
 };
+use wasm_base::{FromReader, FromReaderIn, SectionLimitedIntoIter};
 
 /// Two types, kinds or externals, which own no list, are equal exactly if they are the same.
 pub fn equal_types_are_the_same()
@@ -104,4 +111,52 @@ pub fn copies_are_always_made<'a>()
     ensures import { CopiesAlways ⟦<Import<'a> as Clone>⟧.is_infallible }
     ensures item { CopiesAlways ⟦<ImportItemCompact<'a> as Clone>⟧.is_infallible }
     ensures export { CopiesAlways ⟦<Export<'a> as Clone>⟧.is_infallible }
+{}
+
+/// Calls of `next` up to the first `None` give all the imports that are to come, in order, and nothing comes after that
+/// `None`: of an item of an import section, and of a section, with offsets or without.
+pub fn all_imports_come<'a>()
+    ensures of_an_item { GivesAll found_at ⟦<ImportsIter<'a> as Iterator>⟧.next_gives }
+    ensures with_offsets { GivesAll found_at ⟦<IntoImportsWithOffsets<'a> as Iterator>⟧.next_gives }
+    ensures alone { GivesAll found ⟦<IntoImports<'a> as Iterator>⟧.next_gives }
+{}
+
+/// Each of these items allows one outcome at each place, so the iterators over a section of them, and clones of these,
+/// give the same items.
+pub fn items_allow_one_outcome<'a>()
+    ensures kind { AllowsOne ⟦<ExternalKind as FromReader<'a>>⟧.meaning }
+    ensures external { AllowsOne ⟦<TypeRef as FromReader<'a>>⟧.meaning }
+    ensures import { AllowsOne ⟦<Import<'a> as FromReader<'a>>⟧.meaning }
+    ensures item { AllowsOne ⟦<ImportItemCompact<'a> as FromReader<'a>>⟧.meaning }
+    ensures imports { AllowsOne ⟦<Imports<'a> as FromReader<'a>>⟧.meaning }
+    ensures table { AllowsOne ⟦<Table<'a> as FromReader<'a>>⟧.meaning }
+    ensures memory { AllowsOne ⟦<MemoryType as FromReader<'a>>⟧.meaning }
+    ensures tag { AllowsOne ⟦<TagType as FromReader<'a>>⟧.meaning }
+    ensures global { AllowsOne ⟦<Global<'a> as FromReader<'a>>⟧.meaning }
+    ensures export { AllowsOne ⟦<Export<'a> as FromReader<'a>>⟧.meaning }
+    ensures expression { AllowsOne ⟦<ConstExpr<'a> as FromReader<'a>>⟧.meaning }
+    ensures value { AllowsOne ⟦<ValType as FromReader<'a>>⟧.meaning }
+    ensures reference { AllowsOne ⟦<RefType as FromReader<'a>>⟧.meaning }
+    ensures heap { AllowsOne ⟦<HeapType as FromReader<'a>>⟧.meaning }
+{}
+
+/// The elements of a segment that was read are the announced ones: an iterator over them gives so many, and no fault.
+pub fn elements_that_were_read_are_given<'a>()
+    ensures { (before after : Place) (element : Element) →
+        ⟦<Element<'a> as FromReader<'a>>⟧.meaning before (Ok (element, after)) →
+        ElementsAreGiven
+        ⟦<SectionLimitedIntoIter<'a, u32> as Iterator>⟧.next_gives
+        ⟦<SectionLimitedIntoIter<'a, ConstExpr<'a>> as Iterator>⟧.next_gives element.items }
+{}
+
+/// Segments and types allow one outcome. An element segment and a field are determined by it.
+pub fn segments_and_types_allow_one_outcome<'a>()
+    ensures element { AllowsOne ⟦<Element<'a> as FromReader<'a>>⟧.meaning × Determines ⟦<Element<'a> as FromReader<'a>>⟧.meaning }
+    ensures segment { AllowsOne ⟦<Data<'a> as FromReader<'a>>⟧.meaning }
+    ensures storage { AllowsOne ⟦<StorageType as FromReader<'a>>⟧.meaning × Determines ⟦<StorageType as FromReader<'a>>⟧.meaning }
+    ensures field { AllowsOne ⟦<FieldType as FromReader<'a>>⟧.meaning × Determines ⟦<FieldType as FromReader<'a>>⟧.meaning }
+    ensures function { AllowsOne ⟦<FuncType as FromReaderIn<'a>>⟧.meaning }
+    ensures composite { AllowsOne ⟦<CompositeType as FromReaderIn<'a>>⟧.meaning }
+    ensures subtype { AllowsOne ⟦<SubType as FromReaderIn<'a>>⟧.meaning }
+    ensures group { AllowsOne ⟦<RecGroup as FromReaderIn<'a>>⟧.meaning }
 {}

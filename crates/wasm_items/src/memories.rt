@@ -1,6 +1,59 @@
 // Memories.
+ghost use Rattle.std.specs.Prelude.{◌≡◌};
+ghost use Rattle.wasm_base.specs.Hints.{TakesNoMemory};
+ghost use Rattle.wasm_base.specs.Item.{ReadsAs};
+ghost use Rattle.wasm_base.specs.Outcome.{Gives};
+ghost use Rattle.wasm_base.specs.Window.{place, KeepsWindow};
+ghost use Rattle.wasm_items.specs.Memories.{page_size_at};
+
+use crate::limits::{has_flag, read_limits};
 use crate::types::MemoryType;
-use wasm_base::SectionLimited;
+use wasm_base::{BinaryReader, Error, Fault, FromReader, Result, SectionLimited};
 
 /// The memory section: the types of its memories (core specification, Binary format, Modules, Memory Section).
 pub type MemorySectionReader<'a> = SectionLimited<'a, MemoryType>;
+
+// The size of a page, which a flag says is there, in a memory type that begins at this offset.
+#[tactic(auto, unfolding(crate::specs::Memories::page_size_at))]
+fn read_page_size(start: u64, flags: u8, reader: &mut BinaryReader<'_>) -> Result<Option<u32>>
+    ensures gives { Gives (λ size. size) result (place reader.new) (page_size_at start flags (place reader.old)) }
+    ensures keeps { KeepsWindow reader.old reader.new }
+    ensures memory { TakesNoMemory result }
+{
+    if !has_flag(flags, 8) {
+        return Ok(None);
+    }
+    let size = reader.read_var_u32()?;
+    if size >= 64 {
+        return Err(Error::new(Fault::PageSize, start));
+    }
+    Ok(Some(size))
+}
+
+/// Flags, limits, and the size of a page where a flag says so.
+///
+/// Flags above 15 are `MemoryFlags` at them, a page of 2^64 bytes or more is `PageSize` at the flags. The limits are
+/// 64-bit numbers if the reader has the feature `MEMORY64`, whatever the flags are.
+impl<'a> FromReader<'a> for MemoryType {
+    ghost use Rattle.wasm_items.specs.Memories.{memory_type_at};
+
+    ghost meaning = { ReadsAs (λ memory. memory) memory_type_at };
+
+    #[tactic(auto, unfolding(crate::specs::Memories::memory_type_at, crate::specs::Memories::memory_after_flags))]
+    fn from_reader(reader: &mut BinaryReader<'a>) -> Result<Self> {
+        let start = reader.original_position();
+        let flags = reader.read_u8()?;
+        if flags > 15 {
+            return Err(Error::new(Fault::MemoryFlags, start));
+        }
+        let limits = read_limits(flags, reader)?;
+        let page_size_log2 = read_page_size(start, flags, reader)?;
+        Ok(MemoryType {
+            memory64: has_flag(flags, 4),
+            shared: has_flag(flags, 2),
+            initial: limits.initial,
+            maximum: limits.maximum,
+            page_size_log2,
+        })
+    }
+}

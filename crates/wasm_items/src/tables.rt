@@ -1,7 +1,15 @@
 // Tables.
+ghost use Rattle.std.specs.Prelude.{◌≡◌};
+ghost use Rattle.wasm_base.specs.Hints.{TakesNoMemory};
+ghost use Rattle.wasm_base.specs.Item.{ReadsAs};
+ghost use Rattle.wasm_base.specs.Outcome.{Gives};
+ghost use Rattle.wasm_base.specs.Window.{place, KeepsWindow};
+ghost use Rattle.wasm_items.specs.Tables.{filled_table_at};
+
 use crate::init::ConstExpr;
-use crate::types::TableType;
-use wasm_base::SectionLimited;
+use crate::limits::{has_flag, read_limits};
+use crate::types::{RefType, TableType};
+use wasm_base::{BinaryReader, Error, Fault, FromReader, Result, SectionLimited};
 
 /// The table section: its tables (core specification, Binary format, Modules, Table Section).
 pub type TableSectionReader<'a> = SectionLimited<'a, Table<'a>>;
@@ -22,4 +30,68 @@ pub enum TableInit<'a> {
     RefNull,
     /// The value of this expression.
     Expr(ConstExpr<'a>),
+}
+
+/// The type of the elements, flags, and limits. Flags above 7 are `TableFlags` at them.
+///
+/// The limits are 64-bit numbers if the reader has the feature `MEMORY64`, whatever the flags are.
+impl<'a> FromReader<'a> for TableType {
+    ghost use Rattle.wasm_items.specs.Tables.{table_type_at};
+
+    ghost meaning = { ReadsAs (λ table. table) table_type_at };
+
+    #[tactic(auto, unfolding(crate::specs::Tables::table_type_at, crate::specs::Tables::table_after_flags))]
+    fn from_reader(reader: &mut BinaryReader<'a>) -> Result<Self> {
+        let element_type = RefType::from_reader(reader)?;
+        let start = reader.original_position();
+        let flags = reader.read_u8()?;
+        if flags > 7 {
+            return Err(Error::new(Fault::TableFlags, start));
+        }
+        let limits = read_limits(flags, reader)?;
+        Ok(TableType {
+            element_type,
+            table64: has_flag(flags, 4),
+            initial: limits.initial,
+            maximum: limits.maximum,
+            shared: has_flag(flags, 2),
+        })
+    }
+}
+
+// A table with an expression, after its first byte.
+#[tactic(auto, unfolding(crate::specs::Tables::filled_table_at))]
+fn read_filled<'a>(reader: &mut BinaryReader<'a>) -> Result<Table<'a>>
+    ensures gives { Gives (λ table. table) result (place reader.new) (filled_table_at (place reader.old)) }
+    ensures keeps { KeepsWindow reader.old reader.new }
+    ensures memory { TakesNoMemory result }
+{
+    let start = reader.original_position();
+    if reader.read_u8()? != 0x00 {
+        return Err(Error::new(Fault::TableEncoding, start));
+    }
+    let ty = TableType::from_reader(reader)?;
+    let init = TableInit::Expr(ConstExpr::from_reader(reader)?);
+    Ok(Table { ty, init })
+}
+
+/// A table type, or the bytes 0x40 and 0x00, a table type and an expression.
+///
+/// A byte after 0x40 that is not 0 is `TableEncoding` at it.
+impl<'a> FromReader<'a> for Table<'a> {
+    ghost use Rattle.wasm_items.specs.Tables.{table_at};
+
+    ghost meaning = { ReadsAs (λ table. table) table_at };
+
+    #[tactic(auto, unfolding(crate::specs::Tables::table_at))]
+    fn from_reader(reader: &mut BinaryReader<'a>) -> Result<Self> {
+        if reader.peek()? == 0x40 {
+            reader.read_u8()?;
+            return read_filled(reader);
+        }
+        Ok(Table {
+            ty: TableType::from_reader(reader)?,
+            init: TableInit::RefNull,
+        })
+    }
 }

@@ -1,6 +1,28 @@
 // Tags.
-use crate::types::TagType;
-use wasm_base::SectionLimited;
+ghost use Rattle.std.specs.Prelude.{◌≡◌};
+ghost use Rattle.wasm_base.specs.Item.{ReadsAs};
+
+use crate::types::{TagKind, TagType};
+use wasm_base::{BinaryReader, Error, Fault, FromReader, Result, SectionLimited};
 
 /// The tag section: the types of its tags (core specification, Binary format, Modules, Tag Section).
 pub type TagSectionReader<'a> = SectionLimited<'a, TagType>;
+
+/// A byte that is 0, else `TagAttributes` at it, and the index of a type, a u32.
+impl<'a> FromReader<'a> for TagType {
+    ghost use Rattle.wasm_items.specs.Tags.{tag_type_at};
+
+    ghost meaning = { ReadsAs (λ tag. tag) tag_type_at };
+
+    #[tactic(auto, unfolding(crate::specs::Tags::tag_type_at))]
+    fn from_reader(reader: &mut BinaryReader<'a>) -> Result<Self> {
+        let start = reader.original_position();
+        if reader.read_u8()? != 0x00 {
+            return Err(Error::new(Fault::TagAttributes, start));
+        }
+        Ok(TagType {
+            kind: TagKind::Exception,
+            func_type_idx: reader.read_var_u32()?,
+        })
+    }
+}

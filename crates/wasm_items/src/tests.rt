@@ -1,5 +1,8 @@
 // Items as values.
 mod aliases;
+mod groups;
+mod lines;
+mod segments;
 mod values;
 mod windows;
 

@@ -1,0 +1,35 @@
+-- Bytes that are passed over.
+use Rattle.std.specs.Prelude.{◌≡◌, ℕ, ◌-◌, take, Some, Result, Ok, Err, if◌then◌else◌}
+use Rattle.wasm_base.specs.FaultAt.{at_offset}
+use Rattle.wasm_base.specs.Name.{bytes_at, is_above, name_limit}
+use Rattle.wasm_base.specs.Number.{unsigned_at}
+use Rattle.wasm_base.specs.Outcome.{Outcome, ◌>>=◌}
+use Rattle.wasm_base.specs.Window.{Window, Place, place, KeepsWindow}
+use Rattle.wasm_base.specs.declared.error.Error.{Error}
+use Rattle.wasm_base.specs.declared.fault.Fault.TheVariants.{StringSize}
+use Rattle.wasm_base.specs.declared.fault.NumberKind.TheVariants.{VarU32}
+
+-- so many bytes, whatever they are
+abbrev pub passed_at : ℕ → Place → Outcome (Unit {0})
+passed_at n p = do
+  bytes ← bytes_at n p
+  Ok (tt, bytes.1)
+
+-- a size of at most a name's limit, and so many bytes, which may be no UTF-8
+unfoldable pub skipped_name_at : Place → Outcome (Unit {0})
+skipped_name_at p = do
+  size ← unsigned_at VarU32 p
+  if is_above (Some name_limit) size.0 then Err (at_offset StringSize (size.1.offset - 1)) else passed_at size.0 size.1
+
+-- the window of the next n bytes
+abbrev pub window_of : ℕ → Place → Window
+window_of n p = record { features = p.features; start = p.offset; bytes = take n p.rest; position = 0 }
+
+-- What a call may do with a reader, from one window to another: it keeps the window, and never goes back.
+abbrev pub NeverGoesBack : (Window → Result (Unit {0}) Error → Window → Type 0) → Type 0
+NeverGoesBack calls = (old new : Window) (given : Result (Unit {0}) Error) → calls old given new → KeepsWindow old new
+
+-- The call passed over these bytes of the window, and they are the window that is returned; or it answered this error.
+abbrev pub PassesOver : (Window → Result (Unit {0}) Error → Window → Type 0) → Window → Result Window Error → Window → Type 0
+PassesOver calls old (Ok window) new = calls old (Ok tt) new × (window ≡ window_of (new.position - old.position) (place old))
+PassesOver calls old (Err e) new = calls old (Err e) new

@@ -1,0 +1,18 @@
+use Rattle.std.proofs.Common.{rules, length, refl, arith}
+use Rattle.wasm_base.specs.Window.{place}
+use Rattle.wasm_items.proofs.Instructions.{next_instruction, fewer_to_come}
+use Rattle.wasm_items.specs.Init.{end_of_expression}
+use Rattle.wasm_items.proofs.init.pass_expression.Goals as goal
+
+pub instructions-init : goal.instructions-init
+unfolding end_of_expression
+instructions-init c = record {
+  left = record { most = length (place c.args.reader.now).rest; fewer = omega arith; so_far = refl };
+  keeps = search rules;
+}
+
+pub instructions-preserved : goal.instructions-preserved
+instructions-preserved c = record {
+  left = next_instruction c.instructions.invariant.left.most (place c.instructions.reader) _ c.in_ok-opcode.opcode (place c.read_u8.new.self) (place c.pass_operands.new.reader) c.instructions.invariant.left.fewer c.instructions.invariant.left.so_far (search rules) (search rules) (search rules) (fewer_to_come c.read_u8.new.self c.pass_operands.new.reader c.pass_operands.ensures.keeps);
+  keeps = search rules;
+}

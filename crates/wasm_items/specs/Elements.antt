@@ -1,0 +1,106 @@
+-- Element segments. Core specification, Binary format, Modules, Element Section.
+use Rattle.std.specs.Prelude.{ℕ, ◌-◌, Bool, true, ◌||◌, Option, Some, None, Ok, Err, nat_lt, if◌then◌else◌}
+use Rattle.wasm_base.specs.FaultAt.{at_offset}
+use Rattle.wasm_base.specs.Number.{unsigned_at}
+use Rattle.wasm_base.specs.Outcome.{Outcome, ◌>>=◌}
+use Rattle.wasm_base.specs.Window.{Place}
+use Rattle.wasm_base.specs.declared.fault.Fault.TheVariants.{ElementFlags, ElementFunctionOnly}
+use Rattle.wasm_base.specs.declared.fault.NumberKind.TheVariants.{VarU32}
+use Rattle.wasm_items.specs.Externals.{kind_at}
+use Rattle.wasm_items.specs.Init.{end_of_expression, expression_at}
+use Rattle.wasm_items.specs.Inner.{inner_section_at}
+use Rattle.wasm_items.specs.Limits.{has_flag}
+use Rattle.wasm_items.specs.Values.{ref_type_at}
+use Rattle.wasm_items.specs.declared.elements.Element.{Element}
+use Rattle.wasm_items.specs.declared.elements.ElementItems.{ElementItems}
+use Rattle.wasm_items.specs.declared.elements.ElementItems.TheVariants.{Functions, Expressions}
+use Rattle.wasm_items.specs.declared.elements.ElementKind.{ElementKind}
+use Rattle.wasm_items.specs.declared.elements.ElementKind.TheVariants.{Passive, Active, Declared}
+use Rattle.wasm_items.specs.declared.exports.ExternalKind.{ExternalKind}
+use Rattle.wasm_items.specs.declared.exports.ExternalKind.TheVariants.{Func}
+use Rattle.wasm_items.specs.declared.types.HeapType.TheVariants as Heaps
+use Rattle.wasm_items.specs.declared.types.RefType.{RefType}
+
+-- flags below 8; others are a fault, at their last byte
+unfoldable pub element_flags_at : Place → Outcome ℕ
+element_flags_at p = do
+  flags ← unsigned_at VarU32 p
+  if nat_lt 7 flags.0 then Err (at_offset ElementFlags (flags.1.offset - 1)) else Ok flags
+
+-- an active segment: the expression of its offset in the table
+abbrev pub active_element_at : (table : Option ℕ) → Place → Outcome ElementKind
+active_element_at table p = do
+  offset ← expression_at p
+  Ok (Active table (record { reader = offset.0 }), offset.1)
+
+-- an active segment whose table's index is written
+abbrev pub indexed_element_at : Place → Outcome ElementKind
+indexed_element_at p = do
+  table ← unsigned_at VarU32 p
+  active_element_at (Some table.0) table.1
+
+-- What becomes of a segment. Flag 1 distinguishes passive and declared segments from active ones; flag 2 is that of a
+-- written table index of an active segment, and otherwise distinguishes declared segments from passive ones.
+unfoldable pub element_kind_at : (flags : ℕ) → Place → Outcome ElementKind
+element_kind_at flags p =
+    if has_flag flags 1 then (if has_flag flags 2 then Ok (Declared, p) else Ok (Passive, p))
+    else if has_flag flags 2 then indexed_element_at p
+    else active_element_at None p
+
+-- whether the kind or the type of the elements is written: an active segment without a table index has neither
+abbrev pub is_typed : (flags : ℕ) → Bool
+is_typed flags = has_flag flags 1 || has_flag flags 2
+
+abbrev pub only_functions : ExternalKind → (offset : ℕ) → Place → Outcome (Unit {0})
+only_functions Func offset p = Ok (tt, p)
+only_functions kind offset p = Err (at_offset ElementFunctionOnly offset)
+
+-- the kind of the elements: an external kind, which has to be that of functions
+unfoldable pub element_kind_passed_at : Place → Outcome (Unit {0})
+element_kind_passed_at p = do
+  kind ← kind_at p
+  only_functions kind.0 p.offset kind.1
+
+-- the place after the kind of the elements, where it is written
+abbrev pub after_element_kind : (flags : ℕ) → Place → Outcome (Unit {0})
+after_element_kind flags p = if is_typed flags then element_kind_passed_at p else Ok (tt, p)
+
+-- the place after an index
+unfoldable pub passed_index_at : Place → Outcome (Unit {0})
+passed_index_at p = do
+  index ← unsigned_at VarU32 p
+  Ok (tt, index.1)
+
+-- elements that are functions: their kind, and a list of their indices
+unfoldable pub function_elements_at : (flags : ℕ) → Place → Outcome ElementItems
+function_elements_at flags p = do
+  kind ← after_element_kind flags p
+  indices ← inner_section_at passed_index_at kind.1
+  Ok (Functions indices.0, indices.1)
+
+-- a reference to a function, or null
+abbrev pub funcref : RefType
+funcref = record { nullable = true; heap = Heaps.Func }
+
+-- the type of the elements, where it is written
+abbrev pub element_type_at : (flags : ℕ) → Place → Outcome RefType
+element_type_at flags p = if is_typed flags then ref_type_at p else Ok (funcref, p)
+
+-- elements that are expressions: their type, and a list of expressions
+unfoldable pub expression_elements_at : (flags : ℕ) → Place → Outcome ElementItems
+expression_elements_at flags p = do
+  ty ← element_type_at flags p
+  expressions ← inner_section_at end_of_expression ty.1
+  Ok (Expressions ty.0 expressions.0, expressions.1)
+
+-- the elements: flag 4 is that of expressions in place of functions
+abbrev pub elements_at : (flags : ℕ) → Place → Outcome ElementItems
+elements_at flags p = if has_flag flags 4 then expression_elements_at flags p else function_elements_at flags p
+
+-- an element segment: flags, what becomes of it, its elements
+unfoldable pub element_at : Place → Outcome Element
+element_at p = do
+  flags ← element_flags_at p
+  kind ← element_kind_at flags.0 flags.1
+  items ← elements_at flags.0 kind.1
+  Ok (record { kind = kind.0; items = items.0; range = record { start = p.offset; end = items.1.offset } }, items.1)

@@ -1,0 +1,151 @@
+-- Imports. Core specification, Binary format, Modules, Import Section, and Types, External Types; the groups are of the proposal for compact
+-- imports.
+use Rattle.std.specs.Prelude.{ℕ, ◌==◌, Bool, List, [], ◌∷◌, Some, Ok, Err, if◌then◌else◌}
+use Rattle.std.specs.Int.RustNames.{bit_and}
+use Rattle.wasm_base.specs.FaultAt.{at_offset}
+use Rattle.wasm_base.specs.Name.{name_limit, text_at, peeked_byte_at}
+use Rattle.wasm_base.specs.Number.{unsigned_at}
+use Rattle.wasm_base.specs.Outcome.{Outcome, ◌>>=◌}
+use Rattle.wasm_base.specs.Section.{Section}
+use Rattle.wasm_base.specs.Skip.{skipped_name_at}
+use Rattle.wasm_base.specs.Window.{Place, advanced}
+use Rattle.wasm_base.specs.declared.fault.Fault.{Fault}
+use Rattle.wasm_base.specs.declared.fault.Fault.TheVariants.{Compact7F, Compact7E}
+use Rattle.wasm_base.specs.declared.fault.NumberKind.TheVariants.{VarU32}
+use Rattle.wasm_items.specs.Externals.{kind_at}
+use Rattle.wasm_items.specs.Globals.{global_type_at}
+use Rattle.wasm_items.specs.Inner.{inner_section_at}
+use Rattle.wasm_items.specs.Memories.{memory_type_at}
+use Rattle.wasm_items.specs.Tables.{table_type_at}
+use Rattle.wasm_items.specs.Tags.{tag_type_at}
+use Rattle.wasm_items.specs.declared.exports.ExternalKind.{ExternalKind}
+use Rattle.wasm_items.specs.declared.exports.ExternalKind.TheVariants as Kinds
+use Rattle.wasm_items.specs.declared.imports.Form.{Form}
+use Rattle.wasm_items.specs.declared.imports.Form.TheVariants.{OneImport, ModuleGroup, TypeGroup}
+use Rattle.wasm_items.specs.declared.imports.Import.{Import}
+use Rattle.wasm_items.specs.declared.imports.ImportItemCompact.{ImportItemCompact}
+use Rattle.wasm_items.specs.declared.imports.Imports.{Imports}
+use Rattle.wasm_items.specs.declared.imports.Imports.TheVariants.{Single, Compact1, Compact2}
+use Rattle.wasm_items.specs.declared.imports.TypeRef.{TypeRef}
+use Rattle.wasm_items.specs.declared.imports.TypeRef.TheVariants as Types
+
+-- a type by a reading of its parts
+abbrev pub as_type : {A : Type 0} → (A → TypeRef) → Outcome A → Outcome TypeRef
+as_type type_of (Ok part) = Ok (type_of part.0, part.1)
+as_type type_of (Err e) = Err e
+
+-- the type of what is imported, after its kind: that of a function is an index
+abbrev pub type_of_kind_at : ExternalKind → Place → Outcome TypeRef
+type_of_kind_at Kinds.Func p = as_type Types.Func (unsigned_at VarU32 p)
+type_of_kind_at Kinds.Table p = as_type Types.Table (table_type_at p)
+type_of_kind_at Kinds.Memory p = as_type Types.Memory (memory_type_at p)
+type_of_kind_at Kinds.Global p = as_type Types.Global (global_type_at p)
+type_of_kind_at Kinds.Tag p = as_type Types.Tag (tag_type_at p)
+type_of_kind_at Kinds.FuncExact p = as_type Types.FuncExact (unsigned_at VarU32 p)
+
+-- what is imported: a kind, and its type
+unfoldable pub type_ref_at : Place → Outcome TypeRef
+type_ref_at p = do
+  kind ← kind_at p
+  type_of_kind_at kind.0 kind.1
+
+-- an import, with the bytes of its names
+pub record ImportParts : Type 0 where
+  pub from : List ℕ
+  pub name : List ℕ
+  pub ty : TypeRef
+
+abbrev pub import_parts : Import → ImportParts
+import_parts i = record { from = i.module.now; name = i.name.now; ty = i.ty }
+
+-- an import: the name of a module, its name there, and what it is
+unfoldable pub import_at : Place → Outcome ImportParts
+import_at p = do
+  from ← text_at (Some name_limit) p
+  name ← text_at (Some name_limit) from.1
+  ty ← type_ref_at name.1
+  Ok (record { from = from.0; name = name.0; ty = ty.0 }, ty.1)
+
+-- an import of a group, with the bytes of its name
+pub record ItemParts : Type 0 where
+  pub name : List ℕ
+  pub ty : TypeRef
+
+abbrev pub item_parts : ImportItemCompact → ItemParts
+item_parts i = record { name = i.name.now; ty = i.ty }
+
+-- an import of a group of imports from one module: its name, and what it is
+unfoldable pub item_at : Place → Outcome ItemParts
+item_at p = do
+  name ← text_at (Some name_limit) p
+  ty ← type_ref_at name.1
+  Ok (record { name = name.0; ty = ty.0 }, ty.1)
+
+-- the place after an import of a group, whose name is not looked at
+unfoldable pub passed_item_at : Place → Outcome (Unit {0})
+passed_item_at p = do
+  name ← skipped_name_at p
+  ty ← type_ref_at name.1
+  Ok (tt, ty.1)
+
+-- an item of an import section: one import and where it begins, imports of one module, or names of imports of one
+-- module and one type
+pub data Group : Type 0 where
+  single : (offset : ℕ) (one : ImportParts) → Group
+  of_module : (from : List ℕ) (items : Section) → Group
+  of_type : (from : List ℕ) (ty : TypeRef) (names : Section) → Group
+
+abbrev pub group_parts : Imports → Group
+group_parts (Single offset one) = single offset (import_parts one)
+group_parts (Compact1 from items) = of_module from.now items
+group_parts (Compact2 from ty names) = of_type from.now ty names
+
+-- How an item of an import section goes on after its two names: a group has an empty second name, and a byte that is no
+-- external kind after it.
+abbrev pub form_of : (name : List ℕ) (byte : ℕ) → Form
+form_of [] byte =
+    if byte == 0x7F then ModuleGroup
+    else if byte == 0x7E then TypeGroup
+    else OneImport
+form_of (b ∷ name) byte = OneImport
+
+-- whether groups are taken: the feature of compact imports, which is flag 2 of the features
+abbrev pub has_groups : Place → Bool
+has_groups p = bit_and p.features 2 == 2
+
+-- after the byte that a group has, where groups are taken; else the fault is at that byte
+abbrev pub if_groups : {A : Type 0} → Fault → (Place → Outcome A) → Place → Outcome A
+if_groups fault reading p = if has_groups p then reading (advanced 1 p) else Err (at_offset fault p.offset)
+
+-- imports of one module, after its byte
+unfoldable pub module_group_at : (from : List ℕ) → Place → Outcome Group
+module_group_at from p = do
+  items ← inner_section_at passed_item_at p
+  Ok (of_module from items.0, items.1)
+
+-- imports of one module and one type, after its byte
+unfoldable pub type_group_at : (from : List ℕ) → Place → Outcome Group
+type_group_at from p = do
+  ty ← type_ref_at p
+  names ← inner_section_at skipped_name_at ty.1
+  Ok (of_type from ty.0 names.0, names.1)
+
+-- one import after its two names
+unfoldable pub single_at : (start : ℕ) (from name : List ℕ) → Place → Outcome Group
+single_at start from name p = do
+  ty ← type_ref_at p
+  Ok (single start (record { from = from; name = name; ty = ty.0 }), ty.1)
+
+-- an item of an import section after its two names, by its form
+abbrev pub group_by_form_at : Form → (start : ℕ) (from name : List ℕ) → Place → Outcome Group
+group_by_form_at OneImport start from name p = single_at start from name p
+group_by_form_at ModuleGroup start from name p = if_groups Compact7F (module_group_at from) p
+group_by_form_at TypeGroup start from name p = if_groups Compact7E (type_group_at from) p
+
+-- an item of an import section
+unfoldable pub group_at : Place → Outcome Group
+group_at p = do
+  from ← text_at (Some name_limit) p
+  name ← text_at (Some name_limit) from.1
+  byte ← peeked_byte_at name.1
+  group_by_form_at (form_of name.0 byte.0) p.offset from.0 name.0 byte.1

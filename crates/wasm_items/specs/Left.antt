@@ -1,0 +1,24 @@
+-- What is left of an item of an import section.
+use Rattle.std.specs.Prelude.{ℕ, List, [], ◌∷◌, Some, None, Result, Ok}
+use Rattle.wasm_base.specs.FaultAt.{FaultAt}
+use Rattle.wasm_items.specs.Flattened.{imports_of_items, imports_of_names}
+use Rattle.wasm_items.specs.Imports.{ImportParts, import_parts}
+use Rattle.wasm_items.specs.declared.flattened.ItemsLeft.{ItemsLeft}
+use Rattle.wasm_items.specs.declared.flattened.Left.{Left}
+use Rattle.wasm_items.specs.declared.flattened.Left.TheVariants.{One, Items, Names}
+use Rattle.wasm_items.specs.declared.flattened.NamesLeft.{NamesLeft}
+
+-- the imports that are left of a group of one module, each with its offset, up to the first fault
+abbrev pub items_left : ItemsLeft → List (Result (ℕ × ImportParts) FaultAt)
+items_left group = imports_of_items group.module.now group.items
+
+-- the imports that are left of a group of one module and one type
+abbrev pub names_left : NamesLeft → List (Result (ℕ × ImportParts) FaultAt)
+names_left group = imports_of_names group.module.now group.ty group.names
+
+-- the imports that are left of an item of an import section
+abbrev pub imports_left : Left → List (Result (ℕ × ImportParts) FaultAt)
+imports_left (One None) = []
+imports_left (One (Some one)) = Ok (one.0, import_parts one.1) ∷ []
+imports_left (Items group) = items_left group
+imports_left (Names group) = names_left group

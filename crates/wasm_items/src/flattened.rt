@@ -1,0 +1,254 @@
+// The imports of an import section one by one.
+ghost use Rattle.std.specs.Iterator.{at_most};
+ghost use Rattle.std.specs.Prelude.{◌≡◌, ◌++◌, [], map, length};
+ghost use Rattle.wasm_base.specs.Window.{place};
+ghost use Rattle.wasm_items.specs.Flattened.{imports_of_groups, group_imports, flattened, import_alone, found_at, found, GivesFirst};
+ghost use Rattle.wasm_items.specs.Imports.{group_parts};
+ghost use Rattle.wasm_items.specs.Left.{items_left, names_left};
+
+use crate::imports::{Import, ImportItemCompact, ImportSectionReader, Imports, TypeRef};
+use std::marker::Model;
+use wasm_base::{Result, SectionLimitedIntoIter, SectionLimitedIntoIterWithOffsets};
+
+// What is left of a group of imports from one module.
+#[derive(Drop)]
+struct ItemsLeft<'a> {
+    module: &'a str,
+    items: SectionLimitedIntoIterWithOffsets<'a, ImportItemCompact<'a>>,
+}
+
+impl<'a> ItemsLeft<'a> {
+    fn next_import(&mut self) -> Option<Result<(u64, Import<'a>)>>
+        ensures { GivesFirst found_at (items_left self.old) result (items_left self.new) }
+    {
+        let module = self.module;
+        match self.items.next() {
+            Some(Ok((offset, ImportItemCompact { name, ty }))) => {
+                Some(Ok((offset, Import { module, name, ty })))
+            }
+            Some(Err(e)) => Some(Err(e)),
+            None => None,
+        }
+    }
+}
+
+// What is left of a group of imports from one module and of one type.
+#[derive(Drop)]
+struct NamesLeft<'a> {
+    module: &'a str,
+    ty: TypeRef,
+    names: SectionLimitedIntoIterWithOffsets<'a, &'a str>,
+}
+
+impl<'a> NamesLeft<'a> {
+    fn next_import(&mut self) -> Option<Result<(u64, Import<'a>)>>
+        ensures { GivesFirst found_at (names_left self.old) result (names_left self.new) }
+    {
+        let (module, ty) = (self.module, self.ty);
+        match self.names.next() {
+            Some(Ok((offset, name))) => Some(Ok((offset, Import { module, name, ty }))),
+            Some(Err(e)) => Some(Err(e)),
+            None => None,
+        }
+    }
+}
+
+// What is left of an item of an import section.
+#[derive(Drop)]
+enum Left<'a> {
+    One(Option<(u64, Import<'a>)>),
+    Items(ItemsLeft<'a>),
+    Names(NamesLeft<'a>),
+}
+
+/// The imports of an item of an import section, each with its offset in the whole stream: of a single import that of the
+/// item, of an import in a group its own.
+///
+/// They come up to the first fault. Where all were read and bytes of the group are left, one `SizeMismatch` follows, at the
+/// first of them.
+#[derive(Drop)]
+pub struct ImportsIter<'a> {
+    left: Left<'a>,
+}
+
+impl<'a> Model for ImportsIter<'a> {
+    ghost use Rattle.std.specs.Prelude.{ℕ, List, Result};
+    ghost use Rattle.wasm_base.specs.FaultAt.{FaultAt};
+    ghost use Rattle.wasm_items.specs.Imports.{ImportParts};
+    ghost use Rattle.wasm_items.specs.Left.{imports_left};
+
+    ghost Value = { List (Result (ℕ × ImportParts) FaultAt) };
+
+    ghost view = { λ s. imports_left s.left };
+}
+
+impl<'a> Iterator for ImportsIter<'a> {
+    type Item = Result<(u64, Import<'a>)>;
+
+    ghost next_gives = { GivesFirst found_at };
+
+    ghost remaining = { λ imports. at_most (length imports) };
+
+    fn next(&mut self) -> Option<Result<(u64, Import<'a>)>> {
+        match &mut self.left {
+            Left::One(import) => import.take().map(Ok),
+            Left::Items(group) => group.next_import(),
+            Left::Names(group) => group.next_import(),
+        }
+    }
+}
+
+impl<'a> ImportsIter<'a> {
+    // Gives the imports of a group from now on.
+    fn start(&mut self, group: Imports<'a>)
+        ensures { self.new ≡ group_imports (group_parts group.entry) }
+    {
+        *self = group.into_iter();
+    }
+}
+
+impl<'a> IntoIterator for Imports<'a> {
+    type Item = Result<(u64, Import<'a>)>;
+
+    type IntoIter = ImportsIter<'a>;
+
+    ghost into_iter_gives = { λ group imports. imports ≡ group_imports (group_parts group) };
+
+    fn into_iter(self) -> ImportsIter<'a> {
+        let left = match self {
+            Imports::Single(offset, import) => Left::One(Some((offset, import))),
+            Imports::Compact1 { module, items } => Left::Items(ItemsLeft {
+                module,
+                items: items.into_iter_with_offsets(),
+            }),
+            Imports::Compact2 { module, ty, names } => Left::Names(NamesLeft {
+                module,
+                ty,
+                names: names.into_iter_with_offsets(),
+            }),
+        };
+        ImportsIter { left }
+    }
+}
+
+// The next import of an import section: the next one of the group at hand, or the first one of a group after it.
+fn next_import<'a>(
+    group: &mut ImportsIter<'a>,
+    groups: &mut SectionLimitedIntoIter<'a, Imports<'a>>,
+) -> Option<Result<(u64, Import<'a>)>>
+    ensures { GivesFirst found_at (group.old ++ imports_of_groups groups.old) result (group.new ++ imports_of_groups groups.new) }
+{
+    'left: loop {
+        if let Some(import) = group.next() {
+            return Some(import);
+        }
+        match groups.next() {
+            Some(Ok(next)) => group.start(next),
+            Some(Err(e)) => return Some(Err(e)),
+            None => return None,
+        }
+    }
+}
+
+/// The imports of an import section one by one, each with its offset in the whole stream: of a single import where it
+/// begins, of an import in a group its own.
+///
+/// After a fault inside a group the next group follows. After the fault of an item of the section itself nothing
+/// comes; bytes after the last one are a `SizeMismatch`.
+#[derive(Drop)]
+pub struct IntoImportsWithOffsets<'a> {
+    group: ImportsIter<'a>,
+    groups: SectionLimitedIntoIter<'a, Imports<'a>>,
+}
+
+impl<'a> Model for IntoImportsWithOffsets<'a> {
+    ghost use Rattle.std.specs.Prelude.{ℕ, List, ◌++◌, Result};
+    ghost use Rattle.wasm_base.specs.FaultAt.{FaultAt};
+    ghost use Rattle.wasm_items.specs.Flattened.{imports_of_groups};
+    ghost use Rattle.wasm_items.specs.Imports.{ImportParts};
+
+    ghost Value = { List (Result (ℕ × ImportParts) FaultAt) };
+
+    ghost view = { λ s. s.group ++ imports_of_groups s.groups };
+}
+
+impl<'a> Iterator for IntoImportsWithOffsets<'a> {
+    type Item = Result<(u64, Import<'a>)>;
+
+    ghost next_gives = { GivesFirst found_at };
+
+    ghost remaining = { λ imports. at_most (length imports) };
+
+    fn next(&mut self) -> Option<Result<(u64, Import<'a>)>> {
+        next_import(&mut self.group, &mut self.groups)
+    }
+}
+
+/// The imports of an import section one by one, as those of `IntoImportsWithOffsets`.
+#[derive(Drop)]
+pub struct IntoImports<'a> {
+    imports: IntoImportsWithOffsets<'a>,
+}
+
+impl<'a> Model for IntoImports<'a> {
+    ghost use Rattle.std.specs.Prelude.{List, Result, map};
+    ghost use Rattle.wasm_base.specs.FaultAt.{FaultAt};
+    ghost use Rattle.wasm_items.specs.Flattened.{import_alone};
+    ghost use Rattle.wasm_items.specs.Imports.{ImportParts};
+
+    ghost Value = { List (Result ImportParts FaultAt) };
+
+    ghost view = { λ s. map import_alone s.imports };
+}
+
+impl<'a> Iterator for IntoImports<'a> {
+    type Item = Result<Import<'a>>;
+
+    ghost next_gives = { GivesFirst found };
+
+    ghost remaining = { λ imports. at_most (length imports) };
+
+    fn next(&mut self) -> Option<Result<Import<'a>>> {
+        match self.imports.next() {
+            Some(Ok((_offset, import))) => Some(Ok(import)),
+            Some(Err(e)) => Some(Err(e)),
+            None => None,
+        }
+    }
+}
+
+/// What an import section can do beside other sections: give its imports one by one, whatever groups they are in.
+///
+/// ```text
+/// for import in section.into_imports() {
+///     let import = import?;
+/// }
+/// ```
+pub trait ImportSection<'a> {
+    /// The imports in order.
+    fn into_imports(self) -> IntoImports<'a>;
+
+    /// The imports in order, each with its offset in the whole stream.
+    fn into_imports_with_offsets(self) -> IntoImportsWithOffsets<'a>;
+}
+
+impl<'a> ImportSection<'a> for ImportSectionReader<'a> {
+    fn into_imports(self) -> IntoImports<'a>
+        ensures { result ≡ map import_alone (flattened self.entry.count (place self.entry.reader)) }
+    {
+        IntoImports {
+            imports: self.into_imports_with_offsets(),
+        }
+    }
+
+    fn into_imports_with_offsets(self) -> IntoImportsWithOffsets<'a>
+        ensures { result ≡ flattened self.entry.count (place self.entry.reader) }
+    {
+        IntoImportsWithOffsets {
+            group: ImportsIter {
+                left: Left::One(None),
+            },
+            groups: self.into_iter(),
+        }
+    }
+}

@@ -1,0 +1,64 @@
+// Limits of tables and memories.
+ghost use Rattle.std.specs.Prelude.{◌≡◌};
+ghost use Rattle.wasm_base.specs.Hints.{TakesNoMemory};
+ghost use Rattle.wasm_base.specs.Outcome.{Gives};
+ghost use Rattle.wasm_base.specs.Window.{place, KeepsWindow};
+ghost use Rattle.wasm_items.specs.Limits.{has_flag, limit_at, maximum_at, limits_at};
+
+use wasm_base::{BinaryReader, Result};
+
+/// A minimum, and a maximum if there is one (core specification, Binary format, Types, Limits).
+#[derive(Drop)]
+pub(crate) struct Limits {
+    /// The minimum.
+    pub(crate) initial: u64,
+    /// The maximum.
+    pub(crate) maximum: Option<u64>,
+}
+
+/// Whether a flag, a power of two, is set.
+pub(crate) fn has_flag(flags: u8, flag: u8) -> bool
+    ensures { result ≡ has_flag flags flag }
+{
+    flags & flag == flag
+}
+
+// One limit: a u64 with 64-bit memories, a u32 without them.
+#[tactic(auto, unfolding(crate::specs::Limits::limit_at))]
+fn read_limit(reader: &mut BinaryReader<'_>) -> Result<u64>
+    ensures gives { Gives (λ n. n) result (place reader.new) (limit_at (place reader.old)) }
+    ensures keeps { KeepsWindow reader.old reader.new }
+    ensures memory { TakesNoMemory result }
+{
+    if reader.memory64() {
+        reader.read_var_u64()
+    } else {
+        Ok(u64::from(reader.read_var_u32()?))
+    }
+}
+
+// The maximum, which a flag says is there.
+#[tactic(auto, unfolding(crate::specs::Limits::maximum_at))]
+fn read_maximum(flags: u8, reader: &mut BinaryReader<'_>) -> Result<Option<u64>>
+    ensures gives { Gives (λ n. n) result (place reader.new) (maximum_at flags (place reader.old)) }
+    ensures keeps { KeepsWindow reader.old reader.new }
+    ensures memory { TakesNoMemory result }
+{
+    if has_flag(flags, 1) {
+        Ok(Some(read_limit(reader)?))
+    } else {
+        Ok(None)
+    }
+}
+
+/// Reads limits after their flags.
+#[tactic(auto, unfolding(crate::specs::Limits::limits_at))]
+pub(crate) fn read_limits(flags: u8, reader: &mut BinaryReader<'_>) -> Result<Limits>
+    ensures gives { Gives (λ limits. limits) result (place reader.new) (limits_at flags (place reader.old)) }
+    ensures keeps { KeepsWindow reader.old reader.new }
+    ensures memory { TakesNoMemory result }
+{
+    let initial = read_limit(reader)?;
+    let maximum = read_maximum(flags, reader)?;
+    Ok(Limits { initial, maximum })
+}
