@@ -1,5 +1,10 @@
 // Items as values.
 mod aliases;
+mod expressions;
+mod imports;
+mod reading;
+mod sections;
+mod types;
 mod values;
 mod windows;
 
