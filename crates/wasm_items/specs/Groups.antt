@@ -154,27 +154,27 @@ subtype_at p = do
       else plain_subtype_at p
 
 -- a group of types, with its lists
-pub record GroupParts : Type 0 where
+pub record RecGroupParts : Type 0 where
   pub explicit : Bool
   pub types : List SubtypeParts
 
-abbrev pub group_parts : RecGroup → GroupParts
-group_parts group = record { explicit = group.explicit; types = map subtype_parts group.types.items }
+abbrev pub rec_group_parts : RecGroup → RecGroupParts
+rec_group_parts group = record { explicit = group.explicit; types = map subtype_parts group.types.items }
 
 -- the types of a group that is written as one
-abbrev pub whole_group_at : Place → Outcome GroupParts
+abbrev pub whole_group_at : Place → Outcome RecGroupParts
 whole_group_at p = do
   types ← list_at subtype_at p
   Ok (record { explicit = true; types = types.0 }, types.1)
 
 -- a group of one type
-abbrev pub single_group_at : Place → Outcome GroupParts
+abbrev pub single_group_at : Place → Outcome RecGroupParts
 single_group_at p = do
   one ← subtype_at p
   Ok (record { explicit = false; types = one.0 ∷ [] }, one.1)
 
 -- an item of a type section: 0x4E and a list of subtypes, or one subtype (Recursive Types)
-unfoldable pub rec_group_at : Place → Outcome GroupParts
+unfoldable pub rec_group_at : Place → Outcome RecGroupParts
 rec_group_at p = do
   first ← peeked_byte_at p
   if first.0 == 0x4E then whole_group_at (advanced 1 p) else single_group_at p

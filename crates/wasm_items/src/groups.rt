@@ -183,9 +183,9 @@ impl<'a> FromReaderIn<'a> for SubType {
 
 /// A byte and a list of subtypes, for a group that is written as one; or a subtype alone.
 impl<'a> FromReaderIn<'a> for RecGroup {
-    ghost use Rattle.wasm_items.specs.Groups.{group_parts, rec_group_at};
+    ghost use Rattle.wasm_items.specs.Groups.{rec_group_parts, rec_group_at};
 
-    ghost meaning = { ReadsAs group_parts rec_group_at };
+    ghost meaning = { ReadsAs rec_group_parts rec_group_at };
 
     #[tactic(auto, unfolding(crate::specs::Groups::rec_group_at))]
     fn from_reader(alloc: Global, reader: &mut BinaryReader<'a>) -> Result<Self> {

@@ -15,6 +15,7 @@ pub mod Longest
 pub mod Shifting
 pub mod Parsing
 pub mod Places
+pub mod PayloadItems
 pub mod ReadingLaws
 pub mod SectionEvents
 pub mod SectionPlaces

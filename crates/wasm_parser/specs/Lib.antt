@@ -11,6 +11,7 @@ pub mod SectionLaws
 pub mod Sections
 pub mod EventRanges
 pub mod ParserState
+pub mod PayloadItems
 pub mod StateAfter
 pub mod GivesNextEvent
 pub mod Tiling

@@ -2,11 +2,14 @@
 //! that does nothing.
 ghost use Rattle.wasm_base.specs.Comparing.{DecidesSame, CopiesSame, CopiesAlways};
 ghost use Rattle.wasm_parser.specs.Laws.{AcceptedEnds, EventsLieEndToEnd, FaultEnds, EventsSayTheirBytes, FaultLiesWithin, LongestTiling, OneReading, ParserSuffices, SomeNextEvent, SomeReading, StartOnlyMoves, TilesStandAlone};
+ghost use Rattle.wasm_parser.specs.PayloadItems.{PayloadsGiveItems};
 ghost use Rattle.wasm_parser.specs.SectionLaws.{BodiesFollowTheirCount, RanksAscend, SectionsTile};
 ghost use Rattle.wasm_parser.specs.Worked.{EdgesOfRules, WorkedStreams};
 ghost use Rattle.wasm_parser.specs.WorkedFields.{LongFields, TwoFaults, WholeReadings};
 
 use crate::payload::Encoding;
+use wasm_base::{SectionLimitedIntoIterIn, SectionLimitedIntoIterWithOffsets};
+use wasm_items::{Data, Element, Export, Global, Imports, MemoryType, RecGroup, Table, TagType};
 
 /// Two readings of one stream are one.
 pub fn one_reading()
@@ -123,4 +126,22 @@ pub fn long_fields()
 /// Streams in which two checks can fail end at the first of them, by hand.
 pub fn two_faults()
     ensures { TwoFaults }
+{}
+
+/// The items of a payload that begins with a count are those of its window, by the grammar of its kind of section: as many
+/// as were announced, each at its offset in the stream, up to the first fault, and then nothing or one `SizeMismatch`.
+/// Of types, which own lists, `OutOfMemory` may come in place of any, as the last.
+pub fn items_of_payloads<'a>()
+    ensures { PayloadsGiveItems (record {
+      types = ⟦<SectionLimitedIntoIterIn<'a, RecGroup> as Iterator>⟧.next_gives;
+      imports = ⟦<SectionLimitedIntoIterWithOffsets<'a, Imports<'a>> as Iterator>⟧.next_gives;
+      functions = ⟦<SectionLimitedIntoIterWithOffsets<'a, u32> as Iterator>⟧.next_gives;
+      tables = ⟦<SectionLimitedIntoIterWithOffsets<'a, Table<'a>> as Iterator>⟧.next_gives;
+      memories = ⟦<SectionLimitedIntoIterWithOffsets<'a, MemoryType> as Iterator>⟧.next_gives;
+      tags = ⟦<SectionLimitedIntoIterWithOffsets<'a, TagType> as Iterator>⟧.next_gives;
+      globals = ⟦<SectionLimitedIntoIterWithOffsets<'a, Global<'a>> as Iterator>⟧.next_gives;
+      exports = ⟦<SectionLimitedIntoIterWithOffsets<'a, Export<'a>> as Iterator>⟧.next_gives;
+      elements = ⟦<SectionLimitedIntoIterWithOffsets<'a, Element<'a>> as Iterator>⟧.next_gives;
+      segments = ⟦<SectionLimitedIntoIterWithOffsets<'a, Data<'a>> as Iterator>⟧.next_gives;
+    }) }
 {}

@@ -1,7 +1,7 @@
 use Rattle.wasm_base.proofs.OneOutcome.{reads_as_one, reads_determine}
 use Rattle.wasm_items.specs.Data.{data_parts, data_at}
 use Rattle.wasm_items.specs.Elements.{element_at}
-use Rattle.wasm_items.specs.Groups.{storage_type_at, field_type_at, function_parts, func_type_at, composite_parts, composite_type_at, subtype_parts, subtype_at, group_parts, rec_group_at}
+use Rattle.wasm_items.specs.Groups.{storage_type_at, field_type_at, function_parts, func_type_at, composite_parts, composite_type_at, subtype_parts, subtype_at, rec_group_parts, rec_group_at}
 use Rattle.wasm_items.proofs.laws.segments_and_types_allow_one_outcome.Goals as goal
 
 pub returns-clause-element : goal.returns-clause-element
@@ -26,4 +26,4 @@ pub returns-clause-subtype : goal.returns-clause-subtype
 returns-clause-subtype c = reads_as_one subtype_parts subtype_at
 
 pub returns-clause-group : goal.returns-clause-group
-returns-clause-group c = reads_as_one group_parts rec_group_at
+returns-clause-group c = reads_as_one rec_group_parts rec_group_at
