@@ -9,10 +9,7 @@ DecidesWhether {A = A} same compare = (one other : A) → IsTrue (compare one ot
 abbrev pub DecidesSame : {A : Type 0} → (A → A → Bool) → Type 0
 DecidesSame compare = DecidesWhether (λ one other. one ≡ other) compare
 
--- What counts as a copy of a value is the value itself.
-abbrev pub CopiesSame : {A : Type 0} → (A → A → Type 0) → Type 0
-CopiesSame {A = A} is_clone = (one copy : A) → is_clone one copy → copy ≡ one
-
--- A copy can always be made.
-abbrev pub CopiesAlways : {A : Type 0} → (A → Type 0) → Type 0
-CopiesAlways {A = A} is_infallible = (one : A) → is_infallible one
+-- What counts as a copy of a value is the value itself, and a copy can always be made.
+pub record IsCopy {A : Type 0} (is_clone : A → A → Type 0) (is_infallible : A → Type 0) : Type 0 where
+  pub same : (one copy : A) → is_clone one copy → copy ≡ one
+  pub always : (one : A) → is_infallible one

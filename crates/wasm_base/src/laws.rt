@@ -2,7 +2,7 @@
 //! comparing and copying say.
 ghost use Rattle.std.specs.Hash as hashed;
 ghost use Rattle.std.specs.Prelude.{◌≡◌};
-ghost use Rattle.wasm_base.specs.Comparing.{DecidesWhether, DecidesSame, CopiesSame, CopiesAlways};
+ghost use Rattle.wasm_base.specs.Comparing.{DecidesWhether, DecidesSame, IsCopy};
 ghost use Rattle.wasm_base.specs.FaultAt.{fault_at};
 ghost use Rattle.wasm_base.specs.Features.{feature_bits};
 ghost use Rattle.wasm_base.specs.Float.{bits_of_32, bits_of_64};
@@ -150,33 +150,29 @@ pub fn equal_errors_are_the_same()
 {}
 
 /// A copy of a fault, of an error, its hint with it, of a set of features, of a float, of a reader, of a section or of an
-/// iterator over its items is the same.
+/// iterator over its items is the same, and can always be made: it takes no memory.
 pub fn copies_are_the_same<'a, T, U: Clone>()
-    ensures error { CopiesSame ⟦<Error as Clone>⟧.is_clone }
-    ensures fault { CopiesSame ⟦<Fault as Clone>⟧.is_clone }
-    ensures number_kind { CopiesSame ⟦<NumberKind as Clone>⟧.is_clone }
-    ensures lead { CopiesSame ⟦<Lead as Clone>⟧.is_clone }
-    ensures core_start { CopiesSame ⟦<CoreStart as Clone>⟧.is_clone }
-    ensures features { CopiesSame ⟦<WasmFeatures as Clone>⟧.is_clone }
-    ensures single { CopiesSame ⟦<Ieee32 as Clone>⟧.is_clone }
-    ensures double { CopiesSame ⟦<Ieee64 as Clone>⟧.is_clone }
-    ensures reader { CopiesSame ⟦<BinaryReader<'a> as Clone>⟧.is_clone }
-    ensures section { CopiesSame ⟦<SectionLimited<'a, T> as Clone>⟧.is_clone }
-    ensures items { CopiesSame ⟦<SectionLimitedIntoIter<'a, U> as Clone>⟧.is_clone }
-{}
-
-/// Faults, errors, sets of features, floats, readers, sections and iterators over their items can always be copied: it
-/// takes no memory.
-pub fn copies_are_always_made<'a, T, U: Clone>()
-    ensures error { CopiesAlways ⟦<Error as Clone>⟧.is_infallible }
-    ensures fault { CopiesAlways ⟦<Fault as Clone>⟧.is_infallible }
-    ensures number_kind { CopiesAlways ⟦<NumberKind as Clone>⟧.is_infallible }
-    ensures lead { CopiesAlways ⟦<Lead as Clone>⟧.is_infallible }
-    ensures core_start { CopiesAlways ⟦<CoreStart as Clone>⟧.is_infallible }
-    ensures features { CopiesAlways ⟦<WasmFeatures as Clone>⟧.is_infallible }
-    ensures single { CopiesAlways ⟦<Ieee32 as Clone>⟧.is_infallible }
-    ensures double { CopiesAlways ⟦<Ieee64 as Clone>⟧.is_infallible }
-    ensures reader { CopiesAlways ⟦<BinaryReader<'a> as Clone>⟧.is_infallible }
-    ensures section { CopiesAlways ⟦<SectionLimited<'a, T> as Clone>⟧.is_infallible }
-    ensures items { CopiesAlways ⟦<SectionLimitedIntoIter<'a, U> as Clone>⟧.is_infallible }
+    ensures error { IsCopy ⟦<Error as Clone>⟧.is_clone ⟦<Error as Clone>⟧.is_infallible }
+    ensures fault { IsCopy ⟦<Fault as Clone>⟧.is_clone ⟦<Fault as Clone>⟧.is_infallible }
+    ensures number_kind { IsCopy
+        ⟦<NumberKind as Clone>⟧.is_clone
+        ⟦<NumberKind as Clone>⟧.is_infallible }
+    ensures lead { IsCopy ⟦<Lead as Clone>⟧.is_clone ⟦<Lead as Clone>⟧.is_infallible }
+    ensures core_start { IsCopy
+        ⟦<CoreStart as Clone>⟧.is_clone
+        ⟦<CoreStart as Clone>⟧.is_infallible }
+    ensures features { IsCopy
+        ⟦<WasmFeatures as Clone>⟧.is_clone
+        ⟦<WasmFeatures as Clone>⟧.is_infallible }
+    ensures single { IsCopy ⟦<Ieee32 as Clone>⟧.is_clone ⟦<Ieee32 as Clone>⟧.is_infallible }
+    ensures double { IsCopy ⟦<Ieee64 as Clone>⟧.is_clone ⟦<Ieee64 as Clone>⟧.is_infallible }
+    ensures reader { IsCopy
+        ⟦<BinaryReader<'a> as Clone>⟧.is_clone
+        ⟦<BinaryReader<'a> as Clone>⟧.is_infallible }
+    ensures section { IsCopy
+        ⟦<SectionLimited<'a, T> as Clone>⟧.is_clone
+        ⟦<SectionLimited<'a, T> as Clone>⟧.is_infallible }
+    ensures items { IsCopy
+        ⟦<SectionLimitedIntoIter<'a, U> as Clone>⟧.is_clone
+        ⟦<SectionLimitedIntoIter<'a, U> as Clone>⟧.is_infallible }
 {}

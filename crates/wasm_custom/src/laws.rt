@@ -1,14 +1,11 @@
 //! What copying custom sections says.
-ghost use Rattle.wasm_base.specs.Comparing.{CopiesSame, CopiesAlways};
+ghost use Rattle.wasm_base.specs.Comparing.{IsCopy};
 
 use crate::custom::CustomSectionReader;
 
-/// A copy of a custom section is the same: its name as a text, and its window.
+/// A copy of a custom section is the same, its name as a text and its window, and can always be made.
 pub fn copies_are_the_same<'a>()
-    ensures { CopiesSame ⟦<CustomSectionReader<'a> as Clone>⟧.is_clone }
-{}
-
-/// A custom section can always be copied: it takes no memory.
-pub fn copies_are_always_made<'a>()
-    ensures { CopiesAlways ⟦<CustomSectionReader<'a> as Clone>⟧.is_infallible }
+    ensures { IsCopy
+        ⟦<CustomSectionReader<'a> as Clone>⟧.is_clone
+        ⟦<CustomSectionReader<'a> as Clone>⟧.is_infallible }
 {}

@@ -1,6 +1,6 @@
 //! What comparing and copying items says, what holds of items that were read, and of whole runs over them.
 ghost use Rattle.std.specs.Prelude.{Ok};
-ghost use Rattle.wasm_base.specs.Comparing.{DecidesWhether, DecidesSame, CopiesSame, CopiesAlways};
+ghost use Rattle.wasm_base.specs.Comparing.{DecidesWhether, DecidesSame, IsCopy};
 ghost use Rattle.wasm_base.specs.Item.{AllowsOne, Determines};
 ghost use Rattle.wasm_base.specs.Window.{Place};
 ghost use Rattle.wasm_items.specs.Announced.{ElementsAreGiven};
@@ -53,64 +53,60 @@ pub fn equal_imports_and_exports_are_the_same<'a>()
     ensures export { DecidesWhether IsSameExport ⟦<Export<'a> as PartialEq>⟧.eq }
 {}
 
-/// A copy of an item is the item itself.
+/// A copy of an item is the item itself, and can always be made: it takes no memory.
 pub fn copies_are_the_same<'a>()
-    ensures expression { CopiesSame ⟦<ConstExpr<'a> as Clone>⟧.is_clone }
-    ensures body { CopiesSame ⟦<FunctionBody<'a> as Clone>⟧.is_clone }
-    ensures imports { CopiesSame ⟦<Imports<'a> as Clone>⟧.is_clone }
-    ensures table { CopiesSame ⟦<Table<'a> as Clone>⟧.is_clone }
-    ensures table_init { CopiesSame ⟦<TableInit<'a> as Clone>⟧.is_clone }
-    ensures global { CopiesSame ⟦<Global<'a> as Clone>⟧.is_clone }
-    ensures element { CopiesSame ⟦<Element<'a> as Clone>⟧.is_clone }
-    ensures element_kind { CopiesSame ⟦<ElementKind<'a> as Clone>⟧.is_clone }
-    ensures element_items { CopiesSame ⟦<ElementItems<'a> as Clone>⟧.is_clone }
-    ensures segment { CopiesSame ⟦<Data<'a> as Clone>⟧.is_clone }
-    ensures segment_kind { CopiesSame ⟦<DataKind<'a> as Clone>⟧.is_clone }
-    ensures value { CopiesSame ⟦<ValType as Clone>⟧.is_clone }
-    ensures reference { CopiesSame ⟦<RefType as Clone>⟧.is_clone }
-    ensures heap { CopiesSame ⟦<HeapType as Clone>⟧.is_clone }
-    ensures field { CopiesSame ⟦<FieldType as Clone>⟧.is_clone }
-    ensures storage { CopiesSame ⟦<StorageType as Clone>⟧.is_clone }
-    ensures table_type { CopiesSame ⟦<TableType as Clone>⟧.is_clone }
-    ensures memory { CopiesSame ⟦<MemoryType as Clone>⟧.is_clone }
-    ensures global_type { CopiesSame ⟦<GlobalType as Clone>⟧.is_clone }
-    ensures tag { CopiesSame ⟦<TagType as Clone>⟧.is_clone }
-    ensures tag_kind { CopiesSame ⟦<TagKind as Clone>⟧.is_clone }
-    ensures external_kind { CopiesSame ⟦<ExternalKind as Clone>⟧.is_clone }
-    ensures external { CopiesSame ⟦<TypeRef as Clone>⟧.is_clone }
-    ensures import { CopiesSame ⟦<Import<'a> as Clone>⟧.is_clone }
-    ensures item { CopiesSame ⟦<ImportItemCompact<'a> as Clone>⟧.is_clone }
-    ensures export { CopiesSame ⟦<Export<'a> as Clone>⟧.is_clone }
-{}
-
-/// An item that can be copied can always be copied: it takes no memory.
-pub fn copies_are_always_made<'a>()
-    ensures expression { CopiesAlways ⟦<ConstExpr<'a> as Clone>⟧.is_infallible }
-    ensures body { CopiesAlways ⟦<FunctionBody<'a> as Clone>⟧.is_infallible }
-    ensures imports { CopiesAlways ⟦<Imports<'a> as Clone>⟧.is_infallible }
-    ensures table { CopiesAlways ⟦<Table<'a> as Clone>⟧.is_infallible }
-    ensures table_init { CopiesAlways ⟦<TableInit<'a> as Clone>⟧.is_infallible }
-    ensures global { CopiesAlways ⟦<Global<'a> as Clone>⟧.is_infallible }
-    ensures element { CopiesAlways ⟦<Element<'a> as Clone>⟧.is_infallible }
-    ensures element_kind { CopiesAlways ⟦<ElementKind<'a> as Clone>⟧.is_infallible }
-    ensures element_items { CopiesAlways ⟦<ElementItems<'a> as Clone>⟧.is_infallible }
-    ensures segment { CopiesAlways ⟦<Data<'a> as Clone>⟧.is_infallible }
-    ensures segment_kind { CopiesAlways ⟦<DataKind<'a> as Clone>⟧.is_infallible }
-    ensures value { CopiesAlways ⟦<ValType as Clone>⟧.is_infallible }
-    ensures reference { CopiesAlways ⟦<RefType as Clone>⟧.is_infallible }
-    ensures heap { CopiesAlways ⟦<HeapType as Clone>⟧.is_infallible }
-    ensures field { CopiesAlways ⟦<FieldType as Clone>⟧.is_infallible }
-    ensures storage { CopiesAlways ⟦<StorageType as Clone>⟧.is_infallible }
-    ensures table_type { CopiesAlways ⟦<TableType as Clone>⟧.is_infallible }
-    ensures memory { CopiesAlways ⟦<MemoryType as Clone>⟧.is_infallible }
-    ensures global_type { CopiesAlways ⟦<GlobalType as Clone>⟧.is_infallible }
-    ensures tag { CopiesAlways ⟦<TagType as Clone>⟧.is_infallible }
-    ensures tag_kind { CopiesAlways ⟦<TagKind as Clone>⟧.is_infallible }
-    ensures external_kind { CopiesAlways ⟦<ExternalKind as Clone>⟧.is_infallible }
-    ensures external { CopiesAlways ⟦<TypeRef as Clone>⟧.is_infallible }
-    ensures import { CopiesAlways ⟦<Import<'a> as Clone>⟧.is_infallible }
-    ensures item { CopiesAlways ⟦<ImportItemCompact<'a> as Clone>⟧.is_infallible }
-    ensures export { CopiesAlways ⟦<Export<'a> as Clone>⟧.is_infallible }
+    ensures expression { IsCopy
+        ⟦<ConstExpr<'a> as Clone>⟧.is_clone
+        ⟦<ConstExpr<'a> as Clone>⟧.is_infallible }
+    ensures body { IsCopy
+        ⟦<FunctionBody<'a> as Clone>⟧.is_clone
+        ⟦<FunctionBody<'a> as Clone>⟧.is_infallible }
+    ensures imports { IsCopy
+        ⟦<Imports<'a> as Clone>⟧.is_clone
+        ⟦<Imports<'a> as Clone>⟧.is_infallible }
+    ensures table { IsCopy ⟦<Table<'a> as Clone>⟧.is_clone ⟦<Table<'a> as Clone>⟧.is_infallible }
+    ensures table_init { IsCopy
+        ⟦<TableInit<'a> as Clone>⟧.is_clone
+        ⟦<TableInit<'a> as Clone>⟧.is_infallible }
+    ensures global { IsCopy ⟦<Global<'a> as Clone>⟧.is_clone ⟦<Global<'a> as Clone>⟧.is_infallible }
+    ensures element { IsCopy
+        ⟦<Element<'a> as Clone>⟧.is_clone
+        ⟦<Element<'a> as Clone>⟧.is_infallible }
+    ensures element_kind { IsCopy
+        ⟦<ElementKind<'a> as Clone>⟧.is_clone
+        ⟦<ElementKind<'a> as Clone>⟧.is_infallible }
+    ensures element_items { IsCopy
+        ⟦<ElementItems<'a> as Clone>⟧.is_clone
+        ⟦<ElementItems<'a> as Clone>⟧.is_infallible }
+    ensures segment { IsCopy ⟦<Data<'a> as Clone>⟧.is_clone ⟦<Data<'a> as Clone>⟧.is_infallible }
+    ensures segment_kind { IsCopy
+        ⟦<DataKind<'a> as Clone>⟧.is_clone
+        ⟦<DataKind<'a> as Clone>⟧.is_infallible }
+    ensures value { IsCopy ⟦<ValType as Clone>⟧.is_clone ⟦<ValType as Clone>⟧.is_infallible }
+    ensures reference { IsCopy ⟦<RefType as Clone>⟧.is_clone ⟦<RefType as Clone>⟧.is_infallible }
+    ensures heap { IsCopy ⟦<HeapType as Clone>⟧.is_clone ⟦<HeapType as Clone>⟧.is_infallible }
+    ensures field { IsCopy ⟦<FieldType as Clone>⟧.is_clone ⟦<FieldType as Clone>⟧.is_infallible }
+    ensures storage { IsCopy
+        ⟦<StorageType as Clone>⟧.is_clone
+        ⟦<StorageType as Clone>⟧.is_infallible }
+    ensures table_type { IsCopy
+        ⟦<TableType as Clone>⟧.is_clone
+        ⟦<TableType as Clone>⟧.is_infallible }
+    ensures memory { IsCopy ⟦<MemoryType as Clone>⟧.is_clone ⟦<MemoryType as Clone>⟧.is_infallible }
+    ensures global_type { IsCopy
+        ⟦<GlobalType as Clone>⟧.is_clone
+        ⟦<GlobalType as Clone>⟧.is_infallible }
+    ensures tag { IsCopy ⟦<TagType as Clone>⟧.is_clone ⟦<TagType as Clone>⟧.is_infallible }
+    ensures tag_kind { IsCopy ⟦<TagKind as Clone>⟧.is_clone ⟦<TagKind as Clone>⟧.is_infallible }
+    ensures external_kind { IsCopy
+        ⟦<ExternalKind as Clone>⟧.is_clone
+        ⟦<ExternalKind as Clone>⟧.is_infallible }
+    ensures external { IsCopy ⟦<TypeRef as Clone>⟧.is_clone ⟦<TypeRef as Clone>⟧.is_infallible }
+    ensures import { IsCopy ⟦<Import<'a> as Clone>⟧.is_clone ⟦<Import<'a> as Clone>⟧.is_infallible }
+    ensures item { IsCopy
+        ⟦<ImportItemCompact<'a> as Clone>⟧.is_clone
+        ⟦<ImportItemCompact<'a> as Clone>⟧.is_infallible }
+    ensures export { IsCopy ⟦<Export<'a> as Clone>⟧.is_clone ⟦<Export<'a> as Clone>⟧.is_infallible }
 {}
 
 /// Calls of `next` up to the first `None` give all the imports that are to come, in order, and nothing comes after that

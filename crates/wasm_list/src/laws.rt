@@ -1,5 +1,5 @@
 //! What comparing and copying the ends of listings says.
-ghost use Rattle.wasm_base.specs.Comparing.{DecidesWhether, DecidesSame, CopiesSame, CopiesAlways};
+ghost use Rattle.wasm_base.specs.Comparing.{DecidesWhether, DecidesSame, IsCopy};
 ghost use Rattle.std.specs.Prelude.{◌≡◌};
 ghost use Rattle.wasm_list.specs.Ends.{fault_at_end};
 
@@ -17,10 +17,9 @@ pub fn equal_ends_are_the_same()
 
 /// A copy of an end of a listing, or of a reason to give up, is the same, and can always be made.
 pub fn copies_of_ends_are_the_same()
-    ensures ended { CopiesSame ⟦<Ended as Clone>⟧.is_clone }
-    ensures list_error { CopiesSame ⟦<ListError as Clone>⟧.is_clone }
-    ensures failed { CopiesSame ⟦<Failed as Clone>⟧.is_clone }
-    ensures ended_copied { CopiesAlways ⟦<Ended as Clone>⟧.is_infallible }
-    ensures list_error_copied { CopiesAlways ⟦<ListError as Clone>⟧.is_infallible }
-    ensures failed_copied { CopiesAlways ⟦<Failed as Clone>⟧.is_infallible }
+    ensures ended { IsCopy ⟦<Ended as Clone>⟧.is_clone ⟦<Ended as Clone>⟧.is_infallible }
+    ensures list_error { IsCopy
+        ⟦<ListError as Clone>⟧.is_clone
+        ⟦<ListError as Clone>⟧.is_infallible }
+    ensures failed { IsCopy ⟦<Failed as Clone>⟧.is_clone ⟦<Failed as Clone>⟧.is_infallible }
 {}

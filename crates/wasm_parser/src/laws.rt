@@ -1,6 +1,6 @@
 //! Laws of the definitions of framing, and what comparing and copying encodings say, each the contract of a function
 //! that does nothing.
-ghost use Rattle.wasm_base.specs.Comparing.{DecidesSame, CopiesSame, CopiesAlways};
+ghost use Rattle.wasm_base.specs.Comparing.{DecidesSame, IsCopy};
 ghost use Rattle.wasm_parser.specs.Laws.{AcceptedEnds, EventsLieEndToEnd, FaultEnds, EventsSayTheirBytes, FaultLiesWithin, LongestTiling, OneReading, ParserSuffices, SomeNextEvent, SomeReading, StartOnlyMoves, TilesStandAlone};
 ghost use Rattle.wasm_parser.specs.PayloadItems.{PayloadsGiveItems};
 ghost use Rattle.wasm_parser.specs.SectionLaws.{BodiesFollowTheirCount, RanksAscend, SectionsTile};
@@ -97,8 +97,7 @@ pub fn bodies_follow_their_count()
 /// Two encodings are equal exactly if they are the same. A copy of an encoding is the same, and can always be made.
 pub fn equal_encodings_are_the_same()
     ensures equal { DecidesSame ⟦<Encoding as PartialEq>⟧.eq }
-    ensures copy { CopiesSame ⟦<Encoding as Clone>⟧.is_clone }
-    ensures copied { CopiesAlways ⟦<Encoding as Clone>⟧.is_infallible }
+    ensures copy { IsCopy ⟦<Encoding as Clone>⟧.is_clone ⟦<Encoding as Clone>⟧.is_infallible }
 {}
 
 /// Wherever a parser is in a stream, the reading of that stream has a next event.
