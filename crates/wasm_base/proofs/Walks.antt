@@ -1,10 +1,11 @@
 -- A loop over the items of a section.
-use Rattle.std.proofs.Common.{◌≡◌, ℕ, zero, suc, true, false, List, [], ◌∷◌, length, Some, Result, Ok, Err, refl, arith}
+use Rattle.std.proofs.Common.{◌<◌, Option, ◌≡◌, ℕ, zero, suc, true, false, List, [], ◌∷◌, length, Some, Result, Ok, Err, refl, arith}
 use Rattle.std.specs.Prelude.{nat_lt}
 use Rattle.std.proofs.lemmas.Bool.{lt-ltb}
 use Rattle.wasm_base.specs.FaultAt.{FaultAt, fault_at}
 use Rattle.wasm_base.specs.Outcome.{Outcome}
-use Rattle.wasm_base.specs.Section.{Items, NextItem, ReadsItem, ItemsOf, WalksTo}
+use Rattle.wasm_base.specs.Owned.{UnlessMemory}
+use Rattle.wasm_base.specs.Section.{Items, NextItem, NextItemIn, ReadsItem, ReadsEnd, ItemsOf, WalksTo}
 use Rattle.wasm_base.specs.Window.{Place, place}
 use Rattle.wasm_base.specs.declared.error.Error.{Error}
 
@@ -12,17 +13,28 @@ use Rattle.wasm_base.specs.declared.error.Error.{Error}
 pub record Walked {T : Type 0} (meaning : Place → Outcome T → Type 0) (count : ℕ) (before : Place) (left : ℕ) (now : Place) : Type 0 where
   pub whole : (end : List (Result T FaultAt)) → WalksTo meaning left now end → WalksTo meaning count before end
 
+-- what one call of `next` gives while the iterator is not over
+pub record Gives {T : Type 0} (meaning : Place → Outcome T → Type 0) (s : Items) (given : Option (Result T Error)) (t : Items) : Type 0 where
+  pub item : s.ended ≡ false → 0 < s.left → ReadsItem meaning s given t
+  pub last : s.ended ≡ false → s.left ≡ 0 → ReadsEnd s given t
+
+pub gives : {T : Type 0} {meaning : Place → Outcome T → Type 0} {s t : Items} {given : Option (Result T Error)} → NextItem meaning s given t → Gives meaning s given t
+gives next = record { item = next.item; last = next.last }
+
+pub gives_owned : {T : Type 0} {meaning : Place → Outcome T → Type 0} {s t : Items} {given : Option (Result T Error)} → NextItemIn meaning s given t → Gives (UnlessMemory meaning) s given t
+gives_owned next = record { item = next.item; last = next.last }
+
 module _ {T : Type 0} (meaning : Place → Outcome T → Type 0) where
-  -- a turn that gave an item
-  pub item_came : (s t : Items) (x : T) → s.ended ≡ false → NextItem meaning s (Some (Ok x)) t → ReadsItem meaning s (Some (Ok x)) t
+  -- a call that gave an item
+  pub item_came : (s t : Items) (x : T) → s.ended ≡ false → Gives meaning s (Some (Ok x)) t → ReadsItem meaning s (Some (Ok x)) t
   item_came s t x going next = by_left s.left refl
     where
       by_left : (n : ℕ) → s.left ≡ n → ReadsItem meaning s (Some (Ok x)) t
       by_left zero e = absurd (next.last going e)
       by_left (suc n) e = next.item going (omega (arith, e))
 
-  -- the turn that gave a fault
-  pub fault_came : (s t : Items) (e : Error) → s.ended ≡ false → NextItem meaning s (Some (Err e)) t → ItemsOf meaning s.left (place s.reader) (Err (fault_at e) ∷ [])
+  -- the call that gave a fault
+  pub fault_came : (s t : Items) (e : Error) → s.ended ≡ false → Gives meaning s (Some (Err e)) t → ItemsOf meaning s.left (place s.reader) (Err (fault_at e) ∷ [])
   fault_came s t e going next = by_left s.left refl
     where
       by_left : (n : ℕ) → s.left ≡ n → ItemsOf meaning n (place s.reader) (Err (fault_at e) ∷ [])
@@ -33,7 +45,7 @@ module _ {T : Type 0} (meaning : Place → Outcome T → Type 0) where
       by_left (suc n) k = ((next.item going (omega (arith, k))).0, refl)
 
   -- The walk goes on after an item.
-  pub after_item : (count : ℕ) (before : Place) (s t : Items) (x : T) → Walked meaning count before s.left (place s.reader) → s.ended ≡ false → NextItem meaning s (Some (Ok x)) t → (t.ended ≡ false) × Walked meaning count before t.left (place t.reader)
+  pub after_item : (count : ℕ) (before : Place) (s t : Items) (x : T) → Walked meaning count before s.left (place s.reader) → s.ended ≡ false → Gives meaning s (Some (Ok x)) t → (t.ended ≡ false) × Walked meaning count before t.left (place t.reader)
   after_item count before s t x walked going next =
       let item = item_came s t x going next in
       let k : s.left ≡ suc t.left = omega (arith, item.1) in
@@ -41,5 +53,5 @@ module _ {T : Type 0} (meaning : Place → Outcome T → Type 0) where
       (item.2, record { whole = λ end h. w.whole end (x ∷ h.0, (place t.reader, item.0, h.1)) })
 
   -- The walk ends at a fault.
-  pub at_a_fault : (count : ℕ) (before : Place) (s t : Items) (e : Error) → Walked meaning count before s.left (place s.reader) → s.ended ≡ false → NextItem meaning s (Some (Err e)) t → WalksTo meaning count before (Err (fault_at e) ∷ [])
+  pub at_a_fault : (count : ℕ) (before : Place) (s t : Items) (e : Error) → Walked meaning count before s.left (place s.reader) → s.ended ≡ false → Gives meaning s (Some (Err e)) t → WalksTo meaning count before (Err (fault_at e) ∷ [])
   at_a_fault count before s t e walked going next = walked.whole _ ([], fault_came s t e going next)

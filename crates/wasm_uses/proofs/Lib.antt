@@ -1,6 +1,7 @@
 pub mod BodySums
 pub mod ByHand
 pub mod Ending
+pub mod Importing
 pub mod Moves
 pub mod Resting
 pub mod Starting

@@ -10,7 +10,7 @@ use Rattle.wasm_base.specs.Window.{Place, place}
 use Rattle.wasm_base.specs.declared.error.Error.{Error}
 use Rattle.wasm_base.specs.declared.fault.Fault.TheVariants.{SizeMismatch}
 use Rattle.wasm_base.specs.declared.fault.NumberKind.TheVariants.{VarU32}
-use Rattle.wasm_base.proofs.Walks.{item_came, fault_came}
+use Rattle.wasm_base.proofs.Walks.{gives, item_came, fault_came}
 use Rattle.wasm_uses.specs.Totals.{total_at, plus}
 
 pub plus_twice : (m n : ℕ) (r : Result ℕ FaultAt) → plus m (plus n r) ≡ plus (m + n) r
@@ -25,7 +25,7 @@ numbers = ReadsAs (λ n. n) (unsigned_at VarU32)
 pub after_number : (all : Result ℕ FaultAt) (s t : Items) (total x : ℕ) → all ≡ plus total (total_at s.left (place s.reader)) → s.ended ≡ false → NextItem numbers s (Some (Ok x)) t
     → (t.ended ≡ false) × (t.left + 1 ≡ s.left) × (all ≡ plus (total + x) (total_at t.left (place t.reader)))
 after_number all s t total x so_far going next =
-    let item = item_came numbers s t x going next in
+    let item = item_came numbers s t x going (gives next) in
     let k : s.left ≡ suc t.left = omega (arith, item.1) in
     let now : all ≡ plus total (total_at (suc t.left) (place s.reader)) = rw k at so_far in
     let more : all ≡ plus total (plus x (total_at t.left (place t.reader))) = rw item.0 at now in
@@ -41,4 +41,4 @@ fault_total (suc left) p f h = rw h.0 refl
 
 -- the step that gave a fault
 pub at_a_fault : (all : Result ℕ FaultAt) (s t : Items) (total : ℕ) (e : Error) → all ≡ plus total (total_at s.left (place s.reader)) → s.ended ≡ false → NextItem numbers s (Some (Err e)) t → all ≡ Err (fault_at e)
-at_a_fault all s t total e so_far going next = rw (fault_total s.left (place s.reader) (fault_at e) (fault_came numbers s t e going next)) at so_far
+at_a_fault all s t total e so_far going next = rw (fault_total s.left (place s.reader) (fault_at e) (fault_came numbers s t e going (gives next))) at so_far

@@ -1,6 +1,7 @@
 pub mod Bodies
 pub mod Careless
 pub mod Feed
+pub mod Imported
 pub mod Step
 pub mod Streams
 pub mod Taken

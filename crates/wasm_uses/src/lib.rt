@@ -13,4 +13,4 @@ pub use bodies::size_of_bodies;
 pub use careless::{AnyByte, Nothing};
 pub use feeder::{Advanced, Feeder, Step};
 pub use streams::{end_of, start_of};
-pub use walks::{check, total};
+pub use walks::{check, check_in, imports_memory, total};

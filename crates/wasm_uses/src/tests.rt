@@ -4,9 +4,10 @@ mod streams;
 
 ghost use Rattle.std.specs.Prelude.{◌<◌, ◌^◌, length};
 
-use crate::{AnyByte, Nothing, check, total};
+use crate::{AnyByte, Nothing, check, check_in, imports_memory, total};
 use std::test::Fail;
-use wasm_base::{BinaryReader, Error, Fault, Result, SectionLimited};
+use wasm_base::{BinaryReader, Error, Fault, Lead, Result, SectionLimited};
+use wasm_items::RecGroup;
 
 fn section<'a, T>(bytes: &'a [u8]) -> Result<SectionLimited<'a, T>>
     requires { length bytes.now < 2 ^ 64 }
@@ -67,6 +68,45 @@ fn checks(rt: HostRuntime) -> std::result::Result<(), Fail> {
     assert_eq!(rt;
         check::<(u32, bool)>(section(&[1, 5, 2])?),
         Err(Error::new(Fault::InvalidBool, 2))
+    );
+    Ok(())
+}
+
+#[test]
+fn memories_among_imports(rt: HostRuntime) -> std::result::Result<(), Fail> {
+    assert_eq!(rt;
+        imports_memory(section(b"\x01\x01m\x01a\0\x05")?),
+        Ok(false)
+    );
+    assert_eq!(rt;
+        imports_memory(section(b"\x02\x01m\x01a\0\x05\x01m\x01b\x02\0\x01")?),
+        Ok(true)
+    );
+    assert_eq!(rt;
+        imports_memory(section(b"\x01\x01m\0\x7f\x02\x01a\0\x05\x01b\x02\0\x01")?),
+        Ok(true)
+    );
+    assert_eq!(rt;
+        imports_memory(section(b"\x01\x01m\x01a\x05")?),
+        Err(Error::new(Fault::LeadingByte(Lead::External), 5).with_number(5))
+    );
+    Ok(())
+}
+
+#[test]
+fn checks_of_types(rt: HostRuntime) -> std::result::Result<(), Fail> {
+    let alloc = rt.alloc();
+    assert_eq!(rt;
+        check_in(section::<RecGroup>(b"\x01\x60\0\0")?, alloc),
+        Ok(())
+    );
+    assert_eq!(rt;
+        check_in(section::<RecGroup>(b"\x01\x40")?, alloc),
+        Err(Error::new(Fault::LeadingByte(Lead::Composite), 1).with_number(64))
+    );
+    assert_eq!(rt;
+        check_in(section::<RecGroup>(b"\0\0")?, alloc),
+        Err(Error::new(Fault::SizeMismatch, 1))
     );
     Ok(())
 }

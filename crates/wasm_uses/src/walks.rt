@@ -1,11 +1,15 @@
 // Walks over the items of a section.
 ghost use Rattle.std.specs.Prelude.{◌≡◌, Ok, Err, MatchResult};
 ghost use Rattle.wasm_base.specs.FaultAt.{fault_at};
+ghost use Rattle.wasm_base.specs.Owned.{UnlessMemory};
 ghost use Rattle.wasm_base.specs.Section.{Walks};
 ghost use Rattle.wasm_base.specs.Window.{place};
+ghost use Rattle.wasm_uses.specs.Imported.{imports_of, memory_in};
 ghost use Rattle.wasm_uses.specs.Totals.{total_at};
 
-use wasm_base::{FromReader, Result, SectionLimited};
+use std::alloc::Global;
+use wasm_base::{FromReader, FromReaderIn, Result, SectionLimited};
+use wasm_items::{ImportSection, ImportSectionReader, TypeRef};
 
 /// Adds up the numbers of a section, or gives the first fault.
 pub fn total(numbers: SectionLimited<'_, u32>) -> Result<u64>
@@ -27,4 +31,31 @@ pub fn check<'a, T: FromReader<'a>>(section: SectionLimited<'a, T>) -> Result<()
         let _ = item?;
     }
     Ok(())
+}
+
+/// The same of items that own lists, as types do: these grow by the allocator, and a growth that is refused ends the walk
+/// with `OutOfMemory`.
+pub fn check_in<'a, T: FromReaderIn<'a>>(
+    section: SectionLimited<'a, T>,
+    alloc: Global,
+) -> Result<()>
+    ensures { Walks (UnlessMemory T.meaning) section.entry.count (place section.entry.reader) result }
+{
+    for one in section.into_iter_in(alloc) {
+        let _ = one?;
+    }
+    Ok(())
+}
+
+/// Whether a module imports a memory, alone or in a group; or the first fault before one.
+pub fn imports_memory(section: ImportSectionReader<'_>) -> Result<bool>
+    ensures { let found = memory_in (imports_of section.entry) in
+        MatchResult result (λ some. found ≡ Ok some) (λ e. found ≡ Err (fault_at e)) }
+{
+    for import in section.into_imports() {
+        if let TypeRef::Memory(_) = import?.ty {
+            return Ok(true);
+        }
+    }
+    Ok(false)
 }
