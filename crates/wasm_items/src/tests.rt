@@ -1,8 +1,13 @@
 // Items as values.
 mod aliases;
+mod expressions;
 mod groups;
+mod imports;
 mod lines;
+mod reading;
+mod sections;
 mod segments;
+mod types;
 mod values;
 mod windows;
 
