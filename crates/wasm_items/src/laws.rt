@@ -170,10 +170,13 @@ pub fn elements_that_were_read_are_given<'a>()
 
 /// Segments and types allow one outcome. An element segment and a field are determined by it.
 pub fn segments_and_types_allow_one_outcome<'a>()
-    ensures element { AllowsOne ⟦<Element<'a> as FromReader<'a>>⟧.meaning × Determines ⟦<Element<'a> as FromReader<'a>>⟧.meaning }
+    ensures element { AllowsOne ⟦<Element<'a> as FromReader<'a>>⟧.meaning ×
+        Determines ⟦<Element<'a> as FromReader<'a>>⟧.meaning }
     ensures segment { AllowsOne ⟦<Data<'a> as FromReader<'a>>⟧.meaning }
-    ensures storage { AllowsOne ⟦<StorageType as FromReader<'a>>⟧.meaning × Determines ⟦<StorageType as FromReader<'a>>⟧.meaning }
-    ensures field { AllowsOne ⟦<FieldType as FromReader<'a>>⟧.meaning × Determines ⟦<FieldType as FromReader<'a>>⟧.meaning }
+    ensures storage { AllowsOne ⟦<StorageType as FromReader<'a>>⟧.meaning ×
+        Determines ⟦<StorageType as FromReader<'a>>⟧.meaning }
+    ensures field { AllowsOne ⟦<FieldType as FromReader<'a>>⟧.meaning ×
+        Determines ⟦<FieldType as FromReader<'a>>⟧.meaning }
     ensures function { AllowsOne ⟦<FuncType as FromReaderIn<'a>>⟧.meaning }
     ensures composite { AllowsOne ⟦<CompositeType as FromReaderIn<'a>>⟧.meaning }
     ensures subtype { AllowsOne ⟦<SubType as FromReaderIn<'a>>⟧.meaning }
