@@ -34,9 +34,9 @@ use std::ops::Range;
 
 /// A window of the stream, and a place in it.
 ///
-/// Each read moves the place after what it read. After a fault of `read_bytes`, `read_u8`, `read_u32` or `read_var_u32`
-/// the place is where it was; after that of another read it lies in the window, and not before where it was. Offsets
-/// count bytes from the start of the whole stream.
+/// Each read moves the place after what it read. After a fault of `read_bytes`, `read_u8`, `read_u32`, of a number in LEB128
+/// or of a float the place is where it was; after that of another read it lies in the window, and not before where it was.
+/// Offsets count bytes from the start of the whole stream.
 ///
 /// Where bytes are missing, the error's `needed_hint` says how many: 1 in a number. No other fault of a read has one.
 #[derive(Debug, Drop)]
@@ -508,7 +508,8 @@ impl<'a> BinaryReader<'a> {
     ) -> Result<BinaryReader<'a>>
         requires callable { F.IsAlwaysCallable f }
         requires forward { NeverGoesBack (λ old given new. FnOnceReturnsAtMut F.FnOnce f old given new) }
-        ensures passes { PassesOver (λ old given new. FnOnceReturnsAtMut F.FnOnce f old given new) self.old result self.new }
+        ensures passes { PassesOver (λ old given new. FnOnceReturnsAtMut F.FnOnce f old given new)
+            self.old result self.new }
         ensures keeps { KeepsWindow self.old self.new }
     {
         let before = self.clone().unwrap();

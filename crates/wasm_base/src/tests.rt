@@ -1,7 +1,10 @@
 // Worked examples, and each public call once.
 mod hints;
 mod limits;
+mod numbers;
+mod owned;
 mod sections;
+mod skips;
 mod texts;
 
 use crate::{BinaryReader, CoreStart, Error, Fault, Lead, NumberKind, WasmFeatures, fits};

@@ -27,7 +27,7 @@ value_storage_at p = do
   value ← val_type_at p
   Ok (Val value.0, value.1)
 
--- what a field holds: 0x78 for 8 bits, 0x77 for 16, or a value type (Storage Types)
+-- what a field holds: 0x78 for 8 bits, 0x77 for 16, or a value type (Composite Types)
 unfoldable pub storage_type_at : Place → Outcome StorageType
 storage_type_at p = do
   first ← peeked_byte_at p
@@ -47,7 +47,7 @@ mutability_at p = do
   byte ← byte_at p
   mutability_of byte.0 p.offset byte.1
 
--- a field: what it holds, and whether it can be changed (Field Types)
+-- a field: what it holds, and whether it can be changed (Composite Types)
 unfoldable pub field_type_at : Place → Outcome FieldType
 field_type_at p = do
   storage ← storage_type_at p
@@ -62,7 +62,7 @@ pub record FunctionParts : Type 0 where
 abbrev pub function_parts : FuncType → FunctionParts
 function_parts function = record { params = function.params.items; results = function.results.items }
 
--- the type of a function: its parameters, and its results (Function Types)
+-- the type of a function: the list of its parameters, and that of its results (Composite Types)
 unfoldable pub func_type_at : Place → Outcome FunctionParts
 func_type_at p = do
   params ← list_at val_type_at p

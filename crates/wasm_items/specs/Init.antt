@@ -1,6 +1,6 @@
 -- Constant expressions. Core specification, Binary format, Instructions, Expressions, with the instructions of Validation,
 -- Instructions, Constant Expressions.
-use Rattle.std.specs.Prelude.{ℕ, zero, suc, ◌==◌, List, [], ◌∷◌, length, Option, Some, None, Ok, Err, if◌then◌else◌}
+use Rattle.std.specs.Prelude.{◌≡◌, ℕ, zero, suc, ◌==◌, List, [], ◌∷◌, length, Option, Some, None, Ok, Err, if◌then◌else◌}
 use Rattle.wasm_base.specs.FaultAt.{at_offset}
 use Rattle.wasm_base.specs.Name.{bytes_at, byte_at}
 use Rattle.wasm_base.specs.Number.{unsigned_at}
@@ -116,3 +116,7 @@ unfoldable pub expression_at : Place → Outcome Window
 expression_at p = do
   end ← end_of_expression p
   Ok (window_between p end.1, end.1)
+
+-- An expression is the end, or an instruction and then an expression.
+abbrev pub IsEndOrInstruction : Place → Type 0
+IsEndOrInstruction p = end_of_expression p ≡ (byte_at p >>= λ opcode. if opcode.0 == 0x0B then Ok (tt, opcode.1) else (after_opcode p.offset opcode.0 opcode.1 >>= λ instruction. end_of_expression instruction.1))

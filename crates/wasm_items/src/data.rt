@@ -41,7 +41,8 @@ pub enum DataKind<'a> {
 // What becomes of a segment, by its flags.
 #[tactic(auto, unfolding(crate::specs::Data::data_kind_at))]
 fn read_kind<'a>(reader: &mut BinaryReader<'a>) -> Result<DataKind<'a>>
-    ensures gives { Gives (λ kind. kind) result (place reader.new) (data_kind_at (place reader.old)) }
+    ensures gives { Gives (λ kind. kind)
+        result (place reader.new) (data_kind_at (place reader.old)) }
     ensures keeps { KeepsWindow reader.old reader.new }
     ensures memory { TakesNoMemory result }
 {

@@ -58,7 +58,8 @@ pub enum ElementItems<'a> {
 // The flags of a segment.
 #[tactic(auto, unfolding(crate::specs::Elements::element_flags_at))]
 fn read_flags(reader: &mut BinaryReader<'_>) -> Result<u8>
-    ensures gives { Gives (λ flags. flags) result (place reader.new) (element_flags_at (place reader.old)) }
+    ensures gives { Gives (λ flags. flags)
+        result (place reader.new) (element_flags_at (place reader.old)) }
     ensures keeps { KeepsWindow reader.old reader.new }
     ensures memory { TakesNoMemory result }
 {
@@ -72,7 +73,8 @@ fn read_flags(reader: &mut BinaryReader<'_>) -> Result<u8>
 // What becomes of a segment with these flags.
 #[tactic(auto, unfolding(crate::specs::Elements::element_kind_at))]
 fn read_kind<'a>(flags: u8, reader: &mut BinaryReader<'a>) -> Result<ElementKind<'a>>
-    ensures gives { Gives (λ kind. kind) result (place reader.new) (element_kind_at flags (place reader.old)) }
+    ensures gives { Gives (λ kind. kind)
+        result (place reader.new) (element_kind_at flags (place reader.old)) }
     ensures keeps { KeepsWindow reader.old reader.new }
     ensures memory { TakesNoMemory result }
 {
@@ -104,7 +106,8 @@ fn is_typed(flags: u8) -> bool
 // Passes over the kind of the elements, where it is written.
 #[tactic(auto, unfolding(crate::specs::Elements::element_kind_passed_at))]
 fn pass_kind(flags: u8, reader: &mut BinaryReader<'_>) -> Result<()>
-    ensures gives { Gives (λ nothing. nothing) result (place reader.new) (after_element_kind flags (place reader.old)) }
+    ensures gives { Gives (λ nothing. nothing)
+        result (place reader.new) (after_element_kind flags (place reader.old)) }
     ensures keeps { KeepsWindow reader.old reader.new }
     ensures memory { TakesNoMemory result }
 {
@@ -121,7 +124,8 @@ fn pass_kind(flags: u8, reader: &mut BinaryReader<'_>) -> Result<()>
 // Passes over an index.
 #[tactic(auto, unfolding(crate::specs::Elements::passed_index_at))]
 fn pass_index(reader: &mut BinaryReader<'_>) -> Result<()>
-    ensures gives { Gives (λ nothing. nothing) result (place reader.new) (passed_index_at (place reader.old)) }
+    ensures gives { Gives (λ nothing. nothing)
+        result (place reader.new) (passed_index_at (place reader.old)) }
     ensures keeps { KeepsWindow reader.old reader.new }
     ensures memory { TakesNoMemory result }
 {
@@ -131,7 +135,8 @@ fn pass_index(reader: &mut BinaryReader<'_>) -> Result<()>
 
 // Passes over so many indices.
 fn pass_indices(count: u32, reader: &mut BinaryReader<'_>) -> Result<()>
-    ensures gives { Gives (λ nothing. nothing) result (place reader.new) (all_passed_at passed_index_at count (place reader.old)) }
+    ensures gives { Gives (λ nothing. nothing)
+        result (place reader.new) (all_passed_at passed_index_at count (place reader.old)) }
     ensures keeps { KeepsWindow reader.old reader.new }
     ensures memory { TakesNoMemory result }
 {
@@ -143,7 +148,8 @@ fn pass_indices(count: u32, reader: &mut BinaryReader<'_>) -> Result<()>
 
 // Passes over so many expressions.
 fn pass_expressions(count: u32, reader: &mut BinaryReader<'_>) -> Result<()>
-    ensures gives { Gives (λ nothing. nothing) result (place reader.new) (all_passed_at end_of_expression count (place reader.old)) }
+    ensures gives { Gives (λ nothing. nothing)
+        result (place reader.new) (all_passed_at end_of_expression count (place reader.old)) }
     ensures keeps { KeepsWindow reader.old reader.new }
     ensures memory { TakesNoMemory result }
 {
@@ -156,7 +162,8 @@ fn pass_expressions(count: u32, reader: &mut BinaryReader<'_>) -> Result<()>
 // A list of indices, as a window.
 #[tactic(auto, unfolding(crate::specs::Inner::inner_section_at))]
 fn read_indices<'a>(reader: &mut BinaryReader<'a>) -> Result<SectionLimited<'a, u32>>
-    ensures gives { Gives (λ section. section) result (place reader.new) (inner_section_at passed_index_at (place reader.old)) }
+    ensures gives { Gives (λ section. section)
+        result (place reader.new) (inner_section_at passed_index_at (place reader.old)) }
     ensures keeps { KeepsWindow reader.old reader.new }
     ensures memory { TakesNoMemory result }
 {
@@ -169,7 +176,8 @@ fn read_indices<'a>(reader: &mut BinaryReader<'a>) -> Result<SectionLimited<'a, 
 // A list of expressions, as a window.
 #[tactic(auto, unfolding(crate::specs::Inner::inner_section_at))]
 fn read_expressions<'a>(reader: &mut BinaryReader<'a>) -> Result<SectionLimited<'a, ConstExpr<'a>>>
-    ensures gives { Gives (λ section. section) result (place reader.new) (inner_section_at end_of_expression (place reader.old)) }
+    ensures gives { Gives (λ section. section)
+        result (place reader.new) (inner_section_at end_of_expression (place reader.old)) }
     ensures keeps { KeepsWindow reader.old reader.new }
     ensures memory { TakesNoMemory result }
 {
@@ -182,7 +190,8 @@ fn read_expressions<'a>(reader: &mut BinaryReader<'a>) -> Result<SectionLimited<
 // Elements that are functions.
 #[tactic(auto, unfolding(crate::specs::Elements::function_elements_at))]
 fn read_functions<'a>(flags: u8, reader: &mut BinaryReader<'a>) -> Result<ElementItems<'a>>
-    ensures gives { Gives (λ items. items) result (place reader.new) (function_elements_at flags (place reader.old)) }
+    ensures gives { Gives (λ items. items)
+        result (place reader.new) (function_elements_at flags (place reader.old)) }
     ensures keeps { KeepsWindow reader.old reader.new }
     ensures memory { TakesNoMemory result }
 {
@@ -192,7 +201,8 @@ fn read_functions<'a>(flags: u8, reader: &mut BinaryReader<'a>) -> Result<Elemen
 
 // The type of the elements, where it is written.
 fn read_type(flags: u8, reader: &mut BinaryReader<'_>) -> Result<RefType>
-    ensures gives { Gives (λ ty. ty) result (place reader.new) (element_type_at flags (place reader.old)) }
+    ensures gives { Gives (λ ty. ty)
+        result (place reader.new) (element_type_at flags (place reader.old)) }
     ensures keeps { KeepsWindow reader.old reader.new }
     ensures memory { TakesNoMemory result }
 {
@@ -206,7 +216,8 @@ fn read_type(flags: u8, reader: &mut BinaryReader<'_>) -> Result<RefType>
 // Elements that are expressions.
 #[tactic(auto, unfolding(crate::specs::Elements::expression_elements_at))]
 fn read_typed<'a>(flags: u8, reader: &mut BinaryReader<'a>) -> Result<ElementItems<'a>>
-    ensures gives { Gives (λ items. items) result (place reader.new) (expression_elements_at flags (place reader.old)) }
+    ensures gives { Gives (λ items. items)
+        result (place reader.new) (expression_elements_at flags (place reader.old)) }
     ensures keeps { KeepsWindow reader.old reader.new }
     ensures memory { TakesNoMemory result }
 {

@@ -136,7 +136,8 @@ fn next_import<'a>(
     group: &mut ImportsIter<'a>,
     groups: &mut SectionLimitedIntoIter<'a, Imports<'a>>,
 ) -> Option<Result<(u64, Import<'a>)>>
-    ensures { GivesFirst found_at (group.old ++ imports_of_groups groups.old) result (group.new ++ imports_of_groups groups.new) }
+    ensures { GivesFirst found_at (group.old ++ imports_of_groups groups.old) result
+        (group.new ++ imports_of_groups groups.new) }
 {
     'left: loop {
         if let Some(import) = group.next() {

@@ -40,7 +40,8 @@ impl<'a> FromReader<'a> for StorageType {
 // Whether a field can be changed.
 #[tactic(auto, unfolding(crate::specs::Groups::mutability_at))]
 fn read_mutability(reader: &mut BinaryReader<'_>) -> Result<bool>
-    ensures gives { Gives (λ mutable. mutable) result (place reader.new) (mutability_at (place reader.old)) }
+    ensures gives { Gives (λ mutable. mutable)
+        result (place reader.new) (mutability_at (place reader.old)) }
     ensures keeps { KeepsWindow reader.old reader.new }
     ensures memory { TakesNoMemory result }
 {
@@ -68,7 +69,8 @@ impl<'a> FromReader<'a> for FieldType {
 
 // A list of value types.
 fn read_val_types(alloc: Global, reader: &mut BinaryReader<'_>) -> Result<Vec<ValType>>
-    ensures gives { GivesUnlessMemory (λ types. types.items) result (place reader.new) (list_at val_type_at (place reader.old)) }
+    ensures gives { GivesUnlessMemory (λ types. types.items)
+        result (place reader.new) (list_at val_type_at (place reader.old)) }
     ensures keeps { KeepsWindow reader.old reader.new }
 {
     read_list(alloc, reader)
@@ -76,7 +78,8 @@ fn read_val_types(alloc: Global, reader: &mut BinaryReader<'_>) -> Result<Vec<Va
 
 // A list of fields.
 fn read_fields(alloc: Global, reader: &mut BinaryReader<'_>) -> Result<Vec<FieldType>>
-    ensures gives { GivesUnlessMemory (λ fields. fields.items) result (place reader.new) (list_at field_type_at (place reader.old)) }
+    ensures gives { GivesUnlessMemory (λ fields. fields.items)
+        result (place reader.new) (list_at field_type_at (place reader.old)) }
     ensures keeps { KeepsWindow reader.old reader.new }
 {
     read_list(alloc, reader)
@@ -84,7 +87,8 @@ fn read_fields(alloc: Global, reader: &mut BinaryReader<'_>) -> Result<Vec<Field
 
 // A list of subtypes.
 fn read_subtypes(alloc: Global, reader: &mut BinaryReader<'_>) -> Result<Vec<SubType>>
-    ensures gives { GivesUnlessMemory (λ types. map subtype_parts types.items) result (place reader.new) (list_at subtype_at (place reader.old)) }
+    ensures gives { GivesUnlessMemory (λ types. map subtype_parts types.items)
+        result (place reader.new) (list_at subtype_at (place reader.old)) }
     ensures keeps { KeepsWindow reader.old reader.new }
 {
     read_list_in(alloc, reader)
@@ -127,7 +131,8 @@ impl<'a> FromReaderIn<'a> for CompositeType {
 // The supertypes of a subtype, of which there is one at most.
 #[tactic(auto, unfolding(crate::specs::Groups::supertypes_at))]
 fn read_supertype(reader: &mut BinaryReader<'_>) -> Result<Option<u32>>
-    ensures gives { Gives (λ supertype. supertype) result (place reader.new) (supertypes_at (place reader.old)) }
+    ensures gives { Gives (λ supertype. supertype)
+        result (place reader.new) (supertypes_at (place reader.old)) }
     ensures keeps { KeepsWindow reader.old reader.new }
     ensures memory { TakesNoMemory result }
 {
@@ -142,7 +147,8 @@ fn read_supertype(reader: &mut BinaryReader<'_>) -> Result<Option<u32>>
 // A subtype after its first byte.
 #[tactic(auto, unfolding(crate::specs::Groups::extending_at))]
 fn read_extending(alloc: Global, is_final: bool, reader: &mut BinaryReader<'_>) -> Result<SubType>
-    ensures gives { GivesUnlessMemory subtype_parts result (place reader.new) (extending_at is_final (place reader.old)) }
+    ensures gives { GivesUnlessMemory subtype_parts
+        result (place reader.new) (extending_at is_final (place reader.old)) }
     ensures keeps { KeepsWindow reader.old reader.new }
 {
     let supertype = read_supertype(reader)?;

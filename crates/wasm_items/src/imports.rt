@@ -159,7 +159,8 @@ fn has_groups(reader: &BinaryReader<'_>) -> bool
 // Passes over an import of a group, whose name is not looked at.
 #[tactic(auto, unfolding(crate::specs::Imports::passed_item_at))]
 fn pass_item(reader: &mut BinaryReader<'_>) -> Result<()>
-    ensures gives { Gives (λ nothing. nothing) result (place reader.new) (passed_item_at (place reader.old)) }
+    ensures gives { Gives (λ nothing. nothing) result (place reader.new)
+        (passed_item_at (place reader.old)) }
     ensures keeps { KeepsWindow reader.old reader.new }
     ensures memory { TakesNoMemory result }
 {
@@ -169,7 +170,8 @@ fn pass_item(reader: &mut BinaryReader<'_>) -> Result<()>
 }
 
 fn pass_items(count: u32, reader: &mut BinaryReader<'_>) -> Result<()>
-    ensures gives { Gives (λ nothing. nothing) result (place reader.new) (all_passed_at passed_item_at count (place reader.old)) }
+    ensures gives { Gives (λ nothing. nothing) result (place reader.new)
+        (all_passed_at passed_item_at count (place reader.old)) }
     ensures keeps { KeepsWindow reader.old reader.new }
     ensures memory { TakesNoMemory result }
 {
@@ -180,7 +182,8 @@ fn pass_items(count: u32, reader: &mut BinaryReader<'_>) -> Result<()>
 }
 
 fn pass_names(count: u32, reader: &mut BinaryReader<'_>) -> Result<()>
-    ensures gives { Gives (λ nothing. nothing) result (place reader.new) (all_passed_at skipped_name_at count (place reader.old)) }
+    ensures gives { Gives (λ nothing. nothing) result (place reader.new)
+        (all_passed_at skipped_name_at count (place reader.old)) }
     ensures keeps { KeepsWindow reader.old reader.new }
     ensures memory { TakesNoMemory result }
 {
@@ -195,7 +198,8 @@ fn pass_names(count: u32, reader: &mut BinaryReader<'_>) -> Result<()>
 fn read_items<'a>(
     reader: &mut BinaryReader<'a>,
 ) -> Result<SectionLimited<'a, ImportItemCompact<'a>>>
-    ensures gives { Gives (λ section. section) result (place reader.new) (inner_section_at passed_item_at (place reader.old)) }
+    ensures gives { Gives (λ section. section) result (place reader.new)
+        (inner_section_at passed_item_at (place reader.old)) }
     ensures keeps { KeepsWindow reader.old reader.new }
     ensures memory { TakesNoMemory result }
 {
@@ -208,7 +212,8 @@ fn read_items<'a>(
 // A count and so many names.
 #[tactic(auto, unfolding(crate::specs::Inner::inner_section_at))]
 fn read_names<'a>(reader: &mut BinaryReader<'a>) -> Result<SectionLimited<'a, &'a str>>
-    ensures gives { Gives (λ section. section) result (place reader.new) (inner_section_at skipped_name_at (place reader.old)) }
+    ensures gives { Gives (λ section. section) result (place reader.new)
+        (inner_section_at skipped_name_at (place reader.old)) }
     ensures keeps { KeepsWindow reader.old reader.new }
     ensures memory { TakesNoMemory result }
 {
@@ -221,7 +226,8 @@ fn read_names<'a>(reader: &mut BinaryReader<'a>) -> Result<SectionLimited<'a, &'
 // Imports of one module, after the byte of such a group.
 #[tactic(auto, unfolding(crate::specs::Imports::module_group_at))]
 fn read_module_group<'a>(module: &'a str, reader: &mut BinaryReader<'a>) -> Result<Imports<'a>>
-    ensures gives { Gives group_parts result (place reader.new) (module_group_at «module».now (place reader.old)) }
+    ensures gives { Gives group_parts result (place reader.new)
+        (module_group_at «module».now (place reader.old)) }
     ensures keeps { KeepsWindow reader.old reader.new }
     ensures memory { TakesNoMemory result }
 {
@@ -232,7 +238,8 @@ fn read_module_group<'a>(module: &'a str, reader: &mut BinaryReader<'a>) -> Resu
 // Imports of one module and one type, after the byte of such a group.
 #[tactic(auto, unfolding(crate::specs::Imports::type_group_at))]
 fn read_type_group<'a>(module: &'a str, reader: &mut BinaryReader<'a>) -> Result<Imports<'a>>
-    ensures gives { Gives group_parts result (place reader.new) (type_group_at «module».now (place reader.old)) }
+    ensures gives { Gives group_parts result (place reader.new)
+        (type_group_at «module».now (place reader.old)) }
     ensures keeps { KeepsWindow reader.old reader.new }
     ensures memory { TakesNoMemory result }
 {

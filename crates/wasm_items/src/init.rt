@@ -46,7 +46,8 @@ impl<'a> ConstExpr<'a> {
 // Passes over what an instruction, which begins at this offset, has after its opcode.
 #[tactic(auto, unfolding(crate::specs::Init::after_opcode))]
 fn pass_operands(start: u64, opcode: u8, reader: &mut BinaryReader<'_>) -> Result<()>
-    ensures gives { Gives (λ nothing. nothing) result (place reader.new) (after_opcode start opcode (place reader.old)) }
+    ensures gives { Gives (λ nothing. nothing) result (place reader.new)
+        (after_opcode start opcode (place reader.old)) }
     ensures keeps { KeepsWindow reader.old reader.new }
     ensures memory { TakesNoMemory result }
 {
@@ -79,7 +80,8 @@ fn pass_operands(start: u64, opcode: u8, reader: &mut BinaryReader<'_>) -> Resul
 
 // The same where the opcode is that of structures, arrays and references, and a number follows.
 fn pass_aggregate_operands(start: u64, reader: &mut BinaryReader<'_>) -> Result<()>
-    ensures gives { Gives (λ nothing. nothing) result (place reader.new) (numbered_operands_at start aggregate_operands_of (place reader.old)) }
+    ensures gives { Gives (λ nothing. nothing) result (place reader.new)
+        (numbered_operands_at start aggregate_operands_of (place reader.old)) }
     ensures keeps { KeepsWindow reader.old reader.new }
     ensures memory { TakesNoMemory result }
 {
@@ -99,7 +101,8 @@ fn pass_aggregate_operands(start: u64, reader: &mut BinaryReader<'_>) -> Result<
 
 // The same where the opcode is that of vectors, and a number follows.
 fn pass_vector_operands(start: u64, reader: &mut BinaryReader<'_>) -> Result<()>
-    ensures gives { Gives (λ nothing. nothing) result (place reader.new) (numbered_operands_at start vector_operands_of (place reader.old)) }
+    ensures gives { Gives (λ nothing. nothing) result (place reader.new)
+        (numbered_operands_at start vector_operands_of (place reader.old)) }
     ensures keeps { KeepsWindow reader.old reader.new }
     ensures memory { TakesNoMemory result }
 {
@@ -112,7 +115,8 @@ fn pass_vector_operands(start: u64, reader: &mut BinaryReader<'_>) -> Result<()>
 
 /// Passes over instructions up to the end, which is passed too.
 pub(crate) fn pass_expression(reader: &mut BinaryReader<'_>) -> Result<()>
-    ensures gives { Gives (λ nothing. nothing) result (place reader.new) (end_of_expression (place reader.old)) }
+    ensures gives { Gives (λ nothing. nothing) result (place reader.new)
+        (end_of_expression (place reader.old)) }
     ensures keeps { KeepsWindow reader.old reader.new }
     ensures memory { TakesNoMemory result }
 {

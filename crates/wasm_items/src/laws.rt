@@ -5,6 +5,7 @@ ghost use Rattle.wasm_base.specs.Item.{AllowsOne, Determines};
 ghost use Rattle.wasm_base.specs.Window.{Place};
 ghost use Rattle.wasm_items.specs.Announced.{ElementsAreGiven};
 ghost use Rattle.wasm_items.specs.Flattened.{GivesAll, found_at, found};
+ghost use Rattle.wasm_items.specs.Init.{IsEndOrInstruction};
 ghost use Rattle.wasm_items.specs.Same.{IsSameImport, IsSameItem, IsSameExport, IsSameFunction, IsSameComposite, IsSameSubtype, IsSameGroup};
 
 use crate::code::FunctionBody;
@@ -134,6 +135,24 @@ pub fn items_allow_one_outcome<'a>()
     ensures value { AllowsOne ⟦<ValType as FromReader<'a>>⟧.meaning }
     ensures reference { AllowsOne ⟦<RefType as FromReader<'a>>⟧.meaning }
     ensures heap { AllowsOne ⟦<HeapType as FromReader<'a>>⟧.meaning }
+    ensures table_type { AllowsOne ⟦<TableType as FromReader<'a>>⟧.meaning }
+    ensures global_type { AllowsOne ⟦<GlobalType as FromReader<'a>>⟧.meaning }
+{}
+
+/// Each of these items is determined by its bytes, so the iterators over a section of them, and clones of these, give equal
+/// items.
+pub fn items_are_determined<'a>()
+    ensures kind { Determines ⟦<ExternalKind as FromReader<'a>>⟧.meaning }
+    ensures external { Determines ⟦<TypeRef as FromReader<'a>>⟧.meaning }
+    ensures table { Determines ⟦<Table<'a> as FromReader<'a>>⟧.meaning }
+    ensures memory { Determines ⟦<MemoryType as FromReader<'a>>⟧.meaning }
+    ensures tag { Determines ⟦<TagType as FromReader<'a>>⟧.meaning }
+    ensures global { Determines ⟦<Global<'a> as FromReader<'a>>⟧.meaning }
+    ensures value { Determines ⟦<ValType as FromReader<'a>>⟧.meaning }
+    ensures reference { Determines ⟦<RefType as FromReader<'a>>⟧.meaning }
+    ensures heap { Determines ⟦<HeapType as FromReader<'a>>⟧.meaning }
+    ensures table_type { Determines ⟦<TableType as FromReader<'a>>⟧.meaning }
+    ensures global_type { Determines ⟦<GlobalType as FromReader<'a>>⟧.meaning }
 {}
 
 /// The elements of a segment that was read are the announced ones: an iterator over them gives so many, and no fault.
@@ -147,12 +166,21 @@ pub fn elements_that_were_read_are_given<'a>()
 
 /// Segments and types allow one outcome. An element segment and a field are determined by it.
 pub fn segments_and_types_allow_one_outcome<'a>()
-    ensures element { AllowsOne ⟦<Element<'a> as FromReader<'a>>⟧.meaning × Determines ⟦<Element<'a> as FromReader<'a>>⟧.meaning }
+    ensures element { AllowsOne ⟦<Element<'a> as FromReader<'a>>⟧.meaning ×
+        Determines ⟦<Element<'a> as FromReader<'a>>⟧.meaning }
     ensures segment { AllowsOne ⟦<Data<'a> as FromReader<'a>>⟧.meaning }
-    ensures storage { AllowsOne ⟦<StorageType as FromReader<'a>>⟧.meaning × Determines ⟦<StorageType as FromReader<'a>>⟧.meaning }
-    ensures field { AllowsOne ⟦<FieldType as FromReader<'a>>⟧.meaning × Determines ⟦<FieldType as FromReader<'a>>⟧.meaning }
+    ensures storage { AllowsOne ⟦<StorageType as FromReader<'a>>⟧.meaning ×
+        Determines ⟦<StorageType as FromReader<'a>>⟧.meaning }
+    ensures field { AllowsOne ⟦<FieldType as FromReader<'a>>⟧.meaning ×
+        Determines ⟦<FieldType as FromReader<'a>>⟧.meaning }
     ensures function { AllowsOne ⟦<FuncType as FromReaderIn<'a>>⟧.meaning }
     ensures composite { AllowsOne ⟦<CompositeType as FromReaderIn<'a>>⟧.meaning }
     ensures subtype { AllowsOne ⟦<SubType as FromReaderIn<'a>>⟧.meaning }
     ensures group { AllowsOne ⟦<RecGroup as FromReaderIn<'a>>⟧.meaning }
+{}
+
+/// A constant expression is the end, or an instruction and then an expression: its definition, which counts instructions,
+/// sets no limit on how many there are.
+pub fn expressions_are_instructions_and_the_end()
+    ensures { (p : Place) → IsEndOrInstruction p }
 {}

@@ -1,5 +1,5 @@
 //! The items of a module's sections: types, imports, tables, memories, tags, globals, exports, segments, constant
-//! expressions and bodies of functions. Only their shapes are here, not how they are read.
+//! expressions and bodies of functions, and how each is read.
 #![tactic(auto)]
 
 mod code;

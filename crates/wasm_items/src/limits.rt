@@ -54,7 +54,8 @@ fn read_maximum(flags: u8, reader: &mut BinaryReader<'_>) -> Result<Option<u64>>
 /// Reads limits after their flags.
 #[tactic(auto, unfolding(crate::specs::Limits::limits_at))]
 pub(crate) fn read_limits(flags: u8, reader: &mut BinaryReader<'_>) -> Result<Limits>
-    ensures gives { Gives (λ limits. limits) result (place reader.new) (limits_at flags (place reader.old)) }
+    ensures gives { Gives (λ limits. limits) result (place reader.new)
+        (limits_at flags (place reader.old)) }
     ensures keeps { KeepsWindow reader.old reader.new }
     ensures memory { TakesNoMemory result }
 {

@@ -16,7 +16,8 @@ pub type MemorySectionReader<'a> = SectionLimited<'a, MemoryType>;
 // The size of a page, which a flag says is there, in a memory type that begins at this offset.
 #[tactic(auto, unfolding(crate::specs::Memories::page_size_at))]
 fn read_page_size(start: u64, flags: u8, reader: &mut BinaryReader<'_>) -> Result<Option<u32>>
-    ensures gives { Gives (λ size. size) result (place reader.new) (page_size_at start flags (place reader.old)) }
+    ensures gives { Gives (λ size. size) result (place reader.new)
+        (page_size_at start flags (place reader.old)) }
     ensures keeps { KeepsWindow reader.old reader.new }
     ensures memory { TakesNoMemory result }
 {

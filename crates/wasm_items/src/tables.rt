@@ -62,7 +62,8 @@ impl<'a> FromReader<'a> for TableType {
 // A table with an expression, after its first byte.
 #[tactic(auto, unfolding(crate::specs::Tables::filled_table_at))]
 fn read_filled<'a>(reader: &mut BinaryReader<'a>) -> Result<Table<'a>>
-    ensures gives { Gives (λ table. table) result (place reader.new) (filled_table_at (place reader.old)) }
+    ensures gives { Gives (λ table. table) result (place reader.new)
+        (filled_table_at (place reader.old)) }
     ensures keeps { KeepsWindow reader.old reader.new }
     ensures memory { TakesNoMemory result }
 {

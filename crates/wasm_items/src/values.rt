@@ -58,7 +58,8 @@ impl<'a> FromReader<'a> for HeapType {
 // A reference type. Another first byte is a fault of what is to be read.
 #[tactic(auto, unfolding(crate::specs::Values::ref_type_in))]
 fn read_ref_type(lead: Lead, reader: &mut BinaryReader<'_>) -> Result<RefType>
-    ensures gives { Gives (λ ty. ty) result (place reader.new) (ref_type_in lead (place reader.old)) }
+    ensures gives { Gives (λ ty. ty) result (place reader.new)
+        (ref_type_in lead (place reader.old)) }
     ensures keeps { KeepsWindow reader.old reader.new }
     ensures memory { TakesNoMemory result }
 {

@@ -1,11 +1,11 @@
 use Rattle.wasm_base.proofs.OneOutcome.{reads_as_one}
 use Rattle.wasm_items.specs.Exports.{export_parts, export_at}
 use Rattle.wasm_items.specs.Externals.{kind_at}
-use Rattle.wasm_items.specs.Globals.{global_at}
+use Rattle.wasm_items.specs.Globals.{global_at, global_type_at}
 use Rattle.wasm_items.specs.Imports.{type_ref_at, import_parts, import_at, item_parts, item_at, group_parts, group_at}
 use Rattle.wasm_items.specs.Init.{expression_at}
 use Rattle.wasm_items.specs.Memories.{memory_type_at}
-use Rattle.wasm_items.specs.Tables.{table_at}
+use Rattle.wasm_items.specs.Tables.{table_at, table_type_at}
 use Rattle.wasm_items.specs.Tags.{tag_type_at}
 use Rattle.wasm_items.specs.Values.{val_type_at, ref_type_at, heap_type_at}
 use Rattle.wasm_items.specs.Windows.{expression_window}
@@ -52,3 +52,9 @@ returns-clause-reference c = reads_as_one (λ ty. ty) ref_type_at
 
 pub returns-clause-heap : goal.returns-clause-heap
 returns-clause-heap c = reads_as_one (λ heap. heap) heap_type_at
+
+pub returns-clause-table_type : goal.returns-clause-table_type
+returns-clause-table_type c = reads_as_one (λ table. table) table_type_at
+
+pub returns-clause-global_type : goal.returns-clause-global_type
+returns-clause-global_type c = reads_as_one (λ global. global) global_type_at

@@ -1,0 +1,15 @@
+//! Shows items of byte strings: a text for each case on standard input.
+#![tactic(auto)]
+
+mod cases;
+mod show;
+mod types;
+
+use std::process::ExitCode;
+
+fn main(rt: HostRuntime) -> ExitCode {
+    match cases::run(&rt) {
+        Ok(()) => ExitCode::SUCCESS,
+        Err(_) => ExitCode::FAILURE,
+    }
+}
