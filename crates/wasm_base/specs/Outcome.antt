@@ -1,7 +1,7 @@
 -- What reading from a place comes to.
 use Rattle.std.specs.Prelude.{◌≡◌, Result, Ok, Err}
 use Rattle.wasm_base.specs.FaultAt.{FaultAt, fault_at}
-use Rattle.wasm_base.specs.Window.{Place}
+use Rattle.wasm_base.specs.Window.{Window, Place, place}
 use Rattle.wasm_base.specs.declared.error.Error.{Error}
 
 -- a value and the place after its bytes, or the first fault
@@ -18,3 +18,8 @@ abbrev pub ◌>>=◌ : {A B : Type 0} → Result A FaultAt → (A → Result B F
 abbrev pub Gives : {X Y : Type 0} → (X → Y) → Result X Error → Place → Outcome Y → Type 0
 Gives view (Ok x) after outcome = outcome ≡ Ok (view x, after)
 Gives view (Err e) after outcome = outcome ≡ Err (fault_at e)
+
+-- What a call of a reader returned, from one window to another, is what this reading gives; view is what counts of the
+-- value.
+abbrev pub GivesBy : {X Y : Type 0} → (X → Y) → Result X Error → (old new : Window) → (Place → Outcome Y) → Type 0
+GivesBy view result old new reading = Gives view result (place new) (reading (place old))

@@ -1,5 +1,6 @@
 -- A window of the stream, and a place in it.
-use Rattle.std.specs.Prelude.{◌≡◌, ℕ, ◌+◌, ◌≤◌, List, drop}
+use Rattle.std.specs.declared.ops.Range.{Range}
+use Rattle.std.specs.Prelude.{◌≡◌, ℕ, ◌+◌, ◌≤◌, List, length, drop}
 
 -- what a reader is: the bytes of its window, the offset at which they begin in the whole stream, how many of
 -- them it has passed, and the features that it takes, as bits
@@ -26,6 +27,17 @@ advanced n p = record { features = p.features; offset = p.offset + n; rest = dro
 -- the window that begins where another is read
 abbrev pub whole_window : Place → Window
 whole_window p = record { features = p.features; start = p.offset; bytes = p.rest; position = 0 }
+
+-- these bytes at this offset as a window, for a reader with these features
+abbrev pub window_over : (features offset : ℕ) → List ℕ → Window
+window_over features offset bytes = record { features = features; start = offset; bytes = bytes; position = 0 }
+
+-- the offsets of a window, and of what its reader has before it
+abbrev pub range_of : Window → Range ℕ
+range_of w = record { start = w.start; end = w.start + length w.bytes }
+
+abbrev pub rest_range : Window → Range ℕ
+rest_range w = record { start = (place w).offset; end = w.start + length w.bytes }
 
 -- The window is the same, and its reader is not before where it was.
 pub record KeepsWindow (old new : Window) : Type 0 where

@@ -32,7 +32,8 @@ impl<'a> FromReader<'a> for bool {
 
     #[tactic(auto, unfolding(crate::specs::Item::bool_at))]
     fn from_reader(reader: &mut BinaryReader<'a>) -> Result<Self>
-        ensures means { Means (ReadsAs (λ truth. truth) bool_at) (place reader.old) result (place reader.new) }
+        ensures means { Means (ReadsAs (λ truth. truth) bool_at) (place reader.old) result
+            (place reader.new) }
         ensures keeps { KeepsWindow reader.old reader.new }
         ensures memory { TakesNoMemory result }
         ensures hints { Hints 1 result }
@@ -52,7 +53,8 @@ impl<'a> FromReader<'a> for u32 {
     ghost meaning = { ReadsAs (λ n. n) (unsigned_at VarU32) };
 
     fn from_reader(reader: &mut BinaryReader<'a>) -> Result<Self>
-        ensures means { Means (ReadsAs (λ n. n) (unsigned_at VarU32)) (place reader.old) result (place reader.new) }
+        ensures means { Means (ReadsAs (λ n. n) (unsigned_at VarU32)) (place reader.old) result
+            (place reader.new) }
         ensures keeps { KeepsWindow reader.old reader.new }
         ensures memory { TakesNoMemory result }
         ensures hints { Hints 1 result }

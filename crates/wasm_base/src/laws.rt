@@ -103,11 +103,15 @@ pub fn a_cloned_iterator_gives_the_same_items<'a, T: FromReader<'a> + Clone>()
 /// Truths, numbers and names allow one outcome, and so does a pair of what allows one. Truths and numbers are
 /// determined, and so is a pair of what is.
 pub fn these_allow_one_outcome<'a, T: FromReader<'a>, U: FromReader<'a>>()
-    ensures truth { AllowsOne ⟦<bool as FromReader<'a>>⟧.meaning × Determines ⟦<bool as FromReader<'a>>⟧.meaning }
-    ensures number { AllowsOne ⟦<u32 as FromReader<'a>>⟧.meaning × Determines ⟦<u32 as FromReader<'a>>⟧.meaning }
+    ensures truth { AllowsOne ⟦<bool as FromReader<'a>>⟧.meaning × Determines
+        ⟦<bool as FromReader<'a>>⟧.meaning }
+    ensures number { AllowsOne ⟦<u32 as FromReader<'a>>⟧.meaning × Determines
+        ⟦<u32 as FromReader<'a>>⟧.meaning }
     ensures name { AllowsOne ⟦<&'a str as FromReader<'a>>⟧.meaning }
-    ensures pair { AllowsOne T.meaning → AllowsOne U.meaning → AllowsOne ⟦<(T, U) as FromReader<'a>>⟧.meaning }
-    ensures determined_pair { Determines T.meaning → Determines U.meaning → Determines ⟦<(T, U) as FromReader<'a>>⟧.meaning }
+    ensures pair { AllowsOne T.meaning → AllowsOne U.meaning → AllowsOne
+        ⟦<(T, U) as FromReader<'a>>⟧.meaning }
+    ensures determined_pair { Determines T.meaning → Determines U.meaning → Determines
+        ⟦<(T, U) as FromReader<'a>>⟧.meaning }
 {}
 
 /// How many bytes a number takes at most, which unused bits its last byte may have, and how large the sum of its
@@ -129,13 +133,16 @@ pub fn equal_faults_are_the_same()
 
 /// A set of features is hashed as its bits.
 pub fn features_are_hashed_as_their_bits()
-    ensures { (features : WasmFeatures) → ⟦<WasmFeatures as Hash>⟧.hash_input features ≡ hashed.u32 (feature_bits features) }
+    ensures { (features : WasmFeatures) → ⟦<WasmFeatures as Hash>⟧.hash_input features ≡ hashed.u32
+        (feature_bits features) }
 {}
 
 /// Two floats are equal exactly if their bits are: of the same bits each is equal to itself, a NaN too.
 pub fn equal_floats_have_the_same_bits()
-    ensures single { DecidesWhether (λ one other. bits_of_32 one ≡ bits_of_32 other) ⟦<Ieee32 as PartialEq>⟧.eq }
-    ensures double { DecidesWhether (λ one other. bits_of_64 one ≡ bits_of_64 other) ⟦<Ieee64 as PartialEq>⟧.eq }
+    ensures single { DecidesWhether (λ one other. bits_of_32 one ≡ bits_of_32 other)
+        ⟦<Ieee32 as PartialEq>⟧.eq }
+    ensures double { DecidesWhether (λ one other. bits_of_64 one ≡ bits_of_64 other)
+        ⟦<Ieee64 as PartialEq>⟧.eq }
 {}
 
 /// A float is hashed as its bits.

@@ -12,11 +12,11 @@ ghost use Rattle.wasm_base.specs.Item.{Means};
 ghost use Rattle.wasm_base.specs.Name.{bytes_at, byte_at, peeked_at, peeked_byte_at, of_four, u32_at, u7_at, name_limit, text_at, window_at};
 ghost use Rattle.wasm_base.specs.TextOf.{text_of};
 ghost use Rattle.wasm_base.specs.Number.{bits_of, unsigned_at};
-ghost use Rattle.wasm_base.specs.Outcome.{Gives};
+ghost use Rattle.wasm_base.specs.Outcome.{Gives, GivesBy};
 ghost use Rattle.wasm_base.specs.Signed.{signed_at, FitsBits};
 ghost use Rattle.wasm_base.specs.Skip.{skipped_name_at, window_of, NeverGoesBack, PassesOver};
 ghost use Rattle.wasm_base.specs.Widths.{is_signed};
-ghost use Rattle.wasm_base.specs.Window.{place, advanced, whole_window, KeepsWindow};
+ghost use Rattle.wasm_base.specs.Window.{place, advanced, whole_window, KeepsWindow, window_over, range_of, rest_range};
 ghost use Rattle.wasm_base.specs.declared.fault.Fault.TheVariants.{UnexpectedEof};
 ghost use Rattle.wasm_base.specs.declared.fault.NumberKind.TheVariants.{VarU32, VarI32, VarU64, VarI64, VarS33};
 
@@ -54,9 +54,15 @@ impl<'a> Model for BinaryReader<'a> {
 
     ghost Value = { Window };
 
-    ghost view = { λ r. record { features = feature_bits r.features; start = r.start; bytes = r.bytes.now; position = r.position } };
+    ghost view = { λ r. record {
+      features = feature_bits r.features;
+      start = r.start;
+      bytes = r.bytes.now;
+      position = r.position;
+    } };
 
-    ghost invariant = { λ r. (r.position ≤ length r.bytes.now) × (r.start + length r.bytes.now < 2 ^ 64) };
+    ghost invariant = { λ r.
+        (r.position ≤ length r.bytes.now) × (r.start + length r.bytes.now < 2 ^ 64) };
 }
 
 impl<'a> Clone for BinaryReader<'a> {
@@ -85,7 +91,7 @@ impl<'a> BinaryReader<'a> {
     /// A reader of bytes that begin at this offset of the stream, with all features. `fits` tells whether they may.
     pub fn new(bytes: &'a [u8], offset: u64) -> Self
         requires { offset + length bytes.now < 2 ^ 64 }
-        ensures { result ≡ record { features = 3; start = offset; bytes = bytes.now; position = 0 } }
+        ensures { result ≡ window_over 3 offset bytes.now }
     {
         BinaryReader::new_features(bytes, offset, WasmFeatures::all())
     }
@@ -93,7 +99,7 @@ impl<'a> BinaryReader<'a> {
     /// A reader of bytes that begin at this offset of the stream. `fits` tells whether they may.
     pub fn new_features(bytes: &'a [u8], offset: u64, features: WasmFeatures) -> Self
         requires { offset + length bytes.now < 2 ^ 64 }
-        ensures { result ≡ record { features = feature_bits features; start = offset; bytes = bytes.now; position = 0 } }
+        ensures { result ≡ window_over (feature_bits features) offset bytes.now }
     {
         BinaryReader {
             bytes,
@@ -121,14 +127,14 @@ impl<'a> BinaryReader<'a> {
 
     /// The offsets of the whole window.
     pub fn range(&self) -> Range<u64>
-        ensures { result ≡ record { start = self.now.start; end = self.now.start + length self.now.bytes } }
+        ensures { result ≡ range_of self.now }
     {
         self.start..self.start + self.bytes.len() as u64
     }
 
     /// The offsets of the bytes that are left.
     pub fn remaining_range(&self) -> Range<u64>
-        ensures { result ≡ record { start = (place self.now).offset; end = self.now.start + length self.now.bytes } }
+        ensures { result ≡ rest_range self.now }
     {
         self.original_position()..self.start + self.bytes.len() as u64
     }
@@ -233,7 +239,7 @@ impl<'a> BinaryReader<'a> {
 
     /// Reads `len` bytes. `UnexpectedEof` where they begin, if they aren't all there.
     pub fn read_bytes(&mut self, len: usize) -> Result<&'a [u8]>
-        ensures gives { Gives (λ bytes. bytes.now) result (place self.new) (bytes_at len (place self.old)) }
+        ensures gives { GivesBy (λ bytes. bytes.now) result self.old self.new (bytes_at len) }
         ensures keeps { KeepsWindow self.old self.new }
         ensures hints { Hints (missing_at len (place self.old)) result }
         ensures memory { TakesNoMemory result }
@@ -246,7 +252,7 @@ impl<'a> BinaryReader<'a> {
 
     /// Reads a byte. `UnexpectedEof` here, where none is left.
     pub fn read_u8(&mut self) -> Result<u8>
-        ensures gives { Gives (λ b. b) result (place self.new) (byte_at (place self.old)) }
+        ensures gives { GivesBy (λ b. b) result self.old self.new byte_at }
         ensures keeps { KeepsWindow self.old self.new }
         ensures hints { Hints 1 result }
         ensures memory { TakesNoMemory result }
@@ -260,7 +266,7 @@ impl<'a> BinaryReader<'a> {
     /// Reads a byte below 128. `UnexpectedEof` here, where none is left; `InvalidU7` at another byte, which is passed.
     #[tactic(auto, unfolding(crate::specs::Name::u7_at))]
     pub fn read_u7(&mut self) -> Result<u8>
-        ensures gives { Gives (λ b. b) result (place self.new) (u7_at (place self.old)) }
+        ensures gives { GivesBy (λ b. b) result self.old self.new u7_at }
         ensures keeps { KeepsWindow self.old self.new }
         ensures hints { Hints 1 result }
         ensures memory { TakesNoMemory result }
@@ -275,7 +281,7 @@ impl<'a> BinaryReader<'a> {
     /// Reads a number of four bytes, the lowest first. `UnexpectedEof` where they begin, if they aren't all there.
     #[tactic(auto, unfolding(crate::specs::Name::u32_at))]
     pub fn read_u32(&mut self) -> Result<u32>
-        ensures gives { Gives (λ n. n) result (place self.new) (u32_at (place self.old)) }
+        ensures gives { GivesBy (λ n. n) result self.old self.new u32_at }
         ensures keeps { KeepsWindow self.old self.new }
         ensures hints { Hints (missing_at 4 (place self.old)) result }
         ensures memory { TakesNoMemory result }
@@ -287,7 +293,7 @@ impl<'a> BinaryReader<'a> {
     /// Reads a float of 32 bits, in four bytes, the lowest first (core specification, Binary format, Values,
     /// Floating-Point). `UnexpectedEof` where they begin, if they aren't all there.
     pub fn read_f32(&mut self) -> Result<Ieee32>
-        ensures gives { Gives (λ float. bits_of_32 float) result (place self.new) (u32_at (place self.old)) }
+        ensures gives { GivesBy (λ float. bits_of_32 float) result self.old self.new u32_at }
         ensures keeps { KeepsWindow self.old self.new }
         ensures hints { Hints (missing_at 4 (place self.old)) result }
         ensures memory { TakesNoMemory result }
@@ -300,7 +306,7 @@ impl<'a> BinaryReader<'a> {
     /// Floating-Point). `UnexpectedEof` where they begin, if they aren't all there.
     #[tactic(auto, unfolding(crate::specs::Float::u64_at))]
     pub fn read_f64(&mut self) -> Result<Ieee64>
-        ensures gives { Gives (λ float. bits_of_64 float) result (place self.new) (u64_at (place self.old)) }
+        ensures gives { GivesBy (λ float. bits_of_64 float) result self.old self.new u64_at }
         ensures keeps { KeepsWindow self.old self.new }
         ensures hints { Hints (missing_at 8 (place self.old)) result }
         ensures memory { TakesNoMemory result }
@@ -314,7 +320,7 @@ impl<'a> BinaryReader<'a> {
     // The groups of the number of this kind.
     #[tactic(auto, unfolding(crate::specs::Number::unsigned_at))]
     fn read_groups(&mut self, kind: NumberKind) -> Result<u128>
-        ensures gives { Gives (λ n. n) result (place self.new) (unsigned_at kind (place self.old)) }
+        ensures gives { GivesBy (λ n. n) result self.old self.new (unsigned_at kind) }
         ensures keeps { KeepsWindow self.old self.new }
         ensures hints { Hints 1 result }
         ensures memory { TakesNoMemory result }
@@ -344,7 +350,7 @@ impl<'a> BinaryReader<'a> {
     /// `NumberTooLong` and `NumberTooLarge` are at the last byte that it may take, `UnexpectedEof` where its next
     /// byte would be.
     pub fn read_var_u32(&mut self) -> Result<u32>
-        ensures gives { Gives (λ n. n) result (place self.new) (unsigned_at VarU32 (place self.old)) }
+        ensures gives { GivesBy (λ n. n) result self.old self.new (unsigned_at VarU32) }
         ensures keeps { KeepsWindow self.old self.new }
         ensures hints { Hints 1 result }
         ensures memory { TakesNoMemory result }
@@ -356,7 +362,7 @@ impl<'a> BinaryReader<'a> {
 
     /// Reads a u64 in LEB128, with the faults of `read_var_u32` (core specification, Binary format, Values, Integers).
     pub fn read_var_u64(&mut self) -> Result<u64>
-        ensures gives { Gives (λ n. n) result (place self.new) (unsigned_at VarU64 (place self.old)) }
+        ensures gives { GivesBy (λ n. n) result self.old self.new (unsigned_at VarU64) }
         ensures keeps { KeepsWindow self.old self.new }
         ensures hints { Hints 1 result }
         ensures memory { TakesNoMemory result }
@@ -370,7 +376,7 @@ impl<'a> BinaryReader<'a> {
     #[tactic(auto, unfolding(crate::specs::Signed::signed_at))]
     fn read_signed(&mut self, kind: NumberKind) -> Result<i64>
         requires { is_signed kind ≡ true }
-        ensures gives { Gives (λ n. n) result (place self.new) (signed_at kind (place self.old)) }
+        ensures gives { GivesBy (λ n. n) result self.old self.new (signed_at kind) }
         ensures keeps { KeepsWindow self.old self.new }
         ensures hints { Hints 1 result }
         ensures memory { TakesNoMemory result }
@@ -385,7 +391,7 @@ impl<'a> BinaryReader<'a> {
 
     /// Reads an s32 in LEB128, with the faults of `read_var_u32` (core specification, Binary format, Values, Integers).
     pub fn read_var_i32(&mut self) -> Result<i32>
-        ensures gives { Gives (λ n. n) result (place self.new) (signed_at VarI32 (place self.old)) }
+        ensures gives { GivesBy (λ n. n) result self.old self.new (signed_at VarI32) }
         ensures keeps { KeepsWindow self.old self.new }
         ensures hints { Hints 1 result }
         ensures memory { TakesNoMemory result }
@@ -397,7 +403,7 @@ impl<'a> BinaryReader<'a> {
 
     /// Reads an s64 in LEB128, with the faults of `read_var_u32` (core specification, Binary format, Values, Integers).
     pub fn read_var_i64(&mut self) -> Result<i64>
-        ensures gives { Gives (λ n. n) result (place self.new) (signed_at VarI64 (place self.old)) }
+        ensures gives { GivesBy (λ n. n) result self.old self.new (signed_at VarI64) }
         ensures keeps { KeepsWindow self.old self.new }
         ensures hints { Hints 1 result }
         ensures memory { TakesNoMemory result }
@@ -409,7 +415,7 @@ impl<'a> BinaryReader<'a> {
 
     /// Reads an s33 in LEB128, with the faults of `read_var_u32` (core specification, Binary format, Values, Integers).
     pub fn read_var_s33(&mut self) -> Result<i64>
-        ensures gives { Gives (λ n. n) result (place self.new) (signed_at VarS33 (place self.old)) }
+        ensures gives { GivesBy (λ n. n) result self.old self.new (signed_at VarS33) }
         ensures keeps { KeepsWindow self.old self.new }
         ensures hints { Hints 1 result }
         ensures memory { TakesNoMemory result }
@@ -424,7 +430,7 @@ impl<'a> BinaryReader<'a> {
     #[tactic(auto, unfolding(crate::specs::TextOf::text_of), using(crate::proofs::Texts::text_test))]
     fn read_text(&mut self, len: usize) -> Result<&'a str>
         requires { 0 < (place self.old).offset }
-        ensures gives { Gives (λ text. text.now) result (place self.new) (text_of len (place self.old)) }
+        ensures gives { GivesBy (λ text. text.now) result self.old self.new (text_of len) }
         ensures keeps { KeepsWindow self.old self.new }
         ensures hints { Hints (missing_at len (place self.old)) result }
         ensures memory { TakesNoMemory result }
@@ -442,7 +448,7 @@ impl<'a> BinaryReader<'a> {
     /// the text's last byte.
     #[tactic(auto, using(crate::proofs::Texts::text_steps))]
     pub fn read_unlimited_string(&mut self) -> Result<&'a str>
-        ensures gives { Gives (λ text. text.now) result (place self.new) (text_at None (place self.old)) }
+        ensures gives { GivesBy (λ text. text.now) result self.old self.new (text_at None) }
         ensures keeps { KeepsWindow self.old self.new }
         ensures hints { Hints (missing_of_sized (place self.old)) result }
         ensures memory { TakesNoMemory result }
@@ -455,7 +461,7 @@ impl<'a> BinaryReader<'a> {
     /// its bytes are looked at.
     #[tactic(auto, using(crate::proofs::Texts::text_steps))]
     pub fn read_string(&mut self) -> Result<&'a str>
-        ensures gives { Gives (λ text. text.now) result (place self.new) (text_at (Some name_limit) (place self.old)) }
+        ensures gives { GivesBy (λ text. text.now) result self.old self.new (text_at (Some name_limit)) }
         ensures keeps { KeepsWindow self.old self.new }
         ensures hints { Hints (missing_of_sized (place self.old)) result }
         ensures memory { TakesNoMemory result }
@@ -473,7 +479,7 @@ impl<'a> BinaryReader<'a> {
     /// the bytes aren't all there.
     #[tactic(auto, unfolding(crate::specs::Skip::skipped_name_at))]
     pub fn skip_string(&mut self) -> Result<()>
-        ensures gives { Gives (λ nothing. nothing) result (place self.new) (skipped_name_at (place self.old)) }
+        ensures gives { GivesBy (λ nothing. nothing) result self.old self.new skipped_name_at }
         ensures keeps { KeepsWindow self.old self.new }
         ensures hints { Hints (missing_of_sized (place self.old)) result }
         ensures memory { TakesNoMemory result }
@@ -521,7 +527,7 @@ impl<'a> BinaryReader<'a> {
     /// if the bytes aren't all there.
     #[tactic(auto, unfolding(crate::specs::Name::window_at))]
     pub fn read_reader(&mut self) -> Result<BinaryReader<'a>>
-        ensures gives { Gives (λ window. window) result (place self.new) (window_at (place self.old)) }
+        ensures gives { GivesBy (λ window. window) result self.old self.new window_at }
         ensures keeps { KeepsWindow self.old self.new }
         ensures hints { Hints (missing_of_sized (place self.old)) result }
         ensures memory { TakesNoMemory result }
@@ -545,7 +551,7 @@ impl<'a> BinaryReader<'a> {
     /// (core specification, Binary format, Modules). Four other bytes are `BadMagic` where they begin.
     #[tactic(auto, unfolding(crate::specs::Header::header_version_at))]
     pub fn read_header_version(&mut self) -> Result<u32>
-        ensures gives { Gives (λ n. n) result (place self.new) (header_version_at (place self.old)) }
+        ensures gives { GivesBy (λ n. n) result self.old self.new header_version_at }
         ensures keeps { KeepsWindow self.old self.new }
         ensures hints { Hints (missing_of_header (place self.old)) result }
         ensures memory { TakesNoMemory result }

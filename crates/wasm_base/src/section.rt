@@ -6,7 +6,7 @@ ghost use Rattle.wasm_base.specs.Hints.{TakesNoMemory, Hints};
 ghost use Rattle.wasm_base.specs.Item.{Means};
 ghost use Rattle.wasm_base.specs.Owned.{UnlessMemory};
 ghost use Rattle.wasm_base.specs.Section.{Section, ReadsSection, Items, NextItem, NextItemIn, EndsAtFault, AtItsOffset, all_items, most_items};
-ghost use Rattle.wasm_base.specs.Window.{place, KeepsWindow};
+ghost use Rattle.wasm_base.specs.Window.{place, KeepsWindow, range_of};
 
 use crate::error::{Error, Result};
 use crate::fault::Fault;
@@ -109,7 +109,7 @@ impl<'a, T> SectionLimited<'a, T> {
 
     /// The offsets of the whole window, the count among them.
     pub fn range(&self) -> Range<u64>
-        ensures { result ≡ record { start = self.now.reader.start; end = self.now.reader.start + length self.now.reader.bytes } }
+        ensures { result ≡ range_of self.now.reader }
     {
         self.reader.range()
     }
@@ -187,7 +187,8 @@ impl<'a, T> Model for SectionLimitedIntoIter<'a, T> {
 
     ghost Value = { Items };
 
-    ghost view = { λ s. record { reader = s.section.reader; count = s.section.count; left = s.left; ended = s.ended } };
+    ghost view = { λ s. record
+        { reader = s.section.reader; count = s.section.count; left = s.left; ended = s.ended } };
 }
 
 impl<'a, T> Drop for SectionLimitedIntoIter<'a, T> {

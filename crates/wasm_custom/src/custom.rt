@@ -1,7 +1,7 @@
 // Custom sections.
 ghost use Rattle.std.specs.Prelude.{⊤, ◌≡◌, ◌+◌, length};
 ghost use Rattle.wasm_base.specs.Hints.{Hints, TakesNoMemory, missing_of_sized};
-ghost use Rattle.wasm_base.specs.Window.{place, whole_window};
+ghost use Rattle.wasm_base.specs.Window.{place, whole_window, range_of, rest_range};
 
 use std::alloc::AllocError;
 use std::fmt;
@@ -79,14 +79,14 @@ impl<'a> CustomSectionReader<'a> {
 
     /// The offsets of the data.
     pub fn data_range(&self) -> Range<u64>
-        ensures { result ≡ record { start = (place self.now.reader).offset; end = self.now.reader.start + length self.now.reader.bytes } }
+        ensures { result ≡ rest_range self.now.reader }
     {
         self.reader.remaining_range()
     }
 
     /// The offsets of the whole window: the name's size, the name and the data.
     pub fn range(&self) -> Range<u64>
-        ensures { result ≡ record { start = self.now.reader.start; end = self.now.reader.start + length self.now.reader.bytes } }
+        ensures { result ≡ range_of self.now.reader }
     {
         self.reader.range()
     }

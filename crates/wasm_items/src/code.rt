@@ -13,6 +13,7 @@ pub struct FunctionBody<'a> {
 }
 
 impl<'a> FunctionBody<'a> {
+    ghost use Rattle.wasm_base.specs.Window.{range_of};
     ghost use Rattle.wasm_items.specs.Windows.{body_window};
 
     /// The body in a reader's window. No byte of it is looked at.
@@ -31,7 +32,7 @@ impl<'a> FunctionBody<'a> {
 
     /// The offsets of the body, in bytes from the start of the whole stream.
     pub fn range(&self) -> Range<u64>
-        ensures { let window = body_window self.now in result ≡ record { start = window.start; end = window.start + length window.bytes } }
+        ensures { result ≡ range_of (body_window self.now) }
     {
         self.reader.range()
     }

@@ -2,7 +2,7 @@
 ghost use Rattle.std.specs.Prelude.{◌≡◌};
 ghost use Rattle.wasm_base.specs.Hints.{TakesNoMemory};
 ghost use Rattle.wasm_base.specs.Item.{ReadsAs};
-ghost use Rattle.wasm_base.specs.Outcome.{Gives};
+ghost use Rattle.wasm_base.specs.Outcome.{GivesBy};
 ghost use Rattle.wasm_base.specs.Window.{place, KeepsWindow};
 ghost use Rattle.wasm_items.specs.Data.{data_kind_at};
 
@@ -41,8 +41,7 @@ pub enum DataKind<'a> {
 // What becomes of a segment, by its flags.
 #[tactic(auto, unfolding(crate::specs::Data::data_kind_at))]
 fn read_kind<'a>(reader: &mut BinaryReader<'a>) -> Result<DataKind<'a>>
-    ensures gives { Gives (λ kind. kind)
-        result (place reader.new) (data_kind_at (place reader.old)) }
+    ensures gives { GivesBy (λ kind. kind) result reader.old reader.new data_kind_at }
     ensures keeps { KeepsWindow reader.old reader.new }
     ensures memory { TakesNoMemory result }
 {

@@ -2,7 +2,7 @@
 ghost use Rattle.std.specs.Prelude.{◌≡◌};
 ghost use Rattle.wasm_base.specs.Hints.{TakesNoMemory};
 ghost use Rattle.wasm_base.specs.Item.{ReadsAs};
-ghost use Rattle.wasm_base.specs.Outcome.{Gives};
+ghost use Rattle.wasm_base.specs.Outcome.{GivesBy};
 ghost use Rattle.wasm_base.specs.Window.{place, KeepsWindow};
 ghost use Rattle.wasm_items.specs.Elements.{element_flags_at, element_kind_at, after_element_kind, passed_index_at, function_elements_at, element_type_at, expression_elements_at, is_typed};
 ghost use Rattle.wasm_items.specs.Init.{end_of_expression};
@@ -58,8 +58,7 @@ pub enum ElementItems<'a> {
 // The flags of a segment.
 #[tactic(auto, unfolding(crate::specs::Elements::element_flags_at))]
 fn read_flags(reader: &mut BinaryReader<'_>) -> Result<u8>
-    ensures gives { Gives (λ flags. flags)
-        result (place reader.new) (element_flags_at (place reader.old)) }
+    ensures gives { GivesBy (λ flags. flags) result reader.old reader.new element_flags_at }
     ensures keeps { KeepsWindow reader.old reader.new }
     ensures memory { TakesNoMemory result }
 {
@@ -73,8 +72,7 @@ fn read_flags(reader: &mut BinaryReader<'_>) -> Result<u8>
 // What becomes of a segment with these flags.
 #[tactic(auto, unfolding(crate::specs::Elements::element_kind_at))]
 fn read_kind<'a>(flags: u8, reader: &mut BinaryReader<'a>) -> Result<ElementKind<'a>>
-    ensures gives { Gives (λ kind. kind)
-        result (place reader.new) (element_kind_at flags (place reader.old)) }
+    ensures gives { GivesBy (λ kind. kind) result reader.old reader.new (element_kind_at flags) }
     ensures keeps { KeepsWindow reader.old reader.new }
     ensures memory { TakesNoMemory result }
 {
@@ -106,8 +104,7 @@ fn is_typed(flags: u8) -> bool
 // Passes over the kind of the elements, where it is written.
 #[tactic(auto, unfolding(crate::specs::Elements::element_kind_passed_at))]
 fn pass_kind(flags: u8, reader: &mut BinaryReader<'_>) -> Result<()>
-    ensures gives { Gives (λ nothing. nothing)
-        result (place reader.new) (after_element_kind flags (place reader.old)) }
+    ensures gives { GivesBy (λ nothing. nothing) result reader.old reader.new (after_element_kind flags) }
     ensures keeps { KeepsWindow reader.old reader.new }
     ensures memory { TakesNoMemory result }
 {
@@ -124,8 +121,7 @@ fn pass_kind(flags: u8, reader: &mut BinaryReader<'_>) -> Result<()>
 // Passes over an index.
 #[tactic(auto, unfolding(crate::specs::Elements::passed_index_at))]
 fn pass_index(reader: &mut BinaryReader<'_>) -> Result<()>
-    ensures gives { Gives (λ nothing. nothing)
-        result (place reader.new) (passed_index_at (place reader.old)) }
+    ensures gives { GivesBy (λ nothing. nothing) result reader.old reader.new passed_index_at }
     ensures keeps { KeepsWindow reader.old reader.new }
     ensures memory { TakesNoMemory result }
 {
@@ -135,8 +131,8 @@ fn pass_index(reader: &mut BinaryReader<'_>) -> Result<()>
 
 // Passes over so many indices.
 fn pass_indices(count: u32, reader: &mut BinaryReader<'_>) -> Result<()>
-    ensures gives { Gives (λ nothing. nothing)
-        result (place reader.new) (all_passed_at passed_index_at count (place reader.old)) }
+    ensures gives { GivesBy (λ nothing. nothing) result reader.old reader.new
+        (all_passed_at passed_index_at count) }
     ensures keeps { KeepsWindow reader.old reader.new }
     ensures memory { TakesNoMemory result }
 {
@@ -148,8 +144,8 @@ fn pass_indices(count: u32, reader: &mut BinaryReader<'_>) -> Result<()>
 
 // Passes over so many expressions.
 fn pass_expressions(count: u32, reader: &mut BinaryReader<'_>) -> Result<()>
-    ensures gives { Gives (λ nothing. nothing)
-        result (place reader.new) (all_passed_at end_of_expression count (place reader.old)) }
+    ensures gives { GivesBy (λ nothing. nothing) result reader.old reader.new
+        (all_passed_at end_of_expression count) }
     ensures keeps { KeepsWindow reader.old reader.new }
     ensures memory { TakesNoMemory result }
 {
@@ -162,8 +158,8 @@ fn pass_expressions(count: u32, reader: &mut BinaryReader<'_>) -> Result<()>
 // A list of indices, as a window.
 #[tactic(auto, unfolding(crate::specs::Inner::inner_section_at))]
 fn read_indices<'a>(reader: &mut BinaryReader<'a>) -> Result<SectionLimited<'a, u32>>
-    ensures gives { Gives (λ section. section)
-        result (place reader.new) (inner_section_at passed_index_at (place reader.old)) }
+    ensures gives { GivesBy (λ section. section) result reader.old reader.new
+        (inner_section_at passed_index_at) }
     ensures keeps { KeepsWindow reader.old reader.new }
     ensures memory { TakesNoMemory result }
 {
@@ -176,8 +172,8 @@ fn read_indices<'a>(reader: &mut BinaryReader<'a>) -> Result<SectionLimited<'a, 
 // A list of expressions, as a window.
 #[tactic(auto, unfolding(crate::specs::Inner::inner_section_at))]
 fn read_expressions<'a>(reader: &mut BinaryReader<'a>) -> Result<SectionLimited<'a, ConstExpr<'a>>>
-    ensures gives { Gives (λ section. section)
-        result (place reader.new) (inner_section_at end_of_expression (place reader.old)) }
+    ensures gives { GivesBy (λ section. section) result reader.old reader.new
+        (inner_section_at end_of_expression) }
     ensures keeps { KeepsWindow reader.old reader.new }
     ensures memory { TakesNoMemory result }
 {
@@ -190,8 +186,7 @@ fn read_expressions<'a>(reader: &mut BinaryReader<'a>) -> Result<SectionLimited<
 // Elements that are functions.
 #[tactic(auto, unfolding(crate::specs::Elements::function_elements_at))]
 fn read_functions<'a>(flags: u8, reader: &mut BinaryReader<'a>) -> Result<ElementItems<'a>>
-    ensures gives { Gives (λ items. items)
-        result (place reader.new) (function_elements_at flags (place reader.old)) }
+    ensures gives { GivesBy (λ items. items) result reader.old reader.new (function_elements_at flags) }
     ensures keeps { KeepsWindow reader.old reader.new }
     ensures memory { TakesNoMemory result }
 {
@@ -201,8 +196,7 @@ fn read_functions<'a>(flags: u8, reader: &mut BinaryReader<'a>) -> Result<Elemen
 
 // The type of the elements, where it is written.
 fn read_type(flags: u8, reader: &mut BinaryReader<'_>) -> Result<RefType>
-    ensures gives { Gives (λ ty. ty)
-        result (place reader.new) (element_type_at flags (place reader.old)) }
+    ensures gives { GivesBy (λ ty. ty) result reader.old reader.new (element_type_at flags) }
     ensures keeps { KeepsWindow reader.old reader.new }
     ensures memory { TakesNoMemory result }
 {
@@ -216,8 +210,7 @@ fn read_type(flags: u8, reader: &mut BinaryReader<'_>) -> Result<RefType>
 // Elements that are expressions.
 #[tactic(auto, unfolding(crate::specs::Elements::expression_elements_at))]
 fn read_typed<'a>(flags: u8, reader: &mut BinaryReader<'a>) -> Result<ElementItems<'a>>
-    ensures gives { Gives (λ items. items)
-        result (place reader.new) (expression_elements_at flags (place reader.old)) }
+    ensures gives { GivesBy (λ items. items) result reader.old reader.new (expression_elements_at flags) }
     ensures keeps { KeepsWindow reader.old reader.new }
     ensures memory { TakesNoMemory result }
 {

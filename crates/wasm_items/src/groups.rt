@@ -2,7 +2,7 @@
 ghost use Rattle.std.specs.Prelude.{◌≡◌, map};
 ghost use Rattle.wasm_base.specs.Hints.{TakesNoMemory};
 ghost use Rattle.wasm_base.specs.Item.{ReadsAs};
-ghost use Rattle.wasm_base.specs.Outcome.{Gives};
+ghost use Rattle.wasm_base.specs.Outcome.{GivesBy};
 ghost use Rattle.wasm_base.specs.Owned.{GivesUnlessMemory, list_at};
 ghost use Rattle.wasm_base.specs.Window.{place, KeepsWindow};
 ghost use Rattle.wasm_items.specs.Groups.{mutability_at, field_type_at, supertypes_at, subtype_parts, subtype_at, extending_at};
@@ -40,8 +40,7 @@ impl<'a> FromReader<'a> for StorageType {
 // Whether a field can be changed.
 #[tactic(auto, unfolding(crate::specs::Groups::mutability_at))]
 fn read_mutability(reader: &mut BinaryReader<'_>) -> Result<bool>
-    ensures gives { Gives (λ mutable. mutable)
-        result (place reader.new) (mutability_at (place reader.old)) }
+    ensures gives { GivesBy (λ mutable. mutable) result reader.old reader.new mutability_at }
     ensures keeps { KeepsWindow reader.old reader.new }
     ensures memory { TakesNoMemory result }
 {
@@ -131,8 +130,7 @@ impl<'a> FromReaderIn<'a> for CompositeType {
 // The supertypes of a subtype, of which there is one at most.
 #[tactic(auto, unfolding(crate::specs::Groups::supertypes_at))]
 fn read_supertype(reader: &mut BinaryReader<'_>) -> Result<Option<u32>>
-    ensures gives { Gives (λ supertype. supertype)
-        result (place reader.new) (supertypes_at (place reader.old)) }
+    ensures gives { GivesBy (λ supertype. supertype) result reader.old reader.new supertypes_at }
     ensures keeps { KeepsWindow reader.old reader.new }
     ensures memory { TakesNoMemory result }
 {

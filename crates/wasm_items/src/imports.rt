@@ -2,7 +2,7 @@
 ghost use Rattle.std.specs.Prelude.{◌≡◌};
 ghost use Rattle.wasm_base.specs.Hints.{TakesNoMemory};
 ghost use Rattle.wasm_base.specs.Item.{ReadsAs};
-ghost use Rattle.wasm_base.specs.Outcome.{Gives};
+ghost use Rattle.wasm_base.specs.Outcome.{GivesBy};
 ghost use Rattle.wasm_base.specs.Window.{place, KeepsWindow};
 ghost use Rattle.wasm_items.specs.Imports.{form_of, passed_item_at, group_parts, has_groups, module_group_at, type_group_at};
 ghost use Rattle.wasm_items.specs.Inner.{all_passed_at, inner_section_at};
@@ -159,8 +159,7 @@ fn has_groups(reader: &BinaryReader<'_>) -> bool
 // Passes over an import of a group, whose name is not looked at.
 #[tactic(auto, unfolding(crate::specs::Imports::passed_item_at))]
 fn pass_item(reader: &mut BinaryReader<'_>) -> Result<()>
-    ensures gives { Gives (λ nothing. nothing) result (place reader.new)
-        (passed_item_at (place reader.old)) }
+    ensures gives { GivesBy (λ nothing. nothing) result reader.old reader.new passed_item_at }
     ensures keeps { KeepsWindow reader.old reader.new }
     ensures memory { TakesNoMemory result }
 {
@@ -170,8 +169,8 @@ fn pass_item(reader: &mut BinaryReader<'_>) -> Result<()>
 }
 
 fn pass_items(count: u32, reader: &mut BinaryReader<'_>) -> Result<()>
-    ensures gives { Gives (λ nothing. nothing) result (place reader.new)
-        (all_passed_at passed_item_at count (place reader.old)) }
+    ensures gives { GivesBy (λ nothing. nothing) result reader.old reader.new
+        (all_passed_at passed_item_at count) }
     ensures keeps { KeepsWindow reader.old reader.new }
     ensures memory { TakesNoMemory result }
 {
@@ -182,8 +181,8 @@ fn pass_items(count: u32, reader: &mut BinaryReader<'_>) -> Result<()>
 }
 
 fn pass_names(count: u32, reader: &mut BinaryReader<'_>) -> Result<()>
-    ensures gives { Gives (λ nothing. nothing) result (place reader.new)
-        (all_passed_at skipped_name_at count (place reader.old)) }
+    ensures gives { GivesBy (λ nothing. nothing) result reader.old reader.new
+        (all_passed_at skipped_name_at count) }
     ensures keeps { KeepsWindow reader.old reader.new }
     ensures memory { TakesNoMemory result }
 {
@@ -198,8 +197,8 @@ fn pass_names(count: u32, reader: &mut BinaryReader<'_>) -> Result<()>
 fn read_items<'a>(
     reader: &mut BinaryReader<'a>,
 ) -> Result<SectionLimited<'a, ImportItemCompact<'a>>>
-    ensures gives { Gives (λ section. section) result (place reader.new)
-        (inner_section_at passed_item_at (place reader.old)) }
+    ensures gives { GivesBy (λ section. section) result reader.old reader.new
+        (inner_section_at passed_item_at) }
     ensures keeps { KeepsWindow reader.old reader.new }
     ensures memory { TakesNoMemory result }
 {
@@ -212,8 +211,8 @@ fn read_items<'a>(
 // A count and so many names.
 #[tactic(auto, unfolding(crate::specs::Inner::inner_section_at))]
 fn read_names<'a>(reader: &mut BinaryReader<'a>) -> Result<SectionLimited<'a, &'a str>>
-    ensures gives { Gives (λ section. section) result (place reader.new)
-        (inner_section_at skipped_name_at (place reader.old)) }
+    ensures gives { GivesBy (λ section. section) result reader.old reader.new
+        (inner_section_at skipped_name_at) }
     ensures keeps { KeepsWindow reader.old reader.new }
     ensures memory { TakesNoMemory result }
 {
@@ -226,8 +225,7 @@ fn read_names<'a>(reader: &mut BinaryReader<'a>) -> Result<SectionLimited<'a, &'
 // Imports of one module, after the byte of such a group.
 #[tactic(auto, unfolding(crate::specs::Imports::module_group_at))]
 fn read_module_group<'a>(module: &'a str, reader: &mut BinaryReader<'a>) -> Result<Imports<'a>>
-    ensures gives { Gives group_parts result (place reader.new)
-        (module_group_at «module».now (place reader.old)) }
+    ensures gives { GivesBy group_parts result reader.old reader.new (module_group_at «module».now) }
     ensures keeps { KeepsWindow reader.old reader.new }
     ensures memory { TakesNoMemory result }
 {
@@ -238,8 +236,7 @@ fn read_module_group<'a>(module: &'a str, reader: &mut BinaryReader<'a>) -> Resu
 // Imports of one module and one type, after the byte of such a group.
 #[tactic(auto, unfolding(crate::specs::Imports::type_group_at))]
 fn read_type_group<'a>(module: &'a str, reader: &mut BinaryReader<'a>) -> Result<Imports<'a>>
-    ensures gives { Gives group_parts result (place reader.new)
-        (type_group_at «module».now (place reader.old)) }
+    ensures gives { GivesBy group_parts result reader.old reader.new (type_group_at «module».now) }
     ensures keeps { KeepsWindow reader.old reader.new }
     ensures memory { TakesNoMemory result }
 {

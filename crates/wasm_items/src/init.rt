@@ -2,8 +2,8 @@
 ghost use Rattle.std.specs.Prelude.{◌≡◌, ◌+◌, length};
 ghost use Rattle.wasm_base.specs.Hints.{TakesNoMemory};
 ghost use Rattle.wasm_base.specs.Item.{ReadsAs};
-ghost use Rattle.wasm_base.specs.Outcome.{Gives};
-ghost use Rattle.wasm_base.specs.Window.{place, KeepsWindow};
+ghost use Rattle.wasm_base.specs.Outcome.{GivesBy};
+ghost use Rattle.wasm_base.specs.Window.{place, KeepsWindow, range_of};
 ghost use Rattle.wasm_items.specs.Init.{after_opcode, aggregate_operands_of, vector_operands_of, numbered_operands_at, end_of_expression};
 
 use crate::types::HeapType;
@@ -37,7 +37,7 @@ impl<'a> ConstExpr<'a> {
 
     /// The offsets of the expression, in bytes from the start of the whole stream.
     pub fn range(&self) -> Range<u64>
-        ensures { let window = expression_window self.now in result ≡ record { start = window.start; end = window.start + length window.bytes } }
+        ensures { result ≡ range_of (expression_window self.now) }
     {
         self.reader.range()
     }
@@ -46,8 +46,7 @@ impl<'a> ConstExpr<'a> {
 // Passes over what an instruction, which begins at this offset, has after its opcode.
 #[tactic(auto, unfolding(crate::specs::Init::after_opcode))]
 fn pass_operands(start: u64, opcode: u8, reader: &mut BinaryReader<'_>) -> Result<()>
-    ensures gives { Gives (λ nothing. nothing) result (place reader.new)
-        (after_opcode start opcode (place reader.old)) }
+    ensures gives { GivesBy (λ nothing. nothing) result reader.old reader.new (after_opcode start opcode) }
     ensures keeps { KeepsWindow reader.old reader.new }
     ensures memory { TakesNoMemory result }
 {
@@ -80,8 +79,8 @@ fn pass_operands(start: u64, opcode: u8, reader: &mut BinaryReader<'_>) -> Resul
 
 // The same where the opcode is that of structures, arrays and references, and a number follows.
 fn pass_aggregate_operands(start: u64, reader: &mut BinaryReader<'_>) -> Result<()>
-    ensures gives { Gives (λ nothing. nothing) result (place reader.new)
-        (numbered_operands_at start aggregate_operands_of (place reader.old)) }
+    ensures gives { GivesBy (λ nothing. nothing) result reader.old reader.new
+        (numbered_operands_at start aggregate_operands_of) }
     ensures keeps { KeepsWindow reader.old reader.new }
     ensures memory { TakesNoMemory result }
 {
@@ -101,8 +100,8 @@ fn pass_aggregate_operands(start: u64, reader: &mut BinaryReader<'_>) -> Result<
 
 // The same where the opcode is that of vectors, and a number follows.
 fn pass_vector_operands(start: u64, reader: &mut BinaryReader<'_>) -> Result<()>
-    ensures gives { Gives (λ nothing. nothing) result (place reader.new)
-        (numbered_operands_at start vector_operands_of (place reader.old)) }
+    ensures gives { GivesBy (λ nothing. nothing) result reader.old reader.new
+        (numbered_operands_at start vector_operands_of) }
     ensures keeps { KeepsWindow reader.old reader.new }
     ensures memory { TakesNoMemory result }
 {
@@ -115,8 +114,7 @@ fn pass_vector_operands(start: u64, reader: &mut BinaryReader<'_>) -> Result<()>
 
 /// Passes over instructions up to the end, which is passed too.
 pub(crate) fn pass_expression(reader: &mut BinaryReader<'_>) -> Result<()>
-    ensures gives { Gives (λ nothing. nothing) result (place reader.new)
-        (end_of_expression (place reader.old)) }
+    ensures gives { GivesBy (λ nothing. nothing) result reader.old reader.new end_of_expression }
     ensures keeps { KeepsWindow reader.old reader.new }
     ensures memory { TakesNoMemory result }
 {

@@ -1,7 +1,7 @@
 // Limits of tables and memories.
 ghost use Rattle.std.specs.Prelude.{◌≡◌};
 ghost use Rattle.wasm_base.specs.Hints.{TakesNoMemory};
-ghost use Rattle.wasm_base.specs.Outcome.{Gives};
+ghost use Rattle.wasm_base.specs.Outcome.{GivesBy};
 ghost use Rattle.wasm_base.specs.Window.{place, KeepsWindow};
 ghost use Rattle.wasm_items.specs.Limits.{has_flag, limit_at, maximum_at, limits_at};
 
@@ -26,7 +26,7 @@ pub(crate) fn has_flag(flags: u8, flag: u8) -> bool
 // One limit: a u64 with 64-bit memories, a u32 without them.
 #[tactic(auto, unfolding(crate::specs::Limits::limit_at))]
 fn read_limit(reader: &mut BinaryReader<'_>) -> Result<u64>
-    ensures gives { Gives (λ n. n) result (place reader.new) (limit_at (place reader.old)) }
+    ensures gives { GivesBy (λ n. n) result reader.old reader.new limit_at }
     ensures keeps { KeepsWindow reader.old reader.new }
     ensures memory { TakesNoMemory result }
 {
@@ -40,7 +40,7 @@ fn read_limit(reader: &mut BinaryReader<'_>) -> Result<u64>
 // The maximum, which a flag says is there.
 #[tactic(auto, unfolding(crate::specs::Limits::maximum_at))]
 fn read_maximum(flags: u8, reader: &mut BinaryReader<'_>) -> Result<Option<u64>>
-    ensures gives { Gives (λ n. n) result (place reader.new) (maximum_at flags (place reader.old)) }
+    ensures gives { GivesBy (λ n. n) result reader.old reader.new (maximum_at flags) }
     ensures keeps { KeepsWindow reader.old reader.new }
     ensures memory { TakesNoMemory result }
 {
@@ -54,8 +54,7 @@ fn read_maximum(flags: u8, reader: &mut BinaryReader<'_>) -> Result<Option<u64>>
 /// Reads limits after their flags.
 #[tactic(auto, unfolding(crate::specs::Limits::limits_at))]
 pub(crate) fn read_limits(flags: u8, reader: &mut BinaryReader<'_>) -> Result<Limits>
-    ensures gives { Gives (λ limits. limits) result (place reader.new)
-        (limits_at flags (place reader.old)) }
+    ensures gives { GivesBy (λ limits. limits) result reader.old reader.new (limits_at flags) }
     ensures keeps { KeepsWindow reader.old reader.new }
     ensures memory { TakesNoMemory result }
 {

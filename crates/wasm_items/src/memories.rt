@@ -2,7 +2,7 @@
 ghost use Rattle.std.specs.Prelude.{◌≡◌};
 ghost use Rattle.wasm_base.specs.Hints.{TakesNoMemory};
 ghost use Rattle.wasm_base.specs.Item.{ReadsAs};
-ghost use Rattle.wasm_base.specs.Outcome.{Gives};
+ghost use Rattle.wasm_base.specs.Outcome.{GivesBy};
 ghost use Rattle.wasm_base.specs.Window.{place, KeepsWindow};
 ghost use Rattle.wasm_items.specs.Memories.{page_size_at};
 
@@ -16,8 +16,7 @@ pub type MemorySectionReader<'a> = SectionLimited<'a, MemoryType>;
 // The size of a page, which a flag says is there, in a memory type that begins at this offset.
 #[tactic(auto, unfolding(crate::specs::Memories::page_size_at))]
 fn read_page_size(start: u64, flags: u8, reader: &mut BinaryReader<'_>) -> Result<Option<u32>>
-    ensures gives { Gives (λ size. size) result (place reader.new)
-        (page_size_at start flags (place reader.old)) }
+    ensures gives { GivesBy (λ size. size) result reader.old reader.new (page_size_at start flags) }
     ensures keeps { KeepsWindow reader.old reader.new }
     ensures memory { TakesNoMemory result }
 {

@@ -2,7 +2,7 @@
 ghost use Rattle.std.specs.Prelude.{◌≡◌};
 ghost use Rattle.wasm_base.specs.Hints.{TakesNoMemory};
 ghost use Rattle.wasm_base.specs.Item.{ReadsAs};
-ghost use Rattle.wasm_base.specs.Outcome.{Gives};
+ghost use Rattle.wasm_base.specs.Outcome.{GivesBy};
 ghost use Rattle.wasm_base.specs.Window.{place, KeepsWindow};
 ghost use Rattle.wasm_items.specs.Tables.{filled_table_at};
 
@@ -62,8 +62,7 @@ impl<'a> FromReader<'a> for TableType {
 // A table with an expression, after its first byte.
 #[tactic(auto, unfolding(crate::specs::Tables::filled_table_at))]
 fn read_filled<'a>(reader: &mut BinaryReader<'a>) -> Result<Table<'a>>
-    ensures gives { Gives (λ table. table) result (place reader.new)
-        (filled_table_at (place reader.old)) }
+    ensures gives { GivesBy (λ table. table) result reader.old reader.new filled_table_at }
     ensures keeps { KeepsWindow reader.old reader.new }
     ensures memory { TakesNoMemory result }
 {

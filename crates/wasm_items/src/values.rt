@@ -2,7 +2,7 @@
 ghost use Rattle.std.specs.Prelude.{◌≡◌};
 ghost use Rattle.wasm_base.specs.Hints.{TakesNoMemory};
 ghost use Rattle.wasm_base.specs.Item.{ReadsAs};
-ghost use Rattle.wasm_base.specs.Outcome.{Gives};
+ghost use Rattle.wasm_base.specs.Outcome.{GivesBy};
 ghost use Rattle.wasm_base.specs.Window.{place, KeepsWindow};
 ghost use Rattle.wasm_items.specs.Values.{abstract_heap_of, plain_type_of, ref_type_in};
 
@@ -58,8 +58,7 @@ impl<'a> FromReader<'a> for HeapType {
 // A reference type. Another first byte is a fault of what is to be read.
 #[tactic(auto, unfolding(crate::specs::Values::ref_type_in))]
 fn read_ref_type(lead: Lead, reader: &mut BinaryReader<'_>) -> Result<RefType>
-    ensures gives { Gives (λ ty. ty) result (place reader.new)
-        (ref_type_in lead (place reader.old)) }
+    ensures gives { GivesBy (λ ty. ty) result reader.old reader.new (ref_type_in lead) }
     ensures keeps { KeepsWindow reader.old reader.new }
     ensures memory { TakesNoMemory result }
 {

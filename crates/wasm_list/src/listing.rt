@@ -64,7 +64,11 @@ fn write_line<W: Sink>(output: &mut W, line: &str) -> Result<(), ListError>
 }
 
 // Writes the line of a payload.
-fn write_payload<A: Allocator, W: Sink>(alloc: A, output: &mut W, payload: &Payload) -> Result<(), ListError>
+fn write_payload<A: Allocator, W: Sink>(
+    alloc: A,
+    output: &mut W,
+    payload: &Payload,
+) -> Result<(), ListError>
     ensures writes { Writes (W.taken output.old) (W.taken output.new)
         (line_of (report_of payload.now)) result }
     ensures failed { W.has_failed output.new ≡ output_failed result (W.has_failed output.old) }

@@ -4,7 +4,7 @@ use Rattle.std.proofs.lemmas.List.{length-take-le}
 use Rattle.std.specs.List.{list_all, list_any}
 use Rattle.wasm_base.specs.FaultAt.{FaultAt, fault_at, at_offset}
 use Rattle.wasm_base.specs.Number.{unsigned_at}
-use Rattle.wasm_base.specs.Window.{Window, Place, advanced}
+use Rattle.wasm_base.specs.Window.{Window, Place, advanced, window_over}
 use Rattle.wasm_base.specs.declared.error.Error.{Error}
 use Rattle.wasm_base.specs.declared.fault.Fault.TheVariants.{UnexpectedEof, FunctionCodeDiffer, CodeWithoutFunction, TrailingCode}
 use Rattle.wasm_base.specs.declared.fault.NumberKind.TheVariants.{VarU32}
@@ -13,7 +13,7 @@ use Rattle.wasm_parser.specs.Content.{when}
 use Rattle.wasm_parser.specs.ReadsPart.{content_at}
 use Rattle.wasm_parser.specs.Grammar
 use Rattle.wasm_parser.specs.Grammar.{SectionContext, Grammar, accept, check, u32_field, verdict, wrong_count, code_grammar, body_of, body_grammar}
-use Rattle.wasm_parser.specs.Reading.{code_start, code_entry, window_over}
+use Rattle.wasm_parser.specs.Reading.{code_start, code_entry}
 use Rattle.wasm_parser.specs.declared.payload.Payload.{Payload}
 use Rattle.wasm_parser.proofs.Framed.{HasContent, has_content, too_few}
 use Rattle.wasm_parser.proofs.ReadingFields.{report_bytes, report_missing, report_number, report_no_number, report_wrong, report_right, report_whole, report_stops, ReadNumber, read_number}

@@ -5,7 +5,7 @@ use Rattle.std.proofs.lemmas.List.{length-take-le}
 use Rattle.wasm_base.specs.FaultAt.{FaultAt, fault_at, at_offset}
 use Rattle.wasm_base.specs.Number.{Number, read, bad, short, number, in_window, unsigned_at}
 use Rattle.wasm_base.specs.Section.{Section}
-use Rattle.wasm_base.specs.Window.{Window, Place, place, advanced}
+use Rattle.wasm_base.specs.Window.{Window, Place, place, advanced, window_over}
 use Rattle.wasm_base.specs.declared.error.Error.{Error}
 use Rattle.wasm_base.specs.declared.fault.Fault.{Fault}
 use Rattle.wasm_base.specs.declared.fault.Fault.TheVariants.{UnexpectedEof, StartContent, DataCountContent, DataCountDiffer}
@@ -14,7 +14,7 @@ use Rattle.wasm_parser.specs.ParseAnswer.{unread, counted_by, report_of, BeginsA
 use Rattle.wasm_parser.specs.Content.{items, index, data_count, wrong_number, wrong_single, when, wrong_content, value_of, count_of, Form}
 use Rattle.wasm_parser.specs.ReadsPart.{content_at, ReadsSingleNumber, IsCounted, IsCountedAs, ReadsCounted, is_miscounted_by}
 use Rattle.wasm_parser.specs.Grammar.{SectionContext, whole_grammar, wrong_data}
-use Rattle.wasm_parser.specs.Reading.{Report, counted, start_section, data_count_section, window_over, section_report}
+use Rattle.wasm_parser.specs.Reading.{Report, counted, start_section, data_count_section, section_report}
 use Rattle.wasm_parser.specs.declared.payload.Payload.{Payload}
 use Rattle.wasm_parser.specs.declared.payload.Payload.TheVariants.{Version, TypeSection, ImportSection, FunctionSection, TableSection, MemorySection, TagSection, GlobalSection, ExportSection, StartSection, ElementSection, DataCountSection, DataSection, CodeSectionStart, CodeSectionEntry, CustomSection, UnknownSection, End}
 use Rattle.wasm_parser.proofs.Framed.{HasContent, has_content, whole_good, whole_bad, whole_miscounted}

@@ -10,10 +10,11 @@ use Rattle.wasm_base.specs.Number.{Number, read, bad, short, number}
 use Rattle.wasm_base.specs.declared.fault.Fault.TheVariants.{UnexpectedEof, MagicAtSection}
 use Rattle.wasm_base.specs.declared.fault.NumberKind.TheVariants.{VarU32}
 use Rattle.wasm_base.proofs.NumberLaws.{Used, number-used}
+use Rattle.wasm_base.specs.Window.{window_over}
 use Rattle.wasm_parser.specs.Content.{Kind, custom, items, index, data_count, code, unknown, kind_of, Ending, fault, ended, Form, whole}
 use Rattle.wasm_parser.specs.Grammar.{Shape, version, section, code_start, code_entry, Tile, Verdict, tile, final, Grammar, accept, reject, check, u32_field, bytes, section_start, after, after_number, verdict, SectionContext, header_of, header_grammar, end_at_section, content_grammar, section_grammar, body_grammar}
 use Rattle.wasm_parser.specs.Laws.{EventsLieEndToEnd}
-use Rattle.wasm_parser.specs.Reading.{Event, window_over, custom_report, section_report, tile_report, event_of, stream_end, last_event, events_of, Reads}
+use Rattle.wasm_parser.specs.Reading.{Event, custom_report, section_report, tile_report, event_of, stream_end, last_event, events_of, Reads}
 use Rattle.wasm_parser.specs.EventRanges.{consumed_by, IsPart, LiesIn, LiesBetween, AtOffsets, EndToEnd}
 use Rattle.wasm_parser.specs.Tiling.{context_of, grammar, bodies_left, bytes_left, bytes_of, Faultless}
 use Rattle.wasm_parser.specs.declared.payload.Encoding.{Encoding}

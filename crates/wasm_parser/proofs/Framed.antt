@@ -10,7 +10,7 @@ use Rattle.wasm_base.specs.Header.{magic, agree}
 use Rattle.wasm_base.specs.Name.{Name, named, refused, name_limit, name, name_in_window, text_at, first_of, byte_at}
 use Rattle.wasm_base.specs.Number.{unsigned_at}
 use Rattle.wasm_base.specs.Outcome.{◌>>=◌}
-use Rattle.wasm_base.specs.Window.{Window, Place, place, advanced, KeepsWindow}
+use Rattle.wasm_base.specs.Window.{Window, Place, place, advanced, KeepsWindow, window_over}
 use Rattle.wasm_base.specs.declared.error.Error.{Error}
 use Rattle.wasm_base.specs.declared.fault.Fault.TheVariants.{UnexpectedEof, MagicAtSection, MalformedSectionId, SectionTooLarge, OutOfOrder}
 use Rattle.wasm_base.specs.declared.fault.NumberKind.TheVariants.{VarU32}
@@ -19,7 +19,7 @@ use Rattle.wasm_parser.specs.Content.{Kind, custom, unknown, kind_of, rank_of, w
 use Rattle.wasm_parser.specs.ReadsPart.{content_at}
 use Rattle.wasm_custom.specs.Custom.{Custom, IsCustom}
 use Rattle.wasm_parser.specs.Grammar.{section, SectionContext, Grammar, check, u32_field, verdict, whole_grammar, wrong_data, content_grammar, after_length, after_id, section_grammar}
-use Rattle.wasm_parser.specs.Reading.{section_report, custom_report, window_over, custom_section, unknown_section}
+use Rattle.wasm_parser.specs.Reading.{section_report, custom_report, custom_section, unknown_section}
 use Rattle.wasm_parser.specs.declared.payload.Payload.{Payload}
 use Rattle.wasm_parser.specs.declared.payload.Payload.TheVariants.{CustomSection}
 use Rattle.wasm_parser.proofs.ReadingFields.{report_at, report_bytes, report_missing, report_number, report_no_number, report_wrong, report_right, report_whole, ReadNumber, read_number}

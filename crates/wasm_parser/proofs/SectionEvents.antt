@@ -4,13 +4,13 @@ use Rattle.std.proofs.Common.{◌≡◌, ℕ, ◌+◌, ◌-◌, Bool, true, fals
 use Rattle.std.specs.Prelude.{◌⊎◌}
 use Rattle.wasm_base.specs.Name.{Name, named, refused, name_limit, name}
 use Rattle.wasm_base.specs.Number.{read}
-use Rattle.wasm_base.specs.Window.{Window}
+use Rattle.wasm_base.specs.Window.{Window, window_over}
 use Rattle.wasm_parser.specs.Accepted.{IsNumber, IsFormed}
 use Rattle.wasm_parser.specs.Content.{Kind, custom, items, index, data_count, code, unknown, kind_of, Ending, fault, ended, value_of, Form}
 use Rattle.wasm_parser.specs.Grammar
 use Rattle.wasm_parser.specs.Grammar.{Shape, section, Tile, tile, SectionContext, verdict, section_grammar, body_grammar, content_grammar, code_grammar}
 use Rattle.wasm_parser.specs.Laws.{EventsSayTheirBytes}
-use Rattle.wasm_parser.specs.Reading.{Report, code_entry, window_over, custom_report, section_report, event_of, last_event, events_of}
+use Rattle.wasm_parser.specs.Reading.{Report, code_entry, custom_report, section_report, event_of, last_event, events_of}
 use Rattle.wasm_parser.specs.SectionEvents.{bytes_of_bodies, SaysContent, IsSectionEvent, SaysItsBytes}
 use Rattle.wasm_parser.specs.Sections.{section_of}
 use Rattle.wasm_parser.specs.EventRanges.{AtOffsets}

@@ -10,12 +10,13 @@ use Rattle.wasm_base.specs.Number.{Number, read, bad, short, number}
 use Rattle.wasm_base.specs.declared.fault.Fault.{Fault}
 use Rattle.wasm_base.specs.declared.fault.Fault.TheVariants.{UnexpectedEof, MagicAtSection, SectionTooLarge, StartContent, DataCountContent, UnknownVersion, OutOfOrder, MalformedSectionId, BadMagic, FunctionCodeDiffer, CodeWithoutFunction, FunctionWithoutCode, DataCountWithoutData, DataCountDiffer}
 use Rattle.wasm_base.specs.declared.fault.NumberKind.TheVariants.{VarU32}
+use Rattle.wasm_base.specs.Window.{window_over}
 use Rattle.wasm_parser.specs.Content.{Kind, custom, items, index, data_count, code, unknown, kind_of, rank_of, Ending, fault, ended, when, wrong_number, wrong_single, wrong_name, wrong_content, Form, whole}
 use Rattle.wasm_parser.specs.Grammar
 use Rattle.wasm_parser.specs.Grammar.{Shape, section, Tile, Verdict, tile, final, Grammar, accept, reject, check, u32_field, bytes, section_start, after, after_number, verdict, SectionContext, header_of, version_of, header_grammar, end_at_section, wrong_count, code_grammar, wrong_data, whole_grammar, content_grammar, after_length, after_id, section_grammar, body_of, body_grammar}
 use Rattle.wasm_parser.specs.Laws.{StartOnlyMoves}
 use Rattle.wasm_parser.specs.Shifted.{shifted_fault, shifted_ending, shifted_report, shifted_event, shifted_events, PassesTheTop}
-use Rattle.wasm_parser.specs.Reading.{code_start, code_entry, custom_section, window_over, custom_report, section_report, tile_report, event_of, last_event, events_of, Reads}
+use Rattle.wasm_parser.specs.Reading.{code_start, code_entry, custom_section, custom_report, section_report, tile_report, event_of, last_event, events_of, Reads}
 use Rattle.wasm_parser.specs.Tiling.{inside, context_of, grammar, bodies_left, bytes_left, bytes_of, Faultless}
 use Rattle.wasm_parser.specs.declared.payload.Encoding.{Encoding}
 use Rattle.wasm_parser.proofs.Ends.{Closes, tile_closes}

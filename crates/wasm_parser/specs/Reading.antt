@@ -1,7 +1,7 @@
 -- The reading of a whole stream. Core specification, Binary format, Modules.
 use Rattle.std.specs.Prelude.{◌≡◌, ℕ, ◌+◌, ◌-◌, List, [], ◌∷◌, ◌++◌, length, Some, ◌^◌, ◌<◌, All}
 use Rattle.wasm_base.specs.Name.{Name, named, refused, name_limit, name}
-use Rattle.wasm_base.specs.Window.{Window}
+use Rattle.wasm_base.specs.Window.{Window, window_over}
 use Rattle.wasm_parser.specs.Content.{items, data_count, custom, index, unknown, count_of, Ending, Form}
 use Rattle.wasm_parser.specs.Grammar
 use Rattle.wasm_parser.specs.Grammar.{Shape, section, Tile, final, verdict}
@@ -30,10 +30,6 @@ pub data Report : Type 0 where
 pub record Event : Type 0 where
   pub report : Report
   pub consumed : List ℕ
-
--- these bytes at this offset as a window, for a reader with these features
-abbrev pub window_over : (features offset : ℕ) → List ℕ → Window
-window_over features offset bytes = record { features = features; start = offset; bytes = bytes; position = 0 }
 
 -- what is reported of a custom section that begins with this name
 abbrev pub custom_report : (features from to : ℕ) (content : List ℕ) → Name → Report

@@ -1,6 +1,6 @@
 -- What each part of a stream is read as, by what a parser knows before it.
 use Rattle.std.specs.Prelude.{nat_lt, nat_le, ◌≡◌, ℕ, ◌+◌, ◌<◌, false, true, length, Option, option_to_list, nat_eq, Result, Ok, Some, None, Err, Bool, ◌&&◌, not, List, ◌==◌}
-use Rattle.wasm_base.specs.Window.{Place, Window, place, KeepsWindow}
+use Rattle.wasm_base.specs.Window.{Place, Window, place, KeepsWindow, window_over}
 use Rattle.wasm_base.specs.declared.error.Error.{Error}
 use Rattle.wasm_parser.specs.Content.{Kind, items, kind_of, wrong_single, value_of, Form}
 use Rattle.wasm_parser.specs.Grammar.{SectionContext, verdict, header_grammar, section_grammar, after_id, after_length, content_grammar, whole_grammar, code_grammar, body_grammar}
@@ -9,7 +9,7 @@ use Rattle.wasm_parser.specs.ParserState.{ParserState, known_context, grammar_of
 use Rattle.wasm_parser.specs.declared.payload.Payload.{Payload}
 use Rattle.wasm_base.specs.Name.{bytes_at}
 use Rattle.wasm_base.specs.Outcome.{Outcome, ◌>>=◌}
-use Rattle.wasm_parser.specs.Reading.{window_over, Report, counted}
+use Rattle.wasm_parser.specs.Reading.{Report, counted}
 use Rattle.wasm_base.specs.Header.{magic, agree}
 use Rattle.wasm_base.specs.FaultAt.{fault_at}
 use Rattle.wasm_base.specs.Number.{number, unsigned_at}

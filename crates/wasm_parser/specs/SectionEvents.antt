@@ -4,10 +4,10 @@ use Rattle.std.specs.declared.ops.Range.{Range}
 use Rattle.std.specs.Prelude.{◌≡◌, ℕ, ◌+◌, List, ◌∷◌, ◌++◌, length, Some}
 use Rattle.wasm_base.specs.Name.{named, name_limit, name}
 use Rattle.wasm_base.specs.Number.{read, number}
-use Rattle.wasm_base.specs.Window.{Window}
+use Rattle.wasm_base.specs.Window.{Window, window_over}
 use Rattle.wasm_base.specs.declared.fault.NumberKind.TheVariants.{VarU32}
 use Rattle.wasm_parser.specs.Accepted.{IsNumber}
-use Rattle.wasm_parser.specs.Reading.{Report, counted, start_section, data_count_section, code_start, code_entry, custom_section, unknown_section, Event, window_over}
+use Rattle.wasm_parser.specs.Reading.{Report, counted, start_section, data_count_section, code_start, code_entry, custom_section, unknown_section, Event}
 use Rattle.wasm_parser.specs.Sections.{section_of}
 
 -- The content begins with a number of this value.

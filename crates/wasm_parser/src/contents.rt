@@ -1,6 +1,6 @@
 // What the content of a section begins with.
 ghost use Rattle.std.specs.Prelude.{◌≡◌, ◌+◌, ◌<◌, ◌^◌, option_to_list};
-ghost use Rattle.wasm_base.specs.Outcome.{Gives};
+ghost use Rattle.wasm_base.specs.Outcome.{GivesBy};
 ghost use Rattle.wasm_base.specs.Window.{place, KeepsWindow};
 ghost use Rattle.wasm_parser.specs.Content.{custom, items, index, data_count, unknown, whole};
 ghost use Rattle.wasm_parser.specs.ParseAnswer.{report_of};
@@ -61,7 +61,7 @@ pub(crate) fn unknown<'a>(id: u8, size: u32, reader: &mut BinaryReader<'a>) -> R
 /// So many bytes as a window of their own.
 #[tactic(auto, unfolding(crate::specs::ReadsPart::content_at))]
 pub(crate) fn window<'a>(size: u32, reader: &mut BinaryReader<'a>) -> Result<BinaryReader<'a>>
-    ensures gives { Gives (λ window. window) result (place reader.new) (content_at size (place reader.old)) }
+    ensures gives { GivesBy (λ window. window) result reader.old reader.new (content_at size) }
     ensures keeps { KeepsWindow reader.old reader.new }
 {
     let start = reader.original_position();

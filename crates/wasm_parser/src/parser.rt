@@ -1,14 +1,13 @@
 // The parser of a stream.
 ghost use Rattle.std.specs.Prelude.{⊤, ◌≡◌, ◌+◌, ◌<◌, ◌^◌, ◌&&◌, not, IsTrue, true, false, [], length, nat_lt, nat_eq};
 ghost use Rattle.wasm_base.specs.Features.{feature_bits};
-ghost use Rattle.wasm_base.specs.Window.{place};
+ghost use Rattle.wasm_base.specs.Window.{place, window_over};
 ghost use Rattle.wasm_parser.specs.Accepted.{begins_with_header};
 ghost use Rattle.wasm_parser.specs.Content.{kind_of as form_of, kind_is};
 ghost use Rattle.wasm_parser.specs.GivesNextEvent.{GivesNextEvent};
 ghost use Rattle.wasm_parser.specs.ParseAll.{walk_over, WalksWhole};
 ghost use Rattle.wasm_parser.specs.ParseAnswer.{Advances, Consumes, ParseAnswer, FaultsWithin, IsUnchanged};
 ghost use Rattle.wasm_parser.specs.ParserState.{initial_state};
-ghost use Rattle.wasm_parser.specs.Reading.{window_over};
 ghost use Rattle.wasm_parser.specs.ReadsPart.{HasSection, ReadsAfterId, ReadsAfterLength, ReadsBody, ReadsContent, ReadsNext, ReadsNextSection};
 ghost use Rattle.wasm_parser.specs.declared.payload.Encoding.TheVariants.{Module, Component};
 
