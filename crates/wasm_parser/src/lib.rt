@@ -32,7 +32,8 @@ pub use wasm_items::{
     CompositeType, ConstExpr, Data, DataKind, DataSectionReader, Element, ElementItems,
     ElementKind, ElementSectionReader, Export, ExportSectionReader, ExternalKind, FieldType,
     FuncType, FunctionBody, FunctionSectionReader, Global, GlobalSectionReader, GlobalType,
-    HeapType, Import, ImportItemCompact, ImportSectionReader, Imports, MemorySectionReader,
-    MemoryType, RecGroup, RefType, StorageType, SubType, Table, TableInit, TableSectionReader,
-    TableType, TagKind, TagSectionReader, TagType, TypeRef, TypeSectionReader, ValType,
+    HeapType, Import, ImportItemCompact, ImportSection, ImportSectionReader, Imports, ImportsIter,
+    IntoImports, IntoImportsWithOffsets, MemorySectionReader, MemoryType, RecGroup, RefType,
+    StorageType, SubType, Table, TableInit, TableSectionReader, TableType, TagKind,
+    TagSectionReader, TagType, TypeRef, TypeSectionReader, ValType,
 };
