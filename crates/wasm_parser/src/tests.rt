@@ -3,6 +3,7 @@ mod code;
 mod debug;
 mod fields;
 mod hints;
+mod imports;
 mod parsing;
 mod surface;
 mod walking;
