@@ -1,4 +1,4 @@
--- Comparisons that tell whether two values are the same.
+-- Comparisons that decide whether two values are the same.
 use Rattle.std.proofs.Common.{◌≡◌, Bool, true, false, ◌&&◌, Option, List, [], ◌∷◌, nat_eq, refl, ap, subst}
 use Rattle.std.specs.Prelude.{Some, None}
 use Rattle.std.proofs.lemmas.Bool.{eqb-true, eq-eqb}

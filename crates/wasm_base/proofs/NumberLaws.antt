@@ -136,25 +136,6 @@ pub number-short : (kind : NumberKind) (xs : List ℕ) → number kind xs ≡ sh
 unfolding number
 number-short kind xs r = short_at kind xs (last_place xs) refl r
 
-bad_test : (a b c : Bool) (w i p q v : ℕ) (f g h : Fault) → cond a (read w (suc i)) (cond b (bad f p) (cond c (read w (suc i)) (bad g q))) ≡ bad h v → (h ≡ f) ⊎ (h ≡ g)
-bad_test true b c w i p q v f g h e = cc
-bad_test false true c w i p q v f g h e = inl (cc)
-bad_test false false true w i p q v f g h e = cc
-bad_test false false false w i p q v f g h e = inr (cc)
-
-bad_none : (t : Bool) (f h : Fault) (p v : ℕ) → cond t short (bad f p) ≡ bad h v → h ≡ f
-bad_none true f h p v e = cc
-bad_none false f h p v e = cc
-
-bad_at : (kind : NumberKind) (xs : List ℕ) (o : Option ℕ) (h : Fault) (v : ℕ) → ends_at kind xs o ≡ bad h v → (h ≡ NumberTooLong kind) ⊎ (h ≡ NumberTooLarge kind)
-bad_at kind xs None h v e = inl (bad_none (nat_lt (length xs) (most_bytes kind)) (NumberTooLong kind) h (most_bytes kind - 1) v e)
-bad_at kind xs (Some i) h v e = bad_test (nat_lt (suc i) (most_bytes kind)) (nat_lt (most_bytes kind) (suc i)) (is_unused_right kind (slice_index xs i)) (groups (take (suc i) xs)) i (most_bytes kind - 1) i v (NumberTooLong kind) (NumberTooLarge kind) h e
-
--- a number is wrong in two ways
-pub number-bad : (kind : NumberKind) (xs : List ℕ) (h : Fault) (v : ℕ) → number kind xs ≡ bad h v → (h ≡ NumberTooLong kind) ⊎ (h ≡ NumberTooLarge kind)
-unfolding number
-number-bad kind xs h v e = bad_at kind xs (last_place xs) h v e
-
 none_step : (t : Bool) (o p : Option ℕ) → (o ≡ None → p ≡ None) → cond t (Some 0) (option_map suc o) ≡ None → cond t (Some 0) (option_map suc p) ≡ None
 none_step true o p h e = cc
 none_step false (Some j) p h e = cc

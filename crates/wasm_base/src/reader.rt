@@ -88,7 +88,7 @@ pub fn fits(offset: u64, len: usize) -> bool
 }
 
 impl<'a> BinaryReader<'a> {
-    /// A reader of bytes that begin at this offset of the stream, with all features. `fits` tells whether they may.
+    /// A reader of bytes that begin at this offset of the stream, with all features. `fits` says whether they may.
     pub fn new(bytes: &'a [u8], offset: u64) -> Self
         requires { offset + length bytes.now < 2 ^ 64 }
         ensures { result ≡ window_over 3 offset bytes.now }
@@ -96,7 +96,7 @@ impl<'a> BinaryReader<'a> {
         BinaryReader::new_features(bytes, offset, WasmFeatures::all())
     }
 
-    /// A reader of bytes that begin at this offset of the stream. `fits` tells whether they may.
+    /// A reader of bytes that begin at this offset of the stream. `fits` says whether they may.
     pub fn new_features(bytes: &'a [u8], offset: u64, features: WasmFeatures) -> Self
         requires { offset + length bytes.now < 2 ^ 64 }
         ensures { result ≡ window_over (feature_bits features) offset bytes.now }

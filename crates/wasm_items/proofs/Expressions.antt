@@ -10,7 +10,7 @@ use Rattle.wasm_base.specs.declared.fault.Fault.TheVariants.{UnexpectedEof}
 use Rattle.wasm_base.specs.declared.fault.NumberKind.{NumberKind}
 use Rattle.wasm_base.specs.declared.fault.NumberKind.TheVariants.{VarU32, VarS33}
 use Rattle.wasm_items.proofs.Instructions.{byte_passed}
-use Rattle.wasm_items.specs.Init.{Operand, signed, raw, index, heap, operand_at, operands_at, constant_operands_at, numbered_operands_at, operands_of, aggregate_operands_of, vector_operands_of, after_opcode, instructions_at, end_of_expression, IsEndOrInstruction}
+use Rattle.wasm_items.specs.Init.{Operand, signed, raw, u32_index, heap, operand_at, operands_at, constant_operands_at, numbered_operands_at, operands_of, aggregate_operands_of, vector_operands_of, after_opcode, instructions_at, end_of_expression, IsEndOrInstruction}
 use Rattle.wasm_items.specs.Values.{heap_type_at, heap_type_from, abstract_heap_of, type_index}
 use Rattle.wasm_items.specs.declared.types.HeapType.{HeapType}
 
@@ -67,7 +67,7 @@ heap_within n p le = peeked_within p p.rest n le
 operand_within : (operand : Operand) (n : ℕ) (p : Place) → length p.rest ≤ n → Within n (operand_at operand p)
 operand_within (signed kind) n p le = then_within n (signed_at kind p) (λ x. Ok (tt, x.1)) (signed_within kind n p le) (λ x h. h)
 operand_within (raw count) n p le = then_within n (bytes_at count p) (λ x. Ok (tt, x.1)) (bytes_within count n p le) (λ x h. h)
-operand_within index n p le = then_within n (unsigned_at VarU32 p) (λ x. Ok (tt, x.1)) (unsigned_within VarU32 n p le) (λ x h. h)
+operand_within u32_index n p le = then_within n (unsigned_at VarU32 p) (λ x. Ok (tt, x.1)) (unsigned_within VarU32 n p le) (λ x h. h)
 operand_within heap n p le = then_within n (heap_type_at p) (λ x. Ok (tt, x.1)) (heap_within n p le) (λ x h. h)
 
 operands_within : (operands : List Operand) (n : ℕ) (p : Place) → length p.rest ≤ n → Within n (operands_at operands p)

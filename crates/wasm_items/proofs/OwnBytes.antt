@@ -13,7 +13,7 @@ use Rattle.wasm_base.specs.Window.{Place, advanced}
 use Rattle.wasm_base.specs.declared.fault.Fault.TheVariants.{UnexpectedEof}
 use Rattle.wasm_base.specs.declared.fault.NumberKind.{NumberKind}
 use Rattle.wasm_base.specs.declared.fault.NumberKind.TheVariants.{VarU32, VarS33}
-use Rattle.wasm_items.specs.Init.{Operand, signed, raw, index, heap, operand_at, operands_at, constant_operands_at, numbered_operands_at, aggregate_operands_of, vector_operands_of, operands_of, after_opcode, instructions_at, end_of_expression}
+use Rattle.wasm_items.specs.Init.{Operand, signed, raw, u32_index, heap, operand_at, operands_at, constant_operands_at, numbered_operands_at, aggregate_operands_of, vector_operands_of, operands_of, after_opcode, instructions_at, end_of_expression}
 use Rattle.wasm_items.specs.Values.{abstract_heap_of, type_index, heap_type_from, heap_type_at}
 use Rattle.wasm_items.specs.declared.types.HeapType.{HeapType}
 
@@ -224,7 +224,7 @@ own_passed reading own = own_both reading (λ a p. Ok (tt, p)) own (λ a. own_no
 own_operand : (operand : Operand) → Own (operand_at operand)
 own_operand (signed kind) = own_passed (signed_at kind) (own_signed kind)
 own_operand (raw n) = own_passed (bytes_at n) (own_bytes n)
-own_operand index = own_passed (unsigned_at VarU32) (own_number VarU32)
+own_operand u32_index = own_passed (unsigned_at VarU32) (own_number VarU32)
 own_operand heap = own_passed heap_type_at own_heap_type
 
 own_operands : (operands : List Operand) → Own (operands_at operands)

@@ -1,4 +1,4 @@
--- Derived comparisons tell whether two values are the same.
+-- Derived comparisons decide whether two values are the same.
 use Rattle.std.proofs.Common.{◌≡◌, ℕ, true, List, nat_eq, refl, subst, sym}
 use lib.Pointwise.{pointwise}
 use Rattle.std.specs.Cmp.Derive.{both_true}

@@ -10,8 +10,8 @@ use Rattle.wasm_items.specs.declared.exports.ExternalKind.{ExternalKind}
 use Rattle.wasm_items.specs.declared.exports.ExternalKind.TheVariants.{Func, Table, Memory, Global, Tag, FuncExact}
 
 -- the kind that each byte is
-abbrev pub kind_of : ℕ → Option ExternalKind
-kind_of byte =
+abbrev pub external_kind_of : ℕ → Option ExternalKind
+external_kind_of byte =
     if byte == 0x00 then Some Func
     else if byte == 0x01 then Some Table
     else if byte == 0x02 then Some Memory
@@ -29,4 +29,4 @@ kind_or_fault byte None = Err (leading_byte Leads.External byte.0 (byte.1.offset
 unfoldable pub kind_at : Place → Outcome ExternalKind
 kind_at p = do
   byte ← byte_at p
-  kind_or_fault byte (kind_of byte.0)
+  kind_or_fault byte (external_kind_of byte.0)

@@ -20,14 +20,14 @@ pub data Operand : Type 0 where
   -- so many bytes
   raw : ℕ → Operand
   -- an index
-  index : Operand
+  u32_index : Operand
   -- a heap type
   heap : Operand
 
 -- the operands of the constant instruction with each opcode of one byte
 abbrev pub operands_of : (opcode : ℕ) → Option (List Operand)
 operands_of opcode =
-    if opcode == 0x23 then Some (index ∷ [])  -- global.get
+    if opcode == 0x23 then Some (u32_index ∷ [])  -- global.get
     else if opcode == 0x41 then Some (signed VarI32 ∷ [])  -- i32.const
     else if opcode == 0x42 then Some (signed VarI64 ∷ [])  -- i64.const
     else if opcode == 0x43 then Some (raw 4 ∷ [])  -- f32.const
@@ -39,17 +39,17 @@ operands_of opcode =
     else if opcode == 0x7D then Some []  -- i64.sub
     else if opcode == 0x7E then Some []  -- i64.mul
     else if opcode == 0xD0 then Some (heap ∷ [])  -- ref.null
-    else if opcode == 0xD2 then Some (index ∷ [])  -- ref.func
+    else if opcode == 0xD2 then Some (u32_index ∷ [])  -- ref.func
     else None
 
 -- the operands of the constant instruction with opcode 0xFB and each number after it
 abbrev pub aggregate_operands_of : ℕ → Option (List Operand)
 aggregate_operands_of number =
-    if number == 0 then Some (index ∷ [])  -- struct.new
-    else if number == 1 then Some (index ∷ [])  -- struct.new_default
-    else if number == 6 then Some (index ∷ [])  -- array.new
-    else if number == 7 then Some (index ∷ [])  -- array.new_default
-    else if number == 8 then Some (index ∷ index ∷ [])  -- array.new_fixed
+    if number == 0 then Some (u32_index ∷ [])  -- struct.new
+    else if number == 1 then Some (u32_index ∷ [])  -- struct.new_default
+    else if number == 6 then Some (u32_index ∷ [])  -- array.new
+    else if number == 7 then Some (u32_index ∷ [])  -- array.new_default
+    else if number == 8 then Some (u32_index ∷ u32_index ∷ [])  -- array.new_fixed
     else if number == 26 then Some []  -- any.convert_extern
     else if number == 27 then Some []  -- extern.convert_any
     else if number == 28 then Some []  -- ref.i31
@@ -67,7 +67,7 @@ operand_at (signed kind) p = do
 operand_at (raw n) p = do
   bytes ← bytes_at n p
   Ok (tt, bytes.1)
-operand_at index p = do
+operand_at u32_index p = do
   number ← unsigned_at VarU32 p
   Ok (tt, number.1)
 operand_at heap p = do

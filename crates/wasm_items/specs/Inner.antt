@@ -1,4 +1,4 @@
--- Counted items inside an item, which are passed over when it is read. Core specification, Binary format, Conventions, Vectors.
+-- Counted items inside an item, which are passed over when it is read. Core specification, Binary format, Conventions, Lists.
 use Rattle.std.specs.Prelude.{ℕ, zero, suc, ◌-◌, Ok}
 use Rattle.wasm_base.specs.Number.{unsigned_at}
 use Rattle.wasm_base.specs.Outcome.{Outcome, ◌>>=◌}

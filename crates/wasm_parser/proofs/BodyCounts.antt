@@ -10,7 +10,7 @@ use Rattle.wasm_parser.specs.Grammar
 use Rattle.wasm_parser.specs.Grammar.{Shape, section, Tile, tile, final, SectionContext, verdict, section_grammar, body_grammar}
 use Rattle.wasm_parser.specs.Reading.{code_start, code_entry, Event, custom_report, section_report, tile_report, event_of, stream_end, last_event, events_of}
 use Rattle.wasm_parser.specs.SectionLaws.{BodiesFollowTheirCount}
-use Rattle.wasm_parser.specs.Sections.{TellsBody, TellsFault, BodiesFollow}
+use Rattle.wasm_parser.specs.Sections.{ReportsBody, ReportsFault, BodiesFollow}
 use Rattle.wasm_parser.specs.Tiling.{bytes_of, context_of, grammar, bodies_left, bytes_left, bodies_after, Faultless}
 use Rattle.wasm_parser.proofs.Endings.{inside_end}
 use Rattle.wasm_parser.proofs.StateLaws.{Placed, placed, IsBody, IsHeader, headed}
@@ -98,7 +98,7 @@ no_last (ended o) w e = cc
 
 -- bodies alone, with those that are missed as many as it counts
 record Open (ts : List Tile) (count : ℕ) (after : List Event) : Type 0 where
-  each : All TellsBody after
+  each : All ReportsBody after
   misses : length after + bodies_left ts ≡ count
 
 -- as many bodies as it counts, and another event
@@ -107,8 +107,8 @@ record Shut (count : ℕ) (after : List Event) : Type 0 where
   next : Event
   later : List Event
   whole : after ≡ bodies ++ next ∷ later
-  each : All TellsBody bodies
-  other : ¬ TellsBody next
+  each : All ReportsBody bodies
+  other : ¬ ReportsBody next
   many : length bodies ≡ count
 
 -- whatever follows
@@ -148,7 +148,7 @@ open_more start features u ts t count after false z o e s =
     let h : t.shape ≡ Grammar.code_entry p.content = ap (λ (x : Tile). x.shape) p.is in
     let l : bodies_left (t ∷ u ∷ ts) ≡ bodies_left (u ∷ ts) - 1 = ap (λ (x : Shape). bodies_after x (bodies_left (u ∷ ts))) h in
     inl (record {
-      each = All-push TellsBody after (event_of features o t) s.each (_, ap (tile_report features o (o + length t.bytes)) h);
+      each = All-push ReportsBody after (event_of features o t) s.each (_, ap (tile_report features o (o + length t.bytes)) h);
       misses = omega (arith, s.misses, p.missing, length-append after (event_of features o t ∷ []));
     })
 
@@ -169,7 +169,7 @@ follows start features (t ∷ ts) f before after e count from to size z c =
     started : (t : Tile) (ts : List Tile) (o : ℕ) → e ≡ event_of features o t → after ≡ [] → Open (t ∷ ts) count after
     started t ts o q n =
         let m : bodies_left (t ∷ ts) ≡ count = start_misses features o (o + length t.bytes) (bodies_left ts) t.shape count from to size (ap (λ (x : Event). x.report) (sym q) ∙ c) in
-        subst (Open (t ∷ ts) count) (sym n) (record { each = All-nil TellsBody; misses = omega arith })
+        subst (Open (t ∷ ts) count) (sym n) (record { each = All-nil ReportsBody; misses = omega arith })
 
     more : (t : Tile) (ts : List Tile) → Faultless start (t ∷ ts) → (l : List Event) → Open ts count l ⊎ Shut count l
         → Open (t ∷ ts) count (l ++ event_of features (start + length (bytes_of ts)) t ∷ []) ⊎ Shut count (l ++ event_of features (start + length (bytes_of ts)) t ∷ [])
@@ -197,7 +197,7 @@ ends start features ts rest end v count after s = record {
         omega arith
 
     many : (ts : List Tile) (end : Ending) → verdict (grammar start ts) rest ≡ final end → Open ts count after → (m : ℕ) → bodies_left ts ≡ m
-        → (length after ≡ count) ⊎ ((length after < count) × TellsFault (last_event end) × (let l : List Event = [] in l ≡ []))
+        → (length after ≡ count) ⊎ ((length after < count) × ReportsFault (last_event end) × (let l : List Event = [] in l ≡ []))
     many ts end v s zero m = inl (omega (arith, s.misses))
     many ts (fault f) v s (suc n) m = inr (omega (arith, s.misses), (f, refl), refl)
     many ts (ended o) v s (suc n) m = let z : bodies_left ts ≡ 0 = none_left ts o v in absurd (omega arith)

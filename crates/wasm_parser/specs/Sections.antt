@@ -91,12 +91,12 @@ abbrev pub RanksBelow : Encoding → (ℕ × Range ℕ) → (ℕ × Range ℕ) �
 RanksBelow encoding s t = 0 < rank_in encoding s.0 → 0 < rank_in encoding t.0 → rank_in encoding s.0 < rank_in encoding t.0
 
 -- A body is reported.
-abbrev pub TellsBody : Event → Type 0
-TellsBody e = (window : Window) × (e.report ≡ code_entry window)
+abbrev pub ReportsBody : Event → Type 0
+ReportsBody e = (window : Window) × (e.report ≡ code_entry window)
 
 -- A fault is reported.
-abbrev pub TellsFault : Event → Type 0
-TellsFault e = (f : FaultAt) × (e.report ≡ stream_end (fault f))
+abbrev pub ReportsFault : Event → Type 0
+ReportsFault e = (f : FaultAt) × (e.report ≡ stream_end (fault f))
 
 -- These events follow the start of a code section of so many bodies: all its bodies, and then another event; or fewer,
 -- and then a fault, which is reported last.
@@ -105,6 +105,6 @@ pub record BodiesFollow (count : ℕ) (after : List Event) : Type 0 where
   pub next : Event
   pub later : List Event
   pub whole : after ≡ bodies ++ next ∷ later
-  pub each : All TellsBody bodies
-  pub other : ¬ TellsBody next
-  pub many : (length bodies ≡ count) ⊎ ((length bodies < count) × TellsFault next × (later ≡ []))
+  pub each : All ReportsBody bodies
+  pub other : ¬ ReportsBody next
+  pub many : (length bodies ≡ count) ⊎ ((length bodies < count) × ReportsFault next × (later ≡ []))
