@@ -2,12 +2,15 @@
 """Reads random byte strings as items, and compares what the readers say with what a model says.
 
     compare_items.py [SEED] [COUNT] --model PATH [--program PATH] [--only ROW] [--show N]
+    compare_items.py --files LIST --model PATH [--program PATH] [--show N]
 
 The model is a Python file with `outcome(row, bytes, offset, features)`, which gives the text of the item and how many bytes it
 takes, or its fault. The program is `crates/wasm_show_items`, built: it reads all cases at once. A new item is a row of `ROWS`
-here and a row of `show_case` there.
+here and a row of `show_case` there. With `--files`, LIST is a text file with the path of a module or of an archive of modules on each
+line, and every item of their sections is compared.
 """
 import importlib.util
+import itertools
 import os
 import random
 import subprocess
@@ -344,6 +347,59 @@ def packed(cases):
     return b"".join(parts)
 
 
+# ---- items of files
+
+
+# The row of each kind of section whose items are compared, by its id.
+SECTIONS = {1: "recgroup", 2: "imports", 4: "table", 5: "memory", 6: "global", 7: "export", 9: "element", 11: "data", 13: "tag"}
+
+
+def u32_at(data, place):
+    value = shift = 0
+    while True:
+        byte = data[place]
+        value |= (byte & 127) << shift
+        place, shift = place + 1, shift + 7
+        if byte < 128:
+            return value, place
+
+
+def modules_in(data):
+    """The modules of a file: it is one, or an archive of them."""
+    if data[:4] == b"\0asm":
+        yield data
+    elif data[:8] == b"!<arch>\n":
+        place = 8
+        while place + 60 <= len(data):
+            size = int(data[place + 48 : place + 58])
+            member = data[place + 60 : place + 60 + size]
+            if member[:4] == b"\0asm":
+                yield member
+            place += 60 + size + size % 2
+
+
+def cases_in(module, outcome):
+    """Each item of each section, with the bytes after it up to a few more than it takes, which is what the model says."""
+    place = 8
+    while place < len(module):
+        id, (size, start) = module[place], u32_at(module, place + 1)
+        place = start + size
+        if id not in SECTIONS:
+            continue
+        count, at = u32_at(module, start)
+        for _ in range(count):
+            used = int(outcome(SECTIONS[id], module[at:place], at, 3).rsplit(" used ", 1)[1])
+            yield SECTIONS[id], module[at : min(place, at + used + 4)], at, 3
+            at += used
+        assert at == place, (id, at, place)
+
+
+def cases_of(list_of_files, outcome):
+    for line in open(list_of_files):
+        for module in modules_in(open(line.strip(), "rb").read()):
+            yield from cases_in(module, outcome)
+
+
 # ---- comparing
 
 
@@ -369,7 +425,7 @@ def sort_of(row, text):
 
 
 def arguments(words):
-    plain, options = [], {"--model": None, "--show": "10", "--only": None, "--program": os.path.join(TOP, "crates", "wasm_show_items", "out", "wasm_show_items")}
+    plain, options = [], {"--model": None, "--files": None, "--show": "10", "--only": None, "--program": os.path.join(TOP, "crates", "wasm_show_items", "out", "wasm_show_items")}
     words = list(words)
     while words:
         word = words.pop(0)
@@ -387,10 +443,16 @@ def main():
     rng = random.Random(seed)
     outcome = load(options["--model"])
     rows = [options["--only"]] if options["--only"] else list(ROWS)
-    found, kinds, left = [], {}, count
-    while left > 0:
-        cases = [some_case(rng, rows) for _ in range(min(left, BATCH))]
-        left -= len(cases)
+    if options["--files"]:
+        some = cases_of(options["--files"], outcome)
+    else:
+        some = (some_case(rng, rows) for _ in range(count))
+    found, kinds, compared = [], {}, 0
+    while True:
+        cases = list(itertools.islice(some, BATCH))
+        if not cases:
+            break
+        compared += len(cases)
         for case, line in zip(cases, read_with(options["--program"], cases)):
             row, data, offset, features = case
             expected = outcome(row, data, offset, features)
@@ -402,7 +464,7 @@ def main():
         print("%7d %s" % (kinds[word], word))
     for text in found[: int(options["--show"])]:
         print("DIFFERS", text)
-    print("%d compared, %d differ (seed %d)" % (count, len(found), seed))
+    print("%d compared, %d differ (seed %d)" % (compared, len(found), seed))
     return 1 if found else 0
 
 

@@ -33,6 +33,10 @@ class Stop(Exception):
     """A fault: its offset and its message."""
 
 
+def random_bytes(rng, count):
+    return bytes(rng.getrandbits(8) for _ in range(count))
+
+
 def number(data, start, end):
     """A u32 in LEB128 that begins at `start`, in bytes that end at `end`, and the place after it."""
     value = 0
@@ -215,7 +219,7 @@ def some_bodies(rng, count):
         count = max(0, count + rng.choice([-1, 1]))
     out = b""
     for _ in range(count):
-        body = rng.randbytes(rng.choice([0, 1, 2, 2, 9]))
+        body = random_bytes(rng, rng.choice([0, 1, 2, 2, 9]))
         size = len(body) if rng.random() < 0.96 else rng.choice([len(body) + 1, some_number(rng)])
         out += leb(rng, size) + body
     return out
@@ -223,7 +227,7 @@ def some_bodies(rng, count):
 
 def some_content(rng, ident, functions, segments):
     if ident == 0:
-        return some_name(rng) + rng.randbytes(rng.choice([0, 0, 1, 5]))
+        return some_name(rng) + random_bytes(rng, rng.choice([0, 0, 1, 5]))
     if ident == 8:
         return leb(rng, some_number(rng)) + (b"\0" if rng.random() < 0.08 else b"")
     if ident == 12:
@@ -234,10 +238,10 @@ def some_content(rng, ident, functions, segments):
         announced = functions if rng.random() < 0.95 else rng.choice([0, 1, some_number(rng)])
         return leb(rng, announced) + some_bodies(rng, announced if announced < 9 else functions) + (b"\0" if rng.random() < 0.04 else b"")
     if ident == 11:
-        return leb(rng, segments if rng.random() < 0.95 else some_number(rng)) + rng.randbytes(rng.choice([0, 1, 4]))
+        return leb(rng, segments if rng.random() < 0.95 else some_number(rng)) + random_bytes(rng, rng.choice([0, 1, 4]))
     if ident in ORDER:
-        return leb(rng, some_number(rng)) + rng.randbytes(rng.choice([0, 1, 2, 7]))
-    return rng.randbytes(rng.choice([0, 1, 2, 7]))
+        return leb(rng, some_number(rng)) + random_bytes(rng, rng.choice([0, 1, 2, 7]))
+    return random_bytes(rng, rng.choice([0, 1, 2, 7]))
 
 
 def some_section(rng, ident, functions, segments):
@@ -279,13 +283,13 @@ def some_header(rng):
         return MODULE
     if kind < 0.97:
         return COMPONENT
-    return rng.choice([MODULE[:4] + rng.randbytes(4), MODULE[:6] + b"\x01\0", rng.randbytes(8)])
+    return rng.choice([MODULE[:4] + random_bytes(rng, 4), MODULE[:6] + b"\x01\0", random_bytes(rng, 8)])
 
 
 def some_stream(rng):
     kind = rng.random()
     if kind < 0.03:
-        return rng.randbytes(rng.randrange(40))
+        return random_bytes(rng, rng.randrange(40))
     if kind < 0.08:
         return MODULE + bytes(rng.choice(b"\0\x01\x03\x08\x0a\x0b\x0c\x0eas\x80\xff") for _ in range(rng.randrange(14)))
     data = bytearray(some_header(rng))
