@@ -13,7 +13,7 @@ use wasm_items::{
 
 /// Why the cases could not be shown.
 #[derive(Debug, Drop)]
-pub enum Failed {
+pub(crate) enum Failed {
     /// The input isn't cases.
     Cases,
     /// Memory, input or output failed.
@@ -42,7 +42,7 @@ impl From<io::Error> for Failed {
 ///
 /// The input is a count, and for each case the name of a row below, a byte of features, the offset of the first byte in
 /// the stream, and the bytes after their size; numbers are in LEB128.
-pub fn run(rt: &HostRuntime) -> Result<(), Failed> {
+pub(crate) fn run(rt: &HostRuntime) -> Result<(), Failed> {
     let mut bytes = Vec::new(rt.alloc());
     rt.stdin().read_to_end(&mut bytes)?;
     let mut text = String::new(rt.alloc());

@@ -9,13 +9,13 @@ use wasm_items::{
 };
 
 /// What can be shown.
-pub trait Show: Drop {
+pub(crate) trait Show: Drop {
     /// Writes the text of it.
     fn show(&self, out: &mut String) -> std::result::Result<(), AllocError>;
 }
 
 /// Writes the text of a fault.
-pub fn show_fault(e: &Error, out: &mut String) -> std::result::Result<(), AllocError> {
+pub(crate) fn show_fault(e: &Error, out: &mut String) -> std::result::Result<(), AllocError> {
     let (offset, message) = (e.offset(), e.message());
     match e.number() {
         Some(number) => write!(out, "fault {offset} {message}: {number}"),
@@ -24,7 +24,7 @@ pub fn show_fault(e: &Error, out: &mut String) -> std::result::Result<(), AllocE
 }
 
 /// Writes bytes in hexadecimal.
-pub fn show_bytes(bytes: &[u8], out: &mut String) -> std::result::Result<(), AllocError> {
+pub(crate) fn show_bytes(bytes: &[u8], out: &mut String) -> std::result::Result<(), AllocError> {
     write!(out, "x")?;
     for byte in bytes {
         let byte = *byte;
@@ -34,13 +34,16 @@ pub fn show_bytes(bytes: &[u8], out: &mut String) -> std::result::Result<(), All
 }
 
 /// Writes offsets.
-pub fn show_range(range: Range<u64>, out: &mut String) -> std::result::Result<(), AllocError> {
+pub(crate) fn show_range(
+    range: Range<u64>,
+    out: &mut String,
+) -> std::result::Result<(), AllocError> {
     let (start, end) = (range.start, range.end);
     write!(out, "{start}..{end}")
 }
 
 /// Writes the offsets of a section, its count, and its items.
-pub fn show_section<'a, T: FromReader<'a> + Show>(
+pub(crate) fn show_section<'a, T: FromReader<'a> + Show>(
     section: SectionLimited<'a, T>,
     out: &mut String,
 ) -> std::result::Result<(), AllocError> {
@@ -54,7 +57,7 @@ pub fn show_section<'a, T: FromReader<'a> + Show>(
 }
 
 /// Writes an item with its offset, or its fault.
-pub fn show_item<T: Show>(
+pub(crate) fn show_item<T: Show>(
     item: Result<(u64, T)>,
     out: &mut String,
 ) -> std::result::Result<(), AllocError> {
