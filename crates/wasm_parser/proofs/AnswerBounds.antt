@@ -1,10 +1,12 @@
 -- How far a call of the parser, and a walk over a whole stream, go.
-use Rattle.std.proofs.Common.{◌≡◌, ℕ, ◌+◌, ◌-◌, ◌<◌, ◌≤◌, ◌^◌, Bool, true, false, cond, List, ◌++◌, length, Some, Result, Ok, Err, nat_eq, nat_lt, ltb-true, ltb-false, refl, sym, ap, ◌∙◌, arith, length-append}
+use Rattle.std.proofs.Common.{◌≡◌, ℕ, ◌+◌, ◌-◌, ◌<◌, ◌≤◌, ◌^◌, Bool, true, false, cond, List, ◌++◌, length, Some, Result, Ok, Err, nat_eq, nat_lt, ltb-true, ltb-false, refl, sym, ap, subst, ◌∙◌, arith, length-append, inl, inr}
 use Rattle.std.proofs.lemmas.Bool.Decides.{nat_tests}
+use Rattle.std.specs.Prelude.{◌⊎◌}
 use Rattle.wasm_base.specs.FaultAt.{FaultAt, at_offset}
 use Rattle.wasm_base.specs.declared.error.Error.{Error}
 use Rattle.wasm_base.specs.declared.fault.Fault.TheVariants.{OffsetRange}
-use Rattle.wasm_parser.specs.ParseAnswer.{report_of, is_end, Consumes, Answers, IsFaultAlone, ParseAnswer, FaultsWithin, IsUnchanged, ItemsBegin}
+use Rattle.wasm_parser.specs.ParseAnswer.{report_of, is_end, Consumes, Answers, AsksFor, AsksForSome, AnswersOn, IsRequest, IsFaultAlone, ParseAnswer, FaultsWithin, IsUnchanged, ItemsBegin}
+use Rattle.wasm_parser.specs.Waiting.{Waiting, enough, wants, waiting}
 use Rattle.wasm_parser.specs.Content.{custom, items, index, data_count, unknown, fault, ended}
 use Rattle.wasm_parser.specs.Grammar.{Shape, version, section, code_start, code_entry, Tile, Verdict, tile, final, header_grammar, verdict}
 use Rattle.wasm_parser.specs.Reading.{tile_report, custom_report}
@@ -15,7 +17,10 @@ use Rattle.wasm_parser.specs.declared.payload.Chunk.{Chunk}
 use Rattle.wasm_parser.specs.declared.payload.Chunk.TheVariants.{NeedMoreData, Parsed}
 use Rattle.wasm_base.specs.Name.{Name, named, refused, name_limit, name}
 use Rattle.wasm_parser.proofs.Bounds.{parser_fault_lies}
-use Rattle.wasm_parser.proofs.GrammarLaws.{Cut, verdict-cut}
+use Rattle.wasm_parser.proofs.GrammarLaws.{Cut, verdict-cut, verdict-more}
+use Rattle.wasm_parser.proofs.WaitingLaws.{Asks, waiting-asks, waiting-more}
+use Rattle.wasm_parser.proofs.Parsing.{answered}
+use Rattle.wasm_parser.specs.Laws.{AnswersLast}
 use Rattle.wasm_parser.proofs.TileLaws.{Guarded-header, Guarded-inside_at, least_header, least_inside}
 
 -- ---- tiles
@@ -57,6 +62,21 @@ goes_on features from to (code_entry content) = refl
 not_zero : (n : ℕ) → 0 < n → nat_eq n 0 ≡ false
 not_zero n l = grind (arith, nat_tests)
 
+-- ---- an answer, or a request
+
+-- bytes that decide are answered, and others are asked for
+abbrev pub IsOn : ParserState → (eof : Bool) (rest : List ℕ) → Result Chunk Error → ParserState → Type 0
+IsOn p eof rest r new =
+    Answers p (verdict (grammar_of p) rest) r new ⊎ ((need : ℕ) × (hint : ℕ) × (waiting (grammar_of p) rest ≡ wants need hint) × AsksFor hint p r new)
+
+on_at : (p new : ParserState) (eof : Bool) (rest : List ℕ) (r : Result Chunk Error) (w : Waiting) → waiting (grammar_of p) rest ≡ w → AnswersOn eof w p (verdict (grammar_of p) rest) r new → IsOn p eof rest r new
+on_at p new true rest r w e a = inl a
+on_at p new false rest r enough e a = inl a
+on_at p new false rest r (wants need hint) e a = inr (need, hint, e, a)
+
+pub is_on : (p new : ParserState) (eof : Bool) (rest : List ℕ) (r : Result Chunk Error) → AnswersOn eof (waiting (grammar_of p) rest) p (verdict (grammar_of p) rest) r new → IsOn p eof rest r new
+is_on p new eof rest r a = on_at p new eof rest r (waiting (grammar_of p) rest) refl a
+
 -- ---- what a call consumes
 
 consumes_at : (p new : ParserState) (rest : List ℕ) (consumed : ℕ) (payload : Payload) (v : Verdict) → verdict (grammar_of p) rest ≡ v → Answers p v (Ok (Parsed consumed payload)) new
@@ -80,12 +100,21 @@ alone_consumes : (f : FaultAt) (p new : ParserState) (rest : List ℕ) (r : Resu
 alone_consumes f p new rest (Ok chunk) a = absurd a
 alone_consumes f p new rest (Err e) a = tt
 
-consumes_by : (b : Bool) (p new : ParserState) (rest : List ℕ) (r : Result Chunk Error) → nat_lt (p.offset + length rest) (2 ^ 64) ≡ b → ParseAnswer p rest r new → Consumes rest r
-consumes_by true p new rest r t h = consumes_any p new rest r (h.within (ltb-true _ _ t))
-consumes_by false p new rest r t h = alone_consumes (at_offset OffsetRange p.offset) p new rest r (h.past_the_top (ltb-false _ _ t))
+asking_consumes : (hint : ℕ) (p new : ParserState) (rest : List ℕ) (r : Result Chunk Error) → AsksFor hint p r new → Consumes rest r
+asking_consumes hint p new rest (Ok (NeedMoreData asked)) a = tt
+asking_consumes hint p new rest (Ok (Parsed consumed payload)) a = absurd a
+asking_consumes hint p new rest (Err e) a = tt
 
-pub consumes : (p new : ParserState) (rest : List ℕ) (r : Result Chunk Error) → ParseAnswer p rest r new → Consumes rest r
-consumes p new rest r h = consumes_by (nat_lt (p.offset + length rest) (2 ^ 64)) p new rest r refl h
+consumes_on : (p new : ParserState) (eof : Bool) (rest : List ℕ) (r : Result Chunk Error) → IsOn p eof rest r new → Consumes rest r
+consumes_on p new eof rest r (inl a) = consumes_any p new rest r a
+consumes_on p new eof rest r (inr a) = asking_consumes a.1 p new rest r a.3
+
+consumes_by : (b : Bool) (p new : ParserState) (eof : Bool) (rest : List ℕ) (r : Result Chunk Error) → nat_lt (p.offset + length rest) (2 ^ 64) ≡ b → ParseAnswer p eof rest r new → Consumes rest r
+consumes_by true p new eof rest r t h = consumes_on p new eof rest r (is_on p new eof rest r (h.within (ltb-true _ _ t)))
+consumes_by false p new eof rest r t h = alone_consumes (at_offset OffsetRange p.offset) p new rest r (h.past_the_top (ltb-false _ _ t))
+
+pub consumes : (p new : ParserState) (eof : Bool) (rest : List ℕ) (r : Result Chunk Error) → ParseAnswer p eof rest r new → Consumes rest r
+consumes p new eof rest r h = consumes_by (nat_lt (p.offset + length rest) (2 ^ 64)) p new eof rest r refl h
 
 -- ---- where its faults are
 
@@ -97,18 +126,22 @@ faults_at p new rest e (final (fault f)) q a =
     (omega (arith, l, z), omega (arith, m, z))
 faults_at p new rest e (final (ended o)) q a = absurd a
 
-faults_by : (b : Bool) (p new : ParserState) (rest : List ℕ) (r : Result Chunk Error) → nat_lt (p.offset + length rest) (2 ^ 64) ≡ b → ParseAnswer p rest r new → FaultsWithin p rest r
-faults_by b p new rest (Ok chunk) t h = tt
-faults_by true p new rest (Err e) t h = faults_at p new rest e (verdict (grammar_of p) rest) refl (h.within (ltb-true _ _ t))
-faults_by false p new rest (Err e) t h =
+faults_on : (p new : ParserState) (eof : Bool) (rest : List ℕ) (e : Error) → IsOn p eof rest (Err e) new → FaultsWithin p rest (Err e)
+faults_on p new eof rest e (inl a) = faults_at p new rest e (verdict (grammar_of p) rest) refl a
+faults_on p new eof rest e (inr a) = absurd a.3
+
+faults_by : (b : Bool) (p new : ParserState) (eof : Bool) (rest : List ℕ) (r : Result Chunk Error) → nat_lt (p.offset + length rest) (2 ^ 64) ≡ b → ParseAnswer p eof rest r new → FaultsWithin p rest r
+faults_by b p new eof rest (Ok chunk) t h = tt
+faults_by true p new eof rest (Err e) t h = faults_on p new eof rest e (is_on p new eof rest (Err e) (h.within (ltb-true _ _ t)))
+faults_by false p new eof rest (Err e) t h =
     let a = h.past_the_top (ltb-false _ _ t) in
     let z = ap (λ (x : FaultAt). x.offset) a.0 in
     (omega (arith, z), omega (arith, z))
 
-pub faults_within : (p new : ParserState) (rest : List ℕ) (r : Result Chunk Error) → ParseAnswer p rest r new → FaultsWithin p rest r
-faults_within p new rest r h = faults_by (nat_lt (p.offset + length rest) (2 ^ 64)) p new rest r refl h
+pub faults_within : (p new : ParserState) (eof : Bool) (rest : List ℕ) (r : Result Chunk Error) → ParseAnswer p eof rest r new → FaultsWithin p rest r
+faults_within p new eof rest r h = faults_by (nat_lt (p.offset + length rest) (2 ^ 64)) p new eof rest r refl h
 
--- ---- what a fault leaves
+-- ---- what a fault or a request leaves
 
 unchanged_at : (p new : ParserState) (e : Error) (v : Verdict) → Answers p v (Err e) new → new ≡ p
 unchanged_at p new e (tile t) a = absurd a
@@ -120,15 +153,40 @@ asks_never p new hint (tile t) a = a
 asks_never p new hint (final (fault f)) a = a
 asks_never p new hint (final (ended o)) a = a
 
-unchanged_by : (b : Bool) (p new : ParserState) (rest : List ℕ) (r : Result Chunk Error) → nat_lt (p.offset + length rest) (2 ^ 64) ≡ b → ParseAnswer p rest r new → IsUnchanged p r new
-unchanged_by b p new rest (Ok (Parsed consumed payload)) t h = tt
-unchanged_by true p new rest (Ok (NeedMoreData hint)) t h = absurd (asks_never p new hint (verdict (grammar_of p) rest) (h.within (ltb-true _ _ t)))
-unchanged_by false p new rest (Ok (NeedMoreData hint)) t h = absurd (h.past_the_top (ltb-false _ _ t))
-unchanged_by true p new rest (Err e) t h = unchanged_at p new e (verdict (grammar_of p) rest) (h.within (ltb-true _ _ t))
-unchanged_by false p new rest (Err e) t h = (h.past_the_top (ltb-false _ _ t)).1
+unchanged_on : (p new : ParserState) (eof : Bool) (rest : List ℕ) (r : Result Chunk Error) → IsOn p eof rest r new → IsUnchanged p r new
+unchanged_on p new eof rest (Ok (Parsed consumed payload)) a = tt
+unchanged_on p new eof rest (Ok (NeedMoreData hint)) (inl a) = absurd (asks_never p new hint (verdict (grammar_of p) rest) a)
+unchanged_on p new eof rest (Ok (NeedMoreData hint)) (inr a) = a.3.1
+unchanged_on p new eof rest (Err e) (inl a) = unchanged_at p new e (verdict (grammar_of p) rest) a
+unchanged_on p new eof rest (Err e) (inr a) = absurd a.3
 
-pub unchanged : (p new : ParserState) (rest : List ℕ) (r : Result Chunk Error) → ParseAnswer p rest r new → IsUnchanged p r new
-unchanged p new rest r h = unchanged_by (nat_lt (p.offset + length rest) (2 ^ 64)) p new rest r refl h
+unchanged_by : (b : Bool) (p new : ParserState) (eof : Bool) (rest : List ℕ) (r : Result Chunk Error) → nat_lt (p.offset + length rest) (2 ^ 64) ≡ b → ParseAnswer p eof rest r new → IsUnchanged p r new
+unchanged_by true p new eof rest r t h = unchanged_on p new eof rest r (is_on p new eof rest r (h.within (ltb-true _ _ t)))
+unchanged_by false p new eof rest (Ok chunk) t h = absurd (h.past_the_top (ltb-false _ _ t))
+unchanged_by false p new eof rest (Err e) t h = (h.past_the_top (ltb-false _ _ t)).1
+
+pub unchanged : (p new : ParserState) (eof : Bool) (rest : List ℕ) (r : Result Chunk Error) → ParseAnswer p eof rest r new → IsUnchanged p r new
+unchanged p new eof rest r h = unchanged_by (nat_lt (p.offset + length rest) (2 ^ 64)) p new eof rest r refl h
+
+-- ---- what a request asks for
+
+asks_on : (p new : ParserState) (eof : Bool) (rest : List ℕ) (r : Result Chunk Error) → IsOn p eof rest r new → AsksForSome r
+asks_on p new eof rest (Ok (Parsed consumed payload)) a = tt
+asks_on p new eof rest (Ok (NeedMoreData hint)) (inl a) = absurd (asks_never p new hint (verdict (grammar_of p) rest) a)
+asks_on p new eof rest (Ok (NeedMoreData hint)) (inr a) =
+    let k : Asks rest a.0 a.1 = waiting-asks (grammar_of p) rest a.0 a.1 a.2 in
+    let s = k.some in
+    let z : hint ≡ a.1 = a.3.0 in
+    omega (arith, s, z)
+asks_on p new eof rest (Err e) a = tt
+
+asks_by : (b : Bool) (p new : ParserState) (eof : Bool) (rest : List ℕ) (r : Result Chunk Error) → nat_lt (p.offset + length rest) (2 ^ 64) ≡ b → ParseAnswer p eof rest r new → AsksForSome r
+asks_by true p new eof rest r t h = asks_on p new eof rest r (is_on p new eof rest r (h.within (ltb-true _ _ t)))
+asks_by false p new eof rest (Ok chunk) t h = absurd (h.past_the_top (ltb-false _ _ t))
+asks_by false p new eof rest (Err e) t h = tt
+
+pub asks_for_some : (p new : ParserState) (eof : Bool) (rest : List ℕ) (r : Result Chunk Error) → ParseAnswer p eof rest r new → AsksForSome r
+asks_for_some p new eof rest r h = asks_by (nat_lt (p.offset + length rest) (2 ^ 64)) p new eof rest r refl h
 
 -- ---- what its payloads hold
 
@@ -137,9 +195,24 @@ holds_at p new consumed payload (tile t) a = a.1.1
 holds_at p new consumed payload (final (fault f)) a = absurd a
 holds_at p new consumed payload (final (ended o)) a = a.1.1
 
-holds_by : (b : Bool) (p new : ParserState) (rest : List ℕ) (consumed : ℕ) (payload : Payload) → nat_lt (p.offset + length rest) (2 ^ 64) ≡ b → ParseAnswer p rest (Ok (Parsed consumed payload)) new → ItemsBegin payload
+holds_by : (b : Bool) (p new : ParserState) (rest : List ℕ) (consumed : ℕ) (payload : Payload) → nat_lt (p.offset + length rest) (2 ^ 64) ≡ b → ParseAnswer p true rest (Ok (Parsed consumed payload)) new → ItemsBegin payload
 holds_by true p new rest consumed payload t h = holds_at p new consumed payload (verdict (grammar_of p) rest) (h.within (ltb-true _ _ t))
 holds_by false p new rest consumed payload t h = absurd (h.past_the_top (ltb-false _ _ t))
 
-pub holds_items : (p new : ParserState) (rest : List ℕ) (consumed : ℕ) (payload : Payload) → ParseAnswer p rest (Ok (Parsed consumed payload)) new → ItemsBegin payload
+pub holds_items : (p new : ParserState) (rest : List ℕ) (consumed : ℕ) (payload : Payload) → ParseAnswer p true rest (Ok (Parsed consumed payload)) new → ItemsBegin payload
 holds_items p new rest consumed payload h = holds_by (nat_lt (p.offset + length rest) (2 ^ 64)) p new rest consumed payload refl h
+
+-- ---- what more bytes change
+
+-- a request is none that is answered
+on_last : (p new : ParserState) (bytes more : List ℕ) (r : Result Chunk Error) (w : Waiting) → waiting (grammar_of p) bytes ≡ w → AnswersOn false w p (verdict (grammar_of p) bytes) r new → ¬ IsRequest r → p.offset + length (bytes ++ more) < 2 ^ 64
+    → (eof : Bool) → ParseAnswer p eof (bytes ++ more) r new
+on_last p new bytes more r enough e a n l eof = answered p eof (bytes ++ more) r new l (waiting-more (grammar_of p) bytes more e) (subst (λ (v : Verdict). Answers p v r new) (sym (verdict-more (grammar_of p) bytes more e)) a)
+on_last p new bytes more (Ok (NeedMoreData asked)) (wants need hint) e a n l eof = absurd (n tt)
+on_last p new bytes more (Ok (Parsed consumed payload)) (wants need hint) e a n l eof = absurd a
+on_last p new bytes more (Err x) (wants need hint) e a n l eof = absurd a
+
+pub answers_last : AnswersLast
+answers_last p new bytes more r h n l eof =
+    let m = length-append bytes more in
+    on_last p new bytes more r (waiting (grammar_of p) bytes) refl (h.within (omega (arith, l, m))) n l eof

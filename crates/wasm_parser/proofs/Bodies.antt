@@ -2,17 +2,18 @@
 use Rattle.std.proofs.Common.{◌≡◌, ℕ, zero, suc, ◌+◌, ◌-◌, ◌<◌, ◌≤◌, Bool, true, false, not, ◌&&◌, ◌||◌, length, take, drop, option_to_list, Some, None, Result, Ok, Err, nat_lt, nat_eq, refl, sym, ap, subst, ◌∙◌, arith, lt-ltb, le-ltb}
 use Rattle.std.proofs.lemmas.List.{length-take-le}
 use Rattle.std.specs.List.{list_all, list_any}
-use Rattle.wasm_base.specs.FaultAt.{FaultAt, fault_at, at_offset}
+use Rattle.wasm_base.specs.FaultAt.{FaultAt, fault_at, hint_of, at_offset}
+use Rattle.wasm_base.specs.Hints.{hint_at, missing_at}
 use Rattle.wasm_base.specs.Number.{unsigned_at}
 use Rattle.wasm_base.specs.Window.{Window, Place, advanced, window_over}
 use Rattle.wasm_base.specs.declared.error.Error.{Error}
 use Rattle.wasm_base.specs.declared.fault.Fault.TheVariants.{UnexpectedEof, FunctionCodeDiffer, CodeWithoutFunction, TrailingCode}
 use Rattle.wasm_base.specs.declared.fault.NumberKind.TheVariants.{VarU32}
-use Rattle.wasm_parser.specs.ParseAnswer.{IsPayload, MatchesVerdict, ReadsByGrammar}
+use Rattle.wasm_parser.specs.ParseAnswer.{IsPayload, MatchesGrammar, ReadsByGrammar}
 use Rattle.wasm_parser.specs.Content.{when}
 use Rattle.wasm_parser.specs.ReadsPart.{content_at}
 use Rattle.wasm_parser.specs.Grammar
-use Rattle.wasm_parser.specs.Grammar.{SectionContext, Grammar, accept, check, u32_field, verdict, wrong_count, code_grammar, body_of, body_grammar}
+use Rattle.wasm_parser.specs.Grammar.{SectionContext, Grammar, accept, check, u32_field, wrong_count, code_grammar, body_of, body_grammar}
 use Rattle.wasm_parser.specs.Reading.{code_start, code_entry}
 use Rattle.wasm_parser.specs.declared.payload.Payload.{Payload}
 use Rattle.wasm_parser.proofs.Framed.{HasContent, has_content, too_few}
@@ -28,31 +29,31 @@ counted_grammar context offset size count width =
     accept (Grammar.code_start count width (size - width))))
 
 -- a count that is not read
-pub code_no_count : (context : SectionContext) (size : ℕ) (p : Place) (e : Error) (a : Place) → unsigned_at VarU32 p ≡ Err (fault_at e) → ReadsByGrammar (code_grammar context p.offset size) p (Err e) a
-code_no_count context size p e a h = λ s. report_no_number s p (counted_grammar context p.offset size) e a h
+pub code_no_count : (context : SectionContext) (size : ℕ) (p : Place) (e : Error) (a : Place) → unsigned_at VarU32 p ≡ Err (fault_at e) → hint_of e ≡ hint_at 1 (fault_at e).fault → ReadsByGrammar (code_grammar context p.offset size) p (Err e) a
+code_no_count context size p e a h hint = λ s. report_no_number s p (counted_grammar context p.offset size) e a h hint
 
 -- a count that passes the section's end
 pub code_short : (context : SectionContext) (size : ℕ) (p q : Place) (count : ℕ) (e : Error) (a : Place) → unsigned_at VarU32 p ≡ Ok (count, q) → p.offset + size < q.offset → fault_at e ≡ at_offset UnexpectedEof p.offset
-    → ReadsByGrammar (code_grammar context p.offset size) p (Err e) a
-code_short context size p q count e a h l f =
+    → hint_of e ≡ None → ReadsByGrammar (code_grammar context p.offset size) p (Err e) a
+code_short context size p q count e a h l f hint =
     let m : ReadNumber p count q = read_number p count q h in
     let o : q.offset ≡ p.offset + m.used = ap (λ (x : Place). x.offset) m.after in
     let w : when (nat_lt size m.used) (at_offset UnexpectedEof p.offset) ≡ Some (fault_at e) = rw (lt-ltb size m.used (omega arith)) (ap Some (sym f)) in
-    λ s. report_number s p p.offset (counted_grammar context p.offset size) (Err e) a count m.used m.reads (report_wrong s (advanced m.used p) (when (nat_lt size m.used) (at_offset UnexpectedEof p.offset)) _ e a w)
+    λ s. report_number s p p.offset (counted_grammar context p.offset size) (Err e) a count m.used m.reads (report_wrong s (advanced m.used p) (when (nat_lt size m.used) (at_offset UnexpectedEof p.offset)) _ e a w hint)
 
 -- a count that lies in the section, and that of the functions
 counted_right : (context : SectionContext) (size : ℕ) (p q : Place) (count : ℕ) (r : Result Payload Error) (a : Place) (m : ReadNumber p count q) → q.offset ≤ p.offset + size
-    → ((s : ℕ) → MatchesVerdict s (advanced m.used p) (verdict (check (wrong_count context p.offset count) (accept (Grammar.code_start count m.used (size - m.used)))) (advanced m.used p).rest) r a) → ReadsByGrammar (code_grammar context p.offset size) p r a
+    → ((s : ℕ) → MatchesGrammar s (advanced m.used p) (check (wrong_count context p.offset count) (accept (Grammar.code_start count m.used (size - m.used)))) r a) → ReadsByGrammar (code_grammar context p.offset size) p r a
 counted_right context size p q count r a m l next =
     let o : q.offset ≡ p.offset + m.used = ap (λ (x : Place). x.offset) m.after in
     let w : when (nat_lt size m.used) (at_offset UnexpectedEof p.offset) ≡ None = rw (le-ltb size m.used (omega arith)) refl in
     λ s. report_number s p p.offset (counted_grammar context p.offset size) r a count m.used m.reads (report_right s (advanced m.used p) (when (nat_lt size m.used) (at_offset UnexpectedEof p.offset)) _ r a w (next s))
 
 pub code_wrong : (context : SectionContext) (size : ℕ) (p q : Place) (count : ℕ) (e : Error) (a : Place) → unsigned_at VarU32 p ≡ Ok (count, q) → q.offset ≤ p.offset + size → wrong_count context p.offset count ≡ Some (fault_at e)
-    → ReadsByGrammar (code_grammar context p.offset size) p (Err e) a
-code_wrong context size p q count e a h l w =
+    → hint_of e ≡ None → ReadsByGrammar (code_grammar context p.offset size) p (Err e) a
+code_wrong context size p q count e a h l w hint =
     let m : ReadNumber p count q = read_number p count q h in
-    counted_right context size p q count (Err e) a m l (λ s. report_wrong s (advanced m.used p) (wrong_count context p.offset count) _ e a w)
+    counted_right context size p q count (Err e) a m l (λ s. report_wrong s (advanced m.used p) (wrong_count context p.offset count) _ e a w hint)
 
 -- a head
 pub code_read : (context : SectionContext) (size : ℕ) (p q : Place) (count : ℕ) (payload : Payload) → unsigned_at VarU32 p ≡ Ok (count, q) → q.offset ≤ p.offset + size → wrong_count context p.offset count ≡ None
@@ -98,26 +99,26 @@ body_there : (bodies left : ℕ) (p : Place) (r : Result Payload Error) (a : Pla
 body_there bodies left p r a l h = subst (λ (g : Grammar). ReadsByGrammar g p r a) (sym (a_body bodies left p.offset l)) h
 
 -- none is left
-pub no_body_left : (bodies left : ℕ) (p : Place) (e : Error) (a : Place) → bodies ≡ 0 → fault_at e ≡ at_offset TrailingCode p.offset → ReadsByGrammar (body_grammar bodies left p.offset) p (Err e) a
+pub no_body_left : (bodies left : ℕ) (p : Place) (e : Error) (a : Place) → bodies ≡ 0 → fault_at e ≡ at_offset TrailingCode p.offset → hint_of e ≡ None → ReadsByGrammar (body_grammar bodies left p.offset) p (Err e) a
 unfolding body_grammar
-no_body_left zero left p e a z f = λ s. report_stops s p (at_offset TrailingCode p.offset) e a f
-no_body_left (suc n) left p e a z f = absurd (omega arith)
+no_body_left zero left p e a z f hint = λ s. report_stops s p (at_offset TrailingCode p.offset) e a f hint
+no_body_left (suc n) left p e a z f hint = absurd (omega arith)
 
 -- a size that is not read
-pub body_no_size : (bodies left : ℕ) (p : Place) (e : Error) (a : Place) → 0 < bodies → unsigned_at VarU32 p ≡ Err (fault_at e) → ReadsByGrammar (body_grammar bodies left p.offset) p (Err e) a
-body_no_size bodies left p e a l h = body_there bodies left p (Err e) a l (λ s. report_no_number s p (λ size width. body_of p.offset left size width) e a h)
+pub body_no_size : (bodies left : ℕ) (p : Place) (e : Error) (a : Place) → 0 < bodies → unsigned_at VarU32 p ≡ Err (fault_at e) → hint_of e ≡ hint_at 1 (fault_at e).fault → ReadsByGrammar (body_grammar bodies left p.offset) p (Err e) a
+body_no_size bodies left p e a l h hint = body_there bodies left p (Err e) a l (λ s. report_no_number s p (λ size width. body_of p.offset left size width) e a h hint)
 
 -- bytes that are missing
-pub body_missing : (bodies left : ℕ) (p q : Place) (size : ℕ) (e : Error) (a : Place) → 0 < bodies → unsigned_at VarU32 p ≡ Ok (size, q) → content_at size q ≡ Err (fault_at e) → ReadsByGrammar (body_grammar bodies left p.offset) p (Err e) a
-body_missing bodies left p q size e a l h c =
+pub body_missing : (bodies left : ℕ) (p q : Place) (size : ℕ) (e : Error) (a : Place) → 0 < bodies → unsigned_at VarU32 p ≡ Ok (size, q) → content_at size q ≡ Err (fault_at e) → hint_of e ≡ hint_at (missing_at size q) (fault_at e).fault → ReadsByGrammar (body_grammar bodies left p.offset) p (Err e) a
+body_missing bodies left p q size e a l h c hint =
     let m : ReadNumber p size q = read_number p size q h in
     let t = too_few size (advanced m.used p) (fault_at e) (subst (λ (x : Place). content_at size x ≡ Err (fault_at e)) m.after c) in
     body_there bodies left p (Err e) a l (λ s. report_number s p p.offset (λ size width. body_of p.offset left size width) (Err e) a size m.used m.reads (
-    report_missing s (advanced m.used p) size (p.offset + m.used) _ e a t.0 t.1))
+    report_missing s (advanced m.used p) size (p.offset + m.used) _ e a t.0 t.1 (subst (λ (x : Place). hint_of e ≡ hint_at (missing_at size x) (fault_at e).fault) m.after hint)))
 
 -- what is after all its bytes
 whole_body : (bodies left : ℕ) (p q : Place) (size : ℕ) (w : Window) (b : Place) (r : Result Payload Error) (a : Place) (m : ReadNumber p size q) (c : HasContent size (advanced m.used p) w b) → 0 < bodies
-    → ((s : ℕ) → MatchesVerdict s (advanced size (advanced m.used p)) (verdict (check (when (nat_lt left (m.used + size)) (at_offset UnexpectedEof p.offset)) (accept (Grammar.code_entry (take size (drop m.used p.rest))))) (advanced size (advanced m.used p)).rest) r a)
+    → ((s : ℕ) → MatchesGrammar s (advanced size (advanced m.used p)) (check (when (nat_lt left (m.used + size)) (at_offset UnexpectedEof p.offset)) (accept (Grammar.code_entry (take size (drop m.used p.rest))))) r a)
     → ReadsByGrammar (body_grammar bodies left p.offset) p r a
 whole_body bodies left p q size w b r a m c l next = body_there bodies left p r a l (λ s. report_number s p p.offset (λ size width. body_of p.offset left size width) r a size m.used m.reads (
     report_bytes s (advanced m.used p) size (p.offset + m.used) _ r a c.there (next s)))
@@ -128,13 +129,13 @@ body_content p q size w b m h = has_content size (advanced m.used p) w b (subst 
 
 -- a body that passes its section
 pub body_past : (bodies left : ℕ) (p q : Place) (size : ℕ) (w : Window) (b : Place) (e : Error) (a : Place) → 0 < bodies → unsigned_at VarU32 p ≡ Ok (size, q) → content_at size q ≡ Ok (w, b) → left < b.offset - p.offset
-    → fault_at e ≡ at_offset UnexpectedEof p.offset → ReadsByGrammar (body_grammar bodies left p.offset) p (Err e) a
-body_past bodies left p q size w b e a l h k context f =
+    → fault_at e ≡ at_offset UnexpectedEof p.offset → hint_of e ≡ None → ReadsByGrammar (body_grammar bodies left p.offset) p (Err e) a
+body_past bodies left p q size w b e a l h k context f hint =
     let m : ReadNumber p size q = read_number p size q h in
     let c : HasContent size (advanced m.used p) w b = body_content p q size w b m k in
     let o : b.offset ≡ p.offset + m.used + size = ap (λ (x : Place). x.offset) c.after in
     let wrong : when (nat_lt left (m.used + size)) (at_offset UnexpectedEof p.offset) ≡ Some (fault_at e) = rw (lt-ltb left (m.used + size) (omega arith)) (ap Some (sym f)) in
-    whole_body bodies left p q size w b (Err e) a m c l (λ s. report_wrong s (advanced size (advanced m.used p)) (when (nat_lt left (m.used + size)) (at_offset UnexpectedEof p.offset)) _ e a wrong)
+    whole_body bodies left p q size w b (Err e) a m c l (λ s. report_wrong s (advanced size (advanced m.used p)) (when (nat_lt left (m.used + size)) (at_offset UnexpectedEof p.offset)) _ e a wrong hint)
 
 -- a body
 pub body_read : (bodies left : ℕ) (p q : Place) (size : ℕ) (w : Window) (b : Place) (payload : Payload) → 0 < bodies → unsigned_at VarU32 p ≡ Ok (size, q) → content_at size q ≡ Ok (w, b) → b.offset - p.offset ≤ left

@@ -2,7 +2,7 @@
 use Rattle.std.proofs.Common.{◌≡◌, ℕ, ◌+◌, ◌<◌, Bool, true, false, List, length, take, drop, Option, Some, None, IfSome, Result, Ok, Err, nat_lt, nat_eq, refl, sym, ap, subst, ◌∙◌, arith, add-zero, lt-ltb, le-ltb, length-drop}
 use Rattle.std.proofs.lemmas.Bool.Decides.{nat_tests}
 use Rattle.std.proofs.lemmas.List.{length-take-le}
-use Rattle.wasm_base.specs.FaultAt.{FaultAt, fault_at, at_offset}
+use Rattle.wasm_base.specs.FaultAt.{FaultAt, fault_at, hint_of, at_offset}
 use Rattle.wasm_base.specs.Number.{Number, read, bad, short, number, in_window, unsigned_at}
 use Rattle.wasm_base.specs.Section.{Section}
 use Rattle.wasm_base.specs.Window.{Window, Place, place, advanced, window_over}
@@ -177,23 +177,23 @@ items_read context id size p w q payload h n m =
 
 -- one whose count is not the one that was announced
 pub items_miscounted : (context : SectionContext) (id size : ℕ) (p : Place) (w : Window) (q : Place) (payload : Payload) (e : Error) (a : Place) → content_at size p ≡ Ok (w, q) → ReadsCounted id w (Ok payload) → true ≡ is_miscounted_by context.data_counts (report_of payload)
-    → fault_at e ≡ at_offset DataCountDiffer q.offset → ReadsByGrammar (whole_grammar context items id p.offset size) p (Err e) a
-items_miscounted context id size p w q payload e a h n m f =
+    → fault_at e ≡ at_offset DataCountDiffer q.offset → hint_of e ≡ None → ReadsByGrammar (whole_grammar context items id p.offset size) p (Err e) a
+items_miscounted context id size p w q payload e a h n m f hint =
     let i : HoldsItems id w payload = holds_items id w payload n in
     let k : HasContent size p w q = has_content size p w q h in
     let g = count_read size p w q i.s.count (place i.s.reader) h i.counted.gives in
     let o : q.offset ≡ p.offset + size = ap (λ (x : Place). x.offset) k.after in
     let d = data_wrong context id (p.offset + size) (take size p.rest) i.s (report_of payload) true i.report g.1 m in
-    whole_miscounted context items id size p w q e a h g.0 (d ∙ ap Some (sym (f ∙ ap (at_offset DataCountDiffer) o)))
+    whole_miscounted context items id size p w q e a h g.0 (d ∙ ap Some (sym (f ∙ ap (at_offset DataCountDiffer) o))) hint
 
 -- one whose count was refused
 pub items_refused : (context : SectionContext) (id size : ℕ) (p : Place) (w : Window) (q : Place) (e : Error) (a : Place) → content_at size p ≡ Ok (w, q) → unsigned_at VarU32 (place w) ≡ Err (fault_at e)
-    → ReadsByGrammar (whole_grammar context items id p.offset size) p (Err e) a
+    → hint_of e ≡ None → ReadsByGrammar (whole_grammar context items id p.offset size) p (Err e) a
 unfolding unsigned_at wrong_content
-items_refused context id size p w q e a h n =
+items_refused context id size p w q e a h n hint =
     let k : HasContent size p w q = has_content size p w q h in
     let at : place w ≡ content_place size p = at_content size p w k.window in
-    whole_bad context items id size p w q e a h (number_refused (content_place size p) (fault_at e) (number VarU32 (take size p.rest)) (subst (λ (x : Place). in_window x (number VarU32 x.rest) ≡ Err (fault_at e)) at n))
+    whole_bad context items id size p w q e a h (number_refused (content_place size p) (fault_at e) (number VarU32 (take size p.rest)) (subst (λ (x : Place). in_window x (number VarU32 x.rest) ≡ Err (fault_at e)) at n)) hint
 
 -- a form whose content is one number: what is wrong with it, and what is reported of it
 pub record IsSingle (left : Fault) (form : Form) (says : (value from to : ℕ) → Report) : Type 0 where
@@ -221,7 +221,7 @@ module _ (left : Fault) (form : Form) (says : (value from to : ℕ) → Report) 
       (at_w.0 ∙ ((λ i. says (sym g.1 i) p.offset (p.offset + l i)) ∙ sym (f.report p.features p.offset (p.offset + size) id (take size p.rest))), at_w.1)
 
   pub single_section_refused : (context : SectionContext) (id size : ℕ) (p : Place) (w : Window) (q : Place) (e : Error) (a : Place) → content_at size p ≡ Ok (w, q) → ReadsSingleNumber left (place w) (Err e)
-      → ReadsByGrammar (whole_grammar context form id p.offset size) p (Err e) a
-  single_section_refused context id size p w q e a h n =
+      → hint_of e ≡ None → ReadsByGrammar (whole_grammar context form id p.offset size) p (Err e) a
+  single_section_refused context id size p w q e a h n hint =
       let k : HasContent size p w q = has_content size p w q h in
-      whole_bad context form id size p w q e a h (f.wrong p.offset (take size p.rest) ∙ subst (λ (x : Place). ReadsSingleNumber left x (Err e)) (at_content size p w k.window) n)
+      whole_bad context form id size p w q e a h (f.wrong p.offset (take size p.rest) ∙ subst (λ (x : Place). ReadsSingleNumber left x (Err e)) (at_content size p w k.window) n) hint

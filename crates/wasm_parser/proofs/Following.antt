@@ -1,21 +1,25 @@
 -- What a call of a parser says of the reading of a stream.
-use Rattle.std.proofs.Common.{◌≡◌, ℕ, ◌+◌, ◌<◌, List, [], ◌∷◌, ◌++◌, length, take, Result, Ok, Err, refl, sym, ap, subst, subst₂, ◌∙◌, arith, length-append, append_assoc, append-nil, inl, inr}
+use Rattle.std.proofs.Common.{◌≡◌, ℕ, ◌+◌, ◌<◌, ◌≤◌, Bool, true, false, cond, nat_eq, List, [], ◌∷◌, ◌++◌, length, take, Result, Ok, Err, refl, sym, ap, subst, subst₂, ◌∙◌, arith, length-append, append_assoc, append-nil, inl, inr}
+use Rattle.std.proofs.lemmas.Bool.{eqb-true}
 use Rattle.std.proofs.lemmas.List.{append_cancel_left, take_at}
 use Rattle.std.specs.Prelude.{◌⊎◌}
 use Rattle.wasm_base.specs.declared.error.Error.{Error}
 use Rattle.wasm_base.specs.FaultAt.{FaultAt}
-use Rattle.wasm_parser.specs.ParseAnswer.{IsPayload, Answers, ParseAnswer}
+use Rattle.wasm_parser.specs.ParseAnswer.{IsPayload, Answers, AsksFor, AnswersOn, ParseAnswer}
 use Rattle.wasm_parser.specs.Content.{Ending, fault, ended}
-use Rattle.wasm_parser.specs.Grammar.{Tile, Verdict, tile, final, Grammar, verdict}
+use Rattle.wasm_parser.specs.Grammar.{Tile, Verdict, tile, final, Grammar, verdict, header_grammar, section_grammar, body_grammar}
 use Rattle.wasm_parser.specs.Reading.{Event, stream_end, tile_report, event_of, events_of, last_event, Reads, Reading}
 use Rattle.wasm_parser.specs.EventRanges.{consumed_by}
-use Rattle.wasm_parser.specs.ParserState.{ParserState, IsStateAfter, grammar_of}
+use Rattle.wasm_parser.specs.ParserState.{ParserState, IsStateAfter, known_context, grammar_of, ended_state}
 use Rattle.wasm_parser.specs.Laws.{SomeNextEvent}
-use Rattle.wasm_parser.specs.GivesNextEvent.{NextEvent, GivesEvent, GivesNextEvent}
+use Rattle.wasm_parser.specs.GivesNextEvent.{NextEvent, MayBe, GivesEvent, GivesNextEvent}
 use Rattle.wasm_parser.specs.Tiling.{bytes_of, grammar, Faultless}
+use Rattle.wasm_parser.specs.Waiting.{Waiting, enough, wants, waiting}
 use Rattle.wasm_parser.specs.declared.payload.Chunk.{Chunk}
 use Rattle.wasm_parser.specs.declared.payload.Chunk.TheVariants.{NeedMoreData, Parsed}
 use Rattle.wasm_parser.proofs.Ends.{tiles_consume}
+use Rattle.wasm_parser.proofs.Endings.{header_end, inside_end}
+use Rattle.wasm_parser.proofs.GrammarLaws.{verdict-more}
 use Rattle.wasm_parser.proofs.Longest.{longest}
 use Rattle.wasm_parser.proofs.ReadingLaws.{Grown, grows, reads_same}
 use Rattle.wasm_parser.proofs.StateLaws.{grammar_same, state_goes_on}
@@ -119,45 +123,113 @@ next_last p start prefix rest f end v before later e r c =
     same_place (events_of start p.features f.s.tiles) before (last_event end) e [] later (tiles_each start p.features f.s.tiles f.s.faultless) (inr refl) all (c ∙ sym f.consumes)
 
 -- what was answered says it
-gives_tile : (p new : ParserState) (start : ℕ) (prefix rest : List ℕ) (f : AtPrefix p start prefix rest) (t : Tile) → verdict (grammar_of p) rest ≡ tile t → (r : Result Chunk Error) → Answers p (tile t) r new → GivesEvent (event_of p.features (start + length (bytes_of f.s.tiles)) t) p start prefix rest r new
-gives_tile p new start prefix rest f t v (Ok (NeedMoreData hint)) a = absurd a
-gives_tile p new start prefix rest f t v (Ok (Parsed consumed payload)) a =
-    let v' : verdict (grammar start f.s.tiles) rest ≡ tile t = subst (λ (g : Grammar). verdict g rest ≡ tile t) (grammar_same p start prefix f.s) v in
-    let g : Grown start f.s.tiles rest t = grows start f.s.tiles rest t f.s.faultless v' in (
-      subst (λ (o : ℕ). IsPayload (tile_report p.features o (o + length t.bytes) t.shape) payload) f.offset a.1,
+gives_tile : (p new : ParserState) (eof : Bool) (start : ℕ) (prefix bytes : List ℕ) (s : IsStateAfter p start prefix) (t : Tile) → verdict (grammar_of p) bytes ≡ tile t → (r : Result Chunk Error) → Answers p (tile t) r new → GivesEvent (event_of p.features (start + length (bytes_of s.tiles)) t) p eof start prefix bytes r new
+gives_tile p new eof start prefix bytes s t v (Ok (NeedMoreData hint)) a = absurd a
+gives_tile p new eof start prefix bytes s t v (Ok (Parsed consumed payload)) a =
+    let o : p.offset ≡ start + length (bytes_of s.tiles) = s.offset ∙ ap (λ (x : List ℕ). start + length x) (sym s.is_prefix) in
+    let v' : verdict (grammar start s.tiles) bytes ≡ tile t = subst (λ (g : Grammar). verdict g bytes ≡ tile t) (grammar_same p start prefix s) v in
+    let g : Grown start s.tiles bytes t = grows start s.tiles bytes t s.faultless v' in (
+      subst (λ (o : ℕ). IsPayload (tile_report p.features o (o + length t.bytes) t.shape) payload) o a.1,
       a.0,
       subst₂ (λ (n : ℕ) (x : List ℕ). take n x ≡ t.bytes) (sym a.0) (sym g.split) (take_at t.bytes g.rest (length t.bytes) refl),
-      subst (λ (q : ParserState). IsStateAfter q start (prefix ++ t.bytes)) (sym a.2) (state_goes_on p start prefix f.s rest t v),
+      subst (λ (q : ParserState). IsStateAfter q start (prefix ++ t.bytes)) (sym a.2) (state_goes_on p start prefix s bytes t v),
       ap (λ (q : ParserState). q.features) a.2,
     )
-gives_tile p new start prefix rest f t v (Err e) a = absurd a
+gives_tile p new eof start prefix bytes s t v (Err e) a = absurd a
 
-gives_last : (p new : ParserState) (start : ℕ) (prefix rest : List ℕ) → IsStateAfter p start prefix → (end : Ending) (r : Result Chunk Error) → Answers p (final end) r new → GivesEvent (last_event end) p start prefix rest r new
-gives_last p new start prefix rest s (fault f) (Ok (NeedMoreData hint)) a = absurd a
-gives_last p new start prefix rest s (ended o) (Ok (NeedMoreData hint)) a = absurd a
-gives_last p new start prefix rest s (fault f) (Ok (Parsed consumed payload)) a = absurd a
-gives_last p new start prefix rest s (ended o) (Ok (Parsed consumed payload)) a = (
+-- where a stream ends nothing of a code section is left
+ended_at : (h b : Bool) (p : ParserState) (bytes : List ℕ) (o : ℕ) → nat_eq (p.bodies + p.left) 0 ≡ b → verdict (cond h (header_grammar p.offset) (cond b (section_grammar (known_context p) p.offset) (body_grammar p.bodies p.left p.offset))) bytes ≡ final (ended o) → p.bodies + p.left ≡ 0
+ended_at true b p bytes o n v = absurd (header_end p.offset bytes o v)
+ended_at false b p bytes o n v = eqb-true _ _ (n ∙ (inside_end b (known_context p) p.bodies p.left p.offset bytes o v).0)
+
+ended_code : (p : ParserState) (bytes : List ℕ) (o : ℕ) → verdict (grammar_of p) bytes ≡ final (ended o) → p.bodies + p.left ≡ 0
+ended_code p bytes o v = ended_at p.expects_header (nat_eq (p.bodies + p.left) 0) p bytes o refl v
+
+-- a parser that reported the end is where it was
+at_the_end : (p : ParserState) (start : ℕ) (prefix : List ℕ) → IsStateAfter p start prefix → p.bodies + p.left ≡ 0 → IsStateAfter (ended_state p) start prefix
+at_the_end p start prefix s z = record {
+  tiles = s.tiles;
+  faultless = s.faultless;
+  is_prefix = s.is_prefix;
+  offset = s.offset;
+  expects_header = s.expects_header;
+  encoding = s.encoding;
+  rank = s.rank;
+  functions = s.functions;
+  codes = s.codes;
+  datas = s.datas;
+  data_counts = s.data_counts;
+  bodies = s.bodies;
+  left = s.left;
+  in_code = λ e. cc;
+  open_code = λ l. let a = s.bodies in let b = s.left in absurd (omega (arith, a, b, z, l));
+}
+
+gives_last : (p new : ParserState) (eof : Bool) (start : ℕ) (prefix bytes : List ℕ) → IsStateAfter p start prefix → (end : Ending) → verdict (grammar_of p) bytes ≡ final end → (r : Result Chunk Error) → Answers p (final end) r new → GivesEvent (last_event end) p eof start prefix bytes r new
+gives_last p new eof start prefix bytes s (fault f) v (Ok (NeedMoreData hint)) a = absurd a
+gives_last p new eof start prefix bytes s (ended o) v (Ok (NeedMoreData hint)) a = absurd a
+gives_last p new eof start prefix bytes s (fault f) v (Ok (Parsed consumed payload)) a = absurd a
+gives_last p new eof start prefix bytes s (ended o) v (Ok (Parsed consumed payload)) a = (
   a.1,
   a.0,
-  subst (λ (n : ℕ). take n rest ≡ []) (sym a.0) refl,
-  subst₂ (λ (q : ParserState) (x : List ℕ). IsStateAfter q start x) (sym a.2) (sym (append-nil prefix)) s,
+  subst (λ (n : ℕ). take n bytes ≡ []) (sym a.0) refl,
+  subst₂ (λ (q : ParserState) (x : List ℕ). IsStateAfter q start x) (sym a.2) (sym (append-nil prefix)) (at_the_end p start prefix s (ended_code p bytes o v)),
   ap (λ (q : ParserState). q.features) a.2,
 )
-gives_last p new start prefix rest s (fault f) (Err e) a = (ap (λ (x : FaultAt). stream_end (fault x)) (sym a.0), refl, a.1)
-gives_last p new start prefix rest s (ended o) (Err e) a = absurd a
+gives_last p new eof start prefix bytes s (fault f) v (Err e) a = (ap (λ (x : FaultAt). stream_end (fault x)) (sym a.0), refl, a.1)
+gives_last p new eof start prefix bytes s (ended o) v (Err e) a = absurd a
 
-gives_at : (p new : ParserState) (start : ℕ) (prefix rest : List ℕ) (f : AtPrefix p start prefix rest) (r : Result Chunk Error) (v : Verdict) → verdict (grammar_of p) rest ≡ v → Answers p v r new
-    → (before later : List Event) (e : Event) → Reading (prefix ++ rest) start p.features (before ++ e ∷ later) → consumed_by before ≡ prefix → GivesEvent e p start prefix rest r new
-gives_at p new start prefix rest f r (tile t) q a before later e reading c =
-    subst (λ (x : Event). GivesEvent x p start prefix rest r new) (sym (next_tile p start prefix rest f t q before later e reading c)) (gives_tile p new start prefix rest f t q r a)
-gives_at p new start prefix rest f r (final end) q a before later e reading c =
-    subst (λ (x : Event). GivesEvent x p start prefix rest r new) (sym (next_last p start prefix rest f end q before later e reading c)) (gives_last p new start prefix rest f.s end r a)
+-- on all the rest of a stream
+gives_at : (p new : ParserState) (eof : Bool) (start : ℕ) (prefix bytes rest : List ℕ) (f : AtPrefix p start prefix rest) (r : Result Chunk Error) (v : Verdict) → verdict (grammar_of p) bytes ≡ v → verdict (grammar_of p) rest ≡ v → Answers p v r new
+    → (before later : List Event) (e : Event) → Reading (prefix ++ rest) start p.features (before ++ e ∷ later) → consumed_by before ≡ prefix → GivesEvent e p eof start prefix bytes r new
+gives_at p new eof start prefix bytes rest f r (tile t) u q a before later e reading c =
+    subst (λ (x : Event). GivesEvent x p eof start prefix bytes r new) (sym (next_tile p start prefix rest f t q before later e reading c)) (gives_tile p new eof start prefix bytes f.s t u r a)
+gives_at p new eof start prefix bytes rest f r (final end) u q a before later e reading c =
+    subst (λ (x : Event). GivesEvent x p eof start prefix bytes r new) (sym (next_last p start prefix rest f end q before later e reading c)) (gives_last p new eof start prefix bytes f.s end u r a)
 
-pub gives_next : (p new : ParserState) (rest : List ℕ) (r : Result Chunk Error) → ParseAnswer p rest r new → GivesNextEvent p rest r new
-gives_next p new rest r h start prefix s l events reading next =
+-- the event that comes next in every stream that these bytes may be the first of
+record IsNext (p : ParserState) (eof : Bool) (start : ℕ) (prefix bytes rest : List ℕ) (e : Event) : Type 0 where
+  s : IsStateAfter p start prefix
+  may_be : MayBe eof bytes rest
+  before : List Event
+  later : List Event
+  reading : Reading (prefix ++ rest) start p.features (before ++ e ∷ later)
+  consumed : consumed_by before ≡ prefix
+
+-- what bytes decide is what it is in the whole
+decides_rest : (p : ParserState) (eof : Bool) (bytes rest : List ℕ) → MayBe eof bytes rest → (eof ≡ true) ⊎ (waiting (grammar_of p) bytes ≡ enough) → verdict (grammar_of p) rest ≡ verdict (grammar_of p) bytes
+decides_rest p true bytes rest m d = ap (verdict (grammar_of p)) m
+decides_rest p false bytes rest m (inl e) = cc
+decides_rest p false bytes rest m (inr w) = ap (verdict (grammar_of p)) m.1 ∙ verdict-more (grammar_of p) bytes m.0 w
+
+gives_decided : (p new : ParserState) (eof : Bool) (start : ℕ) (prefix bytes rest : List ℕ) (e : Event) (n : IsNext p eof start prefix bytes rest e) (r : Result Chunk Error) → (eof ≡ true) ⊎ (waiting (grammar_of p) bytes ≡ enough) → Answers p (verdict (grammar_of p) bytes) r new → GivesEvent e p eof start prefix bytes r new
+gives_decided p new eof start prefix bytes rest e n r d a =
+    gives_at p new eof start prefix bytes rest (at_prefix p start prefix rest n.s) r (verdict (grammar_of p) bytes) refl (decides_rest p eof bytes rest n.may_be d) a n.before n.later e n.reading n.consumed
+
+gives_asked : (p new : ParserState) (start : ℕ) (prefix bytes : List ℕ) (e : Event) (need hint : ℕ) → waiting (grammar_of p) bytes ≡ wants need hint → (r : Result Chunk Error) → AsksFor hint p r new → GivesEvent e p false start prefix bytes r new
+gives_asked p new start prefix bytes e need hint w (Ok (NeedMoreData asked)) a = ((refl, (need, w ∙ ap (wants need) (sym a.0))), a.1)
+gives_asked p new start prefix bytes e need hint w (Ok (Parsed consumed payload)) a = absurd a
+gives_asked p new start prefix bytes e need hint w (Err f) a = absurd a
+
+gives_on : (p new : ParserState) (eof : Bool) (start : ℕ) (prefix bytes rest : List ℕ) (e : Event) (n : IsNext p eof start prefix bytes rest e) (r : Result Chunk Error) (w : Waiting) → waiting (grammar_of p) bytes ≡ w → AnswersOn eof w p (verdict (grammar_of p) bytes) r new
+    → GivesEvent e p eof start prefix bytes r new
+gives_on p new true start prefix bytes rest e n r w q a = gives_decided p new true start prefix bytes rest e n r (inl refl) a
+gives_on p new false start prefix bytes rest e n r enough q a = gives_decided p new false start prefix bytes rest e n r (inr q) a
+gives_on p new false start prefix bytes rest e n r (wants need hint) q a = gives_asked p new start prefix bytes e need hint q r a
+
+-- these bytes are no longer than all the rest
+may_fit : (eof : Bool) (bytes rest : List ℕ) → MayBe eof bytes rest → length bytes ≤ length rest
+may_fit true bytes rest m = let n : length rest ≡ length bytes = ap (λ (x : List ℕ). length x) m in omega arith
+may_fit false bytes rest m =
+    let n : length rest ≡ length bytes + length m.0 = ap (λ (x : List ℕ). length x) m.1 ∙ length-append bytes m.0 in
+    omega arith
+
+pub gives_next : (p new : ParserState) (eof : Bool) (bytes : List ℕ) (r : Result Chunk Error) → ParseAnswer p eof bytes r new → GivesNextEvent p eof bytes r new
+gives_next p new eof bytes r h start prefix rest m s l events reading next =
     let o : p.offset ≡ start + length prefix = s.offset in
+    let k : length bytes ≤ length rest = may_fit eof bytes rest m in
     let read : Reading (prefix ++ rest) start p.features (next.before ++ next.event ∷ next.later) = subst (Reading (prefix ++ rest) start p.features) next.whole reading in
-    gives_at p new start prefix rest (at_prefix p start prefix rest s) r (verdict (grammar_of p) rest) refl (h.within (omega arith)) next.before next.later next.event read next.consumed
+    gives_on p new eof start prefix bytes rest next.event (record { s = s; may_be = m; before = next.before; later = next.later; reading = read; consumed = next.consumed }) r (waiting (grammar_of p) bytes) refl (h.within (omega arith))
 
 -- ---- there is a next event
 

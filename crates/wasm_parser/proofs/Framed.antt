@@ -3,10 +3,11 @@ use Rattle.std.proofs.Common.{◌≡◌, ℕ, nat_eq, ◌+◌, ◌-◌, ◌^◌,
 use Prim.Native.Nat.compare
 use lib.Dec.{is_le}
 use Rattle.std.specs.List.{starts_with}
-use Rattle.std.proofs.lemmas.Bool.{lt-leb, eqb-true, eq-eqb}
+use Rattle.std.proofs.lemmas.Bool.{lt-leb, leb-false, eqb-true, eq-eqb}
 use Rattle.std.proofs.lemmas.List.{length-take-le}
-use Rattle.wasm_base.specs.FaultAt.{FaultAt, fault_at, at_offset}
+use Rattle.wasm_base.specs.FaultAt.{FaultAt, fault_at, hint_of, at_offset}
 use Rattle.wasm_base.specs.Header.{magic, agree}
+use Rattle.wasm_base.specs.Hints.{hint_at, missing_at}
 use Rattle.wasm_base.specs.Name.{Name, named, refused, name_limit, name, name_in_window, text_at, first_of, byte_at}
 use Rattle.wasm_base.specs.Number.{unsigned_at}
 use Rattle.wasm_base.specs.Outcome.{◌>>=◌}
@@ -14,31 +15,33 @@ use Rattle.wasm_base.specs.Window.{Window, Place, place, advanced, KeepsWindow, 
 use Rattle.wasm_base.specs.declared.error.Error.{Error}
 use Rattle.wasm_base.specs.declared.fault.Fault.TheVariants.{UnexpectedEof, MagicAtSection, MalformedSectionId, SectionTooLarge, OutOfOrder}
 use Rattle.wasm_base.specs.declared.fault.NumberKind.TheVariants.{VarU32}
-use Rattle.wasm_parser.specs.ParseAnswer.{IsPayload, MatchesVerdict, ReadsByGrammar}
+use Rattle.wasm_parser.specs.ParseAnswer.{IsPayload, MatchesVerdict, HintsAs, MatchesGrammar, ReadsByGrammar}
+use Rattle.wasm_parser.specs.ParserState.{ParserState, known_context}
+use Rattle.wasm_parser.specs.Waiting.{enough, asked, waiting}
 use Rattle.wasm_parser.specs.Content.{Kind, custom, unknown, kind_of, rank_of, when, wrong_content, wrong_name, Form}
-use Rattle.wasm_parser.specs.ReadsPart.{content_at}
+use Rattle.wasm_parser.specs.ReadsPart.{content_at, ReadsNextSection}
 use Rattle.wasm_custom.specs.Custom.{Custom, IsCustom}
 use Rattle.wasm_parser.specs.Grammar.{section, SectionContext, Grammar, check, u32_field, verdict, whole_grammar, wrong_data, content_grammar, after_length, after_id, section_grammar}
 use Rattle.wasm_parser.specs.Reading.{section_report, custom_report, custom_section, unknown_section}
 use Rattle.wasm_parser.specs.declared.payload.Payload.{Payload}
 use Rattle.wasm_parser.specs.declared.payload.Payload.TheVariants.{CustomSection}
-use Rattle.wasm_parser.proofs.ReadingFields.{report_at, report_bytes, report_missing, report_number, report_no_number, report_wrong, report_right, report_whole, ReadNumber, read_number}
+use Rattle.wasm_parser.proofs.ReadingFields.{later_asked, report_at, report_bytes, report_missing, report_number, report_no_number, report_wrong, report_right, report_whole, ReadNumber, read_number}
 
 -- after an id of 128 or more
-pub framed_bad : (context : SectionContext) (start id : ℕ) (p : Place) (e : Error) (a : Place) → 128 ≤ id → fault_at e ≡ at_offset MalformedSectionId start → ReadsByGrammar (after_id context start id) p (Err e) a
-framed_bad context start id p e a h f =
+pub framed_bad : (context : SectionContext) (start id : ℕ) (p : Place) (e : Error) (a : Place) → 128 ≤ id → fault_at e ≡ at_offset MalformedSectionId start → hint_of e ≡ None → ReadsByGrammar (after_id context start id) p (Err e) a
+framed_bad context start id p e a h f hint =
     let t : nat_le 128 id ≡ true = le-leb 128 id h in
     let w : when (nat_le 128 id) (at_offset MalformedSectionId start) ≡ Some (fault_at e) = rw t (ap Some (sym f)) in
-    λ s. report_wrong s p (when (nat_le 128 id) (at_offset MalformedSectionId start)) _ e a w
+    λ s. report_wrong s p (when (nat_le 128 id) (at_offset MalformedSectionId start)) _ e a w hint
 
 good_id : (start id : ℕ) → id < 128 → when (nat_le 128 id) (at_offset MalformedSectionId start) ≡ None
 good_id start id h = rw (lt-leb 128 id h) refl
 
 -- after a good id, where no length is read
-pub framed_no_size : (context : SectionContext) (start id : ℕ) (p : Place) (e : Error) (a : Place) → id < 128 → start + 1 ≡ p.offset → unsigned_at VarU32 p ≡ Err (fault_at e) → ReadsByGrammar (after_id context start id) p (Err e) a
-framed_no_size context start id p e a h o n =
+pub framed_no_size : (context : SectionContext) (start id : ℕ) (p : Place) (e : Error) (a : Place) → id < 128 → start + 1 ≡ p.offset → unsigned_at VarU32 p ≡ Err (fault_at e) → hint_of e ≡ hint_at 1 (fault_at e).fault → ReadsByGrammar (after_id context start id) p (Err e) a
+framed_no_size context start id p e a h o n hint =
     let next : ℕ → ℕ → ℕ → Grammar = λ x size width. after_length context (kind_of context.encoding id) id x (x + width) size in
-    let r : (s : ℕ) → MatchesVerdict s p (verdict (u32_field (start + 1) (next (start + 1))) p.rest) (Err e) a = λ s. subst (λ (x : ℕ). MatchesVerdict s p (verdict (u32_field x (next x)) p.rest) (Err e) a) (sym o) (report_no_number s p (next p.offset) e a n) in
+    let r : (s : ℕ) → MatchesGrammar s p (u32_field (start + 1) (next (start + 1))) (Err e) a = λ s. subst (λ (x : ℕ). MatchesGrammar s p (u32_field x (next x)) (Err e) a) (sym o) (report_no_number s p (next p.offset) e a n hint) in
     λ s. report_right s p (when (nat_le 128 id) (at_offset MalformedSectionId start)) _ (Err e) a (good_id start id h) (r s)
 
 -- after a good id and a length
@@ -46,20 +49,20 @@ pub framed_sized : (context : SectionContext) (start id : ℕ) (p q : Place) (v 
     → ReadsByGrammar (after_length context (kind_of context.encoding id) id p.offset q.offset v) q r a → ReadsByGrammar (after_id context start id) p r a
 framed_sized context start id p q v r a h o n next =
     let m : ReadNumber p v q = read_number p v q n in
-    let at_q : (s : ℕ) → MatchesVerdict s (advanced m.used p) (verdict (after_length context (kind_of context.encoding id) id p.offset (p.offset + m.used) v) (drop m.used p.rest)) r a =
-    λ s. subst (λ (x : Place). MatchesVerdict s x (verdict (after_length context (kind_of context.encoding id) id p.offset x.offset v) x.rest) r a) m.after (next s) in
+    let at_q : (s : ℕ) → MatchesGrammar s (advanced m.used p) (after_length context (kind_of context.encoding id) id p.offset (p.offset + m.used) v) r a =
+    λ s. subst (λ (x : Place). MatchesGrammar s x (after_length context (kind_of context.encoding id) id p.offset x.offset v) r a) m.after (next s) in
     λ s. report_right s p (when (nat_le 128 id) (at_offset MalformedSectionId start)) _ r a (good_id start id h) (
-    subst (λ (y : ℕ). MatchesVerdict s p (verdict (u32_field y (λ size width. after_length context (kind_of context.encoding id) id y (y + width) size)) p.rest) r a) (sym o)
+    subst (λ (y : ℕ). MatchesGrammar s p (u32_field y (λ size width. after_length context (kind_of context.encoding id) id y (y + width) size)) r a) (sym o)
     (report_number s p p.offset (λ size width. after_length context (kind_of context.encoding id) id p.offset (p.offset + width) size) r a v m.used m.reads (at_q s)))
 
 -- a content that would end past the top of the offsets
 pub sized_large : (context : SectionContext) (kind : Kind) (id field size : ℕ) (p : Place) (e : Error) (a : Place) → 2 ^ 64 - 1 < p.offset + size → fault_at e ≡ record { fault = SectionTooLarge; offset = field; number = Some size }
-    → ReadsByGrammar (after_length context kind id field p.offset size) p (Err e) a
-sized_large context kind id field size p e a h f =
+    → hint_of e ≡ None → ReadsByGrammar (after_length context kind id field p.offset size) p (Err e) a
+sized_large context kind id field size p e a h f hint =
     let t : nat_lt (2 ^ 64 - 1) (p.offset + size) ≡ true = lt-ltb (2 ^ 64 - 1) (p.offset + size) h in
     let x : FaultAt = record { fault = SectionTooLarge; offset = field; number = Some size } in
     let w : when (nat_lt (2 ^ 64 - 1) (p.offset + size)) x ≡ Some (fault_at e) = rw t (ap Some (sym f)) in
-    λ s. report_wrong s p (when (nat_lt (2 ^ 64 - 1) (p.offset + size)) x) _ e a w
+    λ s. report_wrong s p (when (nat_lt (2 ^ 64 - 1) (p.offset + size)) x) _ e a w hint
 
 -- whether a section of this kind and id may not come after others, for its rank
 abbrev pub is_disordered : SectionContext → Kind → ℕ → Bool
@@ -75,11 +78,11 @@ fitting context kind id field size p r a h next =
 
 -- one that ranks no higher than one before it
 pub sized_disordered : (context : SectionContext) (kind : Kind) (id field size : ℕ) (p : Place) (e : Error) (a : Place) → p.offset + size ≤ 2 ^ 64 - 1 → is_disordered context kind id ≡ true → fault_at e ≡ at_offset OutOfOrder p.offset
-    → ReadsByGrammar (after_length context kind id field p.offset size) p (Err e) a
-sized_disordered context kind id field size p e a h k f =
+    → hint_of e ≡ None → ReadsByGrammar (after_length context kind id field p.offset size) p (Err e) a
+sized_disordered context kind id field size p e a h k f hint =
     let y : FaultAt = at_offset OutOfOrder p.offset in
     let ranks : when (is_disordered context kind id) y ≡ Some (fault_at e) = rw k (ap Some (sym f)) in
-    fitting context kind id field size p (Err e) a h (λ s. report_wrong s p (when (is_disordered context kind id) y) _ e a ranks)
+    fitting context kind id field size p (Err e) a h (λ s. report_wrong s p (when (is_disordered context kind id) y) _ e a ranks hint)
 
 -- one that is in its place
 pub sized_ordered : (context : SectionContext) (kind : Kind) (id field size : ℕ) (p : Place) (r : Result Payload Error) (a : Place) → p.offset + size ≤ 2 ^ 64 - 1 → is_disordered context kind id ≡ false
@@ -114,10 +117,10 @@ unfolding content_at
 too_few size p f h = too_few_at (nat_lt (length p.rest) size) size p f refl (sym (content_steps (nat_lt (length p.rest) size) size p) ∙ h)
 
 -- content that isn't all there
-pub whole_missing : (context : SectionContext) (kind : Form) (id size : ℕ) (p : Place) (e : Error) (a : Place) → content_at size p ≡ Err (fault_at e) → ReadsByGrammar (whole_grammar context kind id p.offset size) p (Err e) a
-whole_missing context kind id size p e a h =
+pub whole_missing : (context : SectionContext) (kind : Form) (id size : ℕ) (p : Place) (e : Error) (a : Place) → content_at size p ≡ Err (fault_at e) → hint_of e ≡ hint_at (missing_at size p) (fault_at e).fault → ReadsByGrammar (whole_grammar context kind id p.offset size) p (Err e) a
+whole_missing context kind id size p e a h hint =
     let t = too_few size p (fault_at e) h in
-    λ s. report_missing s p size p.offset _ e a t.0 t.1
+    λ s. report_missing s p size p.offset _ e a t.0 t.1 hint
 
 -- content that is
 pub record HasContent (size : ℕ) (p : Place) (w : Window) (q : Place) : Type 0 where
@@ -154,19 +157,19 @@ whole_good context kind id size p w q payload h good counts report =
 
 -- bad content
 pub whole_bad : (context : SectionContext) (kind : Form) (id size : ℕ) (p : Place) (w : Window) (q : Place) (e : Error) (a : Place) → content_at size p ≡ Ok (w, q) → wrong_content kind p.offset (take size p.rest) ≡ Some (fault_at e)
-    → ReadsByGrammar (whole_grammar context kind id p.offset size) p (Err e) a
-whole_bad context kind id size p w q e a h wrong =
+    → hint_of e ≡ None → ReadsByGrammar (whole_grammar context kind id p.offset size) p (Err e) a
+whole_bad context kind id size p w q e a h wrong hint =
     let c : HasContent size p w q = has_content size p w q h in
-    λ s. report_bytes s p size p.offset _ (Err e) a c.there (report_wrong s (advanced size p) (wrong_content kind p.offset (take size p.rest)) _ e a wrong)
+    λ s. report_bytes s p size p.offset _ (Err e) a c.there (report_wrong s (advanced size p) (wrong_content kind p.offset (take size p.rest)) _ e a wrong hint)
 
 -- good content whose count differs from the one that was announced
 pub whole_miscounted : (context : SectionContext) (kind : Form) (id size : ℕ) (p : Place) (w : Window) (q : Place) (e : Error) (a : Place) → content_at size p ≡ Ok (w, q) → wrong_content kind p.offset (take size p.rest) ≡ None
-    → wrong_data context kind id (p.offset + size) (take size p.rest) ≡ Some (fault_at e) → ReadsByGrammar (whole_grammar context kind id p.offset size) p (Err e) a
-whole_miscounted context kind id size p w q e a h good wrong =
+    → wrong_data context kind id (p.offset + size) (take size p.rest) ≡ Some (fault_at e) → hint_of e ≡ None → ReadsByGrammar (whole_grammar context kind id p.offset size) p (Err e) a
+whole_miscounted context kind id size p w q e a h good wrong hint =
     let c : HasContent size p w q = has_content size p w q h in
     λ s. report_bytes s p size p.offset _ (Err e) a c.there (
     report_right s (advanced size p) (wrong_content kind p.offset (take size p.rest)) _ (Err e) a good (
-    report_wrong s (advanced size p) (wrong_data context kind id (p.offset + size) (take size p.rest)) _ e a wrong))
+    report_wrong s (advanced size p) (wrong_data context kind id (p.offset + size) (take size p.rest)) _ e a wrong hint))
 
 -- what a custom section's reader says of its content
 pub record GoodCustom (features offset to : ℕ) (content : List ℕ) (c : Custom) : Type 0 where
@@ -217,10 +220,10 @@ custom_read context id size p w q c h is =
     whole_good context custom id size p w q (CustomSection c) h g.good refl (sym g.report, tt)
 
 pub custom_refused : (context : SectionContext) (id size : ℕ) (p : Place) (w : Window) (q : Place) (e : Error) (a : Place) → content_at size p ≡ Ok (w, q) → text_at (Some name_limit) (place w) ≡ Err (fault_at e)
-    → ReadsByGrammar (whole_grammar context custom id p.offset size) p (Err e) a
-custom_refused context id size p w q e a h wrong =
+    → hint_of e ≡ None → ReadsByGrammar (whole_grammar context custom id p.offset size) p (Err e) a
+custom_refused context id size p w q e a h wrong hint =
     let k : HasContent size p w q = has_content size p w q h in
-    whole_bad context custom id size p w q e a h (bad_custom p.features p.offset (take size p.rest) (fault_at e) (subst (λ (x : Window). text_at (Some name_limit) (place x) ≡ Err (fault_at e)) k.window wrong))
+    whole_bad context custom id size p w q e a h (bad_custom p.features p.offset (take size p.rest) (fault_at e) (subst (λ (x : Window). text_at (Some name_limit) (place x) ≡ Err (fault_at e)) k.window wrong)) hint
 
 -- an unknown section
 pub unknown_read : (context : SectionContext) (id size : ℕ) (p : Place) (w : Window) (q : Place) (payload : Payload) → content_at size p ≡ Ok (w, q)
@@ -239,9 +242,18 @@ unfolding section_grammar verdict
 magic_at [] context p e a m l f s = absurd (omega arith)
 magic_at (id ∷ xs) context p e a m l f s = rw (← m) f
 
-pub section_magic : (context : SectionContext) (p : Place) (e : Error) (a : Place) → true ≡ (agree p.rest magic && nat_le 4 (length p.rest)) → 0 < length p.rest → fault_at e ≡ at_offset MagicAtSection p.offset
-    → ReadsByGrammar (section_grammar context p.offset) p (Err e) a
-section_magic context p e a m l f = magic_at p.rest context p e a m l f
+magic_decides : (xs : List ℕ) (context : SectionContext) (o : ℕ) (b : Bool) → agree xs magic ≡ b → true ≡ (b && nat_le 4 (length xs)) → 0 < length xs → waiting (section_grammar context o) xs ≡ enough
+unfolding section_grammar waiting
+magic_decides [] context o b g m l = absurd (omega arith)
+magic_decides (id ∷ xs) context o true g m l = rw (g, ← m) refl
+magic_decides (id ∷ xs) context o false g m l = cc
+
+pub section_magic : (p : ParserState) (here : Place) (e : Error) (a : Place) → true ≡ (agree here.rest magic && nat_le 4 (length here.rest)) → 0 < length here.rest → fault_at e ≡ at_offset MagicAtSection here.offset → hint_of e ≡ None
+    → ReadsNextSection p here (Err e) a
+section_magic p here e a m l f hint = (
+  magic_at here.rest (known_context p) here e a m l f,
+  λ b. hint ∙ sym (ap asked (magic_decides here.rest (known_context p) here.offset (agree here.rest magic) refl m l)),
+)
 
 -- a section after its id
 framed_at : (xs : List ℕ) (context : SectionContext) (p q : Place) (id : ℕ) (r : Result Payload Error) (a : Place) → p.rest ≡ xs → false ≡ (agree xs magic && nat_le 4 (length xs)) → first_of p xs ≡ Ok (id, q)
@@ -254,13 +266,37 @@ framed_at (x ∷ xs) context p q id r a z m b next s =
     let j : advanced 1 p ≡ q = ap (λ (w : ℕ × Place). w.1) y in
     let k : drop 1 p.rest ≡ xs = ap (drop 1) z in
     let here : MatchesVerdict s (advanced 1 p) (verdict (after_id context p.offset x) (drop 1 p.rest)) r a =
-    subst₂ (λ (w : ℕ) (v : Place). MatchesVerdict s v (verdict (after_id context p.offset w) v.rest) r a) (sym i) (sym j) (next s) in
+    subst₂ (λ (w : ℕ) (v : Place). MatchesVerdict s v (verdict (after_id context p.offset w) v.rest) r a) (sym i) (sym j) (next s).0 in
     let there : MatchesVerdict s (advanced 1 p) (verdict (after_id context p.offset x) xs) r a = subst (λ (w : List ℕ). MatchesVerdict s (advanced 1 p) (verdict (after_id context p.offset x) w) r a) k here in
     rw (← m) (report_at s p 1 (x ∷ []) (verdict (after_id context p.offset x) xs) r a refl there)
 
-pub section_framed : (context : SectionContext) (p q : Place) (id : ℕ) (r : Result Payload Error) (a : Place) → false ≡ (agree p.rest magic && nat_le 4 (length p.rest)) → byte_at p ≡ Ok (id, q)
-    → ReadsByGrammar (after_id context p.offset id) q r a → ReadsByGrammar (section_grammar context p.offset) p r a
-section_framed context p q id r a m b next = framed_at p.rest context p q id r a refl m b next
+-- bytes that begin no header
+not_begun : (b l : Bool) (m n : ℕ) → nat_le m n ≡ l → false ≡ (b && l) → (b && nat_lt n m) ≡ false → b ≡ false
+not_begun false l m n t f g = refl
+not_begun true true m n t f g = cc
+not_begun true false m n t f g = g' (nat_lt n m) refl g
+  where
+    g' : (c : Bool) → nat_lt n m ≡ c → c ≡ false → true ≡ false
+    g' true u v = v
+    g' false u v = absurd (omega (arith, ltb-false n m u, leb-false m n t))
+
+framed_hints : (xs : List ℕ) (context : SectionContext) (p q : Place) (id : ℕ) (r : Result Payload Error) → p.rest ≡ xs → agree xs magic ≡ false → first_of p xs ≡ Ok (id, q)
+    → HintsAs (waiting (after_id context p.offset id) q.rest) r → HintsAs (waiting (section_grammar context p.offset) xs) r
+unfolding section_grammar waiting
+framed_hints [] context p q id r z m b next = cc
+framed_hints (x ∷ xs) context p q id r z m b next =
+    let y : (x, advanced 1 p) ≡ (id, q) = cc in
+    let i : x ≡ id = ap (λ (w : ℕ × Place). w.0) y in
+    let j : drop 1 p.rest ≡ q.rest = ap (λ (w : ℕ × Place). w.1.rest) y in
+    let k : drop 1 p.rest ≡ xs = ap (drop 1) z in
+    rw m (later_asked 1 (waiting (after_id context p.offset x) xs) r (subst₂ (λ (w : ℕ) (v : List ℕ). HintsAs (waiting (after_id context p.offset w) v) r) (sym i) (sym j ∙ k) next))
+
+pub section_framed : (p : ParserState) (here q : Place) (id : ℕ) (r : Result Payload Error) (a : Place) → false ≡ (agree here.rest magic && nat_le 4 (length here.rest)) → byte_at here ≡ Ok (id, q)
+    → ReadsByGrammar (after_id (known_context p) here.offset id) q r a → ReadsNextSection p here r a
+section_framed p here q id r a m b next = (
+  framed_at here.rest (known_context p) here q id r a refl m b next,
+  λ begun. framed_hints here.rest (known_context p) here q id r refl (not_begun (agree here.rest magic) (nat_le 4 (length here.rest)) 4 (length here.rest) refl m begun) b (next 0).1,
+)
 
 -- bytes begin with others exactly if they agree with them, and are as many
 turned : (m n : ℕ) (a b : Bool) → nat_eq m n ≡ a → nat_eq n m ≡ b → a ≡ b

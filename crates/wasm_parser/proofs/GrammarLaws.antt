@@ -11,7 +11,7 @@ use Rattle.wasm_base.specs.declared.fault.NumberKind.TheVariants.{VarU32}
 use Rattle.wasm_base.specs.declared.fault.Fault.TheVariants.{UnexpectedEof, MagicAtSection}
 use Rattle.wasm_base.proofs.NumberLaws.{number-more, number-used, Used}
 
-later-enough : (k : ℕ) (w : Waiting) → later k w ≡ enough → w ≡ enough
+pub later-enough : (k : ℕ) (w : Waiting) → later k w ≡ enough → w ≡ enough
 later-enough k enough e = refl
 later-enough k (wants n h) e = cc
 

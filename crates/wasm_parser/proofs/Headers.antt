@@ -1,15 +1,16 @@
 -- What is read of a header.
 use Rattle.std.proofs.Common.{◌≡◌, ℕ, ◌+◌, ◌/◌, ◌%◌, ◌≤◌, Bool, true, false, cond, not, List, length, take, drop, Some, None, Result, Ok, Err, nat_lt, refl, sym, ap, subst, ◌∙◌, ltb-true, ltb-false}
-use Rattle.wasm_base.specs.FaultAt.{fault_at, at_offset}
+use Rattle.wasm_base.specs.FaultAt.{FaultAt, fault_at, hint_of, at_offset}
+use Rattle.wasm_base.specs.Hints.{hint_at, missing_at, missing_of_header}
 use Rattle.wasm_base.specs.Header.{magic, agree, header_version_at}
 use Rattle.wasm_base.specs.Name.{of_four, u32_at}
 use Rattle.wasm_base.specs.Outcome.{Outcome, ◌>>=◌}
 use Rattle.wasm_base.specs.Window.{Place, advanced}
 use Rattle.wasm_base.specs.declared.error.Error.{Error}
 use Rattle.wasm_base.specs.declared.fault.Fault.TheVariants.{UnexpectedEof, BadMagic, UnknownVersion}
-use Rattle.wasm_parser.specs.ParseAnswer.{IsPayload, MatchesVerdict}
+use Rattle.wasm_parser.specs.ParseAnswer.{IsPayload, MatchesGrammar}
 use Rattle.wasm_parser.specs.Content.{when}
-use Rattle.wasm_parser.specs.Grammar.{version, verdict, encoding_named, version_of, header_grammar}
+use Rattle.wasm_parser.specs.Grammar.{version, encoding_named, version_of, header_grammar}
 use Rattle.wasm_parser.specs.Reading.{tile_report}
 use Rattle.wasm_parser.specs.declared.payload.Encoding.{Encoding}
 use Rattle.wasm_parser.specs.declared.payload.Payload.{Payload}
@@ -65,46 +66,56 @@ pub header_read : (p : Place) (bits : ℕ) (q : Place) → header_version_at p �
 header_read p bits q h = read_at (nat_lt (length p.rest) 4) (agree (take 4 p.rest) magic) (nat_lt (length (drop 4 p.rest)) 4) p bits q refl refl refl (sym (steps p) ∙ h)
 
 -- what is after the eight bytes
-report_eight : (s : ℕ) (p : Place) (bits : ℕ) (q : Place) (r : Result Payload Error) (a : Place) → ReadHeader p bits q → MatchesVerdict s q (verdict (version_of p.offset bits) q.rest) r a → MatchesVerdict s p (verdict (header_grammar p.offset) p.rest) r a
+report_eight : (s : ℕ) (p : Place) (bits : ℕ) (q : Place) (r : Result Payload Error) (a : Place) → ReadHeader p bits q → MatchesGrammar s q (version_of p.offset bits) r a → MatchesGrammar s p (header_grammar p.offset) r a
 unfolding header_grammar
 report_eight s p bits q r a h t =
     let m : when (not (agree (take 4 p.rest) magic)) (at_offset BadMagic p.offset) ≡ None = rw h.begins refl in
-    let v : MatchesVerdict s (advanced 4 (advanced 4 p)) (verdict (version_of p.offset bits) (drop 4 (drop 4 p.rest))) r a = subst (λ (x : Place). MatchesVerdict s x (verdict (version_of p.offset bits) x.rest) r a) h.place t in
-    let w : MatchesVerdict s (advanced 4 (advanced 4 p)) (verdict (version_of p.offset (of_four (take 4 (drop 4 p.rest)))) (drop 4 (drop 4 p.rest))) r a = subst (λ (x : ℕ). MatchesVerdict s (advanced 4 (advanced 4 p)) (verdict (version_of p.offset x) (drop 4 (drop 4 p.rest))) r a) (sym h.four) v in
+    let v : MatchesGrammar s (advanced 4 (advanced 4 p)) (version_of p.offset bits) r a = subst (λ (x : Place). MatchesGrammar s x (version_of p.offset bits) r a) h.place t in
+    let w : MatchesGrammar s (advanced 4 (advanced 4 p)) (version_of p.offset (of_four (take 4 (drop 4 p.rest)))) r a = subst (λ (x : ℕ). MatchesGrammar s (advanced 4 (advanced 4 p)) (version_of p.offset x) r a) (sym h.four) v in
     report_bytes s p 4 p.offset _ r a h.there (
     report_right s (advanced 4 p) (when (not (agree (take 4 p.rest) magic)) (at_offset BadMagic p.offset)) _ r a m (
     report_bytes s (advanced 4 p) 4 (p.offset + 4) (λ four. version_of p.offset (of_four four)) r a h.after w))
 
 -- a header of a known version
 pub header_report : (p : Place) (bits : ℕ) (q : Place) (e : Encoding) (payload : Payload) → header_version_at p ≡ Ok (bits, q) → Some e ≡ encoding_named (bits % 65536) (bits / 65536)
-    → IsPayload (tile_report q.features p.offset q.offset (version (bits % 65536) e)) payload → MatchesVerdict p.offset p (verdict (header_grammar p.offset) p.rest) (Ok payload) q
+    → IsPayload (tile_report q.features p.offset q.offset (version (bits % 65536) e)) payload → MatchesGrammar p.offset p (header_grammar p.offset) (Ok payload) q
 header_report p bits q e payload h n t =
     report_eight p.offset p bits q (Ok payload) q (header_read p bits q h) (rw (← n) (report_whole p.offset q (version (bits % 65536) e) payload q refl t))
 
 -- one of an unknown version
 pub header_unnamed : (p : Place) (bits : ℕ) (q : Place) (e : Error) → header_version_at p ≡ Ok (bits, q) → None ≡ encoding_named (bits % 65536) (bits / 65536)
-    → fault_at e ≡ record { fault = UnknownVersion; offset = p.offset + 4; number = Some bits } → MatchesVerdict p.offset p (verdict (header_grammar p.offset) p.rest) (Err e) q
-header_unnamed p bits q e h n f =
-    report_eight p.offset p bits q (Err e) q (header_read p bits q h) (rw (← n) (report_stops p.offset q (record { fault = UnknownVersion; offset = p.offset + 4; number = Some bits }) e q f))
+    → fault_at e ≡ record { fault = UnknownVersion; offset = p.offset + 4; number = Some bits } → hint_of e ≡ None → MatchesGrammar p.offset p (header_grammar p.offset) (Err e) q
+header_unnamed p bits q e h n f hint =
+    report_eight p.offset p bits q (Err e) q (header_read p bits q h) (rw (← n) (report_stops p.offset q (record { fault = UnknownVersion; offset = p.offset + 4; number = Some bits }) e q f hint))
 
 -- none
+
+-- how many bytes are missing, by the tests
+abbrev steps_missing : (few other : Bool) → Place → ℕ
+steps_missing true other p = missing_at 4 p
+steps_missing false other p = missing_at 4 (advanced 4 p)
+
+missing_by_steps : (few : Bool) (p : Place) → nat_lt (length p.rest) 4 ≡ few → missing_of_header p ≡ steps_missing few (agree (take 4 p.rest) magic) p
+missing_by_steps true p e = rw e refl
+missing_by_steps false p e = rw e refl
+
 refused_at : (few other fewer : Bool) (p : Place) (e : Error) (a : Place) → nat_lt (length p.rest) 4 ≡ few → agree (take 4 p.rest) magic ≡ other → nat_lt (length (drop 4 p.rest)) 4 ≡ fewer
-    → version_steps few other fewer p ≡ Err (fault_at e) → MatchesVerdict p.offset p (verdict (header_grammar p.offset) p.rest) (Err e) a
+    → version_steps few other fewer p ≡ Err (fault_at e) → hint_of e ≡ hint_at (steps_missing few other p) (fault_at e).fault → MatchesGrammar p.offset p (header_grammar p.offset) (Err e) a
 unfolding header_grammar
-refused_at true other fewer p e a x y z h =
+refused_at true other fewer p e a x y z h hint =
     let f : at_offset UnexpectedEof p.offset ≡ fault_at e = cc in
-    report_missing p.offset p 4 p.offset _ e a (ltb-true _ _ x) (sym f)
-refused_at false false fewer p e a x y z h =
+    report_missing p.offset p 4 p.offset _ e a (ltb-true _ _ x) (sym f) hint
+refused_at false false fewer p e a x y z h hint =
     let f : at_offset BadMagic p.offset ≡ fault_at e = cc in
     let m : when (not (agree (take 4 p.rest) magic)) (at_offset BadMagic p.offset) ≡ Some (fault_at e) = rw y (ap Some f) in
-    report_bytes p.offset p 4 p.offset _ (Err e) a (ltb-false _ _ x) (report_wrong p.offset (advanced 4 p) (when (not (agree (take 4 p.rest) magic)) (at_offset BadMagic p.offset)) _ e a m)
-refused_at false true true p e a x y z h =
+    report_bytes p.offset p 4 p.offset _ (Err e) a (ltb-false _ _ x) (report_wrong p.offset (advanced 4 p) (when (not (agree (take 4 p.rest) magic)) (at_offset BadMagic p.offset)) _ e a m (hint ∙ ap (λ (x : FaultAt). hint_at (steps_missing false false p) x.fault) (sym f)))
+refused_at false true true p e a x y z h hint =
     let f : at_offset UnexpectedEof (p.offset + 4) ≡ fault_at e = cc in
     let m : when (not (agree (take 4 p.rest) magic)) (at_offset BadMagic p.offset) ≡ None = rw y refl in
     report_bytes p.offset p 4 p.offset _ (Err e) a (ltb-false _ _ x) (
     report_right p.offset (advanced 4 p) (when (not (agree (take 4 p.rest) magic)) (at_offset BadMagic p.offset)) _ (Err e) a m (
-    report_missing p.offset (advanced 4 p) 4 (p.offset + 4) _ e a (ltb-true _ _ z) (sym f)))
-refused_at false true false p e a x y z h = cc
+    report_missing p.offset (advanced 4 p) 4 (p.offset + 4) _ e a (ltb-true _ _ z) (sym f) hint))
+refused_at false true false p e a x y z h hint = cc
 
-pub header_refused : (p : Place) (e : Error) (a : Place) → header_version_at p ≡ Err (fault_at e) → MatchesVerdict p.offset p (verdict (header_grammar p.offset) p.rest) (Err e) a
-header_refused p e a h = refused_at (nat_lt (length p.rest) 4) (agree (take 4 p.rest) magic) (nat_lt (length (drop 4 p.rest)) 4) p e a refl refl refl (sym (steps p) ∙ h)
+pub header_refused : (p : Place) (e : Error) (a : Place) → header_version_at p ≡ Err (fault_at e) → hint_of e ≡ hint_at (missing_of_header p) (fault_at e).fault → MatchesGrammar p.offset p (header_grammar p.offset) (Err e) a
+header_refused p e a h hint = refused_at (nat_lt (length p.rest) 4) (agree (take 4 p.rest) magic) (nat_lt (length (drop 4 p.rest)) 4) p e a refl refl refl (sym (steps p) ∙ h) (hint ∙ ap (λ n. hint_at n (fault_at e).fault) (missing_by_steps (nat_lt (length p.rest) 4) p refl))

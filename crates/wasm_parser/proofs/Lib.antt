@@ -42,3 +42,8 @@ pub mod AnswerBounds
 pub mod Walking
 pub mod WorkedLaws
 pub mod WorkedFieldsLaws
+pub mod WaitingLaws
+pub mod SkippedLaws
+pub mod CodeFits
+pub mod NextParts
+pub mod MagicBegun

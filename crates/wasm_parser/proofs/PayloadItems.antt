@@ -1,13 +1,12 @@
 -- The items of payloads are those of their windows.
-use Rattle.std.specs.Prelude.{◌≡◌, ℕ, List, Result, Option, Ok}
-use Rattle.std.proofs.Common.{refl, sym, ap, subst, ◌∙◌}
+use Rattle.std.specs.Prelude.{◌≡◌, ℕ}
+use Rattle.std.proofs.Common.{refl, ap, subst}
 use Rattle.wasm_base.specs.Item.{ReadsAs}
 use Rattle.wasm_base.specs.Number.{unsigned_at}
 use Rattle.wasm_base.specs.Outcome.{Outcome}
 use Rattle.wasm_base.specs.Owned.{UnlessMemory}
-use Rattle.wasm_base.specs.Section.{Section, Items, all_items, AtItsOffset, GivesItems, NextItem, NextItemIn}
+use Rattle.wasm_base.specs.Section.{Section, all_items, AtItsOffset, GivesItems, NextItem, NextItemIn}
 use Rattle.wasm_base.specs.Window.{Window, Place, place}
-use Rattle.wasm_base.specs.declared.error.Error.{Error}
 use Rattle.wasm_base.specs.declared.fault.NumberKind.TheVariants.{VarU32}
 use Rattle.wasm_base.proofs.Runs.{runs_give_items, runs_give_owned_items}
 use Rattle.wasm_items.specs.Data.{data_parts, data_at}
@@ -19,10 +18,9 @@ use Rattle.wasm_items.specs.Imports.{group_parts, group_at}
 use Rattle.wasm_items.specs.Memories.{memory_type_at}
 use Rattle.wasm_items.specs.Tables.{table_at}
 use Rattle.wasm_items.specs.Tags.{tag_type_at}
-use Rattle.wasm_parser.specs.ParseAnswer.{unread, BeginsAfterCount, counted_by, IsPayload}
+use Rattle.wasm_parser.specs.ParseAnswer.{unread, BeginsAfterCount, counted_by}
 use Rattle.wasm_parser.specs.PayloadItems.{NextOf, Nexts, GivesWindow, PayloadsGiveItems}
 use Rattle.wasm_parser.specs.Reading.{Report, counted}
-use Rattle.wasm_parser.specs.declared.payload.Payload.{Payload}
 use Rattle.wasm_parser.specs.declared.payload.Payload.TheVariants.{Version, TypeSection, ImportSection, FunctionSection, TableSection, MemorySection, TagSection, GlobalSection, ExportSection, StartSection, ElementSection, DataCountSection, DataSection, CodeSectionStart, CodeSectionEntry, CustomSection, UnknownSection, End}
 
 abbrev window_in : Report → Window → Window

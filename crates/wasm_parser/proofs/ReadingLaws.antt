@@ -130,7 +130,7 @@ pub reads_all : (stream : List ℕ) (start : ℕ) → Onward stream start []
 reads_all stream start = onward stream start [] stream tt refl
 
 -- nothing more comes where no bytes are left
-stops_at : (start : ℕ) (ts : List Tile) → Faultless start ts → (v : Verdict) → verdict (grammar start ts) [] ≡ v → Reads (bytes_of ts) start ts (ending_of v)
+pub stops_at : (start : ℕ) (ts : List Tile) → Faultless start ts → (v : Verdict) → verdict (grammar start ts) [] ≡ v → Reads (bytes_of ts) start ts (ending_of v)
 stops_at start ts f (final e) q = record { rest = []; whole = sym (append-nil (bytes_of ts)); faultless = f; stops = q }
 stops_at start ts f (tile t) q =
     let g : Grown start ts [] t = grows start ts [] t f q in

@@ -13,7 +13,7 @@ use Rattle.wasm_parser.specs.Grammar.{Shape, version, section, code_start, code_
 use Rattle.wasm_parser.specs.Tiling.{bytes_of, grammar, context_of, inside, encoding_of, encoding_in, tile_rank, count_in, counts, bodies_left, bytes_left, bodies_after, bytes_after}
 use Rattle.wasm_parser.specs.Reading.{custom_report}
 use Rattle.wasm_parser.specs.StateAfter.{known_rank, state_after, state_after_tile}
-use Rattle.wasm_parser.specs.ParserState.{ParserState, greatest, is_start, IsStateAfter, known_context, grammar_of}
+use Rattle.wasm_parser.specs.ParserState.{ParserState, greatest, is_start, is_of_code, IsStateAfter, known_context, grammar_of}
 use Rattle.wasm_base.specs.declared.fault.NumberKind.TheVariants.{VarU32}
 use Rattle.wasm_parser.proofs.GrammarLaws.{after-tile}
 use Rattle.wasm_parser.proofs.KindIds.{IdOf, id_of_kind}
@@ -268,6 +268,7 @@ after_shape p t = record {
   data_counts = count_after 12 t.shape p.data_counts;
   bodies = bodies_after t.shape p.bodies;
   left = bytes_after t t.shape p.left;
+  in_code = is_of_code t.shape;
 }
 
 -- ---- what a tile's kind says of its id
@@ -321,7 +322,7 @@ tile_id false p xs t e = inside_id (nat_eq (p.bodies + p.left) 0) (known_context
 abbrev tile_of : Shape → List ℕ → Tile
 tile_of shape b = record { shape = shape; bytes = b }
 
-after_custom : (p : ParserState) (from to : ℕ) (content : List ℕ) (n : Name) → state_after p to (custom_report p.features from to content n) ≡ record p { offset = to; expects_header = false; bodies = 0; left = 0 }
+after_custom : (p : ParserState) (from to : ℕ) (content : List ℕ) (n : Name) → state_after p to (custom_report p.features from to content n) ≡ record p { offset = to; expects_header = false; bodies = 0; left = 0; in_code = false }
 after_custom p from to content (named text used) = refl
 after_custom p from to content (refused f place) = refl
 
@@ -338,8 +339,15 @@ after_at p (code_entry content) b h =
     rw t refl
 
 -- the state after a tile that comes next
-state_same : (p : ParserState) (d : List ℕ) (t : Tile) → verdict (grammar_of p) d ≡ tile t → state_after_tile p t ≡ after_shape p t
+pub state_same : (p : ParserState) (d : List ℕ) (t : Tile) → verdict (grammar_of p) d ≡ tile t → state_after_tile p t ≡ after_shape p t
 state_same p d t e = after_at p t.shape t.bytes (tile_id p.expects_header p d t e)
+
+-- bodies or bytes of a code section are left only after its start, or a body
+code_is_left : (t : Tile) (bodies left : ℕ) (shape : Shape) → 0 < bodies_after shape bodies + bytes_after t shape left → is_of_code shape ≡ true
+code_is_left t bodies left (code_start count width size) l = refl
+code_is_left t bodies left (code_entry content) l = refl
+code_is_left t bodies left (version num encoding) l = absurd (omega (arith, l))
+code_is_left t bodies left (section form id content) l = absurd (omega (arith, l))
 
 -- a parser whose state is that after the tile that comes next knows what the tiles say, with that one
 pub state_goes_on : (p : ParserState) (start : ℕ) (prefix : List ℕ) (s : IsStateAfter p start prefix) (d : List ℕ) (t : Tile) → verdict (grammar_of p) d ≡ tile t → IsStateAfter (state_after_tile p t) start (prefix ++ t.bytes)
@@ -363,6 +371,8 @@ state_goes_on p start prefix s d t e =
       data_counts = ap (λ (x : ParserState). option_to_list x.data_counts) q ∙ count_same 12 t.shape p.data_counts s.tiles (lit< tt) s.data_counts f;
       bodies = ap (λ (x : ParserState). x.bodies) q ∙ ap (bodies_after t.shape) s.bodies;
       left = ap (λ (x : ParserState). x.left) q ∙ ap (bytes_after t t.shape) s.left;
+      in_code = λ h. sym (ap (λ (x : ParserState). x.in_code) q) ∙ h;
+      open_code = λ l. ap (λ (x : ParserState). x.in_code) q ∙ code_is_left t (bodies_left s.tiles) (bytes_left s.tiles) t.shape l;
     }
 
 -- its tiles are one more

@@ -147,7 +147,7 @@ walks start features stream (Ok payload ∷ given) s t u tiles w going run end =
 begins : (start features : ℕ) (bytes : List ℕ) → start + length bytes < 2 ^ 64 → Walked start features bytes (walk_over (initial_state start features) bytes) []
 begins start features bytes l = record {
   prefix = [];
-  is_after = record { tiles = []; faultless = tt; is_prefix = refl; offset = omega arith; expects_header = refl; encoding = refl; rank = refl; functions = refl; codes = refl; datas = refl; data_counts = refl; bodies = refl; left = refl };
+  is_after = record { tiles = []; faultless = tt; is_prefix = refl; offset = omega arith; expects_header = refl; encoding = refl; rank = refl; functions = refl; codes = refl; datas = refl; data_counts = refl; bodies = refl; left = refl; in_code = λ e. e; open_code = λ l. absurd (omega (arith, l)) };
   same = refl;
   whole = refl;
   takes = refl;

@@ -1,11 +1,12 @@
 -- What a call of a parser says of the reading of a stream.
-use Rattle.std.specs.Prelude.{◌≡◌, ℕ, ◌+◌, ◌<◌, ◌^◌, List, [], ◌++◌, length, take, Result, Ok, Err, ◌∷◌}
+use Rattle.std.specs.Prelude.{◌≡◌, ℕ, ◌+◌, ◌<◌, ◌^◌, Bool, true, false, List, [], ◌++◌, length, take, Result, Ok, Err, ◌∷◌}
 use Rattle.wasm_base.specs.FaultAt.{fault_at}
 use Rattle.wasm_base.specs.declared.error.Error.{Error}
 use Rattle.wasm_parser.specs.ParseAnswer.{IsPayload}
 use Rattle.wasm_parser.specs.Content.{fault}
 use Rattle.wasm_parser.specs.Reading.{Event, stream_end, Reading}
-use Rattle.wasm_parser.specs.ParserState.{ParserState, IsStateAfter}
+use Rattle.wasm_parser.specs.ParserState.{ParserState, IsStateAfter, grammar_of}
+use Rattle.wasm_parser.specs.Waiting.{wants, waiting}
 use Rattle.wasm_parser.specs.declared.payload.Chunk.{Chunk}
 use Rattle.wasm_parser.specs.declared.payload.Chunk.TheVariants.{NeedMoreData, Parsed}
 use Rattle.wasm_parser.specs.EventRanges.{consumed_by}
@@ -18,16 +19,25 @@ pub record NextEvent (events : List Event) (prefix : List ℕ) : Type 0 where
   pub whole : events ≡ before ++ event ∷ later
   pub consumed : consumed_by before ≡ prefix
 
--- The event was reported after this prefix of a stream: by a payload that consumed its bytes, after which the parser then
--- is; or by a fault, which changed nothing.
-abbrev pub GivesEvent : Event → ParserState → (start : ℕ) (prefix rest : List ℕ) → Result Chunk Error → ParserState → Type 0
-GivesEvent e old start prefix rest (Ok (NeedMoreData hint)) new = ⊥
-GivesEvent e old start prefix rest (Ok (Parsed consumed payload)) new = IsPayload e.report payload × (consumed ≡ length e.consumed) × (take consumed rest ≡ e.consumed) × IsStateAfter new start (prefix ++ e.consumed) × (new.features ≡ old.features)
-GivesEvent e old start prefix rest (Err f) new = (e.report ≡ stream_end (fault (fault_at f))) × (e.consumed ≡ []) × (new ≡ old)
+-- the whole rest of a stream that these bytes may be the first of: at its end they are all of it
+abbrev pub MayBe : (eof : Bool) (bytes rest : List ℕ) → Type 0
+MayBe true bytes rest = rest ≡ bytes
+MayBe false bytes rest = (more : List ℕ) × (rest ≡ bytes ++ more)
 
--- Wherever the parser is in a stream whose rest this is, the next event of the stream's reading was reported: the first
--- one after the events that consumed the prefix.
-abbrev pub GivesNextEvent : ParserState → (rest : List ℕ) → Result Chunk Error → ParserState → Type 0
-GivesNextEvent old rest result new =
-    (start : ℕ) (prefix : List ℕ) → IsStateAfter old start prefix → start + length prefix + length rest < 2 ^ 64
-    → (events : List Event) → Reading (prefix ++ rest) start old.features events → (next : NextEvent events prefix) → GivesEvent next.event old start prefix rest result new
+-- More bytes may come, and these don't decide what comes next where the parser is: at least so many more are wanted.
+abbrev pub IsUndecided : ParserState → (eof : Bool) (bytes : List ℕ) (hint : ℕ) → Type 0
+IsUndecided p eof bytes hint = (eof ≡ false) × ((need : ℕ) × (waiting (grammar_of p) bytes ≡ wants need hint))
+
+-- The event was reported after this prefix of a stream: by a payload that consumed its bytes, after which the parser then
+-- is; or by a fault, which changed nothing. Or more bytes are asked for, since these don't decide it.
+abbrev pub GivesEvent : Event → ParserState → (eof : Bool) (start : ℕ) (prefix bytes : List ℕ) → Result Chunk Error → ParserState → Type 0
+GivesEvent e old eof start prefix bytes (Ok (NeedMoreData hint)) new = IsUndecided old eof bytes hint × (new ≡ old)
+GivesEvent e old eof start prefix bytes (Ok (Parsed consumed payload)) new = IsPayload e.report payload × (consumed ≡ length e.consumed) × (take consumed bytes ≡ e.consumed) × IsStateAfter new start (prefix ++ e.consumed) × (new.features ≡ old.features)
+GivesEvent e old eof start prefix bytes (Err f) new = (e.report ≡ stream_end (fault (fault_at f))) × (e.consumed ≡ []) × (new ≡ old)
+
+-- Wherever the parser is in a stream whose rest begins with these bytes, the next event of the stream's reading was
+-- reported: the first one after the events that consumed the prefix. Or more bytes are asked for.
+abbrev pub GivesNextEvent : ParserState → (eof : Bool) (bytes : List ℕ) → Result Chunk Error → ParserState → Type 0
+GivesNextEvent old eof bytes result new =
+    (start : ℕ) (prefix rest : List ℕ) → MayBe eof bytes rest → IsStateAfter old start prefix → start + length prefix + length rest < 2 ^ 64
+    → (events : List Event) → Reading (prefix ++ rest) start old.features events → (next : NextEvent events prefix) → GivesEvent next.event old eof start prefix bytes result new

@@ -1,5 +1,5 @@
 -- Laws of the definitions of framing.
-use Rattle.std.specs.Prelude.{◌≡◌, ℕ, ◌+◌, ◌<◌, ◌≤◌, ◌↔◌, List, [], ◌∷◌, ◌++◌, length}
+use Rattle.std.specs.Prelude.{◌≡◌, ℕ, ◌+◌, ◌^◌, ◌<◌, ◌≤◌, ◌↔◌, Bool, false, Result, List, [], ◌∷◌, ◌++◌, length}
 use Rattle.wasm_parser.specs.Accepted.{IsAccepted}
 use Rattle.wasm_base.specs.FaultAt.{FaultAt}
 use Rattle.wasm_parser.specs.Content.{Ending, fault, ended}
@@ -7,6 +7,9 @@ use Rattle.wasm_parser.specs.Grammar.{Tile, tile, verdict}
 use Rattle.wasm_parser.specs.Shifted.{shifted_events, PassesTheTop}
 use Rattle.wasm_parser.specs.Reading.{Event, events_of, last_event, Reads, Reading, Stream}
 use Rattle.wasm_parser.specs.GivesNextEvent.{NextEvent}
+use Rattle.wasm_parser.specs.ParseAnswer.{IsRequest, ParseAnswer}
+use Rattle.wasm_parser.specs.declared.payload.Chunk.{Chunk}
+use Rattle.wasm_base.specs.declared.error.Error.{Error}
 use Rattle.wasm_parser.specs.SectionEvents.{SaysItsBytes}
 use Rattle.wasm_parser.specs.EventRanges.{consumed_by, AtOffsets, EndToEnd}
 use Rattle.wasm_parser.specs.ParserState.{ParserState, IsStateAfter, grammar_of}
@@ -72,3 +75,9 @@ SomeNextEvent = (p : ParserState) (start features : ℕ) (prefix rest : List ℕ
 -- what the events of a reading say of sections and bodies is what the bytes that they consumed are
 abbrev pub EventsSayTheirBytes : Type 0
 EventsSayTheirBytes = (stream : List ℕ) (start features : ℕ) (events : List Event) → Reading stream start features events → AtOffsets (SaysItsBytes features) start events
+
+-- whatever was answered on bytes after which more may come, but for a request, is answered with more of them too, whether
+-- these are then all or not
+abbrev pub AnswersLast : Type 0
+AnswersLast = (p new : ParserState) (bytes more : List ℕ) (result : Result Chunk Error) → ParseAnswer p false bytes result new → ¬ IsRequest result → p.offset + length (bytes ++ more) < 2 ^ 64
+    → (eof : Bool) → ParseAnswer p eof (bytes ++ more) result new

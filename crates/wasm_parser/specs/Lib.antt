@@ -19,3 +19,4 @@ pub mod ParseAll
 pub mod Waiting
 pub mod Worked
 pub mod WorkedFields
+pub mod Skipped

@@ -35,8 +35,8 @@ consumed_between s t = length s.bytes - length t.bytes
 abbrev pub GivesAnswer : Walk → Option (Result Payload Error) → Walk → Type 0
 GivesAnswer s None t = ⊥
 GivesAnswer s (Some (Ok payload)) t =
-    ParseAnswer s.state s.bytes (Ok (Parsed (consumed_between s t) payload)) t.state × (t.bytes ≡ drop (consumed_between s t) s.bytes) × (t.ended ≡ is_end (report_of payload))
-GivesAnswer s (Some (Err e)) t = ParseAnswer s.state s.bytes (Err e) t.state × (t.bytes ≡ s.bytes) × (t.ended ≡ true)
+    ParseAnswer s.state true s.bytes (Ok (Parsed (consumed_between s t) payload)) t.state × (t.bytes ≡ drop (consumed_between s t) s.bytes) × (t.ended ≡ is_end (report_of payload))
+GivesAnswer s (Some (Err e)) t = ParseAnswer s.state true s.bytes (Err e) t.state × (t.bytes ≡ s.bytes) × (t.ended ≡ true)
 
 -- one call of `next`
 pub record NextPayload (s : Walk) (given : Option (Result Payload Error)) (t : Walk) : Type 0 where

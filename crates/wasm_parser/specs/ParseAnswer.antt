@@ -1,6 +1,6 @@
 -- What one call of a parser answers.
 use Rattle.std.specs.Prelude.{◌≡◌, ℕ, ◌+◌, ◌≤◌, ◌<◌, ◌^◌, Bool, true, false, List, length, nat_eq, Option, Some, None, IfSome, Result, Ok, Err}
-use Rattle.wasm_base.specs.FaultAt.{FaultAt, fault_at, at_offset}
+use Rattle.wasm_base.specs.FaultAt.{FaultAt, fault_at, hint_of, at_offset}
 use Rattle.wasm_base.specs.Number.{unsigned_at}
 use Rattle.wasm_base.specs.Section.{Section}
 use Rattle.wasm_base.specs.Window.{Window, Place, place, advanced}
@@ -11,8 +11,9 @@ use Rattle.wasm_parser.specs.Content.{fault, ended}
 use Rattle.wasm_parser.specs.Grammar.{Tile, Verdict, tile, final, Grammar, verdict}
 use Rattle.wasm_parser.specs.Reading.{Report, version, counted, start_section, data_count_section, code_start, code_entry, custom_section, unknown_section, stream_end, tile_report}
 use Rattle.wasm_items.specs.Windows.{body_window}
-use Rattle.wasm_parser.specs.ParserState.{ParserState, grammar_of}
+use Rattle.wasm_parser.specs.ParserState.{ParserState, grammar_of, ended_state}
 use Rattle.wasm_parser.specs.StateAfter.{state_after_tile}
+use Rattle.wasm_parser.specs.Waiting.{Waiting, enough, wants, asked, waiting}
 use Rattle.wasm_parser.specs.declared.payload.Payload.{Payload}
 use Rattle.wasm_parser.specs.declared.payload.Payload.TheVariants.{Version, TypeSection, ImportSection, FunctionSection, TableSection, MemorySection, TagSection, GlobalSection, ExportSection, StartSection, ElementSection, DataCountSection, DataSection, CodeSectionStart, CodeSectionEntry, CustomSection, UnknownSection, End}
 use Rattle.wasm_parser.specs.declared.payload.Chunk.{Chunk}
@@ -82,18 +83,28 @@ MatchesVerdict start before (final (fault f)) (Err e) after = fault_at e ≡ f
 MatchesVerdict start before (final (ended offset)) (Ok payload) after = ⊥
 MatchesVerdict start before (final (ended offset)) (Err e) after = ⊥
 
+-- A fault hints at the bytes that are asked for where more can decide what is here, and elsewhere at nothing.
+abbrev pub HintsAs : Waiting → Result Payload Error → Type 0
+HintsAs w (Ok payload) = Unit {0}
+HintsAs w (Err e) = hint_of e ≡ asked w
+
+-- The same of what may come at a place by this grammar.
+abbrev pub MatchesGrammar : (start : ℕ) (before : Place) → Grammar → Result Payload Error → (after : Place) → Type 0
+MatchesGrammar start before g result after =
+    MatchesVerdict start before (verdict g before.rest) result after × HintsAs (waiting g before.rest) result
+
 -- What was read at a place is what may come there by this grammar, a tile or a fault, and the reader is after
 -- the tile.
 abbrev pub ReadsByGrammar : Grammar → (before : Place) → Result Payload Error → (after : Place) → Type 0
-ReadsByGrammar g before result after = (start : ℕ) → MatchesVerdict start before (verdict g before.rest) result after
+ReadsByGrammar g before result after = (start : ℕ) → MatchesGrammar start before g result after
 
--- The parser answers what comes next, and has passed it; at the end of the stream and at a fault it stays.
+-- The parser answers what comes next, and has passed it; at a fault it stays, and at the end of the stream it is at the end.
 abbrev pub Answers : ParserState → Verdict → Result Chunk Error → ParserState → Type 0
 Answers old v (Ok (NeedMoreData hint)) new = ⊥
 Answers old (tile t) (Ok (Parsed consumed payload)) new =
     (consumed ≡ length t.bytes) × IsPayload (tile_report old.features old.offset (old.offset + length t.bytes) t.shape) payload × (new ≡ state_after_tile old t)
 Answers old (tile t) (Err e) new = ⊥
-Answers old (final (ended offset)) (Ok (Parsed consumed payload)) new = (consumed ≡ 0) × IsPayload (stream_end (ended offset)) payload × (new ≡ old)
+Answers old (final (ended offset)) (Ok (Parsed consumed payload)) new = (consumed ≡ 0) × IsPayload (stream_end (ended offset)) payload × (new ≡ ended_state old)
 Answers old (final (fault f)) (Ok (Parsed consumed payload)) new = ⊥
 Answers old (final (fault f)) (Err e) new = (fault_at e ≡ f) × (new ≡ old)
 Answers old (final (ended offset)) (Err e) new = ⊥
@@ -119,10 +130,23 @@ abbrev pub IsFaultAlone : FaultAt → ParserState → Result Chunk Error → Par
 IsFaultAlone f old (Ok chunk) new = ⊥
 IsFaultAlone f old (Err e) new = (fault_at e ≡ f) × (new ≡ old)
 
--- what one call answers on all the rest of a stream
-pub record ParseAnswer (old : ParserState) (rest : List ℕ) (result : Result Chunk Error) (new : ParserState) : Type 0 where
+-- More bytes are asked for, about so many, and nothing changes.
+abbrev pub AsksFor : (hint : ℕ) → ParserState → Result Chunk Error → ParserState → Type 0
+AsksFor hint old (Ok (NeedMoreData asked)) new = (asked ≡ hint) × (new ≡ old)
+AsksFor hint old (Ok (Parsed consumed payload)) new = ⊥
+AsksFor hint old (Err e) new = ⊥
+
+-- At the end of the stream the parser answers what comes next. Where more bytes may come it does so exactly if those that
+-- are there decide it, and otherwise asks for more.
+abbrev pub AnswersOn : (eof : Bool) → Waiting → ParserState → Verdict → Result Chunk Error → ParserState → Type 0
+AnswersOn true w old v result new = Answers old v result new
+AnswersOn false enough old v result new = Answers old v result new
+AnswersOn false (wants need hint) old v result new = AsksFor hint old result new
+
+-- what one call answers on bytes of a stream, which are all its rest, or may be a part of it
+pub record ParseAnswer (old : ParserState) (eof : Bool) (rest : List ℕ) (result : Result Chunk Error) (new : ParserState) : Type 0 where
   pub past_the_top : 2 ^ 64 ≤ old.offset + length rest → IsFaultAlone (at_offset OffsetRange old.offset) old result new
-  pub within : old.offset + length rest < 2 ^ 64 → Answers old (verdict (grammar_of old) rest) result new
+  pub within : old.offset + length rest < 2 ^ 64 → AnswersOn eof (waiting (grammar_of old) rest) old (verdict (grammar_of old) rest) result new
 
 -- A fault is between the parser and the end of the bytes.
 abbrev pub FaultsWithin : ParserState → List ℕ → Result Chunk Error → Type 0
@@ -134,3 +158,15 @@ abbrev pub IsUnchanged : (old : ParserState) → Result Chunk Error → (new : P
 IsUnchanged old (Ok (Parsed consumed payload)) new = Unit {0}
 IsUnchanged old (Ok (NeedMoreData hint)) new = new ≡ old
 IsUnchanged old (Err e) new = new ≡ old
+
+-- A request is for at least one byte.
+abbrev pub AsksForSome : Result Chunk Error → Type 0
+AsksForSome (Ok (NeedMoreData hint)) = 1 ≤ hint
+AsksForSome (Ok (Parsed consumed payload)) = Unit {0}
+AsksForSome (Err e) = Unit {0}
+
+-- More bytes are asked for.
+abbrev pub IsRequest : Result Chunk Error → Type 0
+IsRequest (Ok (NeedMoreData hint)) = Unit {0}
+IsRequest (Ok (Parsed consumed payload)) = ⊥
+IsRequest (Err e) = ⊥

@@ -1,8 +1,8 @@
 -- Where a parser is in a stream.
-use Rattle.std.specs.Prelude.{◌≡◌, ℕ, ◌+◌, max, Bool, true, false, List, [], ◌∷◌, length, option_to_list, Option, None, nat_lt, if◌then◌else◌}
+use Rattle.std.specs.Prelude.{◌≡◌, ℕ, ◌+◌, ◌<◌, max, Bool, true, false, List, [], ◌∷◌, length, option_to_list, Option, Some, None, not, ◌&&◌, nat_lt, nat_eq, if◌then◌else◌}
 use Rattle.wasm_parser.specs.declared.payload.Encoding.{Encoding}
 use Rattle.wasm_parser.specs.declared.payload.Encoding.TheVariants.{Module}
-use Rattle.wasm_parser.specs.Grammar.{Tile, SectionContext, Grammar, header_grammar}
+use Rattle.wasm_parser.specs.Grammar.{Shape, code_start, code_entry, Tile, SectionContext, Grammar, header_grammar}
 use Rattle.wasm_parser.specs.Tiling.{bytes_of, Faultless, inside, encoding_of, tile_rank, counts, bodies_left, bytes_left}
 
 -- the greatest rank of these tiles
@@ -14,6 +14,17 @@ greatest (t ∷ earlier) = max (tile_rank t.shape) (greatest earlier)
 abbrev pub is_start : List Tile → Bool
 is_start [] = true
 is_start (t ∷ earlier) = false
+
+-- whether a tile is the start of a code section, or a body
+abbrev pub is_of_code : Shape → Bool
+is_of_code (code_start count width size) = true
+is_of_code (code_entry content) = true
+is_of_code other = false
+
+-- whether the newest one is
+abbrev pub ends_in_code : List Tile → Bool
+ends_in_code [] = false
+ends_in_code (t ∷ earlier) = is_of_code t.shape
 
 -- what a parser knows of the part of a stream that it has passed
 pub record ParserState : Type 0 where
@@ -31,10 +42,12 @@ pub record ParserState : Type 0 where
   -- the bodies and bytes that a code section still misses
   pub bodies : ℕ
   pub left : ℕ
+  -- whether the start of a code section was the last that came, or a body
+  pub in_code : Bool
 
 -- a parser that has passed nothing of a stream
 abbrev pub initial_state : (offset features : ℕ) → ParserState
-initial_state offset features = record { offset = offset; features = features; expects_header = true; encoding = Module; rank = 0; functions = None; codes = None; datas = None; data_counts = None; bodies = 0; left = 0 }
+initial_state offset features = record { offset = offset; features = features; expects_header = true; encoding = Module; rank = 0; functions = None; codes = None; datas = None; data_counts = None; bodies = 0; left = 0; in_code = false }
 
 -- The parser is after this prefix of a stream that starts at this offset.
 pub record IsStateAfter (p : ParserState) (start : ℕ) (prefix : List ℕ) : Type 0 where
@@ -51,6 +64,9 @@ pub record IsStateAfter (p : ParserState) (start : ℕ) (prefix : List ℕ) : Ty
   pub data_counts : option_to_list p.data_counts ≡ counts 12 tiles
   pub bodies : p.bodies ≡ bodies_left tiles
   pub left : p.left ≡ bytes_left tiles
+  -- it knows where a code section is not at its end; it may have forgotten one that is
+  pub in_code : p.in_code ≡ true → ends_in_code tiles ≡ true
+  pub open_code : 0 < bodies_left tiles + bytes_left tiles → p.in_code ≡ true
 
 -- what a parser knows of the tiles before
 abbrev pub known_context : ParserState → SectionContext
@@ -66,3 +82,19 @@ known_context p = record {
 -- what may come where the parser is
 abbrev pub grammar_of : ParserState → Grammar
 grammar_of p = if p.expects_header then header_grammar p.offset else inside (known_context p) p.bodies p.left p.offset
+
+-- whether a section may start where the parser is
+abbrev pub is_at_section : ParserState → Bool
+is_at_section p = not p.expects_header && nat_eq (p.bodies + p.left) 0
+
+-- a parser that has reported the stream's end
+abbrev pub ended_state : ParserState → ParserState
+ended_state p = record p { in_code = false }
+
+-- how many bytes of a code section are left, from its start until something follows that is no body
+abbrev pub skippable_of : ParserState → Option ℕ
+skippable_of p = if p.in_code then Some p.left else None
+
+-- a parser that has passed them
+abbrev pub skipped_state : ParserState → ParserState
+skipped_state p = record p { offset = p.offset + p.left; bodies = 0; left = 0 }

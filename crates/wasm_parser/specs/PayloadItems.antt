@@ -28,7 +28,7 @@ use Rattle.wasm_items.specs.declared.types.MemoryType.{MemoryType}
 use Rattle.wasm_items.specs.declared.types.RecGroup.{RecGroup}
 use Rattle.wasm_items.specs.declared.types.TagType.{TagType}
 use Rattle.wasm_parser.specs.ParseAnswer.{IsPayload}
-use Rattle.wasm_parser.specs.Reading.{Report, counted}
+use Rattle.wasm_parser.specs.Reading.{counted}
 use Rattle.wasm_parser.specs.declared.payload.Payload.{Payload}
 use Rattle.wasm_parser.specs.declared.payload.Payload.TheVariants.{TypeSection, ImportSection, FunctionSection, TableSection, MemorySection, TagSection, GlobalSection, ExportSection, ElementSection, DataSection}
 

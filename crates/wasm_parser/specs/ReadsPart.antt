@@ -4,14 +4,17 @@ use Rattle.wasm_base.specs.Window.{Place, Window, place, KeepsWindow, window_ove
 use Rattle.wasm_base.specs.declared.error.Error.{Error}
 use Rattle.wasm_parser.specs.Content.{Kind, items, kind_of, wrong_single, value_of, Form}
 use Rattle.wasm_parser.specs.Grammar.{SectionContext, verdict, header_grammar, section_grammar, after_id, after_length, content_grammar, whole_grammar, code_grammar, body_grammar}
-use Rattle.wasm_parser.specs.ParseAnswer.{MatchesVerdict, ReadsByGrammar, items_in}
-use Rattle.wasm_parser.specs.ParserState.{ParserState, known_context, grammar_of}
+use Rattle.wasm_parser.specs.ParseAnswer.{MatchesVerdict, HintsAs, MatchesGrammar, ReadsByGrammar, items_in}
+use Rattle.wasm_parser.specs.ParserState.{ParserState, known_context, grammar_of, is_at_section}
+use Rattle.wasm_parser.specs.Waiting.{waiting, is_magic_begun}
+use Rattle.wasm_parser.specs.declared.payload.Chunk.{Chunk}
+use Rattle.wasm_parser.specs.declared.payload.Chunk.TheVariants.{NeedMoreData}
 use Rattle.wasm_parser.specs.declared.payload.Payload.{Payload}
 use Rattle.wasm_base.specs.Name.{bytes_at}
 use Rattle.wasm_base.specs.Outcome.{Outcome, ◌>>=◌}
 use Rattle.wasm_parser.specs.Reading.{Report, counted}
 use Rattle.wasm_base.specs.Header.{magic, agree}
-use Rattle.wasm_base.specs.FaultAt.{fault_at}
+use Rattle.wasm_base.specs.FaultAt.{fault_at, hint_of}
 use Rattle.wasm_base.specs.Number.{number, unsigned_at}
 use Rattle.wasm_base.specs.declared.fault.Fault.{Fault}
 use Rattle.wasm_base.specs.declared.fault.NumberKind.TheVariants.{VarU32}
@@ -19,9 +22,29 @@ use Rattle.std.specs.List.{list_all, list_any}
 use Rattle.wasm_base.specs.Section.{Section}
 use Rattle.wasm_parser.specs.declared.payload.Encoding.TheVariants.{Module}
 
+-- Where a section may start, a header may be begun: then hints say nothing.
+abbrev pub HintsUnlessBegun : ParserState → (before : Place) → Result Payload Error → Type 0
+HintsUnlessBegun p before result =
+    (is_at_section p ≡ true → is_magic_begun before.rest ≡ false) → HintsAs (waiting (grammar_of p) before.rest) result
+
 -- what comes where the parser is
 abbrev pub ReadsNext : ParserState → (before : Place) → Result Payload Error → (after : Place) → Type 0
-ReadsNext p before result after = MatchesVerdict p.offset before (verdict (grammar_of p) before.rest) result after
+ReadsNext p before result after =
+    MatchesVerdict p.offset before (verdict (grammar_of p) before.rest) result after × HintsUnlessBegun p before result
+
+-- Where a section may start, bytes are left; and where more may come, they don't only begin a header.
+pub record IsBegun (p : ParserState) (eof : Bool) (bytes : List ℕ) : Type 0 where
+  pub some : is_at_section p ≡ true → 0 < length bytes
+  pub begun : eof ≡ false → is_at_section p ≡ true → is_magic_begun bytes ≡ false
+
+-- what a fault becomes: where more bytes may come, a request for those that it hints at
+abbrev pub RefusesBy : (eof : Bool) (hint : Option ℕ) → Error → Result Chunk Error → Type 0
+RefusesBy false (Some hint) e result = result ≡ Ok (NeedMoreData hint)
+RefusesBy false None e result = result ≡ Err e
+RefusesBy true hint e result = result ≡ Err e
+
+abbrev pub Refuses : (eof : Bool) → Error → Result Chunk Error → Type 0
+Refuses eof e result = RefusesBy eof (hint_of e) e result
 
 -- Bytes are left where a section may start.
 abbrev pub HasSection : ParserState → Place → Type 0
@@ -29,7 +52,7 @@ HasSection p before = p.expects_header ≡ false → nat_eq (p.bodies + p.left) 
 
 -- a header
 abbrev pub ReadsHeader : (before : Place) → Result Payload Error → (after : Place) → Type 0
-ReadsHeader before result after = MatchesVerdict before.offset before (verdict (header_grammar before.offset) before.rest) result after
+ReadsHeader before result after = MatchesGrammar before.offset before (header_grammar before.offset) result after
 
 -- The bytes that begin a header are here.
 abbrev pub is_magic_next : Place → Bool
@@ -37,7 +60,9 @@ is_magic_next p = agree p.rest magic && nat_le 4 (length p.rest)
 
 -- a section
 abbrev pub ReadsNextSection : ParserState → (before : Place) → Result Payload Error → (after : Place) → Type 0
-ReadsNextSection p before result after = ReadsByGrammar (section_grammar (known_context p) before.offset) before result after
+ReadsNextSection p before result after =
+    ((start : ℕ) → MatchesVerdict start before (verdict (section_grammar (known_context p) before.offset) before.rest) result after)
+    × (is_magic_begun before.rest ≡ false → HintsAs (waiting (section_grammar (known_context p) before.offset) before.rest) result)
 
 -- what comes after the id of a section, which is at this offset
 abbrev pub ReadsAfterId : ParserState → (start id : ℕ) → (before : Place) → Result Payload Error → (after : Place) → Type 0

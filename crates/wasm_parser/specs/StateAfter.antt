@@ -1,5 +1,5 @@
 -- What a parser knows after what it reported.
-use Rattle.std.specs.Prelude.{ℕ, zero, suc, ◌+◌, ◌-◌, false, length, Option, Some, None, nat_eq, slice_index, if◌then◌else◌}
+use Rattle.std.specs.Prelude.{ℕ, zero, suc, ◌+◌, ◌-◌, Bool, true, false, length, Option, Some, None, nat_eq, slice_index, if◌then◌else◌}
 use Rattle.wasm_parser.specs.Content.{ranks}
 use Rattle.wasm_parser.specs.Grammar.{Tile}
 use Rattle.wasm_parser.specs.Reading.{Report, version, counted, start_section, data_count_section, code_start, code_entry, tile_report}
@@ -42,6 +42,12 @@ missing_bytes (code_start count from to size) taken known = size
 missing_bytes (code_entry window) taken known = known - taken
 missing_bytes other taken known = 0
 
+-- whether it is the start of a code section, or a body
+abbrev pub reports_code : Report → Bool
+reports_code (code_start count from to size) = true
+reports_code (code_entry window) = true
+reports_code other = false
+
 -- the state of a parser after it reported this, which ends at this offset
 abbrev pub state_after : ParserState → (to : ℕ) → Report → ParserState
 state_after p to report = record {
@@ -56,6 +62,7 @@ state_after p to report = record {
   data_counts = known_count 12 (count_report report) p.data_counts;
   bodies = missing_bodies report p.bodies;
   left = missing_bytes report (to - p.offset) p.left;
+  in_code = reports_code report;
 }
 
 -- the same after one more tile

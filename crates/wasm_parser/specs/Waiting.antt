@@ -1,5 +1,5 @@
 -- Where bytes that have come don't decide yet what is there.
-use Rattle.std.specs.Prelude.{ℕ, ◌+◌, ◌-◌, List, [], ◌∷◌, length, take, drop, Some, None, nat_le, if◌then◌else◌}
+use Rattle.std.specs.Prelude.{ℕ, ◌+◌, ◌-◌, Bool, ◌&&◌, List, [], ◌∷◌, length, take, drop, Option, Some, None, nat_le, nat_lt, if◌then◌else◌}
 use Rattle.wasm_base.specs.Header.{magic, agree}
 use Rattle.wasm_base.specs.Number.{Number, read, bad, short, number}
 use Rattle.wasm_parser.specs.Grammar.{Grammar, accept, reject, check, u32_field, bytes, section_start}
@@ -10,6 +10,11 @@ pub data Waiting : Type 0 where
   enough : Waiting
   -- they don't: a bound above them, and how many more are known to be wanted
   wants : (need hint : ℕ) → Waiting
+
+-- how many more bytes are asked for
+abbrev pub asked : Waiting → Option ℕ
+asked enough = None
+asked (wants need hint) = Some hint
 
 -- the same after so many bytes
 abbrev pub later : ℕ → Waiting → Waiting
@@ -38,3 +43,12 @@ waiting (section_start offset e next) (id ∷ prefix) =
     if agree (id ∷ prefix) magic
     then (if nat_le 4 (length (id ∷ prefix)) then enough else wants 4 (4 - length (id ∷ prefix)))
     else later 1 (waiting (next id) prefix)
+
+-- whether these bytes are the first of those that begin a header, and not all of them
+abbrev pub is_magic_begun : List ℕ → Bool
+is_magic_begun prefix = agree prefix magic && nat_lt (length prefix) 4
+
+-- how many more bytes are asked for where a section may start, before its id is looked at
+abbrev pub asked_at_section : List ℕ → Option ℕ
+asked_at_section [] = Some 1
+asked_at_section (id ∷ prefix) = if is_magic_begun (id ∷ prefix) then Some (4 - length (id ∷ prefix)) else None

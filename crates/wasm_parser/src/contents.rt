@@ -1,5 +1,6 @@
 // What the content of a section begins with.
 ghost use Rattle.std.specs.Prelude.{◌≡◌, ◌+◌, ◌<◌, ◌^◌, option_to_list};
+ghost use Rattle.wasm_base.specs.Hints.{Hints, HintsNothing, missing_at};
 ghost use Rattle.wasm_base.specs.Outcome.{GivesBy};
 ghost use Rattle.wasm_base.specs.Window.{place, KeepsWindow};
 ghost use Rattle.wasm_parser.specs.Content.{custom, items, index, data_count, unknown, whole};
@@ -19,7 +20,10 @@ pub(crate) fn custom<'a>(id: u8, size: u32, reader: &mut BinaryReader<'a>) -> Re
     ensures { ReadsAnywhere custom id size (place reader.old) result (place reader.new) }
 {
     let window = window(size, reader)?;
-    Ok(Payload::CustomSection(CustomSectionReader::new(window)?))
+    match CustomSectionReader::new(window) {
+        Ok(section) => Ok(Payload::CustomSection(section)),
+        Err(error) => Err(error.without_needed_hint()),
+    }
 }
 
 /// The content of a start section: the index of a function.
@@ -63,6 +67,7 @@ pub(crate) fn unknown<'a>(id: u8, size: u32, reader: &mut BinaryReader<'a>) -> R
 pub(crate) fn window<'a>(size: u32, reader: &mut BinaryReader<'a>) -> Result<BinaryReader<'a>>
     ensures gives { GivesBy (λ window. window) result reader.old reader.new (content_at size) }
     ensures keeps { KeepsWindow reader.old reader.new }
+    ensures hints { Hints (missing_at size (place reader.old)) result }
 {
     let start = reader.original_position();
     let bytes = reader.read_bytes(size as usize)?;
@@ -100,7 +105,10 @@ pub(crate) fn items<'a>(
     ensures { ReadsItems announced id size (place reader.old) result (place reader.new) }
 {
     let window = window(size, reader)?;
-    let payload = counted(id, window)?;
+    let payload = match counted(id, window) {
+        Ok(payload) => payload,
+        Err(error) => return Err(error.without_needed_hint()),
+    };
     if is_miscounted(announced, &payload) {
         return Err(Error::new(Fault::DataCountDiffer, reader.original_position()));
     }
@@ -148,9 +156,13 @@ pub(crate) fn code<'a>(
 
 // The one number that the rest of a window is. A byte after the number is this fault.
 fn single(mut window: BinaryReader, left: Fault) -> Result<u32>
-    ensures { ReadsSingleNumber left (place window.entry) result }
+    ensures reads { ReadsSingleNumber left (place window.entry) result }
+    ensures hints { HintsNothing result }
 {
-    let number = window.read_var_u32()?;
+    let number = match window.read_var_u32() {
+        Ok(number) => number,
+        Err(error) => return Err(error.without_needed_hint()),
+    };
     if !window.eof() {
         return Err(Error::new(left, window.original_position()));
     }

@@ -3,6 +3,7 @@ ghost use Rattle.std.specs.Prelude.{◌≡◌};
 ghost use Rattle.wasm_base.specs.Window.{place};
 ghost use Rattle.wasm_parser.specs.Grammar.{encoding_named as named};
 ghost use Rattle.wasm_parser.specs.ReadsPart.{is_magic_next, ReadsHeader};
+ghost use Rattle.wasm_parser.specs.Waiting.{asked_at_section};
 
 use crate::payload::{Encoding, Payload};
 use wasm_base::{BinaryReader, Error, Fault, Result};
@@ -45,4 +46,18 @@ pub(crate) fn magic_follows(reader: &BinaryReader) -> bool
     ensures { result ≡ is_magic_next (place reader.now) }
 {
     reader.remaining_buffer().starts_with(MAGIC.as_slice())
+}
+
+/// How many more bytes are wanted where a section may start, before its id is looked at: one where there are none, and
+/// those that are missing of a header's first four where these may begin one.
+pub(crate) fn missing_at_section(bytes: &[u8]) -> Option<usize>
+    ensures { result ≡ asked_at_section bytes.now }
+{
+    if bytes.is_empty() {
+        Some(1)
+    } else if bytes.len() < MAGIC.len() && MAGIC.starts_with(bytes) {
+        Some(MAGIC.len() - bytes.len())
+    } else {
+        None
+    }
 }

@@ -1,7 +1,7 @@
 //! Laws of the definitions of framing, and what comparing and copying encodings say, each the contract of a function
 //! that does nothing.
 ghost use Rattle.wasm_base.specs.Comparing.{DecidesSame, IsCopy};
-ghost use Rattle.wasm_parser.specs.Laws.{AcceptedEnds, EventsLieEndToEnd, FaultEnds, EventsSayTheirBytes, FaultLiesWithin, LongestTiling, OneReading, ParserSuffices, SomeNextEvent, SomeReading, StartOnlyMoves, TilesStandAlone};
+ghost use Rattle.wasm_parser.specs.Laws.{AcceptedEnds, AnswersLast, EventsLieEndToEnd, FaultEnds, EventsSayTheirBytes, FaultLiesWithin, LongestTiling, OneReading, ParserSuffices, SomeNextEvent, SomeReading, StartOnlyMoves, TilesStandAlone};
 ghost use Rattle.wasm_parser.specs.PayloadItems.{PayloadsGiveItems};
 ghost use Rattle.wasm_parser.specs.SectionLaws.{BodiesFollowTheirCount, RanksAscend, SectionsTile};
 ghost use Rattle.wasm_parser.specs.Worked.{EdgesOfRules, WorkedStreams};
@@ -64,6 +64,12 @@ pub fn tiles_stand_alone()
 /// passes what is there is after it.
 pub fn parser_suffices()
     ensures { ParserSuffices }
+{}
+
+/// Whatever a parser answers on bytes after which more may come, but for a request for more, it answers too with more
+/// bytes after them, whether those are then all of the stream or not.
+pub fn answers_last()
+    ensures { AnswersLast }
 {}
 
 /// Worked streams have the readings that were computed by hand.

@@ -1,25 +1,29 @@
 // The parser of a stream.
-ghost use Rattle.std.specs.Prelude.{⊤, ◌≡◌, ◌+◌, ◌<◌, ◌^◌, ◌&&◌, not, IsTrue, true, false, [], length, nat_lt, nat_eq};
+ghost use Rattle.std.specs.Prelude.{⊤, ◌≡◌, ◌+◌, ◌<◌, ◌^◌, ◌&&◌, ◌-◌, not, true, [], length, nat_lt, nat_eq};
+ghost use Rattle.std.specs.Option.{IsSome};
 ghost use Rattle.wasm_base.specs.Features.{feature_bits};
 ghost use Rattle.wasm_base.specs.Window.{place, window_over};
 ghost use Rattle.wasm_parser.specs.Accepted.{begins_with_header};
 ghost use Rattle.wasm_parser.specs.Content.{kind_of as form_of, kind_is};
 ghost use Rattle.wasm_parser.specs.GivesNextEvent.{GivesNextEvent};
 ghost use Rattle.wasm_parser.specs.ParseAll.{walk_over, WalksWhole};
-ghost use Rattle.wasm_parser.specs.ParseAnswer.{Advances, Consumes, ParseAnswer, FaultsWithin, IsUnchanged};
-ghost use Rattle.wasm_parser.specs.ParserState.{initial_state};
-ghost use Rattle.wasm_parser.specs.ReadsPart.{HasSection, ReadsAfterId, ReadsAfterLength, ReadsBody, ReadsContent, ReadsNext, ReadsNextSection};
+ghost use Rattle.wasm_parser.specs.ParseAnswer.{Advances, AsksForSome, Consumes, ParseAnswer, FaultsWithin, IsUnchanged, report_of};
+ghost use Rattle.wasm_parser.specs.ParserState.{initial_state, is_at_section as at_section, skippable_of, skipped_state};
+ghost use Rattle.wasm_parser.specs.ReadsPart.{HasSection, IsBegun, ReadsAfterId, ReadsAfterLength, ReadsBody, ReadsContent, ReadsNext, ReadsNextSection, Refuses};
+ghost use Rattle.wasm_parser.specs.Skipped.{SkipsSection};
+ghost use Rattle.wasm_parser.specs.StateAfter.{missing_bytes};
 ghost use Rattle.wasm_parser.specs.declared.payload.Encoding.TheVariants.{Module, Component};
 
 use crate::contents::{code, custom, data_count, items, lacks, start, unknown, window};
-use crate::header::{magic_follows, read_header};
+use crate::header::{magic_follows, missing_at_section, read_header};
 use crate::parse_all::ParseAll;
 use crate::payload::{Chunk, Encoding, Payload};
 use crate::sections::{
     CODE_SECTION, DATA_COUNT_SECTION, DATA_SECTION, FUNCTION_SECTION, Kind, kind_of, rank_of,
 };
 use crate::state::{
-    id_and_count, known_count, known_encoding, known_rank, missing_bodies, missing_bytes,
+    id_and_count, is_of_code, known_count, known_encoding, known_rank, missing_bodies,
+    missing_bytes,
 };
 use bitflags::Flags;
 use std::alloc::AllocError;
@@ -48,9 +52,12 @@ pub struct Parser {
     // The bodies and the bytes that a code section still misses.
     bodies: u32,
     left: u32,
+    // Whether the start of a code section came last, or a body.
+    in_code: bool,
 }
 
 impl Model for Parser {
+    ghost use Rattle.std.specs.Prelude.{◌+◌, ◌<◌, ◌^◌};
     ghost use Rattle.wasm_base.specs.Features.{feature_bits};
     ghost use Rattle.wasm_parser.specs.ParserState.{ParserState};
 
@@ -68,7 +75,10 @@ impl Model for Parser {
       data_counts = p.data_counts;
       bodies = p.bodies;
       left = p.left;
+      in_code = p.in_code;
     } };
+
+    ghost invariant = { λ p. p.offset + p.left < 2 ^ 64 };
 }
 
 impl Clone for Parser {
@@ -89,6 +99,7 @@ impl Clone for Parser {
             data_counts: self.data_counts,
             bodies: self.bodies,
             left: self.left,
+            in_code: self.in_code,
         })
     }
 }
@@ -125,6 +136,7 @@ impl Parser {
             data_counts: None,
             bodies: 0,
             left: 0,
+            in_code: false,
         }
     }
 
@@ -202,10 +214,17 @@ impl Parser {
     }
 
     // Whether a code section isn't at its end.
-    fn in_code(&self) -> bool
+    fn is_code_left(&self) -> bool
         ensures { result ≡ not (nat_eq (self.now.bodies + self.now.left) 0) }
     {
         self.bodies > 0 || self.left > 0
+    }
+
+    // Whether a section may start here.
+    fn is_at_section(&self) -> bool
+        ensures { result ≡ at_section self.now }
+    {
+        !self.expects_header && !self.is_code_left()
     }
 
     // A reader of bytes that begin where the parser is.
@@ -301,7 +320,7 @@ impl Parser {
     {
         if self.expects_header {
             read_header(reader)
-        } else if self.in_code() {
+        } else if self.is_code_left() {
             self.body(reader)
         } else {
             self.section(reader)
@@ -309,10 +328,9 @@ impl Parser {
     }
 
     // How the stream ends where the parser is: each count above 0 wants its other section.
-    fn end<'a>(&self) -> Result<Chunk<'a>>
-        requires header { self.now.expects_header ≡ false }
-        requires code { nat_eq (self.now.bodies + self.now.left) 0 ≡ true }
-        ensures { ParseAnswer self.now [] result self.now }
+    fn end<'a>(&mut self) -> Result<Chunk<'a>>
+        requires { at_section self.old ≡ true }
+        ensures { ParseAnswer self.old true [] result self.new }
     {
         let end = self.offset();
         if lacks(self.functions, self.codes) {
@@ -321,6 +339,7 @@ impl Parser {
         if lacks(self.data_counts, self.datas) {
             return Err(Error::new(Fault::DataCountWithoutData, end));
         }
+        self.in_code = false;
         Ok(Chunk::Parsed {
             consumed: 0,
             payload: Payload::End(end),
@@ -329,6 +348,7 @@ impl Parser {
 
     // Goes on to the end of what was read, which is at this offset. A section that has a rank ranks above all earlier ones.
     fn advance(&mut self, payload: &Payload, end: u64)
+        requires { end + missing_bytes (report_of payload.now) (end - self.old.offset) self.old.left < 2 ^ 64 }
         ensures { Advances self.old payload.now end self.new }
     {
         let taken = end.saturating_sub(self.offset);
@@ -343,13 +363,16 @@ impl Parser {
         self.data_counts = known_count(counted, DATA_COUNT_SECTION, self.data_counts);
         self.bodies = missing_bodies(payload, self.bodies);
         self.left = missing_bytes(payload, taken, self.left);
+        self.in_code = is_of_code(payload);
     }
 
-    /// Reads what comes next in the stream of which these bytes are all the rest.
+    /// Reads what comes next in the stream of which these bytes are the rest, or the beginning of the rest.
     ///
-    /// `eof` says that no bytes come after these, so that missing bytes are a fault; so far it has to be true.
+    /// `eof` says that no bytes come after these, so that missing bytes are a fault. Without it, `NeedMoreData` is answered
+    /// while these bytes don't decide what comes next, and leaves the parser unchanged: the caller hands in the same bytes
+    /// again with more after them. Whatever is answered otherwise would be answered with more bytes too.
     ///
-    /// The parser is then after it, `consumed` bytes further; a caller hands in the bytes after those:
+    /// The parser is then after what it read, `consumed` bytes further; a caller hands in the bytes after those:
     ///
     /// ```text
     /// loop {
@@ -372,35 +395,75 @@ impl Parser {
     /// section's id, length, order and first fields, of a body's size, and of counts that don't match. `OffsetRange` at
     /// the parser's offset, where the bytes pass the offsets of a stream.
     pub fn parse<'a>(&mut self, bytes: &'a [u8], eof: bool) -> Result<Chunk<'a>>
-        requires { IsTrue eof }
-        ensures answers { ParseAnswer self.old bytes.now result self.new }
-        ensures gives { GivesNextEvent self.old bytes.now result self.new }
+        ensures answers { ParseAnswer self.old eof bytes.now result self.new }
+        ensures gives { GivesNextEvent self.old eof bytes.now result self.new }
         ensures consumes { Consumes bytes.now result }
+        ensures asks { AsksForSome result }
         ensures faults { FaultsWithin self.old bytes.now result }
         ensures unchanged { IsUnchanged self.old result self.new }
     {
-        self.answer(bytes)
+        self.answer(bytes, eof)
     }
 
-    // What comes next in the stream of which these bytes are all the rest, and is then passed.
-    fn answer<'a>(&mut self, bytes: &'a [u8]) -> Result<Chunk<'a>>
-        ensures { ParseAnswer self.old bytes.now result self.new }
+    /// How many bytes of a code section `skip_section` would pass: those left of it, from `CodeSectionStart` until a
+    /// payload that is no body. `None` elsewhere.
+    pub fn skippable(&self) -> Option<u32>
+        ensures { result ≡ skippable_of self.now }
+    {
+        if self.in_code { Some(self.left) } else { None }
+    }
+
+    /// Passes what is left of a code section, as many bytes as `skippable` says: the caller hands in the bytes after
+    /// those next. The parser must be in a code section, so that `skippable` is `Some`.
+    pub fn skip_section(&mut self)
+        requires { IsSome (skippable_of self.old) }
+        ensures state { self.new ≡ skipped_state self.old }
+        ensures skips { SkipsSection self.old self.new }
+    {
+        self.offset += u64::from(self.left);
+        self.bodies = 0;
+        self.left = 0;
+    }
+
+    // What comes next in the stream of which these bytes are the rest, or its beginning, and is then passed.
+    fn answer<'a>(&mut self, bytes: &'a [u8], eof: bool) -> Result<Chunk<'a>>
+        ensures { ParseAnswer self.old eof bytes.now result self.new }
     {
         let start = self.offset();
         if !fits(start, bytes.len()) {
             return Err(Error::new(Fault::OffsetRange, start));
         }
-        if bytes.is_empty() && !self.expects_header() && !self.in_code() {
-            return self.end();
+        if self.is_at_section() {
+            if !eof {
+                if let Some(hint) = missing_at_section(bytes) {
+                    return Ok(Chunk::NeedMoreData(hint));
+                }
+            } else if bytes.is_empty() {
+                return self.end();
+            }
         }
+        self.read_on(bytes, eof)
+    }
+
+    // What comes next, if bytes are left where a section may start, and don't only begin a header there.
+    fn read_on<'a>(&mut self, bytes: &'a [u8], eof: bool) -> Result<Chunk<'a>>
+        requires fits { self.old.offset + length bytes.now < 2 ^ 64 }
+        requires begun { IsBegun self.old eof bytes.now }
+        ensures { ParseAnswer self.old eof bytes.now result self.new }
+    {
+        let start = self.offset;
         let mut reader = self.reader(bytes);
-        let payload = self.read(&mut reader)?;
-        let end = reader.original_position();
-        self.advance(&payload, end);
-        Ok(Chunk::Parsed {
-            consumed: (end - start) as usize,
-            payload,
-        })
+        match self.read(&mut reader) {
+            Ok(payload) => {
+                let end = reader.original_position();
+                self.advance(&payload, end);
+                Ok(Chunk::Parsed {
+                    consumed: (end - start) as usize,
+                    payload,
+                })
+            }
+            Err(error) => refused(error, eof),
+        }
     }
 
     // A body of a code section that isn't at its end.
@@ -418,4 +481,16 @@ impl Parser {
         }
         Ok(Payload::CodeSectionEntry(FunctionBody::new(window)))
     }
+}
+
+// A fault; but bytes that are missing where more may come are asked for.
+fn refused<'a>(error: Error, eof: bool) -> Result<Chunk<'a>>
+    ensures { Refuses eof error result }
+{
+    if !eof {
+        if let Some(hint) = error.needed_hint() {
+            return Ok(Chunk::NeedMoreData(hint));
+        }
+    }
+    Err(error)
 }

@@ -1,7 +1,7 @@
 // What a parser knows after what it reported.
 ghost use Rattle.std.specs.Prelude.{◌≡◌};
 ghost use Rattle.wasm_parser.specs.ParseAnswer.{report_of};
-ghost use Rattle.wasm_parser.specs.StateAfter.{known_encoding, rank_report, known_rank, known_count, missing_bodies, missing_bytes};
+ghost use Rattle.wasm_parser.specs.StateAfter.{known_encoding, rank_report, known_rank, known_count, missing_bodies, missing_bytes, reports_code};
 ghost use Rattle.wasm_parser.specs.Sections.{count_report};
 
 use crate::payload::{Encoding, Payload};
@@ -79,5 +79,16 @@ pub(crate) fn missing_bytes(payload: &Payload, taken: u64, known: u32) -> u32
         Payload::CodeSectionStart { size, .. } => *size,
         Payload::CodeSectionEntry(_) => u64::from(known).saturating_sub(taken) as u32,
         _ => 0,
+    }
+}
+
+/// Whether it is the start of a code section, or a body.
+pub(crate) fn is_of_code(payload: &Payload) -> bool
+    ensures { result ≡ reports_code (report_of payload.now) }
+{
+    match payload {
+        Payload::CodeSectionStart { .. } => true,
+        Payload::CodeSectionEntry(_) => true,
+        _ => false,
     }
 }

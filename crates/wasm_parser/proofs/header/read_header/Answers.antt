@@ -9,7 +9,7 @@ use Rattle.wasm_parser.proofs.header.read_header.Goals as goal
 pub returns-in_err-bits : goal.returns-in_err-bits
 returns-in_err-bits c =
     let e = err_from_is_err_and c.from_residual.result c.from_residual.ensures.1 in
-    rw (e.1, e.2) (header_refused (place c.args.reader.now) _ _ c.in_err-bits.ensures.gives)
+    rw (e.1, e.2) (header_refused (place c.args.reader.now) _ _ c.in_err-bits.ensures.gives c.in_err-bits.ensures.hints)
 
 pub overflow_add-start : goal.overflow_add-start
 overflow_add-start c =
@@ -21,4 +21,4 @@ returns-in-Some c = header_report (place c.args.reader.now) c.in_ok-bits.bits (p
 
 pub returns-in-None : goal.returns-in-None
 returns-in-None c = header_unnamed (place c.args.reader.now) c.in_ok-bits.bits (place c.read_header_version.new.self) c.with_number.result c.in_ok-bits.ensures.gives c.in-None.ensures
-    (c.with_number.ensures.report ∙ (λ i. record { fault = (c.new.ensures.report i).fault; offset = ((c.new.ensures.report ∙ ap (λ o. at_offset UnknownVersion (o + 4)) c.original_position-start.ensures.offset) i).offset; number = Some (c.from.ensures i) }))
+    (c.with_number.ensures.report ∙ (λ i. record { fault = (c.new.ensures.report i).fault; offset = ((c.new.ensures.report ∙ ap (λ o. at_offset UnknownVersion (o + 4)) c.original_position-start.ensures.offset) i).offset; number = Some (c.from.ensures i) })) (c.with_number.ensures.hint ∙ c.new.ensures.hint)

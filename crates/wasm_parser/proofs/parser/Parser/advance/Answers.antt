@@ -24,4 +24,5 @@ returns c =
       data_counts = (c.known_count-self-inside-4.ensures ∙ ap (λ t. known_count 12 t p.data_counts) c.id_and_count-counted.ensures) i;
       bodies = c.missing_bodies-self-inside.ensures i;
       left = left i;
+      in_code = c.is_of_code-self-inside.ensures i;
     }) ∙ ap (λ (s : ParserState). state_after s c.args.end report) c.self.view_is)

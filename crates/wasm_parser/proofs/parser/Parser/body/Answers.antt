@@ -10,19 +10,19 @@ use Rattle.wasm_parser.proofs.parser.Parser.body.Goals as goal
 pub returns-then-self-eq0 : goal.returns-then-self-eq0
 returns-then-self-eq0 c =
     let b = sym (ap (λ (s : ParserState). s.bodies) c.self.view_is) ∙ c.if-self-eq0.true in
-    no_body_left c.args.self.now.bodies c.args.self.now.left (place c.args.reader.now) c.new.result _ b (c.new.ensures.report ∙ ap (at_offset TrailingCode) c.original_position-start.ensures.offset)
+    no_body_left c.args.self.now.bodies c.args.self.now.left (place c.args.reader.now) c.new.result _ b (c.new.ensures.report ∙ ap (at_offset TrailingCode) c.original_position-start.ensures.offset) c.new.ensures.hint
 
 pub returns-in_err-size : goal.returns-in_err-size
 returns-in_err-size c =
     let e = err_from_is_err_and c.from_residual.result c.from_residual.ensures.1 in
     let v = ap (λ (s : ParserState). s.bodies) c.self.view_is in
-    rw (e.1, e.2) (body_no_size c.args.self.now.bodies c.args.self.now.left (place c.args.reader.now) _ _ (omega (arith, v, c.if-self-eq0.false)) c.in_err-size.ensures.gives)
+    rw (e.1, e.2) (body_no_size c.args.self.now.bodies c.args.self.now.left (place c.args.reader.now) _ _ (omega (arith, v, c.if-self-eq0.false)) c.in_err-size.ensures.gives c.in_err-size.ensures.hints)
 
 pub returns-in_err-window : goal.returns-in_err-window
 returns-in_err-window c =
     let e = err_from_is_err_and c.from_residual-in_err-window.result c.from_residual-in_err-window.ensures.1 in
     let v = ap (λ (s : ParserState). s.bodies) c.self.view_is in
-    rw (e.1, e.2) (body_missing c.args.self.now.bodies c.args.self.now.left (place c.args.reader.now) (place c.read_var_u32.new.self) c.in_ok-size.size _ _ (omega (arith, v, c.if-self-eq0.false)) c.in_ok-size.ensures.gives c.in_err-window.ensures.gives)
+    rw (e.1, e.2) (body_missing c.args.self.now.bodies c.args.self.now.left (place c.args.reader.now) (place c.read_var_u32.new.self) c.in_ok-size.size _ _ (omega (arith, v, c.if-self-eq0.false)) c.in_ok-size.ensures.gives c.in_err-window.ensures.gives c.in_err-window.ensures.hints)
 
 pub returns-then-original_position-start : goal.returns-then-original_position-start
 returns-then-original_position-start c =
@@ -32,7 +32,7 @@ returns-then-original_position-start c =
     let after = c.original_position.ensures.offset in
     body_past c.args.self.now.bodies c.args.self.now.left (place c.args.reader.now) (place c.read_var_u32.new.self) c.in_ok-size.size c.in_ok-window.window (place c.window.new.reader) c.new-then-original_position-start.result _
     (omega (arith, v, c.if-self-eq0.false)) c.in_ok-size.ensures.gives c.in_ok-window.ensures.gives (omega (arith, w, at, after, c.from.ensures, c.if-original_position-start.true))
-    (c.new-then-original_position-start.ensures.report ∙ ap (at_offset UnexpectedEof) at)
+    (c.new-then-original_position-start.ensures.report ∙ ap (at_offset UnexpectedEof) at) c.new-then-original_position-start.ensures.hint
 
 pub returns : goal.returns
 returns c =

@@ -1,0 +1,100 @@
+-- What is after the rest of a code section that a parser passes.
+use Rattle.std.proofs.Common.{◌≡◌, ℕ, ◌+◌, ◌<◌, ◌≤◌, Bool, true, false, cond, max, List, [], ◌∷◌, ◌++◌, length, Some, None, is_some, nat_eq, refl, sym, ap, subst, ◌∙◌, arith, length-append}
+use Rattle.std.proofs.lemmas.Bool.{eqb-true}
+use Rattle.wasm_parser.specs.Grammar.{Shape, version, section, code_start, code_entry, Tile, tile, SectionContext, verdict, section_grammar, body_grammar}
+use Rattle.wasm_parser.specs.ParserState.{ParserState, IsStateAfter, greatest, is_start, ends_in_code, skipped_state}
+use Rattle.wasm_parser.specs.Skipped.{CompletesCode, SkipsSection}
+use Rattle.wasm_parser.specs.Tiling.{bytes_of, encoding_of, counts, bodies_left, bytes_left, context_of, grammar, Faultless}
+use Rattle.wasm_parser.proofs.Longest.{longest}
+use Rattle.wasm_parser.proofs.ReadingLaws.{stops_at}
+use Rattle.wasm_parser.proofs.StateLaws.{IsBody, bodied}
+use Rattle.wasm_parser.proofs.TileLaws.{tile_least}
+
+-- where bytes of a code section are left, a body comes
+body_at : (b : Bool) (context : SectionContext) (bodies left offset : ℕ) (d : List ℕ) (t : Tile) → nat_eq (bodies + left) 0 ≡ b → 0 < left → verdict (cond b (section_grammar context offset) (body_grammar bodies left offset)) d ≡ tile t → IsBody t.shape
+body_at true context bodies left offset d t e l v = let z : bodies + left ≡ 0 = eqb-true _ _ e in absurd (omega (arith, z, l))
+body_at false context bodies left offset d t e l v = bodied bodies left offset d t v
+
+body_next : (start : ℕ) (ts : List Tile) (d : List ℕ) (t : Tile) → 0 < bytes_left ts → verdict (grammar start ts) d ≡ tile t → IsBody t.shape
+body_next start [] d t l v = absurd (omega (arith, l))
+body_next start (u ∷ us) d t l v =
+    body_at (nat_eq (bodies_left (u ∷ us) + bytes_left (u ∷ us)) 0) (context_of (u ∷ us)) (bodies_left (u ∷ us)) (bytes_left (u ∷ us)) (start + length (bytes_of (u ∷ us))) d t refl l v
+
+-- tiles after which a parser knows the same as after others but for what is left of a code section
+record KnowsSame (ts us : List Tile) : Type 0 where
+  encoding : encoding_of ts ≡ encoding_of us
+  rank : greatest ts ≡ greatest us
+  same_counts : (n : ℕ) → counts n ts ≡ counts n us
+  in_code : ends_in_code ts ≡ true
+  not_start : is_start ts ≡ is_start us
+  left : bytes_left ts + length (bytes_of ts) ≡ bytes_left us + length (bytes_of us)
+
+-- one more body
+after_body : (ts us : List Tile) (shape : Shape) (bytes : List ℕ) → IsBody shape → length bytes ≤ bytes_left ts → is_start us ≡ false → KnowsSame ts us → KnowsSame (record { shape = shape; bytes = bytes } ∷ ts) us
+after_body ts us (code_entry content) bytes b l s k = record {
+  encoding = k.encoding;
+  rank = (let z : max 0 (greatest ts) ≡ greatest ts = omega arith in z) ∙ k.rank;
+  same_counts = λ n. k.same_counts n;
+  in_code = refl;
+  not_start = sym s;
+  left = let e = k.left in omega (arith, e, length-append (bytes_of ts) bytes);
+}
+after_body ts us (version num encoding) bytes b l s k = absurd b
+after_body ts us (section form id content) bytes b l s k = absurd b
+after_body ts us (code_start count width size) bytes b l s k = absurd b
+
+-- tiles that take no more than what is left of a code section are its bodies
+only_bodies : (start : ℕ) (us later : List Tile) → ends_in_code us ≡ true → is_start us ≡ false → Faultless start (later ++ us) → length (bytes_of (later ++ us)) ≤ length (bytes_of us) + bytes_left us → KnowsSame (later ++ us) us
+only_bodies start us [] c s f l = record { encoding = refl; rank = refl; same_counts = λ n. refl; in_code = c; not_start = refl; left = refl }
+only_bodies start us (t ∷ later) c s f l =
+    let n = length-append (bytes_of (later ++ us)) t.bytes in
+    let k : KnowsSame (later ++ us) us = only_bodies start us later c s f.0 (omega (arith, l, n)) in
+    let e = k.left in
+    let some : 0 < length t.bytes = tile_least start (later ++ us) t.bytes t f.1 in
+    let b : IsBody t.shape = body_next start (later ++ us) t.bytes t (omega (arith, l, n, e, some)) f.1 in
+    after_body (later ++ us) us t.shape t.bytes b (omega (arith, l, n, e)) s k
+
+-- a code section has begun
+some_tile : (ts : List Tile) → ends_in_code ts ≡ true → is_start ts ≡ false
+some_tile [] c = cc
+some_tile (t ∷ ts) c = refl
+
+skipped_at : (p : ParserState) (start : ℕ) (prefix bodies : List ℕ) (s : IsStateAfter p start prefix) (k : CompletesCode start prefix bodies) → p.in_code ≡ true → length bodies ≡ p.left → KnowsSame k.tiles s.tiles → IsStateAfter (skipped_state p) start (prefix ++ bodies)
+skipped_at p start prefix bodies s k c l same =
+    let n = length-append prefix bodies in
+    let o = s.offset in
+    let left = same.left in
+    let a = s.left in
+    let b : length (bytes_of k.tiles) ≡ length (prefix ++ bodies) = ap (λ (x : List ℕ). length x) k.whole in
+    let d : length (bytes_of s.tiles) ≡ length prefix = ap (λ (x : List ℕ). length x) s.is_prefix in
+    record {
+      tiles = k.tiles;
+      faultless = k.faultless;
+      is_prefix = k.whole;
+      offset = omega (arith, n, o, l);
+      expects_header = s.expects_header ∙ sym same.not_start;
+      encoding = s.encoding ∙ sym same.encoding;
+      rank = s.rank ∙ sym same.rank;
+      functions = s.functions ∙ sym (same.same_counts 3);
+      codes = s.codes ∙ sym (same.same_counts 10);
+      datas = s.datas ∙ sym (same.same_counts 11);
+      data_counts = s.data_counts ∙ sym (same.same_counts 12);
+      bodies = sym k.no_body_left;
+      left = omega (arith, n, left, a, b, d, l);
+      in_code = λ e. same.in_code;
+      open_code = λ e. absurd (omega (arith, e));
+    }
+
+pub skips_section : (p q : ParserState) → p.in_code ≡ true → q ≡ skipped_state p → SkipsSection p q
+skips_section p q c e start prefix bodies s l k =
+    let w : bytes_of k.tiles ≡ bytes_of s.tiles ++ bodies = k.whole ∙ ap (λ (x : List ℕ). x ++ bodies) (sym s.is_prefix) in
+    let (later, z) = longest (bytes_of k.tiles) start k.tiles s.tiles _ bodies (stops_at start k.tiles k.faultless (verdict (grammar start k.tiles) []) refl) s.faultless w in
+    let n : length (bytes_of (later ++ s.tiles)) ≡ length (bytes_of s.tiles) + length bodies = ap (λ (x : List Tile). length (bytes_of x)) (sym z) ∙ (ap (λ (x : List ℕ). length x) w ∙ length-append (bytes_of s.tiles) bodies) in
+    let a = s.left in
+    let ends : ends_in_code s.tiles ≡ true = s.in_code c in
+    let same : KnowsSame (later ++ s.tiles) s.tiles = only_bodies start s.tiles later ends (some_tile s.tiles ends) (subst (Faultless start) z k.faultless) (omega (arith, n, a, l)) in
+    subst (λ (x : ParserState). IsStateAfter x start (prefix ++ bodies)) (sym e) (skipped_at p start prefix bodies s k c l (subst (λ (x : List Tile). KnowsSame x s.tiles) (sym z) same))
+
+pub in_code_where_skippable : (b : Bool) (left : ℕ) → is_some (cond b (Some left) None) ≡ true → b ≡ true
+in_code_where_skippable true left e = refl
+in_code_where_skippable false left e = cc
