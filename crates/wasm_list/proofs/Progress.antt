@@ -1,12 +1,12 @@
 -- How far a listing has come, and what each step does to it.
-use Rattle.std.proofs.Common.{◌≡◌, ℕ, ◌+◌, ◌-◌, ◌^◌, ◌<◌, ◌≤◌, List, [], ◌∷◌, ◌++◌, length, take, drop, Option, Some, Ok, Err, zero, suc, refl, sym, ap, subst, subst₂, ◌∙◌, arith, le_refl, append_assoc, append-nil, length-append}
+use Rattle.std.proofs.Common.{true, ◌≡◌, ℕ, ◌+◌, ◌-◌, ◌^◌, ◌<◌, ◌≤◌, List, [], ◌∷◌, ◌++◌, length, take, drop, Option, Some, Ok, Err, zero, suc, refl, sym, ap, subst, subst₂, ◌∙◌, arith, le_refl, append_assoc, append-nil, length-append}
 use Rattle.std.proofs.lemmas.List.{drop_at, take-append-drop}
 use Rattle.std.specs.Io.KnownBytes.{Appends}
 use Rattle.std.proofs.KnownBytes.{Appends-nil, Appends-trans}
 use Rattle.wasm_base.specs.FaultAt.{FaultAt, fault_at}
 use Rattle.wasm_base.specs.declared.error.Error.{Error}
 use Rattle.wasm_parser.specs.ParseAnswer.{report_of, Answers, ParseAnswer}
-use Rattle.wasm_parser.specs.Content.{custom, items, index, data_count, code, unknown, Ending, fault, ended}
+use Rattle.wasm_parser.specs.Content.{custom, items, index, data_count, unknown, Ending, fault, ended}
 use Rattle.wasm_base.specs.Name.{Name, named, refused, name_limit, name}
 use Rattle.wasm_parser.specs.Grammar.{Shape, version, section, code_start, code_entry, Tile, Verdict, tile, final, Grammar, verdict}
 use Rattle.wasm_list.specs.Listing.{line_of, event_line, listing_of}
@@ -23,7 +23,7 @@ use Rattle.wasm_parser.specs.declared.payload.Chunk.TheVariants.{Parsed}
 use Rattle.wasm_parser.specs.declared.payload.Payload.{Payload}
 use Rattle.wasm_parser.specs.declared.payload.Payload.TheVariants as payloads
 use Rattle.wasm_parser.proofs.ReadingLaws.{Grown, grows}
-use Rattle.wasm_parser.proofs.StateLaws.{grammar_same, state_goes_on, state_goes_on-tiles}
+use Rattle.wasm_parser.proofs.StateLaws.{grammar_same, nothing_passed, state_goes_on, state_goes_on-tiles}
 
 -- The lines of a beginning of the stream are written, and the parser is after it.
 pub record Progress (stream : List ℕ) (taken written : Option (List ℕ)) (p : ParserState) (rest : List ℕ) : Type 0 where
@@ -36,7 +36,7 @@ pub record Progress (stream : List ℕ) (taken written : Option (List ℕ)) (p :
 pub begun : (stream : List ℕ) (taken : Option (List ℕ)) → Progress stream taken taken (initial_state 0 all_features) stream
 begun stream taken = record {
   prefix = [];
-  is_after = record { tiles = []; faultless = tt; is_prefix = refl; offset = refl; expects_header = refl; encoding = refl; rank = refl; functions = refl; codes = refl; datas = refl; data_counts = refl; bodies = refl; left = refl };
+  is_after = nothing_passed 0 3;
   whole = refl;
   features = refl;
   listed = Appends-nil taken;
@@ -78,7 +78,7 @@ came_at p rest consumed payload p' (final (fault f)) e a = absurd a
 came_at p rest consumed payload p' (final (ended o)) e a = end_came o e a.1.0
 
 pub came : (stream : List ℕ) (taken written : Option (List ℕ)) (p : ParserState) (rest : List ℕ) (consumed : ℕ) (payload : Payload) (p' : ParserState) (g : Progress stream taken written p rest) → length stream < 2 ^ 64
-    → ParseAnswer p rest (Ok (Parsed consumed payload)) p' → Came p rest consumed payload p'
+    → ParseAnswer p true rest (Ok (Parsed consumed payload)) p' → Came p rest consumed payload p'
 came stream taken written p rest consumed payload p' g l a =
     let o : p.offset + length rest ≡ length stream = offset_is stream taken written p rest g in
     came_at p rest consumed payload p' (verdict (grammar_of p) rest) refl (a.within (omega arith))
@@ -293,19 +293,19 @@ refused_at p rest e p' (final (fault f)) q a = q ∙ ap (λ (x : FaultAt). final
 refused_at p rest e p' (final (ended o)) q a = absurd a
 
 pub refused_here : (stream : List ℕ) (taken written : Option (List ℕ)) (p : ParserState) (rest : List ℕ) (e : Error) (p' : ParserState) (g : Progress stream taken written p rest) → length stream < 2 ^ 64
-    → ParseAnswer p rest (Err e) p' → verdict (grammar_of p) rest ≡ final (fault (fault_at e))
+    → ParseAnswer p true rest (Err e) p' → verdict (grammar_of p) rest ≡ final (fault (fault_at e))
 refused_here stream taken written p rest e p' g l a =
     let o : p.offset + length rest ≡ length stream = offset_is stream taken written p rest g in
     refused_at p rest e p' (verdict (grammar_of p) rest) refl (a.within (omega arith))
 
 -- the line of the fault is written, or refused
-pub fault_listed : (stream : List ℕ) (taken written written' : Option (List ℕ)) (p p' : ParserState) (rest : List ℕ) (e : Error) → Progress stream taken written p rest → length stream < 2 ^ 64 → ParseAnswer p rest (Err e) p'
+pub fault_listed : (stream : List ℕ) (taken written written' : Option (List ℕ)) (p p' : ParserState) (rest : List ℕ) (e : Error) → Progress stream taken written p rest → length stream < 2 ^ 64 → ParseAnswer p true rest (Err e) p'
     → Appends written written' (line_of (stream_end (fault (fault_at e)))) → IsListed stream taken written' (Fault e)
 fault_listed stream taken written written' p p' rest e g l a w =
     let r = refused_here stream taken written p rest e p' g l a in
     at_the_end stream taken written written' p rest (fault (fault_at e)) (Fault e) g r refl w
 
-pub fault_cut : (stream : List ℕ) (taken written written' : Option (List ℕ)) (p p' : ParserState) (rest : List ℕ) (e : Error) (x : ListError) → Progress stream taken written p rest → length stream < 2 ^ 64 → ParseAnswer p rest (Err e) p'
+pub fault_cut : (stream : List ℕ) (taken written written' : Option (List ℕ)) (p p' : ParserState) (rest : List ℕ) (e : Error) (x : ListError) → Progress stream taken written p rest → length stream < 2 ^ 64 → ParseAnswer p true rest (Err e) p'
     → Writes written written' (line_of (stream_end (fault (fault_at e)))) (Err x) → ListsBytes stream taken written' (Err x)
 fault_cut stream taken written written' p p' rest e x g l a w =
     let r = refused_here stream taken written p rest e p' g l a in

@@ -13,7 +13,7 @@ use Rattle.wasm_parser.specs.Grammar.{Shape, version, section, code_start, code_
 use Rattle.wasm_parser.specs.Tiling.{bytes_of, grammar, context_of, inside, encoding_of, encoding_in, tile_rank, count_in, counts, bodies_left, bytes_left, bodies_after, bytes_after}
 use Rattle.wasm_parser.specs.Reading.{custom_report}
 use Rattle.wasm_parser.specs.StateAfter.{known_rank, state_after, state_after_tile}
-use Rattle.wasm_parser.specs.ParserState.{ParserState, greatest, is_start, is_of_code, IsStateAfter, known_context, grammar_of}
+use Rattle.wasm_parser.specs.ParserState.{ParserState, initial_state, greatest, is_start, is_of_code, IsStateAfter, known_context, grammar_of}
 use Rattle.wasm_base.specs.declared.fault.NumberKind.TheVariants.{VarU32}
 use Rattle.wasm_parser.proofs.GrammarLaws.{after-tile}
 use Rattle.wasm_parser.proofs.KindIds.{IdOf, id_of_kind}
@@ -341,6 +341,10 @@ after_at p (code_entry content) b h =
 -- the state after a tile that comes next
 pub state_same : (p : ParserState) (d : List ℕ) (t : Tile) → verdict (grammar_of p) d ≡ tile t → state_after_tile p t ≡ after_shape p t
 state_same p d t e = after_at p t.shape t.bytes (tile_id p.expects_header p d t e)
+
+-- a parser that has passed nothing
+abbrev pub nothing_passed : (start features : ℕ) → IsStateAfter (initial_state start features) start []
+nothing_passed start features = record { tiles = []; faultless = tt; is_prefix = refl; offset = omega arith; expects_header = refl; encoding = refl; rank = refl; functions = refl; codes = refl; datas = refl; data_counts = refl; bodies = refl; left = refl; in_code = λ e. e; open_code = λ l. absurd (omega (arith, l)) }
 
 -- bodies or bytes of a code section are left only after its start, or a body
 code_is_left : (t : Tile) (bodies left : ℕ) (shape : Shape) → 0 < bodies_after shape bodies + bytes_after t shape left → is_of_code shape ≡ true

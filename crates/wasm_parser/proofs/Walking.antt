@@ -22,7 +22,7 @@ use Rattle.wasm_parser.specs.declared.payload.Payload.{Payload}
 use Rattle.wasm_parser.proofs.Accepting.{accepted_ends}
 use Rattle.wasm_parser.proofs.ReadingLaws.{Grown, grows, reads_same, reading_same}
 use Rattle.wasm_parser.proofs.SectionPlaces.{sections_tile}
-use Rattle.wasm_parser.proofs.StateLaws.{grammar_same, state_goes_on, state_goes_on-tiles}
+use Rattle.wasm_parser.proofs.StateLaws.{grammar_same, nothing_passed, state_goes_on, state_goes_on-tiles}
 use Rattle.wasm_parser.proofs.AnswerBounds.{goes_on, holds_items}
 
 -- ---- one step
@@ -147,7 +147,7 @@ walks start features stream (Ok payload ∷ given) s t u tiles w going run end =
 begins : (start features : ℕ) (bytes : List ℕ) → start + length bytes < 2 ^ 64 → Walked start features bytes (walk_over (initial_state start features) bytes) []
 begins start features bytes l = record {
   prefix = [];
-  is_after = record { tiles = []; faultless = tt; is_prefix = refl; offset = omega arith; expects_header = refl; encoding = refl; rank = refl; functions = refl; codes = refl; datas = refl; data_counts = refl; bodies = refl; left = refl; in_code = λ e. e; open_code = λ l. absurd (omega (arith, l)) };
+  is_after = nothing_passed start features;
   same = refl;
   whole = refl;
   takes = refl;

@@ -1,10 +1,11 @@
 -- What a step of a feeder adds to the sum of the bodies.
-use Rattle.std.proofs.Common.{Bor, ◌≡◌, ℕ, zero, suc, ◌+◌, ◌<◌, ◌≤◌, ◌^◌, false, List, [], ◌∷◌, ◌++◌, length, take, Option, Some, None, Result, Ok, Err, nat_eq, refl, sym, ap, subst, ◌∙◌, arith, append_assoc, append-nil, length-append, zero-add}
+use Rattle.std.proofs.Common.{Bor, ◌≡◌, ℕ, zero, suc, ◌+◌, ◌<◌, ◌≤◌, ◌^◌, true, false, List, [], ◌∷◌, ◌++◌, length, take, Option, Some, None, Result, Ok, Err, nat_eq, refl, sym, ap, subst, ◌∙◌, arith, append_assoc, append-nil, length-append, zero-add}
 use Rattle.std.proofs.lemmas.Grind.{flat_map-append}
 use Rattle.std.proofs.lemmas.List.{take_at}
 use Rattle.wasm_base.specs.FaultAt.{FaultAt, fault_at}
 use Rattle.wasm_base.specs.declared.error.Error.{Error}
 use Rattle.wasm_parser.specs.ParseAnswer.{report_of, is_end}
+use Rattle.wasm_parser.specs.Content.{fault, ended}
 use Rattle.wasm_parser.specs.Grammar.{Verdict, tile, final}
 use Rattle.wasm_parser.specs.Reading.{Report, Event, events_of, last_event, Reading}
 use Rattle.wasm_parser.specs.EventRanges.{consumed_by}
@@ -14,6 +15,7 @@ use Rattle.wasm_parser.specs.declared.payload.Chunk.TheVariants.{Parsed as Chunk
 use Rattle.wasm_parser.specs.declared.payload.Payload.{Payload}
 use Rattle.wasm_parser.specs.declared.payload.Payload.TheVariants.{Version, TypeSection, ImportSection, FunctionSection, TableSection, MemorySection, TagSection, GlobalSection, ExportSection, StartSection, ElementSection, DataCountSection, DataSection, CodeSectionStart, CodeSectionEntry, CustomSection, UnknownSection, End}
 use Rattle.wasm_parser.proofs.Following.{gives_next}
+use Rattle.wasm_parser.proofs.StateLaws.{nothing_passed}
 use Rattle.wasm_parser.proofs.AnswerBounds.{consumes}
 use Rattle.wasm_uses.specs.Bodies.{size_report, adds, bodies_in, SumIs, Adds}
 use Rattle.wasm_uses.specs.Feed.{Feed, new_feed, next_at, state_after_verdict}
@@ -86,7 +88,8 @@ last_takes_none stream start features before e r = ap (λ (x : Event). length x.
 
 features_stay : (p : ParserState) (v : Verdict) → (state_after_verdict p v).features ≡ p.features
 features_stay p (tile t) = refl
-features_stay p (final end) = refl
+features_stay p (final (ended o)) = refl
+features_stay p (final (fault f)) = refl
 
 same_features : (old new : Feed) (x : Result Step Error) → Steps old x new → new.state.features ≡ old.state.features
 same_features old new x s = ap (λ (p : ParserState). p.features) (moves old.state new.state old.held (answer_of x) s.parses).state ∙ features_stay old.state (next_at old.state old.held)
@@ -99,7 +102,7 @@ module _ (old new : Feed) (bytes : Bor (List ℕ)) (payload : Payload) (s : Step
 
   some_bytes : is_end (report_of payload) ≡ false → 0 < length bytes.now
   some_bytes going =
-      let c = (consumes old.state new.state old.held (Ok (Chunk (length bytes.now) payload)) s.parses).1 in
+      let c = (consumes old.state new.state true old.held (Ok (Chunk (length bytes.now) payload)) s.parses).1 in
       let z : nat_eq (length bytes.now) 0 ≡ false = c ∙ going in positive (length bytes.now) z
     where
       positive : (k : ℕ) → nat_eq k 0 ≡ false → 0 < k
@@ -112,8 +115,8 @@ module _ (old new : Feed) (bytes : Bor (List ℕ)) (payload : Payload) (s : Step
   -- the event that was reported, and where the rest of the reading then is
   module _ (start : ℕ) (prefix : List ℕ) (is_after : IsStateAfter old.state start prefix) (fits : start + length prefix + length old.held < 2 ^ 64) (before later : List Event) (e : Event)
       (reading : Reading (prefix ++ old.held) start old.state.features (before ++ e ∷ later)) (c : consumed_by before ≡ prefix) where
-    report : GivesEvent e old.state start prefix old.held (Ok (Chunk (length bytes.now) payload)) new.state
-    report = gives_next old.state new.state old.held (Ok (Chunk (length bytes.now) payload)) s.parses start prefix is_after fits (before ++ e ∷ later) reading (record { before = before; event = e; later = later; whole = refl; consumed = c })
+    report : GivesEvent e old.state true start prefix old.held (Ok (Chunk (length bytes.now) payload)) new.state
+    report = gives_next old.state new.state true old.held (Ok (Chunk (length bytes.now) payload)) s.parses start prefix old.held refl is_after fits (before ++ e ∷ later) reading (record { before = before; event = e; later = later; whole = refl; consumed = c })
 
     same_bytes : e.consumed ≡ bytes.now
     same_bytes = sym report.2 ∙ (ap (take (length bytes.now)) s.shows ∙ take_at bytes.now new.held (length bytes.now) refl)
@@ -167,7 +170,7 @@ module _ (old new : Feed) (bytes : Bor (List ℕ)) (payload : Payload) (s : Step
 
 pub fault_adds : (old new : Feed) (f : Error) → Steps old (Err f) new → Adds old (Err f) new
 fault_adds old new f s start prefix is_after fits before later e reading c =
-    let t = gives_next old.state new.state old.held (Err f) s.parses start prefix is_after fits (before ++ e ∷ later) reading (record { before = before; event = e; later = later; whole = refl; consumed = c }) in
+    let t = gives_next old.state new.state true old.held (Err f) s.parses start prefix old.held refl is_after fits (before ++ e ∷ later) reading (record { before = before; event = e; later = later; whole = refl; consumed = c }) in
     ap (λ (x : Report). adds (length e.consumed) x (bodies_in later)) t.0
 
 -- ---- the whole stream
@@ -199,7 +202,7 @@ sum_of_all stream sum small h [] r =
 sum_of_all stream sum small h (e ∷ later) r = h 0 [] is_after (omega arith) [] later e r refl
   where
     is_after : IsStateAfter (initial_state 0 3) 0 []
-    is_after = record { tiles = []; faultless = tt; is_prefix = refl; offset = refl; expects_header = refl; encoding = refl; rank = refl; functions = refl; codes = refl; datas = refl; data_counts = refl; bodies = refl; left = refl }
+    is_after = nothing_passed 0 3
 
 pub all_counted : (stream : List ℕ) (total : ℕ) (old new : Feed) → length stream < 2 ^ 64 → Counted stream total old → Adds old (Ok None) new → (events : List Event) → Reading stream 0 3 events → bodies_in events ≡ Ok total
 all_counted stream total old new small c a = sum_of_all stream (Ok total) small (subst (λ (n : ℕ). SumIs (initial_state 0 3) stream (Ok n)) (omega arith) (c.so_far (Ok 0) a))

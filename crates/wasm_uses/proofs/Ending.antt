@@ -12,7 +12,7 @@ use Rattle.wasm_parser.specs.declared.payload.Chunk.TheVariants.{Parsed}
 use Rattle.wasm_parser.specs.declared.payload.Payload.{Payload}
 use Rattle.wasm_parser.specs.declared.payload.Payload.TheVariants.{End}
 use Rattle.wasm_parser.proofs.ReadingLaws.{reads_same}
-use Rattle.wasm_parser.proofs.StateLaws.{grammar_same, state_goes_on}
+use Rattle.wasm_parser.proofs.StateLaws.{grammar_same, nothing_passed, state_goes_on}
 use Rattle.wasm_parser.proofs.AnswerBounds.{Takes, tile_takes, goes_on}
 
 -- The parser has passed a beginning of the stream, and this is the rest.
@@ -24,7 +24,7 @@ pub record Passed (stream : List ℕ) (p : ParserState) (rest : List ℕ) : Type
 pub begun : (stream : List ℕ) → Passed stream (initial_state 0 3) stream
 begun stream = record {
   prefix = [];
-  place = record { tiles = []; faultless = tt; is_prefix = refl; offset = refl; expects_header = refl; encoding = refl; rank = refl; functions = refl; codes = refl; datas = refl; data_counts = refl; bodies = refl; left = refl };
+  place = nothing_passed 0 3;
   whole = refl;
 }
 
@@ -79,7 +79,7 @@ moved_at stream p rest consumed payload p' g n (final (fault f)) e a = absurd a
 moved_at stream p rest consumed payload p' g n (final (ended o)) e a = let z = only_end payload o a.1.0 in absurd (n z.0 z.1)
 
 pub moved : (stream : List ℕ) (p : ParserState) (rest : List ℕ) (consumed : ℕ) (payload : Payload) (p' : ParserState) → Passed stream p rest → length stream < 2 ^ 64 → ((o : ℕ) → payload ≡ End o → ⊥)
-    → ParseAnswer p rest (Ok (Parsed consumed payload)) p' → Moved stream p' rest consumed
+    → ParseAnswer p true rest (Ok (Parsed consumed payload)) p' → Moved stream p' rest consumed
 moved stream p rest consumed payload p' g small n a = moved_at stream p rest consumed payload p' g n (verdict (grammar_of p) rest) refl (a.within (room stream p rest g small))
 
 end_at : (stream : List ℕ) (p : ParserState) (rest : List ℕ) (consumed o : ℕ) (payload : Payload) (p' : ParserState) → Passed stream p rest → payload ≡ End o → (v : Verdict) → verdict (grammar_of p) rest ≡ v
@@ -94,7 +94,7 @@ end_at stream p rest consumed o payload p' g is (final (ended x)) e a events r =
     only_ending stream p rest g (ended x) e events r ∙ ap ended (sym same)
 
 pub ends : (stream : List ℕ) (p : ParserState) (rest : List ℕ) (consumed o : ℕ) (payload : Payload) (p' : ParserState) → Passed stream p rest → length stream < 2 ^ 64 → payload ≡ End o
-    → ParseAnswer p rest (Ok (Parsed consumed payload)) p' → (events : List Event) (r : Reading stream 0 3 events) → r.end ≡ ended o
+    → ParseAnswer p true rest (Ok (Parsed consumed payload)) p' → (events : List Event) (r : Reading stream 0 3 events) → r.end ≡ ended o
 ends stream p rest consumed o payload p' g small is a = end_at stream p rest consumed o payload p' g is (verdict (grammar_of p) rest) refl (a.within (room stream p rest g small))
 
 stop_at : (stream : List ℕ) (p : ParserState) (rest : List ℕ) (x : Error) (p' : ParserState) → Passed stream p rest → (v : Verdict) → verdict (grammar_of p) rest ≡ v
@@ -104,5 +104,5 @@ stop_at stream p rest x p' g (final (ended o)) e a events r = absurd a
 stop_at stream p rest x p' g (final (fault f)) e a events r = only_ending stream p rest g (fault f) e events r ∙ ap fault (sym a.0)
 
 pub stops : (stream : List ℕ) (p : ParserState) (rest : List ℕ) (x : Error) (p' : ParserState) → Passed stream p rest → length stream < 2 ^ 64
-    → ParseAnswer p rest (Err x) p' → (events : List Event) (r : Reading stream 0 3 events) → r.end ≡ fault (fault_at x)
+    → ParseAnswer p true rest (Err x) p' → (events : List Event) (r : Reading stream 0 3 events) → r.end ≡ fault (fault_at x)
 stops stream p rest x p' g small a = stop_at stream p rest x p' g (verdict (grammar_of p) rest) refl (a.within (room stream p rest g small))

@@ -1,9 +1,9 @@
 -- A walk over the imports of a module.
-use Rattle.std.proofs.Common.{◌≡◌, Bool, true, false, List, [], ◌∷◌, Option, Some, None, Result, Ok, Err, refl, ap, ◌∙◌}
+use Rattle.std.proofs.Common.{◌≡◌, Bool, true, false, List, Some, None, Result, Ok, Err, refl, ap, ◌∙◌}
 use Rattle.wasm_base.specs.FaultAt.{FaultAt, fault_at}
 use Rattle.wasm_base.specs.declared.error.Error.{Error}
 use Rattle.wasm_items.specs.Flattened.{GivesFirst, found}
-use Rattle.wasm_items.specs.Imports.{ImportParts, import_parts}
+use Rattle.wasm_items.specs.Imports.{ImportParts}
 use Rattle.wasm_items.specs.declared.imports.Import.{Import}
 use Rattle.wasm_items.specs.declared.imports.TypeRef.{TypeRef}
 use Rattle.wasm_items.specs.declared.imports.TypeRef.TheVariants.{Func, Table, Memory, Global, Tag, FuncExact}

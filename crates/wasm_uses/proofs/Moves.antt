@@ -15,7 +15,7 @@ use Rattle.wasm_uses.specs.Feed.{Feed, HasMoved, next_at, state_after_verdict, s
 use Rattle.wasm_uses.specs.Taken.{taken_by}
 
 -- an answer is what comes next
-answers_by : (b : Bool) (p new : ParserState) (rest : List ℕ) (r : Result Chunk Error) → nat_lt (p.offset + length rest) (2 ^ 64) ≡ b → ParseAnswer p rest r new
+answers_by : (b : Bool) (p new : ParserState) (rest : List ℕ) (r : Result Chunk Error) → nat_lt (p.offset + length rest) (2 ^ 64) ≡ b → ParseAnswer p true rest r new
     → Answers p (let v : Verdict = cond b (verdict (grammar_of p) rest) (final (fault (at_offset OffsetRange p.offset))) in v) r new
 answers_by true p new rest r t h = h.within (ltb-true _ _ t)
 answers_by false p new rest (Ok (NeedMoreData hint)) t h = h.past_the_top (ltb-false _ _ t)
@@ -36,14 +36,14 @@ moves_at p new (tile t) (Err e) a = absurd a
 moves_at p new (final (fault f)) (Err e) a = record { state = a.1; size = refl }
 moves_at p new (final (ended o)) (Err e) a = absurd a
 
-pub moves : (p new : ParserState) (rest : List ℕ) (r : Result Chunk Error) → ParseAnswer p rest r new → Moves p (next_at p rest) r new
+pub moves : (p new : ParserState) (rest : List ℕ) (r : Result Chunk Error) → ParseAnswer p true rest r new → Moves p (next_at p rest) r new
 moves p new rest r h = moves_at p new (next_at p rest) r (answers_by (nat_lt (p.offset + length rest) (2 ^ 64)) p new rest r refl h)
 
 take-plus : (m n : ℕ) (xs : List ℕ) → take (m + n) xs ≡ take m xs ++ take n (drop m xs)
 take-plus m n xs = grind (arith, common_steps, sym (take-append-drop m (take (m + n) xs)), drop-take m n xs, take-take m (m + n) xs)
 
 -- a feeder with these bytes, of which so many were consumed, after an answer to the others
-pub moved : (p new before after : ParserState) (m : ℕ) (xs : List ℕ) (r : Result Chunk Error) → ParseAnswer p (drop m xs) r new
+pub moved : (p new before after : ParserState) (m : ℕ) (xs : List ℕ) (r : Result Chunk Error) → ParseAnswer p true (drop m xs) r new
     → HasMoved (record { state = p; before = before; spent = take m xs; held = drop m xs }) (record { state = new; before = after; spent = take (m + taken_by r) xs; held = drop (m + taken_by r) xs })
 moved p new before after m xs r h =
     let k : Moves p (next_at p (drop m xs)) r new = moves p new (drop m xs) r h in

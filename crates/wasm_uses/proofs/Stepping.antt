@@ -1,5 +1,5 @@
 -- What a step and what is shown of it say together.
-use Rattle.std.proofs.Common.{◌≡◌, ℕ, List, ◌++◌, length, take, drop, Result, Ok, Err, refl, sym, ap, subst, ◌∙◌, append_assoc}
+use Rattle.std.proofs.Common.{true, ◌≡◌, ℕ, List, ◌++◌, length, take, drop, Result, Ok, Err, refl, sym, ap, subst, ◌∙◌, append_assoc}
 use Rattle.std.proofs.lemmas.List.{drop_at, take-append-drop}
 use Rattle.wasm_base.specs.declared.error.Error.{Error}
 use Rattle.wasm_parser.specs.ParseAnswer.{ParseAnswer}
@@ -35,6 +35,6 @@ pub steps : (old : Feed) (t : Advanced) (x : Result Step Error) (new : Feed) →
 steps old t x new said report =
     let here : GivesStep old.state old.held x = gives old t x new said report in
     let k : length (shown x) ≡ size_of (next_of old) = sym (shows_taken x) ∙ (moves old.state (state_after_verdict old.state (next_of old)) old.held (answer_of x) here.parses).size in record {
-      parses = subst (ParseAnswer old.state old.held (answer_of x)) (sym said.moved.state) here.parses;
+      parses = subst (ParseAnswer old.state true old.held (answer_of x)) (sym said.moved.state) here.parses;
       shows = here.shows ∙ ap (λ (l : List ℕ). shown x ++ l) (ap (λ (n : ℕ). drop n old.held) k ∙ sym said.moved.held);
     }

@@ -2,9 +2,9 @@
 use Rattle.std.specs.Prelude.{◌≡◌, ℕ, ◌+◌, ◌^◌, List, [], ◌++◌, length, take, drop, nat_lt, if◌then◌else◌}
 use Rattle.wasm_base.specs.FaultAt.{at_offset}
 use Rattle.wasm_base.specs.declared.fault.Fault.TheVariants.{OffsetRange}
-use Rattle.wasm_parser.specs.Content.{fault}
+use Rattle.wasm_parser.specs.Content.{fault, ended}
 use Rattle.wasm_parser.specs.Grammar.{Verdict, tile, final, verdict}
-use Rattle.wasm_parser.specs.ParserState.{ParserState, initial_state, grammar_of}
+use Rattle.wasm_parser.specs.ParserState.{ParserState, initial_state, grammar_of, ended_state}
 use Rattle.wasm_parser.specs.StateAfter.{state_after_tile}
 
 -- where its parser is, and was before the last step; the bytes that were consumed, and those that are left
@@ -21,10 +21,11 @@ new_feed offset bytes = record { state = initial_state offset 3; before = initia
 abbrev pub next_at : ParserState → List ℕ → Verdict
 next_at p rest = if nat_lt (p.offset + length rest) (2 ^ 64) then verdict (grammar_of p) rest else final (fault (at_offset OffsetRange p.offset))
 
--- the parser after it: a tile is passed, and nothing else is
+-- the parser after it: a tile is passed, the end is reported, and a fault changes nothing
 abbrev pub state_after_verdict : ParserState → Verdict → ParserState
 state_after_verdict p (tile t) = state_after_tile p t
-state_after_verdict p (final end) = p
+state_after_verdict p (final (ended offset)) = ended_state p
+state_after_verdict p (final (fault f)) = p
 
 -- how many bytes it takes
 abbrev pub size_of : Verdict → ℕ

@@ -1,5 +1,5 @@
 -- What a step of a feeder answers, and what the feeder then is.
-use Rattle.std.specs.Prelude.{◌≡◌, ℕ, List, [], ◌++◌, length, drop, Result, Ok, Err}
+use Rattle.std.specs.Prelude.{◌≡◌, ℕ, true, List, [], ◌++◌, length, drop, Result, Ok, Err}
 use Rattle.wasm_base.specs.declared.error.Error.{Error}
 use Rattle.wasm_parser.specs.ParseAnswer.{ParseAnswer}
 use Rattle.wasm_parser.specs.ParserState.{ParserState}
@@ -26,10 +26,10 @@ shown (Err e) = []
 
 -- The step is what a parser that is here answers on all the rest of a stream, and shows the bytes that it consumed.
 pub record GivesStep (p : ParserState) (rest : List ℕ) (result : Result Step Error) : Type 0 where
-  pub parses : ParseAnswer p rest (answer_of result) (state_after_verdict p (next_at p rest))
+  pub parses : ParseAnswer p true rest (answer_of result) (state_after_verdict p (next_at p rest))
   pub shows : rest ≡ shown result ++ drop (length (shown result)) rest
 
 -- The feeder's parser answered this and has passed it, and the feeder holds what is after the bytes that are shown.
 pub record Steps (old : Feed) (result : Result Step Error) (new : Feed) : Type 0 where
-  pub parses : ParseAnswer old.state old.held (answer_of result) new.state
+  pub parses : ParseAnswer old.state true old.held (answer_of result) new.state
   pub shows : old.held ≡ shown result ++ new.held
