@@ -5,5 +5,6 @@ mod fields;
 mod hints;
 mod imports;
 mod parsing;
+mod pieces;
 mod surface;
 mod walking;

@@ -1,4 +1,4 @@
-// How many missing bytes a fault of the parser hints at: those of the read that failed.
+// How many missing bytes a fault of the parser hints at: those of the read that failed; none where a content is whole.
 use super::parsing::after_header;
 use crate::{Error, Parser};
 use std::test::Fail;
@@ -34,11 +34,11 @@ fn hints_in_sections(rt: HostRuntime) -> Result<(), Error> {
         (b"\x01\x85\x80", Some(1)),
         (b"\x01\x05\0\0", Some(3)),
         (b"\x0e\x85\0\0", Some(4)),
-        (b"\0\x03\x05ab", Some(3)),
-        (b"\0\x02\x80\x80", Some(1)),
-        (b"\x03\x02\x80\x80", Some(1)),
-        (b"\x08\x02\x80\x80", Some(1)),
-        (b"\x0c\x81\0\x80", Some(1)),
+        (b"\0\x03\x05ab", None),
+        (b"\0\x02\x80\x80", None),
+        (b"\x03\x02\x80\x80", None),
+        (b"\x08\x02\x80\x80", None),
+        (b"\x0c\x81\0\x80", None),
         (b"\x0a\x05\x80\x80", Some(1)),
         (b"\x80\0", None),
         (b"\0asm", None),
