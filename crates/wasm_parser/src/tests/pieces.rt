@@ -157,8 +157,8 @@ fn hints_byte_by_byte(rt: HostRuntime) -> Result<(), Fail> {
     let mut parser = Parser::new(0);
     let mut from = 0;
     for (to, hint) in hints.iter().enumerate() {
-        if let Answer::Consumes(count) = told(&mut parser, &stream[from..to]) {
-            from += count;
+        if let Answer::Consumes(count) = told(&mut parser, &stream[from.min(to)..to]) {
+            from = from.saturating_add(count);
         }
         let held = &stream[from.min(to)..to];
         assert_eq!(rt; told(&mut parser, held), Answer::Asks(*hint));
