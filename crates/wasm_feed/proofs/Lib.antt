@@ -1,0 +1,3 @@
+pub mod ByHand
+pub mod Resting
+pub mod Stepping

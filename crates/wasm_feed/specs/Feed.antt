@@ -1,0 +1,46 @@
+-- A feeder as a value.
+use Rattle.std.specs.Prelude.{◌≡◌, ℕ, ◌+◌, ◌<◌, ◌≤◌, ◌^◌, Bool, true, false, List, [], ◌++◌, length, Result, Ok, Err}
+use Rattle.wasm_base.specs.FaultAt.{FaultAt, fault_at, at_offset}
+use Rattle.wasm_base.specs.Owned.{out_of_memory}
+use Rattle.wasm_base.specs.declared.error.Error.{Error}
+use Rattle.wasm_base.specs.declared.fault.Fault.TheVariants.{OffsetRange}
+use Rattle.wasm_parser.specs.ParserState.{ParserState, initial_state}
+
+-- where its parser is; the bytes that were pushed and not consumed; how many it stores; whether the end was told; and whether
+-- it wants more
+pub record Feed : Type 0 where
+  pub state : ParserState
+  pub held : List ℕ
+  pub stored : ℕ
+  pub eof : Bool
+  pub wants_more : Bool
+
+abbrev pub new_feed : (offset features : ℕ) → Feed
+new_feed offset features = record { state = initial_state offset features; held = []; stored = 0; eof = false; wants_more = true }
+
+-- the feeder after a push
+abbrev pub pushed : Feed → (piece : List ℕ) → Feed
+pushed f piece = record { state = f.state; held = f.held ++ piece; stored = length f.held + length piece; eof = f.eof; wants_more = false }
+
+-- the feeder after the end was told
+abbrev pub finished : Feed → Feed
+finished f = record { state = f.state; held = f.held; stored = f.stored; eof = true; wants_more = false }
+
+-- where the stream is after the bytes that are held
+abbrev pub end_of : Feed → ℕ
+end_of f = f.state.offset + length f.held
+
+-- This is the fault of a push that is refused.
+abbrev pub RefusesAs : FaultAt → Result (Unit {0}) Error → Type 0
+RefusesAs f (Ok done) = ⊥
+RefusesAs f (Err e) = fault_at e ≡ f
+
+-- No other fault is that of a push.
+abbrev pub RefusesOnlyAs : FaultAt → Result (Unit {0}) Error → Type 0
+RefusesOnlyAs f (Ok done) = Unit {0}
+RefusesOnlyAs f (Err e) = fault_at e ≡ f
+
+-- A push is refused where the stream would pass the top of the offsets, and elsewhere only for want of memory.
+pub record RefusesPush (f : Feed) (piece : List ℕ) (result : Result (Unit {0}) Error) : Type 0 where
+  pub past_the_top : 2 ^ 64 ≤ end_of f + length piece → RefusesAs (at_offset OffsetRange f.state.offset) result
+  pub within : end_of f + length piece < 2 ^ 64 → RefusesOnlyAs out_of_memory result

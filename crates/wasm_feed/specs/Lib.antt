@@ -1,0 +1,4 @@
+pub mod Cursors
+pub mod Feed
+pub mod Opened
+pub mod Step

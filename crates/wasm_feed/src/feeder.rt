@@ -1,0 +1,226 @@
+// A feeder: it is given the bytes of a stream in pieces, and lends its payloads one by one.
+ghost use Rattle.std.specs.Prelude.{◌≡◌, ◌+◌, ◌++◌, true, drop, length, OnOk, OnErr};
+ghost use Rattle.wasm_base.specs.Features.{feature_bits};
+ghost use Rattle.wasm_parser.specs.ParseAnswer.{ParseAnswer};
+ghost use Rattle.wasm_feed.specs.Feed.{new_feed, pushed, finished, RefusesPush};
+ghost use Rattle.wasm_feed.specs.Step.{answer_of, shown, is_request, GivesStep};
+
+use crate::buffer::{after, append};
+use std::alloc::Global;
+use std::marker::Model;
+use wasm_parser::{Chunk, Error, Fault, Parser, Payload, Result, WasmFeatures, fits};
+
+/// What one step of a feeder gives.
+#[derive(Debug, Drop)]
+pub enum Step<'a> {
+    /// More bytes are wanted: about so many.
+    NeedMoreData(usize),
+    /// The next part of the stream.
+    Parsed {
+        /// The bytes that it consumed.
+        bytes: &'a [u8],
+        /// What they are.
+        payload: Payload<'a>,
+    },
+}
+
+/// Where a feeder is: its parser, how many of the bytes that it stores were consumed, and what it waits for.
+#[derive(Drop)]
+pub struct Cursor {
+    parser: Parser,
+    mark: usize,
+    is_finished: bool,
+    wants_more: bool,
+}
+
+/// Reads a stream that comes in pieces (core specification, Binary format, Modules).
+///
+/// A feeder stores the bytes that were pushed and not consumed yet, and no others after a push; `step` lends the payloads
+/// that borrow them. A download is read so:
+///
+/// ```text
+/// let mut feeder = Feeder::new(alloc, 0, WasmFeatures::all());
+/// loop {
+///     match feeder.open().step()? {
+///         Step::Parsed { bytes, payload } => ..,
+///         Step::NeedMoreData(_) => match download.next()? {
+///             Some(piece) => feeder.push(piece)?,
+///             None => feeder.finish(),
+///         },
+///     }
+/// }
+/// ```
+///
+/// Offsets count bytes from the start of the whole stream.
+#[derive(Drop)]
+pub struct Feeder {
+    cursor: Cursor,
+    bytes: Vec<u8>,
+}
+
+impl Model for Feeder {
+    ghost use Rattle.wasm_feed.specs.Feed.{Feed};
+    ghost use Rattle.wasm_feed.specs.Cursors.{feed_of};
+
+    ghost Value = { Feed };
+
+    ghost view = { λ f. feed_of f.bytes.items f.cursor };
+}
+
+impl Feeder {
+    ghost use Rattle.std.specs.Borrow.{sem};
+    ghost use Rattle.std.specs.Io.BufRead.{Rests};
+    ghost use Rattle.wasm_feed.specs.Step.{Steps};
+    ghost use Rattle.wasm_feed.specs.Cursors.{feed_of};
+    ghost use Rattle.wasm_feed.specs.Opened.{LendsCursor};
+    ghost use Rattle.wasm_feed.specs.contracts.feeder.Feeder.{the_row};
+
+    /// A feeder of a stream that begins at this offset, whose windows have these features. It takes no memory yet.
+    pub fn new(alloc: Global, offset: u64, features: WasmFeatures) -> Feeder
+        ensures { result ≡ new_feed offset (feature_bits features) }
+    {
+        let mut parser = Parser::new(offset);
+        parser.set_features(features);
+        Feeder {
+            cursor: Cursor {
+                parser,
+                mark: 0,
+                is_finished: false,
+                wants_more: true,
+            },
+            bytes: Vec::new(alloc),
+        }
+    }
+
+    /// The next part of the stream, or a request for more bytes. A fault is answered again by every step after it, and so is
+    /// the end. A caller that goes on with the feeder afterwards calls `open().step()`, by which more is known, or `step_with`.
+    pub fn step(&mut self) -> Result<Step<'_>>
+        ensures* after { sem 𝓛 (Rests the_row self.entry (Steps self.old result)) }
+        ensures gives { GivesStep self.old.state self.old.eof self.old.held result }
+    {
+        self.open().step()
+    }
+
+    /// Whether bytes may be pushed: at first, and after `NeedMoreData` until the next `push` that is `Ok`, or `finish`.
+    pub fn wants_more(&self) -> bool
+        ensures { result ≡ self.now.wants_more }
+    {
+        self.cursor.wants_more
+    }
+
+    /// How many bytes were pushed and not consumed.
+    pub fn held(&self) -> usize
+        ensures { result ≡ length self.now.held }
+    {
+        after(&self.bytes, self.cursor.mark).len()
+    }
+
+    /// How many bytes are stored: those that are held, and those that were consumed since the last push.
+    pub fn stored(&self) -> usize
+        ensures { result ≡ self.now.stored }
+    {
+        self.bytes.len()
+    }
+
+    /// Says that no bytes come after those that were pushed. A second call changes nothing.
+    pub fn finish(&mut self)
+        ensures { self.new ≡ finished self.old }
+    {
+        self.cursor.is_finished = true;
+        self.cursor.wants_more = false;
+    }
+
+    /// Gives the next bytes of the stream. The feeder must want more.
+    ///
+    /// `OffsetRange` at the parser's offset, where the stream would pass the offset 2^64 - 1; then `OutOfMemory` where the
+    /// growth was refused. Either leaves the feeder as it was.
+    pub fn push(&mut self, piece: &[u8]) -> Result<()>
+        requires { self.old.wants_more ≡ true }
+        ensures ok { OnOk result (self.new ≡ pushed self.old piece.now) }
+        ensures unchanged { OnErr result (self.new ≡ self.old) }
+        ensures refuses { RefusesPush self.old piece.now result }
+    {
+        let offset = self.cursor.parser.offset();
+        let held = self.held();
+        if !fits(offset, held) || !fits(offset + held as u64, piece.len()) {
+            return Err(Error::new(Fault::OffsetRange, offset));
+        }
+        let mark = self.cursor.mark.min(self.bytes.len());
+        if append(&mut self.bytes, mark, piece).is_err() {
+            return Err(Error::new(Fault::OutOfMemory, 0));
+        }
+        self.cursor.mark = 0;
+        self.cursor.wants_more = false;
+        Ok(())
+    }
+
+    /// The feeder taken apart, so that a step moves its cursor while the payload borrows its bytes.
+    pub fn open(&mut self) -> Opened<'_, '_>
+        ensures* after { sem 𝓛 (LendsCursor self.entry result) }
+        ensures opens { feed_of result.bytes.now result.cursor.now ≡ self.entry.now }
+    {
+        Opened {
+            cursor: &mut self.cursor,
+            bytes: &self.bytes,
+        }
+    }
+
+    /// One step along the stream, and what is made of it.
+    pub fn step_with<R, F: FnOnce(Result<Step<'_>>) -> R>(&mut self, look: F) -> R
+        requires { F.IsAlwaysCallable look }
+        ensures { (s : _) × F.post look s result × Steps self.old s self.new }
+    {
+        look(advance(&mut self.cursor, &self.bytes))
+    }
+}
+
+/// A feeder that is taken apart.
+#[derive(Drop)]
+pub struct Opened<'c, 'a> {
+    cursor: &'c mut Cursor,
+    bytes: &'a [u8],
+}
+
+impl<'c, 'a> Opened<'c, 'a> {
+    ghost use Rattle.wasm_feed.specs.Cursors.{feed_of};
+    ghost use Rattle.wasm_feed.specs.Step.{Steps};
+
+    /// One step along the stream.
+    pub fn step(self) -> Result<Step<'a>>
+        ensures { Steps (feed_of self.entry.bytes.now self.entry.cursor.now) result
+            (feed_of self.entry.bytes.now self.exit.0.now) }
+    {
+        let Opened { cursor, bytes } = self;
+        advance(cursor, bytes)
+    }
+}
+
+// One step in these bytes.
+fn advance<'a>(cursor: &mut Cursor, bytes: &'a [u8]) -> Result<Step<'a>>
+    ensures parses { ParseAnswer cursor.old.parser cursor.old.is_finished
+        (drop cursor.old.mark bytes.now) (answer_of result) cursor.new.parser }
+    ensures shows { drop cursor.old.mark bytes.now
+        ≡ shown result ++ drop cursor.new.mark bytes.now }
+    ensures finished { cursor.new.is_finished ≡ cursor.old.is_finished }
+    ensures wants { cursor.new.wants_more ≡ is_request result }
+{
+    let rest = after(bytes, cursor.mark);
+    match cursor.parser.parse(rest, cursor.is_finished) {
+        Ok(Chunk::NeedMoreData(hint)) => {
+            cursor.wants_more = true;
+            Ok(Step::NeedMoreData(hint))
+        }
+        Ok(Chunk::Parsed { consumed, payload }) => {
+            cursor.wants_more = false;
+            cursor.mark += consumed;
+            Ok(Step::Parsed {
+                bytes: &rest[..consumed],
+                payload,
+            })
+        }
+        Err(error) => {
+            cursor.wants_more = false;
+            Err(error)
+        }
+    }
+}
