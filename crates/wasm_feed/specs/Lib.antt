@@ -2,3 +2,4 @@ pub mod Cursors
 pub mod Feed
 pub mod Opened
 pub mod Step
+pub mod Waits

@@ -3,6 +3,7 @@
 
 mod buffer;
 mod feeder;
+pub mod laws;
 #[cfg(test)]
 mod tests;
 

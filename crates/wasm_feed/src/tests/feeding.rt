@@ -1,0 +1,119 @@
+// Feeders of streams that come in pieces.
+use crate::{Feeder, Step};
+use bitflags::Flags;
+use std::test::Fail;
+use wasm_parser::{Error, Fault, Payload, Result, WasmFeatures};
+
+// A header, a function section, and a code section with one body.
+const MODULE: &[u8] = b"\0asm\x01\0\0\0\x03\x02\x01\0\x0a\x04\x01\x02\0\x0b";
+
+// What a step is: how many bytes it shows, or how many it asks for.
+#[derive(Clone, Copy, Debug, PartialEq, Eq)]
+enum Told {
+    Shows(usize),
+    Asks(usize),
+    Ends(u64),
+    Refuses(Error),
+}
+
+fn say(step: Result<Step<'_>>) -> Told {
+    match step {
+        Ok(Step::NeedMoreData(hint)) => Told::Asks(hint),
+        Ok(
+            Step::Parsed {
+                payload: Payload::End(at),
+                ..
+            },
+        ) => Told::Ends(at),
+        Ok(Step::Parsed { bytes, .. }) => Told::Shows(bytes.len()),
+        Err(error) => Told::Refuses(error),
+    }
+}
+
+#[test]
+fn a_module_in_three_pieces(rt: HostRuntime) -> std::result::Result<(), Fail> {
+    let mut feeder = Feeder::new(rt.alloc(), 0, WasmFeatures::all());
+    let steps: [(Told, usize, usize); 3] = [
+        (Told::Asks(3), 5, 5),
+        (Told::Asks(2), 2, 10),
+        (Told::Asks(1), 0, 7),
+    ];
+    for (index, (last, held, stored)) in steps.iter().enumerate() {
+        assert!(rt; feeder.wants_more());
+        if !feeder.wants_more() {
+            return Ok(());
+        }
+        feeder.push(&MODULE[5 * index..5 * index + 5])?;
+        assert_eq!(rt; feeder.held(), feeder.stored());
+        let mut now = say(feeder.step());
+        for _ in 0..3 {
+            if let Told::Shows(_) = now {
+                now = say(feeder.step());
+            }
+        }
+        assert_eq!(rt; now, *last);
+        assert_eq!(rt; (feeder.held(), feeder.stored()), (*held, *stored));
+    }
+    if feeder.wants_more() {
+        feeder.push(&MODULE[15..])?;
+    }
+    assert_eq!(rt; say(feeder.step()), Told::Shows(3));
+    assert_eq!(rt; say(feeder.step()), Told::Asks(1));
+    feeder.finish();
+    assert!(rt; !feeder.wants_more());
+    for _ in 0..2 {
+        feeder.finish();
+        assert_eq!(rt; say(feeder.step()), Told::Ends(18));
+    }
+    Ok(())
+}
+
+#[test]
+fn faults_and_features(rt: HostRuntime) -> std::result::Result<(), Fail> {
+    let mut feeder = Feeder::new(rt.alloc(), 7, WasmFeatures::MEMORY64);
+    if feeder.wants_more() {
+        feeder.push(b"\0asm\x01\0\0\0\x02\x01\0\x02")?;
+    }
+    assert_eq!(rt; feeder.step_with(say), Told::Shows(8));
+    match feeder.open().step()? {
+        Step::Parsed {
+            bytes,
+            payload: Payload::ImportSection(section),
+        } => {
+            assert_eq!(rt; bytes, b"\x02\x01\0".as_slice());
+            assert_eq!(rt; section.range(), 17..18);
+        }
+        _other => assert!(rt; false),
+    }
+    assert_eq!(rt; say(feeder.step()), Told::Asks(1));
+    if feeder.wants_more() {
+        feeder.push(b"\0")?;
+    }
+    let fault = Error::new(Fault::OutOfOrder, 20);
+    for _ in 0..2 {
+        assert_eq!(rt; say(feeder.step()), Told::Refuses(fault));
+    }
+    Ok(())
+}
+
+#[test]
+fn pushes_past_the_top(rt: HostRuntime) -> std::result::Result<(), Fail> {
+    let mut feeder = Feeder::new(rt.alloc(), 18446744073709551607, WasmFeatures::all());
+    if feeder.wants_more() {
+        feeder.push(b"\0asm\x01\0\0\0")?;
+    }
+    assert_eq!(rt; say(feeder.step()), Told::Shows(8));
+    assert_eq!(rt; say(feeder.step()), Told::Asks(1));
+    let fault = Error::new(Fault::OffsetRange, 18446744073709551615);
+    if feeder.wants_more() {
+        assert_eq!(rt; feeder.push(b"\0"), Err(fault));
+    }
+    assert_eq!(rt; (feeder.held(), feeder.stored()), (0, 8));
+    assert!(rt; feeder.wants_more());
+    if feeder.wants_more() {
+        feeder.push(b"")?;
+    }
+    feeder.finish();
+    assert_eq!(rt; say(feeder.step()), Told::Ends(18446744073709551615));
+    Ok(())
+}
