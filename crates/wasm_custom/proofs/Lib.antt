@@ -1,0 +1,3 @@
+pub mod AnnouncedHints
+pub mod Numbered
+pub mod RelocSections

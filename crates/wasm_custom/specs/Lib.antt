@@ -1,1 +1,4 @@
+pub mod BranchHints
 pub mod Custom
+pub mod Producers
+pub mod Relocations

@@ -1,9 +1,17 @@
-//! Custom sections: the name and the data that each of them has.
+//! Custom sections: the name and the data that each of them has, and what the data of known ones says.
 #![tactic(auto)]
 
+mod branch_hints;
 mod custom;
 pub mod laws;
+mod producers;
+mod relocations;
 #[cfg(test)]
 mod tests;
 
+pub use branch_hints::{BranchHint, BranchHintFunction, BranchHintSectionReader};
 pub use custom::CustomSectionReader;
+pub use producers::{ProducersField, ProducersFieldValue, ProducersSectionReader};
+pub use relocations::{
+    RelocAddendKind, RelocSectionReader, RelocationEntry, RelocationEntryReader, RelocationType,
+};
