@@ -8,6 +8,7 @@ pub mod Runs
 pub mod SameFaults
 pub mod Signed
 pub mod Skipped
+pub mod SubsectionRuns
 pub mod Deciding
 pub mod Texts
 pub mod Walks

@@ -13,6 +13,7 @@ mod number;
 mod owned;
 mod reader;
 mod section;
+mod subsections;
 #[cfg(test)]
 mod tests;
 
@@ -37,3 +38,4 @@ pub use section::{
     SectionLimited, SectionLimitedIntoIter, SectionLimitedIntoIterIn,
     SectionLimitedIntoIterWithOffsets,
 };
+pub use subsections::{Subsection, Subsections};
