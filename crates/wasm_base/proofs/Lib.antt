@@ -6,6 +6,7 @@ pub mod OneOutcome
 pub mod Pages
 pub mod Runs
 pub mod SameFaults
+pub mod SectionIn
 pub mod Signed
 pub mod Skipped
 pub mod SubsectionRuns
