@@ -1,8 +1,11 @@
+pub mod Announced
+pub mod InnerLists
 pub mod InTurn
 pub mod Lists
 pub mod NumberLaws
 pub mod Numbers
 pub mod OneOutcome
+pub mod OwnBytes
 pub mod Pages
 pub mod Runs
 pub mod SameFaults

@@ -1,16 +1,14 @@
 -- Counted items that are passed over, and the section that they are.
-use Rattle.std.proofs.Common.{◌≡◌, ℕ, suc, ◌+◌, ◌-◌, ◌<◌, ◌≤◌, List, ◌++◌, take, drop, Result, Ok, Err, IfOk, refl, sym, ap, subst, arith, ◌∙◌}
-use Rattle.std.proofs.Math.Seq.{take-add}
-use Rattle.wasm_base.proofs.NumberLaws.{Used, number-used, number-more}
+use Rattle.std.proofs.Common.{◌≡◌, ℕ, suc, ◌+◌, ◌-◌, ◌<◌, ◌≤◌, List, take, Result, Ok, Err, IfOk, refl, sym, ap, arith, ◌∙◌}
+use Rattle.wasm_base.proofs.OwnBytes.{cut_number}
 use Rattle.wasm_base.specs.FaultAt.{FaultAt, fault_at}
 use Rattle.wasm_base.specs.Number.{Number, read, bad, short, number, in_window, unsigned_at}
 use Rattle.wasm_base.specs.Outcome.{Outcome, Gives}
 use Rattle.wasm_base.specs.Section.{Section, ReadsSection}
-use Rattle.wasm_base.specs.Window.{Window, Place, place, advanced, KeepsWindow}
+use Rattle.wasm_base.specs.Window.{Window, Place, place, advanced, window_between, KeepsWindow}
 use Rattle.wasm_base.specs.declared.error.Error.{Error}
 use Rattle.wasm_base.specs.declared.fault.NumberKind.TheVariants.{VarU32}
-use Rattle.wasm_items.specs.Inner.{all_passed_at, section_between, inner_section_at}
-use Rattle.wasm_items.specs.Windows.{window_between}
+use Rattle.wasm_base.specs.Inner.{all_passed_at, section_between, inner_section_at}
 
 module _ (pass : Place → Outcome (Unit {0})) where
   -- one more was passed
@@ -20,6 +18,13 @@ module _ (pass : Place → Outcome (Unit {0})) where
       let step : all_passed_at pass (suc (count - (i + 1))) p ≡ whole = rw k at so_far in
       rw one at step
 
+  -- one could not be passed
+  pub not_passed : (count i : ℕ) (p : Place) (whole : Outcome (Unit {0})) (e : FaultAt) → i < count → all_passed_at pass (count - i) p ≡ whole → pass p ≡ Err e → whole ≡ Err e
+  not_passed count i p whole e lt so_far one =
+      let k : count - i ≡ suc (count - (i + 1)) = omega arith in
+      let step : all_passed_at pass (suc (count - (i + 1))) p ≡ whole = rw k at so_far in
+      sym (rw one at step)
+
 -- a window by its parts
 window_is : (w : Window) (f s : ℕ) (b : List ℕ) (k : ℕ) → w.features ≡ f → w.start ≡ s → w.bytes ≡ b → w.position ≡ k → w ≡ record { features = f; start = s; bytes = b; position = k }
 window_is w f s b k hf hs hb hk =
@@ -27,15 +32,6 @@ window_is w f s b k hf hs hb hk =
     let whole : Window = record { features = f; start = s; bytes = b; position = k } in
     let e : parts ≡ whole = rw (hf, hs, hb, hk) refl in
     e
-
--- a number in the bytes up to a later place is the number
-cut_number : (xs : List ℕ) (v k m : ℕ) → number VarU32 xs ≡ read v k → k ≤ m → number VarU32 (take m xs) ≡ read v k
-cut_number xs v k m e le =
-    let used : Used VarU32 xs v k = number-used VarU32 xs v k e in
-    let parts : take (k + (m - k)) xs ≡ take k xs ++ take (m - k) (drop k xs) = take-add k (m - k) xs in
-    let whole : number VarU32 (take k xs ++ take (m - k) (drop k xs)) ≡ number VarU32 (take k xs) = number-more VarU32 (take k xs) (take (m - k) (drop k xs)) (λ n. let z : read v k ≡ short = sym used.alone ∙ n in cc) in
-    let n : m ≡ k + (m - k) = omega arith in
-    subst (λ (j : ℕ). number VarU32 (take j xs) ≡ read v k) (sym n) (rw (parts, whole) used.alone)
 
 -- what a count says of the bytes before the place after it
 record Counted (p : Place) (count : ℕ × Place) : Type 0 where
@@ -60,7 +56,7 @@ unfolding unsigned_at
 counted_in_window p q count c le =
     let passed : count.1.offset ≡ p.offset + c.used = ap (λ (w : Place). w.offset) c.after in
     let k : c.used ≡ count.1.offset - p.offset = omega arith in
-    let n : number VarU32 (take (q.offset - p.offset) p.rest) ≡ read count.0 c.used = cut_number p.rest count.0 c.used (q.offset - p.offset) c.number_is (omega arith) in
+    let n : number VarU32 (take (q.offset - p.offset) p.rest) ≡ read count.0 c.used = cut_number VarU32 p.rest count.0 c.used (q.offset - p.offset) c.number_is (omega arith) in
     rw (n, k) refl
 
 same_count : (m n : ℕ) (p q : Place) (a b : Outcome ℕ) → a ≡ Ok (m, p) → b ≡ Ok (n, q) → a ≡ b → (m ≡ n) × (p ≡ q)

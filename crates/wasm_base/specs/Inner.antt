@@ -3,9 +3,14 @@ use Rattle.std.specs.Prelude.{ℕ, zero, suc, ◌-◌, Ok}
 use Rattle.wasm_base.specs.Number.{unsigned_at}
 use Rattle.wasm_base.specs.Outcome.{Outcome, ◌>>=◌}
 use Rattle.wasm_base.specs.Section.{Section}
-use Rattle.wasm_base.specs.Window.{Place}
+use Rattle.wasm_base.specs.Window.{Place, window_between}
 use Rattle.wasm_base.specs.declared.fault.NumberKind.TheVariants.{VarU32}
-use Rattle.wasm_items.specs.Windows.{window_between}
+
+-- the place after what a reading takes, whatever its value is
+unfoldable pub after_reading : {A : Type 0} → (Place → Outcome A) → Place → Outcome (Unit {0})
+after_reading reading p = do
+  item ← reading p
+  Ok (tt, item.1)
 
 -- the place after so many, one after the other
 abbrev pub all_passed_at : (Place → Outcome (Unit {0})) → (count : ℕ) → Place → Outcome (Unit {0})
