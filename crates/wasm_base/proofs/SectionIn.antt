@@ -1,12 +1,9 @@
 -- The section that a window is.
-use Rattle.std.proofs.Common.{◌≡◌, ℕ, ◌+◌, ◌-◌, Result, Ok, Err, IfOk, refl, sym, arith}
-use Rattle.wasm_base.specs.FaultAt.{fault_at}
-use Rattle.wasm_base.specs.Number.{unsigned_at}
-use Rattle.wasm_base.specs.Outcome.{GivesResult, ◌>>=◌}
+use Rattle.std.proofs.Common.{◌≡◌, ◌+◌, ◌-◌, Result, Ok, Err, IfOk, refl, sym, arith}
+use Rattle.wasm_base.specs.Outcome.{GivesResult}
 use Rattle.wasm_base.specs.Section.{Section, ReadsSection, section_in}
 use Rattle.wasm_base.specs.Window.{Window, place, KeepsWindow}
 use Rattle.wasm_base.specs.declared.error.Error.{Error}
-use Rattle.wasm_base.specs.declared.fault.NumberKind.TheVariants.{VarU32}
 
 -- a reader that went on in its window, by how far it went
 gone_on : (w v : Window) → KeepsWindow w v → record w { position = w.position + ((place v).offset - (place w).offset) } ≡ v

@@ -1,5 +1,5 @@
 -- What calls of `next` over subsections give, one after the other.
-use Rattle.std.proofs.Common.{◌≡◌, ℕ, suc, ◌+◌, ◌-◌, ◌<◌, ◌≤◌, Bool, List, [], ◌∷◌, length, drop, Option, Some, None, Result, Ok, Err, refl, sym, subst, arith, length-drop, drop-drop, ap}
+use Rattle.std.proofs.Common.{◌≡◌, ℕ, ◌+◌, ◌-◌, ◌<◌, ◌≤◌, Bool, List, [], ◌∷◌, length, drop, Option, Some, None, Result, Ok, Err, refl, sym, subst, arith, length-drop, drop-drop, ap}
 use Rattle.std.specs.Prelude.{map}
 use Rattle.std.specs.Iterator.{Yields}
 use Rattle.wasm_base.specs.FaultAt.{FaultAt}

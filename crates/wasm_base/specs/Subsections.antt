@@ -1,8 +1,9 @@
 -- Subsections of a window. Tool conventions, Linking, Linking Metadata Section; core specification, Appendix, Custom
 -- Sections, Name Section, Subsections.
-use Rattle.std.specs.Prelude.{◌≡◌, ℕ, ◌<◌, ◌≤◌, ◌⊎◌, Bool, IsTrue, List, [], ◌∷◌, length, Option, Some, None, Result, Ok, Err, map}
+use Rattle.std.specs.Prelude.{◌≡◌, ℕ, ◌<◌, ◌≤◌, ◌⊎◌, Bool, false, IsTrue, List, [], ◌∷◌, length, Option, Some, None, Result, Ok, Err, map}
 use Rattle.std.specs.Iterator.{Drains}
-use Rattle.wasm_base.specs.FaultAt.{FaultAt, fault_at}
+use Rattle.wasm_base.specs.FaultAt.{FaultAt}
+use Rattle.wasm_base.specs.Hints.{TakesNoMemory}
 use Rattle.wasm_base.specs.Name.{u7_at, window_at}
 use Rattle.wasm_base.specs.Outcome.{Outcome, ◌>>=◌}
 use Rattle.wasm_base.specs.Owned.{out_of_memory}
@@ -31,10 +32,11 @@ abbrev pub ReadsSubsection : {T : Type 0} → (ℕ → Window → Result T Fault
 ReadsSubsection meaning takes (Ok head) given after = MeansSubsection meaning takes head.0.0 head.0.1 given × (after ≡ head.1)
 ReadsSubsection meaning takes (Err fault) given after = item_or_fault given ≡ Err fault
 
--- one call of `next`: a subsection for as long as bytes are left, and each takes one of them at least
+-- one call of `next`: a subsection for as long as bytes are left, and each takes one of them at least; no want of memory where
+-- no subsection takes any
 abbrev pub NextSubsection : {T : Type 0} → (ℕ → Window → Result T FaultAt → Type 0) → Bool → Window → Option (Result T Error) → Window → Type 0
 NextSubsection meaning takes s None t = (length (place s).rest ≡ 0) × (t ≡ s)
-NextSubsection meaning takes s (Some given) t = ReadsSubsection meaning takes (subsection_at (place s)) given (place t) × KeepsWindow s t × (s.position < t.position) × (0 < length (place s).rest)
+NextSubsection meaning takes s (Some given) t = ReadsSubsection meaning takes (subsection_at (place s)) given (place t) × KeepsWindow s t × (s.position < t.position) × (0 < length (place s).rest) × (takes ≡ false → TakesNoMemory given)
 
 -- What comes first of the subsections of a window: what the first one means, and the others are those after it. After the
 -- fault of an id or a size the others are those of a later place, whichever it is.
@@ -53,3 +55,11 @@ pub record GivesSubsections {T : Type 0} (next : Window → Option (Result T Err
   pub subsections : (given : List (Result T Error)) → Drains next s given → SubsectionsOf meaning (place s) (map item_or_fault given)
   pub at_most : (given : List (Result T Error)) → Drains next s given → length given ≤ length (place s).rest
   pub after : (t u : Window) (given : Option (Result T Error)) → next s None t → next t given u → given ≡ None
+
+-- The one thing that a subsection's id and window are read as, where view is what counts of a value.
+abbrev pub result_map : {X Y : Type 0} → (X → Y) → Result X FaultAt → Result Y FaultAt
+result_map view (Ok x) = Ok (view x)
+result_map view (Err e) = Err e
+
+abbrev pub ReadsWindowAs : {X Y : Type 0} → (X → Y) → (ℕ → Window → Result Y FaultAt) → ℕ → Window → Result X FaultAt → Type 0
+ReadsWindowAs view reading id window outcome = reading id window ≡ result_map view outcome

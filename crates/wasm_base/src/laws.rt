@@ -54,7 +54,7 @@ pub fn owned_items_of_a_window<'a, T: FromReaderIn<'a>>()
 pub fn subsections_of_a_window<'a, T: Subsection<'a>>()
     ensures { (s : Window) →
         GivesSubsections ⟦<Subsections<'a, T> as Iterator>⟧.next_gives
-        (UnlessTaken T.meaning T.TAKES_MEMORY) s }
+        (UnlessTaken T.meaning T.Memory.TAKES_MEMORY) s }
 {}
 
 /// Both iterators give the same items and the same fault, where the meaning of an item allows one outcome: equal

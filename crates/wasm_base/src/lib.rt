@@ -40,4 +40,4 @@ pub use section::{
     SectionLimited, SectionLimitedIntoIter, SectionLimitedIntoIterIn,
     SectionLimitedIntoIterWithOffsets,
 };
-pub use subsections::{Subsection, Subsections};
+pub use subsections::{Memory, NoMemory, SomeMemory, Subsection, Subsections};

@@ -13,6 +13,36 @@ use std::fmt;
 use std::marker::{Model, PhantomData};
 use std::ops::Range;
 
+/// Whether reading may ask for memory. Where it doesn't, no call answers `OutOfMemory`.
+pub trait Memory {
+    ghost TAKES_MEMORY: { Bool };
+
+    /// Whether it may.
+    const TAKES_MEMORY: bool;
+}
+
+/// Reading asks for no memory.
+pub struct NoMemory;
+
+impl Memory for NoMemory {
+    ghost use Rattle.std.specs.Prelude.{false};
+
+    ghost TAKES_MEMORY = { false };
+
+    const TAKES_MEMORY: bool = false;
+}
+
+/// Reading may ask for memory.
+pub struct SomeMemory;
+
+impl Memory for SomeMemory {
+    ghost use Rattle.std.specs.Prelude.{true};
+
+    ghost TAKES_MEMORY = { true };
+
+    const TAKES_MEMORY: bool = true;
+}
+
 /// What the subsections of a window can be read as.
 ///
 /// A type has a meaning, and its `from_reader` keeps to it: that is all that `Subsections` asks of it.
@@ -20,17 +50,15 @@ pub trait Subsection<'a>: Sized + Drop {
     /// What a subsection with this id and this window may come to: a value, or a fault.
     ghost meaning: { ℕ → Window → Result Self FaultAt → Type 0 };
 
-    ghost TAKES_MEMORY: { Bool };
-
-    /// Whether reading may ask for memory. Where it doesn't, no call answers `OutOfMemory`.
-    const TAKES_MEMORY: bool;
+    /// Whether reading may ask for memory: `NoMemory` or `SomeMemory`.
+    type Memory: Memory;
 
     /// Reads the subsection with this id, which is the reader's window.
     ///
     /// `OutOfMemory`, at offset 0, where a growth is refused.
     fn from_reader(alloc: Global, id: u8, reader: BinaryReader<'a>) -> Result<Self>
-        ensures means { MeansSubsection meaning TAKES_MEMORY id reader.entry result }
-        ensures memory { TAKES_MEMORY ≡ false → TakesNoMemory result };
+        ensures means { MeansSubsection meaning Self.Memory.TAKES_MEMORY id reader.entry result }
+        ensures memory { Self.Memory.TAKES_MEMORY ≡ false → TakesNoMemory result };
 }
 
 /// The subsections of a window: each is an id, a byte below 128, a size, a u32, and so many bytes.
@@ -117,11 +145,11 @@ impl<'a, T> Subsections<'a, T> {
 #[tactic(auto, unfolding(crate::specs::Subsections::subsection_at))]
 fn read_subsection<'a, T: Subsection<'a>>(alloc: Global, reader: &mut BinaryReader<'a>) -> Result<T>
     requires { 0 < length (place reader.old).rest }
-    ensures reads { ReadsSubsection T.meaning T.TAKES_MEMORY (subsection_at (place reader.old)) result
+    ensures reads { ReadsSubsection T.meaning T.Memory.TAKES_MEMORY (subsection_at (place reader.old)) result
         (place reader.new) }
     ensures keeps { KeepsWindow reader.old reader.new }
     ensures moves { reader.old.position < reader.new.position }
-    ensures memory { T.TAKES_MEMORY ≡ false → TakesNoMemory result }
+    ensures memory { T.Memory.TAKES_MEMORY ≡ false → TakesNoMemory result }
 {
     let id = reader.read_u7()?;
     let window = reader.read_reader()?;
@@ -131,7 +159,7 @@ fn read_subsection<'a, T: Subsection<'a>>(alloc: Global, reader: &mut BinaryRead
 impl<'a, T: Subsection<'a>> Iterator for Subsections<'a, T> {
     type Item = Result<T>;
 
-    ghost next_gives = { NextSubsection T.meaning T.TAKES_MEMORY };
+    ghost next_gives = { NextSubsection T.meaning T.Memory.TAKES_MEMORY };
 
     ghost remaining = { λ subsections. at_most (length (place subsections).rest) };
 

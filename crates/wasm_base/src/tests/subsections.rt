@@ -1,7 +1,7 @@
 // Subsections of a window, on worked bytes.
-ghost use Rattle.std.specs.Prelude.{⊤, ◌+◌, ◌<◌, ◌^◌, false, length};
+ghost use Rattle.std.specs.Prelude.{⊤, ◌+◌, ◌<◌, ◌^◌, length};
 
-use crate::{BinaryReader, Error, Fault, NumberKind, Result, Subsection, Subsections};
+use crate::{BinaryReader, Error, Fault, NoMemory, NumberKind, Result, Subsection, Subsections};
 use std::alloc::Global;
 use std::test::Fail;
 
@@ -12,9 +12,7 @@ struct Numbered(u8, u32, u64);
 impl<'a> Subsection<'a> for Numbered {
     ghost meaning = { λ id window outcome. ⊤ };
 
-    ghost TAKES_MEMORY = { false };
-
-    const TAKES_MEMORY: bool = false;
+    type Memory = NoMemory;
 
     fn from_reader(alloc: Global, id: u8, mut reader: BinaryReader<'a>) -> Result<Self> {
         let number = reader.read_var_u32()?;
