@@ -3,8 +3,8 @@ use Rattle.std.proofs.Common.{◌≡◌, ℕ, suc, ◌+◌, ◌-◌, ◌<◌, �
 use Rattle.wasm_base.proofs.OwnBytes.{cut_number}
 use Rattle.wasm_base.specs.FaultAt.{FaultAt, fault_at}
 use Rattle.wasm_base.specs.Number.{Number, read, bad, short, number, in_window, unsigned_at}
-use Rattle.wasm_base.specs.Outcome.{Outcome, Gives, Answers, ◌>>=◌}
-use Rattle.wasm_base.specs.Section.{Section, ReadsSection, section_in}
+use Rattle.wasm_base.specs.Outcome.{Outcome, Gives}
+use Rattle.wasm_base.specs.Section.{Section, ReadsSection}
 use Rattle.wasm_base.specs.Window.{Window, Place, place, advanced, window_between, KeepsWindow}
 use Rattle.wasm_base.specs.declared.error.Error.{Error}
 use Rattle.wasm_base.specs.declared.fault.NumberKind.TheVariants.{VarU32}
@@ -72,15 +72,6 @@ same_count m n p q a b ea eb e =
 -- A reader that goes on is not before where it was.
 pub not_before : (old new : Window) → KeepsWindow old new → (place old).offset ≤ (place new).offset
 not_before old new kept = omega (arith, kept.start, kept.forward)
-
--- A section that was made of a window is the window's.
-pub section_read : (w : Window) (result : Result Section Error) → ReadsSection (place w) result → IfOk result (λ (s : Section). KeepsWindow w s.reader) → Answers {X = Section} (λ s. s) result (section_in w)
-unfolding section_in
-section_read w (Ok s) reads kept =
-    let k : s.reader.position ≡ s.reader.start + s.reader.position - w.start = omega (arith, kept.start) in
-    let reader = window_is s.reader w.features w.start w.bytes (s.reader.start + s.reader.position - w.start) kept.features kept.start kept.bytes k in
-    rw reads (ap (λ (r : Window). let o : Result Section FaultAt = Ok (record { reader = r; count = s.count }) in o) (sym reader))
-section_read w (Err e) reads kept = rw reads refl
 
 module _ (p q : Place) (count : ℕ × Place) (counts : unsigned_at VarU32 p ≡ Ok count) (le : count.1.offset ≤ q.offset) where
   -- The section of the window is the one that the items between the places are.

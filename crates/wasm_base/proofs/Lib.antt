@@ -9,8 +9,10 @@ pub mod OwnBytes
 pub mod Pages
 pub mod Runs
 pub mod SameFaults
+pub mod SectionIn
 pub mod Signed
 pub mod Skipped
+pub mod SubsectionRuns
 pub mod Deciding
 pub mod Texts
 pub mod Walks

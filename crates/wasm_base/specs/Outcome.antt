@@ -25,6 +25,6 @@ abbrev pub GivesBy : {X Y : Type 0} → (X → Y) → Result X Error → (old ne
 GivesBy view result old new reading = Gives view result (place new) (reading (place old))
 
 -- What a call returned is this value, or this fault; view is what counts of the value.
-abbrev pub Answers : {X Y : Type 0} → (X → Y) → Result X Error → Result Y FaultAt → Type 0
-Answers view (Ok x) answer = answer ≡ Ok (view x)
-Answers view (Err e) answer = answer ≡ Err (fault_at e)
+abbrev pub GivesResult : {X Y : Type 0} → (X → Y) → Result X Error → Result Y FaultAt → Type 0
+GivesResult view (Ok x) outcome = outcome ≡ Ok (view x)
+GivesResult view (Err e) outcome = outcome ≡ Err (fault_at e)

@@ -30,9 +30,9 @@ GivesUnlessMemory view (Ok x) after outcome = outcome ≡ Ok (view x, after)
 GivesUnlessMemory view (Err e) after outcome = (fault_at e ≡ out_of_memory) ⊎ (outcome ≡ Err (fault_at e))
 
 -- What a call returned is this value or fault, or memory was refused; view is what counts of the value.
-abbrev pub AnswersUnlessMemory : {X Y : Type 0} → (X → Y) → Result X Error → Result Y FaultAt → Type 0
-AnswersUnlessMemory view (Ok x) answer = answer ≡ Ok (view x)
-AnswersUnlessMemory view (Err e) answer = (fault_at e ≡ out_of_memory) ⊎ (answer ≡ Err (fault_at e))
+abbrev pub GivesResultUnlessMemory : {X Y : Type 0} → (X → Y) → Result X Error → Result Y FaultAt → Type 0
+GivesResultUnlessMemory view (Ok x) outcome = outcome ≡ Ok (view x)
+GivesResultUnlessMemory view (Err e) outcome = (fault_at e ≡ out_of_memory) ⊎ (outcome ≡ Err (fault_at e))
 
 -- so many items, one after the other, up to the first fault
 abbrev pub InTurn : {A : Type 0} → (Place → Outcome A → Type 0) → ℕ → Place → Outcome (List A) → Type 0

@@ -22,11 +22,11 @@ abbrev pub ReadsSection : Place → Result Section Error → Type 0
 ReadsSection p (Ok section) = unsigned_at VarU32 p ≡ Ok (section.count, place section.reader)
 ReadsSection p (Err e) = unsigned_at VarU32 p ≡ Err (fault_at e)
 
--- the section of a window: its count, and its reader after that
+-- the section that is what a reader has before it: a count, a u32, and the reader after it
 unfoldable pub section_in : Window → Result Section FaultAt
 section_in w = do
   count ← unsigned_at VarU32 (place w)
-  Ok (record { reader = record w { position = count.1.offset - w.start }; count = count.0 })
+  Ok (record { reader = record w { position = w.position + (count.1.offset - (place w).offset) }; count = count.0 })
 
 -- where an iterator over items is: so many were announced, so many are left of these, and whether it is over
 pub record Items : Type 0 where

@@ -14,6 +14,7 @@ mod number;
 mod owned;
 mod reader;
 mod section;
+mod subsections;
 #[cfg(test)]
 mod tests;
 
@@ -39,3 +40,4 @@ pub use section::{
     SectionLimited, SectionLimitedIntoIter, SectionLimitedIntoIterIn,
     SectionLimitedIntoIterWithOffsets,
 };
+pub use subsections::{Memory, NoMemory, SomeMemory, Subsection, Subsections};

@@ -1,3 +1,2 @@
 pub mod AnnouncedHints
 pub mod Numbered
-pub mod RelocSections

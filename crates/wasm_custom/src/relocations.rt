@@ -275,14 +275,14 @@ impl RelocationEntry {
 
 impl<'a> RelocSectionReader<'a> {
     ghost use Rattle.wasm_custom.specs.Relocations.{reloc_section_in};
-    ghost use Rattle.wasm_base.specs.Outcome.{Answers};
+    ghost use Rattle.wasm_base.specs.Outcome.{GivesResult};
 
     /// Reads the index of the section that has the places, a u32, and the count of relocations, a u32.
     ///
     /// The faults are those of the two numbers. No relocation is looked at.
     #[tactic(auto, unfolding(crate::specs::Relocations::reloc_section_in))]
     pub fn new(mut reader: BinaryReader<'a>) -> Result<Self>
-        ensures gives { Answers (λ section. section) result (reloc_section_in reader.entry) }
+        ensures gives { GivesResult (λ section. section) result (reloc_section_in reader.entry) }
         ensures memory { TakesNoMemory result }
     {
         let range = reader.range();
