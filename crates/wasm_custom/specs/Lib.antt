@@ -1,5 +1,6 @@
 pub mod Ascending
 pub mod BranchHints
+pub mod CoreDumps
 pub mod Custom
 pub mod Names
 pub mod Producers

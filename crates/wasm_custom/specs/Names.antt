@@ -1,7 +1,7 @@
 -- Names. Core specification, Appendix, Custom Sections, Name Section; the subsections beyond those for functions and locals are of
 -- the extended name section proposal.
 use Rattle.std.specs.declared.ops.Range.{Range}
-use Rattle.std.specs.Prelude.{◌≡◌, ℕ, ◌==◌, List, length, Option, Some, None, Result, Ok, Err, nat_lt, if◌then◌else◌}
+use Rattle.std.specs.Prelude.{ℕ, ◌==◌, List, length, Some, None, Result, Ok, Err, nat_lt, if◌then◌else◌}
 use Rattle.wasm_base.specs.FaultAt.{FaultAt, at_offset}
 use Rattle.wasm_base.specs.Inner.{inner_section_at}
 use Rattle.wasm_base.specs.Name.{name_limit, text_at}

@@ -3,6 +3,7 @@
 
 mod ascending;
 mod branch_hints;
+mod core_dumps;
 mod custom;
 pub mod laws;
 mod names;
@@ -12,6 +13,10 @@ mod relocations;
 mod tests;
 
 pub use branch_hints::{BranchHint, BranchHintFunction, BranchHintSectionReader};
+pub use core_dumps::{
+    CoreDumpInstance, CoreDumpInstancesSection, CoreDumpModulesSection, CoreDumpSection,
+    CoreDumpStackFrame, CoreDumpStackSection, CoreDumpValue,
+};
 pub use custom::CustomSectionReader;
 pub use names::{IndirectNameMap, IndirectNaming, Name, NameMap, NameSectionReader, Naming};
 pub use producers::{ProducersField, ProducersFieldValue, ProducersSectionReader};
