@@ -69,8 +69,9 @@ AscendsFrom index last [] = Unit {0}
 AscendsFrom index last (Ok x ∷ given) = IsTrue (is_above last (index x)) × AscendsFrom index (Some (index x)) given
 AscendsFrom index last (Err e ∷ given) = AscendsFrom index last given
 
--- What calls of `next` give up to the first `None`, by a relation that each call meets, is what the entries come to in order;
--- it ascends; and nothing comes after that `None`.
+-- What calls of `next` give up to the first `None`, by a relation that each call meets: all that the entries come to, in order;
+-- it ascends strictly; and nothing comes after that `None`.
 pub record GivesAscending {S T : Type 0} (next_entry : S → Option (Result T Error) → S → Type 0) (start : S → ℕ) (index : T → ℕ) (fault : Fault) (next : Ascending S → Option (Result T Error) → Ascending S → Type 0) : Type 0 where
   pub entries : (s : S) (given : List (Result T Error)) → Drains next (none_given s) given → (all : List (ℕ × Result T Error)) × Drains (NextAt next_entry start) s all × (map item_or_fault given ≡ in_order index fault [] all)
   pub ascends : (s : S) (given : List (Result T Error)) → Drains next (none_given s) given → AscendsFrom index None given
+  pub after : (s t u : Ascending S) (given : Option (Result T Error)) → next s None t → next t given u → given ≡ None

@@ -23,6 +23,12 @@ pub record NamingParts : Type 0 where
   pub index : ℕ
   pub name : List ℕ
 
+abbrev pub index_of : Naming → ℕ
+index_of naming = naming.index
+
+abbrev pub index_of_indirect : IndirectNaming → ℕ
+index_of_indirect naming = naming.index
+
 abbrev pub naming_parts : Naming → NamingParts
 naming_parts naming = record { index = naming.index; name = naming.name.now }
 
@@ -51,6 +57,13 @@ unfoldable pub entries_in : Window → Result (Ascending Items) FaultAt
 entries_in w = do
   section ← section_in w
   Ok (none_given (all_items section))
+
+-- where the next name is, and the next subsection
+abbrev pub offset_of_entry : Items → ℕ
+offset_of_entry entries = (place entries.reader).offset
+
+abbrev pub offset_of_subsection : Window → ℕ
+offset_of_subsection subsections = (place subsections).offset
 
 -- a subsection of names, with the bytes of its text
 pub data NameParts : Type 0 where

@@ -1,15 +1,20 @@
-//! What comparing, hashing and copying custom sections and their items says, and what holds of items that were read.
+//! What comparing, hashing and copying custom sections and their items says, what holds of items that were read, and of
+//! whole runs over them.
 ghost use Rattle.std.specs.Prelude.{Ok};
 ghost use Rattle.wasm_base.specs.Announced.{GivesAnnounced};
 ghost use Rattle.wasm_base.specs.Comparing.{DecidesSame, IsCopy};
 ghost use Rattle.wasm_base.specs.Item.{AllowsOne, Determines};
 ghost use Rattle.wasm_base.specs.Window.{Place};
+ghost use Rattle.wasm_base.specs.declared.fault.Fault.TheVariants.{IndirectOrder, NameSectionOrder, NamesOrder};
+ghost use Rattle.wasm_custom.specs.Ascending.{GivesAscending};
+ghost use Rattle.wasm_custom.specs.Names.{id_of, index_of, index_of_indirect, offset_of_entry, offset_of_subsection};
 
 use crate::branch_hints::{BranchHint, BranchHintFunction};
 use crate::custom::CustomSectionReader;
+use crate::names::{IndirectNameMap, IndirectNaming, Name, NameMap, NameSectionReader, Naming};
 use crate::producers::{ProducersField, ProducersFieldValue};
 use crate::relocations::{RelocAddendKind, RelocSectionReader, RelocationEntry, RelocationType};
-use wasm_base::{FromReader, SectionLimitedIntoIter};
+use wasm_base::{FromReader, SectionLimitedIntoIter, Subsections};
 
 /// Two relocations, types of relocations or kinds of addends are equal exactly if they are the same.
 pub fn equal_relocations_are_the_same()
@@ -74,4 +79,22 @@ pub fn items_are_determined<'a>()
     ensures hint { Determines ⟦<BranchHint as FromReader<'a>>⟧.meaning }
     ensures relocation { Determines ⟦<RelocationEntry as FromReader<'a>>⟧.meaning }
     ensures relocation_type { Determines ⟦<RelocationType as FromReader<'a>>⟧.meaning }
+{}
+
+/// Calls of `next` up to the first `None` give exactly the names, or the subsections of names, whose index or id is above every
+/// one that was given before; each other one is the fault of the order, at its start. One with a fault of its own is that
+/// fault. What they give ascends strictly, also across faults, and nothing comes after that `None`.
+pub fn names_ascend<'a>()
+    ensures names { GivesAscending
+        ⟦<SectionLimitedIntoIter<'a, Naming<'a>> as Iterator>⟧.next_gives
+        offset_of_entry index_of NamesOrder
+        ⟦<NameMap<'a> as Iterator>⟧.next_gives }
+    ensures indirect { GivesAscending
+        ⟦<SectionLimitedIntoIter<'a, IndirectNaming<'a>> as Iterator>⟧.next_gives
+        offset_of_entry index_of_indirect IndirectOrder
+        ⟦<IndirectNameMap<'a> as Iterator>⟧.next_gives }
+    ensures subsections { GivesAscending
+        ⟦<Subsections<'a, Name<'a>> as Iterator>⟧.next_gives
+        offset_of_subsection id_of NameSectionOrder
+        ⟦<NameSectionReader<'a> as Iterator>⟧.next_gives }
 {}

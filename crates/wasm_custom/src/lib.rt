@@ -5,6 +5,7 @@ mod ascending;
 mod branch_hints;
 mod core_dumps;
 mod custom;
+mod known;
 pub mod laws;
 mod names;
 mod producers;
@@ -18,6 +19,7 @@ pub use core_dumps::{
     CoreDumpStackFrame, CoreDumpStackSection, CoreDumpValue,
 };
 pub use custom::CustomSectionReader;
+pub use known::KnownCustom;
 pub use names::{IndirectNameMap, IndirectNaming, Name, NameMap, NameSectionReader, Naming};
 pub use producers::{ProducersField, ProducersFieldValue, ProducersSectionReader};
 pub use relocations::{

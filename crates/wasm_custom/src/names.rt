@@ -8,7 +8,7 @@ ghost use Rattle.wasm_base.specs.Section.{NextItem, all_items, most_items};
 ghost use Rattle.wasm_base.specs.Subsections.{NextSubsection, ReadsWindowAs};
 ghost use Rattle.wasm_base.specs.Window.{place};
 ghost use Rattle.wasm_custom.specs.Ascending.{NextAscending, none_given};
-ghost use Rattle.wasm_custom.specs.Names.{naming_parts, naming_at, passed_naming_at, indirect_naming_at, entries_in, name_parts, name_in, module_name_in, id_of};
+ghost use Rattle.wasm_custom.specs.Names.{naming_parts, naming_at, passed_naming_at, indirect_naming_at, entries_in, name_parts, name_in, module_name_in, id_of, index_of, index_of_indirect, offset_of_entry, offset_of_subsection};
 
 use crate::ascending::in_order;
 use std::alloc::{AllocError, Global};
@@ -112,7 +112,7 @@ impl<'a> Iterator for NameMap<'a> {
     type Item = Result<Naming<'a>>;
 
     ghost next_gives = { NextAscending (NextItem (ReadsAs naming_parts naming_at))
-        (λ names. (place names.reader).offset) (λ naming. naming.index) NamesOrder };
+        offset_of_entry index_of NamesOrder };
 
     ghost remaining = { λ names. at_most (most_items names.entries) };
 
@@ -208,7 +208,7 @@ impl<'a> Iterator for IndirectNameMap<'a> {
     type Item = Result<IndirectNaming<'a>>;
 
     ghost next_gives = { NextAscending (NextItem (ReadsAs (λ naming. naming) indirect_naming_at))
-        (λ names. (place names.reader).offset) (λ naming. naming.index) IndirectOrder };
+        offset_of_entry index_of_indirect IndirectOrder };
 
     ghost remaining = { λ names. at_most (most_items names.entries) };
 
@@ -398,7 +398,7 @@ impl<'a> Iterator for NameSectionReader<'a> {
     type Item = Result<Name<'a>>;
 
     ghost next_gives = { NextAscending (NextSubsection (ReadsWindowAs name_parts name_in) false)
-        (λ sections. (place sections).offset) id_of NameSectionOrder };
+        offset_of_subsection id_of NameSectionOrder };
 
     ghost remaining = { λ names. at_most (length (place names.entries).rest) };
 

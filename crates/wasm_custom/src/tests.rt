@@ -1,4 +1,6 @@
 // Custom sections on worked bytes.
+mod names;
+
 use crate::CustomSectionReader;
 use std::test::Fail;
 use wasm_base::{BinaryReader, Error, Fault, WasmFeatures};
