@@ -1,5 +1,10 @@
 // Custom sections on worked bytes.
+mod core_dumps;
+mod heap;
+mod hints_and_producers;
+mod known;
 mod names;
+mod relocations;
 
 use crate::CustomSectionReader;
 use std::test::Fail;
