@@ -2,6 +2,7 @@
 #![tactic(auto)]
 
 mod cases;
+mod custom;
 mod show;
 mod types;
 
