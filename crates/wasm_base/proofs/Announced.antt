@@ -117,5 +117,4 @@ module _ {T B : Type 0} (pass : Place → Outcome (Unit {0})) (own : Own pass) (
 
 -- What was passed over by its own reading can be read.
 pub after_follows : {A : Type 0} (reading : Place → Outcome A) → Follows (after_reading reading) reading
-unfolding after_reading
 after_follows {A} reading = record { reads = λ p q e. let s = in_steps (reading p) (λ r. let o : Outcome (Unit {0}) = Ok (tt, r.1) in o) (tt, q) e in (s.between.0, s.one ∙ ap (λ (r : Unit {0} × Place). let o : Outcome A = Ok (s.between.0, r.1) in o) (read_as (tt, s.between.1) (tt, q) s.other)) }

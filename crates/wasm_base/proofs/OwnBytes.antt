@@ -56,8 +56,12 @@ own_nothing x = record {
     nowhere : (p : Place) → p ≡ advanced 0 p
     nowhere p = let o : p.offset ≡ p.offset + 0 = omega arith in λ i. record { features = p.features; offset = o i; rest = p.rest }
 
+-- a fault, which may depend on the place
+pub own_refused : {A : Type 0} (fault : Place → FaultAt) → Own {A = A} (λ p. Err (fault p))
+own_refused fault = record { at = λ p x q e. absurd (let z = e in cc) }
+
 pub own_fault : {A : Type 0} (fault : FaultAt) → Own {A = A} (λ p. Err fault)
-own_fault fault = record { at = λ p x q e. absurd (let z = e in cc) }
+own_fault fault = own_refused (λ p. fault)
 
 -- one reading and then another
 pub own_both : {A B : Type 0} (first : Place → Outcome A) (next : A → Place → Outcome B) → Own first → ((a : A) → Own (next a)) → Own (λ p. first p >>= λ r. next r.0 r.1)
@@ -182,5 +186,4 @@ own_bytes count = record { at = λ p x q e. bytes_own count p (nat_lt (length p.
 
 -- a reading whose value doesn't count
 pub own_passed : {A : Type 0} (reading : Place → Outcome A) → Own reading → Own (after_reading reading)
-unfolding after_reading
 own_passed reading own = own_both reading (λ a p. Ok (tt, p)) own (λ a. own_nothing tt)

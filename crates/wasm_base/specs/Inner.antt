@@ -7,7 +7,7 @@ use Rattle.wasm_base.specs.Window.{Place, window_between}
 use Rattle.wasm_base.specs.declared.fault.NumberKind.TheVariants.{VarU32}
 
 -- the place after what a reading takes, whatever its value is
-unfoldable pub after_reading : {A : Type 0} → (Place → Outcome A) → Place → Outcome (Unit {0})
+abbrev pub after_reading : {A : Type 0} → (Place → Outcome A) → Place → Outcome (Unit {0})
 after_reading reading p = do
   item ← reading p
   Ok (tt, item.1)

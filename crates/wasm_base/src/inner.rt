@@ -32,7 +32,6 @@ impl<'a> InnerItem<'a> for u32 {
 
     ghost passed_at = { after_reading (unsigned_at VarU32) };
 
-    #[tactic(auto, unfolding(crate::specs::Inner::after_reading))]
     fn pass_over(reader: &mut BinaryReader<'a>) -> Result<()> {
         reader.read_var_u32()?;
         Ok(())

@@ -1,1 +1,3 @@
+pub mod AnnouncedHints
 pub mod Ascends
+pub mod Numbered

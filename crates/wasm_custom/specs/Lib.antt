@@ -1,3 +1,6 @@
 pub mod Ascending
+pub mod BranchHints
 pub mod Custom
 pub mod Names
+pub mod Producers
+pub mod Relocations

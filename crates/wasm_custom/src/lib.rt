@@ -1,12 +1,20 @@
-//! Custom sections: the name and the data that each of them has, and what is in those that are known.
+//! Custom sections: the name and the data that each of them has, and what the data of those that are known says.
 #![tactic(auto)]
 
 mod ascending;
+mod branch_hints;
 mod custom;
 pub mod laws;
 mod names;
+mod producers;
+mod relocations;
 #[cfg(test)]
 mod tests;
 
+pub use branch_hints::{BranchHint, BranchHintFunction, BranchHintSectionReader};
 pub use custom::CustomSectionReader;
 pub use names::{IndirectNameMap, IndirectNaming, Name, NameMap, NameSectionReader, Naming};
+pub use producers::{ProducersField, ProducersFieldValue, ProducersSectionReader};
+pub use relocations::{
+    RelocAddendKind, RelocSectionReader, RelocationEntry, RelocationEntryReader, RelocationType,
+};

@@ -3,7 +3,6 @@ use Rattle.std.proofs.Common.{length-drop, ◌≡◌, ℕ, zero, suc, ◌+◌, �
 use Rattle.std.proofs.lemmas.List.{length-take}
 use Rattle.wasm_base.proofs.Texts.{advanced_twice}
 use Rattle.wasm_base.proofs.OwnBytes.{cut, same_read, OwnAt, Own, own_nothing, own_fault, own_both, own_cond, own_number, own_signed_at, own_signed, own_bytes, own_passed}
-use Rattle.wasm_base.specs.Inner.{after_reading}
 use Rattle.wasm_base.specs.Name.{bytes_at}
 use Rattle.wasm_base.specs.Number.{unsigned_at}
 use Rattle.wasm_base.specs.Outcome.{Outcome, ◌>>=◌}
@@ -49,7 +48,6 @@ pub own_heap_type : Own heap_type_at
 own_heap_type = record { at = λ p x q e. heap_own p.features p.offset p.rest x q e }
 
 own_operand : (operand : Operand) → Own (operand_at operand)
-unfolding after_reading
 own_operand (signed kind) = own_passed (signed_at kind) (own_signed kind)
 own_operand (raw n) = own_passed (bytes_at n) (own_bytes n)
 own_operand u32_index = own_passed (unsigned_at VarU32) (own_number VarU32)
