@@ -4,7 +4,9 @@
 mod ascending;
 mod branch_hints;
 mod custom;
+mod flags;
 pub mod laws;
+mod linking;
 mod names;
 mod producers;
 mod relocations;
@@ -13,6 +15,11 @@ mod tests;
 
 pub use branch_hints::{BranchHint, BranchHintFunction, BranchHintSectionReader};
 pub use custom::CustomSectionReader;
+pub use flags::{SegmentFlags, SymbolFlags};
+pub use linking::{
+    Comdat, ComdatMap, ComdatSymbol, ComdatSymbolKind, DefinedDataSymbol, InitFunc, InitFuncMap,
+    Linking, LinkingSectionReader, Segment, SegmentMap, SymbolInfo, SymbolInfoMap,
+};
 pub use names::{IndirectNameMap, IndirectNaming, Name, NameMap, NameSectionReader, Naming};
 pub use producers::{ProducersField, ProducersFieldValue, ProducersSectionReader};
 pub use relocations::{
