@@ -1,6 +1,7 @@
 pub mod Ascending
 pub mod BranchHints
 pub mod Custom
+pub mod Dylink
 pub mod Flags
 pub mod Linking
 pub mod Names

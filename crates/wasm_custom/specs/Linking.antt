@@ -1,6 +1,6 @@
 -- What a linker reads. Tool conventions, Linking, Linking Metadata Section.
 use Rattle.std.specs.declared.ops.Range.{Range}
-use Rattle.std.specs.Prelude.{◌≡◌, ℕ, ◌==◌, ◌||◌, not, Bool, List, Option, Some, None, Result, Ok, Err, bit_and, if◌then◌else◌}
+use Rattle.std.specs.Prelude.{◌≡◌, ℕ, ◌-◌, ◌==◌, ◌||◌, not, Bool, List, Option, Some, None, Result, Ok, Err, bit_and, if◌then◌else◌}
 use Rattle.wasm_base.specs.FaultAt.{FaultAt}
 use Rattle.wasm_base.specs.Inner.{inner_section_at, after_reading}
 use Rattle.wasm_base.specs.Leading.{leading_byte}
@@ -60,15 +60,15 @@ comdat_kind_of byte =
     else if byte == 5 then Some Kinds.Section
     else None
 
-abbrev pub comdat_kind_or_fault : (byte start : ℕ) → Place → Option ComdatSymbolKind → Outcome ComdatSymbolKind
-comdat_kind_or_fault byte start p (Some kind) = Ok (kind, p)
-comdat_kind_or_fault byte start p None = Err (leading_byte Leads.ComdatSymbol byte start)
+abbrev pub comdat_kind_or_fault : (byte offset : ℕ) → Place → Option ComdatSymbolKind → Outcome ComdatSymbolKind
+comdat_kind_or_fault byte offset p (Some kind) = Ok (kind, p)
+comdat_kind_or_fault byte offset p None = Err (leading_byte Leads.ComdatSymbol byte offset)
 
 -- a kind: a byte, else a fault at it
 unfoldable pub comdat_kind_at : Place → Outcome ComdatSymbolKind
 comdat_kind_at p = do
   byte ← byte_at p
-  comdat_kind_or_fault byte.0 p.offset byte.1 (comdat_kind_of byte.0)
+  comdat_kind_or_fault byte.0 (byte.1.offset - 1) byte.1 (comdat_kind_of byte.0)
 
 -- a symbol of a comdat: a kind and an index
 unfoldable pub comdat_symbol_at : Place → Outcome ComdatSymbol

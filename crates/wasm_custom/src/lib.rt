@@ -4,6 +4,7 @@
 mod ascending;
 mod branch_hints;
 mod custom;
+mod dylink;
 mod flags;
 pub mod laws;
 mod linking;
@@ -15,6 +16,7 @@ mod tests;
 
 pub use branch_hints::{BranchHint, BranchHintFunction, BranchHintSectionReader};
 pub use custom::CustomSectionReader;
+pub use dylink::{Dylink0SectionReader, Dylink0Subsection, ExportInfo, ImportInfo, MemInfo};
 pub use flags::{SegmentFlags, SymbolFlags};
 pub use linking::{
     Comdat, ComdatMap, ComdatSymbol, ComdatSymbolKind, DefinedDataSymbol, InitFunc, InitFuncMap,

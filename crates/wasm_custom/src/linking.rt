@@ -215,11 +215,13 @@ impl<'a> FromReader<'a> for ComdatSymbolKind {
 
     #[tactic(auto, unfolding(crate::specs::Linking::comdat_kind_at))]
     fn from_reader(reader: &mut BinaryReader<'a>) -> Result<Self> {
-        let start = reader.original_position();
         let byte = reader.read_u8()?;
         match comdat_kind(byte) {
             Some(kind) => Ok(kind),
-            None => Err(leading_byte_error(Lead::ComdatSymbol, byte, start)),
+            None => {
+                let offset = reader.original_position() - 1;
+                Err(leading_byte_error(Lead::ComdatSymbol, byte, offset))
+            }
         }
     }
 }
