@@ -1,5 +1,5 @@
-//! What comparing, hashing and copying custom sections and their items says, what holds of items that were read, and of whole
-//! runs over them.
+//! What comparing, hashing and copying custom sections and their items says, what holds of items that were read, and of
+//! whole runs over them.
 ghost use Rattle.std.specs.Prelude.{Ok};
 ghost use Rattle.wasm_base.specs.Announced.{GivesAnnounced};
 ghost use Rattle.wasm_base.specs.Comparing.{DecidesSame, IsCopy};

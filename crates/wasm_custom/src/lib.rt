@@ -3,9 +3,11 @@
 
 mod ascending;
 mod branch_hints;
+mod core_dumps;
 mod custom;
 mod dylink;
 mod flags;
+mod known;
 pub mod laws;
 mod linking;
 mod names;
@@ -15,9 +17,14 @@ mod relocations;
 mod tests;
 
 pub use branch_hints::{BranchHint, BranchHintFunction, BranchHintSectionReader};
+pub use core_dumps::{
+    CoreDumpInstance, CoreDumpInstancesSection, CoreDumpModulesSection, CoreDumpSection,
+    CoreDumpStackFrame, CoreDumpStackSection, CoreDumpValue,
+};
 pub use custom::CustomSectionReader;
 pub use dylink::{Dylink0SectionReader, Dylink0Subsection, ExportInfo, ImportInfo, MemInfo};
 pub use flags::{SegmentFlags, SymbolFlags};
+pub use known::KnownCustom;
 pub use linking::{
     Comdat, ComdatMap, ComdatSymbol, ComdatSymbolKind, DefinedDataSymbol, InitFunc, InitFuncMap,
     Linking, LinkingSectionReader, Segment, SegmentMap, SymbolInfo, SymbolInfoMap,
