@@ -3,7 +3,7 @@ ghost use Rattle.std.specs.Prelude.{◌≡◌, None, map};
 ghost use Rattle.wasm_base.specs.Item.{ReadsAs};
 ghost use Rattle.wasm_base.specs.Name.{text_at};
 ghost use Rattle.wasm_base.specs.Outcome.{GivesBy};
-ghost use Rattle.wasm_base.specs.Owned.{GivesResultUnlessMemory, GivesUnlessMemory, MeansAs, UnlessMemory, InTurn, list_at};
+ghost use Rattle.wasm_base.specs.Owned.{GivesResultUnlessMemory, GivesUnlessMemory, MeansAs, UnlessMemory, InTurn, ListOf, list_at};
 ghost use Rattle.wasm_base.specs.Subsections.{ReadsWindowAs};
 ghost use Rattle.wasm_base.specs.Window.{place, KeepsWindow};
 ghost use Rattle.wasm_custom.specs.Dylink.{dylink_parts, dylink_subsection_in, export_info_parts, export_info_at, import_info_parts, import_info_at};
@@ -144,14 +144,27 @@ fn read_each_text<'a, A: Allocator>(
     Ok(texts)
 }
 
+// A count and so many texts.
+fn read_text_list<'a, A: Allocator>(
+    alloc: A,
+    reader: &mut BinaryReader<'a>,
+) -> Result<Vec<&'a str, A>>
+    ensures means { MeansAs (λ list. list.items)
+        (UnlessMemory (ListOf (ReadsAs (λ text. text.now) (text_at None))))
+        (place reader.old) result (place reader.new) }
+    ensures keeps { KeepsWindow reader.old reader.new }
+{
+    let count = reader.read_var_u32()?;
+    read_each_text(alloc, reader, count)
+}
+
 // A list of texts.
 fn read_texts<'a, A: Allocator>(alloc: A, reader: &mut BinaryReader<'a>) -> Result<Vec<&'a str, A>>
     ensures gives { GivesUnlessMemory (λ list. map (λ text. text.now) list.items)
         result (place reader.new) (list_at (text_at None) (place reader.old)) }
     ensures keeps { KeepsWindow reader.old reader.new }
 {
-    let count = reader.read_var_u32()?;
-    read_each_text(alloc, reader, count)
+    read_text_list(alloc, reader)
 }
 
 // A list of what is said of exports.
