@@ -306,6 +306,42 @@ NAMES.update({0: name})
 NAMES.update(dict.fromkeys((2, 3, 10, 12, 13), indirect_map))
 
 
+def symbol_flags(rng):
+    return leb(rng, rng.choice([0, 0, 16, 64, 80, 1, 4, 513, 4096]))
+
+
+def symbol(rng):
+    kind, flags = byte(0, 1, 2, 3, 4, 5)(rng), rng.choice([0, 0, 16, 64, 80, 1, 513, 4096])
+    start = kind + leb(rng, flags)
+    if kind[0] == 1:
+        return start + name(rng) + (b"" if flags & 16 else number(rng) + number(rng) + number(rng))
+    if kind[0] == 3:
+        return start + number(rng)
+    return start + number(rng) + (name(rng) if not flags & 16 or flags & 64 else b"")
+
+
+def comdat(rng):
+    return name(rng) + number(rng) + some(rng, lambda rng: byte(0, 1, 2, 3, 4, 5)(rng) + number(rng))
+
+
+LINKING = {
+    5: lambda rng: some(rng, lambda rng: name(rng) + number(rng) + small(rng)),
+    6: lambda rng: some(rng, lambda rng: number(rng) + number(rng)),
+    7: lambda rng: some(rng, comdat),
+    8: lambda rng: some(rng, symbol),
+    9: name,
+}
+
+DYLINK = {
+    1: lambda rng: number(rng) + number(rng) + number(rng) + number(rng),
+    2: lambda rng: some(rng, name),
+    3: lambda rng: some(rng, lambda rng: name(rng) + symbol_flags(rng)),
+    4: lambda rng: some(rng, lambda rng: name(rng) + name(rng) + symbol_flags(rng)),
+    5: lambda rng: some(rng, name),
+    6: name,
+}
+
+
 def relocation(rng):
     kind = byte(*range(27))(rng)
     addend = b""
@@ -354,6 +390,10 @@ ROWS = {
     "namemap": name_map,
     "indirect": indirect_map,
     "names": lambda rng: subsections(rng, NAMES),
+    "dylink": lambda rng: subsections(rng, DYLINK),
+    "linking": lambda rng: (leb(rng, 2) if rng.random() < 0.97 else number(rng)) + subsections(rng, LINKING),
+    "symbol": symbol,
+    "comdat": comdat,
     "relocation": relocation,
     "reloc": lambda rng: number(rng) + some(rng, relocation),
     "corevalue": core_value,

@@ -12,6 +12,7 @@ ghost use Rattle.wasm_custom.specs.Names.{id_of, index_of, index_of_indirect, of
 use crate::branch_hints::{BranchHint, BranchHintFunction};
 use crate::core_dumps::{CoreDumpInstance, CoreDumpStackFrame, CoreDumpValue};
 use crate::custom::CustomSectionReader;
+use crate::linking::{Comdat, ComdatSymbol};
 use crate::names::{IndirectNameMap, IndirectNaming, Name, NameMap, NameSectionReader, Naming};
 use crate::producers::{ProducersField, ProducersFieldValue};
 use crate::relocations::{RelocAddendKind, RelocSectionReader, RelocationEntry, RelocationType};
@@ -63,6 +64,14 @@ pub fn hints_that_were_read_are_given<'a>()
         ⟦<BranchHintFunction<'a> as FromReader<'a>>⟧.meaning before (Ok (function, after)) →
         GivesAnnounced
         ⟦<SectionLimitedIntoIter<'a, BranchHint> as Iterator>⟧.next_gives function.hints }
+{}
+
+/// The symbols of a comdat that was read are the announced ones: an iterator over them gives so many, and no fault.
+pub fn symbols_that_were_read_are_given<'a>()
+    ensures { (before after : Place) (comdat : Comdat) →
+        ⟦<Comdat<'a> as FromReader<'a>>⟧.meaning before (Ok (comdat, after)) →
+        GivesAnnounced
+        ⟦<SectionLimitedIntoIter<'a, ComdatSymbol> as Iterator>⟧.next_gives comdat.symbols }
 {}
 
 /// Each of these items allows one outcome at each place, so the iterators over a section of them, and clones of these,

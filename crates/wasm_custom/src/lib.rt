@@ -5,8 +5,11 @@ mod ascending;
 mod branch_hints;
 mod core_dumps;
 mod custom;
+mod dylink;
+mod flags;
 mod known;
 pub mod laws;
+mod linking;
 mod names;
 mod producers;
 mod relocations;
@@ -19,7 +22,13 @@ pub use core_dumps::{
     CoreDumpStackFrame, CoreDumpStackSection, CoreDumpValue,
 };
 pub use custom::CustomSectionReader;
+pub use dylink::{Dylink0SectionReader, Dylink0Subsection, ExportInfo, ImportInfo, MemInfo};
+pub use flags::{SegmentFlags, SymbolFlags};
 pub use known::KnownCustom;
+pub use linking::{
+    Comdat, ComdatMap, ComdatSymbol, ComdatSymbolKind, DefinedDataSymbol, InitFunc, InitFuncMap,
+    Linking, LinkingSectionReader, Segment, SegmentMap, SymbolInfo, SymbolInfoMap,
+};
 pub use names::{IndirectNameMap, IndirectNaming, Name, NameMap, NameSectionReader, Naming};
 pub use producers::{ProducersField, ProducersFieldValue, ProducersSectionReader};
 pub use relocations::{

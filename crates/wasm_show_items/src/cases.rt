@@ -6,7 +6,9 @@ use std::alloc::{AllocError, Global};
 use std::fmt::Write;
 use std::io::{self, Read, Write as _};
 use wasm_base::{BinaryReader, Error, FromReader, FromReaderIn, WasmFeatures, fits};
-use wasm_custom::{CoreDumpInstance, CoreDumpStackFrame, CoreDumpValue, RelocationEntry};
+use wasm_custom::{
+    Comdat, CoreDumpInstance, CoreDumpStackFrame, CoreDumpValue, RelocationEntry, SymbolInfo,
+};
 use wasm_items::{
     ConstExpr, Data, Element, Export, ExternalKind, Global as GlobalItem, HeapType, Import,
     ImportSection, ImportSectionReader, Imports, MemoryType, RecGroup, RefType, Table, TagType,
@@ -94,6 +96,8 @@ fn show_case(alloc: Global, cases: &mut BinaryReader<'_>, out: &mut String) -> R
         "recgroup" => show_read_in::<RecGroup>(alloc, &mut reader, out)?,
         "flatimports" => show_flattened(reader, out)?,
         "relocation" => show_read::<RelocationEntry>(&mut reader, out)?,
+        "symbol" => show_read::<SymbolInfo<'_>>(&mut reader, out)?,
+        "comdat" => show_read::<Comdat<'_>>(&mut reader, out)?,
         "corevalue" => show_read::<CoreDumpValue>(&mut reader, out)?,
         "instance" => show_read_in::<CoreDumpInstance>(alloc, &mut reader, out)?,
         "frame" => show_read_in::<CoreDumpStackFrame>(alloc, &mut reader, out)?,

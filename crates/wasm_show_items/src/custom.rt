@@ -7,8 +7,8 @@ use wasm_base::{BinaryReader, FromReader, Result, SectionLimited};
 use wasm_custom::{
     BranchHint, BranchHintFunction, CoreDumpInstance, CoreDumpInstancesSection,
     CoreDumpModulesSection, CoreDumpSection, CoreDumpStackFrame, CoreDumpStackSection,
-    CoreDumpValue, IndirectNameMap, Name, NameMap, NameSectionReader, ProducersField,
-    ProducersFieldValue, RelocSectionReader, RelocationEntry,
+    CoreDumpValue, Dylink0SectionReader, IndirectNameMap, LinkingSectionReader, Name, NameMap,
+    NameSectionReader, ProducersField, ProducersFieldValue, RelocSectionReader, RelocationEntry,
 };
 
 /// Writes the custom section of this row, or its fault; answers whether the row is one.
@@ -24,6 +24,8 @@ pub(crate) fn show_custom(
         "namemap" => show_read(NameMap::new(reader), out)?,
         "indirect" => show_read(IndirectNameMap::new(reader), out)?,
         "names" => NameSectionReader::new(alloc, reader).show(out)?,
+        "dylink" => show_subsections(Dylink0SectionReader::new(alloc, reader), out)?,
+        "linking" => show_read(LinkingSectionReader::new(alloc, reader), out)?,
         "reloc" => show_read(RelocSectionReader::new(reader), out)?,
         "core" => show_read(CoreDumpSection::new(reader), out)?,
         "coremodules" => show_read(CoreDumpModulesSection::new(alloc, reader), out)?,
@@ -53,8 +55,11 @@ fn show_counted<'a, T: FromReader<'a> + Show>(
     }
 }
 
-// Writes a list.
-fn show_list<T: Show>(items: &[T], out: &mut String) -> std::result::Result<(), AllocError> {
+/// Writes a list.
+pub(crate) fn show_list<T: Show>(
+    items: &[T],
+    out: &mut String,
+) -> std::result::Result<(), AllocError> {
     write!(out, "[")?;
     for item in items {
         item.show(out)?;
@@ -178,8 +183,8 @@ impl Show for Name<'_> {
     }
 }
 
-// Writes a subsection that isn't known.
-fn show_unknown(
+/// Writes a subsection that isn't known.
+pub(crate) fn show_unknown(
     id: u8,
     contents: &[u8],
     range: &Range<u64>,
@@ -207,6 +212,16 @@ fn show_subsections<T: Show, I: Iterator<Item = Result<T>> + Drop>(
 impl Show for NameSectionReader<'_> {
     fn show(&self, out: &mut String) -> std::result::Result<(), AllocError> {
         show_subsections(self.clone()?, out)
+    }
+}
+
+impl Show for LinkingSectionReader<'_> {
+    fn show(&self, out: &mut String) -> std::result::Result<(), AllocError> {
+        let (version, offset) = (self.version(), self.original_position());
+        write!(out, "version {version} at {offset} ")?;
+        show_range(self.range(), out)?;
+        write!(out, " ")?;
+        show_subsections(self.subsections(), out)
     }
 }
 

@@ -3,6 +3,7 @@
 
 mod cases;
 mod custom;
+mod linking;
 mod show;
 mod types;
 

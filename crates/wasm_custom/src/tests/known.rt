@@ -17,10 +17,15 @@ fn kind_of<A: Allocator>(known: &KnownCustom<'_, A>) -> (&'static str, usize) {
         KnownCustom::Name(_) => ("name", 0),
         KnownCustom::BranchHints(functions) => ("branch hints", functions.count() as usize),
         KnownCustom::Producers(fields) => ("producers", fields.count() as usize),
+        KnownCustom::Dylink0(subsections) => (
+            "dylink",
+            usize::from(subsections.range().is_empty()),
+        ),
         KnownCustom::CoreDump(section) => ("core", section.name.len()),
         KnownCustom::CoreDumpStack(section) => ("core stack", section.frames.len()),
         KnownCustom::CoreDumpInstances(section) => ("core instances", section.instances.len()),
         KnownCustom::CoreDumpModules(section) => ("core modules", section.modules.len()),
+        KnownCustom::Linking(section) => ("linking", section.version() as usize),
         KnownCustom::Reloc(section) => ("relocations", section.entries().count() as usize),
         KnownCustom::Unknown => ("unknown", 0),
     }
@@ -28,7 +33,7 @@ fn kind_of<A: Allocator>(known: &KnownCustom<'_, A>) -> (&'static str, usize) {
 
 #[test]
 fn known_with_ample_memory(rt: HostRuntime) -> Result<(), Fail> {
-    let rows: [(&[u8], (&str, usize)); 22] = [
+    let rows: [(&[u8], (&str, usize)); 27] = [
         (b"\x0bcoremodules\x01\x00\x04test", ("core modules", 1)),
         (b"\x0bcoremodules\x01\x01", ("unknown", 0)),
         (
@@ -49,6 +54,11 @@ fn known_with_ample_memory(rt: HostRuntime) -> Result<(), Fail> {
         (b"\x04name\xff\xff", ("name", 0)),
         (b"\x04name", ("name", 0)),
         (b"\x05names\x00", ("unknown", 0)),
+        (b"\x08dylink.0\xff", ("dylink", 0)),
+        (b"\x08dylink.0", ("dylink", 1)),
+        (b"\x07linking\x82\x00\xff", ("linking", 2)),
+        (b"\x07linking\x03", ("unknown", 0)),
+        (b"\x07linking", ("unknown", 0)),
         (
             b"\x19metadata.code.branch_hint\x83\x00\xff",
             ("branch hints", 3),
