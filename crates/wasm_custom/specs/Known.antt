@@ -1,6 +1,6 @@
 -- What the data of a custom section is, by the section's name. Core specification, Appendix, Custom Sections, and the tool
 -- conventions; that data which can't be read is unknown is this project's profile.
-use Rattle.std.specs.Prelude.{◌≡◌, ◌≢◌, ℕ, Bool, true, false, List, Result, Ok, Err, codes, bytes_eq, nat_eq, if◌then◌else◌}
+use Rattle.std.specs.Prelude.{◌≡◌, ℕ, Bool, true, false, List, Result, Ok, Err, codes, bytes_eq, nat_eq, if◌then◌else◌}
 use Rattle.std.specs.List.{starts_with}
 use Rattle.wasm_base.specs.FaultAt.{FaultAt, fault_at}
 use Rattle.wasm_base.specs.Owned.{out_of_memory}
