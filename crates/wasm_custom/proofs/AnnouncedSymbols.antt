@@ -1,5 +1,5 @@
 -- The symbols of a comdat that was read, which are all that it announces.
-use Rattle.std.proofs.Common.{◌≡◌, ℕ, ◌-◌, Option, Some, None, Ok, List, ap, subst}
+use Rattle.std.proofs.Common.{◌≡◌, ℕ, ◌-◌, Option, Some, None, Ok, ap, subst}
 use Rattle.wasm_base.proofs.Announced.{in_steps, read_as, announced, after_follows}
 use Rattle.wasm_base.proofs.OwnBytes.{Own, own_nothing, own_refused, own_both, own_byte, own_number, own_passed}
 use Rattle.wasm_base.specs.Announced.{GivesAnnounced}

@@ -1,6 +1,6 @@
 -- What a dynamic linker reads. Tool conventions, Dynamic Linking, The "dylink.0" Section.
 use Rattle.std.specs.declared.ops.Range.{Range}
-use Rattle.std.specs.Prelude.{◌≡◌, ℕ, ◌==◌, List, None, Result, Ok, Err, map, if◌then◌else◌}
+use Rattle.std.specs.Prelude.{ℕ, ◌==◌, List, None, Result, Ok, Err, map, if◌then◌else◌}
 use Rattle.wasm_base.specs.FaultAt.{FaultAt}
 use Rattle.wasm_base.specs.Name.{text_at}
 use Rattle.wasm_base.specs.Number.{unsigned_at}

@@ -1,6 +1,6 @@
 -- What a linker reads. Tool conventions, Linking, Linking Metadata Section.
 use Rattle.std.specs.declared.ops.Range.{Range}
-use Rattle.std.specs.Prelude.{◌≡◌, ℕ, ◌-◌, ◌==◌, ◌||◌, not, Bool, List, Option, Some, None, Result, Ok, Err, bit_and, if◌then◌else◌}
+use Rattle.std.specs.Prelude.{ℕ, ◌-◌, ◌==◌, ◌||◌, not, Bool, List, Option, Some, None, Result, Ok, Err, bit_and, if◌then◌else◌}
 use Rattle.wasm_base.specs.FaultAt.{FaultAt}
 use Rattle.wasm_base.specs.Inner.{inner_section_at, after_reading}
 use Rattle.wasm_base.specs.Leading.{leading_byte}

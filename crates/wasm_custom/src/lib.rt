@@ -27,7 +27,7 @@ pub use flags::{SegmentFlags, SymbolFlags};
 pub use known::KnownCustom;
 pub use linking::{
     Comdat, ComdatMap, ComdatSymbol, ComdatSymbolKind, DefinedDataSymbol, InitFunc, InitFuncMap,
-    Linking, LinkingSectionReader, Segment, SegmentMap, SymbolInfo, SymbolInfoMap,
+    Linking, LinkingIntoIter, LinkingSectionReader, Segment, SegmentMap, SymbolInfo, SymbolInfoMap,
 };
 pub use names::{IndirectNameMap, IndirectNaming, Name, NameMap, NameSectionReader, Naming};
 pub use producers::{ProducersField, ProducersFieldValue, ProducersSectionReader};

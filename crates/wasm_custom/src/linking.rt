@@ -1,13 +1,14 @@
 // What a linker reads.
-ghost use Rattle.std.specs.Prelude.{⊤, ◌≡◌, Some, None};
+ghost use Rattle.std.specs.Prelude.{⊤, ◌≡◌, Some, None, length};
+ghost use Rattle.std.specs.Iterator.{at_most};
 ghost use Rattle.wasm_base.specs.Hints.{TakesNoMemory};
 ghost use Rattle.wasm_base.specs.Inner.{after_reading};
 ghost use Rattle.wasm_base.specs.Item.{ReadsAs};
 ghost use Rattle.wasm_base.specs.Outcome.{GivesBy, GivesResult};
-ghost use Rattle.wasm_base.specs.Subsections.{ReadsWindowAs};
+ghost use Rattle.wasm_base.specs.Subsections.{NextSubsection, ReadsWindowAs};
 ghost use Rattle.wasm_base.specs.Window.{place, KeepsWindow};
 ghost use Rattle.wasm_custom.specs.Flags.{symbol_bits};
-ghost use Rattle.wasm_custom.specs.Linking.{comdat_kind_of, comdat_symbol_at, symbol_name_at, text_if_any, data_place_at, linking_in};
+ghost use Rattle.wasm_custom.specs.Linking.{comdat_kind_of, comdat_symbol_at, symbol_name_at, text_if_any, data_place_at, linking_in, linking_parts, linking_subsection_in};
 
 use crate::flags::{SegmentFlags, SymbolFlags};
 use bitflags::Flags;
@@ -399,8 +400,6 @@ pub enum Linking<'a> {
 /// A count, a u32, and items that are read when they come; for the architecture a name of at most 100,000 bytes, after which
 /// nothing is looked at.
 impl<'a> Subsection<'a> for Linking<'a> {
-    ghost use Rattle.wasm_custom.specs.Linking.{linking_parts, linking_subsection_in};
-
     ghost meaning = { ReadsWindowAs linking_parts linking_subsection_in };
 
     type Memory = NoMemory;
@@ -507,11 +506,41 @@ impl<'a> LinkingSectionReader<'a> {
 impl<'a> IntoIterator for LinkingSectionReader<'a> {
     type Item = Result<Linking<'a>>;
 
-    type IntoIter = Subsections<'a, Linking<'a>>;
+    type IntoIter = LinkingIntoIter<'a>;
 
-    fn into_iter(self) -> Subsections<'a, Linking<'a>>
-        ensures { result ≡ self.entry.subsections }
-    {
-        self.subsections
+    ghost into_iter_gives = { λ section subsections. subsections ≡ section.subsections };
+
+    fn into_iter(self) -> LinkingIntoIter<'a> {
+        LinkingIntoIter {
+            subsections: self.subsections,
+        }
+    }
+}
+
+/// The subsections of a section for linkers, which come as those of `Subsections`.
+#[derive(Drop)]
+pub struct LinkingIntoIter<'a> {
+    subsections: Subsections<'a, Linking<'a>>,
+}
+
+impl<'a> Model for LinkingIntoIter<'a> {
+    ghost use Rattle.wasm_base.specs.Window.{Window};
+
+    ghost Value = { Window };
+
+    ghost view = { λ s. s.subsections };
+}
+
+impl<'a> Iterator for LinkingIntoIter<'a> {
+    ghost use Rattle.std.specs.Prelude.{false};
+
+    type Item = Result<Linking<'a>>;
+
+    ghost next_gives = { NextSubsection (ReadsWindowAs linking_parts linking_subsection_in) false };
+
+    ghost remaining = { λ subsections. at_most (length (place subsections).rest) };
+
+    fn next(&mut self) -> Option<Result<Linking<'a>>> {
+        self.subsections.next()
     }
 }
