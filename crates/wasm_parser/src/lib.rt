@@ -92,6 +92,7 @@ pub use wasm_custom::InitFunc;
 pub use wasm_custom::InitFuncMap;
 pub use wasm_custom::KnownCustom;
 pub use wasm_custom::Linking;
+pub use wasm_custom::LinkingIntoIter;
 pub use wasm_custom::LinkingSectionReader;
 pub use wasm_custom::MemInfo;
 pub use wasm_custom::Name;
