@@ -1,3 +1,4 @@
+pub mod Announced
 pub mod Comparing
 pub mod FaultAt
 pub mod Features
@@ -6,7 +7,9 @@ pub mod Found
 pub mod Groups
 pub mod Header
 pub mod Hints
+pub mod Inner
 pub mod Item
+pub mod Leading
 pub mod Limits
 pub mod Message
 pub mod Name
@@ -16,6 +19,7 @@ pub mod Owned
 pub mod Section
 pub mod Signed
 pub mod Skip
+pub mod Subsections
 pub mod TextOf
 pub mod Widths
 pub mod Window

@@ -23,3 +23,8 @@ Gives view (Err e) after outcome = outcome ≡ Err (fault_at e)
 -- value.
 abbrev pub GivesBy : {X Y : Type 0} → (X → Y) → Result X Error → (old new : Window) → (Place → Outcome Y) → Type 0
 GivesBy view result old new reading = Gives view result (place new) (reading (place old))
+
+-- What a call returned is this value, or this fault; view is what counts of the value.
+abbrev pub GivesResult : {X Y : Type 0} → (X → Y) → Result X Error → Result Y FaultAt → Type 0
+GivesResult view (Ok x) outcome = outcome ≡ Ok (view x)
+GivesResult view (Err e) outcome = outcome ≡ Err (fault_at e)

@@ -29,6 +29,11 @@ abbrev pub GivesUnlessMemory : {X Y : Type 0} → (X → Y) → Result X Error �
 GivesUnlessMemory view (Ok x) after outcome = outcome ≡ Ok (view x, after)
 GivesUnlessMemory view (Err e) after outcome = (fault_at e ≡ out_of_memory) ⊎ (outcome ≡ Err (fault_at e))
 
+-- What a call returned is this value or fault, or memory was refused; view is what counts of the value.
+abbrev pub GivesResultUnlessMemory : {X Y : Type 0} → (X → Y) → Result X Error → Result Y FaultAt → Type 0
+GivesResultUnlessMemory view (Ok x) outcome = outcome ≡ Ok (view x)
+GivesResultUnlessMemory view (Err e) outcome = (fault_at e ≡ out_of_memory) ⊎ (outcome ≡ Err (fault_at e))
+
 -- so many items, one after the other, up to the first fault
 abbrev pub InTurn : {A : Type 0} → (Place → Outcome A → Type 0) → ℕ → Place → Outcome (List A) → Type 0
 InTurn meaning zero p (Ok (items, q)) = (items ≡ []) × (q ≡ p)

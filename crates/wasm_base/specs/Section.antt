@@ -1,11 +1,11 @@
 -- Counted items in a window. Core specification, Binary format, Modules, Sections.
-use Rattle.std.specs.Prelude.{◌≡◌, ℕ, zero, suc, ◌+◌, ◌<◌, ◌≤◌, ◌⊎◌, Bool, true, false, List, [], ◌∷◌, ◌++◌, length, Option, Some, None, IfSome, Result, Ok, Err, nat_lt, if◌then◌else◌, map}
+use Rattle.std.specs.Prelude.{◌≡◌, ℕ, zero, suc, ◌+◌, ◌-◌, ◌<◌, ◌≤◌, ◌⊎◌, Bool, true, false, List, [], ◌∷◌, ◌++◌, length, Option, Some, None, IfSome, Result, Ok, Err, nat_lt, if◌then◌else◌, map}
 use Rattle.std.specs.Iterator.{Drains}
 use Rattle.wasm_base.specs.FaultAt.{FaultAt, fault_at, at_offset}
 use Rattle.wasm_base.specs.Hints.{TakesNoMemory, HintsNothing}
 use Rattle.wasm_base.specs.Item.{Alike}
 use Rattle.wasm_base.specs.Number.{unsigned_at}
-use Rattle.wasm_base.specs.Outcome.{Outcome}
+use Rattle.wasm_base.specs.Outcome.{Outcome, ◌>>=◌}
 use Rattle.wasm_base.specs.Owned.{UnlessMemory, out_of_memory}
 use Rattle.wasm_base.specs.Window.{Window, Place, place, KeepsWindow}
 use Rattle.wasm_base.specs.declared.error.Error.{Error}
@@ -21,6 +21,12 @@ pub record Section : Type 0 where
 abbrev pub ReadsSection : Place → Result Section Error → Type 0
 ReadsSection p (Ok section) = unsigned_at VarU32 p ≡ Ok (section.count, place section.reader)
 ReadsSection p (Err e) = unsigned_at VarU32 p ≡ Err (fault_at e)
+
+-- the section that is what a reader has before it: a count, a u32, and the reader after it
+unfoldable pub section_in : Window → Result Section FaultAt
+section_in w = do
+  count ← unsigned_at VarU32 (place w)
+  Ok (record { reader = record w { position = w.position + (count.1.offset - (place w).offset) }; count = count.0 })
 
 -- where an iterator over items is: so many were announced, so many are left of these, and whether it is over
 pub record Items : Type 0 where

@@ -1,6 +1,6 @@
 -- A window of the stream, and a place in it.
 use Rattle.std.specs.declared.ops.Range.{Range}
-use Rattle.std.specs.Prelude.{◌≡◌, ℕ, ◌+◌, ◌≤◌, List, length, drop}
+use Rattle.std.specs.Prelude.{◌≡◌, ℕ, ◌+◌, ◌-◌, ◌≤◌, List, length, take, drop}
 
 -- what a reader is: the bytes of its window, the offset at which they begin in the whole stream, how many of
 -- them it has passed, and the features that it takes, as bits
@@ -31,6 +31,10 @@ whole_window p = record { features = p.features; start = p.offset; bytes = p.res
 -- these bytes at this offset as a window, for a reader with these features
 abbrev pub window_over : (features offset : ℕ) → List ℕ → Window
 window_over features offset bytes = record { features = features; start = offset; bytes = bytes; position = 0 }
+
+-- the window from one place to a later one
+abbrev pub window_between : (p q : Place) → Window
+window_between p q = record { features = p.features; start = p.offset; bytes = take (q.offset - p.offset) p.rest; position = 0 }
 
 -- the offsets of a window, and of what its reader has before it
 abbrev pub range_of : Window → Range ℕ

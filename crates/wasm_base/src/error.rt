@@ -1,7 +1,9 @@
 // A fault with its place in the stream.
 ghost use Rattle.std.specs.Prelude.{◌≡◌, Some, None};
+ghost use Rattle.wasm_base.specs.FaultAt.{fault_at, hint_of};
+ghost use Rattle.wasm_base.specs.Leading.{leading_byte};
 
-use crate::fault::Fault;
+use crate::fault::{Fault, Lead};
 use std::alloc::AllocFailed;
 use std::fmt;
 
@@ -102,6 +104,14 @@ impl Error {
     {
         self.hint
     }
+}
+
+/// The error that nothing of this kind begins with this byte, which is at this offset.
+pub fn leading_byte_error(lead: Lead, byte: u8, offset: u64) -> Error
+    ensures report { fault_at result ≡ leading_byte lead byte offset }
+    ensures hint { hint_of result ≡ None }
+{
+    Error::new(Fault::LeadingByte(lead), offset).with_number(u64::from(byte))
 }
 
 impl fmt::Display for Error {

@@ -1,4 +1,4 @@
-//! What holds of whole runs of the iterators over a section, whatever its items are, how wide numbers are, and what
+//! What holds of whole runs of the iterators over a section and over subsections, whatever these are, how wide numbers are, and what
 //! comparing and copying say.
 ghost use Rattle.std.specs.Hash as hashed;
 ghost use Rattle.std.specs.Prelude.{◌≡◌};
@@ -9,7 +9,9 @@ ghost use Rattle.wasm_base.specs.Float.{bits_of_32, bits_of_64};
 ghost use Rattle.wasm_base.specs.Item.{AllowsOne, Determines};
 ghost use Rattle.wasm_base.specs.Owned.{UnlessMemory};
 ghost use Rattle.wasm_base.specs.Section.{Section, Items, AtItsOffset, GivesItems, GivesTheSame, GivesTheSameUnlessMemory, GivesEqual, all_items, item_or_fault, item_alone};
+ghost use Rattle.wasm_base.specs.Subsections.{UnlessTaken, GivesSubsections};
 ghost use Rattle.wasm_base.specs.Widths.{IsLongEnough, ChecksUnused, BoundsSum};
+ghost use Rattle.wasm_base.specs.Window.{Window};
 
 use crate::error::Error;
 use crate::fault::{CoreStart, Fault, Lead, NumberKind};
@@ -22,6 +24,7 @@ use crate::section::{
     SectionLimited, SectionLimitedIntoIter, SectionLimitedIntoIterIn,
     SectionLimitedIntoIterWithOffsets,
 };
+use crate::subsections::{Subsection, Subsections};
 use std::hash::Hash;
 
 /// Calls of `next` up to the first `None` give the items of the window, and nothing comes after that `None`. The
@@ -43,6 +46,15 @@ pub fn items_of_a_window<'a, T: FromReader<'a>>()
 pub fn owned_items_of_a_window<'a, T: FromReaderIn<'a>>()
     ensures { (s : Items) →
         GivesItems ⟦<SectionLimitedIntoIterIn<'a, T> as Iterator>⟧.next_gives (UnlessMemory T.meaning) s }
+{}
+
+/// Calls of `next` up to the first `None` give the subsections of the window, and nothing comes after that `None`. Each is
+/// what its id and its window mean, or its fault, and the others follow it, to the window's end; where an id or a size has a
+/// fault, the others are those of a later place.
+pub fn subsections_of_a_window<'a, T: Subsection<'a>>()
+    ensures { (s : Window) →
+        GivesSubsections ⟦<Subsections<'a, T> as Iterator>⟧.next_gives
+        (UnlessTaken T.meaning T.Memory.TAKES_MEMORY) s }
 {}
 
 /// Both iterators give the same items and the same fault, where the meaning of an item allows one outcome: equal
@@ -156,8 +168,8 @@ pub fn equal_errors_are_the_same()
     ensures { DecidesWhether (λ one other. fault_at one ≡ fault_at other) ⟦<Error as PartialEq>⟧.eq }
 {}
 
-/// A copy of a fault, of an error, its hint with it, of a set of features, of a float, of a reader, of a section or of an
-/// iterator over its items is the same, and can always be made: it takes no memory.
+/// A copy of a fault, of an error, its hint with it, of a set of features, of a float, of a reader, of a section, of an iterator
+/// over its items or of subsections is the same, and can always be made: it takes no memory.
 pub fn copies_are_the_same<'a, T, U: Clone>()
     ensures error { IsCopy ⟦<Error as Clone>⟧.is_clone ⟦<Error as Clone>⟧.is_infallible }
     ensures fault { IsCopy ⟦<Fault as Clone>⟧.is_clone ⟦<Fault as Clone>⟧.is_infallible }
@@ -182,4 +194,7 @@ pub fn copies_are_the_same<'a, T, U: Clone>()
     ensures items { IsCopy
         ⟦<SectionLimitedIntoIter<'a, U> as Clone>⟧.is_clone
         ⟦<SectionLimitedIntoIter<'a, U> as Clone>⟧.is_infallible }
+    ensures subsections { IsCopy
+        ⟦<Subsections<'a, T> as Clone>⟧.is_clone
+        ⟦<Subsections<'a, T> as Clone>⟧.is_infallible }
 {}

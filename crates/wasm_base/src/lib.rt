@@ -6,6 +6,7 @@ mod error;
 mod fault;
 mod features;
 mod float;
+mod inner;
 mod item;
 pub mod laws;
 mod limits;
@@ -13,13 +14,15 @@ mod number;
 mod owned;
 mod reader;
 mod section;
+mod subsections;
 #[cfg(test)]
 mod tests;
 
-pub use error::{Error, Result};
+pub use error::{Error, Result, leading_byte_error};
 pub use fault::{CoreStart, Fault, Lead, NumberKind};
 pub use features::WasmFeatures;
 pub use float::{Ieee32, Ieee64};
+pub use inner::{InnerItem, passed_since, read_inner};
 pub use item::FromReader;
 pub use limits::{
     _MAX_WASM_TABLE_SIZE, DEFAULT_WASM_PAGE_SIZE, MAX_WASM_BR_TABLE_SIZE, MAX_WASM_CATCHES,
@@ -37,3 +40,4 @@ pub use section::{
     SectionLimited, SectionLimitedIntoIter, SectionLimitedIntoIterIn,
     SectionLimitedIntoIterWithOffsets,
 };
+pub use subsections::{Memory, NoMemory, SomeMemory, Subsection, Subsections};

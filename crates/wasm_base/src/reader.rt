@@ -270,6 +270,7 @@ impl<'a> BinaryReader<'a> {
         ensures keeps { KeepsWindow self.old self.new }
         ensures hints { Hints 1 result }
         ensures memory { TakesNoMemory result }
+        ensures moves { 0 < length (place self.old).rest → self.old.position < self.new.position }
     {
         let byte = self.read_u8()?;
         if byte >= 128 {

@@ -4,8 +4,9 @@ ghost use Rattle.std.specs.Iterator.{at_most, UpTo};
 ghost use Rattle.std.specs.Iterator.SizeHint.{IsWithinCount};
 ghost use Rattle.wasm_base.specs.Hints.{TakesNoMemory, Hints};
 ghost use Rattle.wasm_base.specs.Item.{Means};
+ghost use Rattle.wasm_base.specs.Outcome.{GivesResult};
 ghost use Rattle.wasm_base.specs.Owned.{UnlessMemory};
-ghost use Rattle.wasm_base.specs.Section.{Section, ReadsSection, Items, NextItem, NextItemIn, EndsAtFault, AtItsOffset, all_items, most_items};
+ghost use Rattle.wasm_base.specs.Section.{Section, ReadsSection, section_in, Items, NextItem, NextItemIn, EndsAtFault, AtItsOffset, all_items, most_items};
 ghost use Rattle.wasm_base.specs.Window.{place, KeepsWindow, range_of};
 
 use crate::error::{Error, Result};
@@ -78,8 +79,10 @@ impl<'a, T> Clone for SectionLimited<'a, T> {
 
 impl<'a, T> SectionLimited<'a, T> {
     /// Reads the count, a u32, with the faults of `read_var_u32`. No item is looked at.
+    #[tactic(auto, unfolding(crate::specs::Section::section_in))]
     pub fn new(mut reader: BinaryReader<'a>) -> Result<Self>
         ensures gives { ReadsSection (place reader.entry) result }
+        ensures whole { GivesResult (λ section. section) result (section_in reader.entry) }
         ensures keeps { IfOk result (λ section. KeepsWindow reader.entry section.reader) }
         ensures hints { Hints 1 result }
         ensures memory { TakesNoMemory result }

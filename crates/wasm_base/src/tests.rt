@@ -5,6 +5,7 @@ mod numbers;
 mod owned;
 mod sections;
 mod skips;
+mod subsections;
 mod texts;
 
 use crate::{BinaryReader, CoreStart, Error, Fault, Lead, NumberKind, WasmFeatures, fits};

@@ -1,0 +1,4 @@
+pub mod AnnouncedHints
+pub mod AnnouncedSymbols
+pub mod Ascends
+pub mod Numbered

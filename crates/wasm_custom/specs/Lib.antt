@@ -1,1 +1,11 @@
+pub mod Ascending
+pub mod BranchHints
+pub mod CoreDumps
 pub mod Custom
+pub mod Dylink
+pub mod Flags
+pub mod Known
+pub mod Linking
+pub mod Names
+pub mod Producers
+pub mod Relocations

@@ -1,11 +1,116 @@
-//! What copying custom sections says.
-ghost use Rattle.wasm_base.specs.Comparing.{IsCopy};
+//! What comparing, hashing and copying custom sections and their items says, what holds of items that were read, and of
+//! whole runs over them.
+ghost use Rattle.std.specs.Prelude.{Ok};
+ghost use Rattle.wasm_base.specs.Announced.{GivesAnnounced};
+ghost use Rattle.wasm_base.specs.Comparing.{DecidesSame, IsCopy};
+ghost use Rattle.wasm_base.specs.Item.{AllowsOne, Determines};
+ghost use Rattle.wasm_base.specs.Window.{Place};
+ghost use Rattle.wasm_base.specs.declared.fault.Fault.TheVariants.{IndirectOrder, NameSectionOrder, NamesOrder};
+ghost use Rattle.wasm_custom.specs.Ascending.{GivesAscending};
+ghost use Rattle.wasm_custom.specs.Names.{id_of, index_of, index_of_indirect, offset_of_entry, offset_of_subsection};
 
+use crate::branch_hints::{BranchHint, BranchHintFunction};
+use crate::core_dumps::{CoreDumpInstance, CoreDumpStackFrame, CoreDumpValue};
 use crate::custom::CustomSectionReader;
+use crate::linking::{Comdat, ComdatSymbol};
+use crate::names::{IndirectNameMap, IndirectNaming, Name, NameMap, NameSectionReader, Naming};
+use crate::producers::{ProducersField, ProducersFieldValue};
+use crate::relocations::{RelocAddendKind, RelocSectionReader, RelocationEntry, RelocationType};
+use wasm_base::{FromReader, FromReaderIn, SectionLimitedIntoIter, Subsections};
 
-/// A copy of a custom section is the same, its name as a text and its window, and can always be made.
+/// Two relocations, types of relocations or kinds of addends are equal exactly if they are the same.
+pub fn equal_relocations_are_the_same()
+    ensures relocation { DecidesSame ⟦<RelocationEntry as PartialEq>⟧.eq }
+    ensures relocation_type { DecidesSame ⟦<RelocationType as PartialEq>⟧.eq }
+    ensures addend_kind { DecidesSame ⟦<RelocAddendKind as PartialEq>⟧.eq }
+{}
+
+/// A copy of a custom section or of one of its items is the same, its name as a text and its window, and can always be
+/// made: it takes no memory.
 pub fn copies_are_the_same<'a>()
-    ensures { IsCopy
+    ensures section { IsCopy
         ⟦<CustomSectionReader<'a> as Clone>⟧.is_clone
         ⟦<CustomSectionReader<'a> as Clone>⟧.is_infallible }
+    ensures function_hints { IsCopy
+        ⟦<BranchHintFunction<'a> as Clone>⟧.is_clone
+        ⟦<BranchHintFunction<'a> as Clone>⟧.is_infallible }
+    ensures hint { IsCopy ⟦<BranchHint as Clone>⟧.is_clone ⟦<BranchHint as Clone>⟧.is_infallible }
+    ensures field { IsCopy
+        ⟦<ProducersField<'a> as Clone>⟧.is_clone
+        ⟦<ProducersField<'a> as Clone>⟧.is_infallible }
+    ensures value { IsCopy
+        ⟦<ProducersFieldValue<'a> as Clone>⟧.is_clone
+        ⟦<ProducersFieldValue<'a> as Clone>⟧.is_infallible }
+    ensures core_value { IsCopy
+        ⟦<CoreDumpValue as Clone>⟧.is_clone
+        ⟦<CoreDumpValue as Clone>⟧.is_infallible }
+    ensures relocations { IsCopy
+        ⟦<RelocSectionReader<'a> as Clone>⟧.is_clone
+        ⟦<RelocSectionReader<'a> as Clone>⟧.is_infallible }
+    ensures relocation { IsCopy
+        ⟦<RelocationEntry as Clone>⟧.is_clone
+        ⟦<RelocationEntry as Clone>⟧.is_infallible }
+    ensures relocation_type { IsCopy
+        ⟦<RelocationType as Clone>⟧.is_clone
+        ⟦<RelocationType as Clone>⟧.is_infallible }
+    ensures addend_kind { IsCopy
+        ⟦<RelocAddendKind as Clone>⟧.is_clone
+        ⟦<RelocAddendKind as Clone>⟧.is_infallible }
+{}
+
+/// The hints of a function that was read are the announced ones: an iterator over them gives so many, and no fault.
+pub fn hints_that_were_read_are_given<'a>()
+    ensures { (before after : Place) (function : BranchHintFunction) →
+        ⟦<BranchHintFunction<'a> as FromReader<'a>>⟧.meaning before (Ok (function, after)) →
+        GivesAnnounced
+        ⟦<SectionLimitedIntoIter<'a, BranchHint> as Iterator>⟧.next_gives function.hints }
+{}
+
+/// The symbols of a comdat that was read are the announced ones: an iterator over them gives so many, and no fault.
+pub fn symbols_that_were_read_are_given<'a>()
+    ensures { (before after : Place) (comdat : Comdat) →
+        ⟦<Comdat<'a> as FromReader<'a>>⟧.meaning before (Ok (comdat, after)) →
+        GivesAnnounced
+        ⟦<SectionLimitedIntoIter<'a, ComdatSymbol> as Iterator>⟧.next_gives comdat.symbols }
+{}
+
+/// Each of these items allows one outcome at each place, so the iterators over a section of them, and clones of these,
+/// give the same items.
+pub fn items_allow_one_outcome<'a>()
+    ensures function_hints { AllowsOne ⟦<BranchHintFunction<'a> as FromReader<'a>>⟧.meaning }
+    ensures hint { AllowsOne ⟦<BranchHint as FromReader<'a>>⟧.meaning }
+    ensures field { AllowsOne ⟦<ProducersField<'a> as FromReader<'a>>⟧.meaning }
+    ensures value { AllowsOne ⟦<ProducersFieldValue<'a> as FromReader<'a>>⟧.meaning }
+    ensures core_value { AllowsOne ⟦<CoreDumpValue as FromReader<'a>>⟧.meaning }
+    ensures core_instance { AllowsOne ⟦<CoreDumpInstance as FromReaderIn<'a>>⟧.meaning }
+    ensures core_frame { AllowsOne ⟦<CoreDumpStackFrame as FromReaderIn<'a>>⟧.meaning }
+    ensures relocation { AllowsOne ⟦<RelocationEntry as FromReader<'a>>⟧.meaning }
+    ensures relocation_type { AllowsOne ⟦<RelocationType as FromReader<'a>>⟧.meaning }
+{}
+
+/// Each of these items is determined by its bytes, so the iterators over a section of them, and clones of these, give equal
+/// items.
+pub fn items_are_determined<'a>()
+    ensures function_hints { Determines ⟦<BranchHintFunction<'a> as FromReader<'a>>⟧.meaning }
+    ensures hint { Determines ⟦<BranchHint as FromReader<'a>>⟧.meaning }
+    ensures relocation { Determines ⟦<RelocationEntry as FromReader<'a>>⟧.meaning }
+    ensures relocation_type { Determines ⟦<RelocationType as FromReader<'a>>⟧.meaning }
+{}
+
+/// Calls of `next` up to the first `None` give exactly the names, or the subsections of names, whose index or id is above every
+/// one that was given before; each other one is the fault of the order, at its start. One with a fault of its own is that
+/// fault. What they give ascends strictly, also across faults, and nothing comes after that `None`.
+pub fn names_ascend<'a>()
+    ensures names { GivesAscending
+        ⟦<SectionLimitedIntoIter<'a, Naming<'a>> as Iterator>⟧.next_gives
+        offset_of_entry index_of NamesOrder
+        ⟦<NameMap<'a> as Iterator>⟧.next_gives }
+    ensures indirect { GivesAscending
+        ⟦<SectionLimitedIntoIter<'a, IndirectNaming<'a>> as Iterator>⟧.next_gives
+        offset_of_entry index_of_indirect IndirectOrder
+        ⟦<IndirectNameMap<'a> as Iterator>⟧.next_gives }
+    ensures subsections { GivesAscending
+        ⟦<Subsections<'a, Name<'a>> as Iterator>⟧.next_gives
+        offset_of_subsection id_of NameSectionOrder
+        ⟦<NameSectionReader<'a> as Iterator>⟧.next_gives }
 {}

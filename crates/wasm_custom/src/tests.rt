@@ -1,4 +1,11 @@
 // Custom sections on worked bytes.
+mod core_dumps;
+mod heap;
+mod hints_and_producers;
+mod known;
+mod names;
+mod relocations;
+
 use crate::CustomSectionReader;
 use std::test::Fail;
 use wasm_base::{BinaryReader, Error, Fault, WasmFeatures};

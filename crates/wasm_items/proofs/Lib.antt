@@ -1,6 +1,5 @@
 pub mod Announced
 pub mod Expressions
-pub mod Inner
 pub mod Instructions
 pub mod OwnBytes
 pub mod Same

@@ -8,7 +8,7 @@ use Rattle.wasm_base.specs.declared.fault.Fault.TheVariants.{ElementFlags, Eleme
 use Rattle.wasm_base.specs.declared.fault.NumberKind.TheVariants.{VarU32}
 use Rattle.wasm_items.specs.Externals.{kind_at}
 use Rattle.wasm_items.specs.Init.{end_of_expression, expression_at}
-use Rattle.wasm_items.specs.Inner.{inner_section_at}
+use Rattle.wasm_base.specs.Inner.{inner_section_at, after_reading}
 use Rattle.wasm_items.specs.Limits.{has_flag}
 use Rattle.wasm_items.specs.Values.{ref_type_at}
 use Rattle.wasm_items.specs.declared.elements.Element.{Element}
@@ -65,17 +65,11 @@ element_kind_passed_at p = do
 abbrev pub after_element_kind : (flags : ℕ) → Place → Outcome (Unit {0})
 after_element_kind flags p = if is_typed flags then element_kind_passed_at p else Ok (tt, p)
 
--- the place after an index
-unfoldable pub passed_index_at : Place → Outcome (Unit {0})
-passed_index_at p = do
-  index ← unsigned_at VarU32 p
-  Ok (tt, index.1)
-
 -- elements that are functions: their kind, and a list of their indices
 unfoldable pub function_elements_at : (flags : ℕ) → Place → Outcome ElementItems
 function_elements_at flags p = do
   kind ← after_element_kind flags p
-  indices ← inner_section_at passed_index_at kind.1
+  indices ← inner_section_at (after_reading (unsigned_at VarU32)) kind.1
   Ok (Functions indices.0, indices.1)
 
 -- a reference to a function, or null

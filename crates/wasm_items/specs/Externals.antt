@@ -5,7 +5,7 @@ use Rattle.wasm_base.specs.Name.{byte_at}
 use Rattle.wasm_base.specs.Outcome.{Outcome, ◌>>=◌}
 use Rattle.wasm_base.specs.Window.{Place}
 use Rattle.wasm_base.specs.declared.fault.Lead.TheVariants as Leads
-use Rattle.wasm_items.specs.Leading.{leading_byte}
+use Rattle.wasm_base.specs.Leading.{leading_byte}
 use Rattle.wasm_items.specs.declared.exports.ExternalKind.{ExternalKind}
 use Rattle.wasm_items.specs.declared.exports.ExternalKind.TheVariants.{Func, Table, Memory, Global, Tag, FuncExact}
 

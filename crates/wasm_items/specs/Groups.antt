@@ -9,7 +9,7 @@ use Rattle.wasm_base.specs.Window.{Place, advanced}
 use Rattle.wasm_base.specs.declared.fault.Fault.TheVariants.{Supertypes}
 use Rattle.wasm_base.specs.declared.fault.Lead.TheVariants as Leads
 use Rattle.wasm_base.specs.declared.fault.NumberKind.TheVariants.{VarU32}
-use Rattle.wasm_items.specs.Leading.{leading_byte}
+use Rattle.wasm_base.specs.Leading.{leading_byte}
 use Rattle.wasm_items.specs.Values.{val_type_at}
 use Rattle.wasm_items.specs.declared.types.CompositeType.{CompositeType}
 use Rattle.wasm_items.specs.declared.types.CompositeType.TheVariants.{Func, Array, Struct}

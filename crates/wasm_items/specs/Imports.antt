@@ -14,7 +14,7 @@ use Rattle.wasm_base.specs.declared.fault.Fault.TheVariants.{Compact7F, Compact7
 use Rattle.wasm_base.specs.declared.fault.NumberKind.TheVariants.{VarU32}
 use Rattle.wasm_items.specs.Externals.{kind_at}
 use Rattle.wasm_items.specs.Globals.{global_type_at}
-use Rattle.wasm_items.specs.Inner.{inner_section_at}
+use Rattle.wasm_base.specs.Inner.{inner_section_at}
 use Rattle.wasm_items.specs.Memories.{memory_type_at}
 use Rattle.wasm_items.specs.Tables.{table_type_at}
 use Rattle.wasm_items.specs.Tags.{tag_type_at}

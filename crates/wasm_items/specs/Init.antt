@@ -6,12 +6,11 @@ use Rattle.wasm_base.specs.Name.{bytes_at, byte_at}
 use Rattle.wasm_base.specs.Number.{unsigned_at}
 use Rattle.wasm_base.specs.Signed.{signed_at}
 use Rattle.wasm_base.specs.Outcome.{Outcome, ◌>>=◌}
-use Rattle.wasm_base.specs.Window.{Window, Place}
+use Rattle.wasm_base.specs.Window.{Window, Place, window_between}
 use Rattle.wasm_base.specs.declared.fault.Fault.TheVariants.{UnexpectedEof, NotConstant}
 use Rattle.wasm_base.specs.declared.fault.NumberKind.{NumberKind}
 use Rattle.wasm_base.specs.declared.fault.NumberKind.TheVariants.{VarU32, VarI32, VarI64}
 use Rattle.wasm_items.specs.Values.{heap_type_at}
-use Rattle.wasm_items.specs.Windows.{window_between}
 
 -- what an instruction has after its opcode
 pub data Operand : Type 0 where

@@ -8,8 +8,6 @@ pub mod Globals
 pub mod Groups
 pub mod Imports
 pub mod Init
-pub mod Inner
-pub mod Leading
 pub mod Left
 pub mod Limits
 pub mod Memories

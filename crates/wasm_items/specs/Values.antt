@@ -8,7 +8,7 @@ use Rattle.wasm_base.specs.Window.{Place, advanced}
 use Rattle.wasm_base.specs.declared.fault.Lead.{Lead}
 use Rattle.wasm_base.specs.declared.fault.Lead.TheVariants as Leads
 use Rattle.wasm_base.specs.declared.fault.NumberKind.TheVariants.{VarS33}
-use Rattle.wasm_items.specs.Leading.{leading_byte}
+use Rattle.wasm_base.specs.Leading.{leading_byte}
 use Rattle.wasm_items.specs.declared.types.HeapType.{HeapType}
 use Rattle.wasm_items.specs.declared.types.HeapType.TheVariants as Heaps
 use Rattle.wasm_items.specs.declared.types.RefType.{RefType}

@@ -4,17 +4,14 @@ ghost use Rattle.wasm_base.specs.Hints.{TakesNoMemory};
 ghost use Rattle.wasm_base.specs.Item.{ReadsAs};
 ghost use Rattle.wasm_base.specs.Outcome.{GivesBy};
 ghost use Rattle.wasm_base.specs.Window.{place, KeepsWindow};
-ghost use Rattle.wasm_items.specs.Elements.{element_flags_at, element_kind_at, after_element_kind, passed_index_at, function_elements_at, element_type_at, expression_elements_at, is_typed};
-ghost use Rattle.wasm_items.specs.Init.{end_of_expression};
-ghost use Rattle.wasm_items.specs.Inner.{all_passed_at, inner_section_at};
+ghost use Rattle.wasm_items.specs.Elements.{element_flags_at, element_kind_at, after_element_kind, function_elements_at, element_type_at, expression_elements_at, is_typed};
 
 use crate::exports::ExternalKind;
-use crate::init::{ConstExpr, pass_expression};
+use crate::init::ConstExpr;
 use crate::limits::has_flag;
 use crate::types::RefType;
-use crate::windows::passed_since;
 use std::ops::Range;
-use wasm_base::{BinaryReader, Error, Fault, FromReader, Result, SectionLimited};
+use wasm_base::{BinaryReader, Error, Fault, FromReader, Result, SectionLimited, read_inner};
 
 /// The element section: its segments (core specification, Binary format, Modules, Element Section).
 pub type ElementSectionReader<'a> = SectionLimited<'a, Element<'a>>;
@@ -118,71 +115,6 @@ fn pass_kind(flags: u8, reader: &mut BinaryReader<'_>) -> Result<()>
     }
 }
 
-// Passes over an index.
-#[tactic(auto, unfolding(crate::specs::Elements::passed_index_at))]
-fn pass_index(reader: &mut BinaryReader<'_>) -> Result<()>
-    ensures gives { GivesBy (λ nothing. nothing) result reader.old reader.new passed_index_at }
-    ensures keeps { KeepsWindow reader.old reader.new }
-    ensures memory { TakesNoMemory result }
-{
-    reader.read_var_u32()?;
-    Ok(())
-}
-
-// Passes over so many indices.
-fn pass_indices(count: u32, reader: &mut BinaryReader<'_>) -> Result<()>
-    ensures gives { GivesBy (λ nothing. nothing) result reader.old reader.new
-        (all_passed_at passed_index_at count) }
-    ensures keeps { KeepsWindow reader.old reader.new }
-    ensures memory { TakesNoMemory result }
-{
-    'indices: for _ in 0..count {
-        pass_index(reader)?;
-    }
-    Ok(())
-}
-
-// Passes over so many expressions.
-fn pass_expressions(count: u32, reader: &mut BinaryReader<'_>) -> Result<()>
-    ensures gives { GivesBy (λ nothing. nothing) result reader.old reader.new
-        (all_passed_at end_of_expression count) }
-    ensures keeps { KeepsWindow reader.old reader.new }
-    ensures memory { TakesNoMemory result }
-{
-    'expressions: for _ in 0..count {
-        pass_expression(reader)?;
-    }
-    Ok(())
-}
-
-// A list of indices, as a window.
-#[tactic(auto, unfolding(crate::specs::Inner::inner_section_at))]
-fn read_indices<'a>(reader: &mut BinaryReader<'a>) -> Result<SectionLimited<'a, u32>>
-    ensures gives { GivesBy (λ section. section) result reader.old reader.new
-        (inner_section_at passed_index_at) }
-    ensures keeps { KeepsWindow reader.old reader.new }
-    ensures memory { TakesNoMemory result }
-{
-    let before = reader.clone().unwrap();
-    let count = reader.read_var_u32()?;
-    pass_indices(count, reader)?;
-    SectionLimited::new(passed_since(&before, reader))
-}
-
-// A list of expressions, as a window.
-#[tactic(auto, unfolding(crate::specs::Inner::inner_section_at))]
-fn read_expressions<'a>(reader: &mut BinaryReader<'a>) -> Result<SectionLimited<'a, ConstExpr<'a>>>
-    ensures gives { GivesBy (λ section. section) result reader.old reader.new
-        (inner_section_at end_of_expression) }
-    ensures keeps { KeepsWindow reader.old reader.new }
-    ensures memory { TakesNoMemory result }
-{
-    let before = reader.clone().unwrap();
-    let count = reader.read_var_u32()?;
-    pass_expressions(count, reader)?;
-    SectionLimited::new(passed_since(&before, reader))
-}
-
 // Elements that are functions.
 #[tactic(auto, unfolding(crate::specs::Elements::function_elements_at))]
 fn read_functions<'a>(flags: u8, reader: &mut BinaryReader<'a>) -> Result<ElementItems<'a>>
@@ -191,7 +123,7 @@ fn read_functions<'a>(flags: u8, reader: &mut BinaryReader<'a>) -> Result<Elemen
     ensures memory { TakesNoMemory result }
 {
     pass_kind(flags, reader)?;
-    Ok(ElementItems::Functions(read_indices(reader)?))
+    Ok(ElementItems::Functions(read_inner(reader)?))
 }
 
 // The type of the elements, where it is written.
@@ -215,7 +147,7 @@ fn read_typed<'a>(flags: u8, reader: &mut BinaryReader<'a>) -> Result<ElementIte
     ensures memory { TakesNoMemory result }
 {
     let ty = read_type(flags, reader)?;
-    Ok(ElementItems::Expressions(ty, read_expressions(reader)?))
+    Ok(ElementItems::Expressions(ty, read_inner(reader)?))
 }
 
 /// Flags, a u32 below 8; a table's index and the expression of an offset, as the flags say; the kind or the type of the

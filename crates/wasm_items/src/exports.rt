@@ -2,8 +2,9 @@
 ghost use Rattle.std.specs.Prelude.{◌≡◌};
 ghost use Rattle.wasm_base.specs.Item.{ReadsAs};
 
-use crate::leading::leading_byte_error;
-use wasm_base::{BinaryReader, Error, Fault, FromReader, Lead, Result, SectionLimited};
+use wasm_base::{
+    BinaryReader, Error, Fault, FromReader, Lead, Result, SectionLimited, leading_byte_error,
+};
 
 /// The export section: its exports (core specification, Binary format, Modules, Export Section).
 pub type ExportSectionReader<'a> = SectionLimited<'a, Export<'a>>;

@@ -8,11 +8,11 @@ ghost use Rattle.wasm_base.specs.Window.{place, KeepsWindow};
 ghost use Rattle.wasm_items.specs.Groups.{mutability_at, field_type_at, supertypes_at, subtype_parts, subtype_at, extending_at};
 ghost use Rattle.wasm_items.specs.Values.{val_type_at};
 
-use crate::leading::leading_byte_error;
 use crate::types::{CompositeType, FieldType, FuncType, RecGroup, StorageType, SubType, ValType};
 use std::alloc::Global;
 use wasm_base::{
-    BinaryReader, Error, Fault, FromReader, FromReaderIn, Lead, Result, read_list, read_list_in,
+    BinaryReader, Error, Fault, FromReader, FromReaderIn, Lead, Result, leading_byte_error,
+    read_list, read_list_in,
 };
 
 /// A byte for 8 or 16 bits, or a value type, with the faults of that.

@@ -4,15 +4,15 @@ ghost use Rattle.wasm_base.specs.Hints.{TakesNoMemory};
 ghost use Rattle.wasm_base.specs.Item.{ReadsAs};
 ghost use Rattle.wasm_base.specs.Outcome.{GivesBy};
 ghost use Rattle.wasm_base.specs.Window.{place, KeepsWindow};
-ghost use Rattle.wasm_items.specs.Imports.{form_of, passed_item_at, group_parts, has_groups, module_group_at, type_group_at};
-ghost use Rattle.wasm_items.specs.Inner.{all_passed_at, inner_section_at};
-ghost use Rattle.wasm_base.specs.Skip.{skipped_name_at};
+ghost use Rattle.wasm_items.specs.Imports.{form_of, group_parts, has_groups, module_group_at, type_group_at};
 
 use crate::exports::ExternalKind;
 use crate::types::{GlobalType, MemoryType, TableType, TagType};
-use crate::windows::passed_since;
 use bitflags::Flags;
-use wasm_base::{BinaryReader, Error, Fault, FromReader, Result, SectionLimited, WasmFeatures};
+use wasm_base::{
+    BinaryReader, Error, Fault, FromReader, InnerItem, Result, SectionLimited, WasmFeatures,
+    read_inner,
+};
 
 /// The import section: its imports and groups of imports (core specification, Binary format, Modules, Import Section).
 pub type ImportSectionReader<'a> = SectionLimited<'a, Imports<'a>>;
@@ -128,6 +128,20 @@ impl<'a> FromReader<'a> for ImportItemCompact<'a> {
     }
 }
 
+/// Its name is passed over whether or not it is UTF-8, which is seen when it is read.
+impl<'a> InnerItem<'a> for ImportItemCompact<'a> {
+    ghost use Rattle.wasm_items.specs.Imports.{passed_item_at};
+
+    ghost passed_at = { passed_item_at };
+
+    #[tactic(auto, unfolding(crate::specs::Imports::passed_item_at))]
+    fn pass_over(reader: &mut BinaryReader<'a>) -> Result<()> {
+        reader.skip_string()?;
+        TypeRef::from_reader(reader)?;
+        Ok(())
+    }
+}
+
 // How an item of an import section goes on after its two names.
 #[derive(Clone, Copy)]
 enum Form {
@@ -156,72 +170,6 @@ fn has_groups(reader: &BinaryReader<'_>) -> bool
     reader.features().contains(WasmFeatures::COMPACT_IMPORTS)
 }
 
-// Passes over an import of a group, whose name is not looked at.
-#[tactic(auto, unfolding(crate::specs::Imports::passed_item_at))]
-fn pass_item(reader: &mut BinaryReader<'_>) -> Result<()>
-    ensures gives { GivesBy (λ nothing. nothing) result reader.old reader.new passed_item_at }
-    ensures keeps { KeepsWindow reader.old reader.new }
-    ensures memory { TakesNoMemory result }
-{
-    reader.skip_string()?;
-    TypeRef::from_reader(reader)?;
-    Ok(())
-}
-
-fn pass_items(count: u32, reader: &mut BinaryReader<'_>) -> Result<()>
-    ensures gives { GivesBy (λ nothing. nothing) result reader.old reader.new
-        (all_passed_at passed_item_at count) }
-    ensures keeps { KeepsWindow reader.old reader.new }
-    ensures memory { TakesNoMemory result }
-{
-    'items: for _ in 0..count {
-        pass_item(reader)?;
-    }
-    Ok(())
-}
-
-fn pass_names(count: u32, reader: &mut BinaryReader<'_>) -> Result<()>
-    ensures gives { GivesBy (λ nothing. nothing) result reader.old reader.new
-        (all_passed_at skipped_name_at count) }
-    ensures keeps { KeepsWindow reader.old reader.new }
-    ensures memory { TakesNoMemory result }
-{
-    'names: for _ in 0..count {
-        reader.skip_string()?;
-    }
-    Ok(())
-}
-
-// A count and so many imports of a group.
-#[tactic(auto, unfolding(crate::specs::Inner::inner_section_at))]
-fn read_items<'a>(
-    reader: &mut BinaryReader<'a>,
-) -> Result<SectionLimited<'a, ImportItemCompact<'a>>>
-    ensures gives { GivesBy (λ section. section) result reader.old reader.new
-        (inner_section_at passed_item_at) }
-    ensures keeps { KeepsWindow reader.old reader.new }
-    ensures memory { TakesNoMemory result }
-{
-    let before = reader.clone().unwrap();
-    let count = reader.read_var_u32()?;
-    pass_items(count, reader)?;
-    SectionLimited::new(passed_since(&before, reader))
-}
-
-// A count and so many names.
-#[tactic(auto, unfolding(crate::specs::Inner::inner_section_at))]
-fn read_names<'a>(reader: &mut BinaryReader<'a>) -> Result<SectionLimited<'a, &'a str>>
-    ensures gives { GivesBy (λ section. section) result reader.old reader.new
-        (inner_section_at skipped_name_at) }
-    ensures keeps { KeepsWindow reader.old reader.new }
-    ensures memory { TakesNoMemory result }
-{
-    let before = reader.clone().unwrap();
-    let count = reader.read_var_u32()?;
-    pass_names(count, reader)?;
-    SectionLimited::new(passed_since(&before, reader))
-}
-
 // Imports of one module, after the byte of such a group.
 #[tactic(auto, unfolding(crate::specs::Imports::module_group_at))]
 fn read_module_group<'a>(module: &'a str, reader: &mut BinaryReader<'a>) -> Result<Imports<'a>>
@@ -229,7 +177,7 @@ fn read_module_group<'a>(module: &'a str, reader: &mut BinaryReader<'a>) -> Resu
     ensures keeps { KeepsWindow reader.old reader.new }
     ensures memory { TakesNoMemory result }
 {
-    let items = read_items(reader)?;
+    let items = read_inner(reader)?;
     Ok(Imports::Compact1 { module, items })
 }
 
@@ -241,7 +189,7 @@ fn read_type_group<'a>(module: &'a str, reader: &mut BinaryReader<'a>) -> Result
     ensures memory { TakesNoMemory result }
 {
     let ty = reader.read()?;
-    let names = read_names(reader)?;
+    let names = read_inner(reader)?;
     Ok(Imports::Compact2 { module, ty, names })
 }
 

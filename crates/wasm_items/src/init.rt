@@ -7,9 +7,8 @@ ghost use Rattle.wasm_base.specs.Window.{place, KeepsWindow, range_of};
 ghost use Rattle.wasm_items.specs.Init.{after_opcode, aggregate_operands_of, vector_operands_of, numbered_operands_at, end_of_expression};
 
 use crate::types::HeapType;
-use crate::windows::passed_since;
 use std::ops::Range;
-use wasm_base::{BinaryReader, Error, Fault, FromReader, Result};
+use wasm_base::{BinaryReader, Error, Fault, FromReader, InnerItem, Result, passed_since};
 
 /// The window of a constant expression, its end instruction included (core specification, Binary format, Instructions,
 /// Expressions).
@@ -113,7 +112,7 @@ fn pass_vector_operands(start: u64, reader: &mut BinaryReader<'_>) -> Result<()>
 }
 
 /// Passes over instructions up to the end, which is passed too.
-pub(crate) fn pass_expression(reader: &mut BinaryReader<'_>) -> Result<()>
+fn pass_expression(reader: &mut BinaryReader<'_>) -> Result<()>
     ensures gives { GivesBy (λ nothing. nothing) result reader.old reader.new end_of_expression }
     ensures keeps { KeepsWindow reader.old reader.new }
     ensures memory { TakesNoMemory result }
@@ -140,5 +139,13 @@ impl<'a> FromReader<'a> for ConstExpr<'a> {
         let before = reader.clone().unwrap();
         pass_expression(reader)?;
         Ok(ConstExpr::new(passed_since(&before, reader)))
+    }
+}
+
+impl<'a> InnerItem<'a> for ConstExpr<'a> {
+    ghost passed_at = { end_of_expression };
+
+    fn pass_over(reader: &mut BinaryReader<'a>) -> Result<()> {
+        pass_expression(reader)
     }
 }

@@ -13,7 +13,6 @@ mod groups;
 mod imports;
 mod init;
 pub mod laws;
-mod leading;
 mod limits;
 mod memories;
 mod tables;
@@ -22,7 +21,6 @@ mod tags;
 mod tests;
 mod types;
 mod values;
-mod windows;
 
 pub use code::FunctionBody;
 pub use data::{Data, DataKind, DataSectionReader};

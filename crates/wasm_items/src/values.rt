@@ -6,9 +6,8 @@ ghost use Rattle.wasm_base.specs.Outcome.{GivesBy};
 ghost use Rattle.wasm_base.specs.Window.{place, KeepsWindow};
 ghost use Rattle.wasm_items.specs.Values.{abstract_heap_of, plain_type_of, ref_type_in};
 
-use crate::leading::leading_byte_error;
 use crate::types::{HeapType, RefType, ValType};
-use wasm_base::{BinaryReader, FromReader, Lead, Result};
+use wasm_base::{BinaryReader, FromReader, Lead, Result, leading_byte_error};
 
 // The abstract heap type that a byte is.
 fn abstract_heap(byte: u8) -> Option<HeapType>

@@ -1,0 +1,65 @@
+-- Subsections of a window. Tool conventions, Linking, Linking Metadata Section; core specification, Appendix, Custom
+-- Sections, Name Section, Subsections.
+use Rattle.std.specs.Prelude.{◌≡◌, ℕ, ◌<◌, ◌≤◌, ◌⊎◌, Bool, false, IsTrue, List, [], ◌∷◌, length, Option, Some, None, Result, Ok, Err, map}
+use Rattle.std.specs.Iterator.{Drains}
+use Rattle.wasm_base.specs.FaultAt.{FaultAt}
+use Rattle.wasm_base.specs.Hints.{TakesNoMemory}
+use Rattle.wasm_base.specs.Name.{u7_at, window_at}
+use Rattle.wasm_base.specs.Outcome.{Outcome, ◌>>=◌}
+use Rattle.wasm_base.specs.Owned.{out_of_memory}
+use Rattle.wasm_base.specs.Section.{item_or_fault}
+use Rattle.wasm_base.specs.Window.{Window, Place, place, advanced, KeepsWindow}
+use Rattle.wasm_base.specs.declared.error.Error.{Error}
+
+-- the id of a subsection and its window: a byte below 128, a size, and so many bytes
+unfoldable pub subsection_at : Place → Outcome (ℕ × Window)
+subsection_at p = do
+  id ← u7_at p
+  window ← window_at id.1
+  Ok ((id.0, window.0), window.1)
+
+-- What is said of a subsection is what its id and its window mean, or a want of memory where it takes memory.
+abbrev pub UnlessTaken : {T : Type 0} → (ℕ → Window → Result T FaultAt → Type 0) → Bool → ℕ → Window → Result T FaultAt → Type 0
+UnlessTaken meaning takes id window (Ok x) = meaning id window (Ok x)
+UnlessTaken meaning takes id window (Err e) = meaning id window (Err e) ⊎ (IsTrue takes × (e ≡ out_of_memory))
+
+-- What a call returned for a subsection of this id is what its window means.
+abbrev pub MeansSubsection : {T : Type 0} → (ℕ → Window → Result T FaultAt → Type 0) → Bool → ℕ → Window → Result T Error → Type 0
+MeansSubsection meaning takes id window result = UnlessTaken meaning takes id window (item_or_fault result)
+
+-- The subsection that was read means this, and its reader is after it; or its id or size has this fault.
+abbrev pub ReadsSubsection : {T : Type 0} → (ℕ → Window → Result T FaultAt → Type 0) → Bool → Outcome (ℕ × Window) → Result T Error → Place → Type 0
+ReadsSubsection meaning takes (Ok head) given after = MeansSubsection meaning takes head.0.0 head.0.1 given × (after ≡ head.1)
+ReadsSubsection meaning takes (Err fault) given after = item_or_fault given ≡ Err fault
+
+-- one call of `next`: a subsection for as long as bytes are left, and each takes one of them at least; no want of memory where
+-- no subsection takes any
+abbrev pub NextSubsection : {T : Type 0} → (ℕ → Window → Result T FaultAt → Type 0) → Bool → Window → Option (Result T Error) → Window → Type 0
+NextSubsection meaning takes s None t = (length (place s).rest ≡ 0) × (t ≡ s)
+NextSubsection meaning takes s (Some given) t = ReadsSubsection meaning takes (subsection_at (place s)) given (place t) × KeepsWindow s t × (s.position < t.position) × (0 < length (place s).rest) × (takes ≡ false → TakesNoMemory given)
+
+-- What comes first of the subsections of a window: what the first one means, and the others are those after it. After the
+-- fault of an id or a size the others are those of a later place, whichever it is.
+abbrev pub FirstSubsection : {T : Type 0} → (ℕ → Window → Result T FaultAt → Type 0) → Place → Outcome (ℕ × Window) → Result T FaultAt → (Place → Type 0) → Type 0
+FirstSubsection meaning p (Ok head) given Others = meaning head.0.0 head.0.1 given × Others head.1
+FirstSubsection meaning p (Err fault) given Others = (given ≡ Err fault) × ((taken : ℕ) × (0 < taken) × Others (advanced taken p))
+
+-- The subsections that a window has from a place on, one after the other to the end.
+abbrev pub SubsectionsOf : {T : Type 0} → (ℕ → Window → Result T FaultAt → Type 0) → Place → List (Result T FaultAt) → Type 0
+SubsectionsOf meaning p [] = length p.rest ≡ 0
+SubsectionsOf meaning p (x ∷ given) = (0 < length p.rest) × FirstSubsection meaning p (subsection_at p) x (λ q. SubsectionsOf meaning q given)
+
+-- What calls of `next` give from here up to the first `None`, by a relation that each call meets: the subsections of the
+-- window, at most as many as bytes are left. After that `None` nothing comes any more.
+pub record GivesSubsections {T : Type 0} (next : Window → Option (Result T Error) → Window → Type 0) (meaning : ℕ → Window → Result T FaultAt → Type 0) (s : Window) : Type 0 where
+  pub subsections : (given : List (Result T Error)) → Drains next s given → SubsectionsOf meaning (place s) (map item_or_fault given)
+  pub at_most : (given : List (Result T Error)) → Drains next s given → length given ≤ length (place s).rest
+  pub after : (t u : Window) (given : Option (Result T Error)) → next s None t → next t given u → given ≡ None
+
+-- The one thing that a subsection's id and window are read as, where view is what counts of a value.
+abbrev pub result_map : {X Y : Type 0} → (X → Y) → Result X FaultAt → Result Y FaultAt
+result_map view (Ok x) = Ok (view x)
+result_map view (Err e) = Err e
+
+abbrev pub ReadsWindowAs : {X Y : Type 0} → (X → Y) → (ℕ → Window → Result Y FaultAt) → ℕ → Window → Result X FaultAt → Type 0
+ReadsWindowAs view reading id window outcome = reading id window ≡ result_map view outcome

@@ -1,0 +1,172 @@
+// Subsections of a window.
+ghost use Rattle.std.specs.Prelude.{⊤, ◌≡◌, ◌<◌, ℕ, Bool, false, Result, length};
+ghost use Rattle.std.specs.Iterator.{at_most};
+ghost use Rattle.wasm_base.specs.FaultAt.{FaultAt};
+ghost use Rattle.wasm_base.specs.Hints.{TakesNoMemory};
+ghost use Rattle.wasm_base.specs.Subsections.{MeansSubsection, ReadsSubsection, NextSubsection, subsection_at};
+ghost use Rattle.wasm_base.specs.Window.{Window, place, KeepsWindow, range_of};
+
+use crate::error::Result;
+use crate::reader::BinaryReader;
+use std::alloc::{AllocError, Global};
+use std::fmt;
+use std::marker::{Model, PhantomData};
+use std::ops::Range;
+
+/// Whether reading may ask for memory. Where it doesn't, no call answers `OutOfMemory`.
+pub trait Memory {
+    ghost TAKES_MEMORY: { Bool };
+
+    /// Whether it may.
+    const TAKES_MEMORY: bool;
+}
+
+/// Reading asks for no memory.
+pub struct NoMemory;
+
+impl Memory for NoMemory {
+    ghost use Rattle.std.specs.Prelude.{false};
+
+    ghost TAKES_MEMORY = { false };
+
+    const TAKES_MEMORY: bool = false;
+}
+
+/// Reading may ask for memory.
+pub struct SomeMemory;
+
+impl Memory for SomeMemory {
+    ghost use Rattle.std.specs.Prelude.{true};
+
+    ghost TAKES_MEMORY = { true };
+
+    const TAKES_MEMORY: bool = true;
+}
+
+/// What the subsections of a window can be read as.
+///
+/// A type has a meaning, and its `from_reader` keeps to it: that is all that `Subsections` asks of it.
+pub trait Subsection<'a>: Sized + Drop {
+    /// What a subsection with this id and this window may come to: a value, or a fault.
+    ghost meaning: { ℕ → Window → Result Self FaultAt → Type 0 };
+
+    /// Whether reading may ask for memory: `NoMemory` or `SomeMemory`.
+    type Memory: Memory;
+
+    /// Reads the subsection with this id, which is the reader's window.
+    ///
+    /// `OutOfMemory`, at offset 0, where a growth is refused.
+    fn from_reader(alloc: Global, id: u8, reader: BinaryReader<'a>) -> Result<Self>
+        ensures means { MeansSubsection meaning Self.Memory.TAKES_MEMORY id reader.entry result }
+        ensures memory { Self.Memory.TAKES_MEMORY ≡ false → TakesNoMemory result };
+}
+
+/// The subsections of a window: each is an id, a byte below 128, a size, a u32, and so many bytes.
+///
+/// They come one after the other, each read as a `T`, up to the window's end. After a subsection's own fault, `OutOfMemory`
+/// among them, the next one comes. An id or a size can have a fault too, `InvalidU7` at the id or that of `read_reader`;
+/// each call takes at least one byte, so the subsections always end. Offsets count bytes from the start of the whole
+/// stream.
+pub struct Subsections<'a, T> {
+    alloc: Global,
+    reader: BinaryReader<'a>,
+    subsection: PhantomData<T>,
+}
+
+impl<'a, T> Model for Subsections<'a, T> {
+    ghost use Rattle.wasm_base.specs.Window.{Window};
+
+    ghost Value = { Window };
+
+    ghost view = { λ s. s.reader };
+}
+
+// By hand, so that nothing is asked of `T`.
+impl<'a, T> Drop for Subsections<'a, T> {
+    fn drop(self) {
+        let Subsections {
+            alloc: _,
+            reader: _,
+            subsection: _,
+        } = self;
+    }
+}
+
+impl<'a, T> fmt::Debug for Subsections<'a, T> {
+    fn fmt<W: fmt::Write>(&self, f: &mut fmt::Formatter<W>) -> fmt::Result {
+        f.debug_struct("Subsections")
+            .field("range", &self.range())
+            .finish()
+    }
+}
+
+impl<'a, T> Clone for Subsections<'a, T> {
+    ghost is_clone = { λ subsections copy. copy ≡ subsections };
+
+    ghost is_infallible = { λ _. ⊤ };
+
+    fn clone(&self) -> std::result::Result<Self, AllocError> {
+        Ok(Subsections {
+            alloc: self.alloc,
+            reader: self.reader.clone()?,
+            subsection: PhantomData,
+        })
+    }
+}
+
+impl<'a, T> Subsections<'a, T> {
+    /// The subsections of what is left of a reader's window. Those that take memory have it from this allocator.
+    pub fn new(alloc: Global, reader: BinaryReader<'a>) -> Self
+        ensures { result ≡ reader.entry }
+    {
+        Subsections {
+            alloc,
+            reader,
+            subsection: PhantomData,
+        }
+    }
+
+    /// The offset where the next subsection begins, in the whole stream.
+    pub fn original_position(&self) -> u64
+        ensures { result ≡ (place self.now).offset }
+    {
+        self.reader.original_position()
+    }
+
+    /// The offsets of the whole window.
+    pub fn range(&self) -> Range<u64>
+        ensures { result ≡ range_of self.now }
+    {
+        self.reader.range()
+    }
+}
+
+// Reads the subsection that comes next.
+#[tactic(auto, unfolding(crate::specs::Subsections::subsection_at))]
+fn read_subsection<'a, T: Subsection<'a>>(alloc: Global, reader: &mut BinaryReader<'a>) -> Result<T>
+    requires { 0 < length (place reader.old).rest }
+    ensures reads { ReadsSubsection T.meaning T.Memory.TAKES_MEMORY (subsection_at (place reader.old)) result
+        (place reader.new) }
+    ensures keeps { KeepsWindow reader.old reader.new }
+    ensures moves { reader.old.position < reader.new.position }
+    ensures memory { T.Memory.TAKES_MEMORY ≡ false → TakesNoMemory result }
+{
+    let id = reader.read_u7()?;
+    let window = reader.read_reader()?;
+    T::from_reader(alloc, id, window)
+}
+
+impl<'a, T: Subsection<'a>> Iterator for Subsections<'a, T> {
+    type Item = Result<T>;
+
+    ghost next_gives = { NextSubsection T.meaning T.Memory.TAKES_MEMORY };
+
+    ghost remaining = { λ subsections. at_most (length (place subsections).rest) };
+
+    fn next(&mut self) -> Option<Result<T>> {
+        if self.reader.eof() {
+            return None;
+        }
+        Some(read_subsection(self.alloc, &mut self.reader))
+    }
+}

@@ -1,0 +1,120 @@
+-- What the data of a custom section is, by the section's name. Core specification, Appendix, Custom Sections, and the tool
+-- conventions; that data which can't be read is unknown is this project's profile.
+use Rattle.std.specs.Prelude.{◌≡◌, ℕ, Bool, true, false, List, Result, Ok, Err, codes, bytes_eq, nat_eq, if◌then◌else◌}
+use Rattle.std.specs.List.{starts_with}
+use Rattle.wasm_base.specs.FaultAt.{FaultAt, fault_at}
+use Rattle.wasm_base.specs.Owned.{out_of_memory}
+use Rattle.wasm_base.specs.Section.{Section, section_in}
+use Rattle.wasm_base.specs.Window.{Window, place, whole_window}
+use Rattle.wasm_base.specs.declared.error.Error.{Error}
+use Rattle.wasm_custom.specs.Ascending.{Ascending, none_given}
+use Rattle.wasm_custom.specs.CoreDumps.{InstanceParts, StackParts, name_section_in, modules_parts, modules_in, instances_parts, instances_in, stack_parts, stack_in}
+use Rattle.wasm_custom.specs.Custom.{Custom}
+use Rattle.wasm_custom.specs.Linking.{LinkingSection, linking_in}
+use Rattle.wasm_custom.specs.Relocations.{reloc_section_in}
+use Rattle.wasm_custom.specs.declared.known.KnownCustom.{KnownCustom}
+use Rattle.wasm_custom.specs.declared.known.KnownCustom.TheVariants as Knowns
+use Rattle.wasm_custom.specs.declared.known.SectionName.{SectionName}
+use Rattle.wasm_custom.specs.declared.known.SectionName.TheVariants as Sections
+use Rattle.wasm_custom.specs.declared.relocations.RelocSectionReader.{RelocSectionReader}
+
+-- what a section is, with the bytes of its texts
+pub data Known : Type 0 where
+  names : Ascending Window → Known
+  branch_hints : Section → Known
+  producers : Section → Known
+  dynamic_linking : Window → Known
+  core_dump : (name : List ℕ) → Known
+  core_modules : List (List ℕ) → Known
+  core_instances : List InstanceParts → Known
+  core_stack : StackParts → Known
+  linking : LinkingSection → Known
+  relocations : RelocSectionReader → Known
+  unknown : Known
+
+abbrev pub known_parts : {A : Type 0} → KnownCustom A → Known
+known_parts (Knowns.Name reader) = names reader
+known_parts (Knowns.BranchHints functions) = branch_hints functions
+known_parts (Knowns.Producers fields) = producers fields
+known_parts (Knowns.Dylink0 subsections) = dynamic_linking subsections
+known_parts (Knowns.CoreDump section) = core_dump section.name.now
+known_parts (Knowns.CoreDumpStack section) = core_stack (stack_parts section)
+known_parts (Knowns.CoreDumpInstances section) = core_instances (instances_parts section)
+known_parts (Knowns.CoreDumpModules section) = core_modules (modules_parts section)
+known_parts (Knowns.Linking section) = linking section
+known_parts (Knowns.Reloc section) = relocations section
+known_parts Knowns.Unknown = unknown
+
+-- which known section has a name
+abbrev pub section_named : List ℕ → SectionName
+section_named name =
+    if bytes_eq name (codes "name") then Sections.Name
+    else if bytes_eq name (codes "metadata.code.branch_hint") then Sections.BranchHints
+    else if bytes_eq name (codes "producers") then Sections.Producers
+    else if bytes_eq name (codes "dylink.0") then Sections.Dylink0
+    else if bytes_eq name (codes "core") then Sections.CoreDump
+    else if bytes_eq name (codes "coremodules") then Sections.CoreModules
+    else if bytes_eq name (codes "coreinstances") then Sections.CoreInstances
+    else if bytes_eq name (codes "corestack") then Sections.CoreStack
+    else if bytes_eq name (codes "linking") then Sections.Linking
+    else if starts_with nat_eq name (codes "reloc.") then Sections.Reloc
+    else Sections.Other
+
+-- data that was read as something, or else is unknown
+abbrev pub or_unknown : {X : Type 0} → (X → Known) → Result X FaultAt → Known
+or_unknown known_as (Ok x) = known_as x
+or_unknown known_as (Err e) = unknown
+
+abbrev pub branch_hints_in : Window → Known
+branch_hints_in w = or_unknown branch_hints (section_in w)
+
+abbrev pub producers_in : Window → Known
+producers_in w = or_unknown producers (section_in w)
+
+abbrev pub core_dump_in : Window → Known
+core_dump_in w = or_unknown core_dump (name_section_in (place w))
+
+abbrev pub core_modules_in : Window → Known
+core_modules_in w = or_unknown core_modules (modules_in (place w))
+
+abbrev pub core_instances_in : Window → Known
+core_instances_in w = or_unknown core_instances (instances_in (place w))
+
+abbrev pub core_stack_in : Window → Known
+core_stack_in w = or_unknown core_stack (stack_in (place w))
+
+abbrev pub linking_section_in : Window → Known
+linking_section_in w = or_unknown linking (linking_in w)
+
+abbrev pub relocations_in : Window → Known
+relocations_in w = or_unknown relocations (reloc_section_in w)
+
+-- what a window is as the data of a section
+abbrev pub known_in : SectionName → Window → Known
+known_in Sections.Name w = names (none_given w)
+known_in Sections.BranchHints w = branch_hints_in w
+known_in Sections.Producers w = producers_in w
+known_in Sections.Dylink0 w = dynamic_linking w
+known_in Sections.CoreDump w = core_dump_in w
+known_in Sections.CoreModules w = core_modules_in w
+known_in Sections.CoreInstances w = core_instances_in w
+known_in Sections.CoreStack w = core_stack_in w
+known_in Sections.Linking w = linking_section_in w
+known_in Sections.Reloc w = relocations_in w
+known_in Sections.Other w = unknown
+
+-- what a custom section is: its data, read as its name says
+abbrev pub known_of : Custom → Known
+known_of section = known_in (section_named section.name) (whole_window (place section.reader))
+
+-- whether reading a section may ask for memory: the lists of core dumps are owned
+abbrev pub owns_lists : SectionName → Bool
+owns_lists Sections.CoreModules = true
+owns_lists Sections.CoreInstances = true
+owns_lists Sections.CoreStack = true
+owns_lists _ = false
+
+-- What a call returned is what the section is, or memory was refused.
+abbrev pub KnowsUnlessMemory : {A : Type 0} → Result (KnownCustom A) Error → Known → Type 0
+KnowsUnlessMemory (Ok known) section = known_parts known ≡ section
+KnowsUnlessMemory (Err e) section = fault_at e ≡ out_of_memory

@@ -1,0 +1,37 @@
+// Entries whose indices ascend.
+ghost use Rattle.std.specs.Prelude.{◌≡◌, false};
+ghost use Rattle.wasm_base.specs.Hints.{TakesNoMemory, is_want_of_memory};
+ghost use Rattle.wasm_custom.specs.Ascending.{InOrder, is_above};
+
+use wasm_base::{Error, Fault, Result};
+
+// Whether an index is above the last one that was given, if one was.
+fn is_above(last: Option<u32>, index: u32) -> bool
+    ensures { result ≡ is_above last index }
+{
+    match last {
+        Some(last) => last < index,
+        None => true,
+    }
+}
+
+/// Gives an entry that was read, if its index is above the last one that was given, and notes it. Otherwise this fault is at
+/// the entry's start.
+pub(crate) fn in_order<T: Drop>(
+    last: &mut Option<u32>,
+    index: u32,
+    entry: T,
+    fault: Fault,
+    start: u64,
+) -> Result<T>
+    requires { is_want_of_memory fault ≡ false }
+    ensures order { InOrder last.old index fault start entry result last.new }
+    ensures memory { TakesNoMemory result }
+{
+    if is_above(*last, index) {
+        *last = Some(index);
+        Ok(entry)
+    } else {
+        Err(Error::new(fault, start))
+    }
+}

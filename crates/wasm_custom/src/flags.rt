@@ -1,0 +1,176 @@
+// Flags of symbols and of segments.
+ghost use Rattle.std.specs.Prelude.{⊤, [], ◌∷◌, codes};
+ghost use Rattle.wasm_base.specs.Item.{ReadsAs};
+ghost use Rattle.wasm_base.specs.Number.{unsigned_at};
+ghost use Rattle.wasm_base.specs.declared.fault.NumberKind.TheVariants.{VarU32};
+
+use bitflags::{Flag, Flags};
+use wasm_base::{BinaryReader, FromReader, Result};
+
+/// What is said of a symbol, a bit each (tool conventions, Linking, Symbol Table Subsection). Other bits are kept.
+#[derive(Clone, Copy, Debug, PartialEq, Eq, Hash, Default, PartialOrd, Ord)]
+pub struct SymbolFlags(u32);
+
+impl SymbolFlags {
+    /// The symbol is weak: another definition of it may stand in its place.
+    pub const BINDING_WEAK: SymbolFlags = SymbolFlags(1);
+
+    /// The symbol is seen in its own module alone.
+    pub const BINDING_LOCAL: SymbolFlags = SymbolFlags(2);
+
+    /// The symbol is not seen outside the module that is linked.
+    pub const VISIBILITY_HIDDEN: SymbolFlags = SymbolFlags(4);
+
+    /// The symbol is not defined in this module.
+    pub const UNDEFINED: SymbolFlags = SymbolFlags(16);
+
+    /// The symbol is exported from the module that is linked.
+    pub const EXPORTED: SymbolFlags = SymbolFlags(32);
+
+    /// The symbol has a name of its own, though it is imported.
+    pub const EXPLICIT_NAME: SymbolFlags = SymbolFlags(64);
+
+    /// The symbol is kept, used or not.
+    pub const NO_STRIP: SymbolFlags = SymbolFlags(128);
+
+    /// The symbol is in the memory of a thread.
+    pub const TLS: SymbolFlags = SymbolFlags(256);
+
+    /// The symbol is an address that stands by itself, in no segment.
+    pub const ABSOLUTE: SymbolFlags = SymbolFlags(512);
+
+    const TABLE: &'static [Flag<SymbolFlags>] = &[
+        Flag {
+            name: "BINDING_WEAK",
+            value: SymbolFlags::BINDING_WEAK,
+        },
+        Flag {
+            name: "BINDING_LOCAL",
+            value: SymbolFlags::BINDING_LOCAL,
+        },
+        Flag {
+            name: "VISIBILITY_HIDDEN",
+            value: SymbolFlags::VISIBILITY_HIDDEN,
+        },
+        Flag {
+            name: "UNDEFINED",
+            value: SymbolFlags::UNDEFINED,
+        },
+        Flag {
+            name: "EXPORTED",
+            value: SymbolFlags::EXPORTED,
+        },
+        Flag {
+            name: "EXPLICIT_NAME",
+            value: SymbolFlags::EXPLICIT_NAME,
+        },
+        Flag {
+            name: "NO_STRIP",
+            value: SymbolFlags::NO_STRIP,
+        },
+        Flag {
+            name: "TLS",
+            value: SymbolFlags::TLS,
+        },
+        Flag {
+            name: "ABSOLUTE",
+            value: SymbolFlags::ABSOLUTE,
+        },
+    ];
+}
+
+impl Flags for SymbolFlags {
+    ghost use Rattle.wasm_custom.specs.Flags.{symbol_bits};
+
+    type Bits = u32;
+
+    ghost exact = { ⊤ };
+
+    ghost table = { (codes "BINDING_WEAK", 1) ∷ (codes "BINDING_LOCAL", 2) ∷
+        (codes "VISIBILITY_HIDDEN", 4) ∷ (codes "UNDEFINED", 16) ∷ (codes "EXPORTED", 32) ∷
+        (codes "EXPLICIT_NAME", 64) ∷ (codes "NO_STRIP", 128) ∷ (codes "TLS", 256) ∷
+        (codes "ABSOLUTE", 512) ∷ [] };
+
+    ghost set_of = { symbol_bits };
+
+    fn flags<'a>() -> &'a [Flag<SymbolFlags>] {
+        SymbolFlags::TABLE
+    }
+
+    fn bits(&self) -> u32 {
+        self.0
+    }
+
+    fn from_bits_retain(bits: u32) -> SymbolFlags {
+        SymbolFlags(bits)
+    }
+}
+
+/// A u32; bits that are no flag stay.
+impl<'a> FromReader<'a> for SymbolFlags {
+    ghost use Rattle.wasm_custom.specs.Flags.{symbol_bits};
+
+    ghost meaning = { ReadsAs symbol_bits (unsigned_at VarU32) };
+
+    fn from_reader(reader: &mut BinaryReader<'a>) -> Result<Self> {
+        Ok(SymbolFlags(reader.read_var_u32()?))
+    }
+}
+
+/// What is said of a data segment, a bit each (tool conventions, Linking, Segment Info Subsection). Other bits are kept.
+#[derive(Clone, Copy, Debug, PartialEq, Eq, Hash, Default)]
+pub struct SegmentFlags(u32);
+
+impl SegmentFlags {
+    /// The segment is texts that end with a zero byte, which may be merged.
+    pub const STRINGS: SegmentFlags = SegmentFlags(1);
+
+    /// The segment is in the memory of a thread.
+    pub const TLS: SegmentFlags = SegmentFlags(2);
+
+    const TABLE: &'static [Flag<SegmentFlags>] = &[
+        Flag {
+            name: "STRINGS",
+            value: SegmentFlags::STRINGS,
+        },
+        Flag {
+            name: "TLS",
+            value: SegmentFlags::TLS,
+        },
+    ];
+}
+
+impl Flags for SegmentFlags {
+    ghost use Rattle.wasm_custom.specs.Flags.{segment_bits};
+
+    type Bits = u32;
+
+    ghost exact = { ⊤ };
+
+    ghost table = { (codes "STRINGS", 1) ∷ (codes "TLS", 2) ∷ [] };
+
+    ghost set_of = { segment_bits };
+
+    fn flags<'a>() -> &'a [Flag<SegmentFlags>] {
+        SegmentFlags::TABLE
+    }
+
+    fn bits(&self) -> u32 {
+        self.0
+    }
+
+    fn from_bits_retain(bits: u32) -> SegmentFlags {
+        SegmentFlags(bits)
+    }
+}
+
+/// A u32; bits that are no flag stay.
+impl<'a> FromReader<'a> for SegmentFlags {
+    ghost use Rattle.wasm_custom.specs.Flags.{segment_bits};
+
+    ghost meaning = { ReadsAs segment_bits (unsigned_at VarU32) };
+
+    fn from_reader(reader: &mut BinaryReader<'a>) -> Result<Self> {
+        Ok(SegmentFlags(reader.read_var_u32()?))
+    }
+}

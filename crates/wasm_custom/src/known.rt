@@ -1,0 +1,228 @@
+// What the data of a custom section is, by the section's name.
+ghost use Rattle.std.specs.Prelude.{◌≡◌, false, IfOk, IfErr, is_err, codes, nat_eq};
+ghost use Rattle.std.specs.List.{starts_with};
+ghost use Rattle.wasm_base.specs.FaultAt.{fault_at};
+ghost use Rattle.wasm_base.specs.Hints.{TakesNoMemory, is_want_of_memory};
+ghost use Rattle.wasm_base.specs.Owned.{out_of_memory};
+ghost use Rattle.wasm_base.specs.Window.{place};
+ghost use Rattle.wasm_custom.specs.Known.{section_named, unknown, known_parts, known_of, owns_lists, branch_hints_in, producers_in, core_dump_in, core_modules_in, core_instances_in, core_stack_in, linking_section_in, relocations_in, KnowsUnlessMemory};
+
+use crate::branch_hints::BranchHintSectionReader;
+use crate::core_dumps::{
+    CoreDumpInstancesSection, CoreDumpModulesSection, CoreDumpSection, CoreDumpStackSection,
+};
+use crate::custom::CustomSectionReader;
+use crate::dylink::Dylink0SectionReader;
+use crate::linking::LinkingSectionReader;
+use crate::names::NameSectionReader;
+use crate::producers::ProducersSectionReader;
+use crate::relocations::RelocSectionReader;
+use std::alloc::{Allocator, Global};
+use wasm_base::{BinaryReader, Error, Fault, Result, SectionLimited, Subsections};
+
+/// A custom section whose data is known, by its name.
+#[derive(Drop)]
+pub enum KnownCustom<'a, A: Allocator = Global> {
+    /// The section `name`.
+    Name(NameSectionReader<'a>),
+    /// The section `metadata.code.branch_hint`.
+    BranchHints(BranchHintSectionReader<'a>),
+    /// The section `producers`.
+    Producers(ProducersSectionReader<'a>),
+    /// The section `dylink.0`.
+    Dylink0(Dylink0SectionReader<'a>),
+    /// The section `core`.
+    CoreDump(CoreDumpSection<'a>),
+    /// The section `corestack`.
+    CoreDumpStack(CoreDumpStackSection<'a, A>),
+    /// The section `coreinstances`.
+    CoreDumpInstances(CoreDumpInstancesSection<A>),
+    /// The section `coremodules`.
+    CoreDumpModules(CoreDumpModulesSection<'a, A>),
+    /// The section `linking`.
+    Linking(LinkingSectionReader<'a>),
+    /// A section whose name begins with `reloc.`.
+    Reloc(RelocSectionReader<'a>),
+    /// A section of another name, or one whose data can't be read as what its name says.
+    Unknown,
+}
+
+// The names of sections that are known.
+#[derive(Clone, Copy)]
+enum SectionName {
+    Name,
+    BranchHints,
+    Producers,
+    Dylink0,
+    CoreDump,
+    CoreModules,
+    CoreInstances,
+    CoreStack,
+    Linking,
+    Reloc,
+    Other,
+}
+
+// Whether a section has relocations, by its name.
+fn has_relocations(name: &str) -> bool
+    ensures { result ≡ starts_with nat_eq name.now (codes "reloc.") }
+{
+    name.starts_with("reloc.")
+}
+
+fn section_named(name: &str) -> SectionName
+    ensures { result ≡ section_named name.now }
+{
+    match name {
+        "name" => SectionName::Name,
+        "metadata.code.branch_hint" => SectionName::BranchHints,
+        "producers" => SectionName::Producers,
+        "dylink.0" => SectionName::Dylink0,
+        "core" => SectionName::CoreDump,
+        "coremodules" => SectionName::CoreModules,
+        "coreinstances" => SectionName::CoreInstances,
+        "corestack" => SectionName::CoreStack,
+        "linking" => SectionName::Linking,
+        _ => {
+            if has_relocations(name) {
+                SectionName::Reloc
+            } else {
+                SectionName::Other
+            }
+        }
+    }
+}
+
+fn branch_hints<'a, A: Allocator>(window: BinaryReader<'a>) -> KnownCustom<'a, A>
+    ensures { known_parts result ≡ branch_hints_in window.entry }
+{
+    match SectionLimited::new(window) {
+        Ok(functions) => KnownCustom::BranchHints(functions),
+        Err(_) => KnownCustom::Unknown,
+    }
+}
+
+fn producers<'a, A: Allocator>(window: BinaryReader<'a>) -> KnownCustom<'a, A>
+    ensures { known_parts result ≡ producers_in window.entry }
+{
+    match SectionLimited::new(window) {
+        Ok(fields) => KnownCustom::Producers(fields),
+        Err(_) => KnownCustom::Unknown,
+    }
+}
+
+fn core_dump<'a, A: Allocator>(window: BinaryReader<'a>) -> KnownCustom<'a, A>
+    ensures { known_parts result ≡ core_dump_in window.entry }
+{
+    match CoreDumpSection::new(window) {
+        Ok(section) => KnownCustom::CoreDump(section),
+        Err(_) => KnownCustom::Unknown,
+    }
+}
+
+fn linking<'a, A: Allocator>(kept: Global, window: BinaryReader<'a>) -> KnownCustom<'a, A>
+    ensures { known_parts result ≡ linking_section_in window.entry }
+{
+    match LinkingSectionReader::new(kept, window) {
+        Ok(section) => KnownCustom::Linking(section),
+        Err(_) => KnownCustom::Unknown,
+    }
+}
+
+fn relocations<'a, A: Allocator>(window: BinaryReader<'a>) -> KnownCustom<'a, A>
+    ensures { known_parts result ≡ relocations_in window.entry }
+{
+    match RelocSectionReader::new(window) {
+        Ok(section) => KnownCustom::Reloc(section),
+        Err(_) => KnownCustom::Unknown,
+    }
+}
+
+fn core_modules<'a, A: Allocator + Copy>(
+    alloc: A,
+    window: BinaryReader<'a>,
+) -> Result<KnownCustom<'a, A>>
+    ensures { KnowsUnlessMemory result (core_modules_in window.entry) }
+{
+    match CoreDumpModulesSection::new_in(alloc, window) {
+        Ok(section) => Ok(KnownCustom::CoreDumpModules(section)),
+        Err(error) => unknown_but_for_memory(error),
+    }
+}
+
+fn core_instances<'a, A: Allocator + Copy>(
+    alloc: A,
+    window: BinaryReader<'a>,
+) -> Result<KnownCustom<'a, A>>
+    ensures { KnowsUnlessMemory result (core_instances_in window.entry) }
+{
+    match CoreDumpInstancesSection::new_in(alloc, window) {
+        Ok(section) => Ok(KnownCustom::CoreDumpInstances(section)),
+        Err(error) => unknown_but_for_memory(error),
+    }
+}
+
+fn core_stack<'a, A: Allocator + Copy>(
+    alloc: A,
+    window: BinaryReader<'a>,
+) -> Result<KnownCustom<'a, A>>
+    ensures { KnowsUnlessMemory result (core_stack_in window.entry) }
+{
+    match CoreDumpStackSection::new_in(alloc, window) {
+        Ok(section) => Ok(KnownCustom::CoreDumpStack(section)),
+        Err(error) => unknown_but_for_memory(error),
+    }
+}
+
+// What a section is that answered this error: unknown, but where memory was refused.
+fn unknown_but_for_memory<'a, A: Allocator>(error: Error) -> Result<KnownCustom<'a, A>>
+    ensures known { IfOk result (λ known. known_parts known ≡ unknown) }
+    ensures other { is_want_of_memory (fault_at error).fault ≡ is_err result }
+    ensures refused { IfErr result (λ e. fault_at e ≡ out_of_memory) }
+{
+    match error.fault() {
+        Fault::OutOfMemory => Err(Error::new(Fault::OutOfMemory, 0)),
+        _ => Ok(KnownCustom::Unknown),
+    }
+}
+
+impl<'a> CustomSectionReader<'a> {
+    /// What the section's data is, by its name: the reader for that name, or `Unknown` for another name, or where that
+    /// reader's `new` refuses the data.
+    ///
+    /// `OutOfMemory`, at offset 0, where a growth is refused, which only `coremodules`, `coreinstances` and `corestack`
+    /// ask for.
+    pub fn as_known(&self, alloc: Global) -> Result<KnownCustom<'a>>
+        ensures known { IfOk result (λ known. known_parts known ≡ known_of self.now) }
+        ensures refused { IfErr result (λ e. fault_at e ≡ out_of_memory) }
+        ensures memory { owns_lists (section_named self.now.name) ≡ false → TakesNoMemory result }
+    {
+        self.as_known_in(alloc, alloc)
+    }
+
+    // As `as_known`, with any allocator for lists that are owned.
+    pub(crate) fn as_known_in<A: Allocator + Copy>(
+        &self,
+        kept: Global,
+        alloc: A,
+    ) -> Result<KnownCustom<'a, A>>
+        ensures known { IfOk result (λ known. known_parts known ≡ known_of self.now) }
+        ensures refused { IfErr result (λ e. fault_at e ≡ out_of_memory) }
+        ensures memory { owns_lists (section_named self.now.name) ≡ false → TakesNoMemory result }
+    {
+        let data = self.data_reader();
+        match section_named(self.name()) {
+            SectionName::Name => Ok(KnownCustom::Name(NameSectionReader::new(kept, data))),
+            SectionName::BranchHints => Ok(branch_hints(data)),
+            SectionName::Producers => Ok(producers(data)),
+            SectionName::Dylink0 => Ok(KnownCustom::Dylink0(Subsections::new(kept, data))),
+            SectionName::CoreDump => Ok(core_dump(data)),
+            SectionName::CoreModules => core_modules(alloc, data),
+            SectionName::CoreInstances => core_instances(alloc, data),
+            SectionName::CoreStack => core_stack(alloc, data),
+            SectionName::Linking => Ok(linking(kept, data)),
+            SectionName::Reloc => Ok(relocations(data)),
+            SectionName::Other => Ok(KnownCustom::Unknown),
+        }
+    }
+}

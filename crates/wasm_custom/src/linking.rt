@@ -1,0 +1,546 @@
+// What a linker reads.
+ghost use Rattle.std.specs.Prelude.{⊤, ◌≡◌, Some, None, length};
+ghost use Rattle.std.specs.Iterator.{at_most};
+ghost use Rattle.wasm_base.specs.Hints.{TakesNoMemory};
+ghost use Rattle.wasm_base.specs.Inner.{after_reading};
+ghost use Rattle.wasm_base.specs.Item.{ReadsAs};
+ghost use Rattle.wasm_base.specs.Outcome.{GivesBy, GivesResult};
+ghost use Rattle.wasm_base.specs.Subsections.{NextSubsection, ReadsWindowAs};
+ghost use Rattle.wasm_base.specs.Window.{place, KeepsWindow};
+ghost use Rattle.wasm_custom.specs.Flags.{symbol_bits};
+ghost use Rattle.wasm_custom.specs.Linking.{comdat_kind_of, comdat_symbol_at, symbol_name_at, text_if_any, data_place_at, linking_in, linking_parts, linking_subsection_in};
+
+use crate::flags::{SegmentFlags, SymbolFlags};
+use bitflags::Flags;
+use std::alloc::{AllocError, Global};
+use std::marker::Model;
+use std::ops::Range;
+use wasm_base::{
+    BinaryReader, Error, Fault, FromReader, InnerItem, Lead, NoMemory, Result, SectionLimited,
+    Subsection, Subsections, leading_byte_error, read_inner,
+};
+
+/// The data segments of a module that is to be linked (tool conventions, Linking, Segment Info Subsection).
+pub type SegmentMap<'a> = SectionLimited<'a, Segment<'a>>;
+
+/// The functions that are called at first (tool conventions, Linking, Init Functions Subsection).
+pub type InitFuncMap<'a> = SectionLimited<'a, InitFunc>;
+
+/// The groups of symbols of which one is kept (tool conventions, Linking, COMDAT Subsection).
+pub type ComdatMap<'a> = SectionLimited<'a, Comdat<'a>>;
+
+/// The symbols of a module (tool conventions, Linking, Symbol Table Subsection).
+pub type SymbolInfoMap<'a> = SectionLimited<'a, SymbolInfo<'a>>;
+
+/// What is said of a data segment (tool conventions, Linking, Segment Info Subsection).
+#[derive(Clone, Copy, Debug)]
+pub struct Segment<'a> {
+    /// Its name.
+    pub name: &'a str,
+    /// The power of two that its address is a multiple of.
+    pub alignment: u32,
+    /// Its flags.
+    pub flags: SegmentFlags,
+}
+
+/// A function that is called at first (tool conventions, Linking, Init Functions Subsection).
+#[derive(Clone, Copy, Debug)]
+pub struct InitFunc {
+    /// Those with lower numbers are called before it.
+    pub priority: u32,
+    /// The index of the function's symbol.
+    pub symbol_index: u32,
+}
+
+/// A group of symbols, of which one is kept where several modules have it (tool conventions, Linking, COMDAT Subsection).
+#[derive(Clone, Debug, Drop)]
+pub struct Comdat<'a> {
+    /// Its name.
+    pub name: &'a str,
+    /// Its flags; none is known.
+    pub flags: u32,
+    /// Its symbols.
+    pub symbols: SectionLimited<'a, ComdatSymbol>,
+}
+
+/// A symbol of a comdat (tool conventions, Linking, COMDAT Subsection).
+#[derive(Clone, Copy, Debug)]
+pub struct ComdatSymbol {
+    /// What it is.
+    pub kind: ComdatSymbolKind,
+    /// Its index among those of its kind.
+    pub index: u32,
+}
+
+/// What a symbol of a comdat is (tool conventions, Linking, COMDAT Subsection).
+#[derive(Clone, Copy, Debug, PartialEq, Eq, Hash)]
+pub enum ComdatSymbolKind {
+    /// A data segment.
+    Data,
+    /// A function.
+    Func,
+    /// A global.
+    Global,
+    /// An event.
+    Event,
+    /// A table.
+    Table,
+    /// A section.
+    Section,
+}
+
+/// Where the data of a symbol is (tool conventions, Linking, Symbol Table Subsection).
+#[derive(Clone, Copy, Debug)]
+pub struct DefinedDataSymbol {
+    /// The index of the data segment.
+    pub index: u32,
+    /// How many bytes after the start of the segment it is.
+    pub offset: u32,
+    /// How many bytes it has.
+    pub size: u32,
+}
+
+/// A symbol (tool conventions, Linking, Symbol Table Subsection).
+#[derive(Clone, Copy, Debug)]
+pub enum SymbolInfo<'a> {
+    /// A function.
+    Func {
+        /// Its flags.
+        flags: SymbolFlags,
+        /// The function's index.
+        index: u32,
+        /// Its name, where it is written: not of an import, unless it has a name of its own.
+        name: Option<&'a str>,
+    },
+    /// A global.
+    Global {
+        /// Its flags.
+        flags: SymbolFlags,
+        /// The global's index.
+        index: u32,
+        /// Its name, where it is written.
+        name: Option<&'a str>,
+    },
+    /// An event.
+    Event {
+        /// Its flags.
+        flags: SymbolFlags,
+        /// The event's index.
+        index: u32,
+        /// Its name, where it is written.
+        name: Option<&'a str>,
+    },
+    /// A table.
+    Table {
+        /// Its flags.
+        flags: SymbolFlags,
+        /// The table's index.
+        index: u32,
+        /// Its name, where it is written.
+        name: Option<&'a str>,
+    },
+    /// Data.
+    Data {
+        /// Its flags.
+        flags: SymbolFlags,
+        /// Its name.
+        name: &'a str,
+        /// Where it is, if it is defined in this module.
+        symbol: Option<DefinedDataSymbol>,
+    },
+    /// A section.
+    Section {
+        /// Its flags.
+        flags: SymbolFlags,
+        /// The section's index among all of the module.
+        section: u32,
+    },
+}
+
+/// A name of any length, an alignment and flags, each a u32.
+impl<'a> FromReader<'a> for Segment<'a> {
+    ghost use Rattle.wasm_custom.specs.Linking.{segment_parts, segment_at};
+
+    ghost meaning = { ReadsAs segment_parts segment_at };
+
+    #[tactic(auto, unfolding(crate::specs::Linking::segment_at))]
+    fn from_reader(reader: &mut BinaryReader<'a>) -> Result<Self> {
+        let name = reader.read_unlimited_string()?;
+        let alignment = reader.read_var_u32()?;
+        let flags = reader.read()?;
+        Ok(Segment {
+            name,
+            alignment,
+            flags,
+        })
+    }
+}
+
+/// A priority and the index of a symbol, each a u32.
+impl<'a> FromReader<'a> for InitFunc {
+    ghost use Rattle.wasm_custom.specs.Linking.{init_function_at};
+
+    ghost meaning = { ReadsAs (λ function. function) init_function_at };
+
+    #[tactic(auto, unfolding(crate::specs::Linking::init_function_at))]
+    fn from_reader(reader: &mut BinaryReader<'a>) -> Result<Self> {
+        let priority = reader.read_var_u32()?;
+        let symbol_index = reader.read_var_u32()?;
+        Ok(InitFunc {
+            priority,
+            symbol_index,
+        })
+    }
+}
+
+// The kind of a comdat's symbol that a byte is.
+fn comdat_kind(byte: u8) -> Option<ComdatSymbolKind>
+    ensures { result ≡ comdat_kind_of byte }
+{
+    match byte {
+        0 => Some(ComdatSymbolKind::Data),
+        1 => Some(ComdatSymbolKind::Func),
+        2 => Some(ComdatSymbolKind::Global),
+        3 => Some(ComdatSymbolKind::Event),
+        4 => Some(ComdatSymbolKind::Table),
+        5 => Some(ComdatSymbolKind::Section),
+        _ => None,
+    }
+}
+
+/// A byte below 6. Another one is `LeadingByte(ComdatSymbol)` at it, with the byte as its number.
+impl<'a> FromReader<'a> for ComdatSymbolKind {
+    ghost use Rattle.wasm_custom.specs.Linking.{comdat_kind_at};
+
+    ghost meaning = { ReadsAs (λ kind. kind) comdat_kind_at };
+
+    #[tactic(auto, unfolding(crate::specs::Linking::comdat_kind_at))]
+    fn from_reader(reader: &mut BinaryReader<'a>) -> Result<Self> {
+        let byte = reader.read_u8()?;
+        match comdat_kind(byte) {
+            Some(kind) => Ok(kind),
+            None => {
+                let offset = reader.original_position() - 1;
+                Err(leading_byte_error(Lead::ComdatSymbol, byte, offset))
+            }
+        }
+    }
+}
+
+/// A kind, and an index, a u32.
+impl<'a> FromReader<'a> for ComdatSymbol {
+    ghost meaning = { ReadsAs (λ symbol. symbol) comdat_symbol_at };
+
+    #[tactic(auto, unfolding(crate::specs::Linking::comdat_symbol_at))]
+    fn from_reader(reader: &mut BinaryReader<'a>) -> Result<Self> {
+        let kind = reader.read()?;
+        let index = reader.read_var_u32()?;
+        Ok(ComdatSymbol { kind, index })
+    }
+}
+
+/// As it is read.
+impl<'a> InnerItem<'a> for ComdatSymbol {
+    ghost passed_at = { after_reading comdat_symbol_at };
+
+    #[tactic(auto, unfolding(wasm_base::specs::Inner::after_reading))]
+    fn pass_over(reader: &mut BinaryReader<'a>) -> Result<()> {
+        ComdatSymbol::from_reader(reader)?;
+        Ok(())
+    }
+}
+
+/// A name of any length, flags, a u32, and a list of symbols, which are passed over, with their own faults: those of a
+/// comdat that was read have none.
+impl<'a> FromReader<'a> for Comdat<'a> {
+    ghost use Rattle.wasm_custom.specs.Linking.{comdat_parts, comdat_at};
+
+    ghost meaning = { ReadsAs comdat_parts comdat_at };
+
+    #[tactic(auto, unfolding(crate::specs::Linking::comdat_at))]
+    fn from_reader(reader: &mut BinaryReader<'a>) -> Result<Self> {
+        let name = reader.read_unlimited_string()?;
+        let flags = reader.read_var_u32()?;
+        let symbols = read_inner(reader)?;
+        Ok(Comdat {
+            name,
+            flags,
+            symbols,
+        })
+    }
+}
+
+/// The index of a segment, an offset in it and a size, each a u32.
+impl<'a> FromReader<'a> for DefinedDataSymbol {
+    ghost use Rattle.wasm_custom.specs.Linking.{defined_data_at};
+
+    ghost meaning = { ReadsAs (λ symbol. symbol) defined_data_at };
+
+    #[tactic(auto, unfolding(crate::specs::Linking::defined_data_at))]
+    fn from_reader(reader: &mut BinaryReader<'a>) -> Result<Self> {
+        let index = reader.read_var_u32()?;
+        let offset = reader.read_var_u32()?;
+        let size = reader.read_var_u32()?;
+        Ok(DefinedDataSymbol {
+            index,
+            offset,
+            size,
+        })
+    }
+}
+
+// The name of a symbol, where it is written.
+#[tactic(auto, unfolding(crate::specs::Linking::symbol_name_at))]
+fn read_name<'a>(flags: SymbolFlags, reader: &mut BinaryReader<'a>) -> Result<Option<&'a str>>
+    ensures gives { GivesBy (λ name. text_if_any name (λ text. text.now)) result reader.old reader.new
+        (symbol_name_at (symbol_bits flags)) }
+    ensures keeps { KeepsWindow reader.old reader.new }
+    ensures memory { TakesNoMemory result }
+{
+    if !flags.contains(SymbolFlags::UNDEFINED) || flags.contains(SymbolFlags::EXPLICIT_NAME) {
+        return Ok(Some(reader.read_unlimited_string()?));
+    }
+    Ok(None)
+}
+
+// Where data is, if it is defined in this module.
+#[tactic(auto, unfolding(crate::specs::Linking::data_place_at))]
+fn read_data_place(
+    flags: SymbolFlags,
+    reader: &mut BinaryReader<'_>,
+) -> Result<Option<DefinedDataSymbol>>
+    ensures gives { GivesBy (λ symbol. symbol) result reader.old reader.new
+        (data_place_at (symbol_bits flags)) }
+    ensures keeps { KeepsWindow reader.old reader.new }
+    ensures memory { TakesNoMemory result }
+{
+    if flags.contains(SymbolFlags::UNDEFINED) {
+        return Ok(None);
+    }
+    Ok(Some(reader.read()?))
+}
+
+/// A kind, a byte, and flags, a u32; then an index and, where it is written, a name; for data a name and, where it is defined,
+/// its place; for a section its index.
+///
+/// Another kind is `LeadingByte(Symbol)` at it, with the byte as its number, after the faults of the flags.
+impl<'a> FromReader<'a> for SymbolInfo<'a> {
+    ghost use Rattle.wasm_custom.specs.Linking.{symbol_parts, symbol_at};
+
+    ghost meaning = { ReadsAs symbol_parts symbol_at };
+
+    #[tactic(auto, unfolding(crate::specs::Linking::symbol_at))]
+    fn from_reader(reader: &mut BinaryReader<'a>) -> Result<Self> {
+        let start = reader.original_position();
+        let kind = reader.read_u8()?;
+        let flags = SymbolFlags::from_reader(reader)?;
+        match kind {
+            0 => {
+                let index = reader.read_var_u32()?;
+                let name = read_name(flags, reader)?;
+                Ok(SymbolInfo::Func { flags, index, name })
+            }
+            1 => {
+                let name = reader.read_unlimited_string()?;
+                let symbol = read_data_place(flags, reader)?;
+                Ok(SymbolInfo::Data {
+                    flags,
+                    name,
+                    symbol,
+                })
+            }
+            2 => {
+                let index = reader.read_var_u32()?;
+                let name = read_name(flags, reader)?;
+                Ok(SymbolInfo::Global { flags, index, name })
+            }
+            3 => {
+                let section = reader.read_var_u32()?;
+                Ok(SymbolInfo::Section { flags, section })
+            }
+            4 => {
+                let index = reader.read_var_u32()?;
+                let name = read_name(flags, reader)?;
+                Ok(SymbolInfo::Event { flags, index, name })
+            }
+            5 => {
+                let index = reader.read_var_u32()?;
+                let name = read_name(flags, reader)?;
+                Ok(SymbolInfo::Table { flags, index, name })
+            }
+            byte => Err(leading_byte_error(Lead::Symbol, byte, start)),
+        }
+    }
+}
+
+/// A subsection of the section for linkers (tool conventions, Linking, Linking Metadata Section).
+#[derive(Clone, Debug, Drop)]
+pub enum Linking<'a> {
+    /// What is said of data segments.
+    SegmentInfo(SegmentMap<'a>),
+    /// The functions that are called at first.
+    InitFuncs(InitFuncMap<'a>),
+    /// The groups of symbols of which one is kept.
+    ComdatInfo(ComdatMap<'a>),
+    /// The symbols.
+    SymbolTable(SymbolInfoMap<'a>),
+    /// The name of the architecture that the module is for.
+    TargetArch(&'a str),
+    /// A subsection with another id.
+    Unknown {
+        /// Its id.
+        ty: u8,
+        /// Its bytes.
+        contents: &'a [u8],
+        /// The offsets of its bytes in the whole stream.
+        range: Range<u64>,
+    },
+}
+
+/// A count, a u32, and items that are read when they come; for the architecture a name of at most 100,000 bytes, after which
+/// nothing is looked at.
+impl<'a> Subsection<'a> for Linking<'a> {
+    ghost meaning = { ReadsWindowAs linking_parts linking_subsection_in };
+
+    type Memory = NoMemory;
+
+    #[tactic(auto, unfolding(crate::specs::Linking::linking_subsection_in))]
+    fn from_reader(_alloc: Global, id: u8, mut reader: BinaryReader<'a>) -> Result<Self> {
+        match id {
+            5 => Ok(Linking::SegmentInfo(SectionLimited::new(reader)?)),
+            6 => Ok(Linking::InitFuncs(SectionLimited::new(reader)?)),
+            7 => Ok(Linking::ComdatInfo(SectionLimited::new(reader)?)),
+            8 => Ok(Linking::SymbolTable(SectionLimited::new(reader)?)),
+            9 => Ok(Linking::TargetArch(reader.read_string()?)),
+            _ => Ok(Linking::Unknown {
+                ty: id,
+                contents: reader.remaining_buffer(),
+                range: reader.range(),
+            }),
+        }
+    }
+}
+
+/// The section `linking`: a version and subsections (tool conventions, Linking, Linking Metadata Section).
+///
+/// Offsets count bytes from the start of the whole stream.
+#[derive(Debug, Drop)]
+pub struct LinkingSectionReader<'a> {
+    version: u32,
+    range: Range<u64>,
+    subsections: Subsections<'a, Linking<'a>>,
+}
+
+impl<'a> Model for LinkingSectionReader<'a> {
+    ghost use Rattle.wasm_custom.specs.Linking.{LinkingSection};
+
+    ghost Value = { LinkingSection };
+
+    ghost view = { λ s. record { version = s.version; range = s.range; subsections = s.subsections } };
+}
+
+impl<'a> Clone for LinkingSectionReader<'a> {
+    ghost is_clone = { λ section copy. copy ≡ section };
+
+    ghost is_infallible = { λ _. ⊤ };
+
+    fn clone(&self) -> std::result::Result<Self, AllocError> {
+        Ok(LinkingSectionReader {
+            version: self.version,
+            range: self.range.start..self.range.end,
+            subsections: self.subsections.clone()?,
+        })
+    }
+}
+
+impl<'a> LinkingSectionReader<'a> {
+    /// Reads the version, a u32, with the faults of `read_var_u32`. A version other than 2 is `LinkingVersion` at it, with
+    /// it as its number. What is left of the window is the subsections, which take no memory.
+    #[tactic(auto, unfolding(crate::specs::Linking::linking_in))]
+    pub fn new(alloc: Global, mut reader: BinaryReader<'a>) -> Result<Self>
+        ensures gives { GivesResult (λ section. section) result (linking_in reader.entry) }
+        ensures memory { TakesNoMemory result }
+    {
+        let start = reader.original_position();
+        let version = reader.read_var_u32()?;
+        if version != 2 {
+            let error = Error::new(Fault::LinkingVersion, start);
+            return Err(error.with_number(u64::from(version)));
+        }
+        Ok(LinkingSectionReader {
+            version,
+            range: reader.range(),
+            subsections: Subsections::new(alloc, reader.shrink()),
+        })
+    }
+
+    /// The version, which is 2.
+    pub fn version(&self) -> u32
+        ensures { result ≡ self.now.version }
+    {
+        self.version
+    }
+
+    /// The offset after the version.
+    pub fn original_position(&self) -> u64
+        ensures { result ≡ (place self.now.subsections).offset }
+    {
+        self.subsections.original_position()
+    }
+
+    /// The offsets of the whole window, the version among them.
+    pub fn range(&self) -> Range<u64>
+        ensures { result ≡ self.now.range }
+    {
+        self.range.start..self.range.end
+    }
+
+    /// The subsections.
+    pub fn subsections(&self) -> Subsections<'a, Linking<'a>>
+        ensures { result ≡ self.now.subsections }
+    {
+        self.subsections.clone().unwrap()
+    }
+}
+
+impl<'a> IntoIterator for LinkingSectionReader<'a> {
+    type Item = Result<Linking<'a>>;
+
+    type IntoIter = LinkingIntoIter<'a>;
+
+    ghost into_iter_gives = { λ section subsections. subsections ≡ section.subsections };
+
+    fn into_iter(self) -> LinkingIntoIter<'a> {
+        LinkingIntoIter {
+            subsections: self.subsections,
+        }
+    }
+}
+
+/// The subsections of a section for linkers, which come as those of `Subsections`.
+#[derive(Drop)]
+pub struct LinkingIntoIter<'a> {
+    subsections: Subsections<'a, Linking<'a>>,
+}
+
+impl<'a> Model for LinkingIntoIter<'a> {
+    ghost use Rattle.wasm_base.specs.Window.{Window};
+
+    ghost Value = { Window };
+
+    ghost view = { λ s. s.subsections };
+}
+
+impl<'a> Iterator for LinkingIntoIter<'a> {
+    ghost use Rattle.std.specs.Prelude.{false};
+
+    type Item = Result<Linking<'a>>;
+
+    ghost next_gives = { NextSubsection (ReadsWindowAs linking_parts linking_subsection_in) false };
+
+    ghost remaining = { λ subsections. at_most (length (place subsections).rest) };
+
+    fn next(&mut self) -> Option<Result<Linking<'a>>> {
+        self.subsections.next()
+    }
+}

@@ -1,0 +1,417 @@
+// Names.
+ghost use Rattle.std.specs.Prelude.{⊤, ◌≡◌, length};
+ghost use Rattle.std.specs.Iterator.{at_most};
+ghost use Rattle.wasm_base.specs.Hints.{Hints, TakesNoMemory};
+ghost use Rattle.wasm_base.specs.Item.{ReadsAs};
+ghost use Rattle.wasm_base.specs.Outcome.{GivesResult};
+ghost use Rattle.wasm_base.specs.Section.{NextItem, all_items, most_items};
+ghost use Rattle.wasm_base.specs.Subsections.{NextSubsection, ReadsWindowAs};
+ghost use Rattle.wasm_base.specs.Window.{place};
+ghost use Rattle.wasm_custom.specs.Ascending.{NextAscending, none_given};
+ghost use Rattle.wasm_custom.specs.Names.{naming_parts, naming_at, passed_naming_at, indirect_naming_at, entries_in, name_parts, name_in, module_name_in, id_of, index_of, index_of_indirect, offset_of_entry, offset_of_subsection};
+
+use crate::ascending::in_order;
+use std::alloc::{AllocError, Global};
+use std::marker::Model;
+use std::ops::Range;
+use wasm_base::{
+    BinaryReader, Error, Fault, FromReader, InnerItem, NoMemory, Result, SectionLimited,
+    SectionLimitedIntoIter, Subsection, Subsections, read_inner,
+};
+
+/// An index and its name (core specification, Appendix, Custom Sections, Name Section, Name Maps).
+#[derive(Clone, Copy, Debug)]
+pub struct Naming<'a> {
+    /// The index of what is named.
+    pub index: u32,
+    /// Its name.
+    pub name: &'a str,
+}
+
+/// An index, a u32, and a name of any length, with the faults of `read_unlimited_string`.
+impl<'a> FromReader<'a> for Naming<'a> {
+    ghost meaning = { ReadsAs naming_parts naming_at };
+
+    #[tactic(auto, unfolding(crate::specs::Names::naming_at))]
+    fn from_reader(reader: &mut BinaryReader<'a>) -> Result<Self> {
+        let index = reader.read_var_u32()?;
+        let name = reader.read_unlimited_string()?;
+        Ok(Naming { index, name })
+    }
+}
+
+/// An index, and a name of at most 100,000 bytes, which need not be UTF-8.
+impl<'a> InnerItem<'a> for Naming<'a> {
+    ghost passed_at = { passed_naming_at };
+
+    #[tactic(auto, unfolding(crate::specs::Names::passed_naming_at))]
+    fn pass_over(reader: &mut BinaryReader<'a>) -> Result<()> {
+        reader.read_var_u32()?;
+        reader.skip_string()
+    }
+}
+
+/// Names by index, which ascend (core specification, Appendix, Custom Sections, Name Section, Name Maps).
+///
+/// The names come in order, up to the first that can't be read. One whose index isn't above every index that was given
+/// before is `NamesOrder` at its start, and the next one follows.
+#[derive(Debug, Drop)]
+pub struct NameMap<'a> {
+    /// The names as they stand, in whatever order.
+    pub names: SectionLimitedIntoIter<'a, Naming<'a>>,
+    last: Option<u32>,
+}
+
+impl<'a> Model for NameMap<'a> {
+    ghost use Rattle.wasm_base.specs.Section.{Items};
+    ghost use Rattle.wasm_custom.specs.Ascending.{Ascending};
+
+    ghost Value = { Ascending Items };
+
+    ghost view = { λ s. record { entries = s.names; last = s.last } };
+}
+
+impl<'a> Clone for NameMap<'a> {
+    ghost is_clone = { λ names copy. copy ≡ names };
+
+    ghost is_infallible = { λ _. ⊤ };
+
+    fn clone(&self) -> std::result::Result<Self, AllocError> {
+        Ok(NameMap {
+            names: self.names.clone()?,
+            last: self.last,
+        })
+    }
+}
+
+impl<'a> NameMap<'a> {
+    /// Reads the count, a u32, with the faults of `read_var_u32`. No name is looked at.
+    #[tactic(auto, unfolding(crate::specs::Names::entries_in))]
+    pub fn new(reader: BinaryReader<'a>) -> Result<Self>
+        ensures gives { GivesResult (λ names. names) result (entries_in reader.entry) }
+        ensures hints { Hints 1 result }
+        ensures memory { TakesNoMemory result }
+    {
+        Ok(NameMap::over(SectionLimited::new(reader)?))
+    }
+
+    // The names of a section.
+    fn over(section: SectionLimited<'a, Naming<'a>>) -> Self
+        ensures { result ≡ none_given (all_items section.entry) }
+    {
+        NameMap {
+            names: section.into_iter(),
+            last: None,
+        }
+    }
+}
+
+impl<'a> Iterator for NameMap<'a> {
+    ghost use Rattle.wasm_base.specs.declared.fault.Fault.TheVariants.{NamesOrder};
+
+    type Item = Result<Naming<'a>>;
+
+    ghost next_gives = { NextAscending (NextItem (ReadsAs naming_parts naming_at))
+        offset_of_entry index_of NamesOrder };
+
+    ghost remaining = { λ names. at_most (most_items names.entries) };
+
+    fn next(&mut self) -> Option<Result<Naming<'a>>> {
+        let start = self.names.original_position();
+        match self.names.next() {
+            Some(Ok(naming)) => {
+                let index = naming.index;
+                let fault = Fault::NamesOrder;
+                Some(in_order(&mut self.last, index, naming, fault, start))
+            }
+            Some(Err(e)) => Some(Err(e)),
+            None => None,
+        }
+    }
+}
+
+/// An index, and the names by index of what it has (core specification, Appendix, Custom Sections, Name Section, Indirect Name
+/// Maps).
+#[derive(Clone, Debug, Drop)]
+pub struct IndirectNaming<'a> {
+    /// The index of what has the names, as a function.
+    pub index: u32,
+    /// The names of what it has, as of its locals.
+    pub names: NameMap<'a>,
+}
+
+/// An index, a u32, and a list of names, which are passed over, with the faults of `skip_string`.
+impl<'a> FromReader<'a> for IndirectNaming<'a> {
+    ghost meaning = { ReadsAs (λ naming. naming) indirect_naming_at };
+
+    #[tactic(auto, unfolding(crate::specs::Names::indirect_naming_at))]
+    fn from_reader(reader: &mut BinaryReader<'a>) -> Result<Self> {
+        let index = reader.read_var_u32()?;
+        let names = NameMap::over(read_inner(reader)?);
+        Ok(IndirectNaming { index, names })
+    }
+}
+
+/// Names of what indices have, by index, which ascend (core specification, Appendix, Custom Sections, Name Section, Indirect Name
+/// Maps).
+///
+/// They come in order, up to the first that can't be read. One whose index isn't above every index that was given before is
+/// `IndirectOrder` at its start, and the next one follows.
+#[derive(Drop)]
+pub struct IndirectNameMap<'a> {
+    /// The names as they stand, in whatever order.
+    pub names: SectionLimitedIntoIter<'a, IndirectNaming<'a>>,
+    last: Option<u32>,
+}
+
+impl<'a> Model for IndirectNameMap<'a> {
+    ghost use Rattle.wasm_base.specs.Section.{Items};
+    ghost use Rattle.wasm_custom.specs.Ascending.{Ascending};
+
+    ghost Value = { Ascending Items };
+
+    ghost view = { λ s. record { entries = s.names; last = s.last } };
+}
+
+impl<'a> Clone for IndirectNameMap<'a> {
+    ghost is_clone = { λ names copy. copy ≡ names };
+
+    ghost is_infallible = { λ _. ⊤ };
+
+    fn clone(&self) -> std::result::Result<Self, AllocError> {
+        Ok(IndirectNameMap {
+            names: self.names.clone()?,
+            last: self.last,
+        })
+    }
+}
+
+impl<'a> IndirectNameMap<'a> {
+    /// Reads the count, a u32, with the faults of `read_var_u32`. No name is looked at.
+    #[tactic(auto, unfolding(crate::specs::Names::entries_in))]
+    pub fn new(reader: BinaryReader<'a>) -> Result<Self>
+        ensures gives { GivesResult (λ names. names) result (entries_in reader.entry) }
+        ensures hints { Hints 1 result }
+        ensures memory { TakesNoMemory result }
+    {
+        let section: SectionLimited<'a, IndirectNaming<'a>> = SectionLimited::new(reader)?;
+        Ok(IndirectNameMap {
+            names: section.into_iter(),
+            last: None,
+        })
+    }
+}
+
+impl<'a> Iterator for IndirectNameMap<'a> {
+    ghost use Rattle.wasm_base.specs.declared.fault.Fault.TheVariants.{IndirectOrder};
+
+    type Item = Result<IndirectNaming<'a>>;
+
+    ghost next_gives = { NextAscending (NextItem (ReadsAs (λ naming. naming) indirect_naming_at))
+        offset_of_entry index_of_indirect IndirectOrder };
+
+    ghost remaining = { λ names. at_most (most_items names.entries) };
+
+    fn next(&mut self) -> Option<Result<IndirectNaming<'a>>> {
+        let start = self.names.original_position();
+        match self.names.next() {
+            Some(Ok(naming)) => {
+                let index = naming.index;
+                let fault = Fault::IndirectOrder;
+                Some(in_order(&mut self.last, index, naming, fault, start))
+            }
+            Some(Err(e)) => Some(Err(e)),
+            None => None,
+        }
+    }
+}
+
+/// A subsection of names (core specification, Appendix, Custom Sections, Name Section, Subsections; those beyond functions and
+/// locals are of the extended name section proposal).
+#[derive(Clone, Drop)]
+pub enum Name<'a> {
+    /// The name of the module.
+    Module {
+        /// The name.
+        name: &'a str,
+        /// The offsets of the whole subsection, in bytes from the start of the whole stream.
+        name_range: Range<u64>,
+    },
+    /// The names of functions.
+    Function(NameMap<'a>),
+    /// The names of locals, by function.
+    Local(IndirectNameMap<'a>),
+    /// The names of labels, by function.
+    Label(IndirectNameMap<'a>),
+    /// The names of types.
+    Types(NameMap<'a>),
+    /// The names of tables.
+    Table(NameMap<'a>),
+    /// The names of memories.
+    Memory(NameMap<'a>),
+    /// The names of globals.
+    Global(NameMap<'a>),
+    /// The names of element segments.
+    Element(NameMap<'a>),
+    /// The names of data segments.
+    Data(NameMap<'a>),
+    /// The names of fields, by type.
+    Field(IndirectNameMap<'a>),
+    /// The names of tags.
+    Tag(NameMap<'a>),
+    /// The names of parameters, by type.
+    Parameter(IndirectNameMap<'a>),
+    /// The names of the parameters of tags, by tag.
+    TagParameter(IndirectNameMap<'a>),
+    /// A subsection with another id.
+    Unknown {
+        /// Its id.
+        ty: u8,
+        /// Its bytes.
+        contents: &'a [u8],
+        /// The offsets of its bytes in the whole stream.
+        range: Range<u64>,
+    },
+}
+
+// The name of the module, and nothing after it.
+#[tactic(auto, unfolding(crate::specs::Names::module_name_in))]
+fn module_name<'a>(mut reader: BinaryReader<'a>) -> Result<Name<'a>>
+    ensures gives { GivesResult name_parts result (module_name_in reader.entry) }
+    ensures memory { TakesNoMemory result }
+{
+    let name = reader.read_string()?;
+    if !reader.eof() {
+        return Err(Error::new(Fault::NameTrailing, reader.original_position()));
+    }
+    Ok(Name::Module {
+        name,
+        name_range: reader.range(),
+    })
+}
+
+/// The name of the module is the whole subsection: bytes after it are `NameTrailing`, at the first of them. Other subsections
+/// are a count, a u32, and names that are read when they come.
+impl<'a> Subsection<'a> for Name<'a> {
+    ghost meaning = { ReadsWindowAs name_parts name_in };
+
+    type Memory = NoMemory;
+
+    #[tactic(auto, unfolding(crate::specs::Names::name_in))]
+    fn from_reader(_alloc: Global, id: u8, reader: BinaryReader<'a>) -> Result<Self> {
+        match id {
+            0 => module_name(reader),
+            1 => Ok(Name::Function(NameMap::new(reader)?)),
+            2 => Ok(Name::Local(IndirectNameMap::new(reader)?)),
+            3 => Ok(Name::Label(IndirectNameMap::new(reader)?)),
+            4 => Ok(Name::Types(NameMap::new(reader)?)),
+            5 => Ok(Name::Table(NameMap::new(reader)?)),
+            6 => Ok(Name::Memory(NameMap::new(reader)?)),
+            7 => Ok(Name::Global(NameMap::new(reader)?)),
+            8 => Ok(Name::Element(NameMap::new(reader)?)),
+            9 => Ok(Name::Data(NameMap::new(reader)?)),
+            10 => Ok(Name::Field(IndirectNameMap::new(reader)?)),
+            11 => Ok(Name::Tag(NameMap::new(reader)?)),
+            12 => Ok(Name::Parameter(IndirectNameMap::new(reader)?)),
+            13 => Ok(Name::TagParameter(IndirectNameMap::new(reader)?)),
+            _ => Ok(Name::Unknown {
+                ty: id,
+                contents: reader.remaining_buffer(),
+                range: reader.range(),
+            }),
+        }
+    }
+}
+
+// The id of a subsection.
+fn id_of(name: &Name<'_>) -> u8
+    ensures { result ≡ id_of name.now }
+{
+    match name {
+        Name::Module { .. } => 0,
+        Name::Function(_) => 1,
+        Name::Local(_) => 2,
+        Name::Label(_) => 3,
+        Name::Types(_) => 4,
+        Name::Table(_) => 5,
+        Name::Memory(_) => 6,
+        Name::Global(_) => 7,
+        Name::Element(_) => 8,
+        Name::Data(_) => 9,
+        Name::Field(_) => 10,
+        Name::Tag(_) => 11,
+        Name::Parameter(_) => 12,
+        Name::TagParameter(_) => 13,
+        Name::Unknown { ty, .. } => *ty,
+    }
+}
+
+/// The section `name`: its subsections, whose ids ascend (core specification, Appendix, Custom Sections, Name Section).
+///
+/// They come in order. One whose id isn't above every id that was given before is `NameSectionOrder` at its start; one that
+/// can't be read is its fault, and isn't given. After either the next one follows.
+#[derive(Drop)]
+pub struct NameSectionReader<'a> {
+    /// The subsections as they stand, in whatever order.
+    pub sections: Subsections<'a, Name<'a>>,
+    last: Option<u32>,
+}
+
+impl<'a> Model for NameSectionReader<'a> {
+    ghost use Rattle.wasm_base.specs.Window.{Window};
+    ghost use Rattle.wasm_custom.specs.Ascending.{Ascending};
+
+    ghost Value = { Ascending Window };
+
+    ghost view = { λ s. record { entries = s.sections; last = s.last } };
+}
+
+impl<'a> Clone for NameSectionReader<'a> {
+    ghost is_clone = { λ names copy. copy ≡ names };
+
+    ghost is_infallible = { λ _. ⊤ };
+
+    fn clone(&self) -> std::result::Result<Self, AllocError> {
+        Ok(NameSectionReader {
+            sections: self.sections.clone()?,
+            last: self.last,
+        })
+    }
+}
+
+impl<'a> NameSectionReader<'a> {
+    /// The subsections of what is left of a reader's window. They take no memory.
+    pub fn new(alloc: Global, reader: BinaryReader<'a>) -> Self
+        ensures { result ≡ none_given reader.entry }
+    {
+        NameSectionReader {
+            sections: Subsections::new(alloc, reader),
+            last: None,
+        }
+    }
+}
+
+impl<'a> Iterator for NameSectionReader<'a> {
+    ghost use Rattle.std.specs.Prelude.{false};
+    ghost use Rattle.wasm_base.specs.declared.fault.Fault.TheVariants.{NameSectionOrder};
+
+    type Item = Result<Name<'a>>;
+
+    ghost next_gives = { NextAscending (NextSubsection (ReadsWindowAs name_parts name_in) false)
+        offset_of_subsection id_of NameSectionOrder };
+
+    ghost remaining = { λ names. at_most (length (place names.entries).rest) };
+
+    fn next(&mut self) -> Option<Result<Name<'a>>> {
+        let start = self.sections.original_position();
+        match self.sections.next() {
+            Some(Ok(name)) => {
+                let id = u32::from(id_of(&name));
+                let fault = Fault::NameSectionOrder;
+                Some(in_order(&mut self.last, id, name, fault, start))
+            }
+            Some(Err(e)) => Some(Err(e)),
+            None => None,
+        }
+    }
+}
