@@ -1,4 +1,6 @@
 // Custom sections on worked bytes.
+mod dylink;
+mod linking;
 mod names;
 
 use crate::CustomSectionReader;
