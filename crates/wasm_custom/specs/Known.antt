@@ -10,6 +10,7 @@ use Rattle.wasm_base.specs.declared.error.Error.{Error}
 use Rattle.wasm_custom.specs.Ascending.{Ascending, none_given}
 use Rattle.wasm_custom.specs.CoreDumps.{InstanceParts, StackParts, name_section_in, modules_parts, modules_in, instances_parts, instances_in, stack_parts, stack_in}
 use Rattle.wasm_custom.specs.Custom.{Custom}
+use Rattle.wasm_custom.specs.Linking.{LinkingSection, linking_in}
 use Rattle.wasm_custom.specs.Relocations.{reloc_section_in}
 use Rattle.wasm_custom.specs.declared.known.KnownCustom.{KnownCustom}
 use Rattle.wasm_custom.specs.declared.known.KnownCustom.TheVariants as Knowns
@@ -22,10 +23,12 @@ pub data Known : Type 0 where
   names : Ascending Window → Known
   branch_hints : Section → Known
   producers : Section → Known
+  dynamic_linking : Window → Known
   core_dump : (name : List ℕ) → Known
   core_modules : List (List ℕ) → Known
   core_instances : List InstanceParts → Known
   core_stack : StackParts → Known
+  linking : LinkingSection → Known
   relocations : RelocSectionReader → Known
   unknown : Known
 
@@ -33,10 +36,12 @@ abbrev pub known_parts : {A : Type 0} → KnownCustom A → Known
 known_parts (Knowns.Name reader) = names reader
 known_parts (Knowns.BranchHints functions) = branch_hints functions
 known_parts (Knowns.Producers fields) = producers fields
+known_parts (Knowns.Dylink0 subsections) = dynamic_linking subsections
 known_parts (Knowns.CoreDump section) = core_dump section.name.now
 known_parts (Knowns.CoreDumpStack section) = core_stack (stack_parts section)
 known_parts (Knowns.CoreDumpInstances section) = core_instances (instances_parts section)
 known_parts (Knowns.CoreDumpModules section) = core_modules (modules_parts section)
+known_parts (Knowns.Linking section) = linking section
 known_parts (Knowns.Reloc section) = relocations section
 known_parts Knowns.Unknown = unknown
 
@@ -46,10 +51,12 @@ section_named name =
     if bytes_eq name (codes "name") then Sections.Name
     else if bytes_eq name (codes "metadata.code.branch_hint") then Sections.BranchHints
     else if bytes_eq name (codes "producers") then Sections.Producers
+    else if bytes_eq name (codes "dylink.0") then Sections.Dylink0
     else if bytes_eq name (codes "core") then Sections.CoreDump
     else if bytes_eq name (codes "coremodules") then Sections.CoreModules
     else if bytes_eq name (codes "coreinstances") then Sections.CoreInstances
     else if bytes_eq name (codes "corestack") then Sections.CoreStack
+    else if bytes_eq name (codes "linking") then Sections.Linking
     else if starts_with nat_eq name (codes "reloc.") then Sections.Reloc
     else Sections.Other
 
@@ -76,6 +83,9 @@ core_instances_in w = or_unknown core_instances (instances_in (place w))
 abbrev pub core_stack_in : Window → Known
 core_stack_in w = or_unknown core_stack (stack_in (place w))
 
+abbrev pub linking_section_in : Window → Known
+linking_section_in w = or_unknown linking (linking_in w)
+
 abbrev pub relocations_in : Window → Known
 relocations_in w = or_unknown relocations (reloc_section_in w)
 
@@ -84,10 +94,12 @@ abbrev pub known_in : SectionName → Window → Known
 known_in Sections.Name w = names (none_given w)
 known_in Sections.BranchHints w = branch_hints_in w
 known_in Sections.Producers w = producers_in w
+known_in Sections.Dylink0 w = dynamic_linking w
 known_in Sections.CoreDump w = core_dump_in w
 known_in Sections.CoreModules w = core_modules_in w
 known_in Sections.CoreInstances w = core_instances_in w
 known_in Sections.CoreStack w = core_stack_in w
+known_in Sections.Linking w = linking_section_in w
 known_in Sections.Reloc w = relocations_in w
 known_in Sections.Other w = unknown
 

@@ -5,18 +5,20 @@ ghost use Rattle.wasm_base.specs.FaultAt.{fault_at};
 ghost use Rattle.wasm_base.specs.Hints.{TakesNoMemory, is_want_of_memory};
 ghost use Rattle.wasm_base.specs.Owned.{out_of_memory};
 ghost use Rattle.wasm_base.specs.Window.{place};
-ghost use Rattle.wasm_custom.specs.Known.{section_named, unknown, known_parts, known_of, owns_lists, branch_hints_in, producers_in, core_dump_in, core_modules_in, core_instances_in, core_stack_in, relocations_in, KnowsUnlessMemory};
+ghost use Rattle.wasm_custom.specs.Known.{section_named, unknown, known_parts, known_of, owns_lists, branch_hints_in, producers_in, core_dump_in, core_modules_in, core_instances_in, core_stack_in, linking_section_in, relocations_in, KnowsUnlessMemory};
 
 use crate::branch_hints::BranchHintSectionReader;
 use crate::core_dumps::{
     CoreDumpInstancesSection, CoreDumpModulesSection, CoreDumpSection, CoreDumpStackSection,
 };
 use crate::custom::CustomSectionReader;
+use crate::dylink::Dylink0SectionReader;
+use crate::linking::LinkingSectionReader;
 use crate::names::NameSectionReader;
 use crate::producers::ProducersSectionReader;
 use crate::relocations::RelocSectionReader;
 use std::alloc::{Allocator, Global};
-use wasm_base::{BinaryReader, Error, Fault, Result, SectionLimited};
+use wasm_base::{BinaryReader, Error, Fault, Result, SectionLimited, Subsections};
 
 /// A custom section whose data is known, by its name.
 #[derive(Drop)]
@@ -27,6 +29,8 @@ pub enum KnownCustom<'a, A: Allocator = Global> {
     BranchHints(BranchHintSectionReader<'a>),
     /// The section `producers`.
     Producers(ProducersSectionReader<'a>),
+    /// The section `dylink.0`.
+    Dylink0(Dylink0SectionReader<'a>),
     /// The section `core`.
     CoreDump(CoreDumpSection<'a>),
     /// The section `corestack`.
@@ -35,6 +39,8 @@ pub enum KnownCustom<'a, A: Allocator = Global> {
     CoreDumpInstances(CoreDumpInstancesSection<A>),
     /// The section `coremodules`.
     CoreDumpModules(CoreDumpModulesSection<'a, A>),
+    /// The section `linking`.
+    Linking(LinkingSectionReader<'a>),
     /// A section whose name begins with `reloc.`.
     Reloc(RelocSectionReader<'a>),
     /// A section of another name, or one whose data can't be read as what its name says.
@@ -47,10 +53,12 @@ enum SectionName {
     Name,
     BranchHints,
     Producers,
+    Dylink0,
     CoreDump,
     CoreModules,
     CoreInstances,
     CoreStack,
+    Linking,
     Reloc,
     Other,
 }
@@ -69,10 +77,12 @@ fn section_named(name: &str) -> SectionName
         "name" => SectionName::Name,
         "metadata.code.branch_hint" => SectionName::BranchHints,
         "producers" => SectionName::Producers,
+        "dylink.0" => SectionName::Dylink0,
         "core" => SectionName::CoreDump,
         "coremodules" => SectionName::CoreModules,
         "coreinstances" => SectionName::CoreInstances,
         "corestack" => SectionName::CoreStack,
+        "linking" => SectionName::Linking,
         _ => {
             if has_relocations(name) {
                 SectionName::Reloc
@@ -106,6 +116,15 @@ fn core_dump<'a, A: Allocator>(window: BinaryReader<'a>) -> KnownCustom<'a, A>
 {
     match CoreDumpSection::new(window) {
         Ok(section) => KnownCustom::CoreDump(section),
+        Err(_) => KnownCustom::Unknown,
+    }
+}
+
+fn linking<'a, A: Allocator>(kept: Global, window: BinaryReader<'a>) -> KnownCustom<'a, A>
+    ensures { known_parts result ≡ linking_section_in window.entry }
+{
+    match LinkingSectionReader::new(kept, window) {
+        Ok(section) => KnownCustom::Linking(section),
         Err(_) => KnownCustom::Unknown,
     }
 }
@@ -196,10 +215,12 @@ impl<'a> CustomSectionReader<'a> {
             SectionName::Name => Ok(KnownCustom::Name(NameSectionReader::new(kept, data))),
             SectionName::BranchHints => Ok(branch_hints(data)),
             SectionName::Producers => Ok(producers(data)),
+            SectionName::Dylink0 => Ok(KnownCustom::Dylink0(Subsections::new(kept, data))),
             SectionName::CoreDump => Ok(core_dump(data)),
             SectionName::CoreModules => core_modules(alloc, data),
             SectionName::CoreInstances => core_instances(alloc, data),
             SectionName::CoreStack => core_stack(alloc, data),
+            SectionName::Linking => Ok(linking(kept, data)),
             SectionName::Reloc => Ok(relocations(data)),
             SectionName::Other => Ok(KnownCustom::Unknown),
         }

@@ -10,12 +10,13 @@ ghost use Rattle.wasm_custom.specs.Ascending.{GivesAscending};
 ghost use Rattle.wasm_custom.specs.Names.{id_of, index_of, index_of_indirect, offset_of_entry, offset_of_subsection};
 
 use crate::branch_hints::{BranchHint, BranchHintFunction};
+use crate::core_dumps::{CoreDumpInstance, CoreDumpStackFrame, CoreDumpValue};
 use crate::custom::CustomSectionReader;
 use crate::linking::{Comdat, ComdatSymbol};
 use crate::names::{IndirectNameMap, IndirectNaming, Name, NameMap, NameSectionReader, Naming};
 use crate::producers::{ProducersField, ProducersFieldValue};
 use crate::relocations::{RelocAddendKind, RelocSectionReader, RelocationEntry, RelocationType};
-use wasm_base::{FromReader, SectionLimitedIntoIter, Subsections};
+use wasm_base::{FromReader, FromReaderIn, SectionLimitedIntoIter, Subsections};
 
 /// Two relocations, types of relocations or kinds of addends are equal exactly if they are the same.
 pub fn equal_relocations_are_the_same()
@@ -40,6 +41,9 @@ pub fn copies_are_the_same<'a>()
     ensures value { IsCopy
         ⟦<ProducersFieldValue<'a> as Clone>⟧.is_clone
         ⟦<ProducersFieldValue<'a> as Clone>⟧.is_infallible }
+    ensures core_value { IsCopy
+        ⟦<CoreDumpValue as Clone>⟧.is_clone
+        ⟦<CoreDumpValue as Clone>⟧.is_infallible }
     ensures relocations { IsCopy
         ⟦<RelocSectionReader<'a> as Clone>⟧.is_clone
         ⟦<RelocSectionReader<'a> as Clone>⟧.is_infallible }
@@ -77,6 +81,9 @@ pub fn items_allow_one_outcome<'a>()
     ensures hint { AllowsOne ⟦<BranchHint as FromReader<'a>>⟧.meaning }
     ensures field { AllowsOne ⟦<ProducersField<'a> as FromReader<'a>>⟧.meaning }
     ensures value { AllowsOne ⟦<ProducersFieldValue<'a> as FromReader<'a>>⟧.meaning }
+    ensures core_value { AllowsOne ⟦<CoreDumpValue as FromReader<'a>>⟧.meaning }
+    ensures core_instance { AllowsOne ⟦<CoreDumpInstance as FromReaderIn<'a>>⟧.meaning }
+    ensures core_frame { AllowsOne ⟦<CoreDumpStackFrame as FromReaderIn<'a>>⟧.meaning }
     ensures relocation { AllowsOne ⟦<RelocationEntry as FromReader<'a>>⟧.meaning }
     ensures relocation_type { AllowsOne ⟦<RelocationType as FromReader<'a>>⟧.meaning }
 {}

@@ -1,7 +1,12 @@
 // Custom sections on worked bytes.
+mod core_dumps;
 mod dylink;
+mod heap;
+mod hints_and_producers;
+mod known;
 mod linking;
 mod names;
+mod relocations;
 
 use crate::CustomSectionReader;
 use std::test::Fail;

@@ -14,27 +14,145 @@ mod tests;
 
 pub use parse_all::ParseAll;
 pub use parser::Parser;
-pub use payload::{Chunk, Encoding, Payload};
-pub use wasm_base::{
-    _MAX_WASM_TABLE_SIZE, BinaryReader, CoreStart, DEFAULT_WASM_PAGE_SIZE, Error, Fault,
-    FromReader, FromReaderIn, Ieee32, Ieee64, Lead, MAX_WASM_BR_TABLE_SIZE, MAX_WASM_CATCHES,
-    MAX_WASM_DATA_SEGMENTS, MAX_WASM_ELEMENT_SEGMENTS, MAX_WASM_EXPORTS, MAX_WASM_FUNCTION_LOCALS,
-    MAX_WASM_FUNCTION_PARAMS, MAX_WASM_FUNCTION_RETURNS, MAX_WASM_FUNCTION_SIZE,
-    MAX_WASM_FUNCTIONS, MAX_WASM_GLOBALS, MAX_WASM_HANDLERS, MAX_WASM_IMPORTS, MAX_WASM_MEMORIES,
-    MAX_WASM_MODULES_AND_COMPONENTS, MAX_WASM_SELECT_RESULT_SIZE, MAX_WASM_STRING_SIZE,
-    MAX_WASM_STRUCT_FIELDS, MAX_WASM_SUBTYPING_DEPTH, MAX_WASM_SUPERTYPES, MAX_WASM_TABLE_ENTRIES,
-    MAX_WASM_TABLES, MAX_WASM_TAGS, MAX_WASM_TYPE_SIZE, MAX_WASM_TYPES, NumberKind, Result,
-    SectionLimited, SectionLimitedIntoIter, SectionLimitedIntoIterIn,
-    SectionLimitedIntoIterWithOffsets, WasmFeatures, fits, is_page_size, max_wasm_memory32_pages,
-    max_wasm_memory64_pages,
-};
+pub use payload::Chunk;
+pub use payload::Encoding;
+pub use payload::Payload;
+pub use wasm_base::_MAX_WASM_TABLE_SIZE;
+pub use wasm_base::BinaryReader;
+pub use wasm_base::CoreStart;
+pub use wasm_base::DEFAULT_WASM_PAGE_SIZE;
+pub use wasm_base::Error;
+pub use wasm_base::Fault;
+pub use wasm_base::FromReader;
+pub use wasm_base::FromReaderIn;
+pub use wasm_base::Ieee32;
+pub use wasm_base::Ieee64;
+pub use wasm_base::Lead;
+pub use wasm_base::MAX_WASM_BR_TABLE_SIZE;
+pub use wasm_base::MAX_WASM_CATCHES;
+pub use wasm_base::MAX_WASM_DATA_SEGMENTS;
+pub use wasm_base::MAX_WASM_ELEMENT_SEGMENTS;
+pub use wasm_base::MAX_WASM_EXPORTS;
+pub use wasm_base::MAX_WASM_FUNCTION_LOCALS;
+pub use wasm_base::MAX_WASM_FUNCTION_PARAMS;
+pub use wasm_base::MAX_WASM_FUNCTION_RETURNS;
+pub use wasm_base::MAX_WASM_FUNCTION_SIZE;
+pub use wasm_base::MAX_WASM_FUNCTIONS;
+pub use wasm_base::MAX_WASM_GLOBALS;
+pub use wasm_base::MAX_WASM_HANDLERS;
+pub use wasm_base::MAX_WASM_IMPORTS;
+pub use wasm_base::MAX_WASM_MEMORIES;
+pub use wasm_base::MAX_WASM_MODULES_AND_COMPONENTS;
+pub use wasm_base::MAX_WASM_SELECT_RESULT_SIZE;
+pub use wasm_base::MAX_WASM_STRING_SIZE;
+pub use wasm_base::MAX_WASM_STRUCT_FIELDS;
+pub use wasm_base::MAX_WASM_SUBTYPING_DEPTH;
+pub use wasm_base::MAX_WASM_SUPERTYPES;
+pub use wasm_base::MAX_WASM_TABLE_ENTRIES;
+pub use wasm_base::MAX_WASM_TABLES;
+pub use wasm_base::MAX_WASM_TAGS;
+pub use wasm_base::MAX_WASM_TYPE_SIZE;
+pub use wasm_base::MAX_WASM_TYPES;
+pub use wasm_base::NumberKind;
+pub use wasm_base::Result;
+pub use wasm_base::SectionLimited;
+pub use wasm_base::SectionLimitedIntoIter;
+pub use wasm_base::SectionLimitedIntoIterIn;
+pub use wasm_base::SectionLimitedIntoIterWithOffsets;
+pub use wasm_base::Subsection;
+pub use wasm_base::Subsections;
+pub use wasm_base::WasmFeatures;
+pub use wasm_base::fits;
+pub use wasm_base::is_page_size;
+pub use wasm_base::max_wasm_memory32_pages;
+pub use wasm_base::max_wasm_memory64_pages;
+pub use wasm_custom::BranchHint;
+pub use wasm_custom::BranchHintFunction;
+pub use wasm_custom::BranchHintSectionReader;
+pub use wasm_custom::Comdat;
+pub use wasm_custom::ComdatMap;
+pub use wasm_custom::ComdatSymbol;
+pub use wasm_custom::ComdatSymbolKind;
+pub use wasm_custom::CoreDumpInstance;
+pub use wasm_custom::CoreDumpInstancesSection;
+pub use wasm_custom::CoreDumpModulesSection;
+pub use wasm_custom::CoreDumpSection;
+pub use wasm_custom::CoreDumpStackFrame;
+pub use wasm_custom::CoreDumpStackSection;
+pub use wasm_custom::CoreDumpValue;
 pub use wasm_custom::CustomSectionReader;
-pub use wasm_items::{
-    CompositeType, ConstExpr, Data, DataKind, DataSectionReader, Element, ElementItems,
-    ElementKind, ElementSectionReader, Export, ExportSectionReader, ExternalKind, FieldType,
-    FuncType, FunctionBody, FunctionSectionReader, Global, GlobalSectionReader, GlobalType,
-    HeapType, Import, ImportItemCompact, ImportSection, ImportSectionReader, Imports, ImportsIter,
-    IntoImports, IntoImportsWithOffsets, MemorySectionReader, MemoryType, RecGroup, RefType,
-    StorageType, SubType, Table, TableInit, TableSectionReader, TableType, TagKind,
-    TagSectionReader, TagType, TypeRef, TypeSectionReader, ValType,
-};
+pub use wasm_custom::DefinedDataSymbol;
+pub use wasm_custom::Dylink0SectionReader;
+pub use wasm_custom::Dylink0Subsection;
+pub use wasm_custom::ExportInfo;
+pub use wasm_custom::ImportInfo;
+pub use wasm_custom::IndirectNameMap;
+pub use wasm_custom::IndirectNaming;
+pub use wasm_custom::InitFunc;
+pub use wasm_custom::InitFuncMap;
+pub use wasm_custom::KnownCustom;
+pub use wasm_custom::Linking;
+pub use wasm_custom::LinkingSectionReader;
+pub use wasm_custom::MemInfo;
+pub use wasm_custom::Name;
+pub use wasm_custom::NameMap;
+pub use wasm_custom::NameSectionReader;
+pub use wasm_custom::Naming;
+pub use wasm_custom::ProducersField;
+pub use wasm_custom::ProducersFieldValue;
+pub use wasm_custom::ProducersSectionReader;
+pub use wasm_custom::RelocAddendKind;
+pub use wasm_custom::RelocSectionReader;
+pub use wasm_custom::RelocationEntry;
+pub use wasm_custom::RelocationEntryReader;
+pub use wasm_custom::RelocationType;
+pub use wasm_custom::Segment;
+pub use wasm_custom::SegmentFlags;
+pub use wasm_custom::SegmentMap;
+pub use wasm_custom::SymbolFlags;
+pub use wasm_custom::SymbolInfo;
+pub use wasm_custom::SymbolInfoMap;
+pub use wasm_items::CompositeType;
+pub use wasm_items::ConstExpr;
+pub use wasm_items::Data;
+pub use wasm_items::DataKind;
+pub use wasm_items::DataSectionReader;
+pub use wasm_items::Element;
+pub use wasm_items::ElementItems;
+pub use wasm_items::ElementKind;
+pub use wasm_items::ElementSectionReader;
+pub use wasm_items::Export;
+pub use wasm_items::ExportSectionReader;
+pub use wasm_items::ExternalKind;
+pub use wasm_items::FieldType;
+pub use wasm_items::FuncType;
+pub use wasm_items::FunctionBody;
+pub use wasm_items::FunctionSectionReader;
+pub use wasm_items::Global;
+pub use wasm_items::GlobalSectionReader;
+pub use wasm_items::GlobalType;
+pub use wasm_items::HeapType;
+pub use wasm_items::Import;
+pub use wasm_items::ImportItemCompact;
+pub use wasm_items::ImportSection;
+pub use wasm_items::ImportSectionReader;
+pub use wasm_items::Imports;
+pub use wasm_items::ImportsIter;
+pub use wasm_items::IntoImports;
+pub use wasm_items::IntoImportsWithOffsets;
+pub use wasm_items::MemorySectionReader;
+pub use wasm_items::MemoryType;
+pub use wasm_items::RecGroup;
+pub use wasm_items::RefType;
+pub use wasm_items::StorageType;
+pub use wasm_items::SubType;
+pub use wasm_items::Table;
+pub use wasm_items::TableInit;
+pub use wasm_items::TableSectionReader;
+pub use wasm_items::TableType;
+pub use wasm_items::TagKind;
+pub use wasm_items::TagSectionReader;
+pub use wasm_items::TagType;
+pub use wasm_items::TypeRef;
+pub use wasm_items::TypeSectionReader;
+pub use wasm_items::ValType;

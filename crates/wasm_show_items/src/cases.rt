@@ -1,10 +1,14 @@
 // The cases on standard input, and the text of each.
+use crate::custom::show_custom;
 use crate::show::{Show, show_fault, show_item};
 use bitflags::Flags;
 use std::alloc::{AllocError, Global};
 use std::fmt::Write;
 use std::io::{self, Read, Write as _};
 use wasm_base::{BinaryReader, Error, FromReader, FromReaderIn, WasmFeatures, fits};
+use wasm_custom::{
+    Comdat, CoreDumpInstance, CoreDumpStackFrame, CoreDumpValue, RelocationEntry, SymbolInfo,
+};
 use wasm_items::{
     ConstExpr, Data, Element, Export, ExternalKind, Global as GlobalItem, HeapType, Import,
     ImportSection, ImportSectionReader, Imports, MemoryType, RecGroup, RefType, Table, TagType,
@@ -91,7 +95,17 @@ fn show_case(alloc: Global, cases: &mut BinaryReader<'_>, out: &mut String) -> R
         "data" => show_read::<Data<'_>>(&mut reader, out)?,
         "recgroup" => show_read_in::<RecGroup>(alloc, &mut reader, out)?,
         "flatimports" => show_flattened(reader, out)?,
-        _ => return Err(Failed::Cases),
+        "relocation" => show_read::<RelocationEntry>(&mut reader, out)?,
+        "symbol" => show_read::<SymbolInfo<'_>>(&mut reader, out)?,
+        "comdat" => show_read::<Comdat<'_>>(&mut reader, out)?,
+        "corevalue" => show_read::<CoreDumpValue>(&mut reader, out)?,
+        "instance" => show_read_in::<CoreDumpInstance>(alloc, &mut reader, out)?,
+        "frame" => show_read_in::<CoreDumpStackFrame>(alloc, &mut reader, out)?,
+        _ => {
+            if !show_custom(alloc, name, reader, out)? {
+                return Err(Failed::Cases);
+            }
+        }
     }
     Ok(())
 }

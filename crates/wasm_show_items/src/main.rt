@@ -2,6 +2,8 @@
 #![tactic(auto)]
 
 mod cases;
+mod custom;
+mod linking;
 mod show;
 mod types;
 
