@@ -12,7 +12,11 @@ ghost use Rattle.wasm_custom.specs.Names.{id_of, index_of, index_of_indirect, of
 use crate::branch_hints::{BranchHint, BranchHintFunction};
 use crate::core_dumps::{CoreDumpInstance, CoreDumpStackFrame, CoreDumpValue};
 use crate::custom::CustomSectionReader;
-use crate::linking::{Comdat, ComdatSymbol};
+use crate::dylink::{ExportInfo, ImportInfo, MemInfo};
+use crate::flags::{SegmentFlags, SymbolFlags};
+use crate::linking::{
+    Comdat, ComdatSymbol, ComdatSymbolKind, DefinedDataSymbol, InitFunc, Segment, SymbolInfo,
+};
 use crate::names::{IndirectNameMap, IndirectNaming, Name, NameMap, NameSectionReader, Naming};
 use crate::producers::{ProducersField, ProducersFieldValue};
 use crate::relocations::{RelocAddendKind, RelocSectionReader, RelocationEntry, RelocationType};
@@ -113,4 +117,22 @@ pub fn names_ascend<'a>()
         ⟦<Subsections<'a, Name<'a>> as Iterator>⟧.next_gives
         offset_of_subsection id_of NameSectionOrder
         ⟦<NameSectionReader<'a> as Iterator>⟧.next_gives }
+{}
+
+/// Names, what linkers and dynamic linkers read, and flags allow one outcome at each place too.
+pub fn names_and_symbols_allow_one_outcome<'a>()
+    ensures naming { AllowsOne ⟦<Naming<'a> as FromReader<'a>>⟧.meaning }
+    ensures indirect_naming { AllowsOne ⟦<IndirectNaming<'a> as FromReader<'a>>⟧.meaning }
+    ensures segment { AllowsOne ⟦<Segment<'a> as FromReader<'a>>⟧.meaning }
+    ensures init_function { AllowsOne ⟦<InitFunc as FromReader<'a>>⟧.meaning }
+    ensures comdat { AllowsOne ⟦<Comdat<'a> as FromReader<'a>>⟧.meaning }
+    ensures comdat_symbol { AllowsOne ⟦<ComdatSymbol as FromReader<'a>>⟧.meaning }
+    ensures comdat_kind { AllowsOne ⟦<ComdatSymbolKind as FromReader<'a>>⟧.meaning }
+    ensures symbol { AllowsOne ⟦<SymbolInfo<'a> as FromReader<'a>>⟧.meaning }
+    ensures defined_data { AllowsOne ⟦<DefinedDataSymbol as FromReader<'a>>⟧.meaning }
+    ensures symbol_flags { AllowsOne ⟦<SymbolFlags as FromReader<'a>>⟧.meaning }
+    ensures segment_flags { AllowsOne ⟦<SegmentFlags as FromReader<'a>>⟧.meaning }
+    ensures mem_info { AllowsOne ⟦<MemInfo as FromReader<'a>>⟧.meaning }
+    ensures export_info { AllowsOne ⟦<ExportInfo<'a> as FromReader<'a>>⟧.meaning }
+    ensures import_info { AllowsOne ⟦<ImportInfo<'a> as FromReader<'a>>⟧.meaning }
 {}

@@ -1,4 +1,6 @@
 // Texts of custom sections and their items.
+ghost use Rattle.std.specs.Iterator.{IsFinite};
+
 use crate::show::{Show, show_bytes, show_fault, show_range, show_section};
 use std::alloc::{AllocError, Global};
 use std::fmt::Write;
@@ -200,7 +202,9 @@ pub(crate) fn show_unknown(
 fn show_subsections<T: Show, I: Iterator<Item = Result<T>> + Drop>(
     subsections: I,
     out: &mut String,
-) -> std::result::Result<(), AllocError> {
+) -> std::result::Result<(), AllocError>
+    requires { I.can_next subsections × IsFinite (I.remaining subsections) }
+{
     write!(out, "<")?;
     for subsection in subsections {
         show_read(subsection, out)?;

@@ -1,5 +1,9 @@
 // What dynamic linkers read, on worked bytes.
+use super::heap::Sparing;
+use crate::dylink::read_subsection;
 use crate::{Dylink0SectionReader, Dylink0Subsection, SymbolFlags};
+use std::alloc::Global;
+use std::process::Abort;
 use std::test::Fail;
 use wasm_base::{BinaryReader, Error, Fault};
 
@@ -54,5 +58,43 @@ fn lists_of_a_library(rt: HostRuntime) -> Result<(), Fail> {
     let refused = all.next().ok_or("none")?.err();
     assert_eq!(rt; refused, Some(Error::new(Fault::UnexpectedEof, 125)));
     assert!(rt; all.next().is_none());
+    Ok(())
+}
+
+// Each growth of a list is refused in turn: that is a want of memory each time, and never another fault.
+fn runs_out(rt: &impl Abort, alloc: Global, id: u8, bytes: &[u8; 13], least: u64) {
+    let mut refused = 0;
+    for blocks in 0..9 {
+        let heap = Sparing::new(alloc, blocks);
+        match read_subsection(&heap, id, BinaryReader::new(bytes, 8)) {
+            Ok(_) => {
+                refused = blocks;
+                break;
+            }
+            Err(e) => assert_eq!(rt; e, Error::new(Fault::OutOfMemory, 0), "{blocks}"),
+        }
+    }
+    assert!(rt; refused >= least, "{refused}");
+}
+
+#[test]
+fn lists_whose_memory_runs_out(rt: HostRuntime) -> Result<(), Fail> {
+    let zeros = &[12, 0, 0, 0, 0, 0, 0, 0, 0, 0, 0, 0, 0];
+    runs_out(&rt, rt.alloc(), 2, zeros, 2);
+    runs_out(&rt, rt.alloc(), 5, zeros, 2);
+    runs_out(
+        &rt,
+        rt.alloc(),
+        3,
+        &[6, 0, 0, 0, 0, 0, 0, 0, 0, 0, 0, 0, 0],
+        2,
+    );
+    runs_out(
+        &rt,
+        rt.alloc(),
+        4,
+        &[4, 0, 0, 0, 0, 0, 0, 0, 0, 0, 0, 0, 0],
+        1,
+    );
     Ok(())
 }
