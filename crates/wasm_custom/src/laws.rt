@@ -1,6 +1,7 @@
 //! What comparing, hashing and copying custom sections and their items says, what holds of items that were read, and of
 //! whole runs over them.
-ghost use Rattle.std.specs.Prelude.{Ok};
+ghost use Rattle.std.specs.Hash as hashed;
+ghost use Rattle.std.specs.Prelude.{◌≡◌, ◌++◌, Ok, pos};
 ghost use Rattle.wasm_base.specs.Announced.{GivesAnnounced};
 ghost use Rattle.wasm_base.specs.Comparing.{DecidesSame, IsCopy};
 ghost use Rattle.wasm_base.specs.Item.{AllowsOne, Determines};
@@ -8,14 +9,20 @@ ghost use Rattle.wasm_base.specs.Window.{Place};
 ghost use Rattle.wasm_base.specs.declared.fault.Fault.TheVariants.{IndirectOrder, NameSectionOrder, NamesOrder};
 ghost use Rattle.wasm_custom.specs.Ascending.{GivesAscending};
 ghost use Rattle.wasm_custom.specs.Names.{id_of, index_of, index_of_indirect, offset_of_entry, offset_of_subsection};
+ghost use Rattle.wasm_custom.specs.Relocations.{number_of};
 
 use crate::branch_hints::{BranchHint, BranchHintFunction};
 use crate::core_dumps::{CoreDumpInstance, CoreDumpStackFrame, CoreDumpValue};
 use crate::custom::CustomSectionReader;
-use crate::linking::{Comdat, ComdatSymbol};
+use crate::dylink::{ExportInfo, ImportInfo, MemInfo};
+use crate::flags::{SegmentFlags, SymbolFlags};
+use crate::linking::{
+    Comdat, ComdatSymbol, ComdatSymbolKind, DefinedDataSymbol, InitFunc, Segment, SymbolInfo,
+};
 use crate::names::{IndirectNameMap, IndirectNaming, Name, NameMap, NameSectionReader, Naming};
 use crate::producers::{ProducersField, ProducersFieldValue};
 use crate::relocations::{RelocAddendKind, RelocSectionReader, RelocationEntry, RelocationType};
+use std::hash::Hash;
 use wasm_base::{FromReader, FromReaderIn, SectionLimitedIntoIter, Subsections};
 
 /// Two relocations, types of relocations or kinds of addends are equal exactly if they are the same.
@@ -23,6 +30,15 @@ pub fn equal_relocations_are_the_same()
     ensures relocation { DecidesSame ⟦<RelocationEntry as PartialEq>⟧.eq }
     ensures relocation_type { DecidesSame ⟦<RelocationType as PartialEq>⟧.eq }
     ensures addend_kind { DecidesSame ⟦<RelocAddendKind as PartialEq>⟧.eq }
+{}
+
+/// A relocation is hashed as its fields, one after the other, and its type as its number.
+pub fn relocations_are_hashed_as_their_fields()
+    ensures relocation { (entry : RelocationEntry) → ⟦<RelocationEntry as Hash>⟧.hash_input entry ≡
+        ⟦<RelocationType as Hash>⟧.hash_input entry.ty ++ hashed.u32 entry.offset ++ hashed.u32 entry.index
+        ++ hashed.i64 entry.addend }
+    ensures relocation_type { (ty : RelocationType) → ⟦<RelocationType as Hash>⟧.hash_input ty ≡ hashed.isize
+        (pos (number_of ty)) }
 {}
 
 /// A copy of a custom section or of one of its items is the same, its name as a text and its window, and can always be
@@ -113,4 +129,22 @@ pub fn names_ascend<'a>()
         ⟦<Subsections<'a, Name<'a>> as Iterator>⟧.next_gives
         offset_of_subsection id_of NameSectionOrder
         ⟦<NameSectionReader<'a> as Iterator>⟧.next_gives }
+{}
+
+/// Names, what linkers and dynamic linkers read, and flags allow one outcome at each place too.
+pub fn names_and_symbols_allow_one_outcome<'a>()
+    ensures naming { AllowsOne ⟦<Naming<'a> as FromReader<'a>>⟧.meaning }
+    ensures indirect_naming { AllowsOne ⟦<IndirectNaming<'a> as FromReader<'a>>⟧.meaning }
+    ensures segment { AllowsOne ⟦<Segment<'a> as FromReader<'a>>⟧.meaning }
+    ensures init_function { AllowsOne ⟦<InitFunc as FromReader<'a>>⟧.meaning }
+    ensures comdat { AllowsOne ⟦<Comdat<'a> as FromReader<'a>>⟧.meaning }
+    ensures comdat_symbol { AllowsOne ⟦<ComdatSymbol as FromReader<'a>>⟧.meaning }
+    ensures comdat_kind { AllowsOne ⟦<ComdatSymbolKind as FromReader<'a>>⟧.meaning }
+    ensures symbol { AllowsOne ⟦<SymbolInfo<'a> as FromReader<'a>>⟧.meaning }
+    ensures defined_data { AllowsOne ⟦<DefinedDataSymbol as FromReader<'a>>⟧.meaning }
+    ensures symbol_flags { AllowsOne ⟦<SymbolFlags as FromReader<'a>>⟧.meaning }
+    ensures segment_flags { AllowsOne ⟦<SegmentFlags as FromReader<'a>>⟧.meaning }
+    ensures mem_info { AllowsOne ⟦<MemInfo as FromReader<'a>>⟧.meaning }
+    ensures export_info { AllowsOne ⟦<ExportInfo<'a> as FromReader<'a>>⟧.meaning }
+    ensures import_info { AllowsOne ⟦<ImportInfo<'a> as FromReader<'a>>⟧.meaning }
 {}

@@ -1,8 +1,10 @@
 // Custom sections on worked bytes.
 mod core_dumps;
+mod dylink;
 mod heap;
 mod hints_and_producers;
 mod known;
+mod linking;
 mod names;
 mod relocations;
 
