@@ -1,7 +1,7 @@
 //! What comparing, hashing and copying custom sections and their items says, what holds of items that were read, and of
 //! whole runs over them.
 ghost use Rattle.std.specs.Hash as hashed;
-ghost use Rattle.std.specs.Prelude.{◌≡◌, ◌++◌, Ok, pos};
+ghost use Rattle.std.specs.Prelude.{◌≡◌, ◌++◌, Ok};
 ghost use Rattle.wasm_base.specs.Announced.{GivesAnnounced};
 ghost use Rattle.wasm_base.specs.Comparing.{DecidesSame, IsCopy};
 ghost use Rattle.wasm_base.specs.Item.{AllowsOne, Determines};
@@ -37,8 +37,8 @@ pub fn relocations_are_hashed_as_their_fields()
     ensures relocation { (entry : RelocationEntry) → ⟦<RelocationEntry as Hash>⟧.hash_input entry ≡
         ⟦<RelocationType as Hash>⟧.hash_input entry.ty ++ hashed.u32 entry.offset ++ hashed.u32 entry.index
         ++ hashed.i64 entry.addend }
-    ensures relocation_type { (ty : RelocationType) → ⟦<RelocationType as Hash>⟧.hash_input ty ≡ hashed.isize
-        (pos (number_of ty)) }
+    ensures relocation_type { (ty : RelocationType) → ⟦<RelocationType as Hash>⟧.hash_input ty ≡ hashed.u8
+        (number_of ty) }
 {}
 
 /// A copy of a custom section or of one of its items is the same, its name as a text and its window, and can always be
