@@ -56,10 +56,11 @@ pub record GivesSubsections {T : Type 0} (next : Window → Option (Result T Err
   pub at_most : (given : List (Result T Error)) → Drains next s given → length given ≤ length (place s).rest
   pub after : (t u : Window) (given : Option (Result T Error)) → next s None t → next t given u → given ≡ None
 
--- The one thing that a subsection's id and window are read as, where view is what counts of a value.
+-- the result, where view is what counts of a value
 abbrev pub result_map : {X Y : Type 0} → (X → Y) → Result X FaultAt → Result Y FaultAt
 result_map view (Ok x) = Ok (view x)
 result_map view (Err e) = Err e
 
+-- The one thing that a subsection's id and window are read as, where view is what counts of a value.
 abbrev pub ReadsWindowAs : {X Y : Type 0} → (X → Y) → (ℕ → Window → Result Y FaultAt) → ℕ → Window → Result X FaultAt → Type 0
 ReadsWindowAs view reading id window outcome = reading id window ≡ result_map view outcome
