@@ -1,6 +1,7 @@
 //! What comparing, hashing and copying custom sections and their items says, what holds of items that were read, and of
 //! whole runs over them.
-ghost use Rattle.std.specs.Prelude.{Ok};
+ghost use Rattle.std.specs.Hash as hashed;
+ghost use Rattle.std.specs.Prelude.{◌≡◌, ◌++◌, Ok};
 ghost use Rattle.wasm_base.specs.Announced.{GivesAnnounced};
 ghost use Rattle.wasm_base.specs.Comparing.{DecidesSame, IsCopy};
 ghost use Rattle.wasm_base.specs.Item.{AllowsOne, Determines};
@@ -8,6 +9,7 @@ ghost use Rattle.wasm_base.specs.Window.{Place};
 ghost use Rattle.wasm_base.specs.declared.fault.Fault.TheVariants.{IndirectOrder, NameSectionOrder, NamesOrder};
 ghost use Rattle.wasm_custom.specs.Ascending.{GivesAscending};
 ghost use Rattle.wasm_custom.specs.Names.{id_of, index_of, index_of_indirect, offset_of_entry, offset_of_subsection};
+ghost use Rattle.wasm_custom.specs.Relocations.{number_of};
 
 use crate::branch_hints::{BranchHint, BranchHintFunction};
 use crate::core_dumps::{CoreDumpInstance, CoreDumpStackFrame, CoreDumpValue};
@@ -20,6 +22,7 @@ use crate::linking::{
 use crate::names::{IndirectNameMap, IndirectNaming, Name, NameMap, NameSectionReader, Naming};
 use crate::producers::{ProducersField, ProducersFieldValue};
 use crate::relocations::{RelocAddendKind, RelocSectionReader, RelocationEntry, RelocationType};
+use std::hash::Hash;
 use wasm_base::{FromReader, FromReaderIn, SectionLimitedIntoIter, Subsections};
 
 /// Two relocations, types of relocations or kinds of addends are equal exactly if they are the same.
@@ -27,6 +30,15 @@ pub fn equal_relocations_are_the_same()
     ensures relocation { DecidesSame ⟦<RelocationEntry as PartialEq>⟧.eq }
     ensures relocation_type { DecidesSame ⟦<RelocationType as PartialEq>⟧.eq }
     ensures addend_kind { DecidesSame ⟦<RelocAddendKind as PartialEq>⟧.eq }
+{}
+
+/// A relocation is hashed as its fields, one after the other, and its type as its number.
+pub fn relocations_are_hashed_as_their_fields()
+    ensures relocation { (entry : RelocationEntry) → ⟦<RelocationEntry as Hash>⟧.hash_input entry ≡
+        ⟦<RelocationType as Hash>⟧.hash_input entry.ty ++ hashed.u32 entry.offset ++ hashed.u32 entry.index
+        ++ hashed.i64 entry.addend }
+    ensures relocation_type { (ty : RelocationType) → ⟦<RelocationType as Hash>⟧.hash_input ty ≡ hashed.u8
+        (number_of ty) }
 {}
 
 /// A copy of a custom section or of one of its items is the same, its name as a text and its window, and can always be

@@ -6,6 +6,7 @@ pub mod Externals
 pub mod Flattened
 pub mod Globals
 pub mod Groups
+pub mod Hashed
 pub mod Imports
 pub mod Init
 pub mod Left

@@ -1,10 +1,11 @@
 //! What comparing and copying items says, what holds of items that were read, and of whole runs over them.
-ghost use Rattle.std.specs.Prelude.{Ok};
+ghost use Rattle.std.specs.Prelude.{◌≡◌, Ok};
 ghost use Rattle.wasm_base.specs.Comparing.{DecidesWhether, DecidesSame, IsCopy};
 ghost use Rattle.wasm_base.specs.Item.{AllowsOne, Determines};
 ghost use Rattle.wasm_base.specs.Window.{Place};
 ghost use Rattle.wasm_items.specs.Announced.{ElementsAreGiven};
 ghost use Rattle.wasm_items.specs.Flattened.{GivesAll, found_at, found};
+ghost use Rattle.wasm_items.specs.Hashed.{hash_of_value, hash_of_reference, hash_of_heap, hash_of_field, hash_of_storage, hash_of_table, hash_of_memory, hash_of_global, hash_of_tag, hash_of_kind};
 ghost use Rattle.wasm_items.specs.Init.{IsEndOrInstruction};
 ghost use Rattle.wasm_items.specs.Same.{IsSameImport, IsSameItem, IsSameExport, IsSameFunction, IsSameComposite, IsSameSubtype, IsSameGroup};
 
@@ -21,6 +22,7 @@ use crate::types::{
     CompositeType, FieldType, FuncType, GlobalType, HeapType, MemoryType, RecGroup, RefType,
     StorageType, SubType, TableType, TagKind, TagType, ValType,
 };
+use std::hash::Hash;
 use wasm_base::{FromReader, FromReaderIn, SectionLimitedIntoIter};
 
 /// Two types, kinds or externals, which own no list, are equal exactly if they are the same.
@@ -37,6 +39,20 @@ pub fn equal_types_are_the_same()
     ensures tag_kind { DecidesSame ⟦<TagKind as PartialEq>⟧.eq }
     ensures external_kind { DecidesSame ⟦<ExternalKind as PartialEq>⟧.eq }
     ensures external { DecidesSame ⟦<TypeRef as PartialEq>⟧.eq }
+{}
+
+/// A type is hashed as its fields, one after the other, and one of several cases as the number of the case and what it holds.
+pub fn types_are_hashed_as_their_fields()
+    ensures value { (ty : ValType) → ⟦<ValType as Hash>⟧.hash_input ty ≡ hash_of_value ty }
+    ensures reference { (ty : RefType) → ⟦<RefType as Hash>⟧.hash_input ty ≡ hash_of_reference ty }
+    ensures heap { (ty : HeapType) → ⟦<HeapType as Hash>⟧.hash_input ty ≡ hash_of_heap ty }
+    ensures field { (ty : FieldType) → ⟦<FieldType as Hash>⟧.hash_input ty ≡ hash_of_field ty }
+    ensures storage { (ty : StorageType) → ⟦<StorageType as Hash>⟧.hash_input ty ≡ hash_of_storage ty }
+    ensures table { (ty : TableType) → ⟦<TableType as Hash>⟧.hash_input ty ≡ hash_of_table ty }
+    ensures memory { (ty : MemoryType) → ⟦<MemoryType as Hash>⟧.hash_input ty ≡ hash_of_memory ty }
+    ensures global { (ty : GlobalType) → ⟦<GlobalType as Hash>⟧.hash_input ty ≡ hash_of_global ty }
+    ensures tag { (ty : TagType) → ⟦<TagType as Hash>⟧.hash_input ty ≡ hash_of_tag ty }
+    ensures tag_kind { (kind : TagKind) → ⟦<TagKind as Hash>⟧.hash_input kind ≡ hash_of_kind kind }
 {}
 
 /// Two types that own lists are equal exactly if all that they have is the same, whatever the capacity of the lists.

@@ -6,7 +6,7 @@ use crate::{CustomSectionReader, KnownCustom};
 use std::alloc::{Allocator, Global};
 use std::process::Abort;
 use std::test::Fail;
-use wasm_base::{BinaryReader, Error, Fault};
+use wasm_base::{BinaryReader, Error, Fault, fits};
 
 /// More blocks than any of the sections takes.
 const AMPLE: u64 = 40;
@@ -29,6 +29,19 @@ fn kind_of<A: Allocator>(known: &KnownCustom<'_, A>) -> (&'static str, usize) {
         KnownCustom::Reloc(section) => ("relocations", section.entries().count() as usize),
         KnownCustom::Unknown => ("unknown", 0),
     }
+}
+
+fn is_known_as(
+    rt: &impl Abort,
+    alloc: Global,
+    bytes: &[u8],
+    wanted: (&str, usize),
+) -> Result<(), Fail> {
+    assert!(rt; fits(8, bytes.len()));
+    let section = CustomSectionReader::new(BinaryReader::new(bytes, 8))?;
+    let known = section.as_known(alloc)?;
+    assert_eq!(rt; kind_of(&known), wanted, "{bytes:?}");
+    Ok(())
 }
 
 #[test]
@@ -75,9 +88,7 @@ fn known_with_ample_memory(rt: HostRuntime) -> Result<(), Fail> {
         (b"\x0ftarget_features\x00", ("unknown", 0)),
     ];
     for (bytes, wanted) in rows {
-        let section = CustomSectionReader::new(BinaryReader::new(bytes, 8))?;
-        let known = section.as_known(rt.alloc())?;
-        assert_eq!(rt; kind_of(&known), wanted, "{bytes:?}");
+        is_known_as(&rt, rt.alloc(), bytes, wanted)?;
     }
     Ok(())
 }
