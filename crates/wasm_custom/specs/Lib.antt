@@ -4,6 +4,7 @@ pub mod CoreDumps
 pub mod Custom
 pub mod Dylink
 pub mod Flags
+pub mod Hashed
 pub mod Known
 pub mod Linking
 pub mod Names

@@ -1,13 +1,16 @@
 //! What comparing, hashing and copying custom sections and their items says, what holds of items that were read, and of
 //! whole runs over them.
 ghost use Rattle.std.specs.Hash as hashed;
-ghost use Rattle.std.specs.Prelude.{◌≡◌, ◌++◌, Ok};
+ghost use Rattle.std.specs.Ordering.{nat_cmp};
+ghost use Rattle.std.specs.Prelude.{◌≡◌, Ok, Some};
 ghost use Rattle.wasm_base.specs.Announced.{GivesAnnounced};
 ghost use Rattle.wasm_base.specs.Comparing.{DecidesSame, IsCopy};
 ghost use Rattle.wasm_base.specs.Item.{AllowsOne, Determines};
 ghost use Rattle.wasm_base.specs.Window.{Place};
 ghost use Rattle.wasm_base.specs.declared.fault.Fault.TheVariants.{IndirectOrder, NameSectionOrder, NamesOrder};
 ghost use Rattle.wasm_custom.specs.Ascending.{GivesAscending};
+ghost use Rattle.wasm_custom.specs.Flags.{segment_bits, symbol_bits};
+ghost use Rattle.wasm_custom.specs.Hashed.{hash_of_addend, hash_of_relocation, hash_of_symbol_kind};
 ghost use Rattle.wasm_custom.specs.Names.{id_of, index_of, index_of_indirect, offset_of_entry, offset_of_subsection};
 ghost use Rattle.wasm_custom.specs.Relocations.{number_of};
 
@@ -34,11 +37,46 @@ pub fn equal_relocations_are_the_same()
 
 /// A relocation is hashed as its fields, one after the other, and its type as its number.
 pub fn relocations_are_hashed_as_their_fields()
-    ensures relocation { (entry : RelocationEntry) → ⟦<RelocationEntry as Hash>⟧.hash_input entry ≡
-        ⟦<RelocationType as Hash>⟧.hash_input entry.ty ++ hashed.u32 entry.offset ++ hashed.u32 entry.index
-        ++ hashed.i64 entry.addend }
-    ensures relocation_type { (ty : RelocationType) → ⟦<RelocationType as Hash>⟧.hash_input ty ≡ hashed.u8
-        (number_of ty) }
+    ensures relocation { (entry : RelocationEntry) →
+        ⟦<RelocationEntry as Hash>⟧.hash_input entry ≡ hash_of_relocation entry }
+    ensures relocation_type { (ty : RelocationType) →
+        ⟦<RelocationType as Hash>⟧.hash_input ty ≡ hashed.u8 (number_of ty) }
+{}
+
+/// Two sets of flags, or two kinds of symbols of a comdat, are equal exactly if they are the same.
+pub fn equal_flags_are_the_same()
+    ensures symbol_flags { DecidesSame ⟦<SymbolFlags as PartialEq>⟧.eq }
+    ensures segment_flags { DecidesSame ⟦<SegmentFlags as PartialEq>⟧.eq }
+    ensures comdat_kind { DecidesSame ⟦<ComdatSymbolKind as PartialEq>⟧.eq }
+{}
+
+/// A set of flags is hashed as its bits, and a kind of symbols or of addends as the number of its case.
+pub fn flags_are_hashed_as_their_bits()
+    ensures symbol_flags { (flags : SymbolFlags) →
+        ⟦<SymbolFlags as Hash>⟧.hash_input flags ≡ hashed.u32 (symbol_bits flags) }
+    ensures segment_flags { (flags : SegmentFlags) →
+        ⟦<SegmentFlags as Hash>⟧.hash_input flags ≡ hashed.u32 (segment_bits flags) }
+    ensures comdat_kind { (kind : ComdatSymbolKind) →
+        ⟦<ComdatSymbolKind as Hash>⟧.hash_input kind ≡ hash_of_symbol_kind kind }
+    ensures addend_kind { (kind : RelocAddendKind) →
+        ⟦<RelocAddendKind as Hash>⟧.hash_input kind ≡ hash_of_addend kind }
+{}
+
+/// Sets of symbol flags are in the order of the numbers that their bits are.
+pub fn symbol_flags_are_in_the_order_of_their_bits()
+    ensures order { (one other : SymbolFlags) →
+        ⟦<SymbolFlags as Ord>⟧.cmp one other ≡ nat_cmp (symbol_bits one) (symbol_bits other) }
+    ensures partial { (one other : SymbolFlags) →
+        ⟦<SymbolFlags as PartialOrd>⟧.partial_cmp one other
+        ≡ Some (nat_cmp (symbol_bits one) (symbol_bits other)) }
+{}
+
+/// A default set of flags is empty.
+pub fn default_flags_are_none()
+    ensures symbol_flags { (flags : SymbolFlags) →
+        ⟦<SymbolFlags as Default>⟧.is_default flags → symbol_bits flags ≡ 0 }
+    ensures segment_flags { (flags : SegmentFlags) →
+        ⟦<SegmentFlags as Default>⟧.is_default flags → segment_bits flags ≡ 0 }
 {}
 
 /// A copy of a custom section or of one of its items is the same, its name as a text and its window, and can always be
@@ -72,6 +110,37 @@ pub fn copies_are_the_same<'a>()
     ensures addend_kind { IsCopy
         ⟦<RelocAddendKind as Clone>⟧.is_clone
         ⟦<RelocAddendKind as Clone>⟧.is_infallible }
+{}
+
+/// A copy of a name, of what has names, of a symbol, of what linkers and dynamic linkers read or of a set of flags is the same,
+/// and can always be made.
+pub fn copies_of_names_and_symbols_are_the_same<'a>()
+    ensures naming { IsCopy ⟦<Naming<'a> as Clone>⟧.is_clone ⟦<Naming<'a> as Clone>⟧.is_infallible }
+    ensures segment { IsCopy
+        ⟦<Segment<'a> as Clone>⟧.is_clone
+        ⟦<Segment<'a> as Clone>⟧.is_infallible }
+    ensures init_function { IsCopy
+        ⟦<InitFunc as Clone>⟧.is_clone
+        ⟦<InitFunc as Clone>⟧.is_infallible }
+    ensures comdat_symbol { IsCopy
+        ⟦<ComdatSymbol as Clone>⟧.is_clone
+        ⟦<ComdatSymbol as Clone>⟧.is_infallible }
+    ensures comdat_kind { IsCopy
+        ⟦<ComdatSymbolKind as Clone>⟧.is_clone
+        ⟦<ComdatSymbolKind as Clone>⟧.is_infallible }
+    ensures symbol { IsCopy
+        ⟦<SymbolInfo<'a> as Clone>⟧.is_clone
+        ⟦<SymbolInfo<'a> as Clone>⟧.is_infallible }
+    ensures defined_data { IsCopy
+        ⟦<DefinedDataSymbol as Clone>⟧.is_clone
+        ⟦<DefinedDataSymbol as Clone>⟧.is_infallible }
+    ensures memory { IsCopy ⟦<MemInfo as Clone>⟧.is_clone ⟦<MemInfo as Clone>⟧.is_infallible }
+    ensures symbol_flags { IsCopy
+        ⟦<SymbolFlags as Clone>⟧.is_clone
+        ⟦<SymbolFlags as Clone>⟧.is_infallible }
+    ensures segment_flags { IsCopy
+        ⟦<SegmentFlags as Clone>⟧.is_clone
+        ⟦<SegmentFlags as Clone>⟧.is_infallible }
 {}
 
 /// The hints of a function that was read are the announced ones: an iterator over them gives so many, and no fault.
