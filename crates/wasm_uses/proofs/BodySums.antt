@@ -1,29 +1,31 @@
 -- What a step of a feeder adds to the sum of the bodies.
-use Rattle.std.proofs.Common.{Bor, ◌≡◌, ℕ, zero, suc, ◌+◌, ◌<◌, ◌≤◌, ◌^◌, true, false, List, [], ◌∷◌, ◌++◌, length, take, Option, Some, None, Result, Ok, Err, nat_eq, refl, sym, ap, subst, ◌∙◌, arith, append_assoc, append-nil, length-append, zero-add}
+use Rattle.std.proofs.Common.{Bor, ◌≡◌, ℕ, zero, suc, ◌+◌, ◌<◌, ◌≤◌, ◌^◌, Bool, true, false, cond, List, [], ◌∷◌, ◌++◌, length, take, Option, Some, None, Result, Ok, Err, nat_eq, nat_lt, ltb-true, ltb-false, refl, sym, ap, subst, ◌∙◌, arith, append_assoc, append-nil, length-append, zero-add}
 use Rattle.std.proofs.lemmas.Grind.{flat_map-append}
 use Rattle.std.proofs.lemmas.List.{take_at}
 use Rattle.wasm_base.specs.FaultAt.{FaultAt, fault_at}
 use Rattle.wasm_base.specs.declared.error.Error.{Error}
-use Rattle.wasm_parser.specs.ParseAnswer.{report_of, is_end}
+use Rattle.wasm_parser.specs.ParseAnswer.{report_of, is_end, Answers, ParseAnswer}
 use Rattle.wasm_parser.specs.Content.{fault, ended}
-use Rattle.wasm_parser.specs.Grammar.{Verdict, tile, final}
+use Rattle.wasm_parser.specs.Grammar.{Verdict, tile, final, verdict}
 use Rattle.wasm_parser.specs.Reading.{Report, Event, events_of, last_event, Reading}
 use Rattle.wasm_parser.specs.EventRanges.{consumed_by}
-use Rattle.wasm_parser.specs.ParserState.{ParserState, IsStateAfter, initial_state}
+use Rattle.wasm_parser.specs.ParserState.{ParserState, IsStateAfter, initial_state, ended_state, grammar_of}
+use Rattle.wasm_parser.specs.StateAfter.{state_after}
 use Rattle.wasm_parser.specs.GivesNextEvent.{GivesEvent}
-use Rattle.wasm_parser.specs.declared.payload.Chunk.TheVariants.{Parsed as Chunk}
+use Rattle.wasm_parser.specs.declared.payload.Chunk.{Chunk as Answer}
+use Rattle.wasm_parser.specs.declared.payload.Chunk.TheVariants.{NeedMoreData as Request, Parsed as Chunk}
 use Rattle.wasm_parser.specs.declared.payload.Payload.{Payload}
 use Rattle.wasm_parser.specs.declared.payload.Payload.TheVariants.{Version, TypeSection, ImportSection, FunctionSection, TableSection, MemorySection, TagSection, GlobalSection, ExportSection, StartSection, ElementSection, DataCountSection, DataSection, CodeSectionStart, CodeSectionEntry, CustomSection, UnknownSection, End}
 use Rattle.wasm_parser.proofs.Following.{gives_next}
 use Rattle.wasm_parser.proofs.StateLaws.{nothing_passed}
 use Rattle.wasm_parser.proofs.AnswerBounds.{consumes}
 use Rattle.wasm_uses.specs.Bodies.{size_report, adds, bodies_in, SumIs, Adds}
-use Rattle.wasm_uses.specs.Feed.{Feed, new_feed, next_at, state_after_verdict}
-use Rattle.wasm_uses.specs.Step.{answer_of, Steps}
+use Rattle.wasm_feed.specs.Feed.{Feed, new_feed, pushed, finished}
+use Rattle.wasm_feed.specs.Step.{answer_of, state_after_answer, Steps}
 use Rattle.wasm_uses.specs.Totals.{plus}
-use Rattle.wasm_uses.specs.declared.feeder.Step.{Step}
-use Rattle.wasm_uses.specs.declared.feeder.Step.TheVariants.{Parsed}
-use Rattle.wasm_uses.proofs.Moves.{moves}
+use Rattle.wasm_feed.specs.declared.feeder.Step.{Step}
+use Rattle.wasm_feed.specs.declared.feeder.Step.TheVariants.{NeedMoreData, Parsed}
+use Rattle.wasm_feed.proofs.Stepping.{after_answer}
 use Rattle.wasm_uses.proofs.Sums.{plus_twice}
 
 -- ---- what a payload adds
@@ -86,23 +88,44 @@ last_is (b ∷ before) (y ∷ xs) e x w = last_is before xs e x (let t : before 
 last_takes_none : (stream : List ℕ) (start features : ℕ) (before : List Event) (e : Event) → Reading stream start features (before ++ e ∷ []) → length e.consumed ≡ 0
 last_takes_none stream start features before e r = ap (λ (x : Event). length x.consumed) (last_is before (events_of start features r.tiles) e (last_event r.end) r.listed)
 
-features_stay : (p : ParserState) (v : Verdict) → (state_after_verdict p v).features ≡ p.features
-features_stay p (tile t) = refl
-features_stay p (final (ended o)) = refl
-features_stay p (final (fault f)) = refl
+features_stay_at : (b : Bool) (p : ParserState) (to : ℕ) (r : Report) → (let q : ParserState = cond b (ended_state p) (state_after p to r) in q.features) ≡ p.features
+features_stay_at true p to r = refl
+features_stay_at false p to r = refl
+
+features_stay : (p : ParserState) (r : Result Answer Error) → (state_after_answer p r).features ≡ p.features
+features_stay p (Ok (Request hint)) = refl
+features_stay p (Ok (Chunk consumed payload)) = features_stay_at (is_end (report_of payload)) p (p.offset + consumed) (report_of payload)
+features_stay p (Err e) = refl
 
 same_features : (old new : Feed) (x : Result Step Error) → Steps old x new → new.state.features ≡ old.state.features
-same_features old new x s = ap (λ (p : ParserState). p.features) (moves old.state new.state old.held (answer_of x) s.parses).state ∙ features_stay old.state (next_at old.state old.held)
+same_features old new x s = ap (λ (p : ParserState). p.features) (after_answer old.state new.state old.eof old.held (answer_of x) s.parses) ∙ features_stay old.state (answer_of x)
+
+-- at the end of a stream nothing is asked for
+no_request_at : (p new : ParserState) (hint : ℕ) (v : Verdict) → Answers p v (Ok (Request hint)) new → ⊥
+no_request_at p new hint (tile t) a = a
+no_request_at p new hint (final (fault f)) a = a
+no_request_at p new hint (final (ended o)) a = a
+
+no_request_by : (b : Bool) (p new : ParserState) (rest : List ℕ) (hint : ℕ) → nat_lt (p.offset + length rest) (2 ^ 64) ≡ b → ParseAnswer p true rest (Ok (Request hint)) new → ⊥
+no_request_by true p new rest hint t h = no_request_at p new hint (verdict (grammar_of p) rest) (h.within (ltb-true _ _ t))
+no_request_by false p new rest hint t h = h.past_the_top (ltb-false _ _ t)
+
+pub no_request : (old new : Feed) (hint : ℕ) → old.eof ≡ true → Steps old (Ok (NeedMoreData hint)) new → ⊥
+no_request old new hint e s =
+    no_request_by (nat_lt (old.state.offset + length old.held) (2 ^ 64)) old.state new.state old.held hint refl (subst (λ (b : Bool). ParseAnswer old.state b old.held (Ok (Request hint)) new.state) e s.parses)
 
 -- ---- a step
 
-module _ (old new : Feed) (bytes : Bor (List ℕ)) (payload : Payload) (s : Steps old (Ok (Parsed bytes payload)) new) where
+module _ (old new : Feed) (bytes : Bor (List ℕ)) (payload : Payload) (at_end : old.eof ≡ true) (s : Steps old (Ok (Parsed bytes payload)) new) where
+  parses : ParseAnswer old.state true old.held (Ok (Chunk (length bytes.now) payload)) new.state
+  parses = subst (λ (b : Bool). ParseAnswer old.state b old.held (Ok (Chunk (length bytes.now) payload)) new.state) at_end s.parses
+
   abbrev n : ℕ
   n = length bytes.now
 
   some_bytes : is_end (report_of payload) ≡ false → 0 < length bytes.now
   some_bytes going =
-      let c = (consumes old.state new.state true old.held (Ok (Chunk (length bytes.now) payload)) s.parses).1 in
+      let c = (consumes old.state new.state true old.held (Ok (Chunk (length bytes.now) payload)) parses).1 in
       let z : nat_eq (length bytes.now) 0 ≡ false = c ∙ going in positive (length bytes.now) z
     where
       positive : (k : ℕ) → nat_eq k 0 ≡ false → 0 < k
@@ -116,7 +139,7 @@ module _ (old new : Feed) (bytes : Bor (List ℕ)) (payload : Payload) (s : Step
   module _ (start : ℕ) (prefix : List ℕ) (is_after : IsStateAfter old.state start prefix) (fits : start + length prefix + length old.held < 2 ^ 64) (before later : List Event) (e : Event)
       (reading : Reading (prefix ++ old.held) start old.state.features (before ++ e ∷ later)) (c : consumed_by before ≡ prefix) where
     report : GivesEvent e old.state true start prefix old.held (Ok (Chunk (length bytes.now) payload)) new.state
-    report = gives_next old.state new.state true old.held (Ok (Chunk (length bytes.now) payload)) s.parses start prefix old.held refl is_after fits (before ++ e ∷ later) reading (record { before = before; event = e; later = later; whole = refl; consumed = c })
+    report = gives_next old.state new.state true old.held (Ok (Chunk (length bytes.now) payload)) parses start prefix old.held refl is_after fits (before ++ e ∷ later) reading (record { before = before; event = e; later = later; whole = refl; consumed = c })
 
     same_bytes : e.consumed ≡ bytes.now
     same_bytes = sym report.2 ∙ (ap (take (length bytes.now)) s.shows ∙ take_at bytes.now new.held (length bytes.now) refl)
@@ -153,6 +176,7 @@ module _ (old new : Feed) (bytes : Bor (List ℕ)) (payload : Payload) (s : Step
       let f = (found (length bytes.now) payload).some k z in (
         omega (arith, f.0, lengths),
         omega (arith, some_bytes f.1, lengths),
+        s.eof ∙ at_end,
         λ sum rest start prefix is_after fits before later e reading c.
             added start prefix is_after fits before later e reading c (bodies_in later) ∙ (f.2 (bodies_in later) ∙ ap (plus k) (sum_on sum start prefix is_after fits before later e reading c f.1 rest)),
       )
@@ -168,44 +192,47 @@ module _ (old new : Feed) (bytes : Bor (List ℕ)) (payload : Payload) (s : Step
   pub payload_adds : Adds old (Ok (size_report (length bytes.now) (report_of payload))) new
   payload_adds = adds_by (size_report (length bytes.now) (report_of payload)) refl
 
-pub fault_adds : (old new : Feed) (f : Error) → Steps old (Err f) new → Adds old (Err f) new
-fault_adds old new f s start prefix is_after fits before later e reading c =
-    let t = gives_next old.state new.state true old.held (Err f) s.parses start prefix old.held refl is_after fits (before ++ e ∷ later) reading (record { before = before; event = e; later = later; whole = refl; consumed = c }) in
+pub fault_adds : (old new : Feed) (f : Error) → old.eof ≡ true → Steps old (Err f) new → Adds old (Err f) new
+fault_adds old new f at_end s start prefix is_after fits before later e reading c =
+    let t = gives_next old.state new.state true old.held (Err f) (subst (λ (b : Bool). ParseAnswer old.state b old.held (Err f) new.state) at_end s.parses) start prefix old.held refl is_after fits (before ++ e ∷ later) reading (record { before = before; event = e; later = later; whole = refl; consumed = c }) in
     ap (λ (x : Report). adds (length e.consumed) x (bodies_in later)) t.0
 
 -- ---- the whole stream
 
 -- So much of a stream's sum was found, and the rest of it is that of the bytes that are left.
-pub record Counted (stream : List ℕ) (total : ℕ) (feed : Feed) : Type 0 where
+pub record Counted (features : ℕ) (stream : List ℕ) (total : ℕ) (feed : Feed) : Type 0 where
   pub room : total + length feed.held ≤ length stream
-  pub so_far : (sum : Result ℕ FaultAt) → SumIs feed.state feed.held sum → SumIs (initial_state 0 3) stream (plus total sum)
+  pub at_end : feed.eof ≡ true
+  pub so_far : (sum : Result ℕ FaultAt) → SumIs feed.state feed.held sum → SumIs (initial_state 0 features) stream (plus total sum)
 
-pub begun : (stream : List ℕ) → Counted stream 0 (new_feed 0 stream)
-begun stream = record {
+pub begun : (features : ℕ) (stream : List ℕ) → Counted features stream 0 (finished (pushed (new_feed 0 features) stream))
+begun features stream = record {
   room = omega arith;
-  so_far = λ sum h. subst (SumIs (initial_state 0 3) stream) (plus_nothing sum) h;
+  at_end = refl;
+  so_far = λ sum h. subst (SumIs (initial_state 0 features) stream) (plus_nothing sum) h;
 }
 
-pub counted_on : (stream : List ℕ) (total n : ℕ) (old new : Feed) → Counted stream total old → Adds old (Ok (Some n)) new → Counted stream (total + n) new × (length new.held < length old.held)
-counted_on stream total n old new c a = (
+pub counted_on : (features : ℕ) (stream : List ℕ) (total n : ℕ) (old new : Feed) → Counted features stream total old → Adds old (Ok (Some n)) new → Counted features stream (total + n) new × (length new.held < length old.held)
+counted_on features stream total n old new c a = (
   record {
     room = omega (arith, c.room, a.0);
-    so_far = λ sum h. subst (SumIs (initial_state 0 3) stream) (plus_twice total n sum) (c.so_far (plus n sum) (a.2 sum h));
+    at_end = a.2;
+    so_far = λ sum h. subst (SumIs (initial_state 0 features) stream) (plus_twice total n sum) (c.so_far (plus n sum) (a.3 sum h));
   },
   a.1,
 )
 
-sum_of_all : (stream : List ℕ) (sum : Result ℕ FaultAt) → length stream < 2 ^ 64 → SumIs (initial_state 0 3) stream sum → (events : List Event) → Reading stream 0 3 events → bodies_in events ≡ sum
-sum_of_all stream sum small h [] r =
-    let n : 0 ≡ length (events_of 0 3 r.tiles ++ last_event r.end ∷ []) = ap (λ (l : List Event). length l) r.listed in
-    absurd (omega (arith, length-append (events_of 0 3 r.tiles) (last_event r.end ∷ [])))
-sum_of_all stream sum small h (e ∷ later) r = h 0 [] is_after (omega arith) [] later e r refl
+sum_of_all : (features : ℕ) (stream : List ℕ) (sum : Result ℕ FaultAt) → length stream < 2 ^ 64 → SumIs (initial_state 0 features) stream sum → (events : List Event) → Reading stream 0 features events → bodies_in events ≡ sum
+sum_of_all features stream sum small h [] r =
+    let n : 0 ≡ length (events_of 0 features r.tiles ++ last_event r.end ∷ []) = ap (λ (l : List Event). length l) r.listed in
+    absurd (omega (arith, length-append (events_of 0 features r.tiles) (last_event r.end ∷ [])))
+sum_of_all features stream sum small h (e ∷ later) r = h 0 [] is_after (omega arith) [] later e r refl
   where
-    is_after : IsStateAfter (initial_state 0 3) 0 []
-    is_after = nothing_passed 0 3
+    is_after : IsStateAfter (initial_state 0 features) 0 []
+    is_after = nothing_passed 0 features
 
-pub all_counted : (stream : List ℕ) (total : ℕ) (old new : Feed) → length stream < 2 ^ 64 → Counted stream total old → Adds old (Ok None) new → (events : List Event) → Reading stream 0 3 events → bodies_in events ≡ Ok total
-all_counted stream total old new small c a = sum_of_all stream (Ok total) small (subst (λ (n : ℕ). SumIs (initial_state 0 3) stream (Ok n)) (omega arith) (c.so_far (Ok 0) a))
+pub all_counted : (features : ℕ) (stream : List ℕ) (total : ℕ) (old new : Feed) → length stream < 2 ^ 64 → Counted features stream total old → Adds old (Ok None) new → (events : List Event) → Reading stream 0 features events → bodies_in events ≡ Ok total
+all_counted features stream total old new small c a = sum_of_all features stream (Ok total) small (subst (λ (n : ℕ). SumIs (initial_state 0 features) stream (Ok n)) (omega arith) (c.so_far (Ok 0) a))
 
-pub fault_counted : (stream : List ℕ) (total : ℕ) (old new : Feed) (f : Error) → length stream < 2 ^ 64 → Counted stream total old → Adds old (Err f) new → (events : List Event) → Reading stream 0 3 events → bodies_in events ≡ Err (fault_at f)
-fault_counted stream total old new f small c a = sum_of_all stream (Err (fault_at f)) small (c.so_far (Err (fault_at f)) a)
+pub fault_counted : (features : ℕ) (stream : List ℕ) (total : ℕ) (old new : Feed) (f : Error) → length stream < 2 ^ 64 → Counted features stream total old → Adds old (Err f) new → (events : List Event) → Reading stream 0 features events → bodies_in events ≡ Err (fault_at f)
+fault_counted features stream total old new f small c a = sum_of_all features stream (Err (fault_at f)) small (c.so_far (Err (fault_at f)) a)

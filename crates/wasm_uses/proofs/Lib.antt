@@ -1,9 +1,5 @@
 pub mod BodySums
-pub mod ByHand
 pub mod Ending
 pub mod Importing
-pub mod Moves
-pub mod Resting
 pub mod Starting
-pub mod Stepping
 pub mod Sums

@@ -1,12 +1,13 @@
 -- The bytes that the bodies of a stream take.
-use Rattle.std.specs.Prelude.{◌≡◌, ℕ, ◌+◌, ◌<◌, ◌≤◌, ◌^◌, List, [], ◌∷◌, ◌++◌, length, Option, Some, None, Result, Ok, Err, MatchResult}
+use Rattle.std.specs.Prelude.{◌≡◌, ◌⊎◌, ℕ, true, ◌+◌, ◌<◌, ◌≤◌, ◌^◌, List, [], ◌∷◌, ◌++◌, length, Option, Some, None, Result, Ok, Err, MatchResult}
 use Rattle.wasm_base.specs.FaultAt.{FaultAt, fault_at}
+use Rattle.wasm_base.specs.Owned.{out_of_memory}
 use Rattle.wasm_base.specs.declared.error.Error.{Error}
 use Rattle.wasm_parser.specs.Content.{ended, fault}
 use Rattle.wasm_parser.specs.Reading.{Report, version, counted, start_section, data_count_section, code_start, code_entry, custom_section, unknown_section, stream_end, Event, Reading}
 use Rattle.wasm_parser.specs.EventRanges.{consumed_by}
 use Rattle.wasm_parser.specs.ParserState.{ParserState, IsStateAfter}
-use Rattle.wasm_uses.specs.Feed.{Feed}
+use Rattle.wasm_feed.specs.Feed.{Feed}
 use Rattle.wasm_uses.specs.Totals.{plus}
 
 -- of so many bytes those that are a body, unless this is the end
@@ -40,10 +41,11 @@ abbrev pub bodies_in : List Event → Result ℕ FaultAt
 bodies_in [] = Ok 0
 bodies_in (e ∷ events) = adds (length e.consumed) e.report (bodies_in events)
 
--- The bodies of the stream take so many bytes by its reading, with all features and from offset 0; or this is the fault
--- at which the reading stops.
-abbrev pub IsSizeOfBodies : List ℕ → Result ℕ Error → Type 0
-IsSizeOfBodies stream result = (events : List Event) → Reading stream 0 3 events → MatchResult result (λ n. bodies_in events ≡ Ok n) (λ e. bodies_in events ≡ Err (fault_at e))
+-- The bodies of the stream take so many bytes by its reading, from offset 0 and with these features; or this is the fault at
+-- which the reading stops, or a want of memory.
+abbrev pub IsSizeOfBodies : (stream : List ℕ) (features : ℕ) → Result ℕ Error → Type 0
+IsSizeOfBodies stream features result = (events : List Event) → Reading stream 0 features events
+    → MatchResult result (λ n. bodies_in events ≡ Ok n) (λ e. (fault_at e ≡ out_of_memory) ⊎ (bodies_in events ≡ Err (fault_at e)))
 
 -- Wherever the parser is in a stream whose rest this is, so much is the sum of the bodies in the events from there on.
 abbrev pub SumIs : ParserState → (rest : List ℕ) → Result ℕ FaultAt → Type 0
@@ -51,9 +53,10 @@ SumIs p rest sum =
     (start : ℕ) (prefix : List ℕ) → IsStateAfter p start prefix → start + length prefix + length rest < 2 ^ 64
     → (before later : List Event) (e : Event) → Reading (prefix ++ rest) start p.features (before ++ e ∷ later) → consumed_by before ≡ prefix → bodies_in (e ∷ later) ≡ sum
 
--- One step gave so much of the sum, and the rest of the bytes gives the rest of it; or the sum ends here, or a fault ends it.
+-- One step of a feeder that was told the end gave so much of the sum, and the rest of the bytes gives the rest of it; or the sum
+-- ends here, or a fault ends it.
 abbrev pub Adds : Feed → Result (Option ℕ) Error → Feed → Type 0
 Adds old (Ok (Some n)) new =
-    (n + length new.held ≤ length old.held) × (length new.held < length old.held) × ((sum : Result ℕ FaultAt) → SumIs new.state new.held sum → SumIs old.state old.held (plus n sum))
+    (n + length new.held ≤ length old.held) × (length new.held < length old.held) × (new.eof ≡ true) × ((sum : Result ℕ FaultAt) → SumIs new.state new.held sum → SumIs old.state old.held (plus n sum))
 Adds old (Ok None) new = SumIs old.state old.held (Ok 0)
 Adds old (Err e) new = SumIs old.state old.held (Err (fault_at e))

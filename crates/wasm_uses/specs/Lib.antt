@@ -1,9 +1,5 @@
 pub mod Bodies
 pub mod Careless
-pub mod Feed
 pub mod Imported
-pub mod Step
 pub mod Streams
-pub mod Taken
 pub mod Totals
-pub mod Advanced

@@ -1,17 +1,22 @@
 // The bytes that the bodies of a stream take.
-ghost use Rattle.std.specs.Prelude.{◌≡◌, length, Ok};
+ghost use Rattle.std.specs.Prelude.{◌≡◌, true, length};
+ghost use Rattle.wasm_base.specs.Features.{feature_bits};
 ghost use Rattle.wasm_parser.specs.ParseAnswer.{report_of};
 ghost use Rattle.wasm_uses.specs.Bodies.{size_report, IsSizeOfBodies, Adds};
 
-use crate::feeder::{Feeder, Step};
-use wasm_base::Result;
+use std::alloc::Global;
+use wasm_base::{Result, WasmFeatures};
+use wasm_feed::{Feeder, Step};
 use wasm_parser::Payload;
 
-/// How many bytes the bodies of a stream take, with their sizes; or the fault at which the stream stops.
-pub fn size_of_bodies(bytes: Vec<u8>) -> Result<u64>
-    ensures { IsSizeOfBodies bytes.items result }
+/// How many bytes the bodies of a stream take, with their sizes; or the fault at which the stream stops. It needs memory for
+/// the bytes of the stream.
+pub fn size_of_bodies(alloc: Global, bytes: &[u8], features: WasmFeatures) -> Result<u64>
+    ensures { IsSizeOfBodies bytes.now (feature_bits features) result }
 {
-    let mut feeder = Feeder::new(bytes, 0);
+    let mut feeder = Feeder::new(alloc, 0, features);
+    feeder.push(bytes)?;
+    feeder.finish();
     let mut total = 0;
     while let Some(size) = next_size(&mut feeder)? {
         total += size;
@@ -21,9 +26,10 @@ pub fn size_of_bodies(bytes: Vec<u8>) -> Result<u64>
 
 // The bytes of the body that comes next, or 0 where something else does. None at the end.
 fn next_size(feeder: &mut Feeder) -> Result<Option<u64>>
+    requires { feeder.old.eof ≡ true }
     ensures { Adds feeder.old result feeder.new }
 {
-    match feeder.advanced().step()? {
+    match feeder.open().step()? {
         Step::NeedMoreData(_) => unreachable!(),
         Step::Parsed { bytes, payload } => Ok(size_in(bytes, payload)),
     }

@@ -3,7 +3,6 @@
 
 mod bodies;
 mod careless;
-mod feeder;
 mod streams;
 #[cfg(test)]
 mod tests;
@@ -11,6 +10,5 @@ mod walks;
 
 pub use bodies::size_of_bodies;
 pub use careless::{AnyByte, Nothing};
-pub use feeder::{Advanced, Feeder, Step};
 pub use streams::{end_of, start_of};
 pub use walks::{check, check_in, imports_memory, total};
