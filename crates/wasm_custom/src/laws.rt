@@ -20,7 +20,8 @@ use crate::custom::CustomSectionReader;
 use crate::dylink::{ExportInfo, ImportInfo, MemInfo};
 use crate::flags::{SegmentFlags, SymbolFlags};
 use crate::linking::{
-    Comdat, ComdatSymbol, ComdatSymbolKind, DefinedDataSymbol, InitFunc, Segment, SymbolInfo,
+    Comdat, ComdatSymbol, ComdatSymbolKind, DefinedDataSymbol, InitFunc, Linking,
+    LinkingSectionReader, Segment, SymbolInfo,
 };
 use crate::names::{IndirectNameMap, IndirectNaming, Name, NameMap, NameSectionReader, Naming};
 use crate::producers::{ProducersField, ProducersFieldValue};
@@ -141,6 +142,22 @@ pub fn copies_of_names_and_symbols_are_the_same<'a>()
     ensures segment_flags { IsCopy
         ⟦<SegmentFlags as Clone>⟧.is_clone
         ⟦<SegmentFlags as Clone>⟧.is_infallible }
+    ensures indirect_naming { IsCopy
+        ⟦<IndirectNaming<'a> as Clone>⟧.is_clone
+        ⟦<IndirectNaming<'a> as Clone>⟧.is_infallible }
+    ensures names { IsCopy ⟦<NameMap<'a> as Clone>⟧.is_clone ⟦<NameMap<'a> as Clone>⟧.is_infallible }
+    ensures indirect_names { IsCopy
+        ⟦<IndirectNameMap<'a> as Clone>⟧.is_clone
+        ⟦<IndirectNameMap<'a> as Clone>⟧.is_infallible }
+    ensures name { IsCopy ⟦<Name<'a> as Clone>⟧.is_clone ⟦<Name<'a> as Clone>⟧.is_infallible }
+    ensures name_section { IsCopy
+        ⟦<NameSectionReader<'a> as Clone>⟧.is_clone
+        ⟦<NameSectionReader<'a> as Clone>⟧.is_infallible }
+    ensures comdat { IsCopy ⟦<Comdat<'a> as Clone>⟧.is_clone ⟦<Comdat<'a> as Clone>⟧.is_infallible }
+    ensures linking { IsCopy ⟦<Linking<'a> as Clone>⟧.is_clone ⟦<Linking<'a> as Clone>⟧.is_infallible }
+    ensures linking_section { IsCopy
+        ⟦<LinkingSectionReader<'a> as Clone>⟧.is_clone
+        ⟦<LinkingSectionReader<'a> as Clone>⟧.is_infallible }
 {}
 
 /// The hints of a function that was read are the announced ones: an iterator over them gives so many, and no fault.
