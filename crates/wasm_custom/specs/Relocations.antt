@@ -24,38 +24,38 @@ pub record Row : Type 0 where
   pub addend : RelocAddendKind
   pub extent : ℕ
 
-abbrev pub row : (number : ℕ) → RelocAddendKind → (extent : ℕ) → Row
-row number addend extent = record { number = number; addend = addend; extent = extent }
+abbrev pub listed : (number : ℕ) → RelocAddendKind → (extent : ℕ) → Row
+listed number addend extent = record { number = number; addend = addend; extent = extent }
 
 -- the table of types
 abbrev pub row_of : RelocationType → Row
-row_of FunctionIndexLeb = row 0 Addends.None 5
-row_of TableIndexSleb = row 1 Addends.None 5
-row_of TableIndexI32 = row 2 Addends.None 4
-row_of MemoryAddrLeb = row 3 Addends.Addend32 5
-row_of MemoryAddrSleb = row 4 Addends.Addend32 5
-row_of MemoryAddrI32 = row 5 Addends.Addend32 4
-row_of TypeIndexLeb = row 6 Addends.None 5
-row_of GlobalIndexLeb = row 7 Addends.None 5
-row_of FunctionOffsetI32 = row 8 Addends.Addend32 4
-row_of SectionOffsetI32 = row 9 Addends.Addend32 4
-row_of EventIndexLeb = row 10 Addends.None 5
-row_of MemoryAddrRelSleb = row 11 Addends.Addend32 5
-row_of TableIndexRelSleb = row 12 Addends.None 5
-row_of GlobalIndexI32 = row 13 Addends.None 4
-row_of MemoryAddrLeb64 = row 14 Addends.Addend64 10
-row_of MemoryAddrSleb64 = row 15 Addends.Addend64 10
-row_of MemoryAddrI64 = row 16 Addends.Addend64 8
-row_of MemoryAddrRelSleb64 = row 17 Addends.Addend64 10
-row_of TableIndexSleb64 = row 18 Addends.None 10
-row_of TableIndexI64 = row 19 Addends.None 8
-row_of TableNumberLeb = row 20 Addends.None 5
-row_of MemoryAddrTlsSleb = row 21 Addends.Addend32 5
-row_of FunctionOffsetI64 = row 22 Addends.Addend64 8
-row_of MemoryAddrLocrelI32 = row 23 Addends.Addend32 4
-row_of TableIndexRelSleb64 = row 24 Addends.None 10
-row_of MemoryAddrTlsSleb64 = row 25 Addends.Addend64 10
-row_of FunctionIndexI32 = row 26 Addends.None 4
+row_of FunctionIndexLeb = listed 0 Addends.None 5
+row_of TableIndexSleb = listed 1 Addends.None 5
+row_of TableIndexI32 = listed 2 Addends.None 4
+row_of MemoryAddrLeb = listed 3 Addends.Addend32 5
+row_of MemoryAddrSleb = listed 4 Addends.Addend32 5
+row_of MemoryAddrI32 = listed 5 Addends.Addend32 4
+row_of TypeIndexLeb = listed 6 Addends.None 5
+row_of GlobalIndexLeb = listed 7 Addends.None 5
+row_of FunctionOffsetI32 = listed 8 Addends.Addend32 4
+row_of SectionOffsetI32 = listed 9 Addends.Addend32 4
+row_of EventIndexLeb = listed 10 Addends.None 5
+row_of MemoryAddrRelSleb = listed 11 Addends.Addend32 5
+row_of TableIndexRelSleb = listed 12 Addends.None 5
+row_of GlobalIndexI32 = listed 13 Addends.None 4
+row_of MemoryAddrLeb64 = listed 14 Addends.Addend64 10
+row_of MemoryAddrSleb64 = listed 15 Addends.Addend64 10
+row_of MemoryAddrI64 = listed 16 Addends.Addend64 8
+row_of MemoryAddrRelSleb64 = listed 17 Addends.Addend64 10
+row_of TableIndexSleb64 = listed 18 Addends.None 10
+row_of TableIndexI64 = listed 19 Addends.None 8
+row_of TableNumberLeb = listed 20 Addends.None 5
+row_of MemoryAddrTlsSleb = listed 21 Addends.Addend32 5
+row_of FunctionOffsetI64 = listed 22 Addends.Addend64 8
+row_of MemoryAddrLocrelI32 = listed 23 Addends.Addend32 4
+row_of TableIndexRelSleb64 = listed 24 Addends.None 10
+row_of MemoryAddrTlsSleb64 = listed 25 Addends.Addend64 10
+row_of FunctionIndexI32 = listed 26 Addends.None 4
 
 abbrev pub number_of : RelocationType → ℕ
 number_of ty = (row_of ty).number
