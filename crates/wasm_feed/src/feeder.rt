@@ -42,11 +42,15 @@ pub struct Cursor {
 /// let mut feeder = Feeder::new(alloc, 0, WasmFeatures::all());
 /// loop {
 ///     match feeder.open().step()? {
+///         Step::Parsed { payload: Payload::End(_), .. } => return Ok(()),
 ///         Step::Parsed { bytes, payload } => ..,
-///         Step::NeedMoreData(_) => match download.next()? {
+///         Step::NeedMoreData(_) => {}
+///     }
+///     if feeder.wants_more() {
+///         match download.next()? {
 ///             Some(piece) => feeder.push(piece)?,
 ///             None => feeder.finish(),
-///         },
+///         }
 ///     }
 /// }
 /// ```

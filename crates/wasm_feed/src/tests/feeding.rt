@@ -117,3 +117,32 @@ fn pushes_past_the_top(rt: HostRuntime) -> std::result::Result<(), Fail> {
     assert_eq!(rt; say(feeder.step()), Told::Ends(18446744073709551615));
     Ok(())
 }
+
+// The loop that the documents show.
+#[test]
+fn pieces_of_a_download(rt: HostRuntime) -> std::result::Result<(), Fail> {
+    let mut feeder = Feeder::new(rt.alloc(), 0, WasmFeatures::all());
+    let mut download = MODULE;
+    let mut last = 0;
+    for _ in 0..20 {
+        match feeder.open().step()? {
+            Step::Parsed {
+                payload: Payload::End(_),
+                ..
+            } => break,
+            Step::Parsed { bytes, .. } => last = bytes.len(),
+            Step::NeedMoreData(_) => {}
+        }
+        if feeder.wants_more() {
+            if download.is_empty() {
+                feeder.finish();
+            } else {
+                let (piece, later) = download.split_at(download.len().min(5));
+                feeder.push(piece)?;
+                download = later;
+            }
+        }
+    }
+    assert_eq!(rt; (last, feeder.held()), (3, 0));
+    Ok(())
+}
