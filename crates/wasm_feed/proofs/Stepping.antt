@@ -1,5 +1,5 @@
 -- What a step says of a feeder, without the feeder that it becomes.
-use Rattle.std.proofs.Common.{◌≡◌, ℕ, ◌+◌, ◌^◌, ◌<◌, Bool, true, false, cond, List, ◌++◌, length, drop, Result, Ok, Err, nat_lt, refl, sym, ap, subst, ◌∙◌, ltb-true, ltb-false, inl, inr}
+use Rattle.std.proofs.Common.{◌≡◌, ℕ, ◌+◌, ◌^◌, Bool, true, false, cond, List, ◌++◌, length, drop, Result, Ok, Err, nat_lt, refl, sym, ap, subst, ◌∙◌, ltb-true, ltb-false, inl, inr}
 use Rattle.std.proofs.lemmas.List.{drop_at}
 use Rattle.wasm_base.specs.declared.error.Error.{Error}
 use Rattle.wasm_parser.specs.Content.{fault, ended}
@@ -10,7 +10,6 @@ use Rattle.wasm_parser.specs.Reading.{Report}
 use Rattle.wasm_parser.specs.StateAfter.{state_after}
 use Rattle.wasm_parser.specs.declared.payload.Chunk.{Chunk}
 use Rattle.wasm_parser.specs.declared.payload.Chunk.TheVariants.{NeedMoreData, Parsed}
-use Rattle.wasm_parser.specs.declared.payload.Payload.{Payload}
 use Rattle.wasm_parser.proofs.AnswerBounds.{IsOn, is_on, goes_on}
 use Rattle.wasm_feed.specs.Feed.{Feed}
 use Rattle.wasm_feed.specs.Step.{answer_of, shown, state_after_answer, GivesStep, Steps}

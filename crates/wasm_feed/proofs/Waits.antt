@@ -1,14 +1,14 @@
 -- That a feeder wants more only where its parser is undecided.
-use Rattle.std.proofs.Common.{◌≡◌, ℕ, ◌+◌, ◌^◌, ◌<◌, ◌≤◌, Bool, true, false, List, [], ◌++◌, length, Result, Ok, Err, refl, sym, ap, subst, ◌∙◌, arith, length-append, inl, inr}
+use Rattle.std.proofs.Common.{◌≡◌, ℕ, ◌+◌, ◌^◌, ◌<◌, ◌≤◌, Bool, true, false, List, [], length, Result, Ok, Err, refl, sym, ap, subst, ◌∙◌, arith, length-append}
 use Rattle.wasm_base.specs.declared.error.Error.{Error}
 use Rattle.wasm_parser.specs.Content.{fault, ended}
 use Rattle.wasm_parser.specs.GivesNextEvent.{IsUndecided}
 use Rattle.wasm_parser.specs.Grammar.{Verdict, tile, final, header_grammar, verdict}
-use Rattle.wasm_parser.specs.ParseAnswer.{Answers, AsksFor, AnswersOn, ParseAnswer}
+use Rattle.wasm_parser.specs.ParseAnswer.{Answers, AsksFor, AnswersOn}
 use Rattle.wasm_parser.specs.ParserState.{ParserState, grammar_of}
-use Rattle.wasm_parser.specs.Waiting.{Waiting, enough, wants, later, waiting}
-use Rattle.wasm_parser.specs.declared.payload.Chunk.{Chunk}
+use Rattle.wasm_parser.specs.Waiting.{Waiting, enough, wants, waiting}
 use Rattle.wasm_parser.specs.declared.payload.Chunk.TheVariants as chunk
+use Rattle.wasm_parser.proofs.AnswerBounds.{asks_never}
 use Rattle.wasm_parser.proofs.WaitingLaws.{Asks, waiting-asks}
 use Rattle.wasm_feed.specs.Feed.{Feed, new_feed, pushed, finished, end_of}
 use Rattle.wasm_feed.specs.Step.{answer_of, shown, is_request, Steps}
@@ -52,11 +52,6 @@ asked_at p new hint (Ok (NeedMoreData asked)) a = let z : new.offset ≡ p.offse
 asked_at p new hint (Ok (Parsed bytes payload)) a = absurd a
 asked_at p new hint (Err e) a = absurd a
 
-never_asks : (p new : ParserState) (hint : ℕ) (v : Verdict) → Answers p v (Ok (chunk.NeedMoreData hint)) new → ⊥
-never_asks p new hint (tile t) a = a
-never_asks p new hint (final (fault f)) a = a
-never_asks p new hint (final (ended o)) a = a
-
 module _ (f g : Feed) (x : Result Step Error) (w : WaitsUndecided f) (s : Steps f x g) where
   place : (eof : Bool) (v : Waiting) → AnswersOn eof v f.state (verdict (grammar_of f.state) f.held) (answer_of x) g.state → g.state.offset ≡ f.state.offset + length (shown x)
   place true v a = goes_to f.state g.state (verdict (grammar_of f.state) f.held) x a
@@ -80,8 +75,8 @@ module _ (f g : Feed) (x : Result Step Error) (w : WaitsUndecided f) (s : Steps 
 -- a request is undecided
 asks : (f : Feed) (new : ParserState) (asked : ℕ) (eof : Bool) (v : Waiting) → waiting (grammar_of f.state) f.held ≡ v → AnswersOn eof v f.state (verdict (grammar_of f.state) f.held) (Ok (chunk.NeedMoreData asked)) new
     → (new ≡ f.state) × IsUndecided f.state eof f.held asked
-asks f new asked true v e a = absurd (never_asks f.state new asked (verdict (grammar_of f.state) f.held) a)
-asks f new asked false enough e a = absurd (never_asks f.state new asked (verdict (grammar_of f.state) f.held) a)
+asks f new asked true v e a = absurd (asks_never f.state new asked (verdict (grammar_of f.state) f.held) a)
+asks f new asked false enough e a = absurd (asks_never f.state new asked (verdict (grammar_of f.state) f.held) a)
 asks f new asked false (wants need hint) e a = (a.1, (refl, (need, e ∙ ap (wants need) (sym a.0))))
 
 undecided : (f g : Feed) (x : Result Step Error) → WaitsUndecided f → Steps f x g → is_request x ≡ true → (hint : ℕ) × IsUndecided g.state g.eof g.held hint

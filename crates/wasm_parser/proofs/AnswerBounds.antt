@@ -148,7 +148,7 @@ unchanged_at p new e (tile t) a = absurd a
 unchanged_at p new e (final (fault f)) a = a.1
 unchanged_at p new e (final (ended o)) a = absurd a
 
-asks_never : (p new : ParserState) (hint : ℕ) (v : Verdict) → Answers p v (Ok (NeedMoreData hint)) new → ⊥
+pub asks_never : (p new : ParserState) (hint : ℕ) (v : Verdict) → Answers p v (Ok (NeedMoreData hint)) new → ⊥
 asks_never p new hint (tile t) a = a
 asks_never p new hint (final (fault f)) a = a
 asks_never p new hint (final (ended o)) a = a

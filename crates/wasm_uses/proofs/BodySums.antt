@@ -4,9 +4,8 @@ use Rattle.std.proofs.lemmas.Grind.{flat_map-append}
 use Rattle.std.proofs.lemmas.List.{take_at}
 use Rattle.wasm_base.specs.FaultAt.{FaultAt, fault_at}
 use Rattle.wasm_base.specs.declared.error.Error.{Error}
-use Rattle.wasm_parser.specs.ParseAnswer.{report_of, is_end, Answers, ParseAnswer}
-use Rattle.wasm_parser.specs.Content.{fault, ended}
-use Rattle.wasm_parser.specs.Grammar.{Verdict, tile, final, verdict}
+use Rattle.wasm_parser.specs.ParseAnswer.{report_of, is_end, ParseAnswer}
+use Rattle.wasm_parser.specs.Grammar.{verdict}
 use Rattle.wasm_parser.specs.Reading.{Report, Event, events_of, last_event, Reading}
 use Rattle.wasm_parser.specs.EventRanges.{consumed_by}
 use Rattle.wasm_parser.specs.ParserState.{ParserState, IsStateAfter, initial_state, ended_state, grammar_of}
@@ -18,7 +17,7 @@ use Rattle.wasm_parser.specs.declared.payload.Payload.{Payload}
 use Rattle.wasm_parser.specs.declared.payload.Payload.TheVariants.{Version, TypeSection, ImportSection, FunctionSection, TableSection, MemorySection, TagSection, GlobalSection, ExportSection, StartSection, ElementSection, DataCountSection, DataSection, CodeSectionStart, CodeSectionEntry, CustomSection, UnknownSection, End}
 use Rattle.wasm_parser.proofs.Following.{gives_next}
 use Rattle.wasm_parser.proofs.StateLaws.{nothing_passed}
-use Rattle.wasm_parser.proofs.AnswerBounds.{consumes}
+use Rattle.wasm_parser.proofs.AnswerBounds.{asks_never, consumes}
 use Rattle.wasm_uses.specs.Bodies.{size_report, adds, bodies_in, SumIs, Adds}
 use Rattle.wasm_feed.specs.Feed.{Feed, new_feed, pushed, finished}
 use Rattle.wasm_feed.specs.Step.{answer_of, state_after_answer, Steps}
@@ -101,13 +100,8 @@ same_features : (old new : Feed) (x : Result Step Error) → Steps old x new →
 same_features old new x s = ap (λ (p : ParserState). p.features) (after_answer old.state new.state old.eof old.held (answer_of x) s.parses) ∙ features_stay old.state (answer_of x)
 
 -- at the end of a stream nothing is asked for
-no_request_at : (p new : ParserState) (hint : ℕ) (v : Verdict) → Answers p v (Ok (Request hint)) new → ⊥
-no_request_at p new hint (tile t) a = a
-no_request_at p new hint (final (fault f)) a = a
-no_request_at p new hint (final (ended o)) a = a
-
 no_request_by : (b : Bool) (p new : ParserState) (rest : List ℕ) (hint : ℕ) → nat_lt (p.offset + length rest) (2 ^ 64) ≡ b → ParseAnswer p true rest (Ok (Request hint)) new → ⊥
-no_request_by true p new rest hint t h = no_request_at p new hint (verdict (grammar_of p) rest) (h.within (ltb-true _ _ t))
+no_request_by true p new rest hint t h = asks_never p new hint (verdict (grammar_of p) rest) (h.within (ltb-true _ _ t))
 no_request_by false p new rest hint t h = h.past_the_top (ltb-false _ _ t)
 
 pub no_request : (old new : Feed) (hint : ℕ) → old.eof ≡ true → Steps old (Ok (NeedMoreData hint)) new → ⊥
