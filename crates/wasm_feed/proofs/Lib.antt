@@ -1,4 +1,5 @@
 pub mod ByHand
+pub mod Decimal
 pub mod Resting
 pub mod Stepping
 pub mod Waits

@@ -1,5 +1,11 @@
 pub mod Cursors
+pub mod Devices
+pub mod Ends
 pub mod Feed
+pub mod Listing
+pub mod Lists
 pub mod Opened
+pub mod Page
 pub mod Step
+pub mod Turns
 pub mod Waits

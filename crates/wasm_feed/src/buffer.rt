@@ -4,7 +4,8 @@ ghost use Rattle.std.specs.Prelude.{◌≡◌, ◌≤◌, ◌++◌, drop, vec_le
 use std::alloc::{AllocError, Allocator};
 
 /// Puts a piece after the bytes that are left, and takes those before them out. Memory grows for these bytes and the piece
-/// alone, before anything is moved: a growth that is refused changes nothing.
+/// alone, before anything is moved: a growth that is refused changes nothing. It grows by more than it must, so that many
+/// small pieces cost no more than a large one.
 pub(crate) fn append<A: Allocator>(
     bytes: &mut Vec<u8, A>,
     spent: usize,
@@ -14,7 +15,7 @@ pub(crate) fn append<A: Allocator>(
     ensures ok { OnOk result (bytes.new.items ≡ drop spent bytes.old.items ++ piece.now) }
     ensures err { OnErr result (bytes.new.items ≡ bytes.old.items) }
 {
-    bytes.reserve_exact(piece.len().saturating_sub(spent))?;
+    bytes.reserve(piece.len().saturating_sub(spent))?;
     drop_front(bytes, spent);
     bytes.extend_from_slice(piece).unwrap();
     Ok(())

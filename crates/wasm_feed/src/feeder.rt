@@ -6,7 +6,7 @@ ghost use Rattle.wasm_feed.specs.Feed.{new_feed, pushed, finished, RefusesPush};
 ghost use Rattle.wasm_feed.specs.Step.{answer_of, shown, is_request, GivesStep};
 
 use crate::buffer::{after, append};
-use std::alloc::Global;
+use std::alloc::{AllocError, Allocator, Global};
 use std::marker::Model;
 use wasm_parser::{Chunk, Error, Fault, Parser, Payload, Result, WasmFeatures, fits};
 
@@ -31,6 +31,50 @@ pub struct Cursor {
     mark: usize,
     is_finished: bool,
     wants_more: bool,
+}
+
+impl Cursor {
+    ghost use Rattle.std.specs.Prelude.{ℕ, List, []};
+    ghost use Rattle.wasm_feed.specs.Cursors.{feed_of};
+    ghost use Rattle.wasm_feed.specs.Feed.{starting, pushed, finished};
+
+    /// A cursor before the first byte, whose parser is this one.
+    pub(crate) fn new(parser: Parser) -> Cursor
+        ensures { feed_of [] result ≡ starting parser }
+    {
+        Cursor {
+            parser,
+            mark: 0,
+            is_finished: false,
+            wants_more: true,
+        }
+    }
+
+    /// No bytes come after those that are stored.
+    pub(crate) fn finish(&mut self)
+        ensures { (bytes : List ℕ) → feed_of bytes self.new ≡ finished (feed_of bytes self.old) }
+    {
+        self.is_finished = true;
+        self.wants_more = false;
+    }
+
+    /// Stores a piece after the bytes that were not consumed, and drops those that were.
+    pub(crate) fn take_in<A: Allocator>(
+        &mut self,
+        stored: &mut Vec<u8, A>,
+        piece: &[u8],
+    ) -> Result<(), AllocError>
+        ensures ok { OnOk result (feed_of stored.new.items self.new
+            ≡ pushed (feed_of stored.old.items self.old) piece.now) }
+        ensures err { OnErr result (feed_of stored.new.items self.new
+            ≡ feed_of stored.old.items self.old) }
+    {
+        let spent = self.mark.min(stored.len());
+        append(stored, spent, piece)?;
+        self.mark = 0;
+        self.wants_more = false;
+        Ok(())
+    }
 }
 
 /// Reads a stream that comes in pieces (core specification, Binary format, Modules).
@@ -86,12 +130,7 @@ impl Feeder {
         let mut parser = Parser::new(offset);
         parser.set_features(features);
         Feeder {
-            cursor: Cursor {
-                parser,
-                mark: 0,
-                is_finished: false,
-                wants_more: true,
-            },
+            cursor: Cursor::new(parser),
             bytes: Vec::new(alloc),
         }
     }
@@ -130,8 +169,7 @@ impl Feeder {
     pub fn finish(&mut self)
         ensures { self.new ≡ finished self.old }
     {
-        self.cursor.is_finished = true;
-        self.cursor.wants_more = false;
+        self.cursor.finish();
     }
 
     /// Gives the next bytes of the stream. The feeder must want more.
@@ -149,13 +187,10 @@ impl Feeder {
         if !fits(offset, held) || !fits(offset + held as u64, piece.len()) {
             return Err(Error::new(Fault::OffsetRange, offset));
         }
-        let mark = self.cursor.mark.min(self.bytes.len());
-        if append(&mut self.bytes, mark, piece).is_err() {
-            return Err(Error::new(Fault::OutOfMemory, 0));
+        match self.cursor.take_in(&mut self.bytes, piece) {
+            Ok(()) => Ok(()),
+            Err(_) => Err(Error::new(Fault::OutOfMemory, 0)),
         }
-        self.cursor.mark = 0;
-        self.cursor.wants_more = false;
-        Ok(())
     }
 
     /// The feeder taken apart, so that a step moves its cursor while the payload borrows its bytes.
@@ -199,8 +234,8 @@ impl<'c, 'a> Opened<'c, 'a> {
     }
 }
 
-// One step in these bytes.
-fn advance<'a>(cursor: &mut Cursor, bytes: &'a [u8]) -> Result<Step<'a>>
+/// One step in these bytes.
+pub(crate) fn advance<'a>(cursor: &mut Cursor, bytes: &'a [u8]) -> Result<Step<'a>>
     ensures parses { ParseAnswer cursor.old.parser cursor.old.is_finished
         (drop cursor.old.mark bytes.now) (answer_of result) cursor.new.parser }
     ensures shows { drop cursor.old.mark bytes.now

@@ -1,8 +1,32 @@
-//! Laws of feeders, each the contract of a function that does nothing.
+//! Laws of feeders and listings, each the contract of a function that does nothing.
+ghost use Rattle.wasm_base.specs.Comparing.{DecidesWhether, DecidesSame, IsCopy};
+ghost use Rattle.std.specs.Prelude.{◌≡◌};
+ghost use Rattle.wasm_feed.specs.Ends.{fault_at_end};
 ghost use Rattle.wasm_feed.specs.Waits.{FeedersWait};
+
+use crate::listing::{Ended, ListError};
+use crate::source::Failed;
 
 /// A feeder wants more only where its parser is undecided on the bytes that it holds, and more may come. After a push it
 /// stores less than the bytes that bound the undecided ones and the piece together.
 pub fn feeders_wait_where_undecided()
     ensures { FeedersWait }
+{}
+
+/// Two ends of listings are equal exactly if both are the end of a stream, or both a fault: the same fault, with the
+/// same offset and number. Two reasons to give up are equal exactly if they are the same.
+pub fn equal_ends_are_the_same()
+    ensures ended { DecidesWhether (λ one other. fault_at_end one ≡ fault_at_end other)
+        ⟦<Ended as PartialEq>⟧.eq }
+    ensures list_error { DecidesSame ⟦<ListError as PartialEq>⟧.eq }
+    ensures failed { DecidesSame ⟦<Failed as PartialEq>⟧.eq }
+{}
+
+/// A copy of an end of a listing, or of a reason to give up, is the same, and can always be made.
+pub fn copies_of_ends_are_the_same()
+    ensures ended { IsCopy ⟦<Ended as Clone>⟧.is_clone ⟦<Ended as Clone>⟧.is_infallible }
+    ensures list_error { IsCopy
+        ⟦<ListError as Clone>⟧.is_clone
+        ⟦<ListError as Clone>⟧.is_infallible }
+    ensures failed { IsCopy ⟦<Failed as Clone>⟧.is_clone ⟦<Failed as Clone>⟧.is_infallible }
 {}

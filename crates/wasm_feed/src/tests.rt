@@ -1,2 +1,6 @@
-// Worked examples.
+// Worked examples, devices that fail or go short, and memory that runs out.
+mod devices;
 mod feeding;
+mod heap;
+mod listings;
+mod modules;

@@ -1,11 +1,11 @@
 -- A run of the program, and then its end.
 use Rattle.std.proofs.Common.{◌≡◌, ◌⊎◌, ℕ, ◌<◌, Bool, true, List, Option, Some, None, Result, Ok, Err, sym, ◌∙◌, take, subst, arith, inl, inr}
 use Rattle.std.specs.Io.KnownBytes.{Appends, Keeps}
-use Rattle.wasm_list.specs.Lists.{Lists, WritesAfterReading}
+use Rattle.wasm_feed.specs.Lists.{Lists}
 use Rattle.wasm_list.specs.Runs.{Device, IsUntouched, Says, RunsListingAs, RunsUsage, Runs, HandsOn, FailsToHandOn, LeavesAlone, Finishes, EndsAs, ListsAll, RunsProgram, status_of}
-use Rattle.wasm_list.specs.declared.listing.Ended.{Ended}
-use Rattle.wasm_list.specs.declared.listing.Ended.TheVariants.{End, Fault}
-use Rattle.wasm_list.specs.declared.listing.ListError.{ListError}
+use Rattle.wasm_feed.specs.declared.listing.Ended.{Ended}
+use Rattle.wasm_feed.specs.declared.listing.Ended.TheVariants.{End, Fault}
+use Rattle.wasm_feed.specs.declared.listing.ListError.{ListError}
 
 -- a device over two calls, one after the other
 abbrev pub over : Device → Device → Device
@@ -23,11 +23,14 @@ appends_kept (Some x) (Some y) None bs p q = absurd q
 appends_kept (Some x) (Some y) (Some z) bs p q = q ∙ p
 
 lists_kept : (left rest taken written kept : Option (List ℕ)) (how : Ended) → Lists left rest taken written (Ok how) → Keeps written kept → Lists left rest taken kept (Ok how)
-lists_kept left rest taken written kept how h k = (
-  h.0,
-  h.1,
-  record { events = h.2.events; reading = h.2.reading; listed = appends_kept taken written kept _ h.2.listed k; ends = h.2.ends },
-)
+lists_kept left rest taken written kept how h k = record {
+  given = h.given;
+  events = h.events;
+  gave = h.gave;
+  listed = appends_kept taken written kept _ h.listed k;
+  within = h.within;
+  past_the_top = h.past_the_top;
+}
 
 some_is : {m n : ℕ} → Some m ≡ Some n → m ≡ n
 some_is h = cc
@@ -82,7 +85,6 @@ listed_all : (input first second first_errors second_errors : Device) (handed_on
 listed_all input first second first_errors second_errors handed_on status result f fe (Ok how) r finish = record {
   how = Ok how;
   lists = lists_kept _ _ _ _ _ how r.lists (subst (λ (b : Option (List ℕ)). Keeps b second.after) f.bytes finish.keeps);
-  unread = tt;
   source = r.source;
   ends = handed first second first_errors second_errors how handed_on status result f fe r.sink r.reports r.answers
       (finish.ended (subst (λ (n : ℕ). n < 2) (sym r.answers) (below_two how)));
@@ -93,7 +95,6 @@ listed_all input first second first_errors second_errors handed_on status result
     record {
       how = Err why;
       lists = subst (λ (a : Option (List ℕ)). Lists input.before input.after first.before a (Err why)) (sym kept) r.lists;
-      unread = subst (λ (a : Option (List ℕ)). WritesAfterReading first.before a (Err why)) (sym kept) r.unread;
       source = r.source;
       ends = record {
         answers = alone.answers ∙ r.answers;
@@ -117,10 +118,9 @@ refused_all input first second first_errors second_errors handed_on status resul
 
 pub program : (given count : ℕ) (input first second first_errors second_errors : Device) (handed_on : Bool) (status result : ℕ) → given ≡ count → Follows first second → Follows first_errors second_errors
     → Runs count input first first_errors status → Finishes status handed_on second second_errors result
-    → RunsProgram (Some given) true handed_on input (over first second) (over first_errors second_errors) result
+    → RunsProgram (Some given) handed_on input (over first second) (over first_errors second_errors) result
 program given count input first second first_errors second_errors handed_on status result same f fe runs finish = record {
-  lists = λ none made. let r = runs.lists (sym same ∙ some_is none) in listed_all input first second first_errors second_errors handed_on status result f fe r.how r.runs finish;
-  refuses = λ n is some made. refused_all input first second first_errors second_errors handed_on status result f fe (runs.refuses (subst (λ (k : ℕ). 0 < k) (sym (some_is is) ∙ same) some)) finish;
+  lists = λ none. let r = runs.lists (sym same ∙ some_is none) in listed_all input first second first_errors second_errors handed_on status result f fe r.how r.runs finish;
+  refuses = λ n is some. refused_all input first second first_errors second_errors handed_on status result f fe (runs.refuses (subst (λ (k : ℕ). 0 < k) (sym (some_is is) ∙ same) some)) finish;
   without_arguments = λ none. absurd cc;
-  without_output = λ missing. absurd cc;
 }

@@ -1,11 +1,11 @@
 -- What a run of the program does.
 use Rattle.std.specs.Prelude.{◌≡◌, ◌⊎◌, ℕ, ◌<◌, ◌≤◌, ◌-◌, Bool, true, false, List, take, codes, Option, Some, None, Result, Ok, Err}
 use Rattle.std.specs.Io.KnownBytes.{Appends, Keeps}
-use Rattle.wasm_list.specs.Lists.{Lists, WritesAfterReading, input_failed, output_failed}
-use Rattle.wasm_list.specs.declared.listing.Ended.{Ended}
-use Rattle.wasm_list.specs.declared.listing.Ended.TheVariants.{End, Fault}
-use Rattle.wasm_list.specs.declared.listing.ListError.{ListError}
-use Rattle.wasm_list.specs.declared.listing.ListError.TheVariants.{Input, Output, Memory}
+use Rattle.wasm_feed.specs.Lists.{Lists, input_failed, output_failed}
+use Rattle.wasm_feed.specs.declared.listing.Ended.{Ended}
+use Rattle.wasm_feed.specs.declared.listing.Ended.TheVariants.{End, Fault}
+use Rattle.wasm_feed.specs.declared.listing.ListError.{ListError}
+use Rattle.wasm_feed.specs.declared.listing.ListError.TheVariants.{Input, Output, Memory}
 
 -- the exit status of a listing
 abbrev pub status_of : Result Ended ListError → ℕ
@@ -50,7 +50,6 @@ Reports (Err e) errors = Says errors (complaint_of e)
 -- a run whose listing ended so
 pub record RunsListingAs (how : Result Ended ListError) (input output errors : Device) (status : ℕ) : Type 0 where
   pub lists : Lists input.before input.after output.before output.after how
-  pub unread : WritesAfterReading output.before output.after how
   pub answers : status ≡ status_of how
   pub source : input.has_failed ≡ input_failed how input.had_failed
   pub sink : output.has_failed ≡ output_failed how output.had_failed
@@ -113,7 +112,6 @@ EndsAs (Err why) handed_on output errors status = GivesUp why output errors stat
 pub record ListsAll (handed_on : Bool) (input output errors : Device) (status : ℕ) : Type 0 where
   pub how : Result Ended ListError
   pub lists : Lists input.before input.after output.before output.after how
-  pub unread : WritesAfterReading output.before output.after how
   pub source : input.has_failed ≡ input_failed how input.had_failed
   pub ends : EndsAs how handed_on output errors status
 
@@ -129,19 +127,8 @@ abbrev pub arguments_after_name : {A E : Type 0} → (A → ℕ) → Result A E 
 arguments_after_name count (Ok arguments) = Some (count arguments - 1)
 arguments_after_name count (Err e) = None
 
--- the bytes of an output that may be missing
-abbrev pub bytes_if_made : {D E : Type 0} → (D → Option (List ℕ)) → Result D E → Option (List ℕ)
-bytes_if_made bytes (Ok output) = bytes output
-bytes_if_made bytes (Err e) = None
-
--- whether an output is there, and this is so of it
-abbrev pub is_made_and : {D E : Type 0} → (D → Bool) → Result D E → Bool
-is_made_and flag (Ok output) = flag output
-is_made_and flag (Err e) = false
-
--- The whole program, with so many arguments if they could be had, and with an output if that could be made.
-pub record RunsProgram (arguments : Option ℕ) (made handed_on : Bool) (input output errors : Device) (status : ℕ) : Type 0 where
-  pub lists : arguments ≡ Some 0 → made ≡ true → ListsAll handed_on input output errors status
-  pub refuses : (n : ℕ) → arguments ≡ Some n → 0 < n → made ≡ true → RunsUsage input output errors status
+-- The whole program, with so many arguments if they could be had.
+pub record RunsProgram (arguments : Option ℕ) (handed_on : Bool) (input output errors : Device) (status : ℕ) : Type 0 where
+  pub lists : arguments ≡ Some 0 → ListsAll handed_on input output errors status
+  pub refuses : (n : ℕ) → arguments ≡ Some n → 0 < n → RunsUsage input output errors status
   pub without_arguments : arguments ≡ None → CannotBegin input output errors status
-  pub without_output : made ≡ false → CannotBegin input output errors status

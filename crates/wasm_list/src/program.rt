@@ -10,17 +10,13 @@ ghost use Rattle.wasm_list.specs.Runs.{
   complaint_of,
   RunsProgram,
   arguments_after_name,
-  bytes_if_made,
-  is_made_and,
 };
 
-use crate::listing::{Ended, ListError, list_in};
-use crate::sink::{Sink, WriteSink, write_all};
-use crate::source::Source;
-use std::alloc::{Allocator, Global};
+use std::alloc::Global;
 use std::env::Args;
 use std::io::{self, Write};
 use std::process::ExitCode;
+use wasm_feed::{Ended, ListError, Sink, Source, WriteSink, list, write_all};
 
 /// How many bytes of the input are read at once.
 const PIECE: usize = 65_536;
@@ -28,29 +24,25 @@ const PIECE: usize = 65_536;
 /// The whole program: it counts the arguments after the program's own name, runs, hands on what the output has kept,
 /// and answers the exit status.
 ///
-/// Arguments or an output that could not be had are a want of memory.
-pub(crate) fn run_program<A: Allocator + Copy, R: Source, W: Write, E: Sink>(
-    alloc: A,
-    arguments: io::Result<Args<A>>,
+/// Arguments that could not be had are a want of memory.
+pub(crate) fn run_program<R: Source, W: Write, E: Sink>(
+    alloc: Global,
+    arguments: io::Result<Args>,
     input: &mut R,
-    output: &mut io::Result<WriteSink<W>>,
+    output: &mut WriteSink<W>,
     errors: &mut E,
 ) -> ExitCode
-    ensures { RunsProgram (arguments_after_name into_iter_len arguments) (is_ok output.old)
-        (is_made_and (λ sink. sink.handed_on) output.new)
+    ensures { RunsProgram (arguments_after_name into_iter_len arguments) output.new.handed_on
         (device_of R.left R.has_failed input.old input.new)
-        (device_of (bytes_if_made ⟦<WriteSink<W> as Sink>⟧.taken)
-        (is_made_and ⟦<WriteSink<W> as Sink>⟧.has_failed) output.old output.new)
+        (device_of ⟦<WriteSink<W> as Sink>⟧.taken ⟦<WriteSink<W> as Sink>⟧.has_failed
+        output.old output.new)
         (device_of E.taken E.has_failed errors.old errors.new) (exit_status result) }
 {
     let Ok(arguments) = arguments else {
         return ExitCode::from(give_up(errors, ListError::Memory));
     };
-    let Ok(output) = output else {
-        return ExitCode::from(give_up(errors, ListError::Memory));
-    };
     let count = arguments.len().saturating_sub(1);
-    let status = run_in(alloc, count, input, output, errors);
+    let status = run_counted(alloc, count, input, output, errors);
     ExitCode::from(finish(status, output, errors))
 }
 
@@ -70,12 +62,12 @@ pub fn run<R: Source, W: Sink, E: Sink>(
         (device_of W.taken W.has_failed output.old output.new)
         (device_of E.taken E.has_failed errors.old errors.new) result }
 {
-    run_in(alloc, args.len(), input, output, errors)
+    run_counted(alloc, args.len(), input, output, errors)
 }
 
-// The same as `run` for so many arguments, with memory from any allocator.
-fn run_in<A: Allocator + Copy, R: Source, W: Sink, E: Sink>(
-    alloc: A,
+// The same as `run` for so many arguments.
+fn run_counted<R: Source, W: Sink, E: Sink>(
+    alloc: Global,
     arguments: usize,
     input: &mut R,
     output: &mut W,
@@ -90,7 +82,7 @@ fn run_in<A: Allocator + Copy, R: Source, W: Sink, E: Sink>(
         complain(errors, b"usage: wasm_list [strip]\n");
         return 2;
     }
-    match list_in(alloc, input, output, PIECE) {
+    match list(alloc, input, output, PIECE) {
         Ok(Ended::End) => 0,
         Ok(Ended::Fault(_)) => 1,
         Err(error) => give_up(errors, error),

@@ -1,12 +1,10 @@
 // The statuses and messages of runs.
-use super::devices::Failing;
 use crate::program::{finish, run, run_program};
-use crate::sink::{BoundedSink, Sink, WriteSink};
-use crate::source::{SliceSource, Source};
 use std::env::Args;
-use std::io::{self, Write};
+use std::io::{self, Read, Write};
 use std::process::ExitCode;
 use std::test::Fail;
+use wasm_feed::{BoundedSink, ReadSource, Sink, SliceSource, Source, WriteSink};
 
 const MODULE: &[u8] = b"\0asm\x01\0\0\0\0\x02\x01a";
 
@@ -76,9 +74,19 @@ fn refuses_arguments(rt: HostRuntime) -> Result<(), Fail> {
     Ok(())
 }
 
+/// A reader that fails.
+#[derive(Drop)]
+struct Broken;
+
+impl Read for Broken {
+    fn read(&mut self, _buf: &mut [u8]) -> io::Result<usize> {
+        Err(io::Error::from(io::ErrorKind::BrokenPipe))
+    }
+}
+
 #[test]
 fn says_which_device_failed(rt: HostRuntime) -> Result<(), Fail> {
-    let mut input = Failing::after(MODULE, 4, 1);
+    let mut input = ReadSource::new(Broken);
     let mut output = BoundedSink::new(rt.alloc(), 200)?;
     let mut errors = BoundedSink::new(rt.alloc(), 200)?;
     assert_eq!(rt;
@@ -167,7 +175,7 @@ fn the_whole_program(rt: HostRuntime) -> Result<(), Fail> {
     for (count, stream, status, lines, said) in rows {
         let mut input = SliceSource::new(stream);
         let mut written = Vec::<u8>::new(rt.alloc());
-        let mut output = Ok(WriteSink::new(&mut written));
+        let mut output = WriteSink::new(&mut written);
         let mut errors = BoundedSink::new(rt.alloc(), 40)?;
         let given = Ok(arguments(rt, count)?);
         assert_eq!(rt;
@@ -182,30 +190,19 @@ fn the_whole_program(rt: HostRuntime) -> Result<(), Fail> {
 
 #[test]
 fn a_program_that_cannot_begin(rt: HostRuntime) -> Result<(), Fail> {
-    let short = || io::Error::from(io::ErrorKind::OutOfMemory);
-    for has_output in [true, false] {
-        let mut input = SliceSource::new(MODULE);
-        let mut written = Vec::<u8>::new(rt.alloc());
-        let mut output = if has_output {
-            Ok(WriteSink::new(&mut written))
-        } else {
-            Err(short())
-        };
-        let mut errors = BoundedSink::new(rt.alloc(), 40)?;
-        let given = if has_output {
-            Err(short())
-        } else {
-            Ok(arguments(rt, 0)?)
-        };
-        assert_eq!(rt;
-            run_program(rt.alloc(), given, &mut input, &mut output, &mut errors),
-            ExitCode::from(3)
-        );
-        assert_eq!(rt; errors.written(), b"out of memory\n".as_slice());
-        let mut left = [0; 20];
-        assert_eq!(rt; input.read(&mut left), Ok(MODULE.len()));
-        assert_eq!(rt; written.as_slice(), b"".as_slice());
-    }
+    let mut input = SliceSource::new(MODULE);
+    let mut written = Vec::<u8>::new(rt.alloc());
+    let mut output = WriteSink::new(&mut written);
+    let mut errors = BoundedSink::new(rt.alloc(), 40)?;
+    let given = Err(io::Error::from(io::ErrorKind::OutOfMemory));
+    assert_eq!(rt;
+        run_program(rt.alloc(), given, &mut input, &mut output, &mut errors),
+        ExitCode::from(3)
+    );
+    assert_eq!(rt; errors.written(), b"out of memory\n".as_slice());
+    let mut left = [0; 20];
+    assert_eq!(rt; input.read(&mut left), Ok(MODULE.len()));
+    assert_eq!(rt; written.as_slice(), b"".as_slice());
     Ok(())
 }
 
@@ -217,7 +214,7 @@ fn a_program_whose_output_fails_at_its_end(rt: HostRuntime) -> Result<(), Fail> 
     ];
     for (count, status, said) in rows {
         let mut input = SliceSource::new(MODULE);
-        let mut output = Ok(WriteSink::new(Stuck));
+        let mut output = WriteSink::new(Stuck);
         let mut errors = BoundedSink::new(rt.alloc(), 40)?;
         let given = Ok(arguments(rt, count)?);
         assert_eq!(rt;

@@ -1,0 +1,110 @@
+-- What a listing has written.
+use Rattle.std.specs.Prelude.{◌≡◌, ◌⊎◌, ℕ, ◌+◌, ◌<◌, ◌≤◌, ◌^◌, Bool, true, List, [], ◌∷◌, ◌++◌, length, Option, Some, None, IfSome, Result, Ok, Err}
+use Rattle.std.specs.Io.KnownBytes.{Consumes, Appends, IsAtEnd, Keeps}
+use Rattle.wasm_base.specs.FaultAt.{fault_at, at_offset}
+use Rattle.wasm_base.specs.declared.fault.Fault.TheVariants.{OffsetRange}
+use Rattle.wasm_parser.specs.Content.{Ending, fault, ended}
+use Rattle.wasm_parser.specs.Reading.{Event, last_event, Reading}
+use Rattle.wasm_feed.specs.Feed.{Feed, pushed, finished}
+use Rattle.wasm_feed.specs.Listing.{listing_of}
+use Rattle.wasm_feed.specs.declared.listing.Ended.{Ended}
+use Rattle.wasm_feed.specs.declared.listing.Ended.TheVariants.{End, Fault}
+use Rattle.wasm_feed.specs.declared.listing.ListError.{ListError}
+use Rattle.wasm_feed.specs.declared.listing.ListError.TheVariants.{Input, Output, Memory}
+
+-- the bits of all features
+abbrev pub all_features : ℕ
+all_features = 3
+
+-- the run ended as the stream does
+abbrev pub IsEndedBy : Ended → Ending → Type 0
+IsEndedBy End (ended offset) = Unit {0}
+IsEndedBy End (fault f) = ⊥
+IsEndedBy (Fault e) (fault f) = fault_at e ≡ f
+IsEndedBy (Fault e) (ended offset) = ⊥
+
+-- a reading that begins with these events
+pub record ReadingFrom (stream : List ℕ) (first : List Event) : Type 0 where
+  pub events : List Event
+  pub more : List Event
+  pub reading : Reading stream 0 all_features events
+  pub begins : events ≡ first ++ more
+
+-- The bytes that the source gave are read as these events, and so is its whole input; the run ended as they do.
+pub record IsWhole (left : Option (List ℕ)) (given : List ℕ) (events : List Event) (how : Ended) : Type 0 where
+  pub reading : Reading given 0 all_features events
+  pub all : IfSome left (λ input. Reading input 0 all_features events)
+  pub ends : IsEndedBy how reading.end
+
+-- The bytes that the source gave pass the top of the offsets, which is told after the events that were read.
+pub record PassesTop (given : List ℕ) (events : List Event) (how : Ended) : Type 0 where
+  pub first : List Event
+  pub offset : ℕ
+  pub begins : ReadingFrom given first
+  pub told : events ≡ first ++ last_event (fault (at_offset OffsetRange offset)) ∷ []
+  pub ends : IsEndedBy how (fault (at_offset OffsetRange offset))
+
+-- Written is the listing of all events of what the source gave.
+pub record IsListed (left rest taken written : Option (List ℕ)) (how : Ended) : Type 0 where
+  pub given : List ℕ
+  pub events : List Event
+  pub gave : Consumes left rest given
+  pub listed : Appends taken written (listing_of events)
+  pub within : length given < 2 ^ 64 → IsWhole left given events how
+  pub past_the_top : 2 ^ 64 ≤ length given → PassesTop given events how
+
+-- Written are the lines of all events but the last, of what the source gave.
+pub record IsAllButLast (left rest taken written : Option (List ℕ)) : Type 0 where
+  pub given : List ℕ
+  pub events : List Event
+  pub last : Event
+  pub gave : Consumes left rest given
+  pub listed : Appends taken written (listing_of events)
+  pub reading : Reading given 0 all_features (events ++ last ∷ [])
+
+-- a beginning of the listing of a stream
+pub record Begins (stream shown : List ℕ) : Type 0 where
+  pub events : List Event
+  pub reading : Reading stream 0 all_features events
+  pub left : List ℕ
+  pub parts : listing_of events ≡ shown ++ left
+
+-- Written is a beginning of the listing of what the source gave.
+pub record IsBeginning (left rest taken written : Option (List ℕ)) : Type 0 where
+  pub given : List ℕ
+  pub shown : List ℕ
+  pub gave : Consumes left rest given
+  pub listed : Appends taken written shown
+  pub begins : length given < 2 ^ 64 → Begins given shown
+
+-- what a listing of a source has written at each of its ends
+abbrev pub Lists : (left rest taken written : Option (List ℕ)) → Result Ended ListError → Type 0
+Lists left rest taken written (Ok how) = IsListed left rest taken written how
+Lists left rest taken written (Err Input) = IsAllButLast left rest taken written
+Lists left rest taken written (Err Output) = IsBeginning left rest taken written
+Lists left rest taken written (Err Memory) = IsBeginning left rest taken written
+
+-- The source was at its end, which the feeder was told; or it gave some bytes, which were pushed.
+abbrev pub Fills : (left rest : Option (List ℕ)) → (old new : Feed) → Type 0
+Fills left rest old new =
+    (Consumes left rest [] × IsAtEnd rest × (new ≡ finished old)) ⊎ ((piece : List ℕ) × Consumes left rest piece × (0 < length piece) × (new ≡ pushed old piece))
+
+-- what one read did to the source, and to a feeder
+abbrev pub Refills : (left rest : Option (List ℕ)) → (old new : Feed) → Result (Unit {0}) ListError → Type 0
+Refills left rest old new (Ok done) = Fills left rest old new
+Refills left rest old new (Err Input) = Keeps left rest
+Refills left rest old new (Err Memory) = (piece : List ℕ) × Consumes left rest piece
+Refills left rest old new (Err Output) = ⊥
+
+-- whether a device has failed after a call
+abbrev pub input_failed : {A : Type 0} → Result A ListError → Bool → Bool
+input_failed (Err Input) before = true
+input_failed (Err Output) before = before
+input_failed (Err Memory) before = before
+input_failed (Ok a) before = before
+
+abbrev pub output_failed : {A : Type 0} → Result A ListError → Bool → Bool
+output_failed (Err Output) before = true
+output_failed (Err Input) before = before
+output_failed (Err Memory) before = before
+output_failed (Ok a) before = before

@@ -1,0 +1,32 @@
+-- What a listing does after an answer of the parser.
+use Rattle.std.specs.Prelude.{◌≡◌, ℕ, List, [], Option, Result, Ok, Err, if◌then◌else◌}
+use Rattle.wasm_base.specs.FaultAt.{fault_at}
+use Rattle.wasm_base.specs.declared.error.Error.{Error}
+use Rattle.wasm_parser.specs.Content.{fault}
+use Rattle.wasm_parser.specs.ParseAnswer.{report_of, is_end}
+use Rattle.wasm_parser.specs.Reading.{stream_end}
+use Rattle.wasm_feed.specs.Listing.{line_of}
+use Rattle.wasm_feed.specs.Page.{IsCut, PutsLine}
+use Rattle.wasm_feed.specs.declared.feeder.Step.{Step}
+use Rattle.wasm_feed.specs.declared.feeder.Step.TheVariants.{NeedMoreData, Parsed}
+use Rattle.wasm_feed.specs.declared.listing.Ended.TheVariants as how
+use Rattle.wasm_feed.specs.declared.listing.ListError.{ListError}
+use Rattle.wasm_feed.specs.declared.listing.Turn.{Turn}
+use Rattle.wasm_feed.specs.declared.listing.Turn.TheVariants as turn
+
+-- the line that is written for an answer; a request has none
+abbrev pub line_after : Result Step Error → List ℕ
+line_after (Ok (NeedMoreData hint)) = []
+line_after (Ok (Parsed bytes payload)) = line_of (report_of payload)
+line_after (Err e) = line_of (stream_end (fault (fault_at e)))
+
+-- what is done after an answer: at the end of the stream, and at a fault, the listing ends
+abbrev pub turn_after : Result Step Error → Turn
+turn_after (Ok (NeedMoreData hint)) = turn.Read
+turn_after (Ok (Parsed bytes payload)) = if is_end (report_of payload) then turn.End how.End else turn.Advance
+turn_after (Err e) = turn.End (how.Fault e)
+
+-- The line of the answer was put after those that waited.
+abbrev pub TakesTurn : (taken written : Option (List ℕ)) (waiting new : List ℕ) → Result Step Error → Result Turn ListError → Type 0
+TakesTurn taken written waiting new answer (Ok next) = PutsLine taken written waiting (line_after answer) new × (next ≡ turn_after answer)
+TakesTurn taken written waiting new answer (Err e) = IsCut taken written waiting e

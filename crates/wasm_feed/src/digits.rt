@@ -1,0 +1,43 @@
+// The digits of a number.
+ghost use Rattle.std.specs.Prelude.{◌≡◌, ◌+◌, ◌/◌, ◌%◌, ◌<◌, ◌≤◌, ◌∷◌, ◌++◌, length, drop};
+ghost use Rattle.std.specs.Fmt.{decimal};
+
+/// Writes the digits of a number so that they end here, and says where they start.
+pub(crate) fn write_digits(number: u64, bytes: &mut [u8], end: usize) -> usize
+    requires { (length (decimal number) ≤ end) × (end ≤ length bytes.old) }
+    ensures start { result + length (decimal number) ≡ end }
+    ensures written { drop result bytes.new ≡ decimal number ++ drop end bytes.old }
+{
+    let mut left = number;
+    let mut at = end;
+    while left >= 100 {
+        at -= 2;
+        write_pair(left % 100, bytes, at);
+        left /= 100;
+    }
+    write_first(left, bytes, at)
+}
+
+// Writes the first digit, or the first two, before the others.
+fn write_first(number: u64, bytes: &mut [u8], end: usize) -> usize
+    requires { (number < 100) × (length (decimal number) ≤ end) × (end ≤ length bytes.old) }
+    ensures start { result + length (decimal number) ≡ end }
+    ensures written { drop result bytes.new ≡ decimal number ++ drop end bytes.old }
+{
+    if number < 10 {
+        bytes[end - 1] = b'0' + number as u8;
+        return end - 1;
+    }
+    write_pair(number, bytes, end - 2);
+    end - 2
+}
+
+// Writes two digits.
+fn write_pair(number: u64, bytes: &mut [u8], at: usize)
+    requires { (number < 100) × (at + 2 ≤ length bytes.old) }
+    ensures { drop at bytes.new
+        ≡ (48 + number / 10) ∷ (48 + number % 10) ∷ drop (at + 2) bytes.old }
+{
+    bytes[at] = b'0' + (number / 10) as u8;
+    bytes[at + 1] = b'0' + (number % 10) as u8;
+}

@@ -1,0 +1,166 @@
+// The listing of a stream.
+ghost use Rattle.std.specs.Prelude.{◌≡◌, ◌≤◌, ◌<◌, length};
+ghost use Rattle.wasm_feed.specs.Cursors.{feed_of};
+ghost use Rattle.wasm_feed.specs.Lists.{Lists, Refills, input_failed, output_failed};
+ghost use Rattle.wasm_feed.specs.Turns.{TakesTurn};
+
+use crate::feeder::{Cursor, Step, advance};
+use crate::line::Line;
+use crate::lines::{fault_line, payload_line};
+use crate::page::Page;
+use crate::sink::Sink;
+use crate::source::Source;
+use std::alloc::{AllocError, Allocator, Global};
+use wasm_parser::{Error, Parser, Payload, Result as ParserResult};
+
+/// How a stream that was listed ended.
+#[derive(Clone, Copy, Debug, PartialEq, Eq)]
+pub enum Ended {
+    /// At its end, with no fault.
+    End,
+    /// At its first fault, whose offset counts bytes from the stream's start.
+    Fault(Error),
+}
+
+/// Why a listing was given up.
+#[derive(Clone, Copy, Debug, PartialEq, Eq)]
+pub enum ListError {
+    /// The source failed.
+    Input,
+    /// The sink failed.
+    Output,
+    /// No memory was left.
+    Memory,
+}
+
+impl From<AllocError> for ListError {
+    ghost use Rattle.std.specs.Prelude.{◌≡◌};
+    ghost use Rattle.wasm_feed.specs.declared.listing.ListError.TheVariants.{Memory};
+
+    ghost from_gives = { λ _ e. e ≡ Memory };
+
+    fn from(_refused: AllocError) -> ListError {
+        ListError::Memory
+    }
+}
+
+/// What a listing does after an answer of the parser.
+#[derive(Clone, Copy)]
+pub(crate) enum Turn {
+    /// It goes on with the bytes that are stored.
+    Advance,
+    /// It reads more of them.
+    Read,
+    /// It ends.
+    End(Ended),
+}
+
+// Puts the line of an answer on the page, and says what is to be done next.
+fn put_answer<A: Allocator, W: Sink>(
+    page: &mut Page<A>,
+    line: &mut Line,
+    output: &mut W,
+    answer: &ParserResult<Step<'_>>,
+) -> Result<Turn, ListError>
+    ensures takes { TakesTurn (W.taken output.old) (W.taken output.new)
+        page.old.bytes.items page.new.bytes.items answer.now result }
+    ensures failed { W.has_failed output.new ≡ output_failed result (W.has_failed output.old) }
+{
+    match answer {
+        Ok(Step::NeedMoreData(_)) => Ok(Turn::Read),
+        Ok(Step::Parsed { payload, .. }) => {
+            payload_line(line, payload);
+            let next = match payload {
+                Payload::End(_) => Turn::End(Ended::End),
+                _ => Turn::Advance,
+            };
+            page.put(line.as_bytes(), output)?;
+            Ok(next)
+        }
+        Err(error) => {
+            fault_line(line, error);
+            page.put(line.as_bytes(), output)?;
+            Ok(Turn::End(Ended::Fault(*error)))
+        }
+    }
+}
+
+// Reads once, and stores what came, or that it was the end.
+fn refill<A: Allocator, R: Source>(
+    cursor: &mut Cursor,
+    stored: &mut Vec<u8, A>,
+    input: &mut R,
+    room: &mut [u8],
+) -> Result<(), ListError>
+    requires { 0 < length room.old }
+    ensures refills { Refills (R.left input.old) (R.left input.new)
+        (feed_of stored.old.items cursor.old) (feed_of stored.new.items cursor.new) result }
+    ensures failed { R.has_failed input.new ≡ input_failed result (R.has_failed input.old) }
+{
+    match input.read(room) {
+        Ok(0) => {
+            cursor.finish();
+            Ok(())
+        }
+        Ok(count) => Ok(cursor.take_in(stored, &room[..count])?),
+        Err(_) => Err(ListError::Input),
+    }
+}
+
+// The same as `list`, with memory from any allocator.
+pub(crate) fn list_in<A: Allocator + Copy, R: Source, W: Sink>(
+    alloc: A,
+    input: &mut R,
+    output: &mut W,
+    piece: usize,
+) -> Result<Ended, ListError>
+    requires { 1 ≤ piece }
+    ensures lists { Lists (R.left input.old) (R.left input.new)
+        (W.taken output.old) (W.taken output.new) result }
+    ensures input { R.has_failed input.new ≡ input_failed result (R.has_failed input.old) }
+    ensures output { W.has_failed output.new ≡ output_failed result (W.has_failed output.old) }
+{
+    let mut room = vec![in alloc; 0u8; piece]?;
+    let mut page = Page::new(alloc)?;
+    let mut line = Line::new();
+    let mut stored = Vec::new(alloc);
+    let mut cursor = Cursor::new(Parser::new(0));
+    'events: loop {
+        let answer = advance(&mut cursor, &stored);
+        let turn = put_answer(&mut page, &mut line, output, &answer);
+        drop(answer);
+        match turn? {
+            Turn::Advance => {}
+            Turn::Read => {
+                page.write_out(output)?;
+                refill(&mut cursor, &mut stored, input, room.as_mut_slice())?;
+            }
+            Turn::End(ended) => {
+                page.write_out(output)?;
+                return Ok(ended);
+            }
+        }
+    }
+}
+
+/// Reads the input, at most `piece` bytes at once and at least one, and writes its listing: a line for each event of the
+/// reading of the stream, whose offsets count bytes from 0. The line of an event is written before more is read, and no
+/// more is held than what the parser has not decided and one piece.
+///
+/// A stream that passes the offset 2^64 - 1 ends with the fault `OffsetRange`. An error leaves a beginning of the listing
+/// written: `Input` where the source failed, all lines but the last of what it gave; `Output` where the sink did; `Memory`
+/// where a growth was refused. Neither device may have failed before.
+pub fn list<R: Source, W: Sink>(
+    alloc: Global,
+    input: &mut R,
+    output: &mut W,
+    piece: usize,
+) -> Result<Ended, ListError>
+    requires { 1 ≤ piece }
+    ensures lists { Lists (R.left input.old) (R.left input.new)
+        (W.taken output.old) (W.taken output.new) result }
+    ensures input { R.has_failed input.new ≡ input_failed result (R.has_failed input.old) }
+    ensures output { W.has_failed output.new ≡ output_failed result (W.has_failed output.old) }
+{
+    list_in(alloc, input, output, piece)
+}
