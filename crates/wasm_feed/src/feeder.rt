@@ -1,12 +1,15 @@
 // A feeder: it is given the bytes of a stream in pieces, and lends its payloads one by one.
-ghost use Rattle.std.specs.Prelude.{◌≡◌, ◌+◌, ◌++◌, true, drop, length, OnOk, OnErr};
+ghost use Rattle.std.specs.Prelude.{◌≡◌, ◌+◌, ◌++◌, true, [], drop, length, OnOk, OnErr, IfErr};
+ghost use Rattle.wasm_base.specs.FaultAt.{fault_at};
 ghost use Rattle.wasm_base.specs.Features.{feature_bits};
+ghost use Rattle.wasm_base.specs.Owned.{out_of_memory};
 ghost use Rattle.wasm_parser.specs.ParseAnswer.{ParseAnswer};
+ghost use Rattle.wasm_feed.specs.Cursors.{feed_of, finished_cursor};
 ghost use Rattle.wasm_feed.specs.Feed.{new_feed, pushed, finished, RefusesPush};
 ghost use Rattle.wasm_feed.specs.Step.{answer_of, shown, is_request, GivesStep};
 
 use crate::buffer::{after, append};
-use std::alloc::Global;
+use std::alloc::{Allocator, Global};
 use std::marker::Model;
 use wasm_parser::{Chunk, Error, Fault, Parser, Payload, Result, WasmFeatures, fits};
 
@@ -31,6 +34,30 @@ pub struct Cursor {
     mark: usize,
     is_finished: bool,
     wants_more: bool,
+}
+
+impl Cursor {
+    /// At the start of a stream that begins at this offset, whose windows have these features.
+    pub(crate) fn new(offset: u64, features: WasmFeatures) -> Cursor
+        ensures { feed_of [] result ≡ new_feed offset (feature_bits features) }
+    {
+        let mut parser = Parser::new(offset);
+        parser.set_features(features);
+        Cursor {
+            parser,
+            mark: 0,
+            is_finished: false,
+            wants_more: true,
+        }
+    }
+
+    /// Notes that the stream ends after the bytes that are there.
+    pub(crate) fn finish(&mut self)
+        ensures { self.new ≡ finished_cursor self.old }
+    {
+        self.is_finished = true;
+        self.wants_more = false;
+    }
 }
 
 /// Reads a stream that comes in pieces (core specification, Binary format, Modules).
@@ -83,15 +110,8 @@ impl Feeder {
     pub fn new(alloc: Global, offset: u64, features: WasmFeatures) -> Feeder
         ensures { result ≡ new_feed offset (feature_bits features) }
     {
-        let mut parser = Parser::new(offset);
-        parser.set_features(features);
         Feeder {
-            cursor: Cursor {
-                parser,
-                mark: 0,
-                is_finished: false,
-                wants_more: true,
-            },
+            cursor: Cursor::new(offset, features),
             bytes: Vec::new(alloc),
         }
     }
@@ -130,8 +150,7 @@ impl Feeder {
     pub fn finish(&mut self)
         ensures { self.new ≡ finished self.old }
     {
-        self.cursor.is_finished = true;
-        self.cursor.wants_more = false;
+        self.cursor.finish();
     }
 
     /// Gives the next bytes of the stream. The feeder must want more.
@@ -149,13 +168,7 @@ impl Feeder {
         if !fits(offset, held) || !fits(offset + held as u64, piece.len()) {
             return Err(Error::new(Fault::OffsetRange, offset));
         }
-        let mark = self.cursor.mark.min(self.bytes.len());
-        if append(&mut self.bytes, mark, piece).is_err() {
-            return Err(Error::new(Fault::OutOfMemory, 0));
-        }
-        self.cursor.mark = 0;
-        self.cursor.wants_more = false;
-        Ok(())
+        refill(&mut self.cursor, &mut self.bytes, piece)
     }
 
     /// The feeder taken apart, so that a step moves its cursor while the payload borrows its bytes.
@@ -199,8 +212,30 @@ impl<'c, 'a> Opened<'c, 'a> {
     }
 }
 
-// One step in these bytes.
-fn advance<'a>(cursor: &mut Cursor, bytes: &'a [u8]) -> Result<Step<'a>>
+/// Puts the next bytes after those that are held, and lets the ones before the mark go. Where the growth was refused nothing
+/// changes.
+pub(crate) fn refill<A: Allocator>(
+    cursor: &mut Cursor,
+    bytes: &mut Vec<u8, A>,
+    piece: &[u8],
+) -> Result<()>
+    ensures ok { OnOk result (feed_of bytes.new.items cursor.new
+        ≡ pushed (feed_of bytes.old.items cursor.old) piece.now) }
+    ensures unchanged { OnErr result (feed_of bytes.new.items cursor.new
+        ≡ feed_of bytes.old.items cursor.old) }
+    ensures memory { IfErr result (λ e. fault_at e ≡ out_of_memory) }
+{
+    let spent = cursor.mark.min(bytes.len());
+    if append(bytes, spent, piece).is_err() {
+        return Err(Error::new(Fault::OutOfMemory, 0));
+    }
+    cursor.mark = 0;
+    cursor.wants_more = false;
+    Ok(())
+}
+
+/// One step in these bytes.
+pub(crate) fn advance<'a>(cursor: &mut Cursor, bytes: &'a [u8]) -> Result<Step<'a>>
     ensures parses { ParseAnswer cursor.old.parser cursor.old.is_finished
         (drop cursor.old.mark bytes.now) (answer_of result) cursor.new.parser }
     ensures shows { drop cursor.old.mark bytes.now
