@@ -1,3 +1,4 @@
+pub mod Along
 pub mod ByHand
 pub mod Decimal
 pub mod Resting

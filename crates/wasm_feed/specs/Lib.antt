@@ -1,3 +1,4 @@
+pub mod Along
 pub mod Cursors
 pub mod Devices
 pub mod Ends

@@ -1,12 +1,15 @@
 // A feeder: it is given the bytes of a stream in pieces, and lends its payloads one by one.
-ghost use Rattle.std.specs.Prelude.{◌≡◌, ◌+◌, ◌++◌, true, drop, length, OnOk, OnErr};
+ghost use Rattle.std.specs.Prelude.{◌≡◌, ◌+◌, ◌++◌, true, [], drop, length, OnOk, OnErr, IfErr};
+ghost use Rattle.wasm_base.specs.FaultAt.{fault_at};
 ghost use Rattle.wasm_base.specs.Features.{feature_bits};
+ghost use Rattle.wasm_base.specs.Owned.{out_of_memory};
 ghost use Rattle.wasm_parser.specs.ParseAnswer.{ParseAnswer};
+ghost use Rattle.wasm_feed.specs.Cursors.{feed_of, finished_cursor};
 ghost use Rattle.wasm_feed.specs.Feed.{new_feed, pushed, finished, RefusesPush};
 ghost use Rattle.wasm_feed.specs.Step.{answer_of, shown, is_request, GivesStep};
 
 use crate::buffer::{after, append};
-use std::alloc::{AllocError, Allocator, Global};
+use std::alloc::{Allocator, Global};
 use std::marker::Model;
 use wasm_parser::{Chunk, Error, Fault, Parser, Payload, Result, WasmFeatures, fits};
 
@@ -34,14 +37,12 @@ pub struct Cursor {
 }
 
 impl Cursor {
-    ghost use Rattle.std.specs.Prelude.{ℕ, List, []};
-    ghost use Rattle.wasm_feed.specs.Cursors.{feed_of};
-    ghost use Rattle.wasm_feed.specs.Feed.{starting, pushed, finished};
-
-    /// A cursor before the first byte, whose parser is this one.
-    pub(crate) fn new(parser: Parser) -> Cursor
-        ensures { feed_of [] result ≡ starting parser }
+    /// At the start of a stream that begins at this offset, whose windows have these features.
+    pub(crate) fn new(offset: u64, features: WasmFeatures) -> Cursor
+        ensures { feed_of [] result ≡ new_feed offset (feature_bits features) }
     {
+        let mut parser = Parser::new(offset);
+        parser.set_features(features);
         Cursor {
             parser,
             mark: 0,
@@ -50,30 +51,12 @@ impl Cursor {
         }
     }
 
-    /// No bytes come after those that are stored.
+    /// Notes that the stream ends after the bytes that are there.
     pub(crate) fn finish(&mut self)
-        ensures { (bytes : List ℕ) → feed_of bytes self.new ≡ finished (feed_of bytes self.old) }
+        ensures { self.new ≡ finished_cursor self.old }
     {
         self.is_finished = true;
         self.wants_more = false;
-    }
-
-    /// Stores a piece after the bytes that were not consumed, and drops those that were.
-    pub(crate) fn take_in<A: Allocator>(
-        &mut self,
-        stored: &mut Vec<u8, A>,
-        piece: &[u8],
-    ) -> Result<(), AllocError>
-        ensures ok { OnOk result (feed_of stored.new.items self.new
-            ≡ pushed (feed_of stored.old.items self.old) piece.now) }
-        ensures err { OnErr result (feed_of stored.new.items self.new
-            ≡ feed_of stored.old.items self.old) }
-    {
-        let spent = self.mark.min(stored.len());
-        append(stored, spent, piece)?;
-        self.mark = 0;
-        self.wants_more = false;
-        Ok(())
     }
 }
 
@@ -127,10 +110,8 @@ impl Feeder {
     pub fn new(alloc: Global, offset: u64, features: WasmFeatures) -> Feeder
         ensures { result ≡ new_feed offset (feature_bits features) }
     {
-        let mut parser = Parser::new(offset);
-        parser.set_features(features);
         Feeder {
-            cursor: Cursor::new(parser),
+            cursor: Cursor::new(offset, features),
             bytes: Vec::new(alloc),
         }
     }
@@ -187,10 +168,7 @@ impl Feeder {
         if !fits(offset, held) || !fits(offset + held as u64, piece.len()) {
             return Err(Error::new(Fault::OffsetRange, offset));
         }
-        match self.cursor.take_in(&mut self.bytes, piece) {
-            Ok(()) => Ok(()),
-            Err(_) => Err(Error::new(Fault::OutOfMemory, 0)),
-        }
+        refill(&mut self.cursor, &mut self.bytes, piece)
     }
 
     /// The feeder taken apart, so that a step moves its cursor while the payload borrows its bytes.
@@ -232,6 +210,28 @@ impl<'c, 'a> Opened<'c, 'a> {
         let Opened { cursor, bytes } = self;
         advance(cursor, bytes)
     }
+}
+
+/// Puts the next bytes after those that are held, and lets the ones before the mark go. Where the growth was refused nothing
+/// changes.
+pub(crate) fn refill<A: Allocator>(
+    cursor: &mut Cursor,
+    bytes: &mut Vec<u8, A>,
+    piece: &[u8],
+) -> Result<()>
+    ensures ok { OnOk result (feed_of bytes.new.items cursor.new
+        ≡ pushed (feed_of bytes.old.items cursor.old) piece.now) }
+    ensures unchanged { OnErr result (feed_of bytes.new.items cursor.new
+        ≡ feed_of bytes.old.items cursor.old) }
+    ensures memory { IfErr result (λ e. fault_at e ≡ out_of_memory) }
+{
+    let spent = cursor.mark.min(bytes.len());
+    if append(bytes, spent, piece).is_err() {
+        return Err(Error::new(Fault::OutOfMemory, 0));
+    }
+    cursor.mark = 0;
+    cursor.wants_more = false;
+    Ok(())
 }
 
 /// One step in these bytes.

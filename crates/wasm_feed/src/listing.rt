@@ -4,14 +4,15 @@ ghost use Rattle.wasm_feed.specs.Cursors.{feed_of};
 ghost use Rattle.wasm_feed.specs.Lists.{Lists, Refills, input_failed, output_failed};
 ghost use Rattle.wasm_feed.specs.Turns.{TakesTurn};
 
-use crate::feeder::{Cursor, Step, advance};
+use crate::feeder::{Cursor, Step, advance, refill};
 use crate::line::Line;
 use crate::lines::{fault_line, payload_line};
 use crate::page::Page;
 use crate::sink::Sink;
 use crate::source::Source;
 use std::alloc::{AllocError, Allocator, Global};
-use wasm_parser::{Error, Parser, Payload, Result as ParserResult};
+use bitflags::Flags;
+use wasm_parser::{Error, Payload, Result as ParserResult, WasmFeatures};
 
 /// How a stream that was listed ended.
 #[derive(Clone, Copy, Debug, PartialEq, Eq)]
@@ -86,7 +87,7 @@ fn put_answer<A: Allocator, W: Sink>(
 }
 
 // Reads once, and stores what came, or that it was the end.
-fn refill<A: Allocator, R: Source>(
+fn read_more<A: Allocator, R: Source>(
     cursor: &mut Cursor,
     stored: &mut Vec<u8, A>,
     input: &mut R,
@@ -102,7 +103,10 @@ fn refill<A: Allocator, R: Source>(
             cursor.finish();
             Ok(())
         }
-        Ok(count) => Ok(cursor.take_in(stored, &room[..count])?),
+        Ok(count) => match refill(cursor, stored, &room[..count]) {
+            Ok(()) => Ok(()),
+            Err(_) => Err(ListError::Memory),
+        },
         Err(_) => Err(ListError::Input),
     }
 }
@@ -124,7 +128,7 @@ pub(crate) fn list_in<A: Allocator + Copy, R: Source, W: Sink>(
     let mut page = Page::new(alloc)?;
     let mut line = Line::new();
     let mut stored = Vec::new(alloc);
-    let mut cursor = Cursor::new(Parser::new(0));
+    let mut cursor = Cursor::new(0, WasmFeatures::all());
     'events: loop {
         let answer = advance(&mut cursor, &stored);
         let turn = put_answer(&mut page, &mut line, output, &answer);
@@ -133,7 +137,7 @@ pub(crate) fn list_in<A: Allocator + Copy, R: Source, W: Sink>(
             Turn::Advance => {}
             Turn::Read => {
                 page.write_out(output)?;
-                refill(&mut cursor, &mut stored, input, room.as_mut_slice())?;
+                read_more(&mut cursor, &mut stored, input, room.as_mut_slice())?;
             }
             Turn::End(ended) => {
                 page.write_out(output)?;

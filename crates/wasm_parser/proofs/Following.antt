@@ -72,7 +72,7 @@ pub record MoreEvents (first all : List Event) : Type 0 where
   pub more : List Event
   pub parts : all ≡ first ++ more
 
-events_later : (start features : ℕ) (later ts : List Tile) → MoreEvents (events_of start features ts) (events_of start features (later ++ ts))
+pub events_later : (start features : ℕ) (later ts : List Tile) → MoreEvents (events_of start features ts) (events_of start features (later ++ ts))
 events_later start features [] ts = record { more = []; parts = sym (append-nil (events_of start features ts)) }
 events_later start features (t ∷ later) ts =
     let m : MoreEvents (events_of start features ts) (events_of start features (later ++ ts)) = events_later start features later ts in
