@@ -5,6 +5,7 @@ use Rattle.wasm_base.specs.FaultAt.{fault_at, at_offset}
 use Rattle.wasm_base.specs.declared.fault.Fault.TheVariants.{OffsetRange}
 use Rattle.wasm_parser.specs.Content.{Ending, fault, ended}
 use Rattle.wasm_parser.specs.Reading.{Event, last_event, Reading}
+use Rattle.wasm_feed.specs.Along.{ReadingBegins}
 use Rattle.wasm_feed.specs.Feed.{Feed, pushed, finished}
 use Rattle.wasm_feed.specs.Listing.{listing_of}
 use Rattle.wasm_feed.specs.declared.listing.Ended.{Ended}
@@ -23,35 +24,27 @@ IsEndedBy End (fault f) = ⊥
 IsEndedBy (Fault e) (fault f) = fault_at e ≡ f
 IsEndedBy (Fault e) (ended offset) = ⊥
 
--- a reading that begins with these events
-pub record ReadingFrom (stream : List ℕ) (first : List Event) : Type 0 where
-  pub events : List Event
-  pub more : List Event
-  pub reading : Reading stream 0 all_features events
-  pub begins : events ≡ first ++ more
-
--- The bytes that the source gave are read as these events, and so is its whole input; the run ended as they do.
-pub record IsWhole (left : Option (List ℕ)) (given : List ℕ) (events : List Event) (how : Ended) : Type 0 where
+-- The bytes that the source gave are read as these events, and so is its whole input.
+pub record IsWhole (left : Option (List ℕ)) (given : List ℕ) (events : List Event) : Type 0 where
   pub reading : Reading given 0 all_features events
   pub all : IfSome left (λ input. Reading input 0 all_features events)
-  pub ends : IsEndedBy how reading.end
 
--- The bytes that the source gave pass the top of the offsets, which is told after the events that were read.
-pub record PassesTop (given : List ℕ) (events : List Event) (how : Ended) : Type 0 where
-  pub first : List Event
+-- The bytes that the source gave pass the top of the offsets, which is the fault after these events of theirs.
+pub record PassesTop (given : List ℕ) (first : List Event) (end : Ending) : Type 0 where
+  pub begins : ReadingBegins 0 all_features given first
   pub offset : ℕ
-  pub begins : ReadingFrom given first
-  pub told : events ≡ first ++ last_event (fault (at_offset OffsetRange offset)) ∷ []
-  pub ends : IsEndedBy how (fault (at_offset OffsetRange offset))
+  pub is_fault : end ≡ fault (at_offset OffsetRange offset)
 
--- Written is the listing of all events of what the source gave.
+-- Written is the listing of all events of what the source gave, and the run ended as they do.
 pub record IsListed (left rest taken written : Option (List ℕ)) (how : Ended) : Type 0 where
   pub given : List ℕ
-  pub events : List Event
+  pub first : List Event
+  pub end : Ending
   pub gave : Consumes left rest given
-  pub listed : Appends taken written (listing_of events)
-  pub within : length given < 2 ^ 64 → IsWhole left given events how
-  pub past_the_top : 2 ^ 64 ≤ length given → PassesTop given events how
+  pub listed : Appends taken written (listing_of (first ++ last_event end ∷ []))
+  pub ends : IsEndedBy how end
+  pub within : length given < 2 ^ 64 → IsWhole left given (first ++ last_event end ∷ [])
+  pub past_the_top : 2 ^ 64 ≤ length given → PassesTop given first end
 
 -- Written are the lines of all events but the last, of what the source gave.
 pub record IsAllButLast (left rest taken written : Option (List ℕ)) : Type 0 where

@@ -10,8 +10,8 @@ use crate::lines::{fault_line, payload_line};
 use crate::page::Page;
 use crate::sink::Sink;
 use crate::source::Source;
-use std::alloc::{AllocError, Allocator, Global};
 use bitflags::Flags;
+use std::alloc::{AllocError, Allocator, Global};
 use wasm_parser::{Error, Payload, Result as ParserResult, WasmFeatures};
 
 /// How a stream that was listed ended.

@@ -25,9 +25,11 @@ appends_kept (Some x) (Some y) (Some z) bs p q = q ∙ p
 lists_kept : (left rest taken written kept : Option (List ℕ)) (how : Ended) → Lists left rest taken written (Ok how) → Keeps written kept → Lists left rest taken kept (Ok how)
 lists_kept left rest taken written kept how h k = record {
   given = h.given;
-  events = h.events;
+  first = h.first;
+  end = h.end;
   gave = h.gave;
   listed = appends_kept taken written kept _ h.listed k;
+  ends = h.ends;
   within = h.within;
   past_the_top = h.past_the_top;
 }

@@ -127,7 +127,11 @@ fn a_source_that_fails_leaves_the_lines_of_what_it_gave(rt: HostRuntime) -> Resu
             let mut output = BoundedSink::new(rt.alloc(), 100)?;
             let ended = list(rt.alloc(), &mut input, &mut output, piece);
             let has_failed = !lines.ends_with(b"end 18\n");
-            assert_eq!(rt; ended == Err(ListError::Input), has_failed, "{piece} {calls}");
+            assert_eq!(rt;
+                ended == Err(ListError::Input),
+                has_failed,
+                "{piece} {calls}"
+            );
             assert!(rt; input.failed() == has_failed && !output.failed());
             assert_eq!(rt; output.written(), *lines);
         }

@@ -1,0 +1,19 @@
+use Rattle.std.proofs.Common.{◌≡◌, ◌<◌, vec_len}
+use Rattle.wasm_feed.specs.Cursors.{feed_of}
+use Rattle.wasm_feed.proofs.Progress.{Progress, weight}
+use Rattle.wasm_feed.proofs.listing.list_in.Given as goal
+
+-- how far the listing has come
+abbrev pub invariant-events : goal.invariant-events
+invariant-events g l =
+    let source = g.R.Source in
+    let sink = g.W.Sink in
+    record {
+      progress : Progress (source.left l.initial.input) (source.left l.input) (sink.taken l.initial.output) (sink.taken l.output) (feed_of l.stored.items l.cursor) l.page.bytes.items;
+      input : source.has_failed l.input ≡ source.has_failed l.initial.input;
+      output : sink.has_failed l.output ≡ sink.has_failed l.initial.output;
+      room : 0 < vec_len l.room;
+    }
+
+abbrev pub decreases-events : goal.decreases-events
+decreases-events g l = weight (feed_of l.stored.items l.cursor)
