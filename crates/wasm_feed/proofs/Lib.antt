@@ -1,6 +1,8 @@
+pub mod Adding
 pub mod Along
 pub mod ByHand
 pub mod Decimal
+pub mod Joining
 pub mod Progress
 pub mod Resting
 pub mod Stepping

@@ -15,8 +15,12 @@ pub record Feed : Type 0 where
   pub eof : Bool
   pub wants_more : Bool
 
+-- a feeder that was given nothing, whose parser is here
+abbrev pub empty_feed : ParserState → Feed
+empty_feed p = record { state = p; held = []; stored = 0; eof = false; wants_more = true }
+
 abbrev pub new_feed : (offset features : ℕ) → Feed
-new_feed offset features = record { state = initial_state offset features; held = []; stored = 0; eof = false; wants_more = true }
+new_feed offset features = empty_feed (initial_state offset features)
 
 -- the feeder after a push
 abbrev pub pushed : Feed → (piece : List ℕ) → Feed

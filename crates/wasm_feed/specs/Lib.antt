@@ -2,11 +2,13 @@ pub mod Along
 pub mod Cursors
 pub mod Devices
 pub mod Ends
+pub mod Events
 pub mod Feed
 pub mod Listing
 pub mod Lists
 pub mod Opened
 pub mod Page
+pub mod Pieces
 pub mod Step
 pub mod Turns
 pub mod Waits

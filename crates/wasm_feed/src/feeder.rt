@@ -5,7 +5,7 @@ ghost use Rattle.wasm_base.specs.Features.{feature_bits};
 ghost use Rattle.wasm_base.specs.Owned.{out_of_memory};
 ghost use Rattle.wasm_parser.specs.ParseAnswer.{ParseAnswer};
 ghost use Rattle.wasm_feed.specs.Cursors.{feed_of, finished_cursor};
-ghost use Rattle.wasm_feed.specs.Feed.{new_feed, pushed, finished, RefusesPush};
+ghost use Rattle.wasm_feed.specs.Feed.{empty_feed, new_feed, pushed, finished, RefusesPush};
 ghost use Rattle.wasm_feed.specs.Step.{answer_of, shown, is_request, GivesStep};
 
 use crate::buffer::{after, append};
@@ -37,12 +37,10 @@ pub struct Cursor {
 }
 
 impl Cursor {
-    /// At the start of a stream that begins at this offset, whose windows have these features.
-    pub(crate) fn new(offset: u64, features: WasmFeatures) -> Cursor
-        ensures { feed_of [] result ≡ new_feed offset (feature_bits features) }
+    /// A cursor of this parser, where nothing is stored yet.
+    pub(crate) fn new(parser: Parser) -> Cursor
+        ensures { feed_of [] result ≡ empty_feed parser }
     {
-        let mut parser = Parser::new(offset);
-        parser.set_features(features);
         Cursor {
             parser,
             mark: 0,
@@ -110,8 +108,10 @@ impl Feeder {
     pub fn new(alloc: Global, offset: u64, features: WasmFeatures) -> Feeder
         ensures { result ≡ new_feed offset (feature_bits features) }
     {
+        let mut parser = Parser::new(offset);
+        parser.set_features(features);
         Feeder {
-            cursor: Cursor::new(offset, features),
+            cursor: Cursor::new(parser),
             bytes: Vec::new(alloc),
         }
     }

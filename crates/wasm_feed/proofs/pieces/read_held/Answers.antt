@@ -1,0 +1,42 @@
+use Rattle.std.proofs.Common.{Bool, List, sym, subst, subst₂, ◌∙◌}
+use Rattle.wasm_feed.specs.Cursors.{feed_of}
+use Rattle.wasm_feed.specs.Events.{IsEventOfStep}
+use Rattle.wasm_feed.specs.Pieces.{HasCome, HasEnded}
+use Rattle.wasm_feed.specs.declared.events.Event.{Event}
+use Rattle.wasm_feed.proofs.Adding.{asks, adds, ends, fewer, steps_in}
+use Rattle.wasm_feed.proofs.pieces.read_held.Goals as goal
+
+pub returns-in-None-clause-reads : goal.returns-in-None-clause-reads
+returns-in-None-clause-reads g c start features given h l =
+    let bytes = c.args.bytes.now in
+    let s = steps_in bytes c.steps.cursor c.advance.new.cursor c.advance.result c.advance.ensures.parses c.advance.ensures.shows c.advance.ensures.finished c.advance.ensures.wants in
+    let none = subst (IsEventOfStep c.advance.result) c.in-None.is c.in_ok-event_of.ensures.is in
+    let r = asks start features given (feed_of bytes c.steps.cursor) (feed_of bytes c.advance.new.cursor) c.steps.events.items (c.steps.invariant.comes start features given h l) l c.advance.result s none in
+    (r.0, sym c.steps.invariant.eof ∙ r.1)
+
+pub returns-then-is_last-clause-reads : goal.returns-then-is_last-clause-reads
+returns-then-is_last-clause-reads g c start features given h l =
+    let bytes = c.args.bytes.now in
+    let s = steps_in bytes c.steps.cursor c.advance.new.cursor c.advance.result c.advance.ensures.parses c.advance.ensures.shows c.advance.ensures.finished c.advance.ensures.wants in
+    let some = subst (IsEventOfStep c.advance.result) c.in-Some.is c.in_ok-event_of.ensures.is in
+    let r = ends start features given (feed_of bytes c.steps.cursor) (feed_of bytes c.advance.new.cursor) c.steps.events.items (c.steps.invariant.comes start features given h l) l c.advance.result c.in-Some.event s some (sym c.if-is_last.ensures) in
+    subst₂ (λ (eof : Bool) (values : List (Event g.row.A.Denot)). HasEnded start features eof given values) c.steps.invariant.eof (sym c.in_ok-push-in-Some.ensures.items) r
+
+pub steps-smaller : goal.steps-smaller
+steps-smaller g c =
+    let bytes = c.args.bytes.now in
+    let s = steps_in bytes c.steps.cursor c.advance.new.cursor c.advance.result c.advance.ensures.parses c.advance.ensures.shows c.advance.ensures.finished c.advance.ensures.wants in
+    let some = subst (IsEventOfStep c.advance.result) c.in-Some.is c.in_ok-event_of.ensures.is in
+    fewer (feed_of bytes c.steps.cursor) (feed_of bytes c.advance.new.cursor) c.advance.result c.in-Some.event s some (sym c.if-is_last.ensures)
+
+pub steps-preserved : goal.steps-preserved
+steps-preserved g c =
+    let bytes = c.args.bytes.now in
+    let s = steps_in bytes c.steps.cursor c.advance.new.cursor c.advance.result c.advance.ensures.parses c.advance.ensures.shows c.advance.ensures.finished c.advance.ensures.wants in
+    let some = subst (IsEventOfStep c.advance.result) c.in-Some.is c.in_ok-event_of.ensures.is in
+    record {
+      comes = λ start features given h l.
+          subst (HasCome start features given (feed_of bytes c.advance.new.cursor)) (sym c.in_ok-push-in-Some.ensures.items)
+          (adds start features given (feed_of bytes c.steps.cursor) (feed_of bytes c.advance.new.cursor) c.steps.events.items (c.steps.invariant.comes start features given h l) l c.advance.result c.in-Some.event s some (sym c.if-is_last.ensures));
+      eof = c.advance.ensures.finished ∙ c.steps.invariant.eof;
+    }
