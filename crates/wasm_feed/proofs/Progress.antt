@@ -3,21 +3,23 @@ use Rattle.std.proofs.Common.{◌≡◌, ℕ, ◌+◌, ◌-◌, ◌^◌, ◌<◌
 use Rattle.std.proofs.lemmas.List.{take-append-drop}
 use Rattle.std.specs.Io.KnownBytes.{Consumes, Appends, IsAtEnd, Keeps}
 use Rattle.std.proofs.KnownBytes.{Consumes-nil, Consumes-trans, Consumes-kept, Appends-nil, Appends-trans}
-use Rattle.wasm_base.specs.FaultAt.{FaultAt, fault_at, at_offset}
+use Rattle.wasm_base.specs.FaultAt.{fault_at, at_offset}
 use Rattle.wasm_base.specs.declared.error.Error.{Error}
 use Rattle.wasm_base.specs.declared.fault.Fault.TheVariants.{OffsetRange}
 use Rattle.wasm_parser.specs.Content.{Ending, fault, ended}
 use Rattle.wasm_parser.specs.GivesNextEvent.{MayBe, IsUndecided}
-use Rattle.wasm_parser.specs.ParseAnswer.{report_of, is_end, IsFaultAlone, ParseAnswer}
+use Rattle.wasm_parser.specs.ParseAnswer.{report_of, is_end, ParseAnswer}
 use Rattle.wasm_parser.specs.ParserState.{ParserState}
 use Rattle.wasm_parser.specs.Reading.{Report, stream_end, Event, events_of, last_event, Reading}
 use Rattle.wasm_parser.specs.declared.payload.Payload.{Payload}
 use Rattle.wasm_feed.specs.Along.{Along, ReadingBegins, ReadsEach, Came, Stepped}
 use Rattle.wasm_feed.specs.Feed.{Feed, new_feed, pushed, finished}
 use Rattle.wasm_feed.specs.Listing.{line_of, event_line, listing_of}
-use Rattle.wasm_feed.specs.Lists.{all_features, IsEndedBy, IsWhole, PassesTop, IsListed, Begins, IsBeginning, Fills, Lists}
+use Rattle.wasm_feed.specs.Lists.{all_features, IsEndedBy, IsWhole, IsListed, Begins, Fills, Refills, Lists}
 use Rattle.wasm_feed.specs.Page.{IsCut, PutsLine}
-use Rattle.wasm_feed.specs.Step.{answer_of, chunk_of, shown, Steps}
+use Rattle.wasm_feed.specs.Cursors.{feed_of}
+use Rattle.wasm_feed.specs.Step.{answer_of, shown, is_request, Steps}
+use Rattle.wasm_feed.specs.declared.feeder.Cursor.{Cursor}
 use Rattle.wasm_feed.specs.Turns.{line_after, turn_after}
 use Rattle.wasm_feed.specs.declared.feeder.Step.{Step}
 use Rattle.wasm_feed.specs.declared.feeder.Step.TheVariants.{NeedMoreData, Parsed}
@@ -25,7 +27,6 @@ use Rattle.wasm_feed.specs.declared.listing.Ended.{Ended}
 use Rattle.wasm_feed.specs.declared.listing.Ended.TheVariants.{End, Fault}
 use Rattle.wasm_feed.specs.declared.listing.ListError.{ListError}
 use Rattle.wasm_feed.specs.declared.listing.ListError.TheVariants.{Input, Output, Memory}
-use Rattle.wasm_feed.specs.declared.listing.Turn.{Turn}
 use Rattle.wasm_feed.specs.declared.listing.Turn.TheVariants as turn
 use Rattle.wasm_feed.proofs.Along as along
 use Rattle.wasm_feed.proofs.Stepping.{after_answer}
@@ -93,6 +94,12 @@ asked_stays {p} {q} {eof} {held} {hint} a = after_answer p q eof held (answer_of
 kept : (left rest rest' : Option (List ℕ)) (given : List ℕ) → Consumes left rest given → Keeps rest rest' → Consumes left rest' given
 kept left rest rest' given g k = Consumes-kept left rest rest' given g k
 
+-- a step, by what the cursor says of it
+pub steps_by : (bytes items : List ℕ) (old new : Cursor) (x : Result Step Error) → bytes ≡ items → ParseAnswer old.parser old.is_finished (drop old.mark bytes) (answer_of x) new.parser → drop old.mark bytes ≡ shown x ++ drop new.mark bytes
+    → new.is_finished ≡ old.is_finished → new.wants_more ≡ is_request x → Steps (feed_of items old) x (feed_of items new)
+steps_by bytes items old new x same parses shows finished wants =
+    subst (λ (l : List ℕ). Steps (feed_of l old) x (feed_of l new)) same (record { parses = parses; shows = shows; stored = refl; eof = finished; wants_more = wants })
+
 -- ---- the last event
 
 -- of a reading, the last event is how the stream ends
@@ -122,6 +129,17 @@ ends_well (fault f) r e t = let no : false ≡ true = sym (ap is_end e) ∙ t in
 all_given : (eof : Bool) (given : List ℕ) → MayBe eof given given
 all_given true given = refl
 all_given false given = ([], sym (append-nil given))
+
+-- how much there may be left: bytes to consume, bytes to come, and the end to be told
+abbrev pub weight : Feed → ℕ
+weight f = (2 ^ 64 - f.state.offset) + ((2 ^ 64 - (f.state.offset + length f.held)) + (if f.eof then 0 else 1))
+
+-- More may come, the parser is undecided on what is held, and what was given is below the top.
+pub record Wants (left rest taken written : Option (List ℕ)) (f : Feed) (page : List ℕ) : Type 0 where
+  pub progress : Progress left rest taken written f page
+  pub hint : ℕ
+  pub undecided : IsUndecided f.state f.eof f.held hint
+  pub below : length progress.given < 2 ^ 64
 
 -- ---- a turn
 
@@ -205,7 +223,7 @@ module _ (left rest taken written : Option (List ℕ)) (f : Feed) (page : List �
 
     -- an event that isn't the last one
     went_on : (bytes : _) (payload : Payload) → (s : Steps f (Ok (Parsed bytes payload)) g) → is_end (report_of payload) ≡ false
-        → (written' : Option (List ℕ)) (page' : List ℕ) → PutsLine written written' page (line_of (report_of payload)) page' → Progress left rest taken written' g page' × (f.state.offset < g.state.offset)
+        → (written' : Option (List ℕ)) (page' : List ℕ) → PutsLine written written' page (line_of (report_of payload)) page' → Progress left rest taken written' g page' × (weight g < weight f)
     went_on bytes payload s n written' page' w =
         let came : Came 0 all_features f.eof p.given p.events bytes.now payload g.state g.held = stepped (Ok (Parsed bytes payload)) s (given_below (Parsed bytes payload) s) in
         let (after, some) = came.goes_on n in
@@ -222,55 +240,58 @@ module _ (left rest taken written : Option (List ℕ)) (f : Feed) (page : List �
             listed = wrote;
             parts = parts;
           },
-          omega (arith, ends_at, o, n, some),
+          rw s.eof (omega (arith, ends_at, o, n, some, given_below (Parsed bytes payload) s)),
         )
 
   -- ---- the turns
 
   module _ (g : Feed) (x : Result Step Error) (s : Steps f x g) (written' : Option (List ℕ)) (page' : List ℕ) (w : PutsLine written written' page (line_after x) page') where
     -- an event that isn't the last one: there is less to consume
-    pub advanced : turn.Advance ≡ turn_after x → Progress left rest taken written' g page' × (f.state.offset < g.state.offset)
+    pub advanced : turn.Advance ≡ turn_after x → Progress left rest taken written' g page' × (weight g < weight f)
     advanced t = by_answer x refl t
       where
-        by_end : (bytes : _) (payload : Payload) (b : Bool) → is_end (report_of payload) ≡ b → turn.Advance ≡ (if b then turn.End End else turn.Advance) → x ≡ Ok (Parsed bytes payload) → Progress left rest taken written' g page' × (f.state.offset < g.state.offset)
+        by_end : (bytes : _) (payload : Payload) (b : Bool) → is_end (report_of payload) ≡ b → turn.Advance ≡ (if b then turn.End End else turn.Advance) → x ≡ Ok (Parsed bytes payload) → Progress left rest taken written' g page' × (weight g < weight f)
         by_end bytes payload true e t is = cc
         by_end bytes payload false e t is =
             let s' = subst (λ y. Steps f y g) is s in
             went_on g bytes payload s' e written' page' (subst (λ y. PutsLine written written' page (line_after y) page') is w)
-        by_answer : (y : Result Step Error) → x ≡ y → turn.Advance ≡ turn_after y → Progress left rest taken written' g page' × (f.state.offset < g.state.offset)
+        by_answer : (y : Result Step Error) → x ≡ y → turn.Advance ≡ turn_after y → Progress left rest taken written' g page' × (weight g < weight f)
         by_answer (Ok (NeedMoreData hint)) is t = cc
         by_answer (Ok (Parsed bytes payload)) is t = by_end bytes payload (is_end (report_of payload)) refl t is
         by_answer (Err e) is t = cc
 
     -- a request: the parser is undecided
-    pub asked : turn.Read ≡ turn_after x → Progress left rest taken written' g page' × (g.state ≡ f.state) × (g.held ≡ f.held) × (length p.given < 2 ^ 64) × ((hint : ℕ) × IsUndecided g.state g.eof g.held hint)
+    pub asked : turn.Read ≡ turn_after x → Wants left rest taken written' g page' × (weight g ≡ weight f)
     asked t = by_answer x refl t
       where
         by_end : (b : Bool) → turn.Read ≡ (if b then turn.End End else turn.Advance) → ⊥
         by_end true t = cc
         by_end false t = cc
-        request : (hint : ℕ) → x ≡ Ok (NeedMoreData hint) → Progress left rest taken written' g page' × (g.state ≡ f.state) × (g.held ≡ f.held) × (length p.given < 2 ^ 64) × ((hint : ℕ) × IsUndecided g.state g.eof g.held hint)
+        request : (hint : ℕ) → x ≡ Ok (NeedMoreData hint) → Wants left rest taken written' g page' × (weight g ≡ weight f)
         request hint is =
             let s' = subst (λ y. Steps f y g) is s in
             let w' = subst (λ y. PutsLine written written' page (line_after y) page') is w in
             let l = given_below g (NeedMoreData hint) s' in
-            let (u, a) = stepped g (Ok (NeedMoreData hint)) s' l in (
+            let (u, a) = stepped g (Ok (NeedMoreData hint)) s' l in
+            let stays : g.state ≡ f.state = asked_stays s'.parses in (
               record {
-                given = p.given;
-                events = p.events;
-                is_along = a;
-                gave = p.gave;
-                at_end = λ e. p.at_end (sym s.eof ∙ e);
-                lines = p.lines ++ w'.lines;
-                listed = Appends-trans taken written written' p.lines w'.lines p.listed w'.writes;
-                parts = p.parts ∙ (ap (λ (z : List ℕ). p.lines ++ z) (sym (append-nil page) ∙ w'.waits) ∙ sym (append_assoc p.lines w'.lines page'));
+                progress = record {
+                  given = p.given;
+                  events = p.events;
+                  is_along = a;
+                  gave = p.gave;
+                  at_end = λ e. p.at_end (sym s.eof ∙ e);
+                  lines = p.lines ++ w'.lines;
+                  listed = Appends-trans taken written written' p.lines w'.lines p.listed w'.writes;
+                  parts = p.parts ∙ (ap (λ (z : List ℕ). p.lines ++ z) (sym (append-nil page) ∙ w'.waits) ∙ sym (append_assoc p.lines w'.lines page'));
+                };
+                hint = hint;
+                undecided = subst (λ b. IsUndecided g.state b g.held hint) (sym s.eof) u;
+                below = l;
               },
-              asked_stays s'.parses,
-              sym s'.shows,
-              l,
-              (hint, subst (λ b. IsUndecided g.state b g.held hint) (sym s.eof) u),
+              rw (stays, sym s'.shows, s.eof) refl,
             )
-        by_answer : (y : Result Step Error) → x ≡ y → turn.Read ≡ turn_after y → Progress left rest taken written' g page' × (g.state ≡ f.state) × (g.held ≡ f.held) × (length p.given < 2 ^ 64) × ((hint : ℕ) × IsUndecided g.state g.eof g.held hint)
+        by_answer : (y : Result Step Error) → x ≡ y → turn.Read ≡ turn_after y → Wants left rest taken written' g page' × (weight g ≡ weight f)
         by_answer (Ok (NeedMoreData hint)) is t = request hint is
         by_answer (Ok (Parsed bytes payload)) is t = absurd (by_end (is_end (report_of payload)) t)
         by_answer (Err e) is t = cc
@@ -342,17 +363,26 @@ module _ (left rest taken written : Option (List ℕ)) (f : Feed) (page : List �
     end_cut how t written'' Input v = absurd v
     end_cut how t written'' Memory v = absurd v
 
--- how much there may be left: bytes to consume, bytes to come, and the end to be told
-abbrev pub weight : Feed → ℕ
-weight f = (2 ^ 64 - f.state.offset) + ((2 ^ 64 - (f.state.offset + length f.held)) + (if f.eof then 0 else 1))
-
 -- ---- a read
 
-module _ (left rest taken written : Option (List ℕ)) (f : Feed) (p : Progress left rest taken written f []) (hint : ℕ) (u : IsUndecided f.state f.eof f.held hint) where
+-- the lines that waited are written
+pub wants_written : (left rest taken written written' : Option (List ℕ)) (f : Feed) (page : List ℕ) → Wants left rest taken written f page → Appends written written' page → Wants left rest taken written' f []
+unfolding written_out
+wants_written left rest taken written written' f page p w = record {
+  progress = written_out left rest taken written f page p.progress written' w;
+  hint = p.hint;
+  undecided = p.undecided;
+  below = p.below;
+}
+
+module _ (left rest taken written : Option (List ℕ)) (f : Feed) (wants : Wants left rest taken written f []) where
+  p : Progress left rest taken written f []
+  p = wants.progress
+
   -- the source failed: the lines of all events but the last are written
   pub input_fails : (rest' : Option (List ℕ)) → Keeps rest rest' → Lists left rest' taken written (Err Input)
   input_fails rest' k =
-      let (end, reading) = along.undecided_ends 0 all_features p.given f.state f.held p.events p.is_along f.eof hint u in
+      let (end, reading) = along.undecided_ends 0 all_features p.given f.state f.held p.events p.is_along f.eof wants.hint wants.undecided in
       record {
         given = p.given;
         events = p.events;
@@ -363,8 +393,8 @@ module _ (left rest taken written : Option (List ℕ)) (f : Feed) (p : Progress 
       }
 
   -- it gave something, or ended
-  pub filled : (rest' : Option (List ℕ)) (g : Feed) → Fills rest rest' f g → length p.given < 2 ^ 64 → Progress left rest' taken written g [] × (weight g < weight f)
-  filled rest' g (inl (none, at_end, is)) l = subst (λ (h : Feed). Progress left rest' taken written h [] × (weight h < weight f)) (sym is) (
+  pub filled : (rest' : Option (List ℕ)) (g : Feed) → Fills rest rest' f g → Progress left rest' taken written g [] × (weight g < weight f)
+  filled rest' g (inl (none, at_end, is)) = subst (λ (h : Feed). Progress left rest' taken written h [] × (weight h < weight f)) (sym is) (
     record {
       given = p.given;
       events = p.events;
@@ -375,15 +405,15 @@ module _ (left rest taken written : Option (List ℕ)) (f : Feed) (p : Progress 
       listed = p.listed;
       parts = p.parts;
     },
-    rw u.0 (omega arith),
+    rw wants.undecided.0 (omega arith),
   )
-  filled rest' g (inr (piece, gave, some, is)) l = subst (λ (h : Feed). Progress left rest' taken written h [] × (weight h < weight f)) (sym is) (
+  filled rest' g (inr (piece, gave, some, is)) = subst (λ (h : Feed). Progress left rest' taken written h [] × (weight h < weight f)) (sym is) (
     record {
       given = p.given ++ piece;
       events = p.events;
       is_along = along.pushed 0 all_features p.given f.state f.held p.events piece p.is_along;
       gave = Consumes-trans left rest rest' p.given piece p.gave gave;
-      at_end = λ e. let no : true ≡ false = sym e ∙ u.0 in cc;
+      at_end = λ e. let no : true ≡ false = sym e ∙ wants.undecided.0 in cc;
       lines = p.lines;
       listed = p.listed;
       parts = p.parts;
@@ -393,7 +423,13 @@ module _ (left rest taken written : Option (List ℕ)) (f : Feed) (p : Progress 
     where
       lighter : weight (pushed f piece) < weight f
       lighter =
-          let o = ends_at left rest taken written f [] p in
-          let n = length-append f.held piece in
-          rw u.0 (omega (arith, o, n, l, some))
+          let o : f.state.offset + length f.held ≡ length wants.progress.given = ends_at left rest taken written f [] wants.progress in
+          let n : length (pushed f piece).held ≡ length f.held + length piece = length-append f.held piece in
+          let same : (pushed f piece).state.offset ≡ f.state.offset = refl in
+          rw wants.undecided.0 (omega (arith, o, n, same, wants.below, some))
 
+  -- a read that was given up
+  pub not_filled : (rest' : Option (List ℕ)) (g : Feed) (e : ListError) → Refills rest rest' f g (Err e) → Lists left rest' taken written (Err e)
+  not_filled rest' g Input k = input_fails rest' k
+  not_filled rest' g Memory k = no_memory left rest taken written f [] p rest' k.0 k.1
+  not_filled rest' g Output k = absurd k

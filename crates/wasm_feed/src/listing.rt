@@ -10,9 +10,8 @@ use crate::lines::{fault_line, payload_line};
 use crate::page::Page;
 use crate::sink::Sink;
 use crate::source::Source;
-use bitflags::Flags;
 use std::alloc::{AllocError, Allocator, Global};
-use wasm_parser::{Error, Payload, Result as ParserResult, WasmFeatures};
+use wasm_parser::{Error, Parser, Payload, Result as ParserResult};
 
 /// How a stream that was listed ended.
 #[derive(Clone, Copy, Debug, PartialEq, Eq)]
@@ -128,7 +127,7 @@ pub(crate) fn list_in<A: Allocator + Copy, R: Source, W: Sink>(
     let mut page = Page::new(alloc)?;
     let mut line = Line::new();
     let mut stored = Vec::new(alloc);
-    let mut cursor = Cursor::new(0, WasmFeatures::all());
+    let mut cursor = Cursor::new(Parser::new(0));
     'events: loop {
         let answer = advance(&mut cursor, &stored);
         let turn = put_answer(&mut page, &mut line, output, &answer);

@@ -1,4 +1,4 @@
-use Rattle.std.proofs.Common.{rules, ◌≡◌, ◌+◌, ◌≤◌, ◌++◌, length, ◌-◌, ◌<◌, drop, arith, refl, ap, ◌∙◌, sym, length-drop, length-append}
+use Rattle.std.proofs.Common.{rules, ◌≡◌, ◌+◌, ◌≤◌, length, drop, arith, refl, ap, ◌∙◌, length-drop, length-append}
 use Rattle.std.proofs.lemmas.Fmt.{length-decimal-le}
 use Rattle.std.specs.Fmt.{decimal}
 use Rattle.wasm_feed.proofs.line.Line.number.Goals as goal
