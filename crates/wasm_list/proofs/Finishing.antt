@@ -1,5 +1,5 @@
 -- A run of the program, and then its end.
-use Rattle.std.proofs.Common.{◌≡◌, ◌⊎◌, ℕ, ◌<◌, Bool, true, List, Option, Some, None, Result, Ok, Err, sym, ◌∙◌, take, subst, arith, inl, inr}
+use Rattle.std.proofs.Common.{◌≡◌, ◌⊎◌, ℕ, ◌<◌, Bool, List, Option, Some, None, Result, Ok, Err, sym, ◌∙◌, take, subst, arith, inl, inr}
 use Rattle.std.specs.Io.KnownBytes.{Appends, Keeps}
 use Rattle.wasm_feed.specs.Lists.{Lists}
 use Rattle.wasm_list.specs.Runs.{Device, IsUntouched, Says, RunsListingAs, RunsUsage, Runs, HandsOn, FailsToHandOn, LeavesAlone, Finishes, EndsAs, ListsAll, RunsProgram, status_of}
