@@ -1,2 +1,4 @@
 // Worked examples.
 mod feeding;
+mod heap;
+mod pieces;
