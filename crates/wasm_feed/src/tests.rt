@@ -4,3 +4,5 @@ mod feeding;
 mod heap;
 mod listings;
 mod modules;
+mod pieces;
+mod refusals;

@@ -1,0 +1,50 @@
+// An allocator that runs out.
+use std::alloc::{AllocError, Allocator};
+use std::cell::Cell;
+
+/// An allocator that gives so many blocks and then refuses. A block that comes back is not given again.
+pub struct Sparing<B: Allocator> {
+    inner: B,
+    left: Cell<u64>,
+}
+
+impl<B: Allocator> Sparing<B> {
+    pub fn new(inner: B, blocks: u64) -> Sparing<B> {
+        Sparing {
+            inner,
+            left: Cell::new(blocks),
+        }
+    }
+}
+
+impl<B: Allocator> Drop for Sparing<B> {
+    fn drop(self) {
+        let Self { inner: _, left: _ } = self;
+    }
+}
+
+// Whether none is left. Where one is, takes it away.
+fn is_spent(left: &Cell<u64>) -> bool {
+    match left.get().checked_sub(1) {
+        Some(fewer) => {
+            left.set(fewer);
+            false
+        }
+        None => true,
+    }
+}
+
+unsafe impl<B: Allocator> Allocator for Sparing<B> {
+    ghost dealloc_token = { λ heap ty ptr. B.dealloc_token heap.inner ty ptr };
+
+    fn allocate(&self, size: usize, align: usize) -> Result<*mut u8, AllocError> {
+        if is_spent(&self.left) {
+            return Err(AllocError);
+        }
+        self.inner.allocate(size, align)
+    }
+
+    unsafe fn deallocate(&self, ptr: *mut u8, size: usize, align: usize) {
+        self.inner.deallocate(ptr, size, align);
+    }
+}
