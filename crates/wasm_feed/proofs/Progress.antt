@@ -255,6 +255,7 @@ module _ (left rest taken written : Option (List ℕ)) (f : Feed) (page : List �
         by_end bytes payload false e t is =
             let s' = subst (λ y. Steps f y g) is s in
             went_on g bytes payload s' e written' page' (subst (λ y. PutsLine written written' page (line_after y) page') is w)
+
         by_answer : (y : Result Step Error) → x ≡ y → turn.Advance ≡ turn_after y → Progress left rest taken written' g page' × (weight g < weight f)
         by_answer (Ok (NeedMoreData hint)) is t = cc
         by_answer (Ok (Parsed bytes payload)) is t = by_end bytes payload (is_end (report_of payload)) refl t is
@@ -267,6 +268,7 @@ module _ (left rest taken written : Option (List ℕ)) (f : Feed) (page : List �
         by_end : (b : Bool) → turn.Read ≡ (if b then turn.End End else turn.Advance) → ⊥
         by_end true t = cc
         by_end false t = cc
+
         request : (hint : ℕ) → x ≡ Ok (NeedMoreData hint) → Wants left rest taken written' g page' × (weight g ≡ weight f)
         request hint is =
             let s' = subst (λ y. Steps f y g) is s in
@@ -291,6 +293,7 @@ module _ (left rest taken written : Option (List ℕ)) (f : Feed) (page : List �
               },
               rw (stays, sym s'.shows, s.eof) refl,
             )
+
         by_answer : (y : Result Step Error) → x ≡ y → turn.Read ≡ turn_after y → Wants left rest taken written' g page' × (weight g ≡ weight f)
         by_answer (Ok (NeedMoreData hint)) is t = request hint is
         by_answer (Ok (Parsed bytes payload)) is t = absurd (by_end (is_end (report_of payload)) t)
@@ -317,6 +320,7 @@ module _ (left rest taken written : Option (List ℕ)) (f : Feed) (page : List �
               within = λ _. subst (λ (y : Event). ReadsEach 0 all_features f.eof p.given (p.events ++ y ∷ [])) last each;
               past_the_top = λ h. absurd (omega (arith, h, l));
             }
+
         by_answer : (y : Result Step Error) → x ≡ y → turn.End how ≡ turn_after y → AtEnd p.given p.events f.eof (line_after y) how
         by_answer (Ok (NeedMoreData hint)) is t = cc
         by_answer (Ok (Parsed bytes payload)) is t = at_end bytes payload (is_end (report_of payload)) refl t is
