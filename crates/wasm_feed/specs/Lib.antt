@@ -4,5 +4,6 @@ pub mod Events
 pub mod Feed
 pub mod Opened
 pub mod Pieces
+pub mod Rows
 pub mod Step
 pub mod Waits
