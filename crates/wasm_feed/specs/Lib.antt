@@ -9,6 +9,7 @@ pub mod Lists
 pub mod Opened
 pub mod Page
 pub mod Pieces
+pub mod Rows
 pub mod Step
 pub mod Turns
 pub mod Waits

@@ -3,7 +3,7 @@ use Rattle.std.specs.Borrow.{Lends, MutBor, Fml}
 use Rattle.wasm_feed.specs.Cursors.{feed_of}
 use Rattle.wasm_feed.specs.Feed.{Feed}
 use Rattle.wasm_feed.specs.declared.feeder.Opened.{Opened}
-use Rattle.wasm_feed.specs.contracts.feeder.Feeder.{the_row}
+use Rattle.wasm_feed.specs.Rows.{the_row}
 use Rattle.wasm_feed.specs.contracts.feeder.Cursor.{the_row as cursor_row}
 
 -- The feeder ends as its bytes with the cursor's last value.

@@ -82,12 +82,12 @@ impl Cursor {
 ///
 /// Offsets count bytes from the start of the whole stream.
 #[derive(Drop)]
-pub struct Feeder {
+pub struct Feeder<A: Allocator = Global> {
     cursor: Cursor,
-    bytes: Vec<u8>,
+    bytes: Vec<u8, A>,
 }
 
-impl Model for Feeder {
+impl<A: Allocator> Model for Feeder<A> {
     ghost use Rattle.wasm_feed.specs.Feed.{Feed};
     ghost use Rattle.wasm_feed.specs.Cursors.{feed_of};
 
@@ -102,18 +102,13 @@ impl Feeder {
     ghost use Rattle.wasm_feed.specs.Step.{Steps};
     ghost use Rattle.wasm_feed.specs.Cursors.{feed_of};
     ghost use Rattle.wasm_feed.specs.Opened.{LendsCursor};
-    ghost use Rattle.wasm_feed.specs.contracts.feeder.Feeder.{the_row};
+    ghost use Rattle.wasm_feed.specs.Rows.{the_row};
 
     /// A feeder of a stream that begins at this offset, whose windows have these features. It takes no memory yet.
     pub fn new(alloc: Global, offset: u64, features: WasmFeatures) -> Feeder
         ensures { result ≡ new_feed offset (feature_bits features) }
     {
-        let mut parser = Parser::new(offset);
-        parser.set_features(features);
-        Feeder {
-            cursor: Cursor::new(parser),
-            bytes: Vec::new(alloc),
-        }
+        Feeder::new_in(alloc, offset, features)
     }
 
     /// The next part of the stream, or a request for more bytes. A fault is answered again by every step after it, and so is
@@ -123,6 +118,33 @@ impl Feeder {
         ensures gives { GivesStep self.old.state self.old.eof self.old.held result }
     {
         self.open().step()
+    }
+
+    /// The feeder taken apart, so that a step moves its cursor while the payload borrows its bytes.
+    pub fn open(&mut self) -> Opened<'_, '_>
+        ensures* after { sem 𝓛 (LendsCursor self.entry result) }
+        ensures opens { feed_of result.bytes.now result.cursor.now ≡ self.entry.now }
+    {
+        Opened {
+            cursor: &mut self.cursor,
+            bytes: &self.bytes,
+        }
+    }
+}
+
+impl<A: Allocator> Feeder<A> {
+    ghost use Rattle.wasm_feed.specs.Step.{Steps};
+
+    /// The same as `new`, with memory from any allocator.
+    pub(crate) fn new_in(alloc: A, offset: u64, features: WasmFeatures) -> Feeder<A>
+        ensures { result ≡ new_feed offset (feature_bits features) }
+    {
+        let mut parser = Parser::new(offset);
+        parser.set_features(features);
+        Feeder {
+            cursor: Cursor::new(parser),
+            bytes: Vec::new(alloc),
+        }
     }
 
     /// Whether bytes may be pushed: at first, and after `NeedMoreData` until the next `push` that is `Ok`, or `finish`.
@@ -169,17 +191,6 @@ impl Feeder {
             return Err(Error::new(Fault::OffsetRange, offset));
         }
         refill(&mut self.cursor, &mut self.bytes, piece)
-    }
-
-    /// The feeder taken apart, so that a step moves its cursor while the payload borrows its bytes.
-    pub fn open(&mut self) -> Opened<'_, '_>
-        ensures* after { sem 𝓛 (LendsCursor self.entry result) }
-        ensures opens { feed_of result.bytes.now result.cursor.now ≡ self.entry.now }
-    {
-        Opened {
-            cursor: &mut self.cursor,
-            bytes: &self.bytes,
-        }
     }
 
     /// One step along the stream, and what is made of it.

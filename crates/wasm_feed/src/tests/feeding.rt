@@ -1,11 +1,17 @@
 // Feeders of streams that come in pieces.
+use super::heap::Sparing;
 use crate::{Feeder, Step};
 use bitflags::Flags;
+use std::alloc::Global;
+use std::process::Abort;
 use std::test::Fail;
 use wasm_parser::{Error, Fault, Payload, Result, WasmFeatures};
 
 // A header, a function section, and a code section with one body.
 const MODULE: &[u8] = b"\0asm\x01\0\0\0\x03\x02\x01\0\x0a\x04\x01\x02\0\x0b";
+
+// More blocks than any of these feeders takes.
+const AMPLE: u64 = 20;
 
 // What a step is: how many bytes it shows, or how many it asks for.
 #[derive(Clone, Copy, Debug, PartialEq, Eq)]
@@ -144,5 +150,89 @@ fn pieces_of_a_download(rt: HostRuntime) -> std::result::Result<(), Fail> {
         }
     }
     assert_eq!(rt; (last, feeder.held()), (3, 0));
+    Ok(())
+}
+
+// The steps of the module in pieces of these sizes, and whether a push was refused: it leaves the feeder as it was, and is
+// repeated.
+fn steps_in(
+    rt: &impl Abort,
+    alloc: Global,
+    heap: &Sparing<Global>,
+    sizes: &[usize],
+) -> std::result::Result<(Vec<Told>, bool), Fail> {
+    let mut feeder = Feeder::new_in(heap, 0, WasmFeatures::all());
+    let mut steps = Vec::new(alloc);
+    let mut refused = false;
+    let mut rest = MODULE;
+    for size in sizes {
+        let (piece, later) = rest.split_at(rest.len().min(*size));
+        rest = later;
+        let before = (feeder.held(), feeder.stored());
+        if feeder.wants_more() && feeder.push(piece).is_err() {
+            assert_eq!(rt; (feeder.held(), feeder.stored()), before);
+            refused = true;
+            heap.give(AMPLE);
+            if feeder.wants_more() {
+                feeder.push(piece)?;
+            }
+        }
+        for _ in 0..4 {
+            let step = feeder.step_with(say);
+            steps.push(step)?;
+            if let Told::Asks(_) = step {
+                break;
+            }
+        }
+    }
+    feeder.finish();
+    steps.push(feeder.step_with(say))?;
+    Ok((steps, refused))
+}
+
+#[test]
+fn refused_pushes_are_repeated(rt: HostRuntime) -> std::result::Result<(), Fail> {
+    let (asks, shows) = (Told::Asks, Told::Shows);
+    let rows: [(&[usize], &[Told]); 2] = [
+        (
+            &[5, 5, 5, 3],
+            &[
+                asks(3),
+                shows(8),
+                asks(2),
+                shows(4),
+                shows(3),
+                asks(1),
+                shows(3),
+                asks(1),
+                Told::Ends(18),
+            ],
+        ),
+        (
+            &[8, 10],
+            &[
+                shows(8),
+                asks(1),
+                shows(4),
+                shows(3),
+                shows(3),
+                asks(1),
+                Told::Ends(18),
+            ],
+        ),
+    ];
+    for (sizes, steps) in rows {
+        let mut runs = 0;
+        for blocks in 0..AMPLE {
+            let heap = Sparing::new(rt.alloc(), blocks);
+            let (told, refused) = steps_in(&rt, rt.alloc(), &heap, sizes)?;
+            assert_eq!(rt; told.as_slice(), steps);
+            if !refused {
+                runs = blocks;
+                break;
+            }
+        }
+        assert!(rt; runs >= 2, "{runs}");
+    }
     Ok(())
 }

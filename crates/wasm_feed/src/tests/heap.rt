@@ -15,6 +15,11 @@ impl<B: Allocator> Sparing<B> {
             left: Cell::new(blocks),
         }
     }
+
+    /// Gives so many more from now on, in place of those that were left.
+    pub fn give(&self, blocks: u64) {
+        self.left.set(blocks);
+    }
 }
 
 impl<B: Allocator> Drop for Sparing<B> {

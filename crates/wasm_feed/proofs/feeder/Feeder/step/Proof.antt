@@ -18,7 +18,7 @@ use Rattle.wasm_feed.proofs.feeder.Step.TheLaws as step-laws
 use Rattle.wasm_feed.specs.contracts.feeder.Opened as opened-row
 use Rattle.wasm_feed.proofs.feeder.Opened.TheLaws as opened-laws
 use Rattle.wasm_feed.specs.contracts.feeder.Cursor.{the_row as C}
-use Rattle.wasm_feed.specs.contracts.feeder.Feeder.{the_row as R}
+use Rattle.wasm_feed.specs.Rows.{the_row as R}
 use Rattle.wasm_feed.specs.contracts.feeder.Feeder.step as f
 use Rattle.wasm_feed.proofs.feeder.Feeder.step.Statement.{statement}
 use Rattle.wasm_feed.proofs.feeder.Feeder.step.Code as code
