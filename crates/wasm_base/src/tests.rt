@@ -3,6 +3,7 @@ mod hints;
 mod limits;
 mod numbers;
 mod owned;
+mod passed;
 mod sections;
 mod skips;
 mod subsections;
