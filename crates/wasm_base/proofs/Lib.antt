@@ -7,11 +7,13 @@ pub mod Numbers
 pub mod OneOutcome
 pub mod OwnBytes
 pub mod Pages
+pub mod PassedNumbers
 pub mod Runs
 pub mod SameFaults
 pub mod SectionIn
 pub mod Signed
 pub mod Skipped
+pub mod SmallBytes
 pub mod SubsectionRuns
 pub mod Deciding
 pub mod Texts

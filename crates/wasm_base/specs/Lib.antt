@@ -19,6 +19,7 @@ pub mod Owned
 pub mod Section
 pub mod Signed
 pub mod Skip
+pub mod SmallBytes
 pub mod Subsections
 pub mod TextOf
 pub mod Widths

@@ -1,6 +1,7 @@
 -- Bytes that are passed over.
 use Rattle.std.specs.Prelude.{◌≡◌, ℕ, ◌-◌, take, Some, Result, Ok, Err, if◌then◌else◌}
 use Rattle.wasm_base.specs.FaultAt.{at_offset}
+use Rattle.wasm_base.specs.Inner.{after_reading, all_passed_at}
 use Rattle.wasm_base.specs.Name.{bytes_at, is_above, name_limit}
 use Rattle.wasm_base.specs.Number.{unsigned_at}
 use Rattle.wasm_base.specs.Outcome.{Outcome, ◌>>=◌}
@@ -20,6 +21,10 @@ unfoldable pub skipped_name_at : Place → Outcome (Unit {0})
 skipped_name_at p = do
   size ← unsigned_at VarU32 p
   if is_above (Some name_limit) size.0 then Err (at_offset StringSize (size.1.offset - 1)) else passed_at size.0 size.1
+
+-- so many u32 numbers, one after the other, whatever their values are
+abbrev pub numbers_passed_at : (count : ℕ) → Place → Outcome (Unit {0})
+numbers_passed_at count = all_passed_at (after_reading (unsigned_at VarU32)) count
 
 -- the window of the next n bytes
 abbrev pub window_of : ℕ → Place → Window

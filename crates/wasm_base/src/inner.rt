@@ -6,6 +6,7 @@ ghost use Rattle.wasm_base.specs.Number.{unsigned_at};
 ghost use Rattle.wasm_base.specs.Outcome.{Outcome, GivesBy};
 ghost use Rattle.wasm_base.specs.Skip.{skipped_name_at};
 ghost use Rattle.wasm_base.specs.Window.{Place, place, window_between, KeepsWindow};
+ghost use Rattle.wasm_base.specs.declared.fault.NumberKind.TheVariants.{VarU32};
 
 use crate::error::Result;
 use crate::item::FromReader;
@@ -24,18 +25,6 @@ pub trait InnerItem<'a>: FromReader<'a> {
         ensures gives { GivesBy (λ nothing. nothing) result reader.old reader.new passed_at }
         ensures keeps { KeepsWindow reader.old reader.new }
         ensures memory { TakesNoMemory result };
-}
-
-/// A u32 in LEB128, with the faults of `read_var_u32`.
-impl<'a> InnerItem<'a> for u32 {
-    ghost use Rattle.wasm_base.specs.declared.fault.NumberKind.TheVariants.{VarU32};
-
-    ghost passed_at = { after_reading (unsigned_at VarU32) };
-
-    fn pass_over(reader: &mut BinaryReader<'a>) -> Result<()> {
-        reader.read_var_u32()?;
-        Ok(())
-    }
 }
 
 /// A name of at most 100,000 bytes, which need not be UTF-8.
@@ -85,5 +74,19 @@ pub fn read_inner<'a, T: InnerItem<'a>>(
     let before = reader.clone().unwrap();
     let count = reader.read_var_u32()?;
     pass_items::<T>(count, reader)?;
+    SectionLimited::new(passed_since(&before, reader))
+}
+
+/// The same for a list of u32 numbers in LEB128, which are passed over many at once (`skip_var_u32s`).
+#[tactic(auto, unfolding(crate::specs::Inner::inner_section_at))]
+pub fn read_inner_u32s<'a>(reader: &mut BinaryReader<'a>) -> Result<SectionLimited<'a, u32>>
+    ensures gives { GivesBy (λ section. section) result reader.old reader.new
+        (inner_section_at (after_reading (unsigned_at VarU32))) }
+    ensures keeps { KeepsWindow reader.old reader.new }
+    ensures memory { TakesNoMemory result }
+{
+    let before = reader.clone().unwrap();
+    let count = reader.read_var_u32()?;
+    reader.skip_var_u32s(count)?;
     SectionLimited::new(passed_since(&before, reader))
 }

@@ -8,6 +8,7 @@ mod features;
 mod float;
 mod inner;
 mod item;
+mod lanes;
 pub mod laws;
 mod limits;
 mod number;
@@ -22,7 +23,7 @@ pub use error::{Error, Result, leading_byte_error};
 pub use fault::{CoreStart, Fault, Lead, NumberKind};
 pub use features::WasmFeatures;
 pub use float::{Ieee32, Ieee64};
-pub use inner::{InnerItem, passed_since, read_inner};
+pub use inner::{InnerItem, passed_since, read_inner, read_inner_u32s};
 pub use item::FromReader;
 pub use limits::{
     _MAX_WASM_TABLE_SIZE, DEFAULT_WASM_PAGE_SIZE, MAX_WASM_BR_TABLE_SIZE, MAX_WASM_CATCHES,

@@ -14,7 +14,7 @@ ghost use Rattle.wasm_base.specs.TextOf.{text_of};
 ghost use Rattle.wasm_base.specs.Number.{bits_of, unsigned_at};
 ghost use Rattle.wasm_base.specs.Outcome.{Gives, GivesBy};
 ghost use Rattle.wasm_base.specs.Signed.{signed_at, FitsBits};
-ghost use Rattle.wasm_base.specs.Skip.{skipped_name_at, window_of, NeverGoesBack, PassesOver};
+ghost use Rattle.wasm_base.specs.Skip.{skipped_name_at, numbers_passed_at, window_of, NeverGoesBack, PassesOver};
 ghost use Rattle.wasm_base.specs.Widths.{is_signed};
 ghost use Rattle.wasm_base.specs.Window.{place, advanced, whole_window, KeepsWindow, window_over, range_of, rest_range};
 ghost use Rattle.wasm_base.specs.declared.fault.Fault.TheVariants.{UnexpectedEof};
@@ -25,12 +25,14 @@ use crate::fault::{Fault, NumberKind};
 use crate::features::WasmFeatures;
 use crate::float::{Ieee32, Ieee64};
 use crate::item::FromReader;
+use crate::lanes::{LANES, are_below_128, small_run};
 use crate::limits::MAX_WASM_STRING_SIZE;
 use crate::number::{Found, number_in, signed_of};
 use bitflags::Flags;
 use std::alloc::AllocError;
 use std::marker::Model;
 use std::ops::Range;
+use std::simd::prelude::*;
 
 /// A window of the stream, and a place in it.
 ///
@@ -359,6 +361,53 @@ impl<'a> BinaryReader<'a> {
         ensures moves { OnOk result ((place self.old).offset < (place self.new).offset) }
     {
         Ok(self.read_groups(NumberKind::VarU32)? as u32)
+    }
+
+    // Passes over numbers of one byte, 32 at once, up to the first longer one. Answers how many numbers are left.
+    #[tactic(auto, using(crate::proofs::PassedNumbers::pass_run))]
+    fn skip_small(&mut self, count: usize) -> usize
+        ensures passed { numbers_passed_at result (place self.new)
+            ≡ numbers_passed_at count (place self.old) }
+        ensures fewer { result ≤ count }
+        ensures keeps { KeepsWindow self.old self.new }
+    {
+        let mut left = count;
+        while left >= LANES {
+            let rest = self.remaining_buffer();
+            if rest.len() < LANES {
+                return left;
+            }
+            let bytes = u8x32::from_slice(rest);
+            if !are_below_128(bytes) {
+                let run = small_run(bytes);
+                self.advance(run);
+                return left - run;
+            }
+            self.advance(LANES);
+            left -= LANES;
+        }
+        left
+    }
+
+    /// Passes over `count` numbers, each a u32 in LEB128, as reading them one after the other does: its fault is that
+    /// of the first that has one, as `read_var_u32` answers it, and the reader is then in its window.
+    #[tactic(auto, using(crate::proofs::PassedNumbers::passing))]
+    pub fn skip_var_u32s(&mut self, count: u32) -> Result<()>
+        ensures gives { GivesBy (λ nothing. nothing) result self.old self.new
+            (numbers_passed_at count) }
+        ensures keeps { KeepsWindow self.old self.new }
+        ensures hints { Hints 1 result }
+        ensures memory { TakesNoMemory result }
+    {
+        let mut left = count as usize;
+        while left > 0 {
+            left = self.skip_small(left);
+            if left > 0 {
+                self.read_var_u32()?;
+                left -= 1;
+            }
+        }
+        Ok(())
     }
 
     /// Reads a u64 in LEB128, with the faults of `read_var_u32` (core specification, Binary format, Values, Integers).

@@ -11,7 +11,9 @@ use crate::init::ConstExpr;
 use crate::limits::has_flag;
 use crate::types::RefType;
 use std::ops::Range;
-use wasm_base::{BinaryReader, Error, Fault, FromReader, Result, SectionLimited, read_inner};
+use wasm_base::{
+    BinaryReader, Error, Fault, FromReader, Result, SectionLimited, read_inner, read_inner_u32s,
+};
 
 /// The element section: its segments (core specification, Binary format, Modules, Element Section).
 pub type ElementSectionReader<'a> = SectionLimited<'a, Element<'a>>;
@@ -123,7 +125,7 @@ fn read_functions<'a>(flags: u8, reader: &mut BinaryReader<'a>) -> Result<Elemen
     ensures memory { TakesNoMemory result }
 {
     pass_kind(flags, reader)?;
-    Ok(ElementItems::Functions(read_inner(reader)?))
+    Ok(ElementItems::Functions(read_inner_u32s(reader)?))
 }
 
 // The type of the elements, where it is written.

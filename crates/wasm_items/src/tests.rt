@@ -3,6 +3,7 @@ mod aliases;
 mod expressions;
 mod groups;
 mod imports;
+mod indices;
 mod lines;
 mod reading;
 mod sections;

@@ -1,0 +1,5 @@
+use Rattle.wasm_base.proofs.SmallBytes.{none_large}
+use Rattle.wasm_base.proofs.lanes.are_below_128.Goals as goal
+
+pub returns : goal.returns
+returns c = rw c.large_bytes.ensures (none_large c.args.bytes)
