@@ -1,5 +1,6 @@
 // The cases on standard input, and the text of each.
 use crate::custom::show_custom;
+use crate::pieces::{show_events, show_steps};
 use crate::show::{Show, show_fault, show_item};
 use bitflags::Flags;
 use std::alloc::{AllocError, Global};
@@ -95,6 +96,8 @@ fn show_case(alloc: Global, cases: &mut BinaryReader<'_>, out: &mut String) -> R
         "data" => show_read::<Data<'_>>(&mut reader, out)?,
         "recgroup" => show_read_in::<RecGroup>(alloc, &mut reader, out)?,
         "flatimports" => show_flattened(reader, out)?,
+        "events" => show_events(alloc, reader, offset, out)?,
+        "steps" => show_steps(alloc, reader, offset, out)?,
         "relocation" => show_read::<RelocationEntry>(&mut reader, out)?,
         "symbol" => show_read::<SymbolInfo<'_>>(&mut reader, out)?,
         "comdat" => show_read::<Comdat<'_>>(&mut reader, out)?,

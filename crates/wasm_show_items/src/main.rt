@@ -1,9 +1,10 @@
-//! Shows items of byte strings: a text for each case on standard input.
+//! Shows items of byte strings, and streams in pieces: a text for each case on standard input.
 #![tactic(auto)]
 
 mod cases;
 mod custom;
 mod linking;
+mod pieces;
 mod show;
 mod types;
 

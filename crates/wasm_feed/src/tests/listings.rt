@@ -165,3 +165,22 @@ fn says_how_a_stream_ends(rt: HostRuntime) -> Result<(), Fail> {
     }
     Ok(())
 }
+
+#[test]
+fn list_with_ample_memory(rt: HostRuntime) -> Result<(), Fail> {
+    let stream = b"\0asm\x01\0\0\0\x03\x02\x01\0\x0a\x04\x01\x02\0\x0b";
+    let lines =
+        b"version 0 8 1 module\nsection 3 10 12 1\ncode 14 18 1 3\nbody 16 18\nend 18\n".as_slice();
+    for piece in [1, 5, 18, 65_536] {
+        let mut output = BoundedSink::new(rt.alloc(), 100)?;
+        let ended = list(
+            rt.alloc(),
+            &mut SliceSource::new(stream),
+            &mut output,
+            piece,
+        );
+        assert!(rt; ended == Ok(Ended::End), "{piece}");
+        assert_eq!(rt; output.written(), lines, "{piece}");
+    }
+    Ok(())
+}

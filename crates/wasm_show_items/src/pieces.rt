@@ -1,0 +1,126 @@
+// Streams in pieces: the events that are read, and each step of a feeder.
+use crate::cases::Failed;
+use crate::show::{show_bytes, show_fault, show_range};
+use bitflags::Flags;
+use std::alloc::{AllocError, Global};
+use std::fmt::Write;
+use wasm_base::{BinaryReader, WasmFeatures};
+use wasm_feed::{Event, EventKind, Feeder, Step, fits_pieces, read_pieces};
+use wasm_parser::{Encoding, Payload};
+
+// Pieces: their count, and each after its size.
+fn pieces_of<'a>(alloc: Global, reader: &mut BinaryReader<'a>) -> Result<Vec<&'a [u8]>, Failed> {
+    let mut pieces = Vec::new(alloc);
+    for _ in 0..reader.read_var_u32()? {
+        let piece = reader.read_reader()?.remaining_buffer();
+        if pieces.push(piece).is_err() {
+            return Err(Failed::System);
+        }
+    }
+    Ok(pieces)
+}
+
+/// Writes the events of a stream in pieces that begins at this offset.
+pub(crate) fn show_events(
+    alloc: Global,
+    mut reader: BinaryReader<'_>,
+    offset: u64,
+    out: &mut String,
+) -> Result<(), Failed> {
+    let pieces = pieces_of(alloc, &mut reader)?;
+    if !fits_pieces(offset, &pieces) {
+        return Err(Failed::Cases);
+    }
+    for event in &read_pieces(alloc, offset, &pieces)? {
+        show_event(event, out)?;
+        write!(out, "; ")?;
+    }
+    Ok(())
+}
+
+fn show_event(event: &Event, out: &mut String) -> Result<(), AllocError> {
+    match &event.kind {
+        EventKind::Version { num, encoding } => {
+            let name = match encoding {
+                Encoding::Module => "module",
+                Encoding::Component => "component",
+            };
+            write!(out, "version {num} {name} ")?;
+        }
+        EventKind::Section { id, count } => write!(out, "section {id} {count} ")?,
+        EventKind::Start { func } => write!(out, "start {func} ")?,
+        EventKind::DataCount { count } => write!(out, "datacount {count} ")?,
+        EventKind::Code { count, size } => write!(out, "code {count} {size} ")?,
+        EventKind::Body => write!(out, "body ")?,
+        EventKind::Custom { data_offset } => write!(out, "custom {data_offset} ")?,
+        EventKind::Unknown { id } => write!(out, "unknown {id} ")?,
+        EventKind::End => write!(out, "end ")?,
+        EventKind::Fault(error) => {
+            show_fault(error, out)?;
+            write!(out, " ")?;
+        }
+    }
+    show_range(event.range.start..event.range.end, out)?;
+    write!(out, " ")?;
+    show_bytes(&event.bytes, out)
+}
+
+/// Writes the steps of a feeder that is given pieces as it asks for them, and one step after the last. Each with the
+/// bytes that are then held and stored.
+pub(crate) fn show_steps(
+    alloc: Global,
+    mut reader: BinaryReader<'_>,
+    offset: u64,
+    out: &mut String,
+) -> Result<(), Failed> {
+    let features = WasmFeatures::from_bits_retain(3);
+    let most = reader.remaining_buffer().len() * 2 + 4;
+    let pieces = pieces_of(alloc, &mut reader)?;
+    let mut feeder = Feeder::new(alloc, offset, features);
+    let mut given = 0;
+    let mut lasts = 0;
+    for _ in 0..most {
+        if show_step(feeder.open().step(), out)? {
+            lasts += 1;
+        }
+        let (held, stored) = (feeder.held(), feeder.stored());
+        write!(out, " {held} {stored}; ")?;
+        if lasts == 2 {
+            break;
+        }
+        if feeder.wants_more() {
+            match pieces.get(given) {
+                Some(piece) => feeder.push(piece)?,
+                None => feeder.finish(),
+            }
+            given += 1;
+        }
+    }
+    Ok(())
+}
+
+// Writes what a step answered. Whether it is the last.
+fn show_step(
+    step: wasm_base::Result<Step<'_>>,
+    out: &mut String,
+) -> Result<bool, AllocError> {
+    match step {
+        Ok(Step::NeedMoreData(hint)) => {
+            write!(out, "need {hint}")?;
+            Ok(false)
+        }
+        Ok(Step::Parsed { bytes, payload }) => {
+            let len = bytes.len();
+            let is_last = match payload {
+                Payload::End(_) => true,
+                _ => false,
+            };
+            write!(out, "part {len}")?;
+            Ok(is_last)
+        }
+        Err(error) => {
+            show_fault(&error, out)?;
+            Ok(true)
+        }
+    }
+}
