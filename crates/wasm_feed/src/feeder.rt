@@ -14,7 +14,7 @@ use std::marker::Model;
 use wasm_parser::{Chunk, Error, Fault, Parser, Payload, Result, WasmFeatures, fits};
 
 /// What one step of a feeder gives.
-#[derive(Debug, Drop)]
+#[derive(Drop)]
 pub enum Step<'a> {
     /// More bytes are wanted: about so many.
     NeedMoreData(usize),

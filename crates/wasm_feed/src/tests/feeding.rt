@@ -236,3 +236,44 @@ fn refused_pushes_are_repeated(rt: HostRuntime) -> std::result::Result<(), Fail>
     }
     Ok(())
 }
+
+// The loop of a compiler that takes bodies as they come, which the documents show.
+#[test]
+fn bodies_as_they_come(rt: HostRuntime) -> std::result::Result<(), Fail> {
+    let mut download =
+        b"\0asm\x01\0\0\0\x03\x03\x02\0\0\x0a\x08\x02\x02\0\x0b\x03\0\x01\x0b".as_slice();
+    let mut feeder = Feeder::new(rt.alloc(), 0, WasmFeatures::all());
+    let (mut announced, mut came, mut ends) = (0, 0, 0);
+    for _ in 0..40 {
+        match feeder.open().step()? {
+            Step::Parsed {
+                payload: Payload::End(_),
+                ..
+            } => break,
+            Step::Parsed {
+                payload: Payload::CodeSectionStart { count, .. },
+                ..
+            } => announced = count,
+            Step::Parsed {
+                payload: Payload::CodeSectionEntry(body),
+                ..
+            } => {
+                came += 1;
+                ends += body.range().end;
+            }
+            _ => {}
+        }
+        if feeder.wants_more() {
+            if download.is_empty() {
+                feeder.finish();
+            } else {
+                let (piece, later) = download.split_at(download.len().min(3));
+                feeder.push(piece)?;
+                download = later;
+            }
+        }
+    }
+    // The bodies end at 19 and 23.
+    assert_eq!(rt; (announced, came, ends), (2, 2, 42));
+    Ok(())
+}
