@@ -74,7 +74,11 @@ pub(crate) fn show_steps(
     out: &mut String,
 ) -> Result<(), Failed> {
     let features = WasmFeatures::from_bits_retain(3);
-    let most = reader.remaining_buffer().len() * 2 + 4;
+    let most = reader
+        .remaining_buffer()
+        .len()
+        .saturating_mul(2)
+        .saturating_add(4);
     let pieces = pieces_of(alloc, &mut reader)?;
     let mut feeder = Feeder::new(alloc, offset, features);
     let mut given = 0;
@@ -100,10 +104,7 @@ pub(crate) fn show_steps(
 }
 
 // Writes what a step answered. Whether it is the last.
-fn show_step(
-    step: wasm_base::Result<Step<'_>>,
-    out: &mut String,
-) -> Result<bool, AllocError> {
+fn show_step(step: wasm_base::Result<Step<'_>>, out: &mut String) -> Result<bool, AllocError> {
     match step {
         Ok(Step::NeedMoreData(hint)) => {
             write!(out, "need {hint}")?;
