@@ -2,6 +2,7 @@
 ghost use Rattle.wasm_base.specs.Outcome.{Outcome};
 ghost use Rattle.wasm_base.specs.Window.{Place};
 
+use super::same;
 use crate::{
     BinaryReader, Error, Fault, FromReaderIn, Result, SectionLimited, read_list, read_list_in,
 };
@@ -56,23 +57,25 @@ fn lists_of_a_section(rt: HostRuntime) -> std::result::Result<(), Fail> {
     let bytes = b"\x02\x02\x05\x80\x01\x00\xff";
     let lists = SectionLimited::<Numbers>::new(BinaryReader::new(bytes, 100))?;
     let mut items = lists.clone()?.into_iter_in(rt.alloc());
-    assert_eq!(rt; items.size_hint(), (0, Some(3)));
-    assert_eq!(rt; items.next(), Some(Ok(list_of(rt.alloc(), &[5, 128])?)));
-    assert_eq!(rt; items.size_hint(), (0, Some(2)));
-    assert_eq!(rt; items.next(), Some(Ok(list_of(rt.alloc(), &[])?)));
-    assert_eq!(rt;
+    same(&rt, items.size_hint(), (0, Some(3)));
+    same(&rt, items.next(), Some(Ok(list_of(rt.alloc(), &[5, 128])?)));
+    same(&rt, items.size_hint(), (0, Some(2)));
+    same(&rt, items.next(), Some(Ok(list_of(rt.alloc(), &[])?)));
+    same(
+        &rt,
         items.next(),
-        Some(Err(Error::new(Fault::SizeMismatch, 106)))
+        Some(Err(Error::new(Fault::SizeMismatch, 106))),
     );
     for _ in 0..4 {
-        assert_eq!(rt; items.size_hint(), (0, Some(0)));
-        assert_eq!(rt; items.next(), None);
+        same(&rt, items.size_hint(), (0, Some(0)));
+        same(&rt, items.next(), None);
     }
     let mut inner = reader(b"\x02\x01\x07\x00");
     let read = read_list_in::<Numbers>(rt.alloc(), &mut inner)?;
-    assert_eq!(rt;
+    same(
+        &rt,
         read.as_slice(),
-        [list_of(rt.alloc(), &[7])?, list_of(rt.alloc(), &[])?].as_slice()
+        [list_of(rt.alloc(), &[7])?, list_of(rt.alloc(), &[])?].as_slice(),
     );
     assert!(rt; inner.eof());
     Ok(())
@@ -82,13 +85,13 @@ fn lists_of_a_section(rt: HostRuntime) -> std::result::Result<(), Fail> {
 fn nothing_comes_after_a_want_of_memory(rt: HostRuntime) -> std::result::Result<(), Fail> {
     let section = SectionLimited::<Refused>::new(reader(b"\x03\x01\x00\x01"))?;
     let mut items = section.into_iter_in(rt.alloc());
-    assert_eq!(rt; items.next(), Some(Ok(Refused)));
-    assert_eq!(rt; items.next(), Some(Err(want_of_memory())));
+    same(&rt, items.next(), Some(Ok(Refused)));
+    same(&rt, items.next(), Some(Err(want_of_memory())));
     for _ in 0..4 {
-        assert_eq!(rt; items.size_hint(), (0, Some(0)));
-        assert_eq!(rt; items.next(), None);
+        same(&rt, items.size_hint(), (0, Some(0)));
+        same(&rt, items.next(), None);
     }
     let list = read_list_in::<Refused>(rt.alloc(), &mut reader(b"\x03\x01\x00\x01"));
-    assert_eq!(rt; list.err(), Some(want_of_memory()));
+    same(&rt, list.err(), Some(want_of_memory()));
     Ok(())
 }

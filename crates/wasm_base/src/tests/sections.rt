@@ -1,6 +1,7 @@
 // Counted sections, on worked bytes.
 ghost use Rattle.std.specs.Prelude.{◌+◌, ◌<◌, ◌^◌, length};
 
+use super::same;
 use crate::{BinaryReader, Error, Fault, Result, SectionLimited};
 use std::test::Fail;
 
@@ -13,18 +14,19 @@ fn section<'a, T>(bytes: &'a [u8], offset: u64) -> Result<SectionLimited<'a, T>>
 #[test]
 fn numbers_with_offsets_and_a_byte_left(rt: HostRuntime) -> std::result::Result<(), Fail> {
     let mut items = section::<u32>(&[2, 5, 0x80, 1, 7], 100)?.into_iter_with_offsets();
-    assert_eq!(rt; items.size_hint(), (0, Some(3)));
-    assert_eq!(rt; items.next(), Some(Ok((101, 5))));
-    assert_eq!(rt; items.size_hint(), (0, Some(2)));
-    assert_eq!(rt; items.next(), Some(Ok((102, 128))));
-    assert_eq!(rt; items.size_hint(), (0, Some(1)));
-    assert_eq!(rt;
+    same(&rt, items.size_hint(), (0, Some(3)));
+    same(&rt, items.next(), Some(Ok((101, 5))));
+    same(&rt, items.size_hint(), (0, Some(2)));
+    same(&rt, items.next(), Some(Ok((102, 128))));
+    same(&rt, items.size_hint(), (0, Some(1)));
+    same(
+        &rt,
         items.next(),
-        Some(Err(Error::new(Fault::SizeMismatch, 104)))
+        Some(Err(Error::new(Fault::SizeMismatch, 104))),
     );
     for _ in 0..4 {
-        assert_eq!(rt; items.size_hint(), (0, Some(0)));
-        assert_eq!(rt; items.next(), None);
+        same(&rt, items.size_hint(), (0, Some(0)));
+        same(&rt, items.next(), None);
     }
     Ok(())
 }
@@ -32,22 +34,23 @@ fn numbers_with_offsets_and_a_byte_left(rt: HostRuntime) -> std::result::Result<
 #[test]
 fn numbers_and_a_byte_left(rt: HostRuntime) -> std::result::Result<(), Fail> {
     let numbers = section::<u32>(&[2, 5, 0x80, 1, 7], 100)?;
-    assert_eq!(rt; numbers.count(), 2);
-    assert_eq!(rt; numbers.original_position(), 101);
-    assert_eq!(rt; numbers.range(), 100..105);
+    same(&rt, numbers.count(), 2);
+    same(&rt, numbers.original_position(), 101);
+    same(&rt, numbers.range(), 100..105);
     let mut items = numbers.into_iter();
-    assert_eq!(rt; items.original_position(), 101);
-    assert_eq!(rt; items.next(), Some(Ok(5)));
-    assert_eq!(rt; items.original_position(), 102);
-    assert_eq!(rt; items.next(), Some(Ok(128)));
-    assert_eq!(rt; items.size_hint(), (0, Some(1)));
-    assert_eq!(rt;
+    same(&rt, items.original_position(), 101);
+    same(&rt, items.next(), Some(Ok(5)));
+    same(&rt, items.original_position(), 102);
+    same(&rt, items.next(), Some(Ok(128)));
+    same(&rt, items.size_hint(), (0, Some(1)));
+    same(
+        &rt,
         items.next(),
-        Some(Err(Error::new(Fault::SizeMismatch, 104)))
+        Some(Err(Error::new(Fault::SizeMismatch, 104))),
     );
     for _ in 0..4 {
-        assert_eq!(rt; items.size_hint(), (0, Some(0)));
-        assert_eq!(rt; items.next(), None);
+        same(&rt, items.size_hint(), (0, Some(0)));
+        same(&rt, items.next(), None);
     }
     Ok(())
 }
@@ -55,11 +58,11 @@ fn numbers_and_a_byte_left(rt: HostRuntime) -> std::result::Result<(), Fail> {
 #[test]
 fn truths(rt: HostRuntime) -> std::result::Result<(), Fail> {
     let mut items = section::<bool>(&[3, 1, 0, 1], 0)?.into_iter();
-    assert_eq!(rt; items.next(), Some(Ok(true)));
-    assert_eq!(rt; items.next(), Some(Ok(false)));
-    assert_eq!(rt; items.next(), Some(Ok(true)));
+    same(&rt, items.next(), Some(Ok(true)));
+    same(&rt, items.next(), Some(Ok(false)));
+    same(&rt, items.next(), Some(Ok(true)));
     for _ in 0..4 {
-        assert_eq!(rt; items.next(), None);
+        same(&rt, items.next(), None);
     }
     Ok(())
 }
@@ -67,9 +70,13 @@ fn truths(rt: HostRuntime) -> std::result::Result<(), Fail> {
 #[test]
 fn a_pair_with_a_bad_truth(rt: HostRuntime) -> std::result::Result<(), Fail> {
     let mut items = section::<(u32, bool)>(&[1, 5, 2], 0)?.into_iter();
-    assert_eq!(rt; items.next(), Some(Err(Error::new(Fault::InvalidBool, 2))));
+    same(
+        &rt,
+        items.next(),
+        Some(Err(Error::new(Fault::InvalidBool, 2))),
+    );
     for _ in 0..4 {
-        assert_eq!(rt; items.next(), None);
+        same(&rt, items.next(), None);
     }
     Ok(())
 }
@@ -77,12 +84,13 @@ fn a_pair_with_a_bad_truth(rt: HostRuntime) -> std::result::Result<(), Fail> {
 #[test]
 fn a_name_that_is_not_utf8(rt: HostRuntime) -> std::result::Result<(), Fail> {
     let mut items = section::<&str>(&[1, 2, 0xc3, 0x28], 0)?.into_iter();
-    assert_eq!(rt;
+    same(
+        &rt,
         items.next(),
-        Some(Err(Error::new(Fault::MalformedUtf8, 3)))
+        Some(Err(Error::new(Fault::MalformedUtf8, 3))),
     );
     for _ in 0..4 {
-        assert_eq!(rt; items.next(), None);
+        same(&rt, items.next(), None);
     }
     Ok(())
 }
@@ -90,23 +98,25 @@ fn a_name_that_is_not_utf8(rt: HostRuntime) -> std::result::Result<(), Fail> {
 #[test]
 fn many_items_are_announced_and_none_is_there(rt: HostRuntime) -> std::result::Result<(), Fail> {
     let mut items = section::<bool>(&[0xff, 0xff, 0xff, 0xff, 0x0f], 0)?.into_iter();
-    assert_eq!(rt; items.size_hint(), (0, Some(4294967296)));
-    assert_eq!(rt;
+    same(&rt, items.size_hint(), (0, Some(4294967296)));
+    same(
+        &rt,
         items.next(),
-        Some(Err(Error::new(Fault::UnexpectedEof, 5)))
+        Some(Err(Error::new(Fault::UnexpectedEof, 5))),
     );
     for _ in 0..4 {
-        assert_eq!(rt; items.next(), None);
-        assert_eq!(rt; items.size_hint(), (0, Some(0)));
+        same(&rt, items.next(), None);
+        same(&rt, items.size_hint(), (0, Some(0)));
     }
     Ok(())
 }
 
 #[test]
 fn a_count_that_is_cut(rt: HostRuntime) {
-    assert_eq!(rt;
+    same(
+        &rt,
         section::<u32>(&[0x80], 7).err(),
-        Some(Error::new(Fault::UnexpectedEof, 8))
+        Some(Error::new(Fault::UnexpectedEof, 8)),
     );
 }
 
@@ -115,35 +125,38 @@ fn a_section_again(rt: HostRuntime) -> std::result::Result<(), Fail> {
     let numbers = section::<u32>(&[2, 5, 0x80, 1, 7], 100)?;
     let mut copy = numbers.clone()?.into_iter();
     let mut items = numbers.into_iter();
-    assert_eq!(rt; items.next(), Some(Ok(5)));
-    assert_eq!(rt; items.clone()?.next(), Some(Ok(128)));
-    assert_eq!(rt; copy.next(), Some(Ok(5)));
+    same(&rt, items.next(), Some(Ok(5)));
+    same(&rt, items.clone()?.next(), Some(Ok(128)));
+    same(&rt, copy.next(), Some(Ok(5)));
     let after = SectionLimited::from(items);
-    assert_eq!(rt; after.count(), 2);
-    assert_eq!(rt; after.original_position(), 102);
-    assert_eq!(rt; after.range(), 100..105);
+    same(&rt, after.count(), 2);
+    same(&rt, after.original_position(), 102);
+    same(&rt, after.range(), 100..105);
     Ok(())
 }
 
 #[test]
 fn a_section_as_text(rt: HostRuntime) -> std::result::Result<(), Fail> {
     let text = format!(in rt.alloc(); "{:?}", section::<u32>(&[2, 5, 0x80, 1, 7], 100)?)?;
-    assert_eq!(rt;
+    same(
+        &rt,
         text.as_str(),
-        "SectionLimited { count: 2, range: 100..105 }"
+        "SectionLimited { count: 2, range: 100..105 }",
     );
     let numbers = section::<u32>(&[0xac, 0x02, 5, 6], 70000)?;
     let text = format!(in rt.alloc(); "{numbers:?}")?;
-    assert_eq!(rt;
+    same(
+        &rt,
         text.as_str(),
-        "SectionLimited { count: 300, range: 70000..70004 }"
+        "SectionLimited { count: 300, range: 70000..70004 }",
     );
     let mut items = numbers.into_iter();
-    assert_eq!(rt; items.next(), Some(Ok(5)));
+    same(&rt, items.next(), Some(Ok(5)));
     let text = format!(in rt.alloc(); "{:?}", SectionLimited::from(items))?;
-    assert_eq!(rt;
+    same(
+        &rt,
         text.as_str(),
-        "SectionLimited { count: 300, range: 70000..70004 }"
+        "SectionLimited { count: 300, range: 70000..70004 }",
     );
     Ok(())
 }
@@ -151,12 +164,13 @@ fn a_section_as_text(rt: HostRuntime) -> std::result::Result<(), Fail> {
 #[test]
 fn items_of_a_reader(rt: HostRuntime) -> std::result::Result<(), Fail> {
     let mut reader = BinaryReader::new(&[1, 2, 0x68, 0x69, 0x85, 1, 0, 3], 9);
-    assert_eq!(rt; reader.read::<bool>()?, true);
-    assert_eq!(rt; reader.read::<&str>()?, "hi");
-    assert_eq!(rt; reader.read::<(u32, bool)>()?, (133, false));
-    assert_eq!(rt;
+    same(&rt, reader.read::<bool>()?, true);
+    same(&rt, reader.read::<&str>()?, "hi");
+    same(&rt, reader.read::<(u32, bool)>()?, (133, false));
+    same(
+        &rt,
         reader.read::<bool>(),
-        Err(Error::new(Fault::InvalidBool, 16))
+        Err(Error::new(Fault::InvalidBool, 16)),
     );
     Ok(())
 }

@@ -1,4 +1,5 @@
 // Floats, small bytes, and bytes that are passed over.
+use super::same;
 use crate::{BinaryReader, Error, Fault, Ieee32, Ieee64, WasmFeatures};
 use std::test::Fail;
 
@@ -9,45 +10,56 @@ fn reader(bytes: &'static [u8]) -> BinaryReader<'static> {
 #[test]
 fn floats_as_their_bits(rt: HostRuntime) -> Result<(), Fail> {
     let mut floats = reader(b"\x00\x00\x80\x3f\x01\x02\x03\x04\x05\x06\xf8\x7f\x07\x08\x09");
-    assert_eq!(rt; floats.read_f32()?.bits(), 1065353216);
+    same(&rt, floats.read_f32()?.bits(), 1065353216);
     let nan = floats.read_f64()?;
-    assert_eq!(rt; nan.bits(), 0x7ff8060504030201);
-    assert_eq!(rt; nan, nan.clone()?);
+    same(&rt, nan.bits(), 0x7ff8060504030201);
+    same(&rt, nan.clone()?, nan);
     let missing = Error::new(Fault::UnexpectedEof, 12);
-    assert_eq!(rt; floats.read_f32().map(Ieee32::bits), Err(missing));
-    assert_eq!(rt; floats.read_f64().map(Ieee64::bits), Err(missing));
-    assert_eq!(rt;
+    same(&rt, floats.read_f32().map(Ieee32::bits), Err(missing));
+    same(&rt, floats.read_f64().map(Ieee64::bits), Err(missing));
+    same(
+        &rt,
         floats.read_f64().err().and_then(|e| e.needed_hint()),
-        Some(5)
+        Some(5),
     );
-    assert_eq!(rt; floats.current_position(), 12);
+    same(&rt, floats.current_position(), 12);
     Ok(())
 }
 
 #[test]
 fn bytes_below_128(rt: HostRuntime) {
     let mut bytes = reader(b"\x7f\x80\x00");
-    assert_eq!(rt; bytes.read_u7(), Ok(127));
-    assert_eq!(rt; bytes.read_u7(), Err(Error::new(Fault::InvalidU7, 1)));
-    assert_eq!(rt; bytes.read_u7(), Ok(0));
-    assert_eq!(rt; bytes.read_u7(), Err(Error::new(Fault::UnexpectedEof, 3)));
+    same(&rt, bytes.read_u7(), Ok(127));
+    same(&rt, bytes.read_u7(), Err(Error::new(Fault::InvalidU7, 1)));
+    same(&rt, bytes.read_u7(), Ok(0));
+    same(
+        &rt,
+        bytes.read_u7(),
+        Err(Error::new(Fault::UnexpectedEof, 3)),
+    );
 }
 
 #[test]
 fn names_that_are_passed_over(rt: HostRuntime) {
     let mut names = reader(b"\x82\x00\xc3\x28\x01\x61\xa1\x8d\x06\xa0\x8d\x06");
     // The bytes are not looked at.
-    assert_eq!(rt; names.skip_string(), Ok(()));
-    assert_eq!(rt; names.current_position(), 4);
-    assert_eq!(rt; names.skip_string(), Ok(()));
-    assert_eq!(rt; names.skip_string(), Err(Error::new(Fault::StringSize, 8)));
-    assert_eq!(rt;
+    same(&rt, names.skip_string(), Ok(()));
+    same(&rt, names.current_position(), 4);
+    same(&rt, names.skip_string(), Ok(()));
+    same(
+        &rt,
         names.skip_string(),
-        Err(Error::new(Fault::UnexpectedEof, 12))
+        Err(Error::new(Fault::StringSize, 8)),
     );
-    assert_eq!(rt;
+    same(
+        &rt,
         names.skip_string(),
-        Err(Error::new(Fault::UnexpectedEof, 12))
+        Err(Error::new(Fault::UnexpectedEof, 12)),
+    );
+    same(
+        &rt,
+        names.skip_string(),
+        Err(Error::new(Fault::UnexpectedEof, 12)),
     );
 }
 
@@ -60,16 +72,20 @@ fn the_window_that_a_closure_passes_over(rt: HostRuntime) -> Result<(), Fail> {
         inside.read_u8()?;
         Ok(())
     })?;
-    assert_eq!(rt; window.range(), 1..4);
-    assert_eq!(rt; window.remaining_buffer(), b"\x80\x01\x61".as_slice());
+    same(&rt, window.range(), 1..4);
+    same(&rt, window.remaining_buffer(), b"\x80\x01\x61".as_slice());
     assert!(rt; window.memory64());
-    assert_eq!(rt; bytes.current_position(), 4);
-    assert_eq!(rt; bytes.skip(|_inside| Ok(()))?.range(), 4..4);
+    same(&rt, bytes.current_position(), 4);
+    same(&rt, bytes.skip(|_inside| Ok(()))?.range(), 4..4);
     let refused = bytes.skip(|inside| {
         inside.read_u8()?;
         inside.read_var_u32()?;
         Ok(())
     });
-    assert_eq!(rt; refused.err(), Some(Error::new(Fault::UnexpectedEof, 6)));
+    same(
+        &rt,
+        refused.err(),
+        Some(Error::new(Fault::UnexpectedEof, 6)),
+    );
     Ok(())
 }

@@ -1,6 +1,7 @@
 // Subsections of a window, on worked bytes.
 ghost use Rattle.std.specs.Prelude.{⊤, ◌+◌, ◌<◌, ◌^◌, length};
 
+use super::same;
 use crate::{BinaryReader, Error, Fault, NoMemory, NumberKind, Result, Subsection, Subsections};
 use std::alloc::Global;
 use std::test::Fail;
@@ -29,19 +30,29 @@ fn over<'a>(alloc: Global, bytes: &'a [u8], offset: u64) -> Subsections<'a, Numb
 #[test]
 fn ids_and_sizes_that_are_refused(rt: HostRuntime) -> std::result::Result<(), Fail> {
     let mut refused = over(rt.alloc(), &[0xff, 0xff, 0], 0);
-    assert_eq!(rt; refused.next(), Some(Err(Error::new(Fault::InvalidU7, 0))));
-    assert_eq!(rt; refused.next(), Some(Err(Error::new(Fault::InvalidU7, 1))));
-    assert_eq!(rt;
+    same(
+        &rt,
         refused.next(),
-        Some(Err(Error::new(Fault::UnexpectedEof, 3)))
+        Some(Err(Error::new(Fault::InvalidU7, 0))),
+    );
+    same(
+        &rt,
+        refused.next(),
+        Some(Err(Error::new(Fault::InvalidU7, 1))),
+    );
+    same(
+        &rt,
+        refused.next(),
+        Some(Err(Error::new(Fault::UnexpectedEof, 3))),
     );
     for _ in 0..4 {
-        assert_eq!(rt; refused.next(), None);
+        same(&rt, refused.next(), None);
     }
     let mut short = over(rt.alloc(), &[5, 0xff], 70);
-    assert_eq!(rt;
+    same(
+        &rt,
         short.next(),
-        Some(Err(Error::new(Fault::UnexpectedEof, 72)))
+        Some(Err(Error::new(Fault::UnexpectedEof, 72))),
     );
     let others = short.count();
     assert!(rt; others <= 1, "{others} items come after it");
@@ -54,23 +65,24 @@ fn subsections_one_after_the_other(rt: HostRuntime) -> std::result::Result<(), F
         0x7f, 0x82, 0x80, 0, 9, 8, 3, 0, 4, 5, 0xff, 0xff, 0xff, 0xff, 0x1f, 5, 1, 7,
     ];
     let mut all = over(rt.alloc(), bytes, 1000);
-    assert_eq!(rt; all.range(), 1000..1018);
-    assert_eq!(rt; all.next(), Some(Ok(Numbered(127, 9, 1005))));
-    assert_eq!(rt; all.original_position(), 1006);
-    assert_eq!(rt;
+    same(&rt, all.range(), 1000..1018);
+    same(&rt, all.next(), Some(Ok(Numbered(127, 9, 1005))));
+    same(&rt, all.original_position(), 1006);
+    same(
+        &rt,
         all.next(),
-        Some(Err(Error::new(Fault::UnexpectedEof, 1008)))
+        Some(Err(Error::new(Fault::UnexpectedEof, 1008))),
     );
     let mut copy = all.clone()?;
     let large = Error::new(Fault::NumberTooLarge(NumberKind::VarU32), 1014);
-    assert_eq!(rt; all.next(), Some(Err(large)));
-    assert_eq!(rt; all.next(), Some(Ok(Numbered(5, 7, 1018))));
-    assert_eq!(rt; copy.original_position(), 1008);
-    assert_eq!(rt; copy.next(), Some(Err(large)));
+    same(&rt, all.next(), Some(Err(large)));
+    same(&rt, all.next(), Some(Ok(Numbered(5, 7, 1018))));
+    same(&rt, copy.original_position(), 1008);
+    same(&rt, copy.next(), Some(Err(large)));
     for _ in 0..4 {
-        assert_eq!(rt; all.next(), None);
+        same(&rt, all.next(), None);
     }
     let text = format!(in rt.alloc(); "{all:?}")?;
-    assert_eq!(rt; text.as_str(), "Subsections { range: 1000..1018 }");
+    same(&rt, text.as_str(), "Subsections { range: 1000..1018 }");
     Ok(())
 }

@@ -1,10 +1,20 @@
 // The text of each fault, from the table that a reader of the crate has.
 use crate::{CoreStart, Error, Fault, Lead, NumberKind};
-use std::test::Fail;
+use std::process::Abort;
+
+/// A fault and its text.
+type Row = (Fault, &'static str);
+
+// Each fault has its text.
+fn texts(rt: &impl Abort, rows: &[Row]) {
+    for (fault, text) in rows {
+        assert!(rt; Error::new(*fault, 9).message() == *text, "{fault:?}");
+    }
+}
 
 #[test]
-fn texts_of_faults_of_bytes_and_headers(rt: HostRuntime) -> Result<(), Fail> {
-    let rows: [(Fault, &str); 8] = [
+fn texts_of_faults_of_bytes_and_headers(rt: HostRuntime) {
+    let rows: &[Row] = &[
         (Fault::OutOfMemory, "out of memory"),
         (Fault::UnexpectedEof, "unexpected end-of-file"),
         (Fault::OffsetRange, "data passes the offset range"),
@@ -20,15 +30,12 @@ fn texts_of_faults_of_bytes_and_headers(rt: HostRuntime) -> Result<(), Fail> {
         (Fault::MalformedSectionId, "malformed section id"),
         (Fault::SectionTooLarge, "section too large"),
     ];
-    for (fault, text) in rows {
-        assert_eq!(rt; Error::new(fault, 9).message(), text);
-    }
-    Ok(())
+    texts(&rt, rows);
 }
 
 #[test]
-fn texts_of_faults_between_sections(rt: HostRuntime) -> Result<(), Fail> {
-    let rows: [(Fault, &str); 9] = [
+fn texts_of_faults_between_sections(rt: HostRuntime) {
+    let rows: &[Row] = &[
         (Fault::OutOfOrder, "section out of order"),
         (
             Fault::StartContent,
@@ -60,15 +67,12 @@ fn texts_of_faults_between_sections(rt: HostRuntime) -> Result<(), Fail> {
         ),
         (Fault::TrailingCode, "trailing bytes at end of section"),
     ];
-    for (fault, text) in rows {
-        assert_eq!(rt; Error::new(fault, 9).message(), text);
-    }
-    Ok(())
+    texts(&rt, rows);
 }
 
 #[test]
-fn texts_of_numbers_too_long_or_too_large(rt: HostRuntime) -> Result<(), Fail> {
-    let rows: [(Fault, &str); 10] = [
+fn texts_of_numbers_too_long_or_too_large(rt: HostRuntime) {
+    let rows: &[Row] = &[
         (
             Fault::NumberTooLong(NumberKind::VarU32),
             "invalid var_u32: integer representation too long",
@@ -110,15 +114,12 @@ fn texts_of_numbers_too_long_or_too_large(rt: HostRuntime) -> Result<(), Fail> {
             "invalid var_s33: integer too large",
         ),
     ];
-    for (fault, text) in rows {
-        assert_eq!(rt; Error::new(fault, 9).message(), text);
-    }
-    Ok(())
+    texts(&rt, rows);
 }
 
 #[test]
-fn texts_of_faults_of_small_items(rt: HostRuntime) -> Result<(), Fail> {
-    let rows: [(Fault, &str); 8] = [
+fn texts_of_faults_of_small_items(rt: HostRuntime) {
+    let rows: &[Row] = &[
         (Fault::StringSize, "string size out of bounds"),
         (Fault::MalformedUtf8, "malformed UTF-8 encoding"),
         (Fault::InvalidU7, "invalid u7"),
@@ -134,15 +135,12 @@ fn texts_of_faults_of_small_items(rt: HostRuntime) -> Result<(), Fail> {
             "only the function external type is supported in elem segment",
         ),
     ];
-    for (fault, text) in rows {
-        assert_eq!(rt; Error::new(fault, 9).message(), text);
-    }
-    Ok(())
+    texts(&rt, rows);
 }
 
 #[test]
-fn texts_of_faults_of_imports_and_exports(rt: HostRuntime) -> Result<(), Fail> {
-    let rows: [(Fault, &str); 9] = [
+fn texts_of_faults_of_imports_and_exports(rt: HostRuntime) {
+    let rows: &[Row] = &[
         (
             Fault::ExactExport,
             "Exact type is not allowed in the exports",
@@ -162,15 +160,12 @@ fn texts_of_faults_of_imports_and_exports(rt: HostRuntime) -> Result<(), Fail> {
         (Fault::TableFlags, "invalid table resizable limits flags"),
         (Fault::TagAttributes, "invalid tag attributes"),
     ];
-    for (fault, text) in rows {
-        assert_eq!(rt; Error::new(fault, 9).message(), text);
-    }
-    Ok(())
+    texts(&rt, rows);
 }
 
 #[test]
-fn texts_of_faults_of_custom_sections(rt: HostRuntime) -> Result<(), Fail> {
-    let rows: [(Fault, &str); 10] = [
+fn texts_of_faults_of_custom_sections(rt: HostRuntime) {
+    let rows: &[Row] = &[
         (Fault::NamesOrder, "names out of order"),
         (Fault::IndirectOrder, "indirect names out of order"),
         (Fault::NameSectionOrder, "name subsection out of order"),
@@ -185,15 +180,12 @@ fn texts_of_faults_of_custom_sections(rt: HostRuntime) -> Result<(), Fail> {
         (Fault::NotConstant, "not a constant instruction"),
         (Fault::Supertypes, "more than one supertype"),
     ];
-    for (fault, text) in rows {
-        assert_eq!(rt; Error::new(fault, 9).message(), text);
-    }
-    Ok(())
+    texts(&rt, rows);
 }
 
 #[test]
-fn texts_of_leading_bytes(rt: HostRuntime) -> Result<(), Fail> {
-    let rows: [(Fault, &str); 11] = [
+fn texts_of_leading_bytes(rt: HostRuntime) {
+    let rows: &[Row] = &[
         (
             Fault::LeadingByte(Lead::BranchHint),
             "invalid leading byte for invalid branch hint byte",
@@ -239,15 +231,12 @@ fn texts_of_leading_bytes(rt: HostRuntime) -> Result<(), Fail> {
             "invalid leading byte for field mutability",
         ),
     ];
-    for (fault, text) in rows {
-        assert_eq!(rt; Error::new(fault, 9).message(), text);
-    }
-    Ok(())
+    texts(&rt, rows);
 }
 
 #[test]
-fn texts_of_starts_in_core_dumps(rt: HostRuntime) -> Result<(), Fail> {
-    let rows: [(Fault, &str); 5] = [
+fn texts_of_starts_in_core_dumps(rt: HostRuntime) {
+    let rows: &[Row] = &[
         (
             Fault::CoreStartByte(CoreStart::Name),
             "invalid start byte for core dump name",
@@ -269,8 +258,5 @@ fn texts_of_starts_in_core_dumps(rt: HostRuntime) -> Result<(), Fail> {
             "invalid start byte for core dump stack frame",
         ),
     ];
-    for (fault, text) in rows {
-        assert_eq!(rt; Error::new(fault, 9).message(), text);
-    }
-    Ok(())
+    texts(&rt, rows);
 }
