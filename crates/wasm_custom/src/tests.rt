@@ -9,17 +9,24 @@ mod names;
 mod relocations;
 
 use crate::CustomSectionReader;
+use std::fmt::Debug;
+use std::process::Abort;
 use std::test::Fail;
 use wasm_base::{BinaryReader, Error, Fault, WasmFeatures};
+
+// That a value is the one that is wanted.
+fn same<T: PartialEq + Debug + Drop>(rt: &impl Abort, found: T, wanted: T) {
+    assert!(rt; found == wanted, "{found:?}, and not {wanted:?}");
+}
 
 #[test]
 fn a_section_with_no_name_and_no_data(rt: HostRuntime) -> Result<(), Fail> {
     let section = CustomSectionReader::new(BinaryReader::new(&[0], 10))?;
-    assert_eq!(rt; section.name(), "");
-    assert_eq!(rt; section.data(), b"".as_slice());
-    assert_eq!(rt; section.data_offset(), 11);
-    assert_eq!(rt; section.data_range(), 11..11);
-    assert_eq!(rt; section.range(), 10..11);
+    same(&rt, section.name(), "");
+    same(&rt, section.data(), b"".as_slice());
+    same(&rt, section.data_offset(), 11);
+    same(&rt, section.data_range(), 11..11);
+    same(&rt, section.range(), 10..11);
     assert!(rt; section.data_reader().eof());
     Ok(())
 }
@@ -28,16 +35,16 @@ fn a_section_with_no_name_and_no_data(rt: HostRuntime) -> Result<(), Fail> {
 fn a_section_with_a_name_and_data(rt: HostRuntime) -> Result<(), Fail> {
     let window = BinaryReader::new_features(b"\x04name\x00\x07", 1000, WasmFeatures::MEMORY64);
     let section = CustomSectionReader::new(window)?.clone()?;
-    assert_eq!(rt; section.name(), "name");
-    assert_eq!(rt; section.data(), [0, 7].as_slice());
-    assert_eq!(rt; section.data_offset(), 1005);
-    assert_eq!(rt; section.data_range(), 1005..1007);
-    assert_eq!(rt; section.range(), 1000..1007);
+    same(&rt, section.name(), "name");
+    same(&rt, section.data(), [0, 7].as_slice());
+    same(&rt, section.data_offset(), 1005);
+    same(&rt, section.data_range(), 1005..1007);
+    same(&rt, section.range(), 1000..1007);
     let mut data = section.data_reader();
-    assert_eq!(rt; data.range(), 1005..1007);
-    assert_eq!(rt; data.features(), WasmFeatures::MEMORY64);
-    assert_eq!(rt; data.read_u8(), Ok(0));
-    assert_eq!(rt; data.original_position(), 1006);
+    same(&rt, data.range(), 1005..1007);
+    same(&rt, data.features(), WasmFeatures::MEMORY64);
+    same(&rt, data.read_u8(), Ok(0));
+    same(&rt, data.original_position(), 1006);
     Ok(())
 }
 
@@ -53,7 +60,7 @@ fn faults_of_the_name(rt: HostRuntime) -> Result<(), Fail> {
     ];
     for (bytes, fault, offset) in rows {
         let refused = CustomSectionReader::new(BinaryReader::new(bytes, 10)).err();
-        assert_eq!(rt; refused, Some(Error::new(fault, offset)));
+        same(&rt, refused, Some(Error::new(fault, offset)));
     }
     Ok(())
 }
@@ -71,7 +78,7 @@ fn hints_of_missing_bytes(rt: HostRuntime) -> Result<(), Fail> {
         let refused = CustomSectionReader::new(BinaryReader::new(bytes, 10))
             .err()
             .ok_or("read")?;
-        assert_eq!(rt; refused.needed_hint(), hint);
+        same(&rt, refused.needed_hint(), hint);
     }
     Ok(())
 }
@@ -80,15 +87,17 @@ fn hints_of_missing_bytes(rt: HostRuntime) -> Result<(), Fail> {
 fn a_section_as_debug_text(rt: HostRuntime) -> Result<(), Fail> {
     let section = CustomSectionReader::new(BinaryReader::new(b"\x01a\x07\x08", 10))?;
     let text = format!(in rt.alloc(); "{section:?}")?;
-    assert_eq!(rt;
+    same(
+        &rt,
         text.as_str(),
-        "CustomSectionReader { name: \"a\", data_offset: 12, data: \"...\", range: 10..14 }"
+        "CustomSectionReader { name: \"a\", data_offset: 12, data: \"...\", range: 10..14 }",
     );
     let section = CustomSectionReader::new(BinaryReader::new(b"\x04na\"e\x07\x08\x09", 70000))?;
     let text = format!(in rt.alloc(); "{section:?}")?;
-    assert_eq!(rt;
+    same(
+        &rt,
         text.as_str(),
-        "CustomSectionReader { name: \"na\\\"e\", data_offset: 70005, data: \"...\", range: 70000..70008 }"
+        "CustomSectionReader { name: \"na\\\"e\", data_offset: 70005, data: \"...\", range: 70000..70008 }",
     );
     Ok(())
 }

@@ -13,8 +13,15 @@ mod values;
 mod windows;
 
 use crate::{ConstExpr, FunctionBody, HeapType, RefType, ValType};
+use std::fmt::Debug;
+use std::process::Abort;
 use std::test::Fail;
 use wasm_base::{BinaryReader, WasmFeatures};
+
+// That a value is the one that is wanted.
+fn same<T: PartialEq + Debug + Drop>(rt: &impl Abort, found: T, wanted: T) {
+    assert!(rt; found == wanted, "{found:?}, and not {wanted:?}");
+}
 
 // A window of two bytes at 102, with one feature.
 fn window() -> BinaryReader<'static> {
@@ -24,13 +31,13 @@ fn window() -> BinaryReader<'static> {
 #[test]
 fn a_body_is_its_window(rt: HostRuntime) -> Result<(), Fail> {
     let body = FunctionBody::new(window());
-    assert_eq!(rt; body.range(), 102..104);
+    same(&rt, body.range(), 102..104);
     let mut reader = body.get_binary_reader();
-    assert_eq!(rt; reader.features(), WasmFeatures::MEMORY64);
-    assert_eq!(rt; reader.read_u8(), Ok(0));
-    assert_eq!(rt; reader.original_position(), 103);
+    same(&rt, reader.features(), WasmFeatures::MEMORY64);
+    same(&rt, reader.read_u8(), Ok(0));
+    same(&rt, reader.original_position(), 103);
     // The body still begins where it began.
-    assert_eq!(rt; body.get_binary_reader().original_position(), 102);
+    same(&rt, body.get_binary_reader().original_position(), 102);
     Ok(())
 }
 
@@ -39,10 +46,10 @@ fn an_expression_is_its_window(rt: HostRuntime) -> Result<(), Fail> {
     let mut reader = window();
     reader.read_u8()?;
     let expression = ConstExpr::new(reader).clone()?;
-    assert_eq!(rt; expression.range(), 102..104);
+    same(&rt, expression.range(), 102..104);
     let reader = expression.get_binary_reader();
-    assert_eq!(rt; reader.range(), 102..104);
-    assert_eq!(rt; reader.remaining_range(), 103..104);
+    same(&rt, reader.range(), 102..104);
+    same(&rt, reader.remaining_range(), 103..104);
     Ok(())
 }
 
@@ -52,12 +59,13 @@ fn a_function_reference(rt: HostRuntime) -> Result<(), Fail> {
         nullable: true,
         heap: HeapType::Func,
     };
-    assert_eq!(rt; RefType::FUNCREF, any_function);
+    same(&rt, RefType::FUNCREF, any_function);
     assert!(rt; ValType::Ref(RefType::FUNCREF) != ValType::I32);
     let text = format!(in rt.alloc(); "{:?}", ValType::Ref(RefType::FUNCREF))?;
-    assert_eq!(rt;
+    same(
+        &rt,
         text.as_str(),
-        "Ref(RefType { nullable: true, heap: Func })"
+        "Ref(RefType { nullable: true, heap: Func })",
     );
     Ok(())
 }

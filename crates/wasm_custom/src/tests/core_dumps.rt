@@ -1,4 +1,5 @@
 // Core dumps on worked bytes.
+use super::same;
 use crate::{
     CoreDumpInstance, CoreDumpInstancesSection, CoreDumpModulesSection, CoreDumpSection,
     CoreDumpStackFrame, CoreDumpStackSection, CoreDumpValue,
@@ -39,8 +40,8 @@ fn values(rt: HostRuntime) -> Result<(), Fail> {
     for (bytes, wanted, used) in rows {
         let mut reader = BinaryReader::new(bytes, 600);
         let value = CoreDumpValue::from_reader(&mut reader)?;
-        assert_eq!(rt; parts(&value), wanted);
-        assert_eq!(rt; reader.original_position(), 600 + used);
+        same(&rt, parts(&value), wanted);
+        same(&rt, reader.original_position(), 600 + used);
     }
     let rows: [(&[u8], Error); 6] = [
         (b"\x02", Error::new(Fault::CoreValue, 600)),
@@ -58,7 +59,7 @@ fn values(rt: HostRuntime) -> Result<(), Fail> {
     ];
     for (bytes, wanted) in rows {
         let refused = CoreDumpValue::from_reader(&mut BinaryReader::new(bytes, 600)).err();
-        assert_eq!(rt; refused, Some(wanted));
+        same(&rt, refused, Some(wanted));
     }
     Ok(())
 }
@@ -66,30 +67,31 @@ fn values(rt: HostRuntime) -> Result<(), Fail> {
 #[test]
 fn sections_of_a_core_dump(rt: HostRuntime) -> Result<(), Fail> {
     let section = CoreDumpSection::new(BinaryReader::new(b"\x00\x09test.wasm", 0))?;
-    assert_eq!(rt; section.name, "test.wasm");
+    same(&rt, section.name, "test.wasm");
     let bytes = b"\x82\x00\x00\x04test\x00\x80\x00";
     let section = CoreDumpModulesSection::new(rt.alloc(), BinaryReader::new(bytes, 9))?;
-    assert_eq!(rt; section.modules.as_slice(), ["test", ""].as_slice());
+    same(&rt, section.modules.as_slice(), ["test", ""].as_slice());
     let bytes = b"\x01\x00\x02\x01\x00\x01\x03";
     let section = CoreDumpInstancesSection::new(rt.alloc(), BinaryReader::new(bytes, 0))?;
     assert_eq!(rt; section.instances.len(), 1);
     let instance = &section.instances.as_slice()[0];
-    assert_eq!(rt; instance.module_index, 2);
-    assert_eq!(rt; instance.memories.as_slice(), [0].as_slice());
-    assert_eq!(rt; instance.globals.as_slice(), [3].as_slice());
+    same(&rt, instance.module_index, 2);
+    same(&rt, instance.memories.as_slice(), [0].as_slice());
+    same(&rt, instance.globals.as_slice(), [3].as_slice());
     let bytes = b"\x00\x04main\x01\x00\x04\x2a\x33\x01\x7f\x01\x01\x7f\x02";
     let section = CoreDumpStackSection::new(rt.alloc(), BinaryReader::new(bytes, 0))?;
-    assert_eq!(rt; section.name, "main");
+    same(&rt, section.name, "main");
     assert_eq!(rt; section.frames.len(), 1);
     let frame = &section.frames.as_slice()[0];
-    assert_eq!(rt;
+    same(
+        &rt,
         (frame.instanceidx, frame.funcidx, frame.codeoffset),
-        (4, 42, 51)
+        (4, 42, 51),
     );
     assert_eq!(rt; frame.locals.len(), 1);
-    assert_eq!(rt; parts(&frame.locals.as_slice()[0]), ("i32", 1));
+    same(&rt, parts(&frame.locals.as_slice()[0]), ("i32", 1));
     assert_eq!(rt; frame.stack.len(), 1);
-    assert_eq!(rt; parts(&frame.stack.as_slice()[0]), ("i32", 2));
+    same(&rt, parts(&frame.stack.as_slice()[0]), ("i32", 2));
     Ok(())
 }
 
@@ -97,25 +99,26 @@ fn sections_of_a_core_dump(rt: HostRuntime) -> Result<(), Fail> {
 fn items_that_own_lists(rt: HostRuntime) -> Result<(), Fail> {
     let mut reader = BinaryReader::new(b"\x00\x80\x01\x00\x82\x00\x05\x86\x00\x07", 50);
     let instance = CoreDumpInstance::from_reader(rt.alloc(), &mut reader)?;
-    assert_eq!(rt; reader.original_position(), 59);
-    assert_eq!(rt; instance.module_index, 128);
+    same(&rt, reader.original_position(), 59);
+    same(&rt, instance.module_index, 128);
     assert_eq!(rt; instance.memories.len(), 0);
-    assert_eq!(rt; instance.globals.as_slice(), [5, 6].as_slice());
+    same(&rt, instance.globals.as_slice(), [5, 6].as_slice());
     let mut reader = BinaryReader::new(b"\x00\x81\x00\x02\x03\x02\x01\x7e\x7f\x00\x0b", 50);
     let frame = CoreDumpStackFrame::from_reader(rt.alloc(), &mut reader)?;
-    assert_eq!(rt; reader.original_position(), 60);
-    assert_eq!(rt;
+    same(&rt, reader.original_position(), 60);
+    same(
+        &rt,
         (frame.instanceidx, frame.funcidx, frame.codeoffset),
-        (1, 2, 3)
+        (1, 2, 3),
     );
     assert_eq!(rt; frame.locals.len(), 2);
-    assert_eq!(rt; parts(&frame.locals.as_slice()[0]), ("missing", 0));
-    assert_eq!(rt; parts(&frame.locals.as_slice()[1]), ("i64", -1));
+    same(&rt, parts(&frame.locals.as_slice()[0]), ("missing", 0));
+    same(&rt, parts(&frame.locals.as_slice()[1]), ("i64", -1));
     assert_eq!(rt; frame.stack.len(), 0);
     let refused = CoreDumpInstance::from_reader(rt.alloc(), &mut BinaryReader::new(b"\x01", 7));
-    assert_eq!(rt; refused.err(), Some(start(CoreStart::Instance, 7)));
+    same(&rt, refused.err(), Some(start(CoreStart::Instance, 7)));
     let refused = CoreDumpStackFrame::from_reader(rt.alloc(), &mut BinaryReader::new(b"\x80", 7));
-    assert_eq!(rt; refused.err(), Some(start(CoreStart::Frame, 7)));
+    same(&rt, refused.err(), Some(start(CoreStart::Frame, 7)));
     Ok(())
 }
 
@@ -134,7 +137,7 @@ fn core_dumps_that_are_refused(rt: HostRuntime) {
     ];
     for (bytes, wanted) in rows {
         let refused = CoreDumpSection::new(BinaryReader::new(bytes, 30)).err();
-        assert_eq!(rt; refused, Some(wanted));
+        same(&rt, refused, Some(wanted));
     }
     let rows: [(&[u8], Error); 5] = [
         (b"\x02\x00\x01a\x01", start(CoreStart::Module, 30)),
@@ -145,7 +148,7 @@ fn core_dumps_that_are_refused(rt: HostRuntime) {
     ];
     for (bytes, wanted) in rows {
         let refused = CoreDumpModulesSection::new(rt.alloc(), BinaryReader::new(bytes, 30)).err();
-        assert_eq!(rt; refused, Some(wanted));
+        same(&rt, refused, Some(wanted));
     }
     let rows: [(&[u8], Error); 4] = [
         (b"\x02\x00\x02\x00\x00\x07", start(CoreStart::Instance, 35)),
@@ -158,7 +161,7 @@ fn core_dumps_that_are_refused(rt: HostRuntime) {
     ];
     for (bytes, wanted) in rows {
         let refused = CoreDumpInstancesSection::new(rt.alloc(), BinaryReader::new(bytes, 30)).err();
-        assert_eq!(rt; refused, Some(wanted));
+        same(&rt, refused, Some(wanted));
     }
     let rows: [(&[u8], Error); 5] = [
         (b"\x02", start(CoreStart::StackName, 30)),
@@ -172,6 +175,6 @@ fn core_dumps_that_are_refused(rt: HostRuntime) {
     ];
     for (bytes, wanted) in rows {
         let refused = CoreDumpStackSection::new(rt.alloc(), BinaryReader::new(bytes, 30)).err();
-        assert_eq!(rt; refused, Some(wanted));
+        same(&rt, refused, Some(wanted));
     }
 }

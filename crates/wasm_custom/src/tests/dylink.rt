@@ -1,5 +1,6 @@
 // What dynamic linkers read, on worked bytes.
 use super::heap::Sparing;
+use super::same;
 use crate::dylink::read_subsection;
 use crate::{Dylink0SectionReader, Dylink0Subsection, SymbolFlags};
 use std::alloc::Global;
@@ -13,8 +14,8 @@ fn what_a_library_needs(rt: HostRuntime) -> Result<(), Fail> {
     let mut all = Dylink0SectionReader::new(rt.alloc(), BinaryReader::new(bytes, 0));
     match all.next() {
         Some(Ok(Dylink0Subsection::MemInfo(info))) => {
-            assert_eq!(rt; (info.memory_size, info.memory_alignment), (16, 2));
-            assert_eq!(rt; (info.table_size, info.table_alignment), (1, 0));
+            same(&rt, (info.memory_size, info.memory_alignment), (16, 2));
+            same(&rt, (info.table_size, info.table_alignment), (1, 0));
         }
         _ => return Err("no sizes".into()),
     }
@@ -33,14 +34,14 @@ fn lists_of_a_library(rt: HostRuntime) -> Result<(), Fail> {
     match all.next() {
         Some(Ok(Dylink0Subsection::Needed(names))) => {
             assert_eq!(rt; names.len(), 1);
-            assert_eq!(rt; names[0], "a");
+            same(&rt, names[0], "a");
         }
         _ => return Err("no names".into()),
     }
     match all.next() {
         Some(Ok(Dylink0Subsection::ExportInfo(infos))) => {
             assert_eq!(rt; infos.len(), 1);
-            assert_eq!(rt; infos[0].name, "f");
+            same(&rt, infos[0].name, "f");
             assert!(rt; infos[0].flags == SymbolFlags::BINDING_LOCAL);
         }
         _ => return Err("no exports".into()),
@@ -48,15 +49,15 @@ fn lists_of_a_library(rt: HostRuntime) -> Result<(), Fail> {
     match all.next() {
         Some(Ok(Dylink0Subsection::ImportInfo(infos))) => {
             assert_eq!(rt; infos.len(), 1);
-            assert_eq!(rt; (infos[0].module, infos[0].field), ("m", ""));
+            same(&rt, (infos[0].module, infos[0].field), ("m", ""));
             assert!(rt; infos[0].flags == SymbolFlags::UNDEFINED);
         }
         _ => return Err("no imports".into()),
     }
     let refused = all.next().ok_or("none")?.err();
-    assert_eq!(rt; refused, Some(Error::new(Fault::UnexpectedEof, 122)));
+    same(&rt, refused, Some(Error::new(Fault::UnexpectedEof, 122)));
     let refused = all.next().ok_or("none")?.err();
-    assert_eq!(rt; refused, Some(Error::new(Fault::UnexpectedEof, 125)));
+    same(&rt, refused, Some(Error::new(Fault::UnexpectedEof, 125)));
     assert!(rt; all.next().is_none());
     Ok(())
 }

@@ -1,4 +1,5 @@
 // Branch hints and producers on worked bytes.
+use super::same;
 use crate::{BranchHintFunction, BranchHintSectionReader, ProducersField, ProducersSectionReader};
 use std::test::Fail;
 use wasm_base::{BinaryReader, Error, Fault, FromReader, Lead};
@@ -13,11 +14,11 @@ fn hints_of_functions(rt: HostRuntime) -> Result<(), Fail> {
     let functions = BranchHintSectionReader::new(BinaryReader::new(bytes, 0))?;
     let mut functions = functions.into_iter();
     let function = functions.next().ok_or("no function")??;
-    assert_eq!(rt; function.func, 0);
-    assert_eq!(rt; function.hints.range(), 2..6);
+    same(&rt, function.func, 0);
+    same(&rt, function.hints.range(), 2..6);
     let mut hints = function.hints.into_iter_with_offsets();
     let (offset, hint) = hints.next().ok_or("no hint")??;
-    assert_eq!(rt; (offset, hint.func_offset, hint.taken), (3, 5, true));
+    same(&rt, (offset, hint.func_offset, hint.taken), (3, 5, true));
     assert!(rt; hints.next().is_none());
     assert!(rt; functions.next().is_none());
 
@@ -25,14 +26,14 @@ fn hints_of_functions(rt: HostRuntime) -> Result<(), Fail> {
     let bytes = b"\x81\x01\x82\x00\x80\x01\x01\x00\xff\x00\x01\x01\x07";
     let mut reader = BinaryReader::new(bytes, 5000);
     let function = BranchHintFunction::from_reader(&mut reader)?;
-    assert_eq!(rt; reader.original_position(), 5012);
-    assert_eq!(rt; function.func, 129);
-    assert_eq!(rt; function.hints.range(), 5002..5012);
+    same(&rt, reader.original_position(), 5012);
+    same(&rt, function.func, 129);
+    same(&rt, function.hints.range(), 5002..5012);
     let mut hints = function.clone()?.hints.into_iter();
     let hint = hints.next().ok_or("no hint")??;
-    assert_eq!(rt; (hint.func_offset, hint.taken), (128, false));
+    same(&rt, (hint.func_offset, hint.taken), (128, false));
     let hint = hints.next().ok_or("no hint")??;
-    assert_eq!(rt; (hint.func_offset, hint.taken), (127, true));
+    same(&rt, (hint.func_offset, hint.taken), (127, true));
     assert!(rt; hints.next().is_none());
     Ok(())
 }
@@ -57,7 +58,7 @@ fn hints_that_are_refused(rt: HostRuntime) {
     ];
     for (bytes, offset, wanted) in rows {
         let refused = BranchHintFunction::from_reader(&mut BinaryReader::new(bytes, offset)).err();
-        assert_eq!(rt; refused, Some(wanted));
+        same(&rt, refused, Some(wanted));
     }
 }
 
@@ -67,13 +68,13 @@ fn fields_of_producers(rt: HostRuntime) -> Result<(), Fail> {
     let fields = ProducersSectionReader::new(BinaryReader::new(bytes, 0))?;
     let mut fields = fields.into_iter();
     let field = fields.next().ok_or("no field")??;
-    assert_eq!(rt; field.name, "language");
-    assert_eq!(rt; field.values.range(), 10..23);
+    same(&rt, field.name, "language");
+    same(&rt, field.values.range(), 10..23);
     let mut values = field.values.into_iter_with_offsets();
     let (offset, value) = values.next().ok_or("no value")??;
-    assert_eq!(rt; (offset, value.name, value.version), (11, "wat", "1"));
+    same(&rt, (offset, value.name, value.version), (11, "wat", "1"));
     let (offset, value) = values.next().ok_or("no value")??;
-    assert_eq!(rt; (offset, value.name, value.version), (17, "C", "9.0"));
+    same(&rt, (offset, value.name, value.version), (17, "C", "9.0"));
     assert!(rt; values.next().is_none());
     assert!(rt; fields.next().is_none());
 
@@ -81,11 +82,11 @@ fn fields_of_producers(rt: HostRuntime) -> Result<(), Fail> {
     let bytes = b"\x83\x00sdk\x81\x00\x02\xc3\x28\x00\x0b";
     let mut reader = BinaryReader::new(bytes, 900);
     let field = ProducersField::from_reader(&mut reader)?;
-    assert_eq!(rt; reader.original_position(), 911);
-    assert_eq!(rt; field.name, "sdk");
+    same(&rt, reader.original_position(), 911);
+    same(&rt, field.name, "sdk");
     let mut values = field.clone()?.values.into_iter();
     let fault = values.next().ok_or("no value")?.err();
-    assert_eq!(rt; fault, Some(Error::new(Fault::MalformedUtf8, 909)));
+    same(&rt, fault, Some(Error::new(Fault::MalformedUtf8, 909)));
     assert!(rt; values.next().is_none());
     Ok(())
 }
@@ -110,6 +111,6 @@ fn producers_that_are_refused(rt: HostRuntime) {
     ];
     for (bytes, offset, wanted) in rows {
         let refused = ProducersField::from_reader(&mut BinaryReader::new(bytes, offset)).err();
-        assert_eq!(rt; refused, Some(wanted));
+        same(&rt, refused, Some(wanted));
     }
 }

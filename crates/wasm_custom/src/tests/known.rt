@@ -2,6 +2,7 @@
 ghost use Rattle.std.specs.Prelude.{◌+◌, ◌<◌, ◌^◌, length};
 
 use super::heap::Sparing;
+use super::same;
 use crate::{CustomSectionReader, KnownCustom};
 use std::alloc::{Allocator, Global};
 use std::process::Abort;
@@ -105,7 +106,7 @@ fn runs_out(rt: &impl Abort, alloc: Global, bytes: &[u8], least: u64) -> Result<
         let heap = Sparing::new(alloc, blocks);
         match section.as_known_in(alloc, &heap) {
             Ok(known) => {
-                assert_eq!(rt; kind_of(&known), kind_of(&whole));
+                same(&rt, kind_of(&known), kind_of(&whole));
                 refused = blocks;
                 break;
             }

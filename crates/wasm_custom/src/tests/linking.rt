@@ -1,4 +1,5 @@
 // What linkers read, on worked bytes.
+use super::same;
 use crate::{
     Comdat, ComdatSymbolKind, DefinedDataSymbol, Linking, LinkingSectionReader, SegmentFlags,
     SymbolFlags, SymbolInfo,
@@ -22,10 +23,10 @@ fn reads<'a, T: FromReader<'a> + Debug>(
         match (T::from_reader(&mut reader), wanted) {
             (Ok(item), Ok((text, after))) => {
                 let read = format!(in alloc; "{item:?}")?;
-                assert_eq!(rt; read.as_str(), *text);
-                assert_eq!(rt; reader.original_position(), *after);
+                same(&rt, read.as_str(), *text);
+                same(&rt, reader.original_position(), *after);
             }
-            (Err(error), Err(fault)) => assert_eq!(rt; error, *fault),
+            (Err(error), Err(fault)) => same(&rt, error, *fault),
             _ => return Err("another outcome".into()),
         }
     }
@@ -98,15 +99,15 @@ fn symbols_of_data_and_sections(rt: HostRuntime) -> std::result::Result<(), Fail
             ),
         } => {
             assert!(rt; flags == SymbolFlags::default());
-            assert_eq!(rt; name, "d");
-            assert_eq!(rt; (index, offset, size), (2, 0, 4));
+            same(&rt, name, "d");
+            same(&rt, (index, offset, size), (2, 0, 4));
         }
         _ => return Err("another symbol".into()),
     }
     match SymbolInfo::from_reader(&mut BinaryReader::new(b"\x03\x80\x20\x05", 0))? {
         SymbolInfo::Section { flags, section } => {
-            assert_eq!(rt; section, 5);
-            assert_eq!(rt; flags.bits(), 4096);
+            same(&rt, section, 5);
+            same(&rt, flags.bits(), 4096);
             assert!(rt; !flags.contains(SymbolFlags::UNDEFINED));
         }
         _ => return Err("another symbol".into()),
@@ -127,22 +128,22 @@ fn comdats_and_their_symbols(rt: HostRuntime) -> std::result::Result<(), Fail> {
     let bytes = b"\x01c\x80\x01\x82\x00\x01\x05\x04\x80\x01\xff";
     let mut reader = BinaryReader::new(bytes, 900);
     let comdat = Comdat::from_reader(&mut reader)?;
-    assert_eq!(rt; comdat.name, "c");
-    assert_eq!(rt; comdat.flags, 128);
-    assert_eq!(rt; comdat.symbols.range(), 904..911);
-    assert_eq!(rt; reader.original_position(), 911);
+    same(&rt, comdat.name, "c");
+    same(&rt, comdat.flags, 128);
+    same(&rt, comdat.symbols.range(), 904..911);
+    same(&rt, reader.original_position(), 911);
     let mut symbols = comdat.symbols.into_iter_with_offsets();
     let (offset, symbol) = symbols.next().ok_or("none")??;
-    assert_eq!(rt; offset, 906);
+    same(&rt, offset, 906);
     assert!(rt; symbol.kind == ComdatSymbolKind::Func);
-    assert_eq!(rt; symbol.index, 5);
+    same(&rt, symbol.index, 5);
     let (offset, symbol) = symbols.next().ok_or("none")??;
-    assert_eq!(rt; offset, 908);
+    same(&rt, offset, 908);
     assert!(rt; symbol.kind == ComdatSymbolKind::Table);
-    assert_eq!(rt; symbol.index, 128);
+    same(&rt, symbol.index, 128);
     assert!(rt; symbols.next().is_none());
     let refused = Comdat::from_reader(&mut BinaryReader::new(b"\x00\x00\x02\x00\x00\x06\x00", 40));
-    assert_eq!(rt; refused.err(), Some(leading(Lead::ComdatSymbol, 6, 45)));
+    same(&rt, refused.err(), Some(leading(Lead::ComdatSymbol, 6, 45)));
     Ok(())
 }
 
@@ -150,19 +151,19 @@ fn comdats_and_their_symbols(rt: HostRuntime) -> std::result::Result<(), Fail> {
 fn sections_for_linkers(rt: HostRuntime) -> std::result::Result<(), Fail> {
     let bytes = b"\x02\x06\x03\x01\x05\x07";
     let section = LinkingSectionReader::new(rt.alloc(), BinaryReader::new(bytes, 0))?;
-    assert_eq!(rt; section.version(), 2);
-    assert_eq!(rt; section.original_position(), 1);
-    assert_eq!(rt; section.range(), 0..6);
+    same(&rt, section.version(), 2);
+    same(&rt, section.original_position(), 1);
+    same(&rt, section.range(), 0..6);
     match section.subsections().next() {
         Some(Ok(Linking::InitFuncs(functions))) => {
             let function = functions.into_iter().next().ok_or("none")??;
-            assert_eq!(rt; (function.priority, function.symbol_index), (5, 7));
+            same(&rt, (function.priority, function.symbol_index), (5, 7));
         }
         _ => return Err("no functions".into()),
     }
     let refused = LinkingSectionReader::new(rt.alloc(), BinaryReader::new(b"\x03", 0)).err();
     let version = Error::new(Fault::LinkingVersion, 0).with_number(3);
-    assert_eq!(rt; refused, Some(version));
+    same(&rt, refused, Some(version));
     Ok(())
 }
 
@@ -170,16 +171,16 @@ fn sections_for_linkers(rt: HostRuntime) -> std::result::Result<(), Fail> {
 fn subsections_for_linkers(rt: HostRuntime) -> std::result::Result<(), Fail> {
     let bytes = b"\x82\x00\x09\x04\x01w\xff\xff\x05\x05\x01\x01s\x03\x03\x63\x81\x00\x07\x07\x00";
     let section = LinkingSectionReader::new(rt.alloc(), BinaryReader::new(bytes, 2000))?;
-    assert_eq!(rt; section.original_position(), 2002);
+    same(&rt, section.original_position(), 2002);
     let mut subsections = section.clone()?.into_iter();
     match subsections.next() {
-        Some(Ok(Linking::TargetArch(name))) => assert_eq!(rt; name, "w"),
+        Some(Ok(Linking::TargetArch(name))) => same(&rt, name, "w"),
         _ => return Err("no architecture".into()),
     }
     match subsections.next() {
         Some(Ok(Linking::SegmentInfo(segments))) => {
             let segment = segments.into_iter().next().ok_or("none")??;
-            assert_eq!(rt; (segment.name, segment.alignment), ("s", 3));
+            same(&rt, (segment.name, segment.alignment), ("s", 3));
             assert!(rt; segment.flags == SegmentFlags::STRINGS.union(SegmentFlags::TLS));
         }
         _ => return Err("no segments".into()),
@@ -194,13 +195,13 @@ fn subsections_for_linkers(rt: HostRuntime) -> std::result::Result<(), Fail> {
                 },
             ),
         ) => {
-            assert_eq!(rt; ty, 99);
-            assert_eq!(rt; contents, b"\x07".as_slice());
-            assert_eq!(rt; range, 2018..2019);
+            same(&rt, ty, 99);
+            same(&rt, contents, b"\x07".as_slice());
+            same(&rt, range, 2018..2019);
         }
         _ => return Err("no unknown one".into()),
     }
     let refused = subsections.next().ok_or("none")?.err();
-    assert_eq!(rt; refused, Some(fault(Fault::UnexpectedEof, 2021)));
+    same(&rt, refused, Some(fault(Fault::UnexpectedEof, 2021)));
     Ok(())
 }

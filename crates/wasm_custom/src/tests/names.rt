@@ -1,6 +1,7 @@
 // Names on worked bytes.
 ghost use Rattle.std.specs.Prelude.{◌+◌, ◌<◌, ◌^◌, length};
 
+use super::same;
 use crate::{IndirectNameMap, Name, NameMap, NameSectionReader};
 use std::process::Abort;
 use std::test::Fail;
@@ -52,7 +53,7 @@ fn names_by_index(rt: HostRuntime) -> std::result::Result<(), Fail> {
     );
     let refused = map(&[0xff, 0xff, 0xff, 0xff, 0x1f], 7).err();
     let large = Error::new(Fault::NumberTooLarge(NumberKind::VarU32), 11);
-    assert_eq!(rt; refused, Some(large));
+    same(&rt, refused, Some(large));
     Ok(())
 }
 
@@ -60,21 +61,21 @@ fn names_by_index(rt: HostRuntime) -> std::result::Result<(), Fail> {
 fn names_of_what_an_index_has(rt: HostRuntime) -> std::result::Result<(), Fail> {
     let mut names = IndirectNameMap::new(BinaryReader::new(&[2, 1, 1, 0, 1, 0x61, 0, 0], 0))?;
     let first = names.next().ok_or("none")??;
-    assert_eq!(rt; first.index, 1);
+    same(&rt, first.index, 1);
     gives_names(&rt, first.names.clone()?, &[Ok((0, "a"))]);
     let refused = names.next().ok_or("none")?.err();
-    assert_eq!(rt; refused, Some(Error::new(Fault::IndirectOrder, 6)));
+    same(&rt, refused, Some(Error::new(Fault::IndirectOrder, 6)));
     assert!(rt; names.next().is_none());
     let bytes = &[
         2, 0x80, 1, 2, 7, 1, 0xff, 7, 0, 0x82, 1, 1, 0, 0xa1, 0x8d, 6,
     ];
     let mut names = IndirectNameMap::new(BinaryReader::new(bytes, 500))?;
     let first = names.next().ok_or("none")??;
-    assert_eq!(rt; first.index, 128);
+    same(&rt, first.index, 128);
     let text = Err(Error::new(Fault::MalformedUtf8, 506));
     gives_names(&rt, first.names, &[text]);
     let long = names.next().ok_or("none")?.err();
-    assert_eq!(rt; long, Some(Error::new(Fault::StringSize, 515)));
+    same(&rt, long, Some(Error::new(Fault::StringSize, 515)));
     for _ in 0..4 {
         assert!(rt; names.next().is_none());
     }
@@ -87,8 +88,8 @@ fn sections_of_names(rt: HostRuntime) -> std::result::Result<(), Fail> {
     let mut names = NameSectionReader::new(rt.alloc(), BinaryReader::new(bytes, 0));
     match names.next() {
         Some(Ok(Name::Module { name, name_range })) => {
-            assert_eq!(rt; name, "a");
-            assert_eq!(rt; name_range, 2..4);
+            same(&rt, name, "a");
+            same(&rt, name_range, 2..4);
         }
         _ => return Err("no module".into()),
     }
@@ -97,7 +98,7 @@ fn sections_of_names(rt: HostRuntime) -> std::result::Result<(), Fail> {
         _ => return Err("no functions".into()),
     }
     let refused = names.next().ok_or("none")?.err();
-    assert_eq!(rt; refused, Some(Error::new(Fault::NameSectionOrder, 10)));
+    same(&rt, refused, Some(Error::new(Fault::NameSectionOrder, 10)));
     match names.next() {
         Some(
             Ok(
@@ -108,9 +109,9 @@ fn sections_of_names(rt: HostRuntime) -> std::result::Result<(), Fail> {
                 },
             ),
         ) => {
-            assert_eq!(rt; ty, 14);
-            assert_eq!(rt; contents, b"".as_slice());
-            assert_eq!(rt; range, 15..15);
+            same(&rt, ty, 14);
+            same(&rt, contents, b"".as_slice());
+            same(&rt, range, 15..15);
         }
         _ => return Err("no unknown one".into()),
     }
@@ -125,25 +126,25 @@ fn subsections_of_names_with_faults(rt: HostRuntime) -> std::result::Result<(), 
     let bytes = &[1, 0, 2, 1, 0, 0x8d, 4, 1, 0, 3, 0x82, 0, 0, 5];
     let mut names = NameSectionReader::new(rt.alloc(), BinaryReader::new(bytes, 300));
     let refused = names.next().ok_or("none")?.err();
-    assert_eq!(rt; refused, Some(Error::new(Fault::UnexpectedEof, 302)));
+    same(&rt, refused, Some(Error::new(Fault::UnexpectedEof, 302)));
     match names.next() {
         Some(Ok(Name::Local(mut locals))) => assert!(rt; locals.next().is_none()),
         _ => return Err("no locals".into()),
     }
     let refused = names.next().ok_or("none")?.err();
-    assert_eq!(rt; refused, Some(Error::new(Fault::InvalidU7, 305)));
+    same(&rt, refused, Some(Error::new(Fault::InvalidU7, 305)));
     match names.next() {
         Some(Ok(Name::Types(types))) => gives_names(&rt, types, &[]),
         _ => return Err("no types".into()),
     }
     match names.next() {
-        Some(Err(order)) => assert_eq!(rt; order, Error::new(Fault::NameSectionOrder, 309)),
+        Some(Err(order)) => same(&rt, order, Error::new(Fault::NameSectionOrder, 309)),
         _ => return Err("in order".into()),
     }
     let trailing = &[0, 3, 1, 0x61, 0xff];
     let mut names = NameSectionReader::new(rt.alloc(), BinaryReader::new(trailing, 0));
     let refused = names.next().ok_or("none")?.err();
-    assert_eq!(rt; refused, Some(Error::new(Fault::NameTrailing, 4)));
+    same(&rt, refused, Some(Error::new(Fault::NameTrailing, 4)));
     assert!(rt; names.next().is_none());
     Ok(())
 }

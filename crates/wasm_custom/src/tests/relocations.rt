@@ -1,6 +1,7 @@
 // Relocations on worked bytes.
 ghost use Rattle.std.specs.Prelude.{◌+◌, ◌<◌, ◌^◌, length};
 
+use super::same;
 use crate::{RelocAddendKind, RelocSectionReader, RelocationEntry, RelocationType};
 use std::test::Fail;
 use wasm_base::{BinaryReader, Error, Fault, FromReader, Lead, NumberKind, Result};
@@ -38,8 +39,8 @@ fn types_by_number(rt: HostRuntime) {
         match RelocationType::try_from(number) {
             Ok(ty) => {
                 assert!(rt; number <= 26);
-                assert_eq!(rt; ty as u8, number);
-                assert_eq!(rt; ty.extent(), extents[usize::from(number)]);
+                same(&rt, ty as u8, number);
+                same(&rt, ty.extent(), extents[usize::from(number)]);
                 let kind = if with_32.contains(&number) {
                     RelocAddendKind::Addend32
                 } else if with_64.contains(&number) {
@@ -47,7 +48,7 @@ fn types_by_number(rt: HostRuntime) {
                 } else {
                     RelocAddendKind::None
                 };
-                assert_eq!(rt; ty.addend_kind(), kind);
+                same(&rt, ty.addend_kind(), kind);
             }
             Err(()) => assert!(rt; number > 26),
         }
@@ -89,7 +90,7 @@ fn entries(rt: HostRuntime) {
         ),
     ];
     for (bytes, offset, wanted, after) in rows {
-        assert_eq!(rt; entry(bytes, offset), Ok((wanted, after)));
+        same(&rt, entry(bytes, offset), Ok((wanted, after)));
     }
 }
 
@@ -120,7 +121,7 @@ fn entries_that_are_refused(rt: HostRuntime) {
         ),
     ];
     for (bytes, offset, wanted) in rows {
-        assert_eq!(rt; entry(bytes, offset).err(), Some(wanted));
+        same(&rt, entry(bytes, offset).err(), Some(wanted));
     }
 }
 
@@ -128,32 +129,32 @@ fn entries_that_are_refused(rt: HostRuntime) {
 fn a_section_of_relocations(rt: HostRuntime) -> std::result::Result<(), Fail> {
     let bytes = b"\x03\x01\x03\x06\x00\x7f";
     let section = RelocSectionReader::new(BinaryReader::new(bytes, 0))?;
-    assert_eq!(rt; section.section_index(), 3);
-    assert_eq!(rt; section.range(), 0..6);
-    assert_eq!(rt; section.entries().range(), 1..6);
+    same(&rt, section.section_index(), 3);
+    same(&rt, section.range(), 0..6);
+    same(&rt, section.entries().range(), 1..6);
     let mut entries = section.clone()?.entries().into_iter();
     let one = relocation(RelocationType::MemoryAddrLeb, 6, 0, -1);
-    assert_eq!(rt; entries.next(), Some(Ok(one)));
-    assert_eq!(rt; one.relocation_range(), Ok(6..11));
-    assert_eq!(rt; entries.next(), None);
+    same(&rt, entries.next(), Some(Ok(one)));
+    same(&rt, one.relocation_range(), Ok(6..11));
+    same(&rt, entries.next(), None);
     let last = relocation(RelocationType::FunctionIndexLeb, 4294967292, 0, 0);
-    assert_eq!(rt; last.relocation_range(), Ok(4294967292..4294967297));
+    same(&rt, last.relocation_range(), Ok(4294967292..4294967297));
 
     let bytes = b"\x85\x00\x81\x00\x05\x01\x02\x03\xff";
     let section = RelocSectionReader::new(BinaryReader::new(bytes, 70000))?;
-    assert_eq!(rt; section.section_index(), 5);
-    assert_eq!(rt; section.range(), 70000..70009);
-    assert_eq!(rt; section.entries().range(), 70002..70009);
+    same(&rt, section.section_index(), 5);
+    same(&rt, section.range(), 70000..70009);
+    same(&rt, section.entries().range(), 70002..70009);
     let mut entries = section.entries().into_iter_with_offsets();
     let one = relocation(RelocationType::MemoryAddrI32, 1, 2, 3);
-    assert_eq!(rt; entries.next(), Some(Ok((70004, one))));
+    same(&rt, entries.next(), Some(Ok((70004, one))));
     let left = Error::new(Fault::SizeMismatch, 70008);
-    assert_eq!(rt; entries.next(), Some(Err(left)));
-    assert_eq!(rt; entries.next(), None);
+    same(&rt, entries.next(), Some(Err(left)));
+    same(&rt, entries.next(), None);
 
     let refused = RelocSectionReader::new(BinaryReader::new(b"\x80", 4)).err();
-    assert_eq!(rt; refused, Some(Error::new(Fault::UnexpectedEof, 5)));
+    same(&rt, refused, Some(Error::new(Fault::UnexpectedEof, 5)));
     let refused = RelocSectionReader::new(BinaryReader::new(b"\x07", 4)).err();
-    assert_eq!(rt; refused, Some(Error::new(Fault::UnexpectedEof, 5)));
+    same(&rt, refused, Some(Error::new(Fault::UnexpectedEof, 5)));
     Ok(())
 }

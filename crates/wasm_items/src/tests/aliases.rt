@@ -1,4 +1,5 @@
 // Each name of a section is the section of its items.
+use super::same;
 use crate::{
     Data, DataSectionReader, Element, ElementSectionReader, Export, ExportSectionReader,
     FunctionSectionReader, Global, GlobalSectionReader, ImportSectionReader, Imports,
@@ -56,34 +57,34 @@ fn window(count: &[u8]) -> BinaryReader<'_> {
 #[test]
 fn sections_of_types_imports_and_functions(rt: HostRuntime) -> Result<(), Fail> {
     let section: TypeSectionReader<'_> = SectionLimited::new(window(&[3]))?;
-    assert_eq!(rt; types(section), 3);
+    same(&rt, types(section), 3);
     let section: ImportSectionReader<'_> = SectionLimited::new(window(&[4]))?;
-    assert_eq!(rt; imports(section), 4);
+    same(&rt, imports(section), 4);
     let section: FunctionSectionReader<'_> = SectionLimited::new(window(&[5]))?;
-    assert_eq!(rt; functions(section), 5);
+    same(&rt, functions(section), 5);
     Ok(())
 }
 
 #[test]
 fn sections_of_tables_memories_tags_and_globals(rt: HostRuntime) -> Result<(), Fail> {
     let section: TableSectionReader<'_> = SectionLimited::new(window(&[6]))?;
-    assert_eq!(rt; tables(section), 6);
+    same(&rt, tables(section), 6);
     let section: MemorySectionReader<'_> = SectionLimited::new(window(&[7]))?;
-    assert_eq!(rt; memories(section), 7);
+    same(&rt, memories(section), 7);
     let section: TagSectionReader<'_> = SectionLimited::new(window(&[8]))?;
-    assert_eq!(rt; tags(section), 8);
+    same(&rt, tags(section), 8);
     let section: GlobalSectionReader<'_> = SectionLimited::new(window(&[9]))?;
-    assert_eq!(rt; globals(section), 9);
+    same(&rt, globals(section), 9);
     Ok(())
 }
 
 #[test]
 fn sections_of_exports_elements_and_datas(rt: HostRuntime) -> Result<(), Fail> {
     let section: ExportSectionReader<'_> = SectionLimited::new(window(&[10]))?;
-    assert_eq!(rt; exports(section), 10);
+    same(&rt, exports(section), 10);
     let section: ElementSectionReader<'_> = SectionLimited::new(window(&[11]))?;
-    assert_eq!(rt; elements(section), 11);
+    same(&rt, elements(section), 11);
     let section: DataSectionReader<'_> = SectionLimited::new(window(&[12]))?;
-    assert_eq!(rt; datas(section), 12);
+    same(&rt, datas(section), 12);
     Ok(())
 }

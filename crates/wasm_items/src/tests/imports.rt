@@ -1,5 +1,6 @@
 // Imports, and the groups of them.
 use super::reading::{leading, read, reads, refuses};
+use super::same;
 use crate::{
     GlobalType, Import, ImportSection, ImportSectionReader, Imports, MemoryType, TagKind, TagType,
     TypeRef, ValType,
@@ -50,7 +51,11 @@ fn flattens<'a>(
                 match (with_offsets.next(), alone.next()) {
                     (Some(one), Some(other)) => {
                         assert!(rt; one == *import, "{one:?} is given of {bytes:?}");
-                        assert_eq!(rt; other.map(|other| (0, other)), one.map(|one| (0, one.1)));
+                        same(
+                            &rt,
+                            other.map(|other| (0, other)),
+                            one.map(|one| (0, one.1)),
+                        );
                     }
                     _ => assert!(rt; false, "too few are given of {bytes:?}"),
                 }
@@ -248,22 +253,22 @@ fn refused_groups(rt: HostRuntime) {
 fn windows_of_groups(rt: HostRuntime) -> std::result::Result<(), Fail> {
     let bytes = b"\x01m\x00\x7f\x82\x00\x81\x00a\x00\x03\x01b\x00\x04\x09";
     let (group, after) = read::<Imports<'_>>(&rt, bytes, 40, WasmFeatures::COMPACT_IMPORTS);
-    assert_eq!(rt; after, 55);
+    same(&rt, after, 55);
     match group? {
         Imports::Compact1 { module, items } => {
-            assert_eq!(rt; module, "m");
-            assert_eq!(rt; items.count(), 2);
-            assert_eq!(rt; items.range(), 44..55);
-            assert_eq!(rt; items.original_position(), 46);
+            same(&rt, module, "m");
+            same(&rt, items.count(), 2);
+            same(&rt, items.range(), 44..55);
+            same(&rt, items.original_position(), 46);
         }
         _other => assert!(rt; false),
     }
     let bytes = b"\x01m\x00\x7e\x02\x00\x01\x82\x00\x81\x00a\x01b\x09";
     let (group, after) = read::<Imports<'_>>(&rt, bytes, 40, WasmFeatures::COMPACT_IMPORTS);
-    assert_eq!(rt; after, 54);
+    same(&rt, after, 54);
     match group? {
         Imports::Compact2 { module, ty, names } => {
-            assert_eq!(rt; module, "m");
+            same(&rt, module, "m");
             let memory = MemoryType {
                 memory64: false,
                 shared: false,
@@ -271,9 +276,9 @@ fn windows_of_groups(rt: HostRuntime) -> std::result::Result<(), Fail> {
                 maximum: None,
                 page_size_log2: None,
             };
-            assert_eq!(rt; ty, TypeRef::Memory(memory));
-            assert_eq!(rt; names.count(), 2);
-            assert_eq!(rt; names.range(), 47..54);
+            same(&rt, ty, TypeRef::Memory(memory));
+            same(&rt, names.count(), 2);
+            same(&rt, names.range(), 47..54);
         }
         _other => assert!(rt; false),
     }

@@ -1,5 +1,6 @@
 // Items of tables, memories, globals, tags and exports.
 use super::reading::{leading, read, reads, refuses};
+use super::same;
 use crate::{
     Export, ExternalKind, Global, GlobalType, HeapType, MemoryType, RefType, Table, TableInit,
     TableType, TagKind, TagType, ValType,
@@ -138,37 +139,35 @@ fn tables(rt: HostRuntime) {
         ],
     );
     let (filled, after) = read::<Table<'_>>(&rt, b"\x40\x00\x70\x00\x01\xd0\x70\x0b", 0, all);
-    assert_table(&rt, filled, table(HeapType::Func, 1, None), Some(5..8));
-    assert_eq!(rt; after, 8);
+    same(
+        &rt,
+        parts_of_table(filled),
+        Ok((table(HeapType::Func, 1, None), Some(5..8))),
+    );
+    same(&rt, after, 8);
     let bytes = b"\x40\x00\x6f\x05\x01\x02\xd0\x6f\x0b\xff";
     let (filled, after) = read::<Table<'_>>(&rt, bytes, 10, all);
     let bounded = TableType {
         table64: true,
         ..table(HeapType::Extern, 1, Some(2))
     };
-    assert_table(&rt, filled, bounded, Some(16..19));
-    assert_eq!(rt; after, 19);
+    same(&rt, parts_of_table(filled), Ok((bounded, Some(16..19))));
+    same(&rt, after, 19);
     let (null, after) = read::<Table<'_>>(&rt, b"\x70\x01\x80\x01\x81\x01\x40", 10, all);
-    assert_table(&rt, null, table(HeapType::Func, 128, Some(129)), None);
-    assert_eq!(rt; after, 16);
+    same(
+        &rt,
+        parts_of_table(null),
+        Ok((table(HeapType::Func, 128, Some(129)), None)),
+    );
+    same(&rt, after, 16);
 }
 
-// A table of this type was read, and its expression, if it has one, has these offsets.
-fn assert_table(
-    rt: &impl Abort,
-    read: Result<Table<'_>>,
-    ty: TableType,
-    expression: Option<Range<u64>>,
-) {
-    match read {
-        Ok(table) => {
-            assert_eq!(rt; table.ty, ty);
-            match table.init {
-                TableInit::RefNull => assert_eq!(rt; expression, None),
-                TableInit::Expr(init) => assert_eq!(rt; expression, Some(init.range())),
-            }
-        }
-        Err(e) => assert!(rt; false, "{e}"),
+// The type of a table that was read, and the offsets of its expression, if it has one.
+fn parts_of_table(read: Result<Table<'_>>) -> Result<(TableType, Option<Range<u64>>)> {
+    let Table { ty, init } = read?;
+    match init {
+        TableInit::RefNull => Ok((ty, None)),
+        TableInit::Expr(init) => Ok((ty, Some(init.range()))),
     }
 }
 
@@ -218,14 +217,9 @@ fn assert_global(
     expression: Range<u64>,
 ) {
     let (read, after) = read::<Global<'_>>(rt, bytes, offset, WasmFeatures::all());
-    assert_eq!(rt; after, expression.end);
-    match read {
-        Ok(global) => {
-            assert_eq!(rt; global.ty, ty);
-            assert_eq!(rt; global.init_expr.range(), expression);
-        }
-        Err(e) => assert!(rt; false, "{e}"),
-    }
+    same(rt, after, expression.end);
+    let parts = read.map(|global| (global.ty, global.init_expr.range()));
+    same(rt, parts, Ok((ty, expression)));
 }
 
 #[test]

@@ -1,6 +1,7 @@
 // Copies and comparisons, as callers know them.
 ghost use Rattle.std.specs.Prelude.{◌≡◌};
 
+use super::same;
 use crate::{
     ConstExpr, Data, DataKind, Element, ElementItems, ElementKind, FunctionBody, Global,
     GlobalType, Imports, MemoryType, RefType, Table, TableInit, TableType, TypeRef, ValType,
@@ -71,15 +72,15 @@ fn copies_of_segments(rt: HostRuntime) -> Result<(), Fail> {
         range: 19..25,
     };
     let copy = copy_of_data(&segment);
-    assert_eq!(rt; copy.bytes, [5, 6].as_slice());
-    assert_eq!(rt; copy.range, 19..25);
+    same(&rt, copy.bytes, [5, 6].as_slice());
+    same(&rt, copy.range, 19..25);
     match copy.kind {
         DataKind::Active {
             memory_index,
             offset_expr,
         } => {
-            assert_eq!(rt; memory_index, 1);
-            assert_eq!(rt; copy_of_expression(&offset_expr).range(), 20..23);
+            same(&rt, memory_index, 1);
+            same(&rt, copy_of_expression(&offset_expr).range(), 20..23);
         }
         DataKind::Passive => assert!(rt; false),
     }
@@ -100,10 +101,10 @@ fn copies_of_elements(rt: HostRuntime) -> Result<(), Fail> {
     match copy_of_element(&element).items {
         ElementItems::Functions(section) => {
             let mut items = section.into_iter();
-            assert_eq!(rt; items.next(), Some(Ok(0)));
-            assert_eq!(rt; items.next(), Some(Ok(1)));
+            same(&rt, items.next(), Some(Ok(0)));
+            same(&rt, items.next(), Some(Ok(1)));
         }
-        ElementItems::Expressions(ty, _section) => assert_eq!(rt; ty, RefType::FUNCREF),
+        ElementItems::Expressions(ty, _section) => same(&rt, ty, RefType::FUNCREF),
     }
     Ok(())
 }
@@ -121,7 +122,7 @@ fn copies_of_tables_globals_and_bodies(rt: HostRuntime) -> Result<(), Fail> {
         ty,
         init: TableInit::Expr(expression()),
     };
-    assert_eq!(rt; copy_of_table(&table).ty, ty);
+    same(&rt, copy_of_table(&table).ty, ty);
     let global = Global {
         ty: GlobalType {
             content_type: ValType::I32,
@@ -130,9 +131,9 @@ fn copies_of_tables_globals_and_bodies(rt: HostRuntime) -> Result<(), Fail> {
         },
         init_expr: expression(),
     };
-    assert_eq!(rt; copy_of_global(&global).init_expr.range(), 20..23);
+    same(&rt, copy_of_global(&global).init_expr.range(), 20..23);
     let body = FunctionBody::new(BinaryReader::new(&[0, 0x0b], 40));
-    assert_eq!(rt; copy_of_body(&body).range(), 40..42);
+    same(&rt, copy_of_body(&body).range(), 40..42);
     Ok(())
 }
 
@@ -151,9 +152,10 @@ fn copies_of_imports(rt: HostRuntime) -> Result<(), Fail> {
         names: SectionLimited::new(BinaryReader::new(&[1, 1, 0x61], 50))?,
     };
     let text = format!(in rt.alloc(); "{:?}", copy_of_imports(&imports))?;
-    assert_eq!(rt;
+    same(
+        &rt,
         text.as_str(),
-        "Compact2 { module: \"m\", ty: Memory(MemoryType { memory64: true, shared: false, initial: 3, maximum: None, page_size_log2: None }), names: SectionLimited { count: 1, range: 50..53 } }"
+        "Compact2 { module: \"m\", ty: Memory(MemoryType { memory64: true, shared: false, initial: 3, maximum: None, page_size_log2: None }), names: SectionLimited { count: 1, range: 50..53 } }",
     );
     Ok(())
 }

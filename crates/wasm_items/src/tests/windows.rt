@@ -1,4 +1,5 @@
 // An enum holds each kind of section, as a parser's answer does.
+use super::same;
 use crate::{
     DataSectionReader, ElementSectionReader, ExportSectionReader, FunctionBody,
     FunctionSectionReader, GlobalSectionReader, ImportSectionReader, MemorySectionReader,
@@ -67,12 +68,12 @@ fn unread(held: Held<'_>) -> Option<BinaryReader<'_>> {
 fn each_kind_is_held_and_let_go(rt: HostRuntime) -> std::result::Result<(), Fail> {
     for id in [1, 2, 3, 4, 5, 6, 7, 9, 11, 13] {
         let section = hold(id, BinaryReader::new(&[3, 0], 10))?;
-        assert_eq!(rt; count_of(&section), 3);
-        assert_eq!(rt; unread(section).is_some(), id == 3);
+        same(&rt, count_of(&section), 3);
+        same(&rt, unread(section).is_some(), id == 3);
     }
     let body = hold(10, BinaryReader::new(&[3, 0], 10))?;
-    assert_eq!(rt; count_of(&body), 0);
+    same(&rt, count_of(&body), 0);
     let reader = unread(body).ok_or("no body")?;
-    assert_eq!(rt; reader.range(), 10..12);
+    same(&rt, reader.range(), 10..12);
     Ok(())
 }
