@@ -81,23 +81,22 @@ pub(crate) fn show_steps(
         .saturating_add(4);
     let pieces = pieces_of(alloc, &mut reader)?;
     let mut feeder = Feeder::new(alloc, offset, features);
-    let mut given = 0;
-    let mut lasts = 0;
+    let mut given = 0_usize;
+    let mut has_ended = false;
     for _ in 0..most {
-        if show_step(feeder.open().step(), out)? {
-            lasts += 1;
-        }
+        let is_last = show_step(feeder.open().step(), out)?;
         let (held, stored) = (feeder.held(), feeder.stored());
         write!(out, " {held} {stored}; ")?;
-        if lasts == 2 {
+        if is_last && has_ended {
             break;
         }
+        has_ended = is_last;
         if feeder.wants_more() {
             match pieces.get(given) {
                 Some(piece) => feeder.push(piece)?,
                 None => feeder.finish(),
             }
-            given += 1;
+            given = given.saturating_add(1);
         }
     }
     Ok(())

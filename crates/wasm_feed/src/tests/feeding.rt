@@ -237,43 +237,62 @@ fn refused_pushes_are_repeated(rt: HostRuntime) -> std::result::Result<(), Fail>
     Ok(())
 }
 
-// The loop of a compiler that takes bodies as they come, which the documents show.
+// What a compiler makes of the parts of a module.
+#[derive(Clone, Copy, Debug, PartialEq, Eq)]
+enum Task {
+    Expect(u32),
+    Compile(u64),
+    Declare,
+    Finish,
+    Wait,
+}
+
+fn task(step: Step<'_>) -> Task {
+    match step {
+        Step::Parsed { payload, .. } => match payload {
+            Payload::CodeSectionStart { count, .. } => Task::Expect(count),
+            Payload::CodeSectionEntry(body) => Task::Compile(body.range().end),
+            Payload::End(_) => Task::Finish,
+            _ => Task::Declare,
+        },
+        Step::NeedMoreData(_) => Task::Wait,
+    }
+}
+
+// The loop of a compiler that takes bodies as they come, as the documents show it.
 #[test]
 fn bodies_as_they_come(rt: HostRuntime) -> std::result::Result<(), Fail> {
-    let mut download =
-        b"\0asm\x01\0\0\0\x03\x03\x02\0\0\x0a\x08\x02\x02\0\x0b\x03\0\x01\x0b".as_slice();
+    let mut download: &[u8] =
+        b"\0asm\x01\0\0\0\x03\x03\x02\0\0\x0a\x08\x02\x02\0\x0b\x03\0\x01\x0b";
     let mut feeder = Feeder::new(rt.alloc(), 0, WasmFeatures::all());
-    let (mut announced, mut came, mut ends) = (0, 0, 0);
+    let mut tasks = Vec::new(rt.alloc());
     for _ in 0..40 {
-        match feeder.open().step()? {
-            Step::Parsed {
-                payload: Payload::End(_),
-                ..
-            } => break,
-            Step::Parsed {
-                payload: Payload::CodeSectionStart { count, .. },
-                ..
-            } => announced = count,
-            Step::Parsed {
-                payload: Payload::CodeSectionEntry(body),
-                ..
-            } => {
-                came += 1;
-                ends += body.range().end;
-            }
-            _ => {}
+        let task = task(feeder.open().step()?);
+        if task == Task::Finish {
+            break;
         }
+        tasks.push(task)?;
         if feeder.wants_more() {
             if download.is_empty() {
                 feeder.finish();
             } else {
-                let (piece, later) = download.split_at(download.len().min(3));
+                let (piece, later) = download.split_at(download.len().min(9));
                 feeder.push(piece)?;
                 download = later;
             }
         }
     }
-    // The bodies end at 19 and 23.
-    assert_eq!(rt; (announced, came, ends), (2, 2, 42));
+    let wanted = [
+        Task::Wait,
+        Task::Declare,
+        Task::Wait,
+        Task::Declare,
+        Task::Expect(2),
+        Task::Wait,
+        Task::Compile(19),
+        Task::Compile(23),
+        Task::Wait,
+    ];
+    assert_eq!(rt; tasks.as_slice(), wanted.as_slice());
     Ok(())
 }
