@@ -55,7 +55,7 @@ def event_text(line, data):
         return " ".join([words[0], words[1]] + words[4:]) + " %s..%s %s" % (words[2], words[3], data)
     if words[0] in ("start", "datacount", "code", "body", "custom"):
         return " ".join([words[0]] + words[3:]) + " %s..%s %s" % (words[1], words[2], data)
-    return line + " %s..%s x" % (words[1], words[1])
+    return (line if words[0] == "fault" else words[0]) + " %s..%s x" % (words[1], words[1])
 
 
 def expected_events(model, stream, offset, r13):
@@ -114,7 +114,7 @@ def with_empty(rng, pieces):
 def random_cases(rng, count):
     for _ in range(count):
         stream = some_stream(rng)
-        offset = rng.choice([0, 0, 7, 1000, 70000, (1 << 64) - 1 - len(stream)])
+        offset = rng.choice([0, 0, 7, 1000, 70000, (1 << 64) - 65 - 4 * len(stream)])
         yield offset, [cut(rng, stream), [stream[i : i + 1] for i in range(len(stream))], with_empty(rng, cut(rng, stream))]
 
 
