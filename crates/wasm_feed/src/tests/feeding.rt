@@ -247,7 +247,7 @@ enum Task {
     Wait,
 }
 
-fn task(step: Step<'_>) -> Task {
+fn task_of(step: Step<'_>) -> Task {
     match step {
         Step::Parsed { payload, .. } => match payload {
             Payload::CodeSectionStart { count, .. } => Task::Expect(count),
@@ -267,7 +267,7 @@ fn bodies_as_they_come(rt: HostRuntime) -> std::result::Result<(), Fail> {
     let mut feeder = Feeder::new(rt.alloc(), 0, WasmFeatures::all());
     let mut tasks = Vec::new(rt.alloc());
     for _ in 0..40 {
-        let task = task(feeder.open().step()?);
+        let task = task_of(feeder.open().step()?);
         if task == Task::Finish {
             break;
         }
