@@ -247,14 +247,18 @@ enum Task {
     Wait,
 }
 
+fn task_for(payload: &Payload<'_>) -> Task {
+    match payload {
+        Payload::CodeSectionStart { count, .. } => Task::Expect(*count),
+        Payload::CodeSectionEntry(body) => Task::Compile(body.range().end),
+        Payload::End(_) => Task::Finish,
+        _ => Task::Declare,
+    }
+}
+
 fn task_of(step: Step<'_>) -> Task {
     match step {
-        Step::Parsed { payload, .. } => match payload {
-            Payload::CodeSectionStart { count, .. } => Task::Expect(count),
-            Payload::CodeSectionEntry(body) => Task::Compile(body.range().end),
-            Payload::End(_) => Task::Finish,
-            _ => Task::Declare,
-        },
+        Step::Parsed { payload, .. } => task_for(&payload),
         Step::NeedMoreData(_) => Task::Wait,
     }
 }
