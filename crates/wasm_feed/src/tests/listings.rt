@@ -1,6 +1,8 @@
 use crate::listing::{Ended, ListError, list};
 use crate::sink::{BoundedSink, Sink};
 use crate::source::SliceSource;
+use std::alloc::Global;
+use std::process::Abort;
 use std::test::Fail;
 use wasm_parser::{Error, Fault};
 
@@ -97,23 +99,32 @@ const LISTINGS: [(&[u8], &[u8]); 32] = [
     (b"\x08\x05\0\0", b"fault 10 unexpected end-of-file\n"),
 ];
 
-#[test]
-fn lists_modules(rt: HostRuntime) -> Result<(), Fail> {
-    for (after, lines) in LISTINGS {
-        let mut stream = b"\0asm\x01\0\0\0".to_vec(rt.alloc())?;
+// Each stream after a module's header has this listing after the header's line, whatever the size of its pieces.
+pub(super) fn list_after_header(
+    rt: &impl Abort,
+    alloc: Global,
+    rows: &[(&[u8], &[u8])],
+) -> Result<(), Fail> {
+    for (after, lines) in rows {
+        let mut stream = b"\0asm\x01\0\0\0".to_vec(alloc)?;
         stream.extend_from_slice(after)?;
-        let mut listing = b"version 0 8 1 module\n".to_vec(rt.alloc())?;
+        let mut listing = b"version 0 8 1 module\n".to_vec(alloc)?;
         listing.extend_from_slice(lines)?;
         for piece in [1, 5, 65_536] {
             let mut input = SliceSource::new(stream.as_slice());
-            let mut output = BoundedSink::new(rt.alloc(), 200)?;
-            let ended = list(rt.alloc(), &mut input, &mut output, piece);
+            let mut output = BoundedSink::new(alloc, 400)?;
+            let ended = list(alloc, &mut input, &mut output, piece);
             assert!(rt; ended.is_ok(), "{after:?}");
             assert_eq!(rt; output.written(), listing.as_slice(), "{after:?}");
             assert!(rt; !output.failed());
         }
     }
     Ok(())
+}
+
+#[test]
+fn lists_modules(rt: HostRuntime) -> Result<(), Fail> {
+    list_after_header(&rt, rt.alloc(), &LISTINGS)
 }
 
 #[test]

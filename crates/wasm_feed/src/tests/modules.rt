@@ -1,4 +1,5 @@
 // Modules with sections, listed and walked over.
+use super::listings::list_after_header;
 use crate::line::Line;
 use crate::lines::{fault_line, payload_line};
 use crate::listing::{Ended, list};
@@ -60,21 +61,7 @@ const SECTIONS: [(&[u8], &[u8]); 14] = [
 
 #[test]
 fn lists_sections(rt: HostRuntime) -> Result<(), Fail> {
-    for (after, lines) in SECTIONS {
-        let mut stream = b"\0asm\x01\0\0\0".to_vec(rt.alloc())?;
-        stream.extend_from_slice(after)?;
-        let mut listing = b"version 0 8 1 module\n".to_vec(rt.alloc())?;
-        listing.extend_from_slice(lines)?;
-        for piece in [1, 5, 65_536] {
-            let mut input = SliceSource::new(stream.as_slice());
-            let mut output = BoundedSink::new(rt.alloc(), 400)?;
-            let ended = list(rt.alloc(), &mut input, &mut output, piece);
-            assert!(rt; ended.is_ok(), "{after:?}");
-            assert_eq!(rt; output.written(), listing.as_slice(), "{after:?}");
-            assert!(rt; !output.failed());
-        }
-    }
-    Ok(())
+    list_after_header(&rt, rt.alloc(), &SECTIONS)
 }
 
 #[test]
