@@ -1,5 +1,6 @@
 // Code sections, and the counts that they must match.
 use super::parsing::{after_header, refusal};
+use super::same;
 use crate::{Chunk, Error, Fault, Parser, Payload};
 use std::ops::Range;
 use std::test::Fail;
@@ -39,18 +40,19 @@ fn a_code_section(rt: HostRuntime) -> Result<(), Fail> {
     let mut parser = after(FUNCTION)?;
     let bytes: &[u8] = b"\x0a\x04\x01\x02\0\x0b";
     let chunk = parser.parse(bytes, true)?;
-    assert_eq!(rt; code_start(&chunk), Some((3, 1, 14..18, 3)));
+    same(&rt, code_start(&chunk), Some((3, 1, 14..18, 3)));
     let chunk = parser.parse(&bytes[3..], true)?;
     match &chunk {
         Chunk::Parsed {
             consumed,
             payload: Payload::CodeSectionEntry(body),
         } => {
-            assert_eq!(rt; *consumed, 3);
-            assert_eq!(rt; body.range(), 16..18);
-            assert_eq!(rt;
+            same(&rt, *consumed, 3);
+            same(&rt, body.range(), 16..18);
+            same(
+                &rt,
                 body.get_binary_reader().remaining_buffer(),
-                b"\0\x0b".as_slice()
+                b"\0\x0b".as_slice(),
             );
         }
         _other => assert!(rt; false),
@@ -60,7 +62,7 @@ fn a_code_section(rt: HostRuntime) -> Result<(), Fail> {
         Chunk::Parsed {
             payload: Payload::End(at),
             ..
-        } => assert_eq!(rt; *at, 18),
+        } => same(&rt, *at, 18),
         _other => assert!(rt; false),
     }
     Ok(())
@@ -70,19 +72,22 @@ fn a_code_section(rt: HostRuntime) -> Result<(), Fail> {
 fn the_count_is_read_from_the_stream(rt: HostRuntime) -> Result<(), Fail> {
     let mut parser = after_header(0)?;
     let chunk = parser.parse(b"\x0a\x01\0", true)?;
-    assert_eq!(rt; code_start(&chunk), Some((3, 0, 10..11, 0)));
+    same(&rt, code_start(&chunk), Some((3, 0, 10..11, 0)));
     let mut parser = after_header(0)?;
-    assert_eq!(rt;
+    same(
+        &rt,
         refusal(&mut parser, b"\x0a\0"),
-        Some(Error::new(Fault::UnexpectedEof, 10))
+        Some(Error::new(Fault::UnexpectedEof, 10)),
     );
-    assert_eq!(rt;
+    same(
+        &rt,
         refusal(&mut parser, b"\x0a\0\0"),
-        Some(Error::new(Fault::UnexpectedEof, 10))
+        Some(Error::new(Fault::UnexpectedEof, 10)),
     );
-    assert_eq!(rt;
+    same(
+        &rt,
         refusal(&mut parser, b"\x0a\x01\x80"),
-        Some(Error::new(Fault::UnexpectedEof, 11))
+        Some(Error::new(Fault::UnexpectedEof, 11)),
     );
     Ok(())
 }
@@ -91,19 +96,20 @@ fn the_count_is_read_from_the_stream(rt: HostRuntime) -> Result<(), Fail> {
 fn bodies_fill_their_section(rt: HostRuntime) -> Result<(), Fail> {
     let mut parser = after(FUNCTION)?;
     parser.parse(b"\x0a\x03\x01\0\0", true)?;
-    assert_eq!(rt; parser.offset(), 15);
+    same(&rt, parser.offset(), 15);
     let chunk = parser.parse(b"\0\0", true)?;
     match &chunk {
         Chunk::Parsed {
             payload: Payload::CodeSectionEntry(body),
             ..
-        } => assert_eq!(rt; body.range(), 16..16),
+        } => same(&rt, body.range(), 16..16),
         _other => assert!(rt; false),
     }
     for left in [b"\0".as_slice(), b"".as_slice()] {
-        assert_eq!(rt;
+        same(
+            &rt,
             refusal(&mut parser, left),
-            Some(Error::new(Fault::TrailingCode, 16))
+            Some(Error::new(Fault::TrailingCode, 16)),
         );
     }
     Ok(())
@@ -114,14 +120,15 @@ fn bodies_lie_in_their_section(rt: HostRuntime) -> Result<(), Fail> {
     let mut parser = after(b"\x03\x02\x02\0")?;
     parser.parse(b"\x0a\x02\x02\0\0", true)?;
     parser.parse(b"\0\0", true)?;
-    assert_eq!(rt; parser.offset(), 16);
+    same(&rt, parser.offset(), 16);
     for rest in [b"\0".as_slice(), b"".as_slice(), b"\x80".as_slice()] {
         let offset = if rest == b"\x80".as_slice() { 17 } else { 16 };
-        assert_eq!(rt;
+        same(
+            &rt,
             refusal(&mut parser, rest),
-            Some(Error::new(Fault::UnexpectedEof, offset))
+            Some(Error::new(Fault::UnexpectedEof, offset)),
         );
-        assert_eq!(rt; parser.offset(), 16);
+        same(&rt, parser.offset(), 16);
     }
     Ok(())
 }
@@ -129,28 +136,33 @@ fn bodies_lie_in_their_section(rt: HostRuntime) -> Result<(), Fail> {
 #[test]
 fn counts_match(rt: HostRuntime) -> Result<(), Fail> {
     let mut parser = after(FUNCTION)?;
-    assert_eq!(rt;
+    same(
+        &rt,
         refusal(&mut parser, b"\x0a\x01\0"),
-        Some(Error::new(Fault::FunctionCodeDiffer, 14))
+        Some(Error::new(Fault::FunctionCodeDiffer, 14)),
     );
-    assert_eq!(rt;
+    same(
+        &rt,
         refusal(&mut parser, b""),
-        Some(Error::new(Fault::FunctionWithoutCode, 12))
+        Some(Error::new(Fault::FunctionWithoutCode, 12)),
     );
     let mut parser = after_header(0)?;
-    assert_eq!(rt;
+    same(
+        &rt,
         refusal(&mut parser, b"\x0a\x02\x01\0"),
-        Some(Error::new(Fault::CodeWithoutFunction, 10))
+        Some(Error::new(Fault::CodeWithoutFunction, 10)),
     );
     let mut parser = after_header(0)?;
     parser.parse(b"\x0c\x01\x01", true)?;
-    assert_eq!(rt;
+    same(
+        &rt,
         refusal(&mut parser, b"\x0b\x02\x02\0"),
-        Some(Error::new(Fault::DataCountDiffer, 15))
+        Some(Error::new(Fault::DataCountDiffer, 15)),
     );
-    assert_eq!(rt;
+    same(
+        &rt,
         refusal(&mut parser, b""),
-        Some(Error::new(Fault::DataCountWithoutData, 11))
+        Some(Error::new(Fault::DataCountWithoutData, 11)),
     );
     parser.parse(b"\x0b\x01\x01", true)?;
     parser.parse(b"", true)?;

@@ -1,5 +1,6 @@
 // Payloads as debug text.
 use super::parsing::HEADER;
+use super::same;
 use crate::Parser;
 use std::alloc::Global;
 use std::process::Abort;
@@ -16,7 +17,7 @@ fn is_printed(
     let chunk = parser.parse(bytes, true)?;
     let debug = format!(in alloc; "{chunk:?}")?;
     let wanted = format!(in alloc; "Parsed {{ consumed: {text}")?;
-    assert_eq!(rt; debug.as_str(), wanted.as_str());
+    same(&rt, debug.as_str(), wanted.as_str());
     Ok(())
 }
 

@@ -1,4 +1,5 @@
 // Streams with fields of several bytes, other starts, other features, and two faults at once.
+use super::same;
 use crate::{Error, Fault, NumberKind, Parser, Payload, WasmFeatures};
 use std::process::Abort;
 use std::test::Fail;
@@ -281,17 +282,19 @@ fn the_first_of_two_faults_in_code_and_headers(rt: HostRuntime) {
 fn too_large_comes_before_out_of_order(rt: HostRuntime) {
     let start = 18446744073709551600;
     let fault = Error::new(Fault::SectionTooLarge, 18446744073709551612).with_number(6);
-    assert_eq!(rt;
+    same(
+        &rt,
         fault_of(b"\0asm\x01\0\0\0\x01\x01\0\x01\x06", start),
-        Some(fault)
+        Some(fault),
     );
 }
 
 #[test]
 fn a_name_that_is_not_utf8(rt: HostRuntime) {
-    assert_eq!(rt;
+    same(
+        &rt,
         fault_of(b"\0asm\x01\0\0\0\0\x84\0\x82\0\xc3\x28", 0),
-        Some(Error::new(Fault::MalformedUtf8, 14))
+        Some(Error::new(Fault::MalformedUtf8, 14)),
     );
 }
 
@@ -311,7 +314,7 @@ fn payloads<'a>(
     for payload in parser.parse_all(MODULE) {
         payloads.push(payload?)?;
     }
-    assert_eq!(rt; payloads.len(), 8);
+    same(&rt, payloads.len(), 8);
     Ok(payloads)
 }
 
@@ -320,35 +323,38 @@ fn windows_of_a_module_that_starts_elsewhere(rt: HostRuntime) -> std::result::Re
     let set = WasmFeatures::MEMORY64;
     for payload in &payloads(&rt, rt.alloc())? {
         match payload {
-            Payload::Version { range, .. } => assert_eq!(rt; *range, 1000..1008),
+            Payload::Version { range, .. } => same(&rt, (range.start, range.end), (1000, 1008)),
             Payload::TypeSection(section) => {
-                assert_eq!(rt; (section.count(), section.range()), (128, 1011..1014));
+                same(&rt, (section.count(), section.range()), (128, 1011..1014));
             }
             Payload::FunctionSection(section) => {
-                assert_eq!(rt; (section.count(), section.range()), (1, 1017..1020));
-                assert_eq!(rt; section.original_position(), 1019);
+                same(&rt, (section.count(), section.range()), (1, 1017..1020));
+                same(&rt, section.original_position(), 1019);
             }
             Payload::StartSection { func, range } => {
-                assert_eq!(rt; (*func, range.start, range.end), (129, 1023, 1025));
+                same(&rt, (*func, range.start, range.end), (129, 1023, 1025));
             }
             Payload::CodeSectionEntry(body) => {
-                assert_eq!(rt; body.range(), 1032..1035);
-                assert_eq!(rt; body.get_binary_reader().features(), set);
-                assert_eq!(rt;
+                same(&rt, body.range(), 1032..1035);
+                same(&rt, body.get_binary_reader().features(), set);
+                same(
+                    &rt,
                     body.get_binary_reader().remaining_buffer(),
-                    b"\0\x41\x0b".as_slice()
+                    b"\0\x41\x0b".as_slice(),
                 );
             }
             Payload::CustomSection(section) => {
-                assert_eq!(rt;
+                same(
+                    &rt,
                     (section.range(), section.data_offset()),
-                    (1038..1042, 1040)
+                    (1038..1042, 1040),
                 );
-                assert_eq!(rt;
+                same(
+                    &rt,
                     (section.name(), section.data()),
-                    ("a", b"\x05\x06".as_slice())
+                    ("a", b"\x05\x06".as_slice()),
                 );
-                assert_eq!(rt; section.data_reader().features(), set);
+                same(&rt, section.data_reader().features(), set);
             }
             _other => {}
         }

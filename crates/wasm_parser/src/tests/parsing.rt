@@ -1,4 +1,5 @@
 // Calls of the parser.
+use super::same;
 use crate::{Chunk, Encoding, Error, Fault, Parser, Payload};
 use std::test::Fail;
 
@@ -18,15 +19,17 @@ pub(super) fn refusal(parser: &mut Parser, bytes: &[u8]) -> Option<Error> {
 #[test]
 fn a_header(rt: HostRuntime) -> Result<(), Fail> {
     let mut parser = Parser::new(0);
-    assert_eq!(rt;
+    same(
+        &rt,
         refusal(&mut parser, b""),
-        Some(Error::new(Fault::UnexpectedEof, 0))
+        Some(Error::new(Fault::UnexpectedEof, 0)),
     );
-    assert_eq!(rt; parser.offset(), 0);
+    same(&rt, parser.offset(), 0);
     let unknown = Error::new(Fault::UnknownVersion, 4).with_number(16843009);
-    assert_eq!(rt;
+    same(
+        &rt,
         refusal(&mut parser, b"\0asm\x01\x01\x01\x01"),
-        Some(unknown)
+        Some(unknown),
     );
     match parser.parse(HEADER, true)? {
         Chunk::Parsed {
@@ -37,12 +40,12 @@ fn a_header(rt: HostRuntime) -> Result<(), Fail> {
                 range,
             },
         } => {
-            assert_eq!(rt; (consumed, num, encoding), (8, 1, Encoding::Module));
-            assert_eq!(rt; range, 0..8);
+            same(&rt, (consumed, num, encoding), (8, 1, Encoding::Module));
+            same(&rt, range, 0..8);
         }
         _other => assert!(rt; false),
     }
-    assert_eq!(rt; parser.offset(), 8);
+    same(&rt, parser.offset(), 8);
     Ok(())
 }
 
@@ -54,7 +57,7 @@ fn the_end_again_and_again(rt: HostRuntime) -> Result<(), Fail> {
             Chunk::Parsed {
                 consumed,
                 payload: Payload::End(at),
-            } => assert_eq!(rt; (consumed, at), (0, 8)),
+            } => same(&rt, (consumed, at), (0, 8)),
             _other => assert!(rt; false),
         }
     }
@@ -70,17 +73,17 @@ fn a_custom_section(rt: HostRuntime) -> Result<(), Fail> {
             consumed,
             payload: Payload::CustomSection(section),
         } => {
-            assert_eq!(rt; *consumed, 3);
-            assert_eq!(rt; section.name(), "");
-            assert_eq!(rt; section.data_offset(), 11);
-            assert_eq!(rt; section.range(), 10..11);
-            assert_eq!(rt; section.data_range(), 11..11);
-            assert_eq!(rt; section.data(), b"".as_slice());
+            same(&rt, *consumed, 3);
+            same(&rt, section.name(), "");
+            same(&rt, section.data_offset(), 11);
+            same(&rt, section.range(), 10..11);
+            same(&rt, section.data_range(), 11..11);
+            same(&rt, section.data(), b"".as_slice());
             assert!(rt; section.data_reader().eof());
         }
         _other => assert!(rt; false),
     }
-    assert_eq!(rt; parser.offset(), 11);
+    same(&rt, parser.offset(), 11);
     Ok(())
 }
 
@@ -101,11 +104,11 @@ fn faults_change_nothing(rt: HostRuntime) -> Result<(), Fail> {
             Some(Error::new(fault, offset)),
             "{bytes:?}"
         );
-        assert_eq!(rt; parser.offset(), 8);
+        same(&rt, parser.offset(), 8);
     }
     // No rank and no count was kept of those that were refused.
     parser.parse(b"\x03\x01\0", true)?;
-    assert_eq!(rt; parser.offset(), 11);
+    same(&rt, parser.offset(), 11);
     parser.parse(b"", true)?;
     Ok(())
 }
@@ -118,23 +121,25 @@ fn a_function_section(rt: HostRuntime) -> Result<(), Fail> {
             consumed,
             payload: Payload::FunctionSection(section),
         } => {
-            assert_eq!(rt; (consumed, section.count()), (5, 2));
-            assert_eq!(rt; section.range(), 10..13);
+            same(&rt, (consumed, section.count()), (5, 2));
+            same(&rt, section.range(), 10..13);
             let mut types = Vec::new(rt.alloc());
             for item in section {
                 types.push(item?)?;
             }
-            assert_eq!(rt; types.as_slice(), [0, 7].as_slice());
+            same(&rt, types.as_slice(), [0, 7].as_slice());
         }
         _other => assert!(rt; false),
     }
-    assert_eq!(rt;
+    same(
+        &rt,
         refusal(&mut parser, b"\x03\x01\0"),
-        Some(Error::new(Fault::OutOfOrder, 15))
+        Some(Error::new(Fault::OutOfOrder, 15)),
     );
-    assert_eq!(rt;
+    same(
+        &rt,
         refusal(&mut parser, b""),
-        Some(Error::new(Fault::FunctionWithoutCode, 13))
+        Some(Error::new(Fault::FunctionWithoutCode, 13)),
     );
     Ok(())
 }
@@ -147,8 +152,8 @@ fn a_start_section(rt: HostRuntime) -> Result<(), Fail> {
             consumed,
             payload: Payload::StartSection { func, range },
         } => {
-            assert_eq!(rt; (consumed, func), (3, 1));
-            assert_eq!(rt; range, 10..11);
+            same(&rt, (consumed, func), (3, 1));
+            same(&rt, range, 10..11);
         }
         _other => assert!(rt; false),
     }
@@ -163,14 +168,15 @@ fn a_data_count_section(rt: HostRuntime) -> Result<(), Fail> {
             consumed,
             payload: Payload::DataCountSection { count, range },
         } => {
-            assert_eq!(rt; (consumed, count), (4, 128));
-            assert_eq!(rt; range, 10..12);
+            same(&rt, (consumed, count), (4, 128));
+            same(&rt, range, 10..12);
         }
         _other => assert!(rt; false),
     }
-    assert_eq!(rt;
+    same(
+        &rt,
         refusal(&mut parser, b""),
-        Some(Error::new(Fault::DataCountWithoutData, 12))
+        Some(Error::new(Fault::DataCountWithoutData, 12)),
     );
     Ok(())
 }
@@ -188,9 +194,9 @@ fn unknown_sections_of_a_component(rt: HostRuntime) -> Result<(), Fail> {
             },
             ..
         } => {
-            assert_eq!(rt; id, 1);
-            assert_eq!(rt; contents, b"\0".as_slice());
-            assert_eq!(rt; range, 10..11);
+            same(&rt, id, 1);
+            same(&rt, contents, b"\0".as_slice());
+            same(&rt, range, 10..11);
         }
         _other => assert!(rt; false),
     }
@@ -201,17 +207,18 @@ fn unknown_sections_of_a_component(rt: HostRuntime) -> Result<(), Fail> {
 fn near_the_top_of_the_offsets(rt: HostRuntime) -> Result<(), Fail> {
     let mut parser = after_header(18446744073709551600)?;
     let large = Error::new(Fault::SectionTooLarge, 18446744073709551609).with_number(6);
-    assert_eq!(rt; refusal(&mut parser, b"\0\x06"), Some(large));
+    same(&rt, refusal(&mut parser, b"\0\x06"), Some(large));
     let mut parser = after_header(18446744073709551607)?;
-    assert_eq!(rt;
+    same(
+        &rt,
         refusal(&mut parser, b"\0"),
-        Some(Error::new(Fault::OffsetRange, 18446744073709551615))
+        Some(Error::new(Fault::OffsetRange, 18446744073709551615)),
     );
     match parser.parse(b"", true)? {
         Chunk::Parsed {
             payload: Payload::End(at),
             ..
-        } => assert_eq!(rt; at, 18446744073709551615),
+        } => same(&rt, at, 18446744073709551615),
         _other => assert!(rt; false),
     }
     Ok(())

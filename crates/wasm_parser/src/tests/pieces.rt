@@ -1,5 +1,6 @@
 // Calls of the parser on bytes after which more may come.
 use super::parsing::after_header;
+use super::same;
 use crate::{Chunk, Error, Fault, Parser, Payload};
 use std::test::Fail;
 
@@ -86,14 +87,15 @@ fn sections_that_begin(rt: HostRuntime) -> Result<(), Fail> {
 #[test]
 fn sections_after_others(rt: HostRuntime) -> Result<(), Fail> {
     let mut parser = after(0, &[b"\x01\x01\0"])?;
-    assert_eq!(rt;
+    same(
+        &rt,
         told(&mut parser, b"\x01\x01"),
-        refuses(Fault::OutOfOrder, 13)
+        refuses(Fault::OutOfOrder, 13),
     );
     let mut parser = after(18446744073709551600, &[])?;
-    assert_eq!(rt; told(&mut parser, b"\0\x05"), Answer::Asks(5));
+    same(&rt, told(&mut parser, b"\0\x05"), Answer::Asks(5));
     let large = Error::new(Fault::SectionTooLarge, 18446744073709551609).with_number(6);
-    assert_eq!(rt; told(&mut parser, b"\0\x06"), Answer::Refuses(large));
+    same(&rt, told(&mut parser, b"\0\x06"), Answer::Refuses(large));
     Ok(())
 }
 
@@ -101,19 +103,36 @@ fn sections_after_others(rt: HostRuntime) -> Result<(), Fail> {
 fn bodies_that_begin(rt: HostRuntime) -> Result<(), Fail> {
     let functions: &[u8] = b"\x03\x02\x01\0";
     let mut parser = after(0, &[functions, b"\x0a\x01\x01"])?;
-    assert_eq!(rt; told(&mut parser, b"\0"), refuses(Fault::UnexpectedEof, 15));
+    same(
+        &rt,
+        told(&mut parser, b"\0"),
+        refuses(Fault::UnexpectedEof, 15),
+    );
     let mut parser = after(0, &[functions, b"\x0a\x03\x01", b"\0"])?;
-    assert_eq!(rt; told(&mut parser, b"\0"), refuses(Fault::TrailingCode, 16));
-    assert_eq!(rt; told(&mut parser, b""), refuses(Fault::TrailingCode, 16));
+    same(
+        &rt,
+        told(&mut parser, b"\0"),
+        refuses(Fault::TrailingCode, 16),
+    );
+    same(
+        &rt,
+        told(&mut parser, b""),
+        refuses(Fault::TrailingCode, 16),
+    );
     let mut parser = after(0, &[b"\x03\x02\x02\0", b"\x0a\x02\x02", b"\0"])?;
-    assert_eq!(rt; told(&mut parser, b""), Answer::Asks(1));
-    assert_eq!(rt; told(&mut parser, b"\0"), refuses(Fault::UnexpectedEof, 16));
+    same(&rt, told(&mut parser, b""), Answer::Asks(1));
+    same(
+        &rt,
+        told(&mut parser, b"\0"),
+        refuses(Fault::UnexpectedEof, 16),
+    );
     let mut parser = after(5, &[functions, b"\x0a\x89\x80\0\x01"])?;
-    assert_eq!(rt; told(&mut parser, b"\x83\x80"), Answer::Asks(1));
-    assert_eq!(rt; told(&mut parser, b"\x83\x80\0\0"), Answer::Asks(2));
-    assert_eq!(rt;
+    same(&rt, told(&mut parser, b"\x83\x80"), Answer::Asks(1));
+    same(&rt, told(&mut parser, b"\x83\x80\0\0"), Answer::Asks(2));
+    same(
+        &rt,
         told(&mut parser, b"\x83\x80\0\0\0\x0b\0"),
-        Answer::Consumes(6)
+        Answer::Consumes(6),
     );
     Ok(())
 }
@@ -122,30 +141,30 @@ fn bodies_that_begin(rt: HostRuntime) -> Result<(), Fail> {
 fn a_code_section_that_is_skipped(rt: HostRuntime) -> Result<(), Fail> {
     let functions: &[u8] = b"\x03\x02\x01\0";
     let mut parser = after(0, &[functions])?;
-    assert_eq!(rt; parser.skippable(), None);
+    same(&rt, parser.skippable(), None);
     parser.parse(b"\x0a\x04\x01", false)?;
-    assert_eq!(rt; (parser.offset(), parser.skippable()), (15, Some(3)));
-    assert_eq!(rt; told(&mut parser, b""), Answer::Asks(1));
-    assert_eq!(rt; told(&mut parser, b"\x02"), Answer::Asks(2));
-    assert_eq!(rt; told(&mut parser, b"\x02\0"), Answer::Asks(1));
+    same(&rt, (parser.offset(), parser.skippable()), (15, Some(3)));
+    same(&rt, told(&mut parser, b""), Answer::Asks(1));
+    same(&rt, told(&mut parser, b"\x02"), Answer::Asks(2));
+    same(&rt, told(&mut parser, b"\x02\0"), Answer::Asks(1));
     if parser.skippable().is_some() {
         parser.skip_section();
     }
-    assert_eq!(rt; (parser.offset(), parser.skippable()), (18, Some(0)));
+    same(&rt, (parser.offset(), parser.skippable()), (18, Some(0)));
     match parser.parse(b"", true)? {
         Chunk::Parsed {
             payload: Payload::End(at),
             ..
-        } => assert_eq!(rt; at, 18),
+        } => same(&rt, at, 18),
         _other => assert!(rt; false),
     }
-    assert_eq!(rt; parser.skippable(), None);
+    same(&rt, parser.skippable(), None);
     let mut parser = after(0, &[functions, b"\x0a\x04\x01", b"\x02\0\x0b"])?;
-    assert_eq!(rt; parser.skippable(), Some(0));
-    assert_eq!(rt; told(&mut parser, b""), Answer::Asks(1));
-    assert_eq!(rt; parser.skippable(), Some(0));
+    same(&rt, parser.skippable(), Some(0));
+    same(&rt, told(&mut parser, b""), Answer::Asks(1));
+    same(&rt, parser.skippable(), Some(0));
     parser.parse(b"\0\x01\0", false)?;
-    assert_eq!(rt; parser.skippable(), None);
+    same(&rt, parser.skippable(), None);
     Ok(())
 }
 
@@ -161,7 +180,7 @@ fn hints_byte_by_byte(rt: HostRuntime) -> Result<(), Fail> {
             from = from.saturating_add(count);
         }
         let held = &stream[from.min(to)..to];
-        assert_eq!(rt; told(&mut parser, held), Answer::Asks(*hint));
+        same(&rt, told(&mut parser, held), Answer::Asks(*hint));
     }
     Ok(())
 }

@@ -1,5 +1,6 @@
 // The calls of a parser beside `parse`, and the ids of payloads.
 use super::parsing::{HEADER, after_header};
+use super::same;
 use crate::{Chunk, Parser, Payload, WasmFeatures};
 use bitflags::Flags;
 use std::ops::Range;
@@ -24,22 +25,26 @@ fn headers_are_distinguished(rt: HostRuntime) -> Result<(), Fail> {
 #[test]
 fn windows_have_the_parsers_features(rt: HostRuntime) -> Result<(), Fail> {
     let mut parser = Parser::default();
-    assert_eq!(rt; parser.features(), WasmFeatures::all());
+    same(&rt, parser.features(), WasmFeatures::all());
     parser.set_features(WasmFeatures::MEMORY64);
-    assert_eq!(rt; parser.features(), WasmFeatures::MEMORY64);
+    same(&rt, parser.features(), WasmFeatures::MEMORY64);
     let reader = parser.binary_reader(b"abc", 7);
-    assert_eq!(rt; reader.features(), WasmFeatures::MEMORY64);
-    assert_eq!(rt; reader.range(), 7..10);
+    same(&rt, reader.features(), WasmFeatures::MEMORY64);
+    same(&rt, reader.range(), 7..10);
     parser.parse(HEADER, true)?;
     let chunk = parser.parse(b"\0\x02\x01a", true)?;
     match &chunk {
         Chunk::Parsed {
             payload: Payload::CustomSection(section),
             ..
-        } => assert_eq!(rt; section.data_reader().features(), WasmFeatures::MEMORY64),
+        } => same(
+            &rt,
+            section.data_reader().features(),
+            WasmFeatures::MEMORY64,
+        ),
         _other => assert!(rt; false),
     }
-    assert_eq!(rt; parser.features(), WasmFeatures::MEMORY64);
+    same(&rt, parser.features(), WasmFeatures::MEMORY64);
     Ok(())
 }
 
@@ -50,7 +55,7 @@ fn a_copy_goes_its_own_way(rt: HostRuntime) -> Result<(), Fail> {
     let mut copy = parser.clone()?;
     copy.parse(b"\x0a\x03\x01\x01", true)?;
     copy.parse(b"\x01\0", true)?;
-    assert_eq!(rt; (parser.offset(), copy.offset()), (12, 17));
+    same(&rt, (parser.offset(), copy.offset()), (12, 17));
     copy.parse(b"", true)?;
     assert!(rt; parser.parse(b"", true).is_err());
     Ok(())
@@ -69,7 +74,7 @@ fn are_sections(
         assert!(rt; section == wanted[count], "{count}");
         count += 1;
     }
-    assert_eq!(rt; count, wanted.len());
+    same(&rt, count, wanted.len());
     Ok(())
 }
 

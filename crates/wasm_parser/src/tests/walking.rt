@@ -1,5 +1,6 @@
 // Walks over whole streams.
 use super::parsing::HEADER;
+use super::same;
 use crate::{Error, Fault, Parser, Payload};
 use std::test::Fail;
 
@@ -7,18 +8,18 @@ use std::test::Fail;
 fn a_walk_ends_after_the_end(rt: HostRuntime) -> Result<(), Fail> {
     let mut walk = Parser::new(0).parse_all(b"\0asm\x01\0\0\0\x0c\x01\0");
     match walk.next() {
-        Some(Ok(Payload::Version { range, .. })) => assert_eq!(rt; range, 0..8),
+        Some(Ok(Payload::Version { range, .. })) => same(&rt, range, 0..8),
         _other => assert!(rt; false),
     }
     match walk.next() {
         Some(Ok(Payload::DataCountSection { count, range })) => {
-            assert_eq!(rt; count, 0);
-            assert_eq!(rt; range, 10..11);
+            same(&rt, count, 0);
+            same(&rt, range, 10..11);
         }
         _other => assert!(rt; false),
     }
     match walk.next() {
-        Some(Ok(Payload::End(at))) => assert_eq!(rt; at, 11),
+        Some(Ok(Payload::End(at))) => same(&rt, at, 11),
         _other => assert!(rt; false),
     }
     assert!(rt; walk.next().is_none());
@@ -32,7 +33,7 @@ fn a_walk_ends_after_a_fault(rt: HostRuntime) -> Result<(), Fail> {
     assert!(rt; walk.next().is_some());
     assert!(rt; walk.next().is_some());
     match walk.next() {
-        Some(Err(error)) => assert_eq!(rt; error, Error::new(Fault::DataCountDiffer, 15)),
+        Some(Err(error)) => same(&rt, error, Error::new(Fault::DataCountDiffer, 15)),
         _other => assert!(rt; false),
     }
     assert!(rt; walk.next().is_none());
@@ -45,7 +46,11 @@ fn a_walk_near_the_top_of_the_offsets(rt: HostRuntime) -> Result<(), Fail> {
     let mut walk = Parser::new(18446744073709551608).parse_all(HEADER);
     match walk.next() {
         Some(Err(error)) => {
-            assert_eq!(rt; error, Error::new(Fault::OffsetRange, 18446744073709551608));
+            same(
+                &rt,
+                error,
+                Error::new(Fault::OffsetRange, 18446744073709551608),
+            );
         }
         _other => assert!(rt; false),
     }
@@ -53,7 +58,7 @@ fn a_walk_near_the_top_of_the_offsets(rt: HostRuntime) -> Result<(), Fail> {
     let mut walk = Parser::new(18446744073709551607).parse_all(HEADER);
     assert!(rt; walk.next().is_some());
     match walk.next() {
-        Some(Ok(Payload::End(at))) => assert_eq!(rt; at, 18446744073709551615),
+        Some(Ok(Payload::End(at))) => same(&rt, at, 18446744073709551615),
         _other => assert!(rt; false),
     }
     Ok(())
@@ -67,13 +72,13 @@ fn items_of_a_section_begin_after_its_count(rt: HostRuntime) -> Result<(), Fail>
     let mut indices = Vec::new(rt.alloc());
     match walk.next() {
         Some(Ok(Payload::FunctionSection(section))) => {
-            assert_eq!(rt; section.range(), 110..114);
+            same(&rt, section.range(), 110..114);
             for item in section.into_iter_with_offsets() {
                 indices.push(item?)?;
             }
         }
         _other => assert!(rt; false),
     }
-    assert_eq!(rt; indices.as_slice(), [(111, 5), (112, 128)].as_slice());
+    same(&rt, indices.as_slice(), [(111, 5), (112, 128)].as_slice());
     Ok(())
 }
