@@ -1,0 +1,89 @@
+// The events of a stream, read in several ways.
+use crate::tally::Tally;
+use bitflags::Flags;
+use std::alloc::Global;
+use wasm_base::{Result, WasmFeatures};
+use wasm_feed::{Feeder, Step};
+use wasm_parser::{Chunk, Parser, Payload};
+
+/// Reads a whole stream part by part.
+#[inline(never)]
+pub(crate) fn parse(bytes: &[u8]) -> Result<Tally> {
+    let mut tally = Tally::new();
+    let mut parser = Parser::new(0);
+    let mut rest = bytes;
+    for _ in 0..u64::MAX {
+        match parser.parse(rest, true)? {
+            Chunk::Parsed { consumed, payload } => {
+                if tally_payload(payload, &mut tally) {
+                    break;
+                }
+                rest = rest.split_at(consumed).1;
+            }
+            Chunk::NeedMoreData(_) => unreachable!(),
+        }
+    }
+    Ok(tally)
+}
+
+/// Walks over all payloads of a whole stream.
+#[inline(never)]
+pub(crate) fn parse_all(bytes: &[u8]) -> Result<Tally> {
+    let mut tally = Tally::new();
+    for payload in Parser::new(0).parse_all(bytes) {
+        tally_payload(payload?, &mut tally);
+    }
+    Ok(tally)
+}
+
+/// Reads a stream that comes in pieces of this size.
+#[inline(never)]
+pub(crate) fn feed(alloc: Global, bytes: &[u8], size: usize) -> Result<Tally> {
+    let mut tally = Tally::new();
+    let mut feeder = Feeder::new(alloc, 0, WasmFeatures::all());
+    let mut rest = bytes;
+    for _ in 0..u64::MAX {
+        if tally_step(feeder.open().step()?, &mut tally) {
+            break;
+        }
+        if feeder.wants_more() {
+            if rest.is_empty() {
+                feeder.finish();
+            } else {
+                let (piece, later) = rest.split_at(size.min(rest.len()));
+                feeder.push(piece)?;
+                rest = later;
+            }
+        }
+    }
+    Ok(tally)
+}
+
+// Whether this was the last step.
+fn tally_step(step: Step<'_>, tally: &mut Tally) -> bool {
+    match step {
+        Step::Parsed { payload, .. } => tally_payload(payload, tally),
+        Step::NeedMoreData(_) => false,
+    }
+}
+
+// Whether this was the last payload.
+fn tally_payload(payload: Payload<'_>, tally: &mut Tally) -> bool {
+    tally.add(see(&payload));
+    match payload {
+        Payload::End(_) => true,
+        _other => false,
+    }
+}
+
+#[inline(never)]
+fn see(payload: &Payload<'_>) -> u64 {
+    match payload {
+        Payload::CodeSectionEntry(body) => body.range().start ^ body.range().end,
+        Payload::CustomSection(section) => section.data_offset() ^ section.range().end,
+        _other => match payload.as_section() {
+            Some((id, range)) => u64::from(id) ^ range.start ^ range.end,
+            None => 0,
+        },
+    }
+}
