@@ -65,15 +65,3 @@ fn bodies_are_added_up(rt: HostRuntime) -> std::result::Result<(), Fail> {
     }
     Ok(())
 }
-
-#[test]
-fn a_step_as_debug_text(rt: HostRuntime) -> std::result::Result<(), Fail> {
-    let mut feeder = fed(rt.alloc(), MODULE)?;
-    let step = feeder.step()?;
-    let text = format!(in rt.alloc(); "{step:?}")?;
-    assert_eq!(rt;
-        text.as_str(),
-        "Parsed { bytes: [0, 97, 115, 109, 1, 0, 0, 0], payload: Version { num: 1, encoding: Module, range: 0..8 } }"
-    );
-    Ok(())
-}
