@@ -1,4 +1,5 @@
 // Worked examples.
+mod hostile;
 mod steps;
 mod streams;
 
