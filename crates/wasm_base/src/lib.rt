@@ -16,8 +16,6 @@ mod owned;
 mod reader;
 mod section;
 mod subsections;
-#[cfg(test)]
-mod tests;
 
 pub use error::{Error, Result, leading_byte_error};
 pub use fault::{CoreStart, Fault, Lead, NumberKind};

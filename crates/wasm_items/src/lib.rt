@@ -17,8 +17,6 @@ mod limits;
 mod memories;
 mod tables;
 mod tags;
-#[cfg(test)]
-mod tests;
 mod types;
 mod values;
 

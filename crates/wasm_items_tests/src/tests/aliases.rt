@@ -1,6 +1,6 @@
 // Each name of a section is the section of its items.
 use super::same;
-use crate::{
+use wasm_items::{
     Data, DataSectionReader, Element, ElementSectionReader, Export, ExportSectionReader,
     FunctionSectionReader, Global, GlobalSectionReader, ImportSectionReader, Imports,
     MemorySectionReader, MemoryType, RecGroup, Table, TableSectionReader, TagSectionReader,

@@ -1,6 +1,6 @@
 // Types of values, references and heaps.
 use super::reading::{leading, reads, refuses};
-use crate::{HeapType, RefType, ValType};
+use wasm_items::{HeapType, RefType, ValType};
 use bitflags::Flags;
 use wasm_base::{Error, Fault, Lead, NumberKind, WasmFeatures};
 

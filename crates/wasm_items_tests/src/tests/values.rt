@@ -2,7 +2,7 @@
 ghost use Rattle.std.specs.Prelude.{◌≡◌};
 
 use super::same;
-use crate::{
+use wasm_items::{
     ConstExpr, Data, DataKind, Element, ElementItems, ElementKind, FunctionBody, Global,
     GlobalType, Imports, MemoryType, RefType, Table, TableInit, TableType, TypeRef, ValType,
 };

@@ -2,7 +2,7 @@
 ghost use Rattle.std.specs.Prelude.{◌+◌, ◌<◌, ◌^◌, length};
 
 use super::same;
-use crate::{BinaryReader, Error, Fault, Result, SectionLimited};
+use wasm_base::{BinaryReader, Error, Fault, Result, SectionLimited};
 use std::test::Fail;
 
 fn section<'a, T>(bytes: &'a [u8], offset: u64) -> Result<SectionLimited<'a, T>>

@@ -1,6 +1,6 @@
 // Floats, small bytes, and bytes that are passed over.
 use super::same;
-use crate::{BinaryReader, Error, Fault, Ieee32, Ieee64, WasmFeatures};
+use wasm_base::{BinaryReader, Error, Fault, Ieee32, Ieee64, WasmFeatures};
 use std::test::Fail;
 
 fn reader(bytes: &'static [u8]) -> BinaryReader<'static> {

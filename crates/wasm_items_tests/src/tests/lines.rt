@@ -1,5 +1,5 @@
 // What reading comes to, as a line: the item and how many bytes it took, or the fault.
-use crate::{
+use wasm_items::{
     CompositeType, Data, DataKind, Element, ElementItems, ElementKind, FieldType, HeapType,
     RecGroup, RefType, StorageType, SubType, ValType,
 };

@@ -1,7 +1,7 @@
 // Items of tables, memories, globals, tags and exports.
 use super::reading::{leading, read, reads, refuses};
 use super::same;
-use crate::{
+use wasm_items::{
     Export, ExternalKind, Global, GlobalType, HeapType, MemoryType, RefType, Table, TableInit,
     TableType, TagKind, TagType, ValType,
 };

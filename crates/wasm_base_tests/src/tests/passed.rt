@@ -1,5 +1,5 @@
 // Numbers that are passed over, many at once.
-use crate::{BinaryReader, Error, Fault, NumberKind, Result, fits};
+use wasm_base::{BinaryReader, Error, Fault, NumberKind, Result, fits};
 use std::alloc::Global;
 use std::process::Abort;
 use std::test::Fail;

@@ -1,6 +1,6 @@
 // Element segments with long lists of indices, most of them of one byte.
 use super::same;
-use crate::{Element, ElementItems};
+use wasm_items::{Element, ElementItems};
 use std::alloc::Global;
 use std::process::Abort;
 use std::test::Fail;

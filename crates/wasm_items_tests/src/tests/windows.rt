@@ -1,6 +1,6 @@
 // An enum holds each kind of section, as a parser's answer does.
 use super::same;
-use crate::{
+use wasm_items::{
     DataSectionReader, ElementSectionReader, ExportSectionReader, FunctionBody,
     FunctionSectionReader, GlobalSectionReader, ImportSectionReader, MemorySectionReader,
     TableSectionReader, TagSectionReader, TypeSectionReader,

@@ -9,7 +9,7 @@ mod skips;
 mod subsections;
 mod texts;
 
-use crate::{BinaryReader, CoreStart, Error, Fault, Lead, NumberKind, WasmFeatures, fits};
+use wasm_base::{BinaryReader, CoreStart, Error, Fault, Lead, NumberKind, WasmFeatures, fits};
 use bitflags::Flags;
 use std::fmt::Debug;
 use std::process::Abort;

@@ -1,5 +1,5 @@
 // The text of each fault, from the table that a reader of the crate has.
-use crate::{CoreStart, Error, Fault, Lead, NumberKind};
+use wasm_base::{CoreStart, Error, Fault, Lead, NumberKind};
 use std::process::Abort;
 
 /// A fault and its text.

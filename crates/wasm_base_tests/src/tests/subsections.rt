@@ -2,7 +2,7 @@
 ghost use Rattle.std.specs.Prelude.{⊤, ◌+◌, ◌<◌, ◌^◌, length};
 
 use super::same;
-use crate::{BinaryReader, Error, Fault, NoMemory, NumberKind, Result, Subsection, Subsections};
+use wasm_base::{BinaryReader, Error, Fault, NoMemory, NumberKind, Result, Subsection, Subsections};
 use std::alloc::Global;
 use std::test::Fail;
 

@@ -1,5 +1,5 @@
 // Numbers of each kind, floats, and bytes that are passed over.
-use crate::{BinaryReader, Error, Fault, NumberKind, Result, fits};
+use wasm_base::{BinaryReader, Error, Fault, NumberKind, Result, fits};
 use std::fmt::Debug;
 use std::process::Abort;
 

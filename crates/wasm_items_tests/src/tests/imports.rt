@@ -1,7 +1,7 @@
 // Imports, and the groups of them.
 use super::reading::{leading, read, reads, refuses};
 use super::same;
-use crate::{
+use wasm_items::{
     GlobalType, Import, ImportSection, ImportSectionReader, Imports, MemoryType, TagKind, TagType,
     TypeRef, ValType,
 };

@@ -3,7 +3,7 @@ ghost use Rattle.wasm_base.specs.Outcome.{Outcome};
 ghost use Rattle.wasm_base.specs.Window.{Place};
 
 use super::same;
-use crate::{
+use wasm_base::{
     BinaryReader, Error, Fault, FromReaderIn, Result, SectionLimited, read_list, read_list_in,
 };
 use std::alloc::Global;

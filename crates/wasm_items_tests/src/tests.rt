@@ -12,7 +12,7 @@ mod types;
 mod values;
 mod windows;
 
-use crate::{ConstExpr, FunctionBody, HeapType, RefType, ValType};
+use wasm_items::{ConstExpr, FunctionBody, HeapType, RefType, ValType};
 use std::fmt::Debug;
 use std::process::Abort;
 use std::test::Fail;

@@ -1,6 +1,6 @@
 // How many missing bytes errors hint at.
 use super::same;
-use crate::{BinaryReader, Fault, FromReader, Result, SectionLimited};
+use wasm_base::{BinaryReader, Fault, FromReader, Result, SectionLimited};
 use std::process::Abort;
 use std::test::Fail;
 

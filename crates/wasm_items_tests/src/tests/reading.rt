@@ -1,5 +1,5 @@
 // How tables of tests read items.
-use crate::ConstExpr;
+use wasm_items::ConstExpr;
 use bitflags::Flags;
 use std::fmt::Debug;
 use std::process::Abort;

@@ -1,6 +1,6 @@
 // Constant expressions.
 use super::reading::{expressions, leading, refuses};
-use crate::ConstExpr;
+use wasm_items::ConstExpr;
 use bitflags::Flags;
 use wasm_base::{Error, Fault, Lead, NumberKind, WasmFeatures};
 
