@@ -1,4 +1,5 @@
 // Worked examples.
+mod ended;
 mod hostile;
 mod steps;
 mod streams;
