@@ -48,18 +48,22 @@ reports_code (code_start count from to size) = true
 reports_code (code_entry window) = true
 reports_code other = false
 
--- the state of a parser after it reported this, which ends at this offset
-abbrev pub state_after : ParserState → (to : ℕ) → Report → ParserState
-state_after p to report = record {
-  offset = to;
-  features = p.features;
-  expects_header = false;
+-- what a parser knows of the header and the sections before, after it reported this; the rest stays
+abbrev pub knowing : ParserState → Report → ParserState
+knowing p report = record p {
   encoding = known_encoding report p.encoding;
   rank = known_rank (rank_report report) p.rank;
   functions = known_count 3 (count_report report) p.functions;
   codes = known_count 10 (count_report report) p.codes;
   datas = known_count 11 (count_report report) p.datas;
   data_counts = known_count 12 (count_report report) p.data_counts;
+}
+
+-- the state of a parser after it reported this, which ends at this offset
+abbrev pub state_after : ParserState → (to : ℕ) → Report → ParserState
+state_after p to report = record (knowing p report) {
+  offset = to;
+  expects_header = false;
   bodies = missing_bodies report p.bodies;
   left = missing_bytes report (to - p.offset) p.left;
   in_code = reports_code report;

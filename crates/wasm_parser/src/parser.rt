@@ -11,7 +11,7 @@ ghost use Rattle.wasm_parser.specs.ParseAnswer.{Advances, AsksForSome, Consumes,
 ghost use Rattle.wasm_parser.specs.ParserState.{initial_state, is_at_section as at_section, skippable_of, skipped_state};
 ghost use Rattle.wasm_parser.specs.ReadsPart.{HasSection, IsBegun, ReadsAfterId, ReadsAfterLength, ReadsBody, ReadsContent, ReadsNext, ReadsNextSection, Refuses};
 ghost use Rattle.wasm_parser.specs.Skipped.{SkipsSection};
-ghost use Rattle.wasm_parser.specs.StateAfter.{missing_bytes};
+ghost use Rattle.wasm_parser.specs.StateAfter.{knowing, missing_bytes};
 ghost use Rattle.wasm_parser.specs.declared.payload.Encoding.TheVariants.{Module, Component};
 
 use crate::contents::{code, custom, data_count, items, lacks, start, unknown, window};
@@ -351,9 +351,30 @@ impl Parser {
         requires { end + missing_bytes (report_of payload.now) (end - self.old.offset) self.old.left < 2 ^ 64 }
         ensures { Advances self.old payload.now end self.new }
     {
+        self.learn(payload);
         let taken = end.saturating_sub(self.offset);
         self.offset = end;
         self.expects_header = false;
+        self.bodies = missing_bodies(payload, self.bodies);
+        self.left = missing_bytes(payload, taken, self.left);
+        self.in_code = is_of_code(payload);
+    }
+
+    // Learns what the parts to come must fit. Most parts of a stream say nothing of that.
+    fn learn(&mut self, payload: &Payload)
+        ensures { self.new ≡ knowing self.old (report_of payload.now) }
+    {
+        match payload {
+            Payload::CodeSectionEntry(_) => {}
+            Payload::CustomSection(_) => {}
+            Payload::UnknownSection { .. } => {}
+            _ => self.learn_of_section(payload),
+        }
+    }
+
+    fn learn_of_section(&mut self, payload: &Payload)
+        ensures { self.new ≡ knowing self.old (report_of payload.now) }
+    {
         let counted = id_and_count(payload);
         self.encoding = known_encoding(payload, self.encoding);
         self.rank = known_rank(payload, counted, self.rank);
@@ -361,9 +382,6 @@ impl Parser {
         self.codes = known_count(counted, CODE_SECTION, self.codes);
         self.datas = known_count(counted, DATA_SECTION, self.datas);
         self.data_counts = known_count(counted, DATA_COUNT_SECTION, self.data_counts);
-        self.bodies = missing_bodies(payload, self.bodies);
-        self.left = missing_bytes(payload, taken, self.left);
-        self.in_code = is_of_code(payload);
     }
 
     /// Reads what comes next in the stream of which these bytes are the rest, or the beginning of the rest.

@@ -1,7 +1,7 @@
-use Rattle.std.proofs.Common.{ℕ, false, ap, ◌∙◌}
+use Rattle.std.proofs.Common.{ℕ, ◌-◌, false, ap, ◌∙◌}
 use Rattle.wasm_base.specs.Features.{feature_bits}
 use Rattle.wasm_parser.specs.ParseAnswer.{report_of}
-use Rattle.wasm_parser.specs.StateAfter.{state_after, known_count, missing_bytes}
+use Rattle.wasm_parser.specs.StateAfter.{missing_bodies, missing_bytes, reports_code}
 use Rattle.wasm_parser.specs.ParserState.{ParserState}
 use Rattle.wasm_parser.proofs.Parsing.{advances}
 use Rattle.wasm_parser.proofs.parser.Parser.advance.Goals as goal
@@ -16,13 +16,19 @@ returns c =
       offset = c.args.end;
       features = feature_bits p.features;
       expects_header = false;
-      encoding = c.known_encoding-self-inside.ensures i;
-      rank = c.known_rank-self-inside.ensures i;
-      functions = (c.known_count-self-inside.ensures ∙ ap (λ t. known_count 3 t p.functions) c.id_and_count-counted.ensures) i;
-      codes = (c.known_count-self-inside-2.ensures ∙ ap (λ t. known_count 10 t p.codes) c.id_and_count-counted.ensures) i;
-      datas = (c.known_count-self-inside-3.ensures ∙ ap (λ t. known_count 11 t p.datas) c.id_and_count-counted.ensures) i;
-      data_counts = (c.known_count-self-inside-4.ensures ∙ ap (λ t. known_count 12 t p.data_counts) c.id_and_count-counted.ensures) i;
+      encoding = p.encoding;
+      rank = p.rank;
+      functions = p.functions;
+      codes = p.codes;
+      datas = p.datas;
+      data_counts = p.data_counts;
       bodies = c.missing_bodies-self-inside.ensures i;
       left = left i;
       in_code = c.is_of_code-self-inside.ensures i;
-    }) ∙ ap (λ (s : ParserState). state_after s c.args.end report) c.self.view_is)
+    }) ∙ ap (λ (s : ParserState). record s {
+      offset = c.args.end;
+      expects_header = false;
+      bodies = missing_bodies report s.bodies;
+      left = missing_bytes report (c.args.end - s.offset) s.left;
+      in_code = reports_code report;
+    }) (c.self.view_is ∙ c.learn.ensures))
