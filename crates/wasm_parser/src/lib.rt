@@ -9,8 +9,6 @@ mod parser;
 mod payload;
 mod sections;
 mod state;
-#[cfg(test)]
-mod tests;
 
 pub use parse_all::ParseAll;
 pub use parser::Parser;

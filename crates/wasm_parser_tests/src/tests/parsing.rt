@@ -1,6 +1,6 @@
 // Calls of the parser.
 use super::same;
-use crate::{Chunk, Encoding, Error, Fault, Parser, Payload};
+use wasm_parser::{Chunk, Encoding, Error, Fault, Parser, Payload};
 use std::test::Fail;
 
 pub(super) const HEADER: &[u8] = b"\0asm\x01\0\0\0";

@@ -1,7 +1,7 @@
 // Code sections, and the counts that they must match.
 use super::parsing::{after_header, refusal};
 use super::same;
-use crate::{Chunk, Error, Fault, Parser, Payload};
+use wasm_parser::{Chunk, Error, Fault, Parser, Payload};
 use std::ops::Range;
 use std::test::Fail;
 

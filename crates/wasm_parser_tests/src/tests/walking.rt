@@ -1,7 +1,7 @@
 // Walks over whole streams.
 use super::parsing::HEADER;
 use super::same;
-use crate::{Error, Fault, Parser, Payload};
+use wasm_parser::{Error, Fault, Parser, Payload};
 use std::test::Fail;
 
 #[test]

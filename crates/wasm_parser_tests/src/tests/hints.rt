@@ -1,6 +1,6 @@
 // How many missing bytes a fault of the parser hints at: those of the read that failed; none where a content is whole.
 use super::parsing::after_header;
-use crate::{Error, Parser};
+use wasm_parser::{Error, Parser};
 use std::test::Fail;
 
 // The hint of the fault that these bytes have, if there is one.

@@ -1,7 +1,7 @@
 // Calls of the parser on bytes after which more may come.
 use super::parsing::after_header;
 use super::same;
-use crate::{Chunk, Error, Fault, Parser, Payload};
+use wasm_parser::{Chunk, Error, Fault, Parser, Payload};
 use std::test::Fail;
 
 // What is answered: how many bytes a payload consumed, or how many more are asked for.

@@ -1,5 +1,5 @@
 // The imports of a payload, whose window has the features of the parser.
-use crate::{Error, Fault, Import, ImportSection, Parser, Payload, Result, TypeRef, WasmFeatures};
+use wasm_parser::{Error, Fault, Import, ImportSection, Parser, Payload, Result, TypeRef, WasmFeatures};
 use std::process::Abort;
 
 // A module whose import section has a group of two functions.

@@ -1,7 +1,7 @@
 // Payloads as debug text.
 use super::parsing::HEADER;
 use super::same;
-use crate::Parser;
+use wasm_parser::Parser;
 use std::alloc::Global;
 use std::process::Abort;
 use std::test::Fail;

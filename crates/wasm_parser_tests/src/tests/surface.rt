@@ -1,7 +1,7 @@
 // The calls of a parser beside `parse`, and the ids of payloads.
 use super::parsing::{HEADER, after_header};
 use super::same;
-use crate::{Chunk, Parser, Payload, WasmFeatures};
+use wasm_parser::{Chunk, Parser, Payload, WasmFeatures};
 use bitflags::Flags;
 use std::ops::Range;
 use std::process::Abort;

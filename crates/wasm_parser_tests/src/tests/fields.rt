@@ -1,6 +1,6 @@
 // Streams with fields of several bytes, other starts, other features, and two faults at once.
 use super::same;
-use crate::{Error, Fault, NumberKind, Parser, Payload, WasmFeatures};
+use wasm_parser::{Error, Fault, NumberKind, Parser, Payload, WasmFeatures};
 use std::process::Abort;
 use std::test::Fail;
 
