@@ -9,11 +9,11 @@ mod skips;
 mod subsections;
 mod texts;
 
-use wasm_base::{BinaryReader, CoreStart, Error, Fault, Lead, NumberKind, WasmFeatures, fits};
 use bitflags::Flags;
 use std::fmt::Debug;
 use std::process::Abort;
 use std::test::Fail;
+use wasm_base::{BinaryReader, CoreStart, Error, Fault, Lead, NumberKind, WasmFeatures, fits};
 
 // That a value is the one that is wanted.
 fn same<T: PartialEq + Debug + Drop>(rt: &impl Abort, found: T, wanted: T) {

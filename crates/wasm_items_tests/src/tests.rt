@@ -12,11 +12,11 @@ mod types;
 mod values;
 mod windows;
 
-use wasm_items::{ConstExpr, FunctionBody, HeapType, RefType, ValType};
 use std::fmt::Debug;
 use std::process::Abort;
 use std::test::Fail;
 use wasm_base::{BinaryReader, WasmFeatures};
+use wasm_items::{ConstExpr, FunctionBody, HeapType, RefType, ValType};
 
 // That a value is the one that is wanted.
 fn same<T: PartialEq + Debug + Drop>(rt: &impl Abort, found: T, wanted: T) {

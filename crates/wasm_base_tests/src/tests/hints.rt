@@ -1,8 +1,8 @@
 // How many missing bytes errors hint at.
 use super::same;
-use wasm_base::{BinaryReader, Fault, FromReader, Result, SectionLimited};
 use std::process::Abort;
 use std::test::Fail;
+use wasm_base::{BinaryReader, Fault, FromReader, Result, SectionLimited};
 
 // That an answer is this fault, and hints at so many missing bytes.
 fn hints<T: Drop>(rt: &impl Abort, answer: Result<T>, fault: Fault, hint: Option<usize>) {

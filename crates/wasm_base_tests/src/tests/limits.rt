@@ -1,4 +1,5 @@
 // Limits, and pages of memories.
+use std::test::Fail;
 use wasm_base::{
     _MAX_WASM_TABLE_SIZE, DEFAULT_WASM_PAGE_SIZE, MAX_WASM_BR_TABLE_SIZE, MAX_WASM_CATCHES,
     MAX_WASM_DATA_SEGMENTS, MAX_WASM_ELEMENT_SEGMENTS, MAX_WASM_EXPORTS, MAX_WASM_FUNCTION_LOCALS,
@@ -9,7 +10,6 @@ use wasm_base::{
     MAX_WASM_TABLES, MAX_WASM_TAGS, MAX_WASM_TYPE_SIZE, MAX_WASM_TYPES, is_page_size,
     max_wasm_memory32_pages, max_wasm_memory64_pages,
 };
-use std::test::Fail;
 
 #[test]
 fn limits_of_modules(rt: HostRuntime) -> Result<(), Fail> {

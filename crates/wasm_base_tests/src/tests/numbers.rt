@@ -1,7 +1,7 @@
 // Numbers of each kind, floats, and bytes that are passed over.
-use wasm_base::{BinaryReader, Error, Fault, NumberKind, Result, fits};
 use std::fmt::Debug;
 use std::process::Abort;
+use wasm_base::{BinaryReader, Error, Fault, NumberKind, Result, fits};
 
 /// Bytes, what reading them comes to, and how many of them were taken.
 type Row<'a, N> = (&'a [u8], Result<N>, usize);

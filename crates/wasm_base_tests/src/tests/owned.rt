@@ -3,11 +3,11 @@ ghost use Rattle.wasm_base.specs.Outcome.{Outcome};
 ghost use Rattle.wasm_base.specs.Window.{Place};
 
 use super::same;
+use std::alloc::Global;
+use std::test::Fail;
 use wasm_base::{
     BinaryReader, Error, Fault, FromReaderIn, Result, SectionLimited, read_list, read_list_in,
 };
-use std::alloc::Global;
-use std::test::Fail;
 
 fn reader(bytes: &'static [u8]) -> BinaryReader<'static> {
     BinaryReader::new(bytes, 0)

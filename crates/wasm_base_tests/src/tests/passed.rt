@@ -1,8 +1,8 @@
 // Numbers that are passed over, many at once.
-use wasm_base::{BinaryReader, Error, Fault, NumberKind, Result, fits};
 use std::alloc::Global;
 use std::process::Abort;
 use std::test::Fail;
+use wasm_base::{BinaryReader, Error, Fault, NumberKind, Result, fits};
 
 /// So many bytes 7f, the bytes after them, how many numbers are passed over, and where the reader is then, or why not.
 type Row<'a> = (usize, &'a [u8], u32, Result<u64>);

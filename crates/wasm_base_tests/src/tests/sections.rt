@@ -2,8 +2,8 @@
 ghost use Rattle.std.specs.Prelude.{◌+◌, ◌<◌, ◌^◌, length};
 
 use super::same;
-use wasm_base::{BinaryReader, Error, Fault, Result, SectionLimited};
 use std::test::Fail;
+use wasm_base::{BinaryReader, Error, Fault, Result, SectionLimited};
 
 fn section<'a, T>(bytes: &'a [u8], offset: u64) -> Result<SectionLimited<'a, T>>
     requires { offset + length bytes.now < 2 ^ 64 }

@@ -1,7 +1,7 @@
 // Floats, small bytes, and bytes that are passed over.
 use super::same;
-use wasm_base::{BinaryReader, Error, Fault, Ieee32, Ieee64, WasmFeatures};
 use std::test::Fail;
+use wasm_base::{BinaryReader, Error, Fault, Ieee32, Ieee64, WasmFeatures};
 
 fn reader(bytes: &'static [u8]) -> BinaryReader<'static> {
     BinaryReader::new_features(bytes, 0, WasmFeatures::MEMORY64)

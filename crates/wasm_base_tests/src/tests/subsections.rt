@@ -2,9 +2,11 @@
 ghost use Rattle.std.specs.Prelude.{⊤, ◌+◌, ◌<◌, ◌^◌, length};
 
 use super::same;
-use wasm_base::{BinaryReader, Error, Fault, NoMemory, NumberKind, Result, Subsection, Subsections};
 use std::alloc::Global;
 use std::test::Fail;
+use wasm_base::{
+    BinaryReader, Error, Fault, NoMemory, NumberKind, Result, Subsection, Subsections,
+};
 
 // An id, a number that the window begins with, and the offset after it.
 #[derive(Clone, Copy, Debug, PartialEq, Eq)]

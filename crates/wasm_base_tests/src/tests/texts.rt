@@ -1,6 +1,6 @@
 // The text of each fault, from the table that a reader of the crate has.
-use wasm_base::{CoreStart, Error, Fault, Lead, NumberKind};
 use std::process::Abort;
+use wasm_base::{CoreStart, Error, Fault, Lead, NumberKind};
 
 /// A fault and its text.
 type Row = (Fault, &'static str);

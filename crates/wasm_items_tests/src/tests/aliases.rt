@@ -1,13 +1,13 @@
 // Each name of a section is the section of its items.
 use super::same;
+use std::test::Fail;
+use wasm_base::{BinaryReader, SectionLimited};
 use wasm_items::{
     Data, DataSectionReader, Element, ElementSectionReader, Export, ExportSectionReader,
     FunctionSectionReader, Global, GlobalSectionReader, ImportSectionReader, Imports,
     MemorySectionReader, MemoryType, RecGroup, Table, TableSectionReader, TagSectionReader,
     TagType, TypeSectionReader,
 };
-use std::test::Fail;
-use wasm_base::{BinaryReader, SectionLimited};
 
 fn types(section: SectionLimited<'_, RecGroup>) -> u32 {
     section.count()

@@ -1,8 +1,8 @@
 // Constant expressions.
 use super::reading::{expressions, leading, refuses};
-use wasm_items::ConstExpr;
 use bitflags::Flags;
 use wasm_base::{Error, Fault, Lead, NumberKind, WasmFeatures};
+use wasm_items::ConstExpr;
 
 #[test]
 fn instructions_up_to_the_end(rt: HostRuntime) {

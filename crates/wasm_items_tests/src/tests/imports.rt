@@ -1,14 +1,14 @@
 // Imports, and the groups of them.
 use super::reading::{leading, read, reads, refuses};
 use super::same;
-use wasm_items::{
-    GlobalType, Import, ImportSection, ImportSectionReader, Imports, MemoryType, TagKind, TagType,
-    TypeRef, ValType,
-};
 use bitflags::Flags;
 use std::process::Abort;
 use std::test::Fail;
 use wasm_base::{BinaryReader, Error, Fault, Lead, Result, WasmFeatures, fits};
+use wasm_items::{
+    GlobalType, Import, ImportSection, ImportSectionReader, Imports, IntoImports,
+    IntoImportsWithOffsets, MemoryType, TagKind, TagType, TypeRef, ValType,
+};
 
 fn import<'a>(module: &'a str, name: &'a str, ty: TypeRef) -> Import<'a> {
     Import { module, name, ty }
@@ -34,6 +34,28 @@ fn tag(index: u32) -> TypeRef {
     })
 }
 
+fn come_with_offsets<'a>(
+    rt: &impl Abort,
+    mut given: IntoImportsWithOffsets<'a>,
+    imports: &[Result<(u64, Import<'a>)>],
+) {
+    for import in imports {
+        same(rt, given.next(), Some(*import));
+    }
+    for _ in 0..4 {
+        same(rt, given.next(), None);
+    }
+}
+
+fn come<'a>(rt: &impl Abort, mut given: IntoImports<'a>, imports: &[Result<(u64, Import<'a>)>]) {
+    for import in imports {
+        same(rt, given.next(), Some((*import).map(|with| with.1)));
+    }
+    for _ in 0..4 {
+        same(rt, given.next(), None);
+    }
+}
+
 // The imports of a section are these, with their offsets and without, and then nothing.
 fn flattens<'a>(
     rt: &impl Abort,
@@ -45,25 +67,8 @@ fn flattens<'a>(
     assert!(rt; fits(offset, bytes.len()));
     match ImportSectionReader::new(BinaryReader::new_features(bytes, offset, features)) {
         Ok(section) => {
-            let mut alone = section.clone().unwrap().into_imports();
-            let mut with_offsets = section.into_imports_with_offsets();
-            for import in imports {
-                match (with_offsets.next(), alone.next()) {
-                    (Some(one), Some(other)) => {
-                        assert!(rt; one == *import, "{one:?} is given of {bytes:?}");
-                        same(
-                            &rt,
-                            other.map(|other| (0, other)),
-                            one.map(|one| (0, one.1)),
-                        );
-                    }
-                    _ => assert!(rt; false, "too few are given of {bytes:?}"),
-                }
-            }
-            for _ in 0..3 {
-                assert_eq!(rt; with_offsets.next(), None, "of {bytes:?}");
-                assert_eq!(rt; alone.next(), None, "of {bytes:?}");
-            }
+            come(rt, section.clone().unwrap().into_imports(), imports);
+            come_with_offsets(rt, section.into_imports_with_offsets(), imports);
         }
         Err(e) => assert!(rt; false, "{e}"),
     }

@@ -1,10 +1,10 @@
 // Element segments with long lists of indices, most of them of one byte.
 use super::same;
-use wasm_items::{Element, ElementItems};
 use std::alloc::Global;
 use std::process::Abort;
 use std::test::Fail;
 use wasm_base::{BinaryReader, Error, Fault, FromReader, NumberKind, fits};
+use wasm_items::{Element, ElementItems};
 
 /// The indices that a passive segment announces, how many of one byte come first and which, and the bytes after them.
 type Segment<'a> = (u8, u8, u8, &'a [u8]);

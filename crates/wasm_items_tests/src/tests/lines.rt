@@ -1,12 +1,15 @@
 // What reading comes to, as a line: the item and how many bytes it took, or the fault.
-use wasm_items::{
-    CompositeType, Data, DataKind, Element, ElementItems, ElementKind, FieldType, HeapType,
-    RecGroup, RefType, StorageType, SubType, ValType,
-};
 use std::alloc::Global;
+use std::fmt::Write;
 use std::process::Abort;
 use std::test::Fail;
-use wasm_base::{BinaryReader, Error, FromReader, FromReaderIn, WasmFeatures, fits};
+use wasm_base::{
+    BinaryReader, Error, FromReader, FromReaderIn, SectionLimited, WasmFeatures, fits,
+};
+use wasm_items::{
+    CompositeType, ConstExpr, Data, DataKind, Element, ElementItems, ElementKind, FieldType,
+    FuncType, HeapType, RecGroup, RefType, StorageType, SubType, ValType,
+};
 
 pub fn fault(alloc: Global, e: Error) -> Result<String, Fail> {
     let (offset, message) = (e.offset(), e.message());
@@ -85,21 +88,27 @@ fn fields(alloc: Global, types: &[FieldType]) -> Result<String, Fail> {
     Ok(line)
 }
 
+fn function(alloc: Global, ty: &FuncType) -> Result<String, Fail> {
+    let params = values(alloc, ty.params.as_slice())?;
+    let results = values(alloc, ty.results.as_slice())?;
+    Ok(format!(in alloc; "func({params} {results} )")?)
+}
+
+fn array(alloc: Global, element: FieldType) -> Result<String, Fail> {
+    let element = field(alloc, element)?;
+    Ok(format!(in alloc; "array {element}")?)
+}
+
+fn structure(alloc: Global, parts: &[FieldType]) -> Result<String, Fail> {
+    let parts = fields(alloc, parts)?;
+    Ok(format!(in alloc; "struct {parts}")?)
+}
+
 fn composite(alloc: Global, ty: &CompositeType) -> Result<String, Fail> {
     match ty {
-        CompositeType::Func(function) => {
-            let params = values(alloc, function.params.as_slice())?;
-            let results = values(alloc, function.results.as_slice())?;
-            Ok(format!(in alloc; "func({params} {results} )")?)
-        }
-        CompositeType::Array(element) => {
-            let element = field(alloc, *element)?;
-            Ok(format!(in alloc; "array {element}")?)
-        }
-        CompositeType::Struct(parts) => {
-            let parts = fields(alloc, parts.as_slice())?;
-            Ok(format!(in alloc; "struct {parts}")?)
-        }
+        CompositeType::Func(ty) => function(alloc, ty),
+        CompositeType::Array(element) => array(alloc, *element),
+        CompositeType::Struct(parts) => structure(alloc, parts.as_slice()),
     }
 }
 
@@ -140,30 +149,43 @@ fn element_kind(alloc: Global, kind: &ElementKind<'_>) -> Result<String, Fail> {
     }
 }
 
+fn indices(alloc: Global, section: SectionLimited<'_, u32>) -> Result<String, Fail> {
+    let (range, count) = (section.range(), section.count());
+    let mut line = format!(in alloc; "{range:?} #{count}[")?;
+    for item in section.into_iter_with_offsets() {
+        let (offset, index) = item?;
+        write!(line, "{offset}:{index} ")?;
+    }
+    line.push_str("]")?;
+    Ok(line)
+}
+
+fn expressions(alloc: Global, section: SectionLimited<'_, ConstExpr>) -> Result<String, Fail> {
+    let (range, count) = (section.range(), section.count());
+    let mut line = format!(in alloc; "{range:?} #{count}[")?;
+    for item in section.into_iter_with_offsets() {
+        let (offset, expression) = item?;
+        let range = expression.range();
+        write!(line, "{offset}:{range:?} ")?;
+    }
+    line.push_str("]")?;
+    Ok(line)
+}
+
+fn expressions_of(
+    alloc: Global,
+    ty: RefType,
+    section: SectionLimited<'_, ConstExpr>,
+) -> Result<String, Fail> {
+    let ty = reference(alloc, ty)?;
+    let list = expressions(alloc, section)?;
+    Ok(format!(in alloc; "{ty} {list}")?)
+}
+
 fn elements(alloc: Global, items: ElementItems<'_>) -> Result<String, Fail> {
     match items {
-        ElementItems::Functions(section) => {
-            let (range, count) = (section.range(), section.count());
-            let mut line = format!(in alloc; "{range:?} #{count}[")?;
-            for item in section.into_iter_with_offsets() {
-                let (offset, index) = item?;
-                line.push_str(format!(in alloc; "{offset}:{index} ")?.as_str())?;
-            }
-            line.push_str("]")?;
-            Ok(line)
-        }
-        ElementItems::Expressions(ty, section) => {
-            let (range, count) = (section.range(), section.count());
-            let ty = reference(alloc, ty)?;
-            let mut line = format!(in alloc; "{ty} {range:?} #{count}[")?;
-            for item in section.into_iter_with_offsets() {
-                let (offset, expression) = item?;
-                let range = expression.range();
-                line.push_str(format!(in alloc; "{offset}:{range:?} ")?.as_str())?;
-            }
-            line.push_str("]")?;
-            Ok(line)
-        }
+        ElementItems::Functions(section) => indices(alloc, section),
+        ElementItems::Expressions(ty, section) => expressions_of(alloc, ty, section),
     }
 }
 
@@ -187,9 +209,9 @@ fn data(alloc: Global, segment: &Data<'_>) -> Result<String, Fail> {
         }
     };
     for byte in segment.bytes {
-        line.push_str(format!(in alloc; "{byte:02x}")?.as_str())?;
+        write!(line, "{byte:02x}")?;
     }
-    line.push_str(format!(in alloc; " {range:?} )")?.as_str())?;
+    write!(line, " {range:?} )")?;
     Ok(line)
 }
 

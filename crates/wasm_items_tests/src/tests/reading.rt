@@ -1,9 +1,9 @@
 // How tables of tests read items.
-use wasm_items::ConstExpr;
 use bitflags::Flags;
 use std::fmt::Debug;
 use std::process::Abort;
 use wasm_base::{BinaryReader, Error, Fault, FromReader, Lead, Result, WasmFeatures, fits};
+use wasm_items::ConstExpr;
 
 // What reading an item comes to, and where the reader is then.
 pub fn read<'a, T: FromReader<'a>>(

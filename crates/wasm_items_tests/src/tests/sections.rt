@@ -1,14 +1,14 @@
 // Items of tables, memories, globals, tags and exports.
 use super::reading::{leading, read, reads, refuses};
 use super::same;
-use wasm_items::{
-    Export, ExternalKind, Global, GlobalType, HeapType, MemoryType, RefType, Table, TableInit,
-    TableType, TagKind, TagType, ValType,
-};
 use bitflags::Flags;
 use std::ops::Range;
 use std::process::Abort;
 use wasm_base::{Error, Fault, Lead, NumberKind, Result, WasmFeatures};
+use wasm_items::{
+    Export, ExternalKind, Global, GlobalType, HeapType, MemoryType, RefType, Table, TableInit,
+    TableType, TagKind, TagType, ValType,
+};
 
 fn memory(initial: u64, maximum: Option<u64>, page_size_log2: Option<u32>) -> MemoryType {
     MemoryType {

@@ -1,8 +1,8 @@
 // Types of values, references and heaps.
 use super::reading::{leading, reads, refuses};
-use wasm_items::{HeapType, RefType, ValType};
 use bitflags::Flags;
 use wasm_base::{Error, Fault, Lead, NumberKind, WasmFeatures};
+use wasm_items::{HeapType, RefType, ValType};
 
 fn nullable(heap: HeapType) -> RefType {
     RefType {

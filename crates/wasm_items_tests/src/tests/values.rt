@@ -2,12 +2,12 @@
 ghost use Rattle.std.specs.Prelude.{◌≡◌};
 
 use super::same;
+use std::test::Fail;
+use wasm_base::{BinaryReader, SectionLimited};
 use wasm_items::{
     ConstExpr, Data, DataKind, Element, ElementItems, ElementKind, FunctionBody, Global,
     GlobalType, Imports, MemoryType, RefType, Table, TableInit, TableType, TypeRef, ValType,
 };
-use std::test::Fail;
-use wasm_base::{BinaryReader, SectionLimited};
 
 fn copy_of_expression<'a>(expression: &ConstExpr<'a>) -> ConstExpr<'a>
     ensures { result ≡ expression.now }

@@ -1,12 +1,12 @@
 // An enum holds each kind of section, as a parser's answer does.
 use super::same;
+use std::test::Fail;
+use wasm_base::{BinaryReader, Result, SectionLimited};
 use wasm_items::{
     DataSectionReader, ElementSectionReader, ExportSectionReader, FunctionBody,
     FunctionSectionReader, GlobalSectionReader, ImportSectionReader, MemorySectionReader,
     TableSectionReader, TagSectionReader, TypeSectionReader,
 };
-use std::test::Fail;
-use wasm_base::{BinaryReader, Result, SectionLimited};
 
 #[derive(Drop)]
 enum Held<'a> {

@@ -1,9 +1,9 @@
 // Code sections, and the counts that they must match.
 use super::parsing::{after_header, refusal};
 use super::same;
-use wasm_parser::{Chunk, Error, Fault, Parser, Payload};
 use std::ops::Range;
 use std::test::Fail;
+use wasm_parser::{Chunk, Error, Fault, Parser, Payload};
 
 // A parser after a module's header and this section.
 fn after(section: &[u8]) -> Result<Parser, Error> {

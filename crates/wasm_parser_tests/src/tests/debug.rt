@@ -1,10 +1,10 @@
 // Payloads as debug text.
 use super::parsing::HEADER;
 use super::same;
-use wasm_parser::Parser;
 use std::alloc::Global;
 use std::process::Abort;
 use std::test::Fail;
+use wasm_parser::Parser;
 
 // What the parser answers on these bytes is printed so, after its first words.
 fn is_printed(

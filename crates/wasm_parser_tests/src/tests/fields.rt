@@ -1,8 +1,8 @@
 // Streams with fields of several bytes, other starts, other features, and two faults at once.
 use super::same;
-use wasm_parser::{Error, Fault, NumberKind, Parser, Payload, WasmFeatures};
 use std::process::Abort;
 use std::test::Fail;
+use wasm_parser::{Error, Fault, NumberKind, Parser, Payload, WasmFeatures};
 
 // The fault at which a stream ends, if it does.
 fn fault_of(stream: &[u8], start: u64) -> Option<Error> {

@@ -1,7 +1,7 @@
 // How many missing bytes a fault of the parser hints at: those of the read that failed; none where a content is whole.
 use super::parsing::after_header;
-use wasm_parser::{Error, Parser};
 use std::test::Fail;
+use wasm_parser::{Error, Parser};
 
 // The hint of the fault that these bytes have, if there is one.
 fn hint(parser: &mut Parser, bytes: &[u8]) -> Option<usize> {

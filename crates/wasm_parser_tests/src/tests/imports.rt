@@ -1,6 +1,8 @@
 // The imports of a payload, whose window has the features of the parser.
-use wasm_parser::{Error, Fault, Import, ImportSection, Parser, Payload, Result, TypeRef, WasmFeatures};
 use std::process::Abort;
+use wasm_parser::{
+    Error, Fault, Import, ImportSection, Parser, Payload, Result, TypeRef, WasmFeatures,
+};
 
 // A module whose import section has a group of two functions.
 const GROUP: &[u8] = b"\0asm\x01\0\0\0\x02\x0e\x01\x01m\0\x7f\x02\x01a\0\x03\x01b\0\x04";

@@ -1,7 +1,7 @@
 // Calls of the parser.
 use super::same;
-use wasm_parser::{Chunk, Encoding, Error, Fault, Parser, Payload};
 use std::test::Fail;
+use wasm_parser::{Chunk, Encoding, Error, Fault, Parser, Payload};
 
 pub(super) const HEADER: &[u8] = b"\0asm\x01\0\0\0";
 

@@ -1,8 +1,8 @@
 // Calls of the parser on bytes after which more may come.
 use super::parsing::after_header;
 use super::same;
-use wasm_parser::{Chunk, Error, Fault, Parser, Payload};
 use std::test::Fail;
+use wasm_parser::{Chunk, Error, Fault, Parser, Payload};
 
 // What is answered: how many bytes a payload consumed, or how many more are asked for.
 #[derive(Clone, Copy, Debug, PartialEq, Eq)]

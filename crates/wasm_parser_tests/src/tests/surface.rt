@@ -1,11 +1,11 @@
 // The calls of a parser beside `parse`, and the ids of payloads.
 use super::parsing::{HEADER, after_header};
 use super::same;
-use wasm_parser::{Chunk, Parser, Payload, WasmFeatures};
 use bitflags::Flags;
 use std::ops::Range;
 use std::process::Abort;
 use std::test::Fail;
+use wasm_parser::{Chunk, Parser, Payload, WasmFeatures};
 
 #[test]
 fn headers_are_distinguished(rt: HostRuntime) -> Result<(), Fail> {

@@ -1,8 +1,8 @@
 // Walks over whole streams.
 use super::parsing::HEADER;
 use super::same;
-use wasm_parser::{Error, Fault, Parser, Payload};
 use std::test::Fail;
+use wasm_parser::{Error, Fault, Parser, Payload};
 
 #[test]
 fn a_walk_ends_after_the_end(rt: HostRuntime) -> Result<(), Fail> {
