@@ -392,7 +392,8 @@ impl Parser {
     /// ```
     ///
     /// A fault is reported at its offset in the whole stream, and leaves the parser unchanged: the faults of a header, of a
-    /// section's id, length, order and first fields, of a body's size, and of counts that don't match. `OffsetRange` at
+    /// section's id, length, order and first fields, of a body's size, and of counts that don't match. A body that passes its
+    /// section is refused as soon as its size has been read, with `UnexpectedEof` at the body's start. `OffsetRange` at
     /// the parser's offset, where the bytes pass the offsets of a stream.
     pub fn parse<'a>(&mut self, bytes: &'a [u8], eof: bool) -> Result<Chunk<'a>>
         ensures answers { ParseAnswer self.old eof bytes.now result self.new }
@@ -475,11 +476,21 @@ impl Parser {
             return Err(Error::new(Fault::TrailingCode, start));
         }
         let size = reader.read_var_u32()?;
-        let window = window(size, reader)?;
-        if reader.original_position() - start > u64::from(self.left) {
+        if passes(self.left, reader.original_position() - start, size) {
             return Err(Error::new(Fault::UnexpectedEof, start));
         }
+        let window = window(size, reader)?;
         Ok(Payload::CodeSectionEntry(FunctionBody::new(window)))
+    }
+}
+
+// Whether a field of so many bytes, and the bytes that it counts, are more than are left.
+fn passes(left: u32, width: u64, size: u32) -> bool
+    ensures { result ≡ nat_lt left (width + size) }
+{
+    match u64::from(left).checked_sub(width) {
+        Some(room) => u64::from(size) > room,
+        None => true,
     }
 }
 
