@@ -12,6 +12,7 @@ ghost use Rattle.wasm_parser.specs.ParserState.{initial_state, is_at_section as 
 ghost use Rattle.wasm_parser.specs.ReadsPart.{HasSection, IsBegun, ReadsAfterId, ReadsAfterLength, ReadsBody, ReadsContent, ReadsNext, ReadsNextSection, Refuses};
 ghost use Rattle.wasm_parser.specs.Skipped.{SkipsSection};
 ghost use Rattle.wasm_parser.specs.StateAfter.{missing_bytes};
+ghost use Rattle.wasm_parser.specs.Undecided.{AsksWhereOpen};
 ghost use Rattle.wasm_parser.specs.declared.payload.Encoding.TheVariants.{Module, Component};
 
 use crate::contents::{code, custom, data_count, items, lacks, start, unknown, window};
@@ -370,7 +371,8 @@ impl Parser {
     ///
     /// `eof` says that no bytes come after these, so that missing bytes are a fault. Without it, `NeedMoreData` is answered
     /// while these bytes don't decide what comes next, and leaves the parser unchanged: the caller hands in the same bytes
-    /// again with more after them. Whatever is answered otherwise would be answered with more bytes too.
+    /// again with more after them. Whatever is answered otherwise would be answered with more bytes too; and no parser could
+    /// answer sooner, since more is asked for exactly where two streams that begin so have different next events.
     ///
     /// The parser is then after what it read, `consumed` bytes further; a caller hands in the bytes after those:
     ///
@@ -400,6 +402,7 @@ impl Parser {
         ensures gives { GivesNextEvent self.old eof bytes.now result self.new }
         ensures consumes { Consumes bytes.now result }
         ensures asks { AsksForSome result }
+        ensures waits { AsksWhereOpen self.old eof bytes.now result }
         ensures faults { FaultsWithin self.old bytes.now result }
         ensures unchanged { IsUnchanged self.old result self.new }
     {

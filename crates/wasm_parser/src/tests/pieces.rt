@@ -149,7 +149,11 @@ fn bodies_past_their_section(rt: HostRuntime) -> Result<(), Fail> {
         ),
         (b"\x0a\x04\x01", b"\x02", Answer::Asks(2)),
         (b"\x0a\x04\x01", b"\x03", refuses(Fault::UnexpectedEof, 15)),
-        (b"\x0a\x04\x01", b"\x83\0", refuses(Fault::UnexpectedEof, 15)),
+        (
+            b"\x0a\x04\x01",
+            b"\x83\0",
+            refuses(Fault::UnexpectedEof, 15),
+        ),
         (b"\x0a\x01\x01", b"", Answer::Asks(1)),
         (b"\x0a\x01\x01", b"\0", refuses(Fault::UnexpectedEof, 15)),
     ];
