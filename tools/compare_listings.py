@@ -4,7 +4,8 @@
     compare_listings.py [SEED] [COUNT] [--model PATH] [--show N]
 
 The model is the one below, which knows the rules of framing and nothing of the program, or another one: a Python
-file with `reading(stream, offset)`, which gives the lines of a listing.
+file with `reading(stream, offset, at_once)`, which gives the lines of a listing, and is called with True: a body that passes
+its section is refused as soon as its size has been read.
 """
 import importlib.util
 import os
@@ -105,10 +106,10 @@ def code(data, start, end, counts):
     yield "code %d %d %d %d" % (start, end, count, end - place)
     for _ in range(count):
         size, body = number(data, place, len(data))
-        if body + size > len(data):
-            raise Stop(body, EOF)
         if body + size > end:
             raise Stop(place, EOF)
+        if body + size > len(data):
+            raise Stop(body, EOF)
         place = body + size
         yield "body %d %d" % (body, place)
     if place < end:
@@ -328,7 +329,7 @@ def load(path):
     spec = importlib.util.spec_from_file_location("other_model", path)
     other = importlib.util.module_from_spec(spec)
     spec.loader.exec_module(other)
-    return lambda data: other.reading(data, 0)
+    return lambda data: other.reading(data, 0, True)
 
 
 def compare(program, listing, data):

@@ -1,11 +1,12 @@
 #!/usr/bin/env python3
 """Reads streams in pieces with the built program crates/wasm_show_items, and compares what it says with a model.
 
-    compare_pieces.py [SEED] [COUNT] --model PATH [--r13] [--show N] [--short DEPTH]
+    compare_pieces.py [SEED] [COUNT] --model PATH [--show N] [--short DEPTH]
 
-The model is a Python file with `State(offset, r13)`, `short(state, stream, place)`, which is None or begins with a hint,
+The model is a Python file with `State(offset, at_once)`, `short(state, stream, place)`, which is None or begins with a hint,
 `next_event(state, stream, place)`, which gives a listing's line, the bytes that it takes and the state after it, and
-`Fault`, an exception with `line()`. Each stream is cut at random, byte by byte, and with empty pieces between. Compared
+`Fault`, an exception with `line()`. `at_once` is True: a body that passes its section is refused as soon as its size has
+been read. Each stream is cut at random, byte by byte, and with empty pieces between. Compared
 are the events, and of each step of a feeder the request or the bytes it consumed, what is then held, and what is stored.
 With --short all streams are read that go on from some beginnings by up to DEPTH bytes, byte by byte.
 """
@@ -58,8 +59,8 @@ def event_text(line, data):
     return (line if words[0] == "fault" else words[0]) + " %s..%s x" % (words[1], words[1])
 
 
-def expected_events(model, stream, offset, r13):
-    state, place, out = model.State(offset, r13), 0, []
+def expected_events(model, stream, offset):
+    state, place, out = model.State(offset, True), 0, []
     while True:
         try:
             line, used, state = model.next_event(state, stream, place)
@@ -71,8 +72,8 @@ def expected_events(model, stream, offset, r13):
         place += used
 
 
-def expected_steps(model, pieces, offset, r13):
-    state, place, given, stored, eof, out, lasts = model.State(offset, r13), 0, b"", 0, False, [], 0
+def expected_steps(model, pieces, offset):
+    state, place, given, stored, eof, out, lasts = model.State(offset, True), 0, b"", 0, False, [], 0
     later = iter(pieces)
     while lasts < 2:
         request = None if eof else model.short(state, given, place)
@@ -137,9 +138,8 @@ def run(cases):
 def main():
     words = sys.argv[1:]
     options = {"--model": None, "--show": "5", "--short": None}
-    r13 = "--r13" in words
     plain = []
-    rest = iter(word for word in words if word != "--r13")
+    rest = iter(words)
     for word in rest:
         if word in options:
             options[word] = next(rest)
@@ -163,9 +163,9 @@ def main():
             for pieces in cuttings:
                 stream = b"".join(pieces)
                 cases.append(case("events", offset, pieces))
-                expected.append(expected_events(model, stream, offset, r13))
+                expected.append(expected_events(model, stream, offset))
                 cases.append(case("steps", offset, pieces))
-                expected.append(expected_steps(model, pieces, offset, r13))
+                expected.append(expected_steps(model, pieces, offset))
         for bytes_of, line, wanted in zip(cases, run(cases), expected):
             said = [part for part in line.split("; ") if part]
             compared += 1

@@ -4,8 +4,8 @@
     compare_pipe.py [SEED] [SECONDS] --model PATH
 
 After each byte the program has written the lines of the events that the bytes so far decide, and no others; at the end of the
-stream all its lines. The model is a Python file, as `compare_pieces.py` says, with `reading(stream, offset)`, the lines of a
-listing.
+stream all its lines. The model is a Python file, as `compare_pieces.py` says, with `reading(stream, offset, at_once)`,
+the lines of a listing.
 """
 import importlib.util
 import os
@@ -25,7 +25,7 @@ LONGEST = 3000
 
 def decided(model, stream):
     """The lines of the events that these bytes decide, and whether the last is among them."""
-    state, place, out = model.State(0), 0, []
+    state, place, out = model.State(0, True), 0, []
     while model.short(state, stream, place) is None:
         try:
             line, used, state = model.next_event(state, stream, place)
@@ -69,7 +69,7 @@ def differs(model, stream):
     child.stdin.close()
     child.wait()
     got += child.stdout.read() or b""
-    wanted = text(model.reading(stream, 0))
+    wanted = text(model.reading(stream, 0, True))
     return None if got == wanted else (len(stream), got, wanted)
 
 

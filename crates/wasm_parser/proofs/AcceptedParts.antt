@@ -190,10 +190,10 @@ pub body_parts : (m l o : ℕ) (xs : List ℕ) (t : Tile) → verdict (body_gram
 unfolding body_grammar verdict
 body_parts zero l o xs t h = cc
 body_parts (suc m) l o xs t h =
-    let n : NumberParts (λ size width. bytes size (o + width) (λ content. check (when (nat_lt l (width + size)) (at_offset UnexpectedEof o)) (accept (code_entry content)))) t = number_parts o _ xs t h in
-    let b : BytesParts n.value (λ content. check (when (nat_lt l (length n.field + n.value)) (at_offset UnexpectedEof o)) (accept (code_entry content))) n.rest = bytes_parts n.value (o + length n.field) _ n.others n.rest n.goes_on in
-    let a : ((when (nat_lt l (length n.field + n.value)) (at_offset UnexpectedEof o) ≡ None) × (verdict (accept (code_entry b.prefix)) b.others ≡ tile b.rest)) = refuse_parts _ _ b.others b.rest b.goes_on in
-    let r : n.rest ≡ made (code_entry b.prefix) b.prefix = ends_there n.rest b.rest (code_entry b.prefix) b.prefix b.is (takes_parts _ b.others b.rest a.1) in
+    let n : NumberParts (λ size width. check (when (nat_lt l (width + size)) (at_offset UnexpectedEof o)) (bytes size (o + width) (λ content. accept (code_entry content)))) t = number_parts o _ xs t h in
+    let a : ((when (nat_lt l (length n.field + n.value)) (at_offset UnexpectedEof o) ≡ None) × (verdict (bytes n.value (o + length n.field) (λ content. accept (code_entry content))) n.others ≡ tile n.rest)) = refuse_parts _ _ n.others n.rest n.goes_on in
+    let b : BytesParts n.value (λ content. accept (code_entry content)) n.rest = bytes_parts n.value (o + length n.field) _ n.others n.rest a.1 in
+    let r : n.rest ≡ made (code_entry b.prefix) b.prefix = ends_there n.rest b.rest (code_entry b.prefix) b.prefix b.is (takes_parts _ b.others b.rest b.goes_on) in
     record {
       others = m;
       missing = refl;

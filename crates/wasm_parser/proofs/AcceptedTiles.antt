@@ -206,9 +206,9 @@ pub body_tile : (m l o : ℕ) (field content : List ℕ) → IsNumber field (len
 unfolding body_grammar
 body_tile m l o field content e h =
     number_tile o _ field content (length content) (code_entry content) content e
+    (when_tile (nat_lt l (length field + length content)) _ _ content _ (le-ltb l (length field + length content) h)
     (all_of_it _ (code_entry content) content
-    (bytes_tile (length content) (o + length field) _ content [] (code_entry content) [] refl
-    (when_tile (nat_lt l (length field + length content)) _ _ [] _ (le-ltb l (length field + length content) h) (takes_tile (code_entry content) []))))
+    (bytes_tile (length content) (o + length field) _ content [] (code_entry content) [] refl (takes_tile (code_entry content) []))))
 
 -- the version of an encoding
 abbrev pub header_version : Encoding → ℕ

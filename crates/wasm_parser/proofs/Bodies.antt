@@ -13,7 +13,7 @@ use Rattle.wasm_parser.specs.ParseAnswer.{IsPayload, MatchesGrammar, ReadsByGram
 use Rattle.wasm_parser.specs.Content.{when}
 use Rattle.wasm_parser.specs.ReadsPart.{content_at}
 use Rattle.wasm_parser.specs.Grammar
-use Rattle.wasm_parser.specs.Grammar.{SectionContext, Grammar, accept, check, u32_field, wrong_count, code_grammar, body_of, body_grammar}
+use Rattle.wasm_parser.specs.Grammar.{SectionContext, Grammar, accept, check, u32_field, bytes, wrong_count, code_grammar, body_of, body_grammar}
 use Rattle.wasm_parser.specs.Reading.{code_start, code_entry}
 use Rattle.wasm_parser.specs.declared.payload.Payload.{Payload}
 use Rattle.wasm_parser.proofs.Framed.{HasContent, has_content, too_few}
@@ -108,47 +108,50 @@ no_body_left (suc n) left p e a z f hint = absurd (omega arith)
 pub body_no_size : (bodies left : ℕ) (p : Place) (e : Error) (a : Place) → 0 < bodies → unsigned_at VarU32 p ≡ Err (fault_at e) → hint_of e ≡ hint_at 1 (fault_at e).fault → ReadsByGrammar (body_grammar bodies left p.offset) p (Err e) a
 body_no_size bodies left p e a l h hint = body_there bodies left p (Err e) a l (λ s. report_no_number s p (λ size width. body_of p.offset left size width) e a h hint)
 
--- bytes that are missing
-pub body_missing : (bodies left : ℕ) (p q : Place) (size : ℕ) (e : Error) (a : Place) → 0 < bodies → unsigned_at VarU32 p ≡ Ok (size, q) → content_at size q ≡ Err (fault_at e) → hint_of e ≡ hint_at (missing_at size q) (fault_at e).fault → ReadsByGrammar (body_grammar bodies left p.offset) p (Err e) a
-body_missing bodies left p q size e a l h c hint =
+-- after a size, by whether the body passes its section
+body_sized : (bodies left : ℕ) (p q : Place) (size : ℕ) (past : Bool) (r : Result Payload Error) (a : Place) (m : ReadNumber p size q) → 0 < bodies → nat_lt left (q.offset - p.offset + size) ≡ past
+    → ((s : ℕ) → MatchesGrammar s (advanced m.used p) (check (when past (at_offset UnexpectedEof p.offset)) (bytes size (p.offset + m.used) (λ content. accept (Grammar.code_entry content)))) r a)
+    → ReadsByGrammar (body_grammar bodies left p.offset) p r a
+body_sized bodies left p q size past r a m l h next =
+    let o : q.offset ≡ p.offset + m.used = ap (λ (x : Place). x.offset) m.after in
+    let n : q.offset - p.offset + size ≡ m.used + size = omega arith in
+    let w : nat_lt left (m.used + size) ≡ past = subst (λ (x : ℕ). nat_lt left x ≡ past) n h in
+    body_there bodies left p r a l (λ s. report_number s p p.offset (λ size width. body_of p.offset left size width) r a size m.used m.reads (rw w (next s)))
+
+-- whether a body passes its section, by the same numbers
+pub past_same : {l left b q a p : ℕ} {found past : Bool} (size : ℕ) → l ≡ left → b ≡ q → a ≡ p → found ≡ nat_lt l (b - a + size) → found ≡ past → nat_lt left (q - p + size) ≡ past
+past_same size x y z e f = (λ i. nat_lt (sym x i) (sym y i - sym z i + size)) ∙ (sym e ∙ f)
+
+-- a body that passes its section
+pub body_past : (bodies left : ℕ) (p q : Place) (size : ℕ) (e : Error) (a : Place) → 0 < bodies → unsigned_at VarU32 p ≡ Ok (size, q) → nat_lt left (q.offset - p.offset + size) ≡ true
+    → fault_at e ≡ at_offset UnexpectedEof p.offset → hint_of e ≡ None → ReadsByGrammar (body_grammar bodies left p.offset) p (Err e) a
+body_past bodies left p q size e a l h past f hint =
+    let m : ReadNumber p size q = read_number p size q h in
+    body_sized bodies left p q size true (Err e) a m l past (λ s. report_wrong s (advanced m.used p) (Some (at_offset UnexpectedEof p.offset)) _ e a (ap Some (sym f)) hint)
+
+-- bytes that are missing of a body that lies in its section
+pub body_missing : (bodies left : ℕ) (p q : Place) (size : ℕ) (e : Error) (a : Place) → 0 < bodies → unsigned_at VarU32 p ≡ Ok (size, q) → nat_lt left (q.offset - p.offset + size) ≡ false
+    → content_at size q ≡ Err (fault_at e) → hint_of e ≡ hint_at (missing_at size q) (fault_at e).fault → ReadsByGrammar (body_grammar bodies left p.offset) p (Err e) a
+body_missing bodies left p q size e a l h past c hint =
     let m : ReadNumber p size q = read_number p size q h in
     let t = too_few size (advanced m.used p) (fault_at e) (subst (λ (x : Place). content_at size x ≡ Err (fault_at e)) m.after c) in
-    body_there bodies left p (Err e) a l (λ s. report_number s p p.offset (λ size width. body_of p.offset left size width) (Err e) a size m.used m.reads (
+    body_sized bodies left p q size false (Err e) a m l past (λ s. report_right s (advanced m.used p) None _ (Err e) a refl (
     report_missing s (advanced m.used p) size (p.offset + m.used) _ e a t.0 t.1 (subst (λ (x : Place). hint_of e ≡ hint_at (missing_at size x) (fault_at e).fault) m.after hint)))
-
--- what is after all its bytes
-whole_body : (bodies left : ℕ) (p q : Place) (size : ℕ) (w : Window) (b : Place) (r : Result Payload Error) (a : Place) (m : ReadNumber p size q) (c : HasContent size (advanced m.used p) w b) → 0 < bodies
-    → ((s : ℕ) → MatchesGrammar s (advanced size (advanced m.used p)) (check (when (nat_lt left (m.used + size)) (at_offset UnexpectedEof p.offset)) (accept (Grammar.code_entry (take size (drop m.used p.rest))))) r a)
-    → ReadsByGrammar (body_grammar bodies left p.offset) p r a
-whole_body bodies left p q size w b r a m c l next = body_there bodies left p r a l (λ s. report_number s p p.offset (λ size width. body_of p.offset left size width) r a size m.used m.reads (
-    report_bytes s (advanced m.used p) size (p.offset + m.used) _ r a c.there (next s)))
 
 -- the bytes after its size, and where they end
 body_content : (p q : Place) (size : ℕ) (w : Window) (b : Place) (m : ReadNumber p size q) → content_at size q ≡ Ok (w, b) → HasContent size (advanced m.used p) w b
 body_content p q size w b m h = has_content size (advanced m.used p) w b (subst (λ (x : Place). content_at size x ≡ Ok (w, b)) m.after h)
 
--- a body that passes its section
-pub body_past : (bodies left : ℕ) (p q : Place) (size : ℕ) (w : Window) (b : Place) (e : Error) (a : Place) → 0 < bodies → unsigned_at VarU32 p ≡ Ok (size, q) → content_at size q ≡ Ok (w, b) → left < b.offset - p.offset
-    → fault_at e ≡ at_offset UnexpectedEof p.offset → hint_of e ≡ None → ReadsByGrammar (body_grammar bodies left p.offset) p (Err e) a
-body_past bodies left p q size w b e a l h k context f hint =
-    let m : ReadNumber p size q = read_number p size q h in
-    let c : HasContent size (advanced m.used p) w b = body_content p q size w b m k in
-    let o : b.offset ≡ p.offset + m.used + size = ap (λ (x : Place). x.offset) c.after in
-    let wrong : when (nat_lt left (m.used + size)) (at_offset UnexpectedEof p.offset) ≡ Some (fault_at e) = rw (lt-ltb left (m.used + size) (omega arith)) (ap Some (sym f)) in
-    whole_body bodies left p q size w b (Err e) a m c l (λ s. report_wrong s (advanced size (advanced m.used p)) (when (nat_lt left (m.used + size)) (at_offset UnexpectedEof p.offset)) _ e a wrong hint)
-
 -- a body
-pub body_read : (bodies left : ℕ) (p q : Place) (size : ℕ) (w : Window) (b : Place) (payload : Payload) → 0 < bodies → unsigned_at VarU32 p ≡ Ok (size, q) → content_at size q ≡ Ok (w, b) → b.offset - p.offset ≤ left
-    → IsPayload (code_entry w) payload → ReadsByGrammar (body_grammar bodies left p.offset) p (Ok payload) b
-body_read bodies left p q size w b payload l h k fits report =
+pub body_read : (bodies left : ℕ) (p q : Place) (size : ℕ) (w : Window) (b : Place) (payload : Payload) → 0 < bodies → unsigned_at VarU32 p ≡ Ok (size, q) → nat_lt left (q.offset - p.offset + size) ≡ false
+    → content_at size q ≡ Ok (w, b) → IsPayload (code_entry w) payload → ReadsByGrammar (body_grammar bodies left p.offset) p (Ok payload) b
+body_read bodies left p q size w b payload l h past k report =
     let m : ReadNumber p size q = read_number p size q h in
     let c : HasContent size (advanced m.used p) w b = body_content p q size w b m k in
-    let o : b.offset ≡ p.offset + m.used + size = ap (λ (x : Place). x.offset) c.after in
-    let content = take size (drop m.used p.rest) in
     let n : length (take size (drop m.used p.rest)) ≡ size = length-take-le size (drop m.used p.rest) c.there in
     let from : p.offset + m.used ≡ p.offset + m.used + size - length (take size (drop m.used p.rest)) = omega arith in
     let said : IsPayload (code_entry (window_over p.features (p.offset + m.used + size - length (take size (drop m.used p.rest))) (take size (drop m.used p.rest)))) payload =
     (report.0 ∙ (ap code_entry c.window ∙ ap (λ (x : ℕ). code_entry (window_over p.features x (take size (drop m.used p.rest)))) from), report.1) in
-    let right : when (nat_lt left (m.used + size)) (at_offset UnexpectedEof p.offset) ≡ None = rw (le-ltb left (m.used + size) (omega arith)) refl in
-    whole_body bodies left p q size w b (Ok payload) b m c l (λ s. report_right s (advanced size (advanced m.used p)) (when (nat_lt left (m.used + size)) (at_offset UnexpectedEof p.offset)) _ (Ok payload) b right (
-    report_whole s (advanced size (advanced m.used p)) (Grammar.code_entry (take size (drop m.used p.rest))) payload b c.after said))
+    body_sized bodies left p q size false (Ok payload) b m l past (λ s. report_right s (advanced m.used p) None _ (Ok payload) b refl (
+    report_bytes s (advanced m.used p) size (p.offset + m.used) _ (Ok payload) b c.there (
+    report_whole s (advanced size (advanced m.used p)) (Grammar.code_entry (take size (drop m.used p.rest))) payload b c.after said)))

@@ -227,9 +227,8 @@ Within-body zero left o = (le_refl o, le_refl o)
 Within-body (suc bodies) left o = (
   (le_refl o, le_refl o),
   λ size width. (
-    (omega arith, omega arith),
-    λ content n.
-        (when_lies o (o + width + size) _ _ (omega arith, omega arith), tt),
+    when_lies o (o + width) _ _ (omega arith, omega arith),
+    ((omega arith, omega arith), λ content n. tt),
   ),
 )
 

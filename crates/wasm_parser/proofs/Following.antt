@@ -81,46 +81,45 @@ events_later start features (t ∷ later) ts =
 
 -- ---- the next event
 
--- what a prefix of a stream is, by a parser that is there
-record AtPrefix (p : ParserState) (start : ℕ) (prefix rest : List ℕ) : Type 0 where
-  s : IsStateAfter p start prefix
-  offset : p.offset ≡ start + length (bytes_of s.tiles)
-  whole : prefix ++ rest ≡ bytes_of s.tiles ++ rest
-  consumes : consumed_by (events_of start p.features s.tiles) ≡ prefix
+-- what comes after these tiles, by what is there
+abbrev pub event_at : (start features : ℕ) → List Tile → Verdict → Event
+event_at start features ts (tile t) = event_of features (start + length (bytes_of ts)) t
+event_at start features ts (final end) = last_event end
 
-at_prefix : (p : ParserState) (start : ℕ) (prefix rest : List ℕ) → IsStateAfter p start prefix → AtPrefix p start prefix rest
-at_prefix p start prefix rest s = record {
-  s = s;
-  offset = s.offset ∙ ap (λ (x : List ℕ). start + length x) (sym s.is_prefix);
-  whole = ap (λ (x : List ℕ). x ++ rest) (sym s.is_prefix);
-  consumes = tiles_consume start p.features s.tiles ∙ s.is_prefix;
-}
-
--- the event of the tile that comes next
-next_tile : (p : ParserState) (start : ℕ) (prefix rest : List ℕ) (f : AtPrefix p start prefix rest) (t : Tile) → verdict (grammar_of p) rest ≡ tile t → (before later : List Event) (e : Event) → Reading (prefix ++ rest) start p.features (before ++ e ∷ later) → consumed_by before ≡ prefix
-    → e ≡ event_of p.features (start + length (bytes_of f.s.tiles)) t
-next_tile p start prefix rest f t v before later e r c =
-    let ts : List Tile = f.s.tiles in
-    let v' : verdict (grammar start f.s.tiles) rest ≡ tile t = subst (λ (g : Grammar). verdict g rest ≡ tile t) (grammar_same p start prefix f.s) v in
-    let g : Grown start f.s.tiles rest t = grows start f.s.tiles rest t f.s.faultless v' in
-    let w : prefix ++ rest ≡ bytes_of (t ∷ f.s.tiles) ++ g.rest = f.whole ∙ (ap (λ (x : List ℕ). bytes_of f.s.tiles ++ x) g.split ∙ sym (append_assoc (bytes_of f.s.tiles) t.bytes g.rest)) in
-    let l = longest (prefix ++ rest) start r.tiles (t ∷ f.s.tiles) r.end g.rest r.reads g.faultless w in
-    let m : MoreEvents (events_of start p.features (t ∷ f.s.tiles)) (events_of start p.features (l.0 ++ t ∷ f.s.tiles)) = events_later start p.features l.0 (t ∷ f.s.tiles) in
-    let x : Event = event_of p.features (start + length (bytes_of f.s.tiles)) t in
-    let all : before ++ e ∷ later ≡ events_of start p.features f.s.tiles ++ event_of p.features (start + length (bytes_of f.s.tiles)) t ∷ (m.more ++ last_event r.end ∷ []) =
-    r.listed ∙ (ap (λ (y : List Tile). events_of start p.features y ++ last_event r.end ∷ []) l.1 ∙ (ap (λ (y : List Event). y ++ last_event r.end ∷ []) m.parts
-    ∙ (append_assoc (events_of start p.features (t ∷ f.s.tiles)) m.more (last_event r.end ∷ []) ∙ append_assoc (events_of start p.features f.s.tiles) (event_of p.features (start + length (bytes_of f.s.tiles)) t ∷ []) (m.more ++ last_event r.end ∷ [])))) in
-    same_place (events_of start p.features f.s.tiles) before (event_of p.features (start + length (bytes_of f.s.tiles)) t) e (m.more ++ last_event r.end ∷ []) later (tiles_each start p.features f.s.tiles f.s.faultless) (inl g.some) all (c ∙ sym f.consumes)
+-- a tile
+tile_comes : (start features : ℕ) (ts : List Tile) (rest : List ℕ) (t : Tile) → Faultless start ts → verdict (grammar start ts) rest ≡ tile t → (before later : List Event) (e : Event) → Reading (bytes_of ts ++ rest) start features (before ++ e ∷ later)
+    → consumed_by before ≡ bytes_of ts → e ≡ event_of features (start + length (bytes_of ts)) t
+tile_comes start features ts rest t f v before later e r c =
+    let g : Grown start ts rest t = grows start ts rest t f v in
+    let w : bytes_of ts ++ rest ≡ bytes_of (t ∷ ts) ++ g.rest = ap (λ (x : List ℕ). bytes_of ts ++ x) g.split ∙ sym (append_assoc (bytes_of ts) t.bytes g.rest) in
+    let l = longest (bytes_of ts ++ rest) start r.tiles (t ∷ ts) r.end g.rest r.reads g.faultless w in
+    let m : MoreEvents (events_of start features (t ∷ ts)) (events_of start features (l.0 ++ t ∷ ts)) = events_later start features l.0 (t ∷ ts) in
+    let x : Event = event_of features (start + length (bytes_of ts)) t in
+    let all : before ++ e ∷ later ≡ events_of start features ts ++ event_of features (start + length (bytes_of ts)) t ∷ (m.more ++ last_event r.end ∷ []) =
+    r.listed ∙ (ap (λ (y : List Tile). events_of start features y ++ last_event r.end ∷ []) l.1 ∙ (ap (λ (y : List Event). y ++ last_event r.end ∷ []) m.parts
+    ∙ (append_assoc (events_of start features (t ∷ ts)) m.more (last_event r.end ∷ []) ∙ append_assoc (events_of start features ts) (event_of features (start + length (bytes_of ts)) t ∷ []) (m.more ++ last_event r.end ∷ [])))) in
+    same_place (events_of start features ts) before (event_of features (start + length (bytes_of ts)) t) e (m.more ++ last_event r.end ∷ []) later (tiles_each start features ts f) (inl g.some) all (c ∙ sym (tiles_consume start features ts))
 
 -- the last event
-next_last : (p : ParserState) (start : ℕ) (prefix rest : List ℕ) (f : AtPrefix p start prefix rest) (end : Ending) → verdict (grammar_of p) rest ≡ final end → (before later : List Event) (e : Event) → Reading (prefix ++ rest) start p.features (before ++ e ∷ later) → consumed_by before ≡ prefix
-    → e ≡ last_event end
-next_last p start prefix rest f end v before later e r c =
-    let v' : verdict (grammar start f.s.tiles) rest ≡ final end = subst (λ (g : Grammar). verdict g rest ≡ final end) (grammar_same p start prefix f.s) v in
-    let here : Reads (prefix ++ rest) start f.s.tiles end = record { rest = rest; whole = f.whole; faultless = f.s.faultless; stops = v' } in
-    let z = reads_same (prefix ++ rest) start r.tiles f.s.tiles r.end end r.reads here in
-    let all : before ++ e ∷ later ≡ events_of start p.features f.s.tiles ++ last_event end ∷ [] = r.listed ∙ (λ i. events_of start p.features (z.0 i) ++ last_event (z.1 i) ∷ []) in
-    same_place (events_of start p.features f.s.tiles) before (last_event end) e [] later (tiles_each start p.features f.s.tiles f.s.faultless) (inr refl) all (c ∙ sym f.consumes)
+end_comes : (start features : ℕ) (ts : List Tile) (rest : List ℕ) (end : Ending) → Faultless start ts → verdict (grammar start ts) rest ≡ final end → (before later : List Event) (e : Event) → Reading (bytes_of ts ++ rest) start features (before ++ e ∷ later)
+    → consumed_by before ≡ bytes_of ts → e ≡ last_event end
+end_comes start features ts rest end f v before later e r c =
+    let here : Reads (bytes_of ts ++ rest) start ts end = record { rest = rest; whole = refl; faultless = f; stops = v } in
+    let z = reads_same (bytes_of ts ++ rest) start r.tiles ts r.end end r.reads here in
+    let all : before ++ e ∷ later ≡ events_of start features ts ++ last_event end ∷ [] = r.listed ∙ (λ i. events_of start features (z.0 i) ++ last_event (z.1 i) ∷ []) in
+    same_place (events_of start features ts) before (last_event end) e [] later (tiles_each start features ts f) (inr refl) all (c ∙ sym (tiles_consume start features ts))
+
+pub comes_next : (start features : ℕ) (ts : List Tile) (rest : List ℕ) (v : Verdict) → Faultless start ts → verdict (grammar start ts) rest ≡ v → (before later : List Event) (e : Event) → Reading (bytes_of ts ++ rest) start features (before ++ e ∷ later)
+    → consumed_by before ≡ bytes_of ts → e ≡ event_at start features ts v
+comes_next start features ts rest (tile t) f v before later e r c = tile_comes start features ts rest t f v before later e r c
+comes_next start features ts rest (final end) f v before later e r c = end_comes start features ts rest end f v before later e r c
+
+-- the same by a parser that is there
+next_is : (p : ParserState) (start : ℕ) (prefix rest : List ℕ) (s : IsStateAfter p start prefix) (v : Verdict) → verdict (grammar_of p) rest ≡ v → (before later : List Event) (e : Event) → Reading (prefix ++ rest) start p.features (before ++ e ∷ later)
+    → consumed_by before ≡ prefix → e ≡ event_at start p.features s.tiles v
+next_is p start prefix rest s v q before later e r c =
+    comes_next start p.features s.tiles rest v s.faultless (subst (λ (g : Grammar). verdict g rest ≡ v) (grammar_same p start prefix s) q) before later e
+    (subst (λ (x : List ℕ). Reading (x ++ rest) start p.features (before ++ e ∷ later)) (sym s.is_prefix) r) (c ∙ sym s.is_prefix)
 
 -- what was answered says it
 gives_tile : (p new : ParserState) (eof : Bool) (start : ℕ) (prefix bytes : List ℕ) (s : IsStateAfter p start prefix) (t : Tile) → verdict (grammar_of p) bytes ≡ tile t → (r : Result Chunk Error) → Answers p (tile t) r new → GivesEvent (event_of p.features (start + length (bytes_of s.tiles)) t) p eof start prefix bytes r new
@@ -180,12 +179,12 @@ gives_last p new eof start prefix bytes s (fault f) v (Err e) a = (ap (λ (x : F
 gives_last p new eof start prefix bytes s (ended o) v (Err e) a = absurd a
 
 -- on all the rest of a stream
-gives_at : (p new : ParserState) (eof : Bool) (start : ℕ) (prefix bytes rest : List ℕ) (f : AtPrefix p start prefix rest) (r : Result Chunk Error) (v : Verdict) → verdict (grammar_of p) bytes ≡ v → verdict (grammar_of p) rest ≡ v → Answers p v r new
+gives_at : (p new : ParserState) (eof : Bool) (start : ℕ) (prefix bytes rest : List ℕ) (s : IsStateAfter p start prefix) (r : Result Chunk Error) (v : Verdict) → verdict (grammar_of p) bytes ≡ v → verdict (grammar_of p) rest ≡ v → Answers p v r new
     → (before later : List Event) (e : Event) → Reading (prefix ++ rest) start p.features (before ++ e ∷ later) → consumed_by before ≡ prefix → GivesEvent e p eof start prefix bytes r new
-gives_at p new eof start prefix bytes rest f r (tile t) u q a before later e reading c =
-    subst (λ (x : Event). GivesEvent x p eof start prefix bytes r new) (sym (next_tile p start prefix rest f t q before later e reading c)) (gives_tile p new eof start prefix bytes f.s t u r a)
-gives_at p new eof start prefix bytes rest f r (final end) u q a before later e reading c =
-    subst (λ (x : Event). GivesEvent x p eof start prefix bytes r new) (sym (next_last p start prefix rest f end q before later e reading c)) (gives_last p new eof start prefix bytes f.s end u r a)
+gives_at p new eof start prefix bytes rest s r (tile t) u q a before later e reading c =
+    subst (λ (x : Event). GivesEvent x p eof start prefix bytes r new) (sym (next_is p start prefix rest s (tile t) q before later e reading c)) (gives_tile p new eof start prefix bytes s t u r a)
+gives_at p new eof start prefix bytes rest s r (final end) u q a before later e reading c =
+    subst (λ (x : Event). GivesEvent x p eof start prefix bytes r new) (sym (next_is p start prefix rest s (final end) q before later e reading c)) (gives_last p new eof start prefix bytes s end u r a)
 
 -- the event that comes next in every stream that these bytes may be the first of
 record IsNext (p : ParserState) (eof : Bool) (start : ℕ) (prefix bytes rest : List ℕ) (e : Event) : Type 0 where
@@ -204,7 +203,7 @@ decides_rest p false bytes rest m (inr w) = ap (verdict (grammar_of p)) m.1 ∙ 
 
 gives_decided : (p new : ParserState) (eof : Bool) (start : ℕ) (prefix bytes rest : List ℕ) (e : Event) (n : IsNext p eof start prefix bytes rest e) (r : Result Chunk Error) → (eof ≡ true) ⊎ (waiting (grammar_of p) bytes ≡ enough) → Answers p (verdict (grammar_of p) bytes) r new → GivesEvent e p eof start prefix bytes r new
 gives_decided p new eof start prefix bytes rest e n r d a =
-    gives_at p new eof start prefix bytes rest (at_prefix p start prefix rest n.s) r (verdict (grammar_of p) bytes) refl (decides_rest p eof bytes rest n.may_be d) a n.before n.later e n.reading n.consumed
+    gives_at p new eof start prefix bytes rest n.s r (verdict (grammar_of p) bytes) refl (decides_rest p eof bytes rest n.may_be d) a n.before n.later e n.reading n.consumed
 
 gives_asked : (p new : ParserState) (start : ℕ) (prefix bytes : List ℕ) (e : Event) (need hint : ℕ) → waiting (grammar_of p) bytes ≡ wants need hint → (r : Result Chunk Error) → AsksFor hint p r new → GivesEvent e p false start prefix bytes r new
 gives_asked p new start prefix bytes e need hint w (Ok (NeedMoreData asked)) a = ((refl, (need, w ∙ ap (wants need) (sym a.0))), a.1)
@@ -233,13 +232,17 @@ gives_next p new eof bytes r h start prefix rest m s l events reading next =
 
 -- ---- there is a next event
 
+pub next_there : (start features : ℕ) (ts : List Tile) (rest : List ℕ) (events : List Event) → Faultless start ts → Reading (bytes_of ts ++ rest) start features events → NextEvent events (bytes_of ts)
+next_there start features ts rest events f r =
+    let l = longest (bytes_of ts ++ rest) start r.tiles ts r.end rest r.reads f refl in
+    let m : MoreEvents (events_of start features ts) (events_of start features (l.0 ++ ts)) = events_later start features l.0 ts in
+    at m.more (r.listed ∙ (ap (λ (y : List Tile). events_of start features y ++ last_event r.end ∷ []) l.1 ∙ (ap (λ (y : List Event). y ++ last_event r.end ∷ []) m.parts
+    ∙ append_assoc (events_of start features ts) m.more (last_event r.end ∷ []))))
+  where
+    at : (more : List Event) → events ≡ events_of start features ts ++ (more ++ last_event r.end ∷ []) → NextEvent events (bytes_of ts)
+    at [] e = record { before = events_of start features ts; event = last_event r.end; later = []; whole = e; consumed = tiles_consume start features ts }
+    at (x ∷ more) e = record { before = events_of start features ts; event = x; later = more ++ last_event r.end ∷ []; whole = e; consumed = tiles_consume start features ts }
+
 pub some_next_event : SomeNextEvent
 some_next_event p start features prefix rest events s r =
-    let l = longest (prefix ++ rest) start r.tiles s.tiles r.end rest r.reads s.faultless (ap (λ (x : List ℕ). x ++ rest) (sym s.is_prefix)) in
-    let m : MoreEvents (events_of start features s.tiles) (events_of start features (l.0 ++ s.tiles)) = events_later start features l.0 s.tiles in
-    at m.more (r.listed ∙ (ap (λ (y : List Tile). events_of start features y ++ last_event r.end ∷ []) l.1 ∙ (ap (λ (y : List Event). y ++ last_event r.end ∷ []) m.parts
-    ∙ append_assoc (events_of start features s.tiles) m.more (last_event r.end ∷ []))))
-  where
-    at : (more : List Event) → events ≡ events_of start features s.tiles ++ (more ++ last_event r.end ∷ []) → NextEvent events prefix
-    at [] e = record { before = events_of start features s.tiles; event = last_event r.end; later = []; whole = e; consumed = tiles_consume start features s.tiles ∙ s.is_prefix }
-    at (x ∷ more) e = record { before = events_of start features s.tiles; event = x; later = more ++ last_event r.end ∷ []; whole = e; consumed = tiles_consume start features s.tiles ∙ s.is_prefix }
+    subst (NextEvent events) s.is_prefix (next_there start features s.tiles rest events s.faultless (subst (λ (x : List ℕ). Reading (x ++ rest) start features events) (sym s.is_prefix) r))

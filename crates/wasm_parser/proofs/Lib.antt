@@ -3,6 +3,8 @@ pub mod Bodies
 pub mod BodyCounts
 pub mod Bounds
 pub mod Counted
+pub mod DecidingEndings
+pub mod EndingSizes
 pub mod Endings
 pub mod Ends
 pub mod Following
@@ -37,6 +39,7 @@ pub mod AcceptedSteps
 pub mod AcceptedTiles
 pub mod AcceptedWalks
 pub mod TileLaws
+pub mod Undecided
 pub mod ReportedSections
 pub mod AnswerBounds
 pub mod Walking

@@ -89,7 +89,7 @@ bad_ends xs (Some i) f o e = at (nat_lt (suc i) 5) (nat_lt 5 (suc i)) (is_unused
     at false false true e = cc
     at false false false e = let z : NumberTooLarge VarU32 ≡ f = cc in ap (hint_at 1) (sym z)
 
-bad_hint : (xs : List ℕ) (f : Fault) (o : ℕ) → number VarU32 xs ≡ bad f o → hint_at 1 f ≡ None
+pub bad_hint : (xs : List ℕ) (f : Fault) (o : ℕ) → number VarU32 xs ≡ bad f o → hint_at 1 f ≡ None
 unfolding number
 bad_hint xs f o e = bad_ends xs (last_place xs) f o e
 

@@ -210,8 +210,10 @@ Like-section by p o = (after_id p (o + by), ap (λ (x : Ending). section_start (
 Like-body_of : (by o left n width : ℕ) → Like by (body_of o left n width) (body_of (o + by) left n width)
 Like-body_of by o left n width = (
   _,
-  ap (λ (x : ℕ). bytes n x (λ content. check (when (nat_lt left (width + n)) (at_offset UnexpectedEof (o + by))) (accept (Grammar.code_entry content)))) (omega arith),
-  λ content. (_, _, refl, when_moves by (nat_lt left (width + n)) (at_offset UnexpectedEof o) (at_offset UnexpectedEof (o + by)) refl, refl),
+  _,
+  refl,
+  when_moves by (nat_lt left (width + n)) (at_offset UnexpectedEof o) (at_offset UnexpectedEof (o + by)) refl,
+  (_, ap (λ (x : ℕ). bytes n x (λ content. accept (Grammar.code_entry content))) (omega arith), λ content. refl),
 )
 
 Like-body : (by bodies left o : ℕ) → Like by (body_grammar bodies left o) (body_grammar bodies left (o + by))

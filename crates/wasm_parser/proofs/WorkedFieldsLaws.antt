@@ -65,7 +65,7 @@ long_fields = record {
   code_alone = (head ∷ [], record { rest = 10 ∷ 0x83 ∷ 0 ∷ 0x81 ∷ 0 ∷ 0 ∷ []; whole = refl; faultless = (tt, refl); stops = refl });
   count_past_the_section = (framed_tile items 3 (2 ∷ []) (1 ∷ 0 ∷ []) ∷ head ∷ [], record { rest = 10 ∷ 0x81 ∷ 0 ∷ 0x81 ∷ 0 ∷ []; whole = refl; faultless = ((tt, refl), refl); stops = refl });
   data_differ = (framed_tile data_count 12 (0x82 ∷ 0 ∷ []) (0x81 ∷ 0 ∷ []) ∷ head ∷ [], record { rest = 11 ∷ 0x83 ∷ 0 ∷ 0x82 ∷ 0 ∷ 0 ∷ []; whole = refl; faultless = ((tt, refl), refl); stops = refl });
-  body_missed = (head_tile (0x89 ∷ 0 ∷ []) 1 (0x81 ∷ 0 ∷ []) 7 ∷ framed_tile items 3 (2 ∷ []) (1 ∷ 0 ∷ []) ∷ head ∷ [], record { rest = 0x85 ∷ 0x80 ∷ 0 ∷ 0 ∷ []; whole = refl; faultless = (((tt, refl), refl), refl); stops = refl });
+  body_missed = (head_tile (0x8a ∷ 0 ∷ []) 1 (0x81 ∷ 0 ∷ []) 8 ∷ framed_tile items 3 (2 ∷ []) (1 ∷ 0 ∷ []) ∷ head ∷ [], record { rest = 0x85 ∷ 0x80 ∷ 0 ∷ 0 ∷ []; whole = refl; faultless = (((tt, refl), refl), refl); stops = refl });
   body_past_the_section = (head_tile (0x84 ∷ 0 ∷ []) 1 (0x81 ∷ 0 ∷ []) 2 ∷ framed_tile items 3 (2 ∷ []) (1 ∷ 0 ∷ []) ∷ head ∷ [], record { rest = 0x81 ∷ 0 ∷ 11 ∷ []; whole = refl; faultless = (((tt, refl), refl), refl); stops = refl });
   body_size_cut = (head_tile (0x89 ∷ 0 ∷ []) 1 (0x81 ∷ 0 ∷ []) 7 ∷ framed_tile items 3 (2 ∷ []) (1 ∷ 0 ∷ []) ∷ head ∷ [], record { rest = 0x80 ∷ 0x80 ∷ []; whole = refl; faultless = (((tt, refl), refl), refl); stops = refl });
   trailing = (sized_tile (0x80 ∷ 0 ∷ []) ([]) ∷ head_tile (0x85 ∷ 0 ∷ []) 1 (0x81 ∷ 0 ∷ []) 3 ∷ framed_tile items 3 (2 ∷ []) (1 ∷ 0 ∷ []) ∷ head ∷ [], record { rest = 0 ∷ []; whole = refl; faultless = ((((tt, refl), refl), refl), refl); stops = refl });

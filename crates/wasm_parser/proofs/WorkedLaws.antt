@@ -102,5 +102,6 @@ edges_of_rules = record {
   count_past_the_section = (head ∷ [], record { rest = 10 ∷ 0 ∷ 0 ∷ []; whole = refl; faultless = (tt, refl); stops = refl });
   no_body = (code 1 1 ∷ functions 1 ∷ head ∷ [], record { rest = []; whole = refl; faultless = (((tt, refl), refl), refl); stops = refl });
   body_size_cut = (code 2 1 ∷ functions 1 ∷ head ∷ [], record { rest = 0x80 ∷ []; whole = refl; faultless = (((tt, refl), refl), refl); stops = refl });
-  body_cut = (code 3 1 ∷ functions 1 ∷ head ∷ [], record { rest = 5 ∷ 0 ∷ []; whole = refl; faultless = (((tt, refl), refl), refl); stops = refl });
+  body_cut = (code 7 1 ∷ functions 1 ∷ head ∷ [], record { rest = 5 ∷ 0 ∷ []; whole = refl; faultless = (((tt, refl), refl), refl); stops = refl });
+  body_past_the_section = (code 2 1 ∷ functions 1 ∷ head ∷ [], record { rest = 5 ∷ []; whole = refl; faultless = (((tt, refl), refl), refl); stops = refl });
 }

@@ -157,11 +157,11 @@ after_id context offset id =
 unfoldable pub section_grammar : SectionContext → (offset : ℕ) → Grammar
 section_grammar context offset = section_start offset (end_at_section context offset) (after_id context offset)
 
--- a body, in a code section of which so many bytes are left. Of two faults the missing bytes come first
+-- a body, in a code section of which so many bytes are left. Its size says by itself whether it passes the section
 abbrev pub body_of : (offset left size width : ℕ) → Grammar
 body_of offset left size width =
-    bytes size (offset + width) (λ content.
     check (when (nat_lt left (width + size)) (at_offset UnexpectedEof offset)) (
+    bytes size (offset + width) (λ content.
     accept (code_entry content)))
 
 -- what may come in a code section of which so many bodies and bytes are left

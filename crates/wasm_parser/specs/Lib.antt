@@ -15,6 +15,7 @@ pub mod PayloadItems
 pub mod StateAfter
 pub mod GivesNextEvent
 pub mod Tiling
+pub mod Undecided
 pub mod ParseAll
 pub mod Waiting
 pub mod Worked

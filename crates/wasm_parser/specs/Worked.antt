@@ -117,4 +117,5 @@ pub record EdgesOfRules : Type 0 where
   pub count_past_the_section : EndsSo (m ++ 10 ∷ 0 ∷ 0 ∷ []) (fault (at_offset UnexpectedEof 10))
   pub no_body : EndsSo (m ++ 3 ∷ 2 ∷ 1 ∷ 0 ∷ 10 ∷ 1 ∷ 1 ∷ []) (fault (at_offset UnexpectedEof 15))
   pub body_size_cut : EndsSo (m ++ 3 ∷ 2 ∷ 1 ∷ 0 ∷ 10 ∷ 2 ∷ 1 ∷ 0x80 ∷ []) (fault (at_offset UnexpectedEof 16))
-  pub body_cut : EndsSo (m ++ 3 ∷ 2 ∷ 1 ∷ 0 ∷ 10 ∷ 3 ∷ 1 ∷ 5 ∷ 0 ∷ []) (fault (at_offset UnexpectedEof 16))
+  pub body_cut : EndsSo (m ++ 3 ∷ 2 ∷ 1 ∷ 0 ∷ 10 ∷ 7 ∷ 1 ∷ 5 ∷ 0 ∷ []) (fault (at_offset UnexpectedEof 16))
+  pub body_past_the_section : EndsSo (m ++ 3 ∷ 2 ∷ 1 ∷ 0 ∷ 10 ∷ 2 ∷ 1 ∷ 5 ∷ []) (fault (at_offset UnexpectedEof 15))

@@ -4,6 +4,7 @@ ghost use Rattle.wasm_base.specs.Comparing.{DecidesSame, IsCopy};
 ghost use Rattle.wasm_parser.specs.Laws.{AcceptedEnds, AnswersLast, EventsLieEndToEnd, FaultEnds, EventsSayTheirBytes, FaultLiesWithin, LongestTiling, OneReading, ParserSuffices, SomeNextEvent, SomeReading, StartOnlyMoves, TilesStandAlone};
 ghost use Rattle.wasm_parser.specs.PayloadItems.{PayloadsGiveItems};
 ghost use Rattle.wasm_parser.specs.SectionLaws.{BodiesFollowTheirCount, RanksAscend, SectionsTile};
+ghost use Rattle.wasm_parser.specs.Undecided.{EnoughIsDecided, OneComesNext, ShortIsUndecided};
 ghost use Rattle.wasm_parser.specs.Worked.{EdgesOfRules, WorkedStreams};
 ghost use Rattle.wasm_parser.specs.WorkedFields.{LongFields, TwoFaults, WholeReadings};
 
@@ -70,6 +71,18 @@ pub fn parser_suffices()
 /// bytes after them, whether those are then all of the stream or not.
 pub fn answers_last()
     ensures { AnswersLast }
+{}
+
+/// No parser could wait for less. `front` is the beginning of a stream that starts at `offset`, a faultless tiling or
+/// nothing, and `data` the bytes that have come after it (core specification, Binary format, Modules).
+///
+/// One event comes next after the front, however a stream goes on from there. Where the data suffices, it is the same in
+/// every stream that begins with both. Where it doesn't, another event comes next in the stream that ends after the data
+/// than in the one that goes on by a given ending; both are streams, if the offsets go on for 2^33 bytes after the data.
+pub fn short_is_undecided(offset: u64, front: &[u8], data: &[u8])
+    ensures next { OneComesNext offset front.now }
+    ensures decided { EnoughIsDecided offset front.now «data».now }
+    ensures undecided { ShortIsUndecided offset front.now «data».now }
 {}
 
 /// Worked streams have the readings that were computed by hand.

@@ -12,6 +12,7 @@ ghost use Rattle.wasm_parser.specs.ParserState.{initial_state, is_at_section as 
 ghost use Rattle.wasm_parser.specs.ReadsPart.{HasSection, IsBegun, ReadsAfterId, ReadsAfterLength, ReadsBody, ReadsContent, ReadsNext, ReadsNextSection, Refuses};
 ghost use Rattle.wasm_parser.specs.Skipped.{SkipsSection};
 ghost use Rattle.wasm_parser.specs.StateAfter.{knowing, missing_bytes};
+ghost use Rattle.wasm_parser.specs.Undecided.{AsksWhereOpen};
 ghost use Rattle.wasm_parser.specs.declared.payload.Encoding.TheVariants.{Module, Component};
 
 use crate::contents::{code, custom, data_count, items, lacks, start, unknown, window};
@@ -388,7 +389,8 @@ impl Parser {
     ///
     /// `eof` says that no bytes come after these, so that missing bytes are a fault. Without it, `NeedMoreData` is answered
     /// while these bytes don't decide what comes next, and leaves the parser unchanged: the caller hands in the same bytes
-    /// again with more after them. Whatever is answered otherwise would be answered with more bytes too.
+    /// again with more after them. Whatever is answered otherwise would be answered with more bytes too; and no parser could
+    /// answer sooner, since more is asked for exactly where two streams that begin so have different next events.
     ///
     /// The parser is then after what it read, `consumed` bytes further; a caller hands in the bytes after those:
     ///
@@ -410,13 +412,15 @@ impl Parser {
     /// ```
     ///
     /// A fault is reported at its offset in the whole stream, and leaves the parser unchanged: the faults of a header, of a
-    /// section's id, length, order and first fields, of a body's size, and of counts that don't match. `OffsetRange` at
+    /// section's id, length, order and first fields, of a body's size, and of counts that don't match. A body that passes its
+    /// section is refused as soon as its size has been read, with `UnexpectedEof` at the body's start. `OffsetRange` at
     /// the parser's offset, where the bytes pass the offsets of a stream.
     pub fn parse<'a>(&mut self, bytes: &'a [u8], eof: bool) -> Result<Chunk<'a>>
         ensures answers { ParseAnswer self.old eof bytes.now result self.new }
         ensures gives { GivesNextEvent self.old eof bytes.now result self.new }
         ensures consumes { Consumes bytes.now result }
         ensures asks { AsksForSome result }
+        ensures waits { AsksWhereOpen self.old eof bytes.now result }
         ensures faults { FaultsWithin self.old bytes.now result }
         ensures unchanged { IsUnchanged self.old result self.new }
     {
@@ -493,11 +497,21 @@ impl Parser {
             return Err(Error::new(Fault::TrailingCode, start));
         }
         let size = reader.read_var_u32()?;
-        let window = window(size, reader)?;
-        if reader.original_position() - start > u64::from(self.left) {
+        if passes(self.left, reader.original_position() - start, size) {
             return Err(Error::new(Fault::UnexpectedEof, start));
         }
+        let window = window(size, reader)?;
         Ok(Payload::CodeSectionEntry(FunctionBody::new(window)))
+    }
+}
+
+// Whether a field of so many bytes, and the bytes that it counts, are more than are left.
+fn passes(left: u32, width: u64, size: u32) -> bool
+    ensures { result ≡ nat_lt left (width + size) }
+{
+    match u64::from(left).checked_sub(width) {
+        Some(room) => u64::from(size) > room,
+        None => true,
     }
 }
 

@@ -1,6 +1,7 @@
 // Worked examples.
 mod code;
 mod debug;
+mod endings;
 mod fields;
 mod hints;
 mod imports;

@@ -126,7 +126,7 @@ fn long_fields_of_counts_and_bodies(rt: HostRuntime) {
             19,
         ),
         (
-            b"\0\x61\x73\x6d\x01\0\0\0\x03\x02\x01\0\x0a\x89\0\x81\0\x85\x80\0\0",
+            b"\0\x61\x73\x6d\x01\0\0\0\x03\x02\x01\0\x0a\x8a\0\x81\0\x85\x80\0\0",
             0,
             Fault::UnexpectedEof,
             20,
@@ -257,7 +257,7 @@ fn the_first_of_two_faults_in_code_and_headers(rt: HostRuntime) {
             b"\0\x61\x73\x6d\x01\0\0\0\x03\x02\x01\0\x0a\x03\x01\x85\0\0",
             0,
             Fault::UnexpectedEof,
-            17,
+            15,
         ),
         (
             b"\0\x61\x73\x6d\x01\0\0\0\x03\x02\x01\0\x0c\x01\x01",

@@ -138,6 +138,37 @@ fn bodies_that_begin(rt: HostRuntime) -> Result<(), Fail> {
 }
 
 #[test]
+fn bodies_past_their_section(rt: HostRuntime) -> Result<(), Fail> {
+    let functions: &[u8] = b"\x03\x02\x01\0";
+    let rows: [(&[u8], &[u8], Answer); 7] = [
+        (b"\x0a\x02\x01", b"\x05", refuses(Fault::UnexpectedEof, 15)),
+        (
+            b"\x0a\xff\xff\xff\xff\x0f\x01",
+            b"\xff\xff\xff\xff\x0f",
+            refuses(Fault::UnexpectedEof, 19),
+        ),
+        (b"\x0a\x04\x01", b"\x02", Answer::Asks(2)),
+        (b"\x0a\x04\x01", b"\x03", refuses(Fault::UnexpectedEof, 15)),
+        (
+            b"\x0a\x04\x01",
+            b"\x83\0",
+            refuses(Fault::UnexpectedEof, 15),
+        ),
+        (b"\x0a\x01\x01", b"", Answer::Asks(1)),
+        (b"\x0a\x01\x01", b"\0", refuses(Fault::UnexpectedEof, 15)),
+    ];
+    for (code, bytes, wanted) in rows {
+        let mut parser = after(0, &[functions, code])?;
+        assert_eq!(rt; told(&mut parser, bytes), wanted, "{code:?} {bytes:?}");
+    }
+    let mut parser = after(0, &[functions, b"\x0a\x02\x01"])?;
+    let past = Error::new(Fault::UnexpectedEof, 15);
+    same(&rt, parser.parse(b"\x05", true).err(), Some(past));
+    same(&rt, parser.offset(), 15);
+    Ok(())
+}
+
+#[test]
 fn a_code_section_that_is_skipped(rt: HostRuntime) -> Result<(), Fail> {
     let functions: &[u8] = b"\x03\x02\x01\0";
     let mut parser = after(0, &[functions])?;

@@ -4,7 +4,7 @@ use Rattle.wasm_base.specs.FaultAt.{at_offset}
 use Rattle.wasm_base.specs.Window.{place}
 use Rattle.wasm_base.specs.declared.fault.Fault.TheVariants.{UnexpectedEof, TrailingCode}
 use Rattle.wasm_parser.specs.ParserState.{ParserState}
-use Rattle.wasm_parser.proofs.Bodies.{no_body_left, body_no_size, body_missing, body_past, body_read}
+use Rattle.wasm_parser.proofs.Bodies.{no_body_left, body_no_size, past_same, body_past, body_missing, body_read}
 use Rattle.wasm_parser.proofs.parser.Parser.body.Goals as goal
 
 pub returns-then-self-eq0 : goal.returns-then-self-eq0
@@ -18,21 +18,26 @@ returns-in_err-size c =
     let v = ap (λ (s : ParserState). s.bodies) c.self.view_is in
     rw (e.1, e.2) (body_no_size c.args.self.now.bodies c.args.self.now.left (place c.args.reader.now) _ _ (omega (arith, v, c.if-self-eq0.false)) c.in_err-size.ensures.gives c.in_err-size.ensures.hints)
 
-pub returns-in_err-window : goal.returns-in_err-window
-returns-in_err-window c =
-    let e = err_from_is_err_and c.from_residual-in_err-window.result c.from_residual-in_err-window.ensures.1 in
-    let v = ap (λ (s : ParserState). s.bodies) c.self.view_is in
-    rw (e.1, e.2) (body_missing c.args.self.now.bodies c.args.self.now.left (place c.args.reader.now) (place c.read_var_u32.new.self) c.in_ok-size.size _ _ (omega (arith, v, c.if-self-eq0.false)) c.in_ok-size.ensures.gives c.in_err-window.ensures.gives c.in_err-window.ensures.hints)
-
-pub returns-then-original_position-start : goal.returns-then-original_position-start
-returns-then-original_position-start c =
+pub returns-then-passes : goal.returns-then-passes
+returns-then-passes c =
     let v = ap (λ (s : ParserState). s.bodies) c.self.view_is in
     let w = ap (λ (s : ParserState). s.left) c.self.view_is in
     let at = c.original_position-start.ensures.offset in
     let after = c.original_position.ensures.offset in
-    body_past c.args.self.now.bodies c.args.self.now.left (place c.args.reader.now) (place c.read_var_u32.new.self) c.in_ok-size.size c.in_ok-window.window (place c.window.new.reader) c.new-then-original_position-start.result _
-    (omega (arith, v, c.if-self-eq0.false)) c.in_ok-size.ensures.gives c.in_ok-window.ensures.gives (omega (arith, w, at, after, c.from.ensures, c.if-original_position-start.true))
-    (c.new-then-original_position-start.ensures.report ∙ ap (at_offset UnexpectedEof) at) c.new-then-original_position-start.ensures.hint
+    body_past c.args.self.now.bodies c.args.self.now.left (place c.args.reader.now) (place c.read_var_u32.new.self) c.in_ok-size.size c.new-then-passes.result _
+    (omega (arith, v, c.if-self-eq0.false)) c.in_ok-size.ensures.gives (past_same c.in_ok-size.size w after at c.passes.ensures c.if-passes.true)
+    (c.new-then-passes.ensures.report ∙ ap (at_offset UnexpectedEof) at) c.new-then-passes.ensures.hint
+
+pub returns-in_err-window : goal.returns-in_err-window
+returns-in_err-window c =
+    let e = err_from_is_err_and c.from_residual-in_err-window.result c.from_residual-in_err-window.ensures.1 in
+    let v = ap (λ (s : ParserState). s.bodies) c.self.view_is in
+    let w = ap (λ (s : ParserState). s.left) c.self.view_is in
+    let at = c.original_position-start.ensures.offset in
+    let after = c.original_position.ensures.offset in
+    rw (e.1, e.2) (body_missing c.args.self.now.bodies c.args.self.now.left (place c.args.reader.now) (place c.read_var_u32.new.self) c.in_ok-size.size _ _
+    (omega (arith, v, c.if-self-eq0.false)) c.in_ok-size.ensures.gives (past_same c.in_ok-size.size w after at c.passes.ensures c.if-passes.false)
+    c.in_err-window.ensures.gives c.in_err-window.ensures.hints)
 
 pub returns : goal.returns
 returns c =
@@ -41,4 +46,5 @@ returns c =
     let at = c.original_position-start.ensures.offset in
     let after = c.original_position.ensures.offset in
     body_read c.args.self.now.bodies c.args.self.now.left (place c.args.reader.now) (place c.read_var_u32.new.self) c.in_ok-size.size c.in_ok-window.window (place c.window.new.reader) _
-    (omega (arith, v, c.if-self-eq0.false)) c.in_ok-size.ensures.gives c.in_ok-window.ensures.gives (omega (arith, w, at, after, c.from.ensures, c.if-original_position-start.false)) (rw c.new-2.ensures refl, tt)
+    (omega (arith, v, c.if-self-eq0.false)) c.in_ok-size.ensures.gives (past_same c.in_ok-size.size w after at c.passes.ensures c.if-passes.false)
+    c.in_ok-window.ensures.gives (rw c.new-2.ensures refl, tt)

@@ -1,5 +1,6 @@
 use Rattle.wasm_parser.proofs.Following.{gives_next}
 use Rattle.wasm_parser.proofs.AnswerBounds.{consumes, asks_for_some, faults_within, unchanged}
+use Rattle.wasm_parser.proofs.Undecided.{asks_where_open}
 use Rattle.wasm_parser.proofs.parser.Parser.parse.Goals as goal
 
 pub returns-clause-consumes : goal.returns-clause-consumes
@@ -10,6 +11,9 @@ returns-clause-gives c = gives_next c.args.self.now c.answer.new.self c.args.eof
 
 pub returns-clause-asks : goal.returns-clause-asks
 returns-clause-asks c = asks_for_some c.args.self.now c.answer.new.self c.args.eof c.args.bytes.now c.answer.result c.answer.ensures
+
+pub returns-clause-waits : goal.returns-clause-waits
+returns-clause-waits c = asks_where_open c.args.self.now c.answer.new.self c.args.eof c.args.bytes.now c.answer.result c.answer.ensures
 
 pub returns-clause-faults : goal.returns-clause-faults
 returns-clause-faults c = faults_within c.args.self.now c.answer.new.self c.args.eof c.args.bytes.now c.answer.result c.answer.ensures
