@@ -1,5 +1,6 @@
 // Worked examples.
 mod ended;
+mod events;
 mod hostile;
 mod steps;
 mod streams;

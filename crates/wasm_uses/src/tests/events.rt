@@ -1,0 +1,93 @@
+// What equality of events says.
+use std::alloc::Global;
+use std::ops::Range;
+use std::test::Fail;
+use wasm_base::{BinaryReader, Error, Fault};
+use wasm_feed::{Event, EventKind};
+use wasm_parser::Encoding;
+
+// Each kind, and each with one of its numbers changed.
+fn kinds() -> [EventKind; 17] {
+    let encoding = Encoding::Module;
+    [
+        EventKind::Version { num: 1, encoding },
+        EventKind::Version { num: 13, encoding },
+        EventKind::Version {
+            num: 1,
+            encoding: Encoding::Component,
+        },
+        EventKind::Section { id: 1, count: 300 },
+        EventKind::Section { id: 2, count: 300 },
+        EventKind::Section { id: 1, count: 301 },
+        EventKind::Start { func: 300 },
+        EventKind::DataCount { count: 300 },
+        EventKind::Code {
+            count: 300,
+            size: 1000,
+        },
+        EventKind::Code {
+            count: 300,
+            size: 1001,
+        },
+        EventKind::Body,
+        EventKind::Custom { data_offset: 300 },
+        EventKind::Unknown { id: 14 },
+        EventKind::End,
+        EventKind::Fault(Error::new(Fault::UnexpectedEof, 300)),
+        EventKind::Fault(Error::new(Fault::UnexpectedEof, 301)),
+        EventKind::Fault(Error::new(Fault::UnknownVersion, 300).with_number(2)),
+    ]
+}
+
+#[test]
+fn kinds_are_equal_to_themselves_alone(rt: HostRuntime) {
+    for (place, one) in kinds().iter().enumerate() {
+        for (other_place, other) in kinds().iter().enumerate() {
+            assert!(rt;
+                (one == other) == (place == other_place),
+                "{one:?} {other:?}"
+            );
+        }
+    }
+}
+
+#[test]
+fn hints_of_faults_do_not_count(rt: HostRuntime) {
+    match BinaryReader::new(&[], 300).read_bytes(5) {
+        Ok(_) => panic!(rt; "read"),
+        Err(missing) => {
+            let fault = Error::new(Fault::UnexpectedEof, 300);
+            assert_eq!(rt;
+                (missing.needed_hint(), fault.needed_hint()),
+                (Some(5), None)
+            );
+            assert!(rt; EventKind::Fault(missing) == EventKind::Fault(fault));
+        }
+    }
+}
+
+fn body(alloc: Global, range: Range<u64>, bytes: &[u8]) -> Result<Event, Fail> {
+    Ok(Event {
+        kind: EventKind::Body,
+        range,
+        bytes: bytes.to_vec(alloc)?,
+    })
+}
+
+#[test]
+fn events_are_equal_by_kind_range_and_bytes(rt: HostRuntime) -> Result<(), Fail> {
+    let alloc = rt.alloc();
+    let event = body(alloc, 300..302, &[2, 0, 11])?;
+    assert!(rt; event == body(alloc, 300..302, &[2, 0, 11])?);
+    assert!(rt; event != body(alloc, 299..302, &[2, 0, 11])?);
+    assert!(rt; event != body(alloc, 300..303, &[2, 0, 11])?);
+    assert!(rt; event != body(alloc, 300..302, &[2, 0, 12])?);
+    assert!(rt; event != body(alloc, 300..302, &[2, 0])?);
+    let end = Event {
+        kind: EventKind::End,
+        range: 300..302,
+        bytes: [2, 0, 11].to_vec(alloc)?,
+    };
+    assert!(rt; event != end);
+    Ok(())
+}
