@@ -1,7 +1,8 @@
 // Code sections, and the counts that they must match.
-use super::parsing::{after_header, refusal};
+use super::parsing::{after_header, end, pass, refusal};
 use super::same;
 use std::ops::Range;
+use std::process::Abort;
 use std::test::Fail;
 use wasm_parser::{Chunk, Error, Fault, Parser, Payload};
 
@@ -35,76 +36,78 @@ fn code_start(chunk: &Chunk) -> Option<(usize, u32, Range<u64>, u32)> {
     }
 }
 
+// The start of a code section, if it comes next.
+fn next_code(
+    parser: &mut Parser,
+    bytes: &[u8],
+) -> Result<Option<(usize, u32, Range<u64>, u32)>, Error> {
+    let chunk = parser.parse(bytes, true)?;
+    Ok(code_start(&chunk))
+}
+
+// The body that comes next: how many bytes are consumed, and its window.
+fn next_body<'a>(
+    parser: &mut Parser,
+    bytes: &'a [u8],
+) -> Result<Option<(usize, Range<u64>, &'a [u8])>, Error> {
+    let chunk = parser.parse(bytes, true)?;
+    Ok(match &chunk {
+        Chunk::Parsed {
+            consumed,
+            payload: Payload::CodeSectionEntry(body),
+        } => Some((
+            *consumed,
+            body.range(),
+            body.get_binary_reader().remaining_buffer(),
+        )),
+        _other => None,
+    })
+}
+
 #[test]
 fn a_code_section(rt: HostRuntime) -> Result<(), Fail> {
     let mut parser = after(FUNCTION)?;
     let bytes: &[u8] = b"\x0a\x04\x01\x02\0\x0b";
-    let chunk = parser.parse(bytes, true)?;
-    same(&rt, code_start(&chunk), Some((3, 1, 14..18, 3)));
-    let chunk = parser.parse(&bytes[3..], true)?;
-    match &chunk {
-        Chunk::Parsed {
-            consumed,
-            payload: Payload::CodeSectionEntry(body),
-        } => {
-            same(&rt, *consumed, 3);
-            same(&rt, body.range(), 16..18);
-            same(
-                &rt,
-                body.get_binary_reader().remaining_buffer(),
-                b"\0\x0b".as_slice(),
-            );
-        }
-        _other => assert!(rt; false),
-    }
-    let chunk = parser.parse(b"", true)?;
-    match &chunk {
-        Chunk::Parsed {
-            payload: Payload::End(at),
-            ..
-        } => same(&rt, *at, 18),
-        _other => assert!(rt; false),
-    }
+    same(&rt, next_code(&mut parser, bytes)?, Some((3, 1, 14..18, 3)));
+    same(
+        &rt,
+        next_body(&mut parser, &bytes[3..])?,
+        Some((3, 16..18, b"\0\x0b".as_slice())),
+    );
+    same(&rt, end(&mut parser)?, Some(18));
     Ok(())
 }
 
 #[test]
 fn the_count_is_read_from_the_stream(rt: HostRuntime) -> Result<(), Fail> {
     let mut parser = after_header(0)?;
-    let chunk = parser.parse(b"\x0a\x01\0", true)?;
-    same(&rt, code_start(&chunk), Some((3, 0, 10..11, 0)));
-    let mut parser = after_header(0)?;
     same(
         &rt,
-        refusal(&mut parser, b"\x0a\0"),
-        Some(Error::new(Fault::UnexpectedEof, 10)),
+        next_code(&mut parser, b"\x0a\x01\0")?,
+        Some((3, 0, 10..11, 0)),
     );
-    same(
-        &rt,
-        refusal(&mut parser, b"\x0a\0\0"),
-        Some(Error::new(Fault::UnexpectedEof, 10)),
-    );
-    same(
-        &rt,
-        refusal(&mut parser, b"\x0a\x01\x80"),
-        Some(Error::new(Fault::UnexpectedEof, 11)),
-    );
+    let rows: [(&[u8], u64); 3] = [(b"\x0a\0", 10), (b"\x0a\0\0", 10), (b"\x0a\x01\x80", 11)];
+    for (bytes, offset) in rows {
+        let mut parser = after_header(0)?;
+        same(
+            &rt,
+            refusal(&mut parser, bytes),
+            Some(Error::new(Fault::UnexpectedEof, offset)),
+        );
+    }
     Ok(())
 }
 
 #[test]
 fn bodies_fill_their_section(rt: HostRuntime) -> Result<(), Fail> {
     let mut parser = after(FUNCTION)?;
-    parser.parse(b"\x0a\x03\x01\0\0", true)?;
+    pass(&mut parser, b"\x0a\x03\x01\0\0")?;
     same(&rt, parser.offset(), 15);
-    let chunk = parser.parse(b"\0\0", true)?;
-    match &chunk {
-        Chunk::Parsed {
-            payload: Payload::CodeSectionEntry(body),
-            ..
-        } => same(&rt, body.range(), 16..16),
-        _other => assert!(rt; false),
-    }
+    same(
+        &rt,
+        next_body(&mut parser, b"\0\0")?,
+        Some((1, 16..16, b"".as_slice())),
+    );
     for left in [b"\0".as_slice(), b"".as_slice()] {
         same(
             &rt,
@@ -118,8 +121,8 @@ fn bodies_fill_their_section(rt: HostRuntime) -> Result<(), Fail> {
 #[test]
 fn bodies_lie_in_their_section(rt: HostRuntime) -> Result<(), Fail> {
     let mut parser = after(b"\x03\x02\x02\0")?;
-    parser.parse(b"\x0a\x02\x02\0\0", true)?;
-    parser.parse(b"\0\0", true)?;
+    pass(&mut parser, b"\x0a\x02\x02\0\0")?;
+    pass(&mut parser, b"\0\0")?;
     same(&rt, parser.offset(), 16);
     for rest in [b"\0".as_slice(), b"".as_slice(), b"\x80".as_slice()] {
         let offset = if rest == b"\x80".as_slice() { 17 } else { 16 };
@@ -133,38 +136,48 @@ fn bodies_lie_in_their_section(rt: HostRuntime) -> Result<(), Fail> {
     Ok(())
 }
 
+// After these sections, the next one or the end is refused.
+fn refuses(
+    rt: &impl Abort,
+    sections: &[&[u8]],
+    bytes: &[u8],
+    fault: Fault,
+    offset: u64,
+) -> Result<(), Error> {
+    let mut parser = after_header(0)?;
+    for section in sections {
+        pass(&mut parser, section)?;
+    }
+    same(
+        rt,
+        refusal(&mut parser, bytes),
+        Some(Error::new(fault, offset)),
+    );
+    Ok(())
+}
+
 #[test]
 fn counts_match(rt: HostRuntime) -> Result<(), Fail> {
-    let mut parser = after(FUNCTION)?;
-    same(
+    refuses(
         &rt,
-        refusal(&mut parser, b"\x0a\x01\0"),
-        Some(Error::new(Fault::FunctionCodeDiffer, 14)),
-    );
-    same(
+        &[FUNCTION],
+        b"\x0a\x01\0",
+        Fault::FunctionCodeDiffer,
+        14,
+    )?;
+    refuses(&rt, &[FUNCTION], b"", Fault::FunctionWithoutCode, 12)?;
+    refuses(&rt, &[], b"\x0a\x02\x01\0", Fault::CodeWithoutFunction, 10)?;
+    let announced: &[u8] = b"\x0c\x01\x01";
+    refuses(
         &rt,
-        refusal(&mut parser, b""),
-        Some(Error::new(Fault::FunctionWithoutCode, 12)),
-    );
-    let mut parser = after_header(0)?;
-    same(
-        &rt,
-        refusal(&mut parser, b"\x0a\x02\x01\0"),
-        Some(Error::new(Fault::CodeWithoutFunction, 10)),
-    );
-    let mut parser = after_header(0)?;
-    parser.parse(b"\x0c\x01\x01", true)?;
-    same(
-        &rt,
-        refusal(&mut parser, b"\x0b\x02\x02\0"),
-        Some(Error::new(Fault::DataCountDiffer, 15)),
-    );
-    same(
-        &rt,
-        refusal(&mut parser, b""),
-        Some(Error::new(Fault::DataCountWithoutData, 11)),
-    );
-    parser.parse(b"\x0b\x01\x01", true)?;
-    parser.parse(b"", true)?;
+        &[announced],
+        b"\x0b\x02\x02\0",
+        Fault::DataCountDiffer,
+        15,
+    )?;
+    refuses(&rt, &[announced], b"", Fault::DataCountWithoutData, 11)?;
+    let mut parser = after(announced)?;
+    pass(&mut parser, b"\x0b\x01\x01")?;
+    same(&rt, end(&mut parser)?, Some(14));
     Ok(())
 }

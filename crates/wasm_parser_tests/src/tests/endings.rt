@@ -1,9 +1,10 @@
 // Where more bytes are asked for, streams that go on differently have different next events.
 use super::parsing::HEADER;
-use wasm_parser::{Chunk, Error, Fault, NumberKind, Parser, Payload, Result};
+use super::same;
 use std::alloc::Global;
 use std::process::Abort;
 use std::test::Fail;
+use wasm_parser::{Chunk, Error, Fault, NumberKind, Parser, Payload, Result};
 
 // A function section of one function, and the start of a code section with its one body.
 const FUNCTION: &[u8] = b"\x03\x02\x01\0";
@@ -61,6 +62,16 @@ fn next_event(alloc: Global, parts: &[&[u8]], data: &[u8], ending: &[u8]) -> Res
     })
 }
 
+// Whether more is asked for after these parts, on this data.
+fn asks(parts: &[&[u8]], data: &[u8]) -> Result<bool> {
+    let mut parser = Parser::new(0);
+    for part in parts {
+        parser.parse(part, false)?;
+    }
+    let chunk = parser.parse(data, false)?;
+    Ok(matches!(&chunk, Chunk::NeedMoreData(_)))
+}
+
 // After these parts, on this data, more is asked for: with these endings streams have these next events, of which the
 // first two and the last two differ. The third ending is the one that decides, the last one is empty.
 fn differs(
@@ -70,21 +81,12 @@ fn differs(
     data: &[u8],
     endings: [(&[u8], Next); 4],
 ) -> Result<(), Fail> {
-    let mut parser = Parser::new(0);
-    for part in parts {
-        parser.parse(part, false)?;
-    }
-    let chunk = parser.parse(data, false)?;
-    assert!(rt; matches!(&chunk, Chunk::NeedMoreData(_)), "{data:?}");
+    same(rt, asks(parts, data)?, true);
     for (ending, wanted) in endings {
-        assert_eq!(rt;
-            next_event(alloc, parts, data, ending)?,
-            wanted,
-            "{data:?} {ending:?}"
-        );
+        same(rt, next_event(alloc, parts, data, ending)?, wanted);
     }
-    let [(_, one), (_, other), (_, decided), (_, ended)] = endings;
-    assert!(rt; one != other && decided != ended);
+    assert!(rt; endings[0].1 != endings[1].1);
+    assert!(rt; endings[2].1 != endings[3].1);
     Ok(())
 }
 

@@ -16,6 +16,23 @@ pub(super) fn refusal(parser: &mut Parser, bytes: &[u8]) -> Option<Error> {
     parser.parse(bytes, true).err()
 }
 
+// Passes the part that comes next.
+pub(super) fn pass(parser: &mut Parser, bytes: &[u8]) -> Result<(), Error> {
+    parser.parse(bytes, true)?;
+    Ok(())
+}
+
+// Where the stream ends, if it does so here.
+pub(super) fn end(parser: &mut Parser) -> Result<Option<u64>, Error> {
+    match parser.parse(b"", true)? {
+        Chunk::Parsed {
+            payload: Payload::End(at),
+            ..
+        } => Ok(Some(at)),
+        _other => Ok(None),
+    }
+}
+
 #[test]
 fn a_header(rt: HostRuntime) -> Result<(), Fail> {
     let mut parser = Parser::new(0);
@@ -99,17 +116,17 @@ fn faults_change_nothing(rt: HostRuntime) -> Result<(), Fail> {
         (b"\x03\x02\0", Fault::UnexpectedEof, 10),
     ];
     for (bytes, fault, offset) in rows {
-        assert_eq!(rt;
+        same(
+            &rt,
             refusal(&mut parser, bytes),
             Some(Error::new(fault, offset)),
-            "{bytes:?}"
         );
         same(&rt, parser.offset(), 8);
     }
     // No rank and no count was kept of those that were refused.
-    parser.parse(b"\x03\x01\0", true)?;
+    pass(&mut parser, b"\x03\x01\0")?;
     same(&rt, parser.offset(), 11);
-    parser.parse(b"", true)?;
+    same(&rt, end(&mut parser)?, Some(11));
     Ok(())
 }
 

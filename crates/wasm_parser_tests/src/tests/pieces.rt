@@ -1,5 +1,5 @@
 // Calls of the parser on bytes after which more may come.
-use super::parsing::after_header;
+use super::parsing::{after_header, end, refusal};
 use super::same;
 use std::test::Fail;
 use wasm_parser::{Chunk, Error, Fault, Parser, Payload};
@@ -159,11 +159,11 @@ fn bodies_past_their_section(rt: HostRuntime) -> Result<(), Fail> {
     ];
     for (code, bytes, wanted) in rows {
         let mut parser = after(0, &[functions, code])?;
-        assert_eq!(rt; told(&mut parser, bytes), wanted, "{code:?} {bytes:?}");
+        same(&rt, told(&mut parser, bytes), wanted);
     }
     let mut parser = after(0, &[functions, b"\x0a\x02\x01"])?;
     let past = Error::new(Fault::UnexpectedEof, 15);
-    same(&rt, parser.parse(b"\x05", true).err(), Some(past));
+    same(&rt, refusal(&mut parser, b"\x05"), Some(past));
     same(&rt, parser.offset(), 15);
     Ok(())
 }
@@ -173,7 +173,7 @@ fn a_code_section_that_is_skipped(rt: HostRuntime) -> Result<(), Fail> {
     let functions: &[u8] = b"\x03\x02\x01\0";
     let mut parser = after(0, &[functions])?;
     same(&rt, parser.skippable(), None);
-    parser.parse(b"\x0a\x04\x01", false)?;
+    same(&rt, told(&mut parser, b"\x0a\x04\x01"), Answer::Consumes(3));
     same(&rt, (parser.offset(), parser.skippable()), (15, Some(3)));
     same(&rt, told(&mut parser, b""), Answer::Asks(1));
     same(&rt, told(&mut parser, b"\x02"), Answer::Asks(2));
@@ -182,19 +182,19 @@ fn a_code_section_that_is_skipped(rt: HostRuntime) -> Result<(), Fail> {
         parser.skip_section();
     }
     same(&rt, (parser.offset(), parser.skippable()), (18, Some(0)));
-    match parser.parse(b"", true)? {
-        Chunk::Parsed {
-            payload: Payload::End(at),
-            ..
-        } => same(&rt, at, 18),
-        _other => assert!(rt; false),
-    }
+    same(&rt, end(&mut parser)?, Some(18));
     same(&rt, parser.skippable(), None);
-    let mut parser = after(0, &[functions, b"\x0a\x04\x01", b"\x02\0\x0b"])?;
+    Ok(())
+}
+
+#[test]
+fn nothing_is_left_to_skip(rt: HostRuntime) -> Result<(), Fail> {
+    let parts: [&[u8]; 3] = [b"\x03\x02\x01\0", b"\x0a\x04\x01", b"\x02\0\x0b"];
+    let mut parser = after(0, &parts)?;
     same(&rt, parser.skippable(), Some(0));
     same(&rt, told(&mut parser, b""), Answer::Asks(1));
     same(&rt, parser.skippable(), Some(0));
-    parser.parse(b"\0\x01\0", false)?;
+    same(&rt, told(&mut parser, b"\0\x01\0"), Answer::Consumes(3));
     same(&rt, parser.skippable(), None);
     Ok(())
 }

@@ -1,11 +1,11 @@
 // The calls of a parser beside `parse`, and the ids of payloads.
-use super::parsing::{HEADER, after_header};
+use super::parsing::{HEADER, after_header, end, pass, refusal};
 use super::same;
 use bitflags::Flags;
 use std::ops::Range;
 use std::process::Abort;
 use std::test::Fail;
-use wasm_parser::{Chunk, Parser, Payload, WasmFeatures};
+use wasm_parser::{Chunk, Error, Fault, Parser, Payload, WasmFeatures};
 
 #[test]
 fn headers_are_distinguished(rt: HostRuntime) -> Result<(), Fail> {
@@ -51,13 +51,17 @@ fn windows_have_the_parsers_features(rt: HostRuntime) -> Result<(), Fail> {
 #[test]
 fn a_copy_goes_its_own_way(rt: HostRuntime) -> Result<(), Fail> {
     let mut parser = after_header(0)?;
-    parser.parse(b"\x03\x02\x01\0", true)?;
+    pass(&mut parser, b"\x03\x02\x01\0")?;
     let mut copy = parser.clone()?;
-    copy.parse(b"\x0a\x03\x01\x01", true)?;
-    copy.parse(b"\x01\0", true)?;
+    pass(&mut copy, b"\x0a\x03\x01\x01")?;
+    pass(&mut copy, b"\x01\0")?;
     same(&rt, (parser.offset(), copy.offset()), (12, 17));
-    copy.parse(b"", true)?;
-    assert!(rt; parser.parse(b"", true).is_err());
+    same(&rt, end(&mut copy)?, Some(17));
+    same(
+        &rt,
+        refusal(&mut parser, b""),
+        Some(Error::new(Fault::FunctionWithoutCode, 12)),
+    );
     Ok(())
 }
 

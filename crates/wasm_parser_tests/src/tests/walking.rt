@@ -1,67 +1,68 @@
 // Walks over whole streams.
 use super::parsing::HEADER;
 use super::same;
+use std::ops::Range;
+use std::process::Abort;
 use std::test::Fail;
-use wasm_parser::{Error, Fault, Parser, Payload};
+use wasm_parser::{Error, Fault, ParseAll, Parser, Payload};
 
-#[test]
-fn a_walk_ends_after_the_end(rt: HostRuntime) -> Result<(), Fail> {
-    let mut walk = Parser::new(0).parse_all(b"\0asm\x01\0\0\0\x0c\x01\0");
+// What a walk gives: the end, a fault, another payload with the offsets of its section, or nothing.
+#[derive(Debug, Drop, PartialEq)]
+enum Given {
+    End(u64),
+    Refused(Error),
+    Part(Option<(u8, Range<u64>)>),
+    Nothing,
+}
+
+fn next(walk: &mut ParseAll<'_>) -> Given {
     match walk.next() {
-        Some(Ok(Payload::Version { range, .. })) => same(&rt, range, 0..8),
-        _other => assert!(rt; false),
+        Some(Ok(Payload::End(at))) => Given::End(at),
+        Some(Ok(payload)) => Given::Part(payload.as_section()),
+        Some(Err(error)) => Given::Refused(error),
+        None => Given::Nothing,
     }
-    match walk.next() {
-        Some(Ok(Payload::DataCountSection { count, range })) => {
-            same(&rt, count, 0);
-            same(&rt, range, 10..11);
-        }
-        _other => assert!(rt; false),
+}
+
+// A walk over the stream gives these, and then nothing, however often it is asked.
+fn gives(rt: &impl Abort, start: u64, stream: &[u8], wanted: &[Given]) {
+    let mut walk = Parser::new(start).parse_all(stream);
+    for one in wanted {
+        let given = next(&mut walk);
+        assert!(rt; given == *one, "{given:?}, and not {one:?}");
     }
-    match walk.next() {
-        Some(Ok(Payload::End(at))) => same(&rt, at, 11),
-        _other => assert!(rt; false),
+    for _ in 0..4 {
+        same(rt, next(&mut walk), Given::Nothing);
     }
-    assert!(rt; walk.next().is_none());
-    assert!(rt; walk.next().is_none());
-    Ok(())
 }
 
 #[test]
-fn a_walk_ends_after_a_fault(rt: HostRuntime) -> Result<(), Fail> {
-    let mut walk = Parser::new(0).parse_all(b"\0asm\x01\0\0\0\x0c\x01\x01\x0b\x02\x02\0\0\0");
-    assert!(rt; walk.next().is_some());
-    assert!(rt; walk.next().is_some());
-    match walk.next() {
-        Some(Err(error)) => same(&rt, error, Error::new(Fault::DataCountDiffer, 15)),
-        _other => assert!(rt; false),
-    }
-    assert!(rt; walk.next().is_none());
-    assert!(rt; walk.next().is_none());
-    Ok(())
+fn a_walk_ends_after_the_end(rt: HostRuntime) {
+    let count = Given::Part(Some((12, 10..11)));
+    let wanted = [Given::Part(None), count, Given::End(11)];
+    gives(&rt, 0, b"\0asm\x01\0\0\0\x0c\x01\0", &wanted);
 }
 
 #[test]
-fn a_walk_near_the_top_of_the_offsets(rt: HostRuntime) -> Result<(), Fail> {
-    let mut walk = Parser::new(18446744073709551608).parse_all(HEADER);
-    match walk.next() {
-        Some(Err(error)) => {
-            same(
-                &rt,
-                error,
-                Error::new(Fault::OffsetRange, 18446744073709551608),
-            );
-        }
-        _other => assert!(rt; false),
-    }
-    assert!(rt; walk.next().is_none());
-    let mut walk = Parser::new(18446744073709551607).parse_all(HEADER);
-    assert!(rt; walk.next().is_some());
-    match walk.next() {
-        Some(Ok(Payload::End(at))) => same(&rt, at, 18446744073709551615),
-        _other => assert!(rt; false),
-    }
-    Ok(())
+fn a_walk_ends_after_a_fault(rt: HostRuntime) {
+    let count = Given::Part(Some((12, 10..11)));
+    let refused = Given::Refused(Error::new(Fault::DataCountDiffer, 15));
+    let wanted = [Given::Part(None), count, refused];
+    gives(
+        &rt,
+        0,
+        b"\0asm\x01\0\0\0\x0c\x01\x01\x0b\x02\x02\0\0\0",
+        &wanted,
+    );
+}
+
+#[test]
+fn a_walk_near_the_top_of_the_offsets(rt: HostRuntime) {
+    let (past, last) = (18446744073709551608, 18446744073709551607);
+    let refused = Given::Refused(Error::new(Fault::OffsetRange, past));
+    gives(&rt, past, HEADER, &[refused]);
+    let wanted = [Given::Part(None), Given::End(18446744073709551615)];
+    gives(&rt, last, HEADER, &wanted);
 }
 
 #[test]
