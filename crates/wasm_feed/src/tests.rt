@@ -1,5 +1,6 @@
 // Worked examples, devices that fail or go short, and memory that runs out.
 mod devices;
+mod endings;
 mod feeding;
 mod heap;
 mod listings;

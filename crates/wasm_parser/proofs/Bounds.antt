@@ -40,7 +40,7 @@ Within low here (u32_field o next) = Between low here o × ((v k : ℕ) → With
 Within low here (bytes count o next) = Between low here o × ((b : List ℕ) → length b ≡ count → Within low (here + count) (next b))
 Within low here (section_start o e next) = Between low here o × EndsIn low here e × ((id : ℕ) → Within low (here + 1) (next id))
 
-final_same : (f g : FaultAt) → (let v : Verdict = final (fault f) in v) ≡ final (fault g) → f ≡ g
+pub final_same : (f g : FaultAt) → (let v : Verdict = final (fault f) in v) ≡ final (fault g) → f ≡ g
 final_same f g e = cc
 
 ending_lies : (low here more : ℕ) (e : Ending) (f : FaultAt) → EndsIn low here e → final e ≡ final (fault f) → Between low (here + more) f.offset

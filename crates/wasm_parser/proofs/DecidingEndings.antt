@@ -20,6 +20,7 @@ use Rattle.wasm_parser.specs.Undecided.{ending_of_number, deciding_ending}
 use Rattle.wasm_parser.specs.Waiting.{enough, wants, later, later_number, waiting}
 use Rattle.wasm_parser.specs.declared.payload.Encoding.{Encoding}
 use Rattle.wasm_parser.specs.declared.payload.Encoding.TheVariants.{Module, Component}
+use Rattle.wasm_parser.proofs.Bounds.{final_same}
 use Rattle.wasm_parser.proofs.Endings.{after_final}
 use Rattle.wasm_parser.proofs.GrammarLaws.{agree-more}
 use Rattle.wasm_parser.proofs.ReadingFields.{bad_hint}
@@ -29,10 +30,7 @@ use Rattle.wasm_parser.proofs.WaitingLaws.{later-wants}
 
 -- a stream that ends at another fault ends differently
 apart : (f g : FaultAt) → f.fault ≢ g.fault → (let v : Verdict = final (fault f) in v) ≢ final (fault g)
-apart f g h z = h (ap (λ (x : FaultAt). x.fault) (same f g z))
-  where
-    same : (f g : FaultAt) → (let v : Verdict = final (fault f) in v) ≡ final (fault g) → f ≡ g
-    same f g e = cc
+apart f g h z = h (ap (λ (x : FaultAt). x.fault) (final_same f g z))
 
 -- what is there after the same bytes tells what is there
 after_same : (f : List ℕ) (a b : Verdict) → after f a ≡ after f b → a ≡ b
@@ -145,11 +143,14 @@ NotMissing o (Some f) = f ≢ at_offset UnexpectedEof o
 elsewhere : (f : Fault) (p o : ℕ) → o < p → at_offset f p ≢ at_offset UnexpectedEof o
 elsewhere f p o l e = let z : p ≡ o = ap (λ (x : FaultAt). x.offset) e in omega arith
 
-other_fault : (f : Fault) (p o : ℕ) → hint_at 1 f ≡ None → at_offset f p ≢ at_offset UnexpectedEof o
-other_fault f p o h e = let z : hint_at 1 f ≡ Some 1 = ap (λ (x : FaultAt). hint_at 1 x.fault) e in none_some (sym h ∙ z)
+not_missing : (f : FaultAt) (o : ℕ) → hint_at 1 f.fault ≡ None → f ≢ at_offset UnexpectedEof o
+not_missing f o h e = none_some (sym h ∙ ap (λ (x : FaultAt). hint_at 1 x.fault) e)
   where
     none_some : (let x : Option ℕ = None in x) ≡ Some 1 → ⊥
     none_some e = cc
+
+other_fault : (f : Fault) (p o : ℕ) → hint_at 1 f ≡ None → at_offset f p ≢ at_offset UnexpectedEof o
+other_fault f p o h e = not_missing (at_offset f p) o h e
 
 when_other : (b : Bool) (f : FaultAt) (o : ℕ) → f ≢ at_offset UnexpectedEof o → NotMissing o (when b f)
 when_other true f o h = h
@@ -202,13 +203,10 @@ data_other p index id o q c = tt
 data_other p data_count id o q c = tt
 data_other p unknown id o q c = tt
 
-fault_is : (f g : FaultAt) → (let v : Verdict = final (fault f) in v) ≡ final (fault g) → f ≡ g
-fault_is f g e = cc
-
 checked_twice : (a b : Option FaultAt) (s : Shape) (o : ℕ) → NotMissing o a → NotMissing o b → verdict (check a (check b (accept s))) [] ≢ final (fault (at_offset UnexpectedEof o))
 unfolding verdict
-checked_twice (Some x) b s o h g z = h (fault_is x (at_offset UnexpectedEof o) z)
-checked_twice None (Some x) s o h g z = g (fault_is x (at_offset UnexpectedEof o) z)
+checked_twice (Some x) b s o h g z = h (final_same x (at_offset UnexpectedEof o) z)
+checked_twice None (Some x) s o h g z = g (final_same x (at_offset UnexpectedEof o) z)
 checked_twice None None s o h g z = cc
 
 Differs-content : (p : SectionContext) (kind : Kind) (id o n : ℕ) → Differs (content_grammar p kind id o n)
@@ -231,17 +229,12 @@ Differs-header_of o bits None = tt
 version_other : (o p bits : ℕ) (e : Option Encoding) → verdict (header_of o bits e) [] ≢ final (fault (at_offset UnexpectedEof p))
 unfolding verdict
 version_other o p bits (Some e) z = cc
-version_other o p bits None z =
-    let y : record { fault = UnknownVersion; offset = o + 4; number = Some bits } ≡ at_offset UnexpectedEof p = fault_is _ _ z in
-    none_some (ap (λ (x : FaultAt). hint_at 1 x.fault) y)
-  where
-    none_some : (let x : Option ℕ = None in x) ≡ Some 1 → ⊥
-    none_some e = cc
+version_other o p bits None z = not_missing (record { fault = UnknownVersion; offset = o + 4; number = Some bits }) p refl (final_same _ _ z)
 
 magic_other : (b : Bool) (o : ℕ) (next : List ℕ → Grammar) → verdict (check (when b (at_offset BadMagic o)) (bytes 4 (o + 4) next)) [] ≢ final (fault (at_offset UnexpectedEof o))
 unfolding verdict
-magic_other true o next z = other_fault BadMagic o o refl (fault_is _ _ z)
-magic_other false o next z = elsewhere UnexpectedEof (o + 4) o (omega arith) (fault_is _ _ z)
+magic_other true o next z = other_fault BadMagic o o refl (final_same _ _ z)
+magic_other false o next z = elsewhere UnexpectedEof (o + 4) o (omega arith) (final_same _ _ z)
 
 Differs-header : (o : ℕ) → Differs (header_grammar o)
 unfolding header_grammar

@@ -94,7 +94,6 @@ tile_comes start features ts rest t f v before later e r c =
     let w : bytes_of ts ++ rest ≡ bytes_of (t ∷ ts) ++ g.rest = ap (λ (x : List ℕ). bytes_of ts ++ x) g.split ∙ sym (append_assoc (bytes_of ts) t.bytes g.rest) in
     let l = longest (bytes_of ts ++ rest) start r.tiles (t ∷ ts) r.end g.rest r.reads g.faultless w in
     let m : MoreEvents (events_of start features (t ∷ ts)) (events_of start features (l.0 ++ t ∷ ts)) = events_later start features l.0 (t ∷ ts) in
-    let x : Event = event_of features (start + length (bytes_of ts)) t in
     let all : before ++ e ∷ later ≡ events_of start features ts ++ event_of features (start + length (bytes_of ts)) t ∷ (m.more ++ last_event r.end ∷ []) =
     r.listed ∙ (ap (λ (y : List Tile). events_of start features y ++ last_event r.end ∷ []) l.1 ∙ (ap (λ (y : List Event). y ++ last_event r.end ∷ []) m.parts
     ∙ (append_assoc (events_of start features (t ∷ ts)) m.more (last_event r.end ∷ []) ∙ append_assoc (events_of start features ts) (event_of features (start + length (bytes_of ts)) t ∷ []) (m.more ++ last_event r.end ∷ [])))) in

@@ -34,7 +34,6 @@ what_comes start features tiles front rest event t n =
 something_comes : (start features : ℕ) (tiles : List Tile) (front rest : List ℕ) → IsTiledBy start front tiles → (event : Event) × ComesNext start features front rest event
 something_comes start features tiles front rest t =
     let o : Onward (front ++ rest) start [] = reads_all (front ++ rest) start in
-    let events : List Event = events_of start features o.tiles ++ last_event o.end ∷ [] in
     let read : Reading (front ++ rest) start features (events_of start features o.tiles ++ last_event o.end ∷ []) = record { tiles = o.tiles; end = o.end; reads = o.reads; listed = refl } in
     let n : NextEvent (events_of start features o.tiles ++ last_event o.end ∷ []) front =
     subst (NextEvent (events_of start features o.tiles ++ last_event o.end ∷ [])) t.1 (next_there start features tiles rest _ t.0 (subst (λ (x : List ℕ). Reading (x ++ rest) start features (events_of start features o.tiles ++ last_event o.end ∷ [])) (sym t.1) read)) in
@@ -75,7 +74,6 @@ no_tile start tiles came need hint w t v = enough_wants (sym (tile_decided (gram
 pub other_comes : (start features : ℕ) (tiles : List Tile) (front came : List ℕ) (need hint : ℕ) → IsTiledBy start front tiles → waiting (grammar start tiles) came ≡ wants need hint → (x y : Event)
     → ComesNext start features front came x → ComesNext start features front (came ++ deciding_ending (grammar start tiles) came) y → x ≢ y
 other_comes start features tiles front came need hint t w x y a b z =
-    let more : List ℕ = came ++ deciding_ending (grammar start tiles) came in
     let same : event_at start features tiles (verdict (grammar start tiles) came) ≡ event_at start features tiles (verdict (grammar start tiles) (came ++ deciding_ending (grammar start tiles) came)) =
     sym (what_comes start features tiles front came x t a) ∙ (z ∙ what_comes start features tiles front (came ++ deciding_ending (grammar start tiles) came) y t b) in
     events_differ start features tiles (verdict (grammar start tiles) came) (verdict (grammar start tiles) (came ++ deciding_ending (grammar start tiles) came)) (no_tile start tiles came need hint w)
@@ -103,7 +101,6 @@ short_is_undecided start front came tiles t need hint w = (
 two_streams : (start features : ℕ) (tiles : List Tile) (front came : List ℕ) (need hint : ℕ) → IsTiledBy start front tiles → waiting (grammar start tiles) came ≡ wants need hint → Stream (front ++ came) start → start + length (front ++ came) + 2 ^ 33 < 2 ^ 64
     → TwoStreams start features front came
 two_streams start features tiles front came need hint t w s l =
-    let more : List ℕ = deciding_ending (grammar start tiles) came in
     let (x, a) = something_comes start features tiles front came t in
     let (y, b) = something_comes start features tiles front (came ++ deciding_ending (grammar start tiles) came) t in
     record {

@@ -9,7 +9,7 @@ use std::test::Fail;
 use wasm_parser::{Error, Fault, NumberKind, Parser};
 
 /// A stream after a module's header, and its listing after the header's line.
-const SECTIONS: [(&[u8], &[u8]); 14] = [
+const SECTIONS: [(&[u8], &[u8]); 15] = [
     (
         b"\x03\x02\x01\0\x0a\x04\x01\x02\0\x0b",
         b"section 3 10 12 1\ncode 14 18 1 3\nbody 16 18\nend 18\n",
@@ -46,8 +46,12 @@ const SECTIONS: [(&[u8], &[u8]); 14] = [
         b"datacount 10 11 1\nfault 15 data count and data section have inconsistent lengths\n",
     ),
     (
-        b"\x03\x02\x01\0\x0a\x03\x01\x05\0",
-        b"section 3 10 12 1\ncode 14 17 1 2\nfault 16 unexpected end-of-file\n",
+        b"\x03\x02\x01\0\x0a\x07\x01\x05\0",
+        b"section 3 10 12 1\ncode 14 21 1 6\nfault 16 unexpected end-of-file\n",
+    ),
+    (
+        b"\x03\x02\x01\0\x0a\x02\x01\x05",
+        b"section 3 10 12 1\ncode 14 16 1 1\nfault 15 unexpected end-of-file\n",
     ),
     (
         b"\x03\x02\x01\0\x0a\x02\x01\x80",
