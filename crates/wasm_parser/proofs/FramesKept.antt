@@ -30,7 +30,7 @@ module _ {X : Type 0} where
   filter_step p q x xs h ih false true e f = rw e ih
   filter_step p q x xs h ih false false e f = ih
 
-  filter_twice : (p q : X → Bool) (xs : List X) → All (Spares p q) xs → filter p (filter q xs) ≡ filter p xs
+  pub filter_twice : (p q : X → Bool) (xs : List X) → All (Spares p q) xs → filter p (filter q xs) ≡ filter p xs
   filter_twice p q [] a = refl
   filter_twice p q (x ∷ xs) a = filter_step p q x xs (All-head (Spares p q) x xs a) (filter_twice p q xs (All-tail (Spares p q) x xs a)) (p x) (q x) refl refl
 
@@ -85,7 +85,7 @@ module _ {X : Type 0} where
   all_same : (P : X → Type 0) (p : X → Bool) → ((x : X) → p x ≡ false → P x) → (xs ys : List X) → filter p xs ≡ filter p ys → All P xs → All P ys
   all_same P p h xs ys e a = all_passed P p h ys (subst (All P) e (All-filter p P xs a))
 
-  each_of : (P : X → Type 0) → ((x : X) → P x) → (xs : List X) → All P xs
+  pub each_of : (P : X → Type 0) → ((x : X) → P x) → (xs : List X) → All P xs
   each_of P h xs = λ k d l. h (slice_index_or xs k d)
 
 -- ---- sections that fit after others
@@ -153,13 +153,22 @@ code_events_move features at by f d =
       consumed = f.id ∷ (f.sized.field ++ d.field);
     } ∷ t i
 
-events_moved : (features at by : ℕ) (k : Kind) (f : Frame) (events : List Event) → KindEvents features at k f events → KindEvents features (at + by) k f (shifted_events by events)
-events_moved features at by (whole form) f events e = ap (shifted_events by) e ∙ ap (λ (x : Event). x ∷ []) (section_event_moves features at by form f)
-events_moved features at by code f events (d, e) = (d, ap (shifted_events by) e ∙ code_events_move features at by f d)
+events_here : (features at by : ℕ) (k : Kind) (f : Frame) (moved : List Event) → KindEvents features (at + by) k f moved → (events : List Event) × KindEvents features at k f events × (moved ≡ shifted_events by events)
+events_here features at by (whole form) f moved e = (section_event features at form f ∷ [], refl, e ∙ ap (λ (x : Event). x ∷ []) (sym (section_event_moves features at by form f)))
+events_here features at by code f moved (d, e) = (code_events features at f d, (d, refl), e ∙ sym (code_events_move features at by f d))
+
+events_moved : (features at by : ℕ) (k : Kind) (f : Frame) (moved events : List Event) → KindEvents features at k f events → moved ≡ shifted_events by events → KindEvents features (at + by) k f moved
+events_moved features at by (whole form) f moved events e m = m ∙ (ap (shifted_events by) e ∙ ap (λ (x : Event). x ∷ []) (section_event_moves features at by form f))
+events_moved features at by code f moved events (d, e) m = (d, m ∙ (ap (shifted_events by) e ∙ code_events_move features at by f d))
 
 pub frames_read_the_same : FramesReadTheSame
-frames_read_the_same encoding earlier others f s =
-    (fits_same encoding earlier others f s, λ features at by events. events_moved features at by (kind_of encoding f.id) f events)
+frames_read_the_same encoding earlier others f s = (
+  fits_same encoding earlier others f s,
+  λ features at by moved. (
+    events_here features at by (kind_of encoding f.id) f moved,
+    λ (events, e, m). events_moved features at by (kind_of encoding f.id) f moved events e m,
+  ),
+)
 
 -- ---- an accepted stream without sections that have no rank
 

@@ -20,7 +20,7 @@ FramesGiveEvents = (stream : List ℕ) (start features : ℕ) (events : List Eve
 abbrev pub FramesReadTheSame : Type 0
 FramesReadTheSame = (encoding : Encoding) (earlier others : List Frame) (f : Frame) → SayTheSame encoding earlier others
     → (FitsAfter encoding earlier f → FitsAfter encoding others f)
-    × ((features at by : ℕ) (events : List Event) → FrameEvents features encoding at f events → FrameEvents features encoding (at + by) f (shifted_events by events))
+    × ((features at by : ℕ) (moved : List Event) → FrameEvents features encoding (at + by) f moved ↔ ((events : List Event) × FrameEvents features encoding at f events × (moved ≡ shifted_events by events)))
 
 -- a stream without some of the sections that have no rank is accepted as the stream is
 abbrev pub RanklessMayGo : Type 0
