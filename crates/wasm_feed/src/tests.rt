@@ -6,3 +6,4 @@ mod listings;
 mod modules;
 mod pieces;
 mod refusals;
+mod stripping;
