@@ -3,7 +3,10 @@ pub mod Along
 pub mod ByHand
 pub mod Decimal
 pub mod Joining
+pub mod LeftFrames
+pub mod LeftParts
 pub mod Progress
 pub mod Resting
 pub mod Stepping
+pub mod StripLaws
 pub mod Waits

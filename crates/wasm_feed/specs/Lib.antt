@@ -11,5 +11,7 @@ pub mod Page
 pub mod Pieces
 pub mod Rows
 pub mod Step
+pub mod Stripped
+pub mod Strips
 pub mod Turns
 pub mod Waits

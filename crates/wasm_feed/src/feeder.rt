@@ -49,6 +49,20 @@ impl Cursor {
         }
     }
 
+    /// A cursor of this parser before bytes that are all of the stream.
+    pub(crate) fn over_all(parser: Parser) -> Cursor
+        ensures parser { result.parser ≡ parser }
+        ensures mark { result.mark ≡ 0 }
+        ensures finished { result.is_finished ≡ true }
+    {
+        Cursor {
+            parser,
+            mark: 0,
+            is_finished: true,
+            wants_more: false,
+        }
+    }
+
     /// Notes that the stream ends after the bytes that are there.
     pub(crate) fn finish(&mut self)
         ensures { self.new ≡ finished_cursor self.old }

@@ -1,7 +1,8 @@
-//! Laws of feeders and listings, each the contract of a function that does nothing.
+//! Laws of feeders, listings and stripping, each the contract of a function that does nothing.
 ghost use Rattle.wasm_base.specs.Comparing.{DecidesWhether, DecidesSame, IsCopy};
 ghost use Rattle.std.specs.Prelude.{◌≡◌};
 ghost use Rattle.wasm_feed.specs.Ends.{fault_at_end};
+ghost use Rattle.wasm_feed.specs.Stripped.{StrippingTwiceIsOnce};
 ghost use Rattle.wasm_feed.specs.Waits.{FeedersWait};
 
 use crate::listing::{Ended, ListError};
@@ -11,6 +12,11 @@ use crate::source::Failed;
 /// stores less than the bytes that bound the undecided ones and the piece together.
 pub fn feeders_wait_where_undecided()
     ensures { FeedersWait }
+{}
+
+/// Stripping what is left of a stream, the names kept both times or neither time, leaves it as it is.
+pub fn stripping_twice_is_once()
+    ensures { StrippingTwiceIsOnce }
 {}
 
 /// Two ends of listings are equal exactly if both are the end of a stream, or both a fault: the same fault, with the

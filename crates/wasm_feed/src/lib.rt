@@ -14,6 +14,7 @@ mod page;
 mod pieces;
 mod sink;
 mod source;
+mod stripping;
 #[cfg(test)]
 mod tests;
 
@@ -23,3 +24,4 @@ pub use listing::{Ended, ListError, list};
 pub use pieces::{fits_pieces, read_pieces};
 pub use sink::{BoundedSink, Sink, WriteSink, write_all};
 pub use source::{Failed, ReadSource, SliceSource, Source};
+pub use stripping::strip;

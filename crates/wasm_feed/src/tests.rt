@@ -7,3 +7,4 @@ mod listings;
 mod modules;
 mod pieces;
 mod refusals;
+mod stripping;

@@ -7,9 +7,11 @@ use Rattle.wasm_base.specs.Name.{named, name_limit, name}
 use Rattle.wasm_parser.specs.declared.payload.Encoding.{Encoding}
 use Rattle.wasm_parser.specs.declared.payload.Encoding.TheVariants.{Module, Component}
 use Rattle.wasm_parser.specs.Content.{kind_of, rank_of, value_of, count_of, Kind}
+use Rattle.wasm_parser.specs.FrameEvents.{body_events}
 use Rattle.wasm_parser.specs.Grammar.{section, code_start, code_entry, Tile, tile, SectionContext, Grammar, verdict, section_grammar, body_grammar}
 use Rattle.wasm_parser.specs.Tiling.{bytes_of, grammar, Faultless, context_of, bodies_left, bytes_left}
 use Rattle.wasm_parser.specs.ParserState.{is_start}
+use Rattle.wasm_parser.specs.Reading.{events_of}
 use Rattle.wasm_parser.specs.Accepted.{Sized, sized_bytes, IsSized, Frame, frame_bytes, frame_count, frame_rank, IsFrame, IsGood, FitsAfter, CodeDivision}
 use Rattle.wasm_parser.proofs.StateLaws.{Follows}
 use Rattle.wasm_parser.proofs.AcceptedCounts.{Knows}
@@ -17,6 +19,7 @@ use Rattle.wasm_parser.proofs.AcceptedFits.{rank_to, CodeFits, code_to, data_to}
 use Rattle.wasm_parser.proofs.AcceptedContents.{good_to}
 use Rattle.wasm_parser.proofs.AcceptedTiles.{made, IsWhole, HeadIsRight, number_on, section_tile, code_head_tile, body_tile}
 use Rattle.wasm_parser.proofs.AcceptedKnows.{grammar_open, knows_body}
+use Rattle.wasm_parser.proofs.TileEvents.{body_tile_event}
 
 -- what comes before a good section's content is right, if the section fits
 head_of_frame : (p : SectionContext) (fs : List Frame) (o : ℕ) (f : Frame) → Knows p.encoding fs p → IsFrame p.encoding f → FitsAfter p.encoding fs f → o + length (frame_bytes f) < 2 ^ 64
@@ -86,6 +89,7 @@ pub record Through (start : ℕ) (ts : List Tile) (bodies : List Sized) : Type 0
   pub joined : bytes_of tiles ≡ bytes_of ts ++ flat_map sized_bytes bodies
   pub closed : nat_eq (bodies_left tiles + bytes_left tiles) 0 ≡ true
   pub knows : (encoding : Encoding) (fs : List Frame) → Knows encoding fs (context_of ts) → Knows encoding fs (context_of tiles)
+  pub listed : (features : ℕ) → events_of start features tiles ≡ events_of start features ts ++ body_events features (start + length (bytes_of ts)) bodies
 
 -- where a body is missing, a code section isn't at its end
 some_left : (a b n : ℕ) → a ≡ suc n → nat_eq (a + b) 0 ≡ false
@@ -99,6 +103,15 @@ body_at start ts s n b i e l =
     (subst (λ (m : ℕ). verdict (body_grammar m (bytes_left ts) (start + length (bytes_of ts))) (sized_bytes s) ≡ tile (made (code_entry s.content) (sized_bytes s))) (sym e)
     (body_tile n (bytes_left ts) (start + length (bytes_of ts)) s.field s.content i (omega (arith, length-append s.field s.content))))
 
+-- the events of bodies after one more
+body_listed : (start features : ℕ) (ts : List Tile) (s : Sized) (bodies : List Sized)
+    → events_of start features (made (code_entry s.content) (sized_bytes s) ∷ ts) ++ body_events features (start + length (bytes_of ts ++ sized_bytes s)) bodies
+    ≡ events_of start features ts ++ body_events features (start + length (bytes_of ts)) (s ∷ bodies)
+body_listed start features ts s bodies =
+    let o : start + length (bytes_of ts ++ sized_bytes s) ≡ start + length (bytes_of ts) + length (sized_bytes s) = omega (arith, length-append (bytes_of ts) (sized_bytes s)) in
+    append_assoc (events_of start features ts) _ _
+    ∙ (λ i. events_of start features ts ++ body_tile_event features (start + length (bytes_of ts)) s i ∷ body_events features (o i) bodies)
+
 -- bodies that a code section misses are tiles
 pub bodies_walk : (start : ℕ) (bodies : List Sized) (ts : List Tile) → is_start ts ≡ false → Faultless start ts → All IsSized bodies
     → bodies_left ts ≡ length bodies → bytes_left ts ≡ length (flat_map sized_bytes bodies) → Through start ts bodies
@@ -109,6 +122,7 @@ bodies_walk start [] ts b f a m l = record {
   joined = sym (append-nil (bytes_of ts));
   closed = rw (m, l) refl;
   knows = λ encoding fs k. k;
+  listed = λ features. sym (append-nil (events_of start features ts));
 }
 bodies_walk start (s ∷ bodies) ts b f a m l =
     let h : length (flat_map sized_bytes (s ∷ bodies)) ≡ length (sized_bytes s) + length (flat_map sized_bytes bodies) = length-append (sized_bytes s) (flat_map sized_bytes bodies) in
@@ -122,4 +136,5 @@ bodies_walk start (s ∷ bodies) ts b f a m l =
       joined = t.joined ∙ append_assoc (bytes_of ts) (sized_bytes s) (flat_map sized_bytes bodies);
       closed = t.closed;
       knows = λ encoding fs k. t.knows encoding fs (knows_body encoding fs ts s.content (sized_bytes s) k);
+      listed = λ features. t.listed features ∙ body_listed start features ts s bodies;
     }

@@ -7,9 +7,10 @@ use Rattle.std.proofs.lemmas.List.Elements.{All-head, All-tail}
 use Rattle.wasm_parser.specs.declared.payload.Encoding.{Encoding}
 use Rattle.wasm_parser.specs.declared.payload.Encoding.TheVariants.{Module, Component}
 use Rattle.wasm_parser.specs.Content.{Kind, code, kind_of, ended}
+use Rattle.wasm_parser.specs.FrameEvents.{header_event, section_event, code_events, KindEvents, FrameEvents, FramesEvents, body_events}
 use Rattle.wasm_parser.specs.Grammar.{version, section, code_start, Tile, tile, final, SectionContext, Grammar, verdict, end_at_section, section_grammar}
 use Rattle.wasm_parser.specs.Tiling.{bytes_of, grammar, Faultless, context_of, bodies_left, bytes_left}
-use Rattle.wasm_parser.specs.Reading.{Reads}
+use Rattle.wasm_parser.specs.Reading.{Event, events_of, Reads}
 use Rattle.wasm_parser.specs.ParserState.{is_start}
 use Rattle.wasm_parser.specs.Accepted.{sized_bytes, Frame, frame_bytes, IsFrame, IsGood, FitsAfter, CodeDivision, IsAccepted, header_bytes}
 use Rattle.wasm_parser.proofs.AcceptedCounts.{Knows}
@@ -18,10 +19,17 @@ use Rattle.wasm_parser.proofs.AcceptedEndings.{end_to}
 use Rattle.wasm_parser.proofs.AcceptedTiles.{made, IsWhole, whole_or_code, header_version, header_tile}
 use Rattle.wasm_parser.proofs.AcceptedKnows.{grammar_closed, knows_header, knows_section, knows_code}
 use Rattle.wasm_parser.proofs.AcceptedSteps.{section_step, code_step, division_count, division_length, Through, bodies_walk}
+use Rattle.wasm_parser.proofs.TileEvents.{header_tile_event, section_tile_event, start_tile_event, push_events}
 
 -- the bytes of a header and these frames
 abbrev pub stream_of : Encoding → List Frame → List ℕ
 stream_of encoding fs = header_bytes encoding ++ flat_map frame_bytes fs
+
+-- the events of tiles are a header's, and those of these frames
+pub record Told (start features : ℕ) (encoding : Encoding) (fs : List Frame) (tiles : List Tile) : Type 0 where
+  pub inner : List Event
+  pub sections : FramesEvents features encoding (start + length (header_bytes encoding)) fs inner
+  pub listed : events_of start features tiles ≡ header_event start encoding ∷ inner
 
 -- tiles that are a header and whole sections: these frames
 pub record Closed (start : ℕ) (encoding : Encoding) (fs : List Frame) (tiles : List Tile) : Type 0 where
@@ -30,6 +38,7 @@ pub record Closed (start : ℕ) (encoding : Encoding) (fs : List Frame) (tiles :
   pub joined : bytes_of tiles ≡ stream_of encoding fs
   pub knows : Knows encoding fs (context_of tiles)
   pub closed : nat_eq (bodies_left tiles + bytes_left tiles) 0 ≡ true
+  pub told : (features : ℕ) → Told start features encoding fs tiles
 
 -- some tiles are
 pub record Reached (start : ℕ) (encoding : Encoding) (fs : List Frame) : Type 0 where
@@ -52,12 +61,25 @@ room_for start encoding fs f prefix e r =
     let l : length prefix + length (frame_bytes f) ≡ length (stream_of encoding (fs ++ f ∷ [])) = sym (length-append prefix (frame_bytes f)) ∙ ap (λ (x : List ℕ). length x) (stream_more encoding fs f prefix e) in
     omega arith
 
+-- one more frame, with its events
+told_more : (start features : ℕ) (encoding : Encoding) (fs : List Frame) (f : Frame) (ts us : List Tile) (events : List Event) → bytes_of ts ≡ stream_of encoding fs → Told start features encoding fs ts
+    → FrameEvents features encoding (start + length (bytes_of ts)) f events → events_of start features us ≡ events_of start features ts ++ events → Told start features encoding (fs ++ f ∷ []) us
+told_more start features encoding fs f ts us events j t e l =
+    let n : length (bytes_of ts) ≡ length (header_bytes encoding) + length (flat_map frame_bytes fs) = ap (λ (x : List ℕ). length x) j ∙ length-append (header_bytes encoding) (flat_map frame_bytes fs) in
+    let o : start + length (bytes_of ts) ≡ start + length (header_bytes encoding) + length (flat_map frame_bytes fs) = omega arith in
+    record {
+      inner = t.inner ++ events;
+      sections = push_events features encoding (start + length (header_bytes encoding)) fs f t.inner events t.sections (subst (λ (x : ℕ). FrameEvents features encoding x f events) o e);
+      listed = l ∙ ap (λ (x : List Event). x ++ events) t.listed;
+    }
+
 -- one more frame that fits and is no code section
 whole_step : (start : ℕ) (encoding : Encoding) (fs : List Frame) (f : Frame) → Reached start encoding fs → start + length (stream_of encoding (fs ++ f ∷ [])) < 2 ^ 64 → IsFrame encoding f → FitsAfter encoding fs f
     → IsWhole (kind_of encoding f.id) → Reached start encoding (fs ++ f ∷ [])
 whole_step start encoding fs f q r i a w =
     let ts : List Tile = q.tiles in
     let c : Closed start encoding fs ts = q.there in
+    let o : ℕ = start + length (bytes_of ts) in
     let v : verdict (grammar start ts) (frame_bytes f) ≡ tile (made (section w.0 f.id f.sized.content) (frame_bytes f)) =
     closed_verdict start encoding fs ts c _ _ (section_step encoding (context_of ts) fs (start + length (bytes_of ts)) f (room_for start encoding fs f (bytes_of ts) c.joined r) c.knows i a w) in
     record {
@@ -68,6 +90,9 @@ whole_step start encoding fs f q r i a w =
         joined = stream_more encoding fs f (bytes_of ts) c.joined;
         knows = knows_section encoding fs ts f (frame_bytes f) w c.knows;
         closed = refl;
+        told = λ features. told_more start features encoding fs f ts _ (section_event features o w.0 f ∷ []) c.joined (c.told features)
+            (subst (λ (k : Kind). KindEvents features o k f (section_event features o w.0 f ∷ [])) (sym w.1) refl)
+            (ap (λ (e : Event). events_of start features ts ++ e ∷ []) (section_tile_event features o w.0 f));
       };
     }
 
@@ -78,6 +103,17 @@ code_bytes f d z prefix =
     ∙ (ap (λ (x : List ℕ). prefix ++ 10 ∷ x) (append_assoc f.sized.field d.field (flat_map sized_bytes d.bodies))
     ∙ (ap (λ (x : List ℕ). prefix ++ 10 ∷ (f.sized.field ++ x)) (sym d.whole)
     ∙ ap (λ (n : ℕ). prefix ++ n ∷ (f.sized.field ++ f.sized.content)) (sym z)))
+
+-- the events of a code section's head and bodies are the section's
+code_listed : (start features : ℕ) (ts : List Tile) (f : Frame) (d : CodeDivision f.sized.content) → f.id ≡ 10
+    → events_of start features (made (code_start (length d.bodies) (length d.field) (length f.sized.content - length d.field)) (10 ∷ (f.sized.field ++ d.field)) ∷ ts)
+    ++ body_events features (start + length (bytes_of ts ++ 10 ∷ (f.sized.field ++ d.field))) d.bodies
+    ≡ events_of start features ts ++ code_events features (start + length (bytes_of ts)) f d
+code_listed start features ts f d z =
+    let o : start + length (bytes_of ts ++ 10 ∷ (f.sized.field ++ d.field)) ≡ start + length (bytes_of ts) + 1 + length f.sized.field + length d.field =
+    omega (arith, length-append (bytes_of ts) (10 ∷ (f.sized.field ++ d.field)), length-append f.sized.field d.field) in
+    append_assoc (events_of start features ts) _ _
+    ∙ (λ i. events_of start features ts ++ start_tile_event features (start + length (bytes_of ts)) f d z i ∷ body_events features (o i) d.bodies)
 
 -- one more code section that fits
 module_step : (start : ℕ) (fs : List Frame) (f : Frame) → f.id ≡ 10 → CodeDivision f.sized.content → Reached start Module fs → start + length (stream_of Module (fs ++ f ∷ [])) < 2 ^ 64 → IsFrame Module f → FitsAfter Module fs f
@@ -100,6 +136,9 @@ module_step start fs f z d q r i a =
         joined = t.joined ∙ (code_bytes f d z (bytes_of ts) ∙ stream_more Module fs f (bytes_of ts) c.joined);
         knows = t.knows Module (fs ++ f ∷ []) (knows_code fs ts f (length d.bodies) (length d.field) n hb z (division_count f d) c.knows);
         closed = t.closed;
+        told = λ features. told_more start features Module fs f ts t.tiles (code_events features (start + length (bytes_of ts)) f d) c.joined (c.told features)
+            (subst (λ (k : Kind). KindEvents features (start + length (bytes_of ts)) k f (code_events features (start + length (bytes_of ts)) f d)) (sym (ap (kind_of Module) z)) (d, refl))
+            (t.listed features ∙ code_listed start features ts f d z);
       };
     }
 
@@ -146,6 +185,7 @@ begins start encoding = record {
     joined = sym (append-nil (header_bytes encoding));
     knows = knows_header encoding (header_bytes encoding);
     closed = refl;
+    told = λ features. record { inner = []; sections = refl; listed = ap (λ (e : Event). e ∷ []) (header_tile_event start features encoding) };
   };
 }
 
@@ -154,21 +194,26 @@ end_verdict : (p : SectionContext) (o : ℕ) → end_at_section p o ≡ ended o 
 unfolding verdict section_grammar
 end_verdict p o e = ap final e
 
--- an accepted stream's reading ends at its end
-pub accepted_reads : (stream : List ℕ) (start : ℕ) → start + length stream < 2 ^ 64 → IsAccepted stream → (tiles : List Tile) × Reads stream start tiles (ended (start + length stream))
-accepted_reads stream start r a =
-    let q : Reached start a.encoding a.frames =
-    frames_walk start a.encoding a.frames (subst (λ (x : List ℕ). start + length x < 2 ^ 64) a.whole r) a.order a.frames [] refl a.each (begins start a.encoding) in
+-- the tiles of an accepted stream are its frames
+pub accepted_walk : (stream : List ℕ) (start : ℕ) → start + length stream < 2 ^ 64 → (a : IsAccepted stream) → Reached start a.encoding a.frames
+accepted_walk stream start r a =
+    frames_walk start a.encoding a.frames (subst (λ (x : List ℕ). start + length x < 2 ^ 64) a.whole r) a.order a.frames [] refl a.each (begins start a.encoding)
+
+-- the stream ends after them
+pub accepted_ends_there : (stream : List ℕ) (start : ℕ) (a : IsAccepted stream) (q : Reached start a.encoding a.frames) → Reads stream start q.tiles (ended (start + length stream))
+accepted_ends_there stream start a q =
     let c : Closed start a.encoding a.frames q.tiles = q.there in
     let w : bytes_of q.tiles ≡ stream = c.joined ∙ sym a.whole in
     let o : ℕ = start + length (bytes_of q.tiles) in
     let v : verdict (grammar start q.tiles) [] ≡ final (ended o) =
-    subst (λ (g : Grammar). verdict g [] ≡ final (ended o)) (sym (grammar_closed start q.tiles c.begun c.closed)) (end_verdict (context_of q.tiles) o (end_to a.encoding a.frames (context_of q.tiles) c.knows o a.functions a.segments)) in (
-      q.tiles,
-      record {
-        rest = [];
-        whole = sym w ∙ sym (append-nil (bytes_of q.tiles));
-        faultless = c.faultless;
-        stops = v ∙ ap (λ (x : List ℕ). final (ended (start + length x))) w;
-      },
-    )
+    subst (λ (g : Grammar). verdict g [] ≡ final (ended o)) (sym (grammar_closed start q.tiles c.begun c.closed)) (end_verdict (context_of q.tiles) o (end_to a.encoding a.frames (context_of q.tiles) c.knows o a.functions a.segments)) in
+    record {
+      rest = [];
+      whole = sym w ∙ sym (append-nil (bytes_of q.tiles));
+      faultless = c.faultless;
+      stops = v ∙ ap (λ (x : List ℕ). final (ended (start + length x))) w;
+    }
+
+-- an accepted stream's reading ends at its end
+pub accepted_reads : (stream : List ℕ) (start : ℕ) → start + length stream < 2 ^ 64 → IsAccepted stream → (tiles : List Tile) × Reads stream start tiles (ended (start + length stream))
+accepted_reads stream start r a = let q : Reached start a.encoding a.frames = accepted_walk stream start r a in (q.tiles, accepted_ends_there stream start a q)

@@ -11,20 +11,20 @@ use Rattle.wasm_parser.specs.declared.payload.Encoding.TheVariants.{Module, Comp
 use Rattle.wasm_parser.proofs.AcceptedTiles.{number_on}
 
 -- prefixes of one length are one
-prefixes_same : (xs ys us vs : List ℕ) → length xs ≡ length ys → xs ++ us ≡ ys ++ vs → (xs ≡ ys) × (us ≡ vs)
+pub prefixes_same : (xs ys us vs : List ℕ) → length xs ≡ length ys → xs ++ us ≡ ys ++ vs → (xs ≡ ys) × (us ≡ vs)
 prefixes_same xs ys us vs l e = (
   sym (take_at xs us (length xs) refl) ∙ (ap (take (length xs)) e ∙ take_at ys vs (length xs) (sym l)),
   sym (drop_at xs us (length xs) refl) ∙ (ap (drop (length xs)) e ∙ drop_at ys vs (length xs) (sym l)),
 )
 
 -- numbers that begin the same bytes are one
-numbers_same : (xs ys us vs : List ℕ) (m n : ℕ) → IsNumber xs m → IsNumber ys n → xs ++ us ≡ ys ++ vs → (m ≡ n) × (length xs ≡ length ys)
+pub numbers_same : (xs ys us vs : List ℕ) (m n : ℕ) → IsNumber xs m → IsNumber ys n → xs ++ us ≡ ys ++ vs → (m ≡ n) × (length xs ≡ length ys)
 numbers_same xs ys us vs m n p q e =
     let z : read m (length xs) ≡ read n (length ys) = sym (number_on xs us m p) ∙ (ap (number VarU32) e ∙ number_on ys vs n q) in
     (cc, cc)
 
 -- bytes after their length are
-sized_same : (s t : Sized) (us vs : List ℕ) → IsSized s → IsSized t → sized_bytes s ++ us ≡ sized_bytes t ++ vs → (s ≡ t) × (us ≡ vs)
+pub sized_same : (s t : Sized) (us vs : List ℕ) → IsSized s → IsSized t → sized_bytes s ++ us ≡ sized_bytes t ++ vs → (s ≡ t) × (us ≡ vs)
 sized_same s t us vs p q e =
     let z : s.field ++ (s.content ++ us) ≡ t.field ++ (t.content ++ vs) = sym (append_assoc s.field s.content us) ∙ (e ∙ append_assoc t.field t.content vs) in
     let n : ((length s.content ≡ length t.content) × (length s.field ≡ length t.field)) = numbers_same s.field t.field (s.content ++ us) (t.content ++ vs) (length s.content) (length t.content) p q z in

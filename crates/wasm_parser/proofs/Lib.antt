@@ -50,3 +50,6 @@ pub mod SkippedLaws
 pub mod CodeFits
 pub mod NextParts
 pub mod MagicBegun
+pub mod TileEvents
+pub mod FramesTold
+pub mod FramesKept

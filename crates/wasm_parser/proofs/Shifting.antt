@@ -280,7 +280,7 @@ custom_moves : (by features from to : ℕ) (content : List ℕ) (n : Name) → c
 custom_moves by features from to content (named text used) = ap (λ (x : ℕ). custom_section text x (window_over features (from + by) content)) (omega arith)
 custom_moves by features from to content (refused f p) = refl
 
-section_moves : (by features from to : ℕ) (kind : Form) (id : ℕ) (content : List ℕ) → section_report features (from + by) (to + by) kind id content ≡ shifted_report by (section_report features from to kind id content)
+pub section_moves : (by features from to : ℕ) (kind : Form) (id : ℕ) (content : List ℕ) → section_report features (from + by) (to + by) kind id content ≡ shifted_report by (section_report features from to kind id content)
 section_moves by features from to custom id content = custom_moves by features from to content (name (Some name_limit) content)
 section_moves by features from to items id content = refl
 section_moves by features from to index id content = refl

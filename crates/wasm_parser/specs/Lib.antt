@@ -1,6 +1,8 @@
 pub mod Accepted
 pub mod ParseAnswer
 pub mod Content
+pub mod FrameEvents
+pub mod FrameLaws
 pub mod Grammar
 pub mod Laws
 pub mod Shifted

@@ -1,6 +1,7 @@
 //! Laws of the definitions of framing, and what comparing and copying encodings say, each the contract of a function
 //! that does nothing.
 ghost use Rattle.wasm_base.specs.Comparing.{DecidesSame, IsCopy};
+ghost use Rattle.wasm_parser.specs.FrameLaws.{FramesGiveEvents, FramesReadTheSame, OneDivision, RanklessMayGo};
 ghost use Rattle.wasm_parser.specs.Laws.{AcceptedEnds, AnswersLast, EventsLieEndToEnd, FaultEnds, EventsSayTheirBytes, FaultLiesWithin, LongestTiling, OneReading, ParserSuffices, SomeNextEvent, SomeReading, StartOnlyMoves, TilesStandAlone};
 ghost use Rattle.wasm_parser.specs.PayloadItems.{PayloadsGiveItems};
 ghost use Rattle.wasm_parser.specs.SectionLaws.{BodiesFollowTheirCount, RanksAscend, SectionsTile};
@@ -99,6 +100,28 @@ pub fn edges_of_rules()
 /// them or after: of each its id, its length, and its content, which is the bytes of the range that is reported.
 pub fn sections_tile_an_accepted_stream()
     ensures { SectionsTile }
+{}
+
+/// An accepted stream is divided into a header and sections in one way.
+pub fn one_division()
+    ensures { OneDivision }
+{}
+
+/// The events of an accepted stream are those of its header, of its sections in their order, and its end, each at its
+/// offset: a code section's are its start and its bodies, every other section's is one.
+pub fn frames_give_events()
+    ensures { FramesGiveEvents }
+{}
+
+/// A section that fits after some sections fits after others that say the same to it, and is read the same there: its events
+/// at another offset are its events moved. Sections without a rank, as custom ones, say nothing.
+pub fn frames_read_the_same()
+    ensures { FramesReadTheSame }
+{}
+
+/// What is left of an accepted stream without some of the sections that have no rank, as custom sections, is accepted.
+pub fn rankless_may_go()
+    ensures { RanklessMayGo }
 {}
 
 /// Of two sections of a reading the later one has the higher rank, if both have a rank in the encoding that the stream's

@@ -1,0 +1,63 @@
+use Rattle.std.proofs.Common.{ℕ, [], ◌++◌, ◌∙◌, drop, refl, ap, subst, arith, length-append}
+use Rattle.std.proofs.lemmas.Result.{err_from_is_err_and}
+use Rattle.wasm_feed.specs.Cursors.{feed_of}
+use Rattle.wasm_feed.specs.Strips.{FateComes}
+use Rattle.wasm_feed.specs.declared.stripping.Fate.{Fate}
+use Rattle.wasm_feed.proofs.LeftParts.{nothing_left, stays_left, goes_left, all_left, no_longer}
+use Rattle.wasm_feed.proofs.stripping.count_left.Goals as goal
+
+pub parts-init : goal.parts-init
+parts-init c =
+    let bytes = c.args.bytes.now in
+    let cursor = c.over_all-cursor.result in
+    record {
+      comes = ([], nothing_left c.args.keep_names bytes (feed_of bytes cursor) (c.over_all-cursor.ensures.parser ∙ c.new.ensures) (ap (λ (n : ℕ). drop n bytes) c.over_all-cursor.ensures.mark), refl);
+      finished = c.over_all-cursor.ensures.finished;
+    }
+
+pub returns-in_err-part : goal.returns-in_err-part
+returns-in_err-part c =
+    let h = c.parts.invariant.comes.1 in
+    let e = err_from_is_err_and c.from_residual.result c.from_residual.ensures.1 in
+    rw (e.1, e.2) (c.in_err-part.ensures.takes c.args.bytes.now h.0 h.1 c.requires)
+
+pub overflow_add-count : goal.overflow_add-count
+overflow_add-count c =
+    let bytes = c.args.bytes.now in
+    let old = feed_of bytes c.parts.cursor in
+    let new = feed_of bytes c.next_part.new.cursor in
+    let (left, h, n) = c.parts.invariant.comes in
+    let part = c.in_ok-part.part.bytes.now in
+    let came = subst (λ (x : Fate). FateComes c.args.keep_names bytes h.0 part x new) c.in-Stays.is (c.in_ok-part.ensures.takes bytes h.0 h.1 c.requires) in
+    let within = no_longer c.args.keep_names bytes new (left ++ part) (stays_left c.args.keep_names bytes left old new h part came) in
+    omega (arith, within, n, c.requires, length-append left part)
+
+pub parts-preserved-in-Stays : goal.parts-preserved-in-Stays
+parts-preserved-in-Stays c =
+    let bytes = c.args.bytes.now in
+    let old = feed_of bytes c.parts.cursor in
+    let new = feed_of bytes c.next_part.new.cursor in
+    let (left, h, n) = c.parts.invariant.comes in
+    let part = c.in_ok-part.part.bytes.now in
+    let came = subst (λ (x : Fate). FateComes c.args.keep_names bytes h.0 part x new) c.in-Stays.is (c.in_ok-part.ensures.takes bytes h.0 h.1 c.requires) in
+    record { comes = (left ++ part, stays_left c.args.keep_names bytes left old new h part came, omega (arith, n, length-append left part)); finished = c.in_ok-part.ensures.finished }
+
+pub parts-preserved : goal.parts-preserved
+parts-preserved c =
+    let bytes = c.args.bytes.now in
+    let old = feed_of bytes c.parts.cursor in
+    let new = feed_of bytes c.next_part.new.cursor in
+    let (left, h, n) = c.parts.invariant.comes in
+    let part = c.in_ok-part.part.bytes.now in
+    let came = subst (λ (x : Fate). FateComes c.args.keep_names bytes h.0 part x new) c.in-Goes.is (c.in_ok-part.ensures.takes bytes h.0 h.1 c.requires) in
+    record { comes = (left, goes_left c.args.keep_names bytes left old new h part came, n); finished = c.in_ok-part.ensures.finished }
+
+pub returns-in-End : goal.returns-in-End
+returns-in-End c =
+    let bytes = c.args.bytes.now in
+    let old = feed_of bytes c.parts.cursor in
+    let new = feed_of bytes c.next_part.new.cursor in
+    let (left, h, n) = c.parts.invariant.comes in
+    let part = c.in_ok-part.part.bytes.now in
+    let came = subst (λ (x : Fate). FateComes c.args.keep_names bytes h.0 part x new) c.in-End.is (c.in_ok-part.ensures.takes bytes h.0 h.1 c.requires) in
+    (left, all_left c.args.keep_names bytes left old new h part came, n)

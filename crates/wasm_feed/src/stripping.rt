@@ -1,0 +1,136 @@
+// A stream without its custom sections.
+ghost use Rattle.std.specs.Prelude.{◌≡◌, ◌<◌, ◌^◌, true, length};
+ghost use Rattle.wasm_feed.specs.Cursors.{feed_of};
+ghost use Rattle.wasm_feed.specs.Stripped.{custom_stays, Strips};
+ghost use Rattle.wasm_feed.specs.Strips.{CountsLeft, CopiesLeft, custom_fate, GoesOn, IsFateOf, TakesPart};
+ghost use Rattle.wasm_parser.specs.ParseAnswer.{report_of};
+
+use crate::feeder::{Cursor, Step, advance};
+use crate::sink::room;
+use std::alloc::{Allocator, Global};
+use wasm_parser::{Error, Fault, Parser, Payload, Result};
+
+/// What becomes of a part of a stream that is stripped.
+#[derive(Clone, Copy)]
+pub(crate) enum Fate {
+    /// It stays.
+    Stays,
+    /// It is dropped.
+    Goes,
+    /// It is the end of the stream.
+    End,
+}
+
+/// A part of a stream that is stripped.
+#[derive(Clone, Copy)]
+pub(crate) struct Part<'a> {
+    bytes: &'a [u8],
+    fate: Fate,
+}
+
+// What becomes of a custom section with this name.
+fn fate_of_custom(name: &str, keep_names: bool) -> Fate
+    ensures { result ≡ custom_fate (custom_stays keep_names name.now) }
+{
+    if keep_names && name == "name" {
+        Fate::Stays
+    } else {
+        Fate::Goes
+    }
+}
+
+// What becomes of a part that is read as this.
+fn fate_of(payload: &Payload, keep_names: bool) -> Fate
+    ensures { IsFateOf keep_names (report_of payload.now) result }
+{
+    match payload {
+        Payload::End(_) => Fate::End,
+        Payload::CustomSection(section) => fate_of_custom(section.name(), keep_names),
+        _ => Fate::Stays,
+    }
+}
+
+// The next part of these bytes, which are all of the stream.
+fn next_part<'a>(cursor: &mut Cursor, bytes: &'a [u8], keep_names: bool) -> Result<Part<'a>>
+    requires { cursor.old.is_finished ≡ true }
+    ensures takes { TakesPart keep_names (feed_of bytes.now cursor.old) result
+        (feed_of bytes.now cursor.new) }
+    ensures goes_on { GoesOn (feed_of bytes.now cursor.old) result
+        (feed_of bytes.now cursor.new) }
+    ensures finished { cursor.new.is_finished ≡ true }
+{
+    match advance(cursor, bytes)? {
+        Step::NeedMoreData(_) => unreachable!(),
+        Step::Parsed { bytes, payload } => Ok(Part {
+            bytes,
+            fate: fate_of(&payload, keep_names),
+        }),
+    }
+}
+
+// How many bytes are left of a stream.
+fn count_left(bytes: &[u8], keep_names: bool) -> Result<usize>
+    requires { length bytes.now < 2 ^ 64 }
+    ensures { CountsLeft keep_names bytes.now result }
+{
+    let mut cursor = Cursor::over_all(Parser::new(0));
+    let mut count = 0;
+    'parts: loop {
+        let part = next_part(&mut cursor, bytes, keep_names)?;
+        match part.fate {
+            Fate::Stays => count += part.bytes.len(),
+            Fate::Goes => {}
+            Fate::End => return Ok(count),
+        }
+    }
+}
+
+// Puts what is left of a stream after these bytes.
+fn copy_left<A: Allocator>(bytes: &[u8], keep_names: bool, left: &mut Vec<u8, A>) -> Result<()>
+    requires { length bytes.now < 2 ^ 64 }
+    ensures { CopiesLeft keep_names bytes.now left.old.items result left.new.items }
+{
+    let mut cursor = Cursor::over_all(Parser::new(0));
+    'parts: loop {
+        let part = next_part(&mut cursor, bytes, keep_names)?;
+        match part.fate {
+            Fate::Stays => {
+                if left.extend_from_slice(part.bytes).is_err() {
+                    return Err(Error::new(Fault::OutOfMemory, 0));
+                }
+            }
+            Fate::Goes => {}
+            Fate::End => return Ok(()),
+        }
+    }
+}
+
+// The same as `strip`, with memory from any allocator.
+pub(crate) fn strip_in<A: Allocator>(alloc: A, bytes: &[u8], keep_names: bool) -> Result<Vec<u8, A>>
+    ensures { Strips keep_names bytes.now result }
+{
+    // A slice is shorter than 2^64 bytes, which the functions below want to know.
+    let _length = bytes.len();
+    let count = count_left(bytes, keep_names)?;
+    let Ok(mut left) = room(alloc, count) else {
+        return Err(Error::new(Fault::OutOfMemory, 0));
+    };
+    copy_left(bytes, keep_names, &mut left)?;
+    Ok(left)
+}
+
+/// What is left of a stream without its custom sections (core specification, Binary format, Modules, Custom Section): its
+/// header and its other sections, each byte for byte and in their order. With `keep_names` the custom sections named `name`
+/// stay too.
+///
+/// What is left is accepted too, and is read as the stream is, but for the sections that were dropped; offsets are less by
+/// the bytes dropped before them. The stream begins at offset 0.
+///
+/// The fault at which the reading of the stream ends, if it isn't accepted, with its offset in bytes from the start of the
+/// stream; and only otherwise `OutOfMemory`, at offset 0, where a growth was refused. Memory is taken once, for as many
+/// bytes as are left.
+pub fn strip(alloc: Global, bytes: &[u8], keep_names: bool) -> Result<Vec<u8>>
+    ensures { Strips keep_names bytes.now result }
+{
+    strip_in(alloc, bytes, keep_names)
+}
