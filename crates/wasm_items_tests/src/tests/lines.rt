@@ -160,7 +160,10 @@ fn indices(alloc: Global, section: SectionLimited<'_, u32>) -> Result<String, Fa
     Ok(line)
 }
 
-fn expressions(alloc: Global, section: SectionLimited<'_, ConstExpr>) -> Result<String, Fail> {
+fn expressions<'a>(
+    alloc: Global,
+    section: SectionLimited<'a, ConstExpr<'a>>,
+) -> Result<String, Fail> {
     let (range, count) = (section.range(), section.count());
     let mut line = format!(in alloc; "{range:?} #{count}[")?;
     for item in section.into_iter_with_offsets() {
@@ -172,10 +175,10 @@ fn expressions(alloc: Global, section: SectionLimited<'_, ConstExpr>) -> Result<
     Ok(line)
 }
 
-fn expressions_of(
+fn expressions_of<'a>(
     alloc: Global,
     ty: RefType,
-    section: SectionLimited<'_, ConstExpr>,
+    section: SectionLimited<'a, ConstExpr<'a>>,
 ) -> Result<String, Fail> {
     let ty = reference(alloc, ty)?;
     let list = expressions(alloc, section)?;
