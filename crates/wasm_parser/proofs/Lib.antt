@@ -44,6 +44,7 @@ pub mod ReportedSections
 pub mod AnswerBounds
 pub mod Walking
 pub mod WorkedLaws
+pub mod WorkedEndingsLaws
 pub mod WorkedFieldsLaws
 pub mod WaitingLaws
 pub mod SkippedLaws

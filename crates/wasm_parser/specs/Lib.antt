@@ -21,5 +21,6 @@ pub mod Undecided
 pub mod ParseAll
 pub mod Waiting
 pub mod Worked
+pub mod WorkedEndings
 pub mod WorkedFields
 pub mod Skipped

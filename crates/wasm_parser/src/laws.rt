@@ -7,6 +7,7 @@ ghost use Rattle.wasm_parser.specs.PayloadItems.{PayloadsGiveItems};
 ghost use Rattle.wasm_parser.specs.SectionLaws.{BodiesFollowTheirCount, RanksAscend, SectionsTile};
 ghost use Rattle.wasm_parser.specs.Undecided.{EnoughIsDecided, OneComesNext, ShortIsUndecided};
 ghost use Rattle.wasm_parser.specs.Worked.{EdgesOfRules, WorkedStreams};
+ghost use Rattle.wasm_parser.specs.WorkedEndings.{WorkedEndings};
 ghost use Rattle.wasm_parser.specs.WorkedFields.{LongFields, TwoFaults, WholeReadings};
 
 use crate::payload::Encoding;
@@ -89,6 +90,12 @@ pub fn short_is_undecided(offset: u64, front: &[u8], data: &[u8])
 /// Worked streams have the readings that were computed by hand.
 pub fn worked_streams()
     ensures { WorkedStreams }
+{}
+
+/// After worked beginnings of streams, one for each kind of waiting, so many bytes are asked for, and so the stream goes on
+/// where that decides, by hand.
+pub fn worked_endings()
+    ensures { WorkedEndings }
 {}
 
 /// Streams at the edges of the rules have the readings, or end as they do, by hand.
