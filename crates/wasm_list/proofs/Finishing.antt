@@ -1,20 +1,13 @@
 -- A run of the program, and then its end.
-use Rattle.std.proofs.Common.{◌≡◌, ◌⊎◌, ℕ, ◌<◌, Bool, List, Option, Some, None, Result, Ok, Err, sym, ◌∙◌, take, subst, arith, inl, inr}
+use Rattle.std.proofs.Common.{◌≡◌, ◌⊎◌, ℕ, ◌<◌, Bool, List, Option, Some, None, Result, Ok, Err, refl, sym, ◌∙◌, take, subst, arith, inl, inr}
 use Rattle.std.specs.Io.KnownBytes.{Appends, Keeps}
 use Rattle.wasm_feed.specs.Lists.{Lists}
-use Rattle.wasm_list.specs.Runs.{Device, IsUntouched, Says, RunsListingAs, RunsUsage, Runs, HandsOn, FailsToHandOn, LeavesAlone, Finishes, EndsAs, ListsAll, RunsProgram, status_of}
+use Rattle.wasm_list.specs.Devices.{Device, over, Follows, IsUntouched, Says}
+use Rattle.wasm_list.specs.Runs.{RunsListingAs, RunsUsage, Runs, HandsOn, FailsToHandOn, LeavesAlone, Finishes, EndsAs, ListsAll, RunsProgram, status_of}
+use Rattle.wasm_list.specs.declared.command.Command.{Command}
 use Rattle.wasm_feed.specs.declared.listing.Ended.{Ended}
 use Rattle.wasm_feed.specs.declared.listing.Ended.TheVariants.{End, Fault}
 use Rattle.wasm_feed.specs.declared.listing.ListError.{ListError}
-
--- a device over two calls, one after the other
-abbrev pub over : Device → Device → Device
-over first second = record { before = first.before; after = second.after; had_failed = first.had_failed; has_failed = second.has_failed }
-
--- the second call begins where the first one ended
-pub record Follows (first second : Device) : Type 0 where
-  pub bytes : second.before ≡ first.after
-  pub failed : second.had_failed ≡ first.has_failed
 
 appends_kept : (a b c : Option (List ℕ)) (bs : List ℕ) → Appends a b bs → Keeps b c → Appends a c bs
 appends_kept None b c bs p q = tt
@@ -34,7 +27,7 @@ lists_kept left rest taken written kept how h k = record {
   past_the_top = h.past_the_top;
 }
 
-some_is : {m n : ℕ} → Some m ≡ Some n → m ≡ n
+some_is : {X : Type 0} {x y : X} → Some x ≡ Some y → x ≡ y
 some_is h = cc
 
 below_two : (how : Ended) → status_of (Ok how) < 2
@@ -118,11 +111,22 @@ refused_all input first second first_errors second_errors handed_on status resul
       says = said_before first_errors second_errors _ fe r.says alone.silent;
     }
 
-pub program : (given count : ℕ) (input first second first_errors second_errors : Device) (handed_on : Bool) (status result : ℕ) → given ≡ count → Follows first second → Follows first_errors second_errors
-    → Runs count input first first_errors status → Finishes status handed_on second second_errors result
-    → RunsProgram (Some given) handed_on input (over first second) (over first_errors second_errors) result
-program given count input first second first_errors second_errors handed_on status result same f fe runs finish = record {
-  lists = λ none. let r = runs.lists (sym same ∙ some_is none) in listed_all input first second first_errors second_errors handed_on status result f fe r.how r.runs finish;
-  refuses = λ n is some. refused_all input first second first_errors second_errors handed_on status result f fe (runs.refuses (subst (λ (k : ℕ). 0 < k) (sym (some_is is) ∙ same) some)) finish;
+pub program : (command : Command) (input first second first_errors second_errors : Device) (handed_on : Bool) (status result : ℕ) → Follows first second → Follows first_errors second_errors
+    → Runs command input first first_errors status → Finishes status handed_on second second_errors result
+    → RunsProgram (Some command) handed_on input (over first second) (over first_errors second_errors) result
+program command input first second first_errors second_errors handed_on status result f fe runs finish = record {
+  lists = λ c. let r = runs.lists (some_is c) in listed_all input first second first_errors second_errors handed_on status result f fe r.how r.runs finish;
+  strips = λ c. record {
+    written = first;
+    handed = second;
+    said = first_errors;
+    said_last = second_errors;
+    first = status;
+    follows = (f, fe);
+    devices = (refl, refl);
+    strips = runs.strips (some_is c);
+    ends = finish;
+  };
+  refuses = λ c. refused_all input first second first_errors second_errors handed_on status result f fe (runs.refuses (some_is c)) finish;
   without_arguments = λ none. absurd cc;
 }

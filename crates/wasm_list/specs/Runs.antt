@@ -1,11 +1,16 @@
 -- What a run of the program does.
-use Rattle.std.specs.Prelude.{◌≡◌, ◌⊎◌, ℕ, ◌<◌, ◌≤◌, ◌-◌, Bool, true, false, List, take, codes, Option, Some, None, Result, Ok, Err}
-use Rattle.std.specs.Io.KnownBytes.{Appends, Keeps}
+use Rattle.std.specs.Prelude.{◌≡◌, ◌⊎◌, ℕ, ◌<◌, ◌≤◌, Bool, true, List, drop, codes, Option, Some, None, Result, Ok, Err}
+use Rattle.std.specs.Io.KnownBytes.{Keeps}
 use Rattle.wasm_feed.specs.Lists.{Lists, input_failed, output_failed}
 use Rattle.wasm_feed.specs.declared.listing.Ended.{Ended}
 use Rattle.wasm_feed.specs.declared.listing.Ended.TheVariants.{End, Fault}
 use Rattle.wasm_feed.specs.declared.listing.ListError.{ListError}
-use Rattle.wasm_feed.specs.declared.listing.ListError.TheVariants.{Input, Output, Memory}
+use Rattle.wasm_feed.specs.declared.listing.ListError.TheVariants.{Output, Memory}
+use Rattle.wasm_list.specs.Commands.{command_of}
+use Rattle.wasm_list.specs.Devices.{Device, over, Follows, IsUntouched, Says, complaint_of}
+use Rattle.wasm_list.specs.Strips.{RunsStripping}
+use Rattle.wasm_list.specs.declared.command.Command.{Command}
+use Rattle.wasm_list.specs.declared.command.Command.TheVariants.{Listing, Stripping, Unknown}
 
 -- the exit status of a listing
 abbrev pub status_of : Result Ended ListError → ℕ
@@ -13,34 +18,8 @@ status_of (Ok End) = 0
 status_of (Ok (Fault e)) = 1
 status_of (Err e) = 3
 
--- what is said of a listing that was given up
-abbrev pub complaint_of : ListError → List ℕ
-complaint_of Input = codes "input failed\n"
-complaint_of Output = codes "output failed\n"
-complaint_of Memory = codes "out of memory\n"
-
 abbrev pub usage : List ℕ
 usage = codes "usage: wasm_list [strip]\n"
-
--- what a device is before a call and after it: its bytes, and whether it has failed
-pub record Device : Type 0 where
-  pub before : Option (List ℕ)
-  pub after : Option (List ℕ)
-  pub had_failed : Bool
-  pub has_failed : Bool
-
-abbrev pub device_of : {D : Type 0} → (bytes : D → Option (List ℕ)) (failed : D → Bool) (old new : D) → Device
-device_of bytes failed old new = record { before = bytes old; after = bytes new; had_failed = failed old; has_failed = failed new }
-
--- the call left the device alone
-pub record IsUntouched (device : Device) : Type 0 where
-  pub bytes : device.after ≡ device.before
-  pub failed : device.has_failed ≡ device.had_failed
-
--- A beginning of the message was written to the device, and all of it where that has not failed.
-pub record Says (device : Device) (message : List ℕ) : Type 0 where
-  pub some : (n : ℕ) × Appends device.before device.after (take n message)
-  pub all : device.has_failed ≡ false → Appends device.before device.after message
 
 -- what a listing says: nothing, or why it was given up
 abbrev pub Reports : Result Ended ListError → Device → Type 0
@@ -67,10 +46,11 @@ pub record RunsUsage (input output errors : Device) (status : ℕ) : Type 0 wher
   pub answers : status ≡ 2
   pub says : Says errors usage
 
--- a run with so many arguments
-pub record Runs (arguments : ℕ) (input output errors : Device) (status : ℕ) : Type 0 where
-  pub lists : arguments ≡ 0 → RunsListing input output errors status
-  pub refuses : 0 < arguments → RunsUsage input output errors status
+-- a run that was asked for this
+pub record Runs (command : Command) (input output errors : Device) (status : ℕ) : Type 0 where
+  pub lists : command ≡ Listing → RunsListing input output errors status
+  pub strips : command ≡ Stripping → RunsStripping input output errors status
+  pub refuses : command ≡ Unknown → RunsUsage input output errors status
 
 -- The output handed on all that it had taken, nothing was said, and the status stays.
 pub record HandsOn (status : ℕ) (handed_on : Bool) (output errors : Device) (result : ℕ) : Type 0 where
@@ -122,13 +102,26 @@ pub record CannotBegin (input output errors : Device) (status : ℕ) : Type 0 wh
   pub answers : status ≡ 3
   pub says : Says errors (complaint_of Memory)
 
--- how many arguments there are, if they could be had: the first one is the program's own name
-abbrev pub arguments_after_name : {A E : Type 0} → (A → ℕ) → Result A E → Option ℕ
-arguments_after_name count (Ok arguments) = Some (count arguments - 1)
-arguments_after_name count (Err e) = None
+-- the whole program, where it strips its input: what was written is handed on after a status of 0 or 1
+pub record StripsAll (handed_on : Bool) (input output errors : Device) (status : ℕ) : Type 0 where
+  pub written : Device
+  pub handed : Device
+  pub said : Device
+  pub said_last : Device
+  pub first : ℕ
+  pub follows : Follows written handed × Follows said said_last
+  pub devices : (output ≡ over written handed) × (errors ≡ over said said_last)
+  pub strips : RunsStripping input written said first
+  pub ends : Finishes first handed_on handed said_last status
 
--- The whole program, with so many arguments if they could be had.
-pub record RunsProgram (arguments : Option ℕ) (handed_on : Bool) (input output errors : Device) (status : ℕ) : Type 0 where
-  pub lists : arguments ≡ Some 0 → ListsAll handed_on input output errors status
-  pub refuses : (n : ℕ) → arguments ≡ Some n → 0 < n → RunsUsage input output errors status
-  pub without_arguments : arguments ≡ None → CannotBegin input output errors status
+-- what is asked for, if the arguments could be had: the first one is the program's own name
+abbrev pub command_after_name : {A E : Type 0} → (A → List (List ℕ)) → Result A E → Option Command
+command_after_name words (Ok arguments) = Some (command_of (drop 1 (words arguments)))
+command_after_name words (Err e) = None
+
+-- The whole program, which was asked for this if the arguments could be had.
+pub record RunsProgram (command : Option Command) (handed_on : Bool) (input output errors : Device) (status : ℕ) : Type 0 where
+  pub lists : command ≡ Some Listing → ListsAll handed_on input output errors status
+  pub strips : command ≡ Some Stripping → StripsAll handed_on input output errors status
+  pub refuses : command ≡ Some Unknown → RunsUsage input output errors status
+  pub without_arguments : command ≡ None → CannotBegin input output errors status

@@ -1,7 +1,9 @@
-//! Lists the sections of the WebAssembly stream on standard input.
+//! Lists the sections of the WebAssembly stream on standard input, or strips it of its custom sections.
 #![tactic(auto)]
 
+mod command;
 mod program;
+mod stripping;
 #[cfg(test)]
 mod tests;
 

@@ -1,17 +1,13 @@
 // The program, over any devices.
-ghost use Rattle.std.specs.Prelude.{◌≡◌, length, is_ok};
+ghost use Rattle.std.specs.Prelude.{◌≡◌, map, string_bytes};
 ghost use Rattle.std.specs.Process.{exit_status};
-ghost use Rattle.std.specs.Vec.Iter.{into_iter_len};
-ghost use Rattle.wasm_list.specs.Runs.{
-  device_of,
-  Finishes,
-  Runs,
-  Says,
-  complaint_of,
-  RunsProgram,
-  arguments_after_name,
-};
+ghost use Rattle.std.specs.Vec.Iter.{into_iter_items};
+ghost use Rattle.wasm_list.specs.Commands.{command_of as command_by};
+ghost use Rattle.wasm_list.specs.Devices.{device_of, Says, complaint_of};
+ghost use Rattle.wasm_list.specs.Runs.{Finishes, Runs, RunsListing, RunsProgram, command_after_name as command_if_any};
 
+use crate::command::{Command, command_after_name, command_of};
+use crate::stripping::strip_input;
 use std::alloc::Global;
 use std::env::Args;
 use std::io::{self, Write};
@@ -19,10 +15,10 @@ use std::process::ExitCode;
 use wasm_feed::{Ended, ListError, Sink, Source, WriteSink, list, write_all};
 
 /// How many bytes of the input are read at once.
-const PIECE: usize = 65_536;
+pub(crate) const PIECE: usize = 65_536;
 
-/// The whole program: it counts the arguments after the program's own name, runs, hands on what the output has kept,
-/// and answers the exit status.
+/// The whole program: it looks at the arguments after the program's own name, runs, hands on what the output has kept, and
+/// answers the exit status.
 ///
 /// Arguments that could not be had are a want of memory.
 pub(crate) fn run_program<R: Source, W: Write, E: Sink>(
@@ -32,7 +28,9 @@ pub(crate) fn run_program<R: Source, W: Write, E: Sink>(
     output: &mut WriteSink<W>,
     errors: &mut E,
 ) -> ExitCode
-    ensures { RunsProgram (arguments_after_name into_iter_len arguments) output.new.handed_on
+    ensures { RunsProgram
+        (command_if_any (λ args. map string_bytes (into_iter_items args)) arguments)
+        output.new.handed_on
         (device_of R.left R.has_failed input.old input.new)
         (device_of ⟦<WriteSink<W> as Sink>⟧.taken ⟦<WriteSink<W> as Sink>⟧.has_failed
         output.old output.new)
@@ -41,15 +39,16 @@ pub(crate) fn run_program<R: Source, W: Write, E: Sink>(
     let Ok(arguments) = arguments else {
         return ExitCode::from(give_up(errors, ListError::Memory));
     };
-    let count = arguments.len().saturating_sub(1);
-    let status = run_counted(alloc, count, input, output, errors);
+    let command = command_after_name(arguments);
+    let status = run_command(alloc, command, input, output, errors);
     ExitCode::from(finish(status, output, errors))
 }
 
-/// Lists the input, and answers the exit status: 0 at the end of the stream, 1 at a fault of it, 2 for arguments, 3
-/// where the input, the output or memory failed.
+/// Lists the input, or with the one argument `strip` writes it without its custom sections. Answers the exit status: 0 at
+/// the end of the stream, 1 at a fault of it, 2 for other arguments, 3 where the input, the output or memory failed.
 ///
-/// A message goes to `errors` for the last two. Whether it could be written changes no status.
+/// A message goes to `errors` for the last two, and for a fault of a stream that isn't stripped. Whether it could be written
+/// changes no status.
 pub fn run<R: Source, W: Sink, E: Sink>(
     alloc: Global,
     args: &[String],
@@ -57,31 +56,49 @@ pub fn run<R: Source, W: Sink, E: Sink>(
     output: &mut W,
     errors: &mut E,
 ) -> u8
-    ensures { Runs (length args.now)
+    ensures { Runs (command_by (map string_bytes args.now))
         (device_of R.left R.has_failed input.old input.new)
         (device_of W.taken W.has_failed output.old output.new)
         (device_of E.taken E.has_failed errors.old errors.new) result }
 {
-    run_counted(alloc, args.len(), input, output, errors)
+    run_command(alloc, command_of(args), input, output, errors)
 }
 
-// The same as `run` for so many arguments.
-fn run_counted<R: Source, W: Sink, E: Sink>(
+// The same as `run` for this command.
+fn run_command<R: Source, W: Sink, E: Sink>(
     alloc: Global,
-    arguments: usize,
+    command: Command,
     input: &mut R,
     output: &mut W,
     errors: &mut E,
 ) -> u8
-    ensures { Runs arguments
+    ensures { Runs command
         (device_of R.left R.has_failed input.old input.new)
         (device_of W.taken W.has_failed output.old output.new)
         (device_of E.taken E.has_failed errors.old errors.new) result }
 {
-    if arguments > 0 {
-        complain(errors, b"usage: wasm_list [strip]\n");
-        return 2;
+    match command {
+        Command::Listing => list_input(alloc, input, output, errors),
+        Command::Stripping => strip_input(alloc, input, output, errors),
+        Command::Unknown => {
+            complain(errors, b"usage: wasm_list [strip]\n");
+            2
+        }
     }
+}
+
+// Lists the input.
+fn list_input<R: Source, W: Sink, E: Sink>(
+    alloc: Global,
+    input: &mut R,
+    output: &mut W,
+    errors: &mut E,
+) -> u8
+    ensures { RunsListing
+        (device_of R.left R.has_failed input.old input.new)
+        (device_of W.taken W.has_failed output.old output.new)
+        (device_of E.taken E.has_failed errors.old errors.new) result }
+{
     match list(alloc, input, output, PIECE) {
         Ok(Ended::End) => 0,
         Ok(Ended::Fault(_)) => 1,
@@ -103,7 +120,7 @@ pub fn finish<W: Write, E: Sink>(status: u8, output: &mut WriteSink<W>, errors: 
 }
 
 // Says why the program gives up, and answers the status of that.
-fn give_up<E: Sink>(errors: &mut E, why: ListError) -> u8
+pub(crate) fn give_up<E: Sink>(errors: &mut E, why: ListError) -> u8
     ensures status { result ≡ 3 }
     ensures says { Says (device_of E.taken E.has_failed errors.old errors.new) (complaint_of why) }
 {
@@ -112,13 +129,13 @@ fn give_up<E: Sink>(errors: &mut E, why: ListError) -> u8
 }
 
 // Writes a message, as far as the sink takes it.
-fn complain<E: Sink>(errors: &mut E, message: &[u8])
+pub(crate) fn complain<E: Sink>(errors: &mut E, message: &[u8])
     ensures { Says (device_of E.taken E.has_failed errors.old errors.new) message.now }
 {
     let _ = write_all(errors, message);
 }
 
-// What is said of a listing that was given up.
+// What is said of a run that was given up.
 fn message(error: ListError) -> &'static [u8]
     ensures { result.now ≡ complaint_of error }
 {

@@ -45,32 +45,106 @@ fn runs_over_slices(rt: HostRuntime) -> Result<(), Fail> {
     Ok(())
 }
 
+// These arguments.
+fn words(rt: HostRuntime, words: &[&str]) -> Result<Vec<String>, Fail> {
+    let mut arguments = Vec::new(rt.alloc());
+    for word in words {
+        arguments.push(String::from_str(rt.alloc(), word)?)?;
+    }
+    Ok(arguments)
+}
+
 #[test]
 fn refuses_arguments(rt: HostRuntime) -> Result<(), Fail> {
-    let arguments = vec![in rt.alloc(); String::from_str(rt.alloc(), "strip")?]?;
-    let mut input = SliceSource::new(MODULE);
-    let mut output = BoundedSink::new(rt.alloc(), 200)?;
-    let mut errors = BoundedSink::new(rt.alloc(), 200)?;
-    let status = run(
-        rt.alloc(),
-        arguments.as_slice(),
-        &mut input,
-        &mut output,
-        &mut errors,
-    );
-    assert_eq!(rt; status, 2);
-    assert_eq!(rt; output.written(), b"".as_slice());
-    assert_eq!(rt; errors.written(), b"usage: wasm_list [strip]\n".as_slice());
+    let refused: [&[&str]; 4] = [&["list"], &["strip", "strip"], &["Strip"], &["", "strip"]];
+    for arguments in refused {
+        let arguments = words(rt, arguments)?;
+        let mut input = SliceSource::new(MODULE);
+        let mut output = BoundedSink::new(rt.alloc(), 200)?;
+        let mut errors = BoundedSink::new(rt.alloc(), 200)?;
+        let status = run(rt.alloc(), &arguments, &mut input, &mut output, &mut errors);
+        assert_eq!(rt; status, 2);
+        assert_eq!(rt; output.written(), b"".as_slice());
+        assert_eq!(rt; errors.written(), b"usage: wasm_list [strip]\n".as_slice());
+    }
+    let arguments = words(rt, &["strip", "it"])?;
     let mut deaf = BoundedSink::new(rt.alloc(), 3)?;
+    let mut output = BoundedSink::new(rt.alloc(), 200)?;
     let status = run(
         rt.alloc(),
-        arguments.as_slice(),
-        &mut input,
+        &arguments,
+        &mut SliceSource::new(MODULE),
         &mut output,
         &mut deaf,
     );
     assert_eq!(rt; status, 2);
     assert_eq!(rt; deaf.written(), b"usa".as_slice());
+    Ok(())
+}
+
+#[test]
+fn strips_its_input(rt: HostRuntime) -> Result<(), Fail> {
+    let rows: [(&[u8], u8, &[u8], &[u8]); 5] = [
+        (
+            b"\0asm\x01\0\0\0\0\x01\0\x01\x01\0\0\x02\x01a",
+            0,
+            b"\0asm\x01\0\0\0\x01\x01\0",
+            b"",
+        ),
+        (
+            b"\0asm\x01\0\0\0\x03\x02\x01\0",
+            1,
+            b"",
+            b"function section has non-zero count but code section is absent (at offset 0xc)\n",
+        ),
+        // Names go too.
+        (b"\0asm\x01\0\0\0\0\x05\x04name", 0, b"\0asm\x01\0\0\0", b""),
+        (
+            b"\0asm\x01\x01\x01\x01",
+            1,
+            b"",
+            b"unknown binary version: 16843009 (at offset 0x4)\n",
+        ),
+        (b"", 1, b"", b"unexpected end-of-file (at offset 0x0)\n"),
+    ];
+    let arguments = words(rt, &["strip"])?;
+    for (stream, status, left, complaint) in rows {
+        let mut input = SliceSource::new(stream);
+        let mut output = BoundedSink::new(rt.alloc(), 200)?;
+        let mut errors = BoundedSink::new(rt.alloc(), 200)?;
+        assert_eq!(rt;
+            run(rt.alloc(), &arguments, &mut input, &mut output, &mut errors),
+            status,
+            "{stream:?}"
+        );
+        assert_eq!(rt; output.written(), left, "{stream:?}");
+        assert_eq!(rt; errors.written(), complaint, "{stream:?}");
+    }
+    Ok(())
+}
+
+#[test]
+fn says_which_device_failed_in_stripping(rt: HostRuntime) -> Result<(), Fail> {
+    let arguments = words(rt, &["strip"])?;
+    let mut input = ReadSource::new(Broken);
+    let mut output = BoundedSink::new(rt.alloc(), 200)?;
+    let mut errors = BoundedSink::new(rt.alloc(), 200)?;
+    assert_eq!(rt;
+        run(rt.alloc(), &arguments, &mut input, &mut output, &mut errors),
+        3
+    );
+    assert_eq!(rt; errors.written(), b"input failed\n".as_slice());
+    assert_eq!(rt; output.written(), b"".as_slice());
+
+    let mut input = SliceSource::new(MODULE);
+    let mut output = BoundedSink::new(rt.alloc(), 5)?;
+    let mut errors = BoundedSink::new(rt.alloc(), 200)?;
+    assert_eq!(rt;
+        run(rt.alloc(), &arguments, &mut input, &mut output, &mut errors),
+        3
+    );
+    assert_eq!(rt; errors.written(), b"output failed\n".as_slice());
+    assert_eq!(rt; output.written(), b"\0asm\x01".as_slice());
     Ok(())
 }
 
@@ -166,10 +240,17 @@ fn the_whole_program(rt: HostRuntime) -> Result<(), Fail> {
     let listing = b"version 0 8 1 module\ncustom 10 12 12\nend 12\n".as_slice();
     let fault = b"version 0 8 1 module\nfault 8 malformed section id\n".as_slice();
     let usage = b"usage: wasm_list [strip]\n".as_slice();
-    let rows: [(usize, &[u8], u8, &[u8], &[u8]); 4] = [
+    let rows: [(usize, &[u8], u8, &[u8], &[u8]); 5] = [
         (0, MODULE, 0, listing, b""),
         (0, b"\0asm\x01\0\0\0\x80", 1, fault, b""),
-        (1, MODULE, 2, b"", usage),
+        (1, MODULE, 0, b"\0asm\x01\0\0\0", b""),
+        (
+            1,
+            b"\0asm\x01\0\0\0\x80",
+            1,
+            b"",
+            b"malformed section id (at offset 0x8)\n",
+        ),
         (2, MODULE, 2, b"", usage),
     ];
     for (count, stream, status, lines, said) in rows {
@@ -208,9 +289,10 @@ fn a_program_that_cannot_begin(rt: HostRuntime) -> Result<(), Fail> {
 
 #[test]
 fn a_program_whose_output_fails_at_its_end(rt: HostRuntime) -> Result<(), Fail> {
-    let rows: [(usize, u8, &[u8]); 2] = [
+    let rows: [(usize, u8, &[u8]); 3] = [
         (0, 3, b"output failed\n"),
-        (1, 2, b"usage: wasm_list [strip]\n"),
+        (1, 3, b"output failed\n"),
+        (2, 2, b"usage: wasm_list [strip]\n"),
     ];
     for (count, status, said) in rows {
         let mut input = SliceSource::new(MODULE);

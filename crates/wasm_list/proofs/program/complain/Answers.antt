@@ -1,6 +1,6 @@
 use Rattle.std.proofs.Common.{◌≡◌, ℕ, true, List, length, take, Result, Ok, Err, OnOk, OnErr, is_ok, if◌then◌else◌, subst, sym, le_refl, take_all}
 use Rattle.std.specs.Io.KnownBytes.{Appends}
-use Rattle.wasm_list.specs.Runs.{Device, Says}
+use Rattle.wasm_list.specs.Devices.{Device, Says}
 use Rattle.wasm_feed.specs.declared.source.Failed.{Failed}
 use Rattle.wasm_list.proofs.program.complain.Goals as goal
 

@@ -1,0 +1,89 @@
+-- What a run that strips its input does.
+use Rattle.std.specs.Prelude.{◌≡◌, ◌≢◌, ◌⊎◌, ℕ, ◌<◌, Bool, true, false, List, [], ◌++◌, length, take, codes, Option, Vec, Result, Ok, Err}
+use Rattle.std.specs.Io.KnownBytes.{Appends, Consumes, IsAtEnd, Keeps}
+use Rattle.wasm_base.specs.FaultAt.{FaultAt, fault_at}
+use Rattle.wasm_base.specs.Message.{error_text}
+use Rattle.wasm_base.specs.declared.error.Error.{Error}
+use Rattle.wasm_base.specs.declared.fault.Fault.TheVariants.{OutOfMemory}
+use Rattle.wasm_feed.specs.Lists.{input_failed}
+use Rattle.wasm_feed.specs.Stripped.{IsStripped, RefusesToStrip}
+use Rattle.wasm_feed.specs.declared.listing.ListError.{ListError}
+use Rattle.wasm_feed.specs.declared.listing.ListError.TheVariants.{Input, Output, Memory}
+use Rattle.wasm_list.specs.Devices.{Device, IsUntouched, Says, complaint_of}
+
+-- what one read gave, which was put after the bytes before; nothing at the end of the source
+abbrev pub ReadsPiece : (left rest : Option (List ℕ)) (before : List ℕ) → Result Bool ListError → (after : List ℕ) → Type 0
+ReadsPiece left rest before (Ok true) after = (piece : List ℕ) × Consumes left rest piece × (0 < length piece) × (after ≡ before ++ piece)
+ReadsPiece left rest before (Ok false) after = Consumes left rest [] × IsAtEnd rest × (after ≡ before)
+ReadsPiece left rest before (Err Input) after = Keeps left rest
+ReadsPiece left rest before (Err Memory) after = (piece : List ℕ) × Consumes left rest piece
+ReadsPiece left rest before (Err Output) after = ⊥
+
+-- what the source gave: all that it had left, or some of it before it failed or memory was refused
+abbrev pub ReadsAll : {A : Type 0} → (left rest : Option (List ℕ)) → Result (Vec ℕ A) ListError → Type 0
+ReadsAll left rest (Ok bytes) = Consumes left rest bytes.items × IsAtEnd rest
+ReadsAll left rest (Err Input) = (given : List ℕ) × Consumes left rest given
+ReadsAll left rest (Err Memory) = (given : List ℕ) × Consumes left rest given
+ReadsAll left rest (Err Output) = ⊥
+
+-- The run was given up, and says why.
+pub record GivesUpAs (why : ListError) (errors : Device) (status : ℕ) : Type 0 where
+  pub answers : status ≡ 3
+  pub says : Says errors (complaint_of why)
+
+-- The run says what the fault of the stream is.
+pub record TellsFault (f : FaultAt) (errors : Device) (status : ℕ) : Type 0 where
+  pub answers : status ≡ 1
+  pub says : Says errors (error_text f ++ codes "\n")
+
+-- How an error of stripping is answered: a want of memory as one, and a fault by its text, for which memory may be wanting.
+pub record Refuses (e : Error) (errors : Device) (status : ℕ) : Type 0 where
+  pub memory : (fault_at e).fault ≡ OutOfMemory → GivesUpAs Memory errors status
+  pub fault : (fault_at e).fault ≢ OutOfMemory → TellsFault (fault_at e) errors status ⊎ GivesUpAs Memory errors status
+
+-- All of these bytes were written, and nothing was said.
+pub record WritesAll (bytes : List ℕ) (output errors : Device) (status : ℕ) : Type 0 where
+  pub answers : status ≡ 0
+  pub written : Appends output.before output.after bytes
+  pub sink : output.has_failed ≡ output.had_failed
+  pub silent : IsUntouched errors
+
+-- A beginning of them was written, since the output failed.
+pub record WritesSome (bytes : List ℕ) (output errors : Device) (status : ℕ) : Type 0 where
+  pub written : (n : ℕ) × Appends output.before output.after (take n bytes)
+  pub sink : output.has_failed ≡ true
+  pub gives_up : GivesUpAs Output errors status
+
+-- The stream was not stripped, for this reason, and nothing was written.
+pub record WritesNothing (stream : List ℕ) (e : Error) (output errors : Device) (status : ℕ) : Type 0 where
+  pub refuses : RefusesToStrip stream e
+  pub sink : IsUntouched output
+  pub answers : Refuses e errors status
+
+-- What is left of the stream was written, as far as the output took it; or it was refused.
+abbrev pub WritesStripped : (stream : List ℕ) (output errors : Device) (status : ℕ) → Type 0
+WritesStripped stream output errors status =
+    ((left : List ℕ) × IsStripped false stream left × (WritesAll left output errors status ⊎ WritesSome left output errors status))
+    ⊎ ((e : Error) × WritesNothing stream e output errors status)
+
+-- The source gave all that it had left, which was stripped.
+pub record StripsInput (input output errors : Device) (status : ℕ) : Type 0 where
+  pub given : List ℕ
+  pub gave : Consumes input.before input.after given
+  pub at_end : IsAtEnd input.after
+  pub source : input.has_failed ≡ input.had_failed
+  pub writes : WritesStripped given output errors status
+
+-- The source failed, or memory for what it gave was refused: nothing was written.
+pub record CannotRead (input output errors : Device) (status : ℕ) : Type 0 where
+  pub why : ListError
+  pub reading : why ≢ Output
+  pub given : List ℕ
+  pub gave : Consumes input.before input.after given
+  pub source : input.has_failed ≡ input_failed {A = Unit {0}} (Err why) input.had_failed
+  pub sink : IsUntouched output
+  pub gives_up : GivesUpAs why errors status
+
+-- a run that strips its input
+abbrev pub RunsStripping : (input output errors : Device) (status : ℕ) → Type 0
+RunsStripping input output errors status = StripsInput input output errors status ⊎ CannotRead input output errors status
