@@ -103,11 +103,11 @@ def compare_with_wabt(program, data):
 
 
 def arguments():
-    parser = argparse.ArgumentParser(usage=__doc__)
+    parser = argparse.ArgumentParser(description="compares strip with a model")
     parser.add_argument("words", nargs="*")
     parser.add_argument("--model")
     parser.add_argument("--show", type=int, default=10)
-    given = parser.parse_args()
+    given = parser.parse_intermixed_args()
     numbers = [int(word) for word in given.words if word.isdecimal()]
     files = [word for word in given.words if not word.isdecimal()]
     return (numbers + [1])[0], (numbers[1:] + [2000])[0], Model(given.model), given.show, files
