@@ -4,6 +4,7 @@ pub mod ByHand
 pub mod Decimal
 pub mod Joining
 pub mod LeftFrames
+pub mod LeftInPlace
 pub mod LeftParts
 pub mod Progress
 pub mod Resting

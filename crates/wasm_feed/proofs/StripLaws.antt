@@ -1,5 +1,5 @@
 -- What is left of a stream is accepted, and is read as the stream is but for what was dropped.
-use Rattle.std.proofs.Common.{◌≡◌, ℕ, ◌+◌, ◌<◌, ◌≤◌, ◌^◌, ◌⊎◌, inl, inr, Bool, true, false, cond, List, [], ◌∷◌, ◌++◌, length, nat_eq, refl, sym, ap, subst, subst₂, ◌∙◌, arith, length-append, eqb-true}
+use Rattle.std.proofs.Common.{◌≡◌, ℕ, ◌+◌, ◌<◌, ◌≤◌, ◌^◌, ◌⊎◌, inl, inr, Bool, true, false, cond, List, [], ◌∷◌, ◌++◌, length, nat_eq, Result, Ok, Err, refl, sym, ap, subst, subst₂, ◌∙◌, arith, length-append, eqb-true}
 use Rattle.std.specs.List.{All, filter, flat_map}
 use Rattle.std.proofs.lemmas.List.Elements.{All-append, All-tail}
 use Rattle.wasm_base.specs.FaultAt.{fault_at}
@@ -19,8 +19,8 @@ use Rattle.wasm_parser.proofs.Accepting.{fault_ends}
 use Rattle.wasm_parser.proofs.FramesKept.{Spares, filter_twice, each_of, rankless_may_go}
 use Rattle.wasm_parser.proofs.FramesTold.{one_division, frames_give_events}
 use Rattle.wasm_feed.specs.Lists.{all_features}
-use Rattle.wasm_feed.specs.Stripped.{frame_stays, stripped, left_bytes, AreLeft, IsStripped, EndsWithFault, RefusesToStrip, StrippingTwiceIsOnce}
-use Rattle.wasm_feed.specs.Strips.{ReadsLeft}
+use Rattle.wasm_feed.specs.Stripped.{frame_stays, stripped, left_bytes, AreLeft, IsStripped, EndsWithFault, RefusesToStrip, LeavesStream, StripsInPlace, StrippingTwiceIsOnce}
+use Rattle.wasm_feed.specs.Strips.{MovesLeft, ReadsLeft}
 use Rattle.wasm_feed.proofs.LeftFrames.{kept_bytes, LeftOf, LeftAfter, left_of}
 
 -- ---- how a reading ends
@@ -66,6 +66,9 @@ refused_memory keep stream left e s r m = record { memory = λ a. m; fault = λ 
 pub refused_copy : (keep : Bool) (stream left : List ℕ) (e : Error) → Stream stream 0 → ReadsLeft keep stream left → EndsWithFault stream e ⊎ (fault_at e ≡ out_of_memory) → RefusesToStrip stream e
 refused_copy keep stream left e s r (inl h) = refused_fault stream e s h
 refused_copy keep stream left e s r (inr m) = refused_memory keep stream left e s r m
+
+pub left_as_it_was : (stream after : List ℕ) (e : Error) → Stream stream 0 → EndsWithFault stream e → after ≡ stream → LeavesStream stream e after
+left_as_it_was stream after e s h u = record { refused = λ a. not_accepted stream e s h a; fault = h; unchanged = u }
 
 -- ---- what is left is accepted
 
@@ -175,6 +178,11 @@ pub strips_so : (keep : Bool) (stream left : List ℕ) → Stream stream 0 → R
 strips_so keep stream left s r =
     let a : IsAccepted stream = accepted_of keep stream left s r in
     subst (IsStripped keep stream) (sym (left_is keep stream left a s r)) (is_stripped keep stream a s)
+
+-- in place: what is left was moved to the front, which cannot end with a fault where the stream is accepted
+pub strips_in_place : (keep : Bool) (stream left after : List ℕ) (r : Result (Unit {0}) Error) → Stream stream 0 → ReadsLeft keep stream left → MovesLeft keep stream r after → StripsInPlace keep stream r after
+strips_in_place keep stream left after (Ok done) s reads m = strips_so keep stream after s m
+strips_in_place keep stream left after (Err e) s reads m = absurd (not_accepted stream e s m (accepted_of keep stream left s reads))
 
 -- ---- twice
 

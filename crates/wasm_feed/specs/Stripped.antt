@@ -78,6 +78,17 @@ abbrev pub Strips : {A : Type 0} → (keep : Bool) (stream : List ℕ) → Resul
 Strips keep stream (Ok left) = IsStripped keep stream left.items
 Strips keep stream (Err e) = RefusesToStrip stream e
 
+-- The stream is not accepted, ends with this fault, and was left as it was.
+pub record LeavesStream (stream : List ℕ) (e : Error) (after : List ℕ) : Type 0 where
+  pub refused : ¬ IsAccepted stream
+  pub fault : EndsWithFault stream e
+  pub unchanged : after ≡ stream
+
+-- The same in the stream's own memory.
+abbrev pub StripsInPlace : (keep : Bool) (stream : List ℕ) → Result (Unit {0}) Error → (after : List ℕ) → Type 0
+StripsInPlace keep stream (Ok done) after = IsStripped keep stream after
+StripsInPlace keep stream (Err e) after = LeavesStream stream e after
+
 -- stripping a second time changes nothing
 abbrev pub StrippingTwiceIsOnce : Type 0
 StrippingTwiceIsOnce = (keep : Bool) (stream once twice : List ℕ) → IsStripped keep stream once → IsStripped keep once twice → twice ≡ once

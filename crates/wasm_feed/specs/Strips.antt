@@ -1,5 +1,5 @@
 -- One pass over a stream that is stripped.
-use Rattle.std.specs.Prelude.{◌≡◌, ◌⊎◌, ℕ, ◌<◌, ◌^◌, Bool, true, false, List, ◌∷◌, [], ◌++◌, length, Result, Ok, Err, if◌then◌else◌}
+use Rattle.std.specs.Prelude.{◌≡◌, ◌⊎◌, ℕ, ◌+◌, ◌<◌, ◌^◌, Bool, true, false, List, ◌∷◌, [], ◌++◌, length, drop, Result, Ok, Err, if◌then◌else◌}
 use Rattle.wasm_base.specs.FaultAt.{fault_at}
 use Rattle.wasm_base.specs.Owned.{out_of_memory}
 use Rattle.wasm_base.specs.declared.error.Error.{Error}
@@ -73,3 +73,13 @@ CountsLeft keep stream (Err e) = EndsWithFault stream e
 abbrev pub CopiesLeft : (keep : Bool) (stream before : List ℕ) → Result (Unit {0}) Error → (after : List ℕ) → Type 0
 CopiesLeft keep stream before (Ok done) after = (left : List ℕ) × ReadsLeft keep stream left × (after ≡ before ++ left)
 CopiesLeft keep stream before (Err e) after = EndsWithFault stream e ⊎ (fault_at e ≡ out_of_memory)
+
+-- what is left of a stream was moved to the front of its bytes, and is all of them, if it has no fault
+abbrev pub MovesLeft : (keep : Bool) (stream : List ℕ) → Result (Unit {0}) Error → (after : List ℕ) → Type 0
+MovesLeft keep stream (Ok done) after = ReadsLeft keep stream after
+MovesLeft keep stream (Err e) after = EndsWithFault stream e
+
+-- a part is the bytes between two marks
+abbrev pub Passes : (bytes : List ℕ) (old : ℕ) → Result Part Error → (new : ℕ) → Type 0
+Passes bytes old (Ok part) new = (new ≡ old + length part.bytes.now) × (drop old bytes ≡ part.bytes.now ++ drop new bytes)
+Passes bytes old (Err e) new = Unit {0}

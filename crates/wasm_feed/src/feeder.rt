@@ -63,6 +63,13 @@ impl Cursor {
         }
     }
 
+    /// How many bytes were consumed.
+    pub(crate) fn mark(&self) -> usize
+        ensures { result ≡ self.now.mark }
+    {
+        self.mark
+    }
+
     /// Notes that the stream ends after the bytes that are there.
     pub(crate) fn finish(&mut self)
         ensures { self.new ≡ finished_cursor self.old }
@@ -267,6 +274,7 @@ pub(crate) fn advance<'a>(cursor: &mut Cursor, bytes: &'a [u8]) -> Result<Step<'
         ≡ shown result ++ drop cursor.new.mark bytes.now }
     ensures finished { cursor.new.is_finished ≡ cursor.old.is_finished }
     ensures wants { cursor.new.wants_more ≡ is_request result }
+    ensures mark { cursor.new.mark ≡ cursor.old.mark + length (shown result) }
 {
     let rest = after(bytes, cursor.mark);
     match cursor.parser.parse(rest, cursor.is_finished) {

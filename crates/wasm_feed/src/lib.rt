@@ -24,4 +24,4 @@ pub use listing::{Ended, ListError, list};
 pub use pieces::{fits_pieces, read_pieces};
 pub use sink::{BoundedSink, Sink, WriteSink, write_all};
 pub use source::{Failed, ReadSource, SliceSource, Source};
-pub use stripping::strip;
+pub use stripping::{strip, strip_in_place};

@@ -1,9 +1,11 @@
 // A stream without its custom sections.
-ghost use Rattle.std.specs.Prelude.{◌≡◌, ◌<◌, ◌^◌, true, length};
+ghost use Rattle.std.specs.Prelude.{◌≡◌, ◌+◌, ◌<◌, ◌≤◌, ◌^◌, true, length, vec_len};
+ghost use Rattle.std.specs.List.{copy_within};
 ghost use Rattle.wasm_feed.specs.Cursors.{feed_of};
-ghost use Rattle.wasm_feed.specs.Stripped.{custom_stays, Strips};
-ghost use Rattle.wasm_feed.specs.Strips.{CountsLeft, CopiesLeft, custom_fate, GoesOn, IsFateOf, TakesPart};
+ghost use Rattle.wasm_feed.specs.Stripped.{custom_stays, Strips, StripsInPlace};
+ghost use Rattle.wasm_feed.specs.Strips.{CountsLeft, CopiesLeft, custom_fate, GoesOn, IsFateOf, MovesLeft, Passes, TakesPart};
 ghost use Rattle.wasm_parser.specs.ParseAnswer.{report_of};
+ghost use Rattle.wasm_parser.specs.Reading.{Stream};
 
 use crate::feeder::{Cursor, Step, advance};
 use crate::sink::room;
@@ -58,6 +60,7 @@ fn next_part<'a>(cursor: &mut Cursor, bytes: &'a [u8], keep_names: bool) -> Resu
     ensures goes_on { GoesOn (feed_of bytes.now cursor.old) result
         (feed_of bytes.now cursor.new) }
     ensures finished { cursor.new.is_finished ≡ true }
+    ensures passes { Passes bytes.now cursor.old.mark result cursor.new.mark }
 {
     match advance(cursor, bytes)? {
         Step::NeedMoreData(_) => unreachable!(),
@@ -71,7 +74,8 @@ fn next_part<'a>(cursor: &mut Cursor, bytes: &'a [u8], keep_names: bool) -> Resu
 // How many bytes are left of a stream.
 fn count_left(bytes: &[u8], keep_names: bool) -> Result<usize>
     requires { length bytes.now < 2 ^ 64 }
-    ensures { CountsLeft keep_names bytes.now result }
+    ensures counts { CountsLeft keep_names bytes.now result }
+    ensures stream { Stream bytes.now 0 }
 {
     let mut cursor = Cursor::over_all(Parser::new(0));
     let mut count = 0;
@@ -103,6 +107,54 @@ fn copy_left<A: Allocator>(bytes: &[u8], keep_names: bool, left: &mut Vec<u8, A>
             Fate::End => return Ok(()),
         }
     }
+}
+
+// Moves so many bytes down from their start to another place; those that are there already are not touched.
+fn move_down<A: Allocator>(bytes: &mut Vec<u8, A>, start: usize, size: usize, to: usize)
+    requires order { to ≤ start }
+    requires within { start + size ≤ vec_len bytes.old }
+    ensures items { bytes.new.items ≡ copy_within bytes.old.items start (start + size) to }
+    ensures len { vec_len bytes.new ≡ vec_len bytes.old }
+{
+    if to < start {
+        bytes.copy_within(start..start + size, to);
+    }
+}
+
+// Moves what is left of a stream to the front of its bytes, and lets go of the rest.
+fn move_left<A: Allocator>(bytes: &mut Vec<u8, A>, keep_names: bool) -> Result<()>
+    requires { length bytes.old.items < 2 ^ 64 }
+    ensures { MovesLeft keep_names bytes.old.items result bytes.new.items }
+{
+    let mut cursor = Cursor::over_all(Parser::new(0));
+    let mut left = 0;
+    'parts: loop {
+        let start = cursor.mark();
+        let part = next_part(&mut cursor, bytes, keep_names)?;
+        let size = part.bytes.len();
+        match part.fate {
+            Fate::Stays => {
+                move_down(bytes, start, size, left);
+                left += size;
+            }
+            Fate::Goes => {}
+            Fate::End => {
+                bytes.truncate(left);
+                return Ok(());
+            }
+        }
+    }
+}
+
+/// Takes the custom sections out of a stream, as `strip` does, in its own memory: it takes none, and there is no other error than
+/// the fault of a stream that isn't accepted, which is left as it was.
+pub fn strip_in_place<A: Allocator>(bytes: &mut Vec<u8, A>, keep_names: bool) -> Result<()>
+    ensures { StripsInPlace keep_names bytes.old.items result bytes.new.items }
+{
+    // A list is shorter than 2^64 bytes, which the functions below want to know.
+    let _length = bytes.len();
+    count_left(bytes, keep_names)?;
+    move_left(bytes, keep_names)
 }
 
 // The same as `strip`, with memory from any allocator.

@@ -4,9 +4,9 @@ use Rattle.std.specs.Io.KnownBytes.{Appends, Consumes, IsAtEnd, Keeps}
 use Rattle.wasm_base.specs.FaultAt.{FaultAt, fault_at}
 use Rattle.wasm_base.specs.Message.{error_text}
 use Rattle.wasm_base.specs.declared.error.Error.{Error}
-use Rattle.wasm_base.specs.declared.fault.Fault.TheVariants.{OutOfMemory}
+use Rattle.wasm_parser.specs.Accepted.{IsAccepted}
 use Rattle.wasm_feed.specs.Lists.{input_failed}
-use Rattle.wasm_feed.specs.Stripped.{IsStripped, RefusesToStrip}
+use Rattle.wasm_feed.specs.Stripped.{IsStripped, EndsWithFault}
 use Rattle.wasm_feed.specs.declared.listing.ListError.{ListError}
 use Rattle.wasm_feed.specs.declared.listing.ListError.TheVariants.{Input, Output, Memory}
 use Rattle.wasm_list.specs.Devices.{Device, IsUntouched, Says, complaint_of}
@@ -36,10 +36,9 @@ pub record TellsFault (f : FaultAt) (errors : Device) (status : ℕ) : Type 0 wh
   pub answers : status ≡ 1
   pub says : Says errors (error_text f ++ codes "\n")
 
--- How an error of stripping is answered: a want of memory as one, and a fault by its text, for which memory may be wanting.
-pub record Refuses (e : Error) (errors : Device) (status : ℕ) : Type 0 where
-  pub memory : (fault_at e).fault ≡ OutOfMemory → GivesUpAs Memory errors status
-  pub fault : (fault_at e).fault ≢ OutOfMemory → TellsFault (fault_at e) errors status ⊎ GivesUpAs Memory errors status
+-- A fault is answered by its text, for which memory may be wanting.
+abbrev pub Refuses : Error → (errors : Device) (status : ℕ) → Type 0
+Refuses e errors status = TellsFault (fault_at e) errors status ⊎ GivesUpAs Memory errors status
 
 -- All of these bytes were written, and nothing was said.
 pub record WritesAll (bytes : List ℕ) (output errors : Device) (status : ℕ) : Type 0 where
@@ -54,9 +53,10 @@ pub record WritesSome (bytes : List ℕ) (output errors : Device) (status : ℕ)
   pub sink : output.has_failed ≡ true
   pub gives_up : GivesUpAs Output errors status
 
--- The stream was not stripped, for this reason, and nothing was written.
+-- The stream is not accepted, its reading ends with this fault, and nothing was written.
 pub record WritesNothing (stream : List ℕ) (e : Error) (output errors : Device) (status : ℕ) : Type 0 where
-  pub refuses : RefusesToStrip stream e
+  pub refused : ¬ IsAccepted stream
+  pub fault : EndsWithFault stream e
   pub sink : IsUntouched output
   pub answers : Refuses e errors status
 

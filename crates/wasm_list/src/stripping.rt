@@ -6,8 +6,8 @@ ghost use Rattle.std.specs.Prelude.{◌≡◌, ◌<◌, length};
 
 use crate::program::{PIECE, complain, give_up};
 use std::alloc::Global;
-use wasm_feed::{ListError, Sink, Source, strip, write_all};
-use wasm_parser::{Error, Fault};
+use wasm_feed::{ListError, Sink, Source, strip_in_place, write_all};
+use wasm_parser::Error;
 
 // Reads once, and puts what came after these bytes. Answers whether anything came.
 fn read_piece<R: Source>(
@@ -45,39 +45,36 @@ fn read_all<R: Source>(alloc: Global, input: &mut R, piece: usize) -> Result<Vec
     }
 }
 
-// Says why the stream isn't stripped, and answers the status of that.
-fn refuse<E: Sink>(alloc: Global, errors: &mut E, error: Error) -> u8
+// Says what the fault of the stream is, and answers the status of that.
+fn tell_fault<E: Sink>(alloc: Global, errors: &mut E, error: Error) -> u8
     ensures { Refuses error (device_of E.taken E.has_failed errors.old errors.new) result }
 {
-    match error.fault() {
-        Fault::OutOfMemory => give_up(errors, ListError::Memory),
-        _ => match format!(in alloc; "{error}\n") {
-            Ok(text) => {
-                complain(errors, text.as_bytes());
-                1
-            }
-            Err(_) => give_up(errors, ListError::Memory),
-        },
+    match format!(in alloc; "{error}\n") {
+        Ok(text) => {
+            complain(errors, text.as_bytes());
+            1
+        }
+        Err(_) => give_up(errors, ListError::Memory),
     }
 }
 
 // Writes what is left of a stream, or says why nothing is.
 fn write_stripped<W: Sink, E: Sink>(
     alloc: Global,
-    bytes: &[u8],
+    mut bytes: Vec<u8>,
     output: &mut W,
     errors: &mut E,
 ) -> u8
-    ensures { WritesStripped bytes.now
+    ensures { WritesStripped bytes.items
         (device_of W.taken W.has_failed output.old output.new)
         (device_of E.taken E.has_failed errors.old errors.new) result }
 {
-    match strip(alloc, bytes, false) {
-        Ok(left) => match write_all(output, &left) {
+    match strip_in_place(&mut bytes, false) {
+        Ok(()) => match write_all(output, &bytes) {
             Ok(()) => 0,
             Err(_) => give_up(errors, ListError::Output),
         },
-        Err(error) => refuse(alloc, errors, error),
+        Err(error) => tell_fault(alloc, errors, error),
     }
 }
 
@@ -97,7 +94,7 @@ pub(crate) fn strip_input<R: Source, W: Sink, E: Sink>(
         (device_of E.taken E.has_failed errors.old errors.new) result }
 {
     match read_all(alloc, input, PIECE) {
-        Ok(bytes) => write_stripped(alloc, &bytes, output, errors),
+        Ok(bytes) => write_stripped(alloc, bytes, output, errors),
         Err(why) => give_up(errors, why),
     }
 }

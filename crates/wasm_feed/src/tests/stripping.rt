@@ -1,7 +1,7 @@
 // Streams without their custom sections.
 use super::heap::Sparing;
-use crate::strip;
 use crate::stripping::strip_in;
+use crate::{strip, strip_in_place};
 use std::test::Fail;
 use wasm_parser::{Error, Fault};
 
@@ -91,6 +91,24 @@ fn strips_modules(rt: HostRuntime) -> Result<(), Fail> {
             let again = strip(rt.alloc(), &left, keep_names)?;
             assert_eq!(rt; again.as_slice(), wanted, "{stream:?} {keep_names}");
         }
+    }
+    Ok(())
+}
+
+#[test]
+fn strips_modules_in_place(rt: HostRuntime) -> Result<(), Fail> {
+    for (stream, with_names, without) in STRIPPED {
+        for (keep_names, wanted) in [(true, with_names), (false, without)] {
+            let mut bytes = Vec::from_slice(rt.alloc(), stream)?;
+            strip_in_place(&mut bytes, keep_names)?;
+            assert_eq!(rt; bytes.as_slice(), wanted, "{stream:?} {keep_names}");
+        }
+    }
+    for (stream, fault, offset) in FAULTS {
+        let mut bytes = Vec::from_slice(rt.alloc(), stream)?;
+        let answer = strip_in_place(&mut bytes, false);
+        assert_eq!(rt; answer, Err(Error::new(fault, offset)), "{stream:?}");
+        assert_eq!(rt; bytes.as_slice(), stream, "{stream:?}");
     }
     Ok(())
 }

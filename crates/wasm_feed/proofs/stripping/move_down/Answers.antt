@@ -1,0 +1,8 @@
+use Rattle.std.proofs.Common.{◌≡◌, sym, arith}
+use Rattle.wasm_feed.proofs.LeftInPlace.{stays_there}
+use Rattle.wasm_feed.proofs.stripping.move_down.Goals as goal
+
+pub returns-else-to-start-clause-items : goal.returns-else-to-start-clause-items
+returns-else-to-start-clause-items g c =
+    let same : c.args.to ≡ c.args.start = omega (arith, c.requires.order, c.if-to-start.false) in
+    sym (stays_there c.args.bytes.now.items c.args.start c.args.size c.args.to same)
