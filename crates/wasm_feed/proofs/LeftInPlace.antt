@@ -11,7 +11,7 @@ use Rattle.wasm_feed.specs.Strips.{HasLeft}
 use Rattle.wasm_feed.specs.declared.feeder.Cursor.{Cursor}
 
 -- a part that is moved down, after what is at the front, changes nothing of what comes after it
-module _ (bytes part : List ℕ) (left start end : ℕ) (behind : left ≤ start) (within : start ≤ length bytes) (size : end ≡ start + length part) (parts : drop start bytes ≡ part ++ drop end bytes) where
+module _ (bytes part : List ℕ) (left start end : ℕ) (order : left ≤ start) (within : start ≤ length bytes) (size : end ≡ start + length part) (parts : drop start bytes ≡ part ++ drop end bytes) where
   abbrev moved : List ℕ
   moved = copy_within bytes start (start + length part) left
 
@@ -24,17 +24,17 @@ module _ (bytes part : List ℕ) (left start end : ℕ) (behind : left ≤ start
   moved_front : take (left + length part) moved ≡ take left bytes ++ part
   moved_front =
       ap (λ (n : ℕ). take (left + length part) (paste bytes left (drop start bytes) n)) same_size
-      ∙ (take-paste bytes left (drop start bytes) (length part) (omega (arith, behind, within)) fits
+      ∙ (take-paste bytes left (drop start bytes) (length part) (omega (arith, order, within)) fits
       ∙ ap (λ (x : List ℕ). take left bytes ++ x) (ap (take (length part)) parts ∙ take_at part (drop end bytes) (length part) refl))
 
   later : (xs : List ℕ) → drop end xs ≡ drop (start - left) (drop (left + length part) xs)
-  later xs = ap (λ (n : ℕ). drop n xs) (omega (arith, behind, size)) ∙ sym (drop-drop (start - left) (left + length part) xs)
+  later xs = ap (λ (n : ℕ). drop n xs) (omega (arith, order, size)) ∙ sym (drop-drop (start - left) (left + length part) xs)
 
   moved_rest : drop end moved ≡ drop end bytes
   moved_rest =
       ap (λ (n : ℕ). drop end (paste bytes left (drop start bytes) n)) same_size
       ∙ (later (paste bytes left (drop start bytes) (length part))
-      ∙ (ap (drop (start - left)) (drop-paste bytes left (drop start bytes) (length part) (omega (arith, behind, within)) fits) ∙ sym (later bytes)))
+      ∙ (ap (drop (start - left)) (drop-paste bytes left (drop start bytes) (length part) (omega (arith, order, within)) fits) ∙ sym (later bytes)))
 
 -- bytes that are moved to where they are
 pub stays_there : (bytes : List ℕ) (start size to : ℕ) → to ≡ start → copy_within bytes start (start + size) to ≡ bytes
@@ -55,8 +55,8 @@ mark_within bytes part old new within (size, parts) =
 pub moves_on : (keep : Bool) (stream bytes items part : List ℕ) (left start : ℕ) (old new : Cursor) → start ≡ old.mark → left ≤ old.mark → old.mark ≤ length bytes
     → (new.mark ≡ old.mark + length part) × (drop old.mark bytes ≡ part ++ drop new.mark bytes) → items ≡ copy_within bytes start (start + length part) left
     → HasLeft keep stream (feed_of bytes new) (take left bytes ++ part) → HasLeft keep stream (feed_of items new) (take (left + length part) items)
-moves_on keep stream bytes items part left start old new e behind within (size, parts) i (events, a, b) =
+moves_on keep stream bytes items part left start old new e order within (size, parts) i (events, a, b) =
     let m : items ≡ copy_within bytes old.mark (old.mark + length part) left = i ∙ ap (λ (n : ℕ). copy_within bytes n (n + length part) left) e in
-    let held : drop new.mark items ≡ drop new.mark bytes = ap (drop new.mark) m ∙ moved_rest bytes part left old.mark new.mark behind within size parts in
-    let front : take (left + length part) items ≡ take left bytes ++ part = ap (take (left + length part)) m ∙ moved_front bytes part left old.mark new.mark behind within size parts in
+    let held : drop new.mark items ≡ drop new.mark bytes = ap (drop new.mark) m ∙ moved_rest bytes part left old.mark new.mark order within size parts in
+    let front : take (left + length part) items ≡ take left bytes ++ part = ap (take (left + length part)) m ∙ moved_front bytes part left old.mark new.mark order within size parts in
     (events, subst (λ (x : List ℕ). Along 0 all_features stream new.parser x events) (sym held) a, front ∙ b)

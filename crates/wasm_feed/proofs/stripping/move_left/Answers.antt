@@ -14,7 +14,7 @@ parts-init g c =
     record {
       comes = nothing_left c.args.keep_names bytes (feed_of bytes cursor) (c.over_all-cursor.ensures.parser ∙ c.new.ensures) (ap (λ (n : ℕ). drop n bytes) c.over_all-cursor.ensures.mark);
       finished = c.over_all-cursor.ensures.finished;
-      behind = omega arith;
+      order = omega arith;
       within = omega (arith, c.over_all-cursor.ensures.mark);
       long = refl;
     }
@@ -40,9 +40,9 @@ parts-preserved-in-Stays g c =
     let came = subst (λ (x : Fate). FateComes c.args.keep_names stream loop.comes.0 part.bytes.now x (feed_of bytes next)) c.in-Stays.is (takes stream loop.comes.0 loop.comes.1 c.requires) in
     let left = stays_left c.args.keep_names stream (take c.parts.left bytes) (feed_of bytes cursor) (feed_of bytes next) loop.comes part.bytes.now came in
     record {
-      comes = moves_on c.args.keep_names stream bytes c.move_down.new.bytes.items part.bytes.now c.parts.left c.mark-start.result cursor next c.mark-start.ensures loop.behind loop.within passes c.move_down.ensures.items left;
+      comes = moves_on c.args.keep_names stream bytes c.move_down.new.bytes.items part.bytes.now c.parts.left c.mark-start.result cursor next c.mark-start.ensures loop.order loop.within passes c.move_down.ensures.items left;
       finished = c.in_ok-part.ensures.finished;
-      behind = omega (arith, loop.behind, passes.0);
+      order = omega (arith, loop.order, passes.0);
       within = omega (arith, c.move_down.ensures.len, mark_within bytes part.bytes.now cursor.mark next.mark loop.within passes);
       long = omega (arith, c.move_down.ensures.len, loop.long);
     }
@@ -61,7 +61,7 @@ parts-preserved g c =
     record {
       comes = goes_left c.args.keep_names stream (take c.parts.left bytes) (feed_of bytes cursor) (feed_of bytes next) loop.comes part.bytes.now came;
       finished = c.in_ok-part.ensures.finished;
-      behind = omega (arith, loop.behind, passes.0);
+      order = omega (arith, loop.order, passes.0);
       within = mark_within bytes part.bytes.now cursor.mark next.mark loop.within passes;
       long = loop.long;
     }

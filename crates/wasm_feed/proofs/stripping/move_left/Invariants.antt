@@ -8,7 +8,7 @@ abbrev pub invariant-parts : goal.invariant-parts
 invariant-parts g l = record {
   comes : HasLeft l.fn.keep_names l.fn.bytes.items (feed_of l.bytes.items l.cursor) (take l.left l.bytes.items);
   finished : l.cursor.is_finished ≡ true;
-  behind : l.left ≤ l.cursor.mark;
+  order : l.left ≤ l.cursor.mark;
   within : l.cursor.mark ≤ length l.bytes.items;
   long : length l.bytes.items ≡ length l.fn.bytes.items;
 }
