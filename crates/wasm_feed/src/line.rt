@@ -10,7 +10,7 @@ const ROOM: usize = 160;
 
 /// The end of a line. Each part that is put before it makes it longer.
 #[derive(Drop)]
-pub(crate) struct Line {
+pub struct Line {
     bytes: [u8; ROOM],
     start: usize,
 }
@@ -27,7 +27,7 @@ impl Model for Line {
 
 impl Line {
     /// An empty one.
-    pub(crate) fn new() -> Self
+    pub fn new() -> Self
         ensures { result ≡ [] }
     {
         Line {
@@ -37,7 +37,7 @@ impl Line {
     }
 
     /// Begins anew, with the line feed.
-    pub(crate) fn feed(&mut self)
+    pub fn feed(&mut self)
         ensures { self.new ≡ codes "\n" }
     {
         self.bytes[ROOM - 1] = b'\n';
@@ -45,7 +45,7 @@ impl Line {
     }
 
     /// Puts a number before it.
-    pub(crate) fn number(&mut self, number: u64)
+    pub fn number(&mut self, number: u64)
         requires { length self.old + 20 ≤ 160 }
         ensures line { self.new ≡ decimal number ++ self.old }
         ensures short { length self.new ≤ length self.old + 20 }
@@ -55,7 +55,7 @@ impl Line {
     }
 
     /// Puts a blank and a number before it.
-    pub(crate) fn field(&mut self, number: u64)
+    pub fn field(&mut self, number: u64)
         requires { length self.old + 21 ≤ 160 }
         ensures line { self.new ≡ field_before number self.old }
         ensures short { length self.new ≤ length self.old + 21 }
@@ -65,7 +65,7 @@ impl Line {
     }
 
     /// Puts a word before it.
-    pub(crate) fn word(&mut self, word: &str)
+    pub fn word(&mut self, word: &str)
         requires { length self.old + length word.now ≤ 160 }
         ensures { self.new ≡ word.now ++ self.old }
     {
@@ -75,7 +75,7 @@ impl Line {
     }
 
     /// Its bytes.
-    pub(crate) fn as_bytes(&self) -> &[u8]
+    pub fn as_bytes(&self) -> &[u8]
         ensures bytes { result.now ≡ self.now }
         ensures short { length result.now ≤ 160 }
     {

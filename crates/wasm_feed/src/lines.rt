@@ -107,7 +107,7 @@ fn end_line(line: &mut Line, offset: u64)
 
 /// The line of a payload.
 #[tactic(auto, unfolding(crate::specs::Listing::line_of))]
-pub(crate) fn payload_line(line: &mut Line, payload: &Payload)
+pub fn payload_line(line: &mut Line, payload: &Payload)
     ensures { line.new ≡ line_of (report_of payload.now) }
 {
     match payload {
@@ -148,7 +148,7 @@ pub(crate) fn payload_line(line: &mut Line, payload: &Payload)
 
 /// The line of a fault.
 #[tactic(auto, unfolding(crate::specs::Listing::line_of))]
-pub(crate) fn fault_line(line: &mut Line, error: &Error)
+pub fn fault_line(line: &mut Line, error: &Error)
     ensures { line.new ≡ line_of (stream_end (fault (fault_at error.now))) }
 {
     line.feed();
