@@ -1,9 +1,9 @@
 -- What a dump writes.
-use Rattle.std.specs.Prelude.{◌≡◌, ℕ, List, [], ◌++◌, Option, Some, Result, Ok, Err}
+use Rattle.std.specs.Prelude.{◌≡◌, ℕ, Bool, List, [], ◌++◌, Option, Some, Result, Ok, Err}
 use Rattle.std.specs.Io.KnownBytes.{Appends}
 use Rattle.wasm_base.specs.declared.error.Error.{Error}
 use Rattle.wasm_feed.specs.Feed.{Feed}
-use Rattle.wasm_feed.specs.Lists.{ListsBy, output_failed}
+use Rattle.wasm_feed.specs.Lists.{ListsBy, input_failed, output_failed}
 use Rattle.wasm_feed.specs.Step.{Steps}
 use Rattle.wasm_feed.specs.Turns.{text_after, turn_after}
 use Rattle.wasm_feed.specs.declared.feeder.Step.{Step}
@@ -12,7 +12,7 @@ use Rattle.wasm_feed.specs.declared.listing.ListError.{ListError}
 use Rattle.wasm_feed.specs.declared.listing.ListError.TheVariants.{Input, Output, Memory}
 use Rattle.wasm_feed.specs.declared.listing.Turn.{Turn}
 use Rattle.wasm_text.specs.Chosen.{chosen_line}
-use Rattle.wasm_text.specs.Tree.{IsOutlined, Writing, Origin, IsWritten, AddsFirst}
+use Rattle.wasm_text.specs.Tree.{IsOutlined, Writing, Origin, IsWritten, AddsFirst, starts}
 use Rattle.wasm_text.specs.declared.only.Only.{Only}
 
 -- A text with this outline was written.
@@ -50,9 +50,30 @@ pub record ShowsStep (only : Only) (old new : Feed) (before after : Writing) (ne
   pub turns : next ≡ turn_after answer
   pub shows : AddsFirst (text_after (chosen_line only) answer) before after
 
--- A dump by a writer that begins here.
-pub record DumpsFrom (only : Only) (left rest : Option (List ℕ)) (o : Origin) (result : Result Ended ListError) (new : Writing) : Type 0 where
-  pub outline : List ℕ
-  pub lists : ListsBy (chosen_line only) left rest (Some []) (Some outline) result
-  pub writes : Writes result o.taken new.taken outline
-  pub failed : new.has_failed ≡ output_failed result o.has_failed
+-- a dump's origin: what the sink had taken, and whether it had failed
+abbrev pub origin : (taken : Option (List ℕ)) (failed : Bool) (outline : List ℕ) → Origin
+origin taken failed outline = record { taken = taken; has_failed = failed; outline = outline }
+
+-- a source before a call and after it: the bytes that it has left, and whether it has failed
+pub record Read : Type 0 where
+  pub left : Option (List ℕ)
+  pub rest : Option (List ℕ)
+  pub had_failed : Bool
+  pub has_failed : Bool
+
+abbrev pub read_of : {R : Type 0} → (left : R → Option (List ℕ)) (failed : R → Bool) (old new : R) → Read
+read_of left failed old new = record { left = left old; rest = left new; had_failed = failed old; has_failed = failed new }
+
+-- A dump by a writer over a sink that had taken this.
+pub record DumpsFrom (only : Only) (input : Read) (taken : Option (List ℕ)) (failed : Bool) (result : Result Ended ListError) (new : Writing) : Type 0 where
+  pub dumps : Dumps only input.left input.rest taken new.taken result
+  pub source : input.has_failed ≡ input_failed result input.had_failed
+  pub sink : new.has_failed ≡ output_failed result failed
+
+-- The same by a writer whose outline is empty.
+abbrev pub DumpsInto : (only : Only) (input : Read) (old : Writing) (result : Result Ended ListError) (new : Writing) → Type 0
+DumpsInto only input old result new = (taken : Option (List ℕ)) (failed : Bool) → IsWritten (origin taken failed []) old → DumpsFrom only input taken failed result new
+
+-- The same by a tree that has written nothing yet.
+abbrev pub DumpsByTree : (only : Only) (input : Read) (old : Writing) (result : Result Ended ListError) (new : Writing) → Type 0
+DumpsByTree only input old result new = (taken : Option (List ℕ)) (failed : Bool) → old ≡ starts taken failed → DumpsFrom only input taken failed result new

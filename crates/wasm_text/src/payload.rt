@@ -7,7 +7,7 @@ use wasm_feed::Sink;
 use wasm_parser::Payload;
 
 /// Writes what a payload holds, under its line.
-pub fn show_payload<W: Sink>(_alloc: Global, payload: &Payload<'_>, out: &mut Tree<'_, W>)
+pub fn show_payload<W: Sink>(_alloc: Global, payload: &Payload<'_>, out: &mut Tree<W>)
     ensures { Adds out.old out.new }
 {
     if let Payload::CodeSectionEntry(_) = payload {
