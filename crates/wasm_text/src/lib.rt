@@ -1,6 +1,19 @@
 //! What a stream holds, as text: a line for each event and, under it, a line for each item.
 #![tactic(auto)]
 
+mod core_dumps;
+mod custom;
+mod items;
+mod linking;
+mod lists;
+mod names;
+mod payload;
+mod show;
 mod tree;
+mod types;
 
+pub use custom::{show_custom, show_known};
+pub use lists::{Items, show_fault, show_items, show_list, show_section};
+pub use payload::show_payload;
+pub use show::{Show, Text};
 pub use tree::Tree;
