@@ -14,13 +14,13 @@ use Rattle.wasm_parser.specs.Reading.{Report, stream_end, Event, events_of, last
 use Rattle.wasm_parser.specs.declared.payload.Payload.{Payload}
 use Rattle.wasm_feed.specs.Along.{Along, ReadingBegins, ReadsEach, Came, Stepped}
 use Rattle.wasm_feed.specs.Feed.{Feed, new_feed, pushed, finished}
-use Rattle.wasm_feed.specs.Listing.{line_of, event_line, listing_of}
-use Rattle.wasm_feed.specs.Lists.{all_features, IsEndedBy, IsWhole, IsListed, Begins, Fills, Refills, Lists}
+use Rattle.wasm_feed.specs.Listing.{listing_by}
+use Rattle.wasm_feed.specs.Lists.{all_features, IsEndedBy, IsWhole, IsListed, Begins, Fills, Refills, ListsBy}
 use Rattle.wasm_feed.specs.Page.{IsCut, PutsLine}
 use Rattle.wasm_feed.specs.Cursors.{feed_of}
 use Rattle.wasm_feed.specs.Step.{answer_of, shown, is_request, Steps}
 use Rattle.wasm_feed.specs.declared.feeder.Cursor.{Cursor}
-use Rattle.wasm_feed.specs.Turns.{line_after, turn_after}
+use Rattle.wasm_feed.specs.Turns.{text_after, turn_after}
 use Rattle.wasm_feed.specs.declared.feeder.Step.{Step}
 use Rattle.wasm_feed.specs.declared.feeder.Step.TheVariants.{NeedMoreData, Parsed}
 use Rattle.wasm_feed.specs.declared.listing.Ended.{Ended}
@@ -30,51 +30,6 @@ use Rattle.wasm_feed.specs.declared.listing.ListError.TheVariants.{Input, Output
 use Rattle.wasm_feed.specs.declared.listing.Turn.TheVariants as turn
 use Rattle.wasm_feed.proofs.Along as along
 use Rattle.wasm_feed.proofs.Stepping.{after_answer}
-
--- The lines of what the feeder has passed are written, or wait on the page.
-pub record Progress (left rest taken written : Option (List ℕ)) (f : Feed) (page : List ℕ) : Type 0 where
-  pub given : List ℕ
-  pub events : List Event
-  pub is_along : Along 0 all_features given f.state f.held events
-  pub gave : Consumes left rest given
-  pub at_end : f.eof ≡ true → IsAtEnd rest
-  pub lines : List ℕ
-  pub listed : Appends taken written lines
-  pub parts : listing_of events ≡ lines ++ page
-
-pub begun : (left taken : Option (List ℕ)) → Progress left left taken taken (new_feed 0 all_features) []
-begun left taken = record {
-  given = [];
-  events = [];
-  is_along = along.begins 0 all_features;
-  gave = Consumes-nil left;
-  at_end = λ e. let no : true ≡ false = sym e in cc;
-  lines = [];
-  listed = Appends-nil taken;
-  parts = refl;
-}
-
--- ---- lines
-
-listing-append : (es fs : List Event) → listing_of (es ++ fs) ≡ listing_of es ++ listing_of fs
-listing-append [] fs = refl
-listing-append (x ∷ es) fs = ap (λ (l : List ℕ). event_line x ++ l) (listing-append es fs) ∙ sym (append_assoc (event_line x) (listing_of es) (listing_of fs))
-
-one_more : (es : List Event) (e : Event) → listing_of (es ++ e ∷ []) ≡ listing_of es ++ event_line e
-one_more es e = listing-append es (e ∷ []) ∙ ap (λ (l : List ℕ). listing_of es ++ l) (append-nil (event_line e))
-
--- a beginning of the listing, of a stream whose reading begins with these events
-begins_listing : (stream : List ℕ) (events : List Event) (lines more : List ℕ) → ReadingBegins 0 all_features stream events → listing_of events ≡ lines ++ more → Begins stream lines
-begins_listing stream events lines more r e = record {
-  events = r.events;
-  reading = r.reading;
-  left = more ++ listing_of r.more;
-  parts = ap listing_of r.begins ∙ (listing-append events r.more ∙ (ap (λ (x : List ℕ). x ++ listing_of r.more) e ∙ append_assoc lines more (listing_of r.more)));
-}
-
--- a page of which so much was written
-cut_page : (lines page : List ℕ) (n : ℕ) → lines ++ page ≡ (lines ++ take n page) ++ drop n page
-cut_page lines page n = ap (λ (x : List ℕ). lines ++ x) (sym (take-append-drop n page)) ∙ sym (append_assoc lines (take n page) (drop n page))
 
 -- ---- what the feeder was given
 
@@ -114,14 +69,6 @@ last_is d (x ∷ es) e = last_is x es e
 reading_ends : (stream : List ℕ) (events : List Event) (e : Event) (r : Reading stream 0 all_features (events ++ e ∷ [])) → e ≡ last_event r.end
 reading_ends stream events e r = sym (last_is e events e) ∙ (ap (last_of e) r.listed ∙ last_is e (events_of 0 all_features r.tiles) (last_event r.end))
 
--- a run that ends with this line, after these events
-record AtEnd (given : List ℕ) (events : List Event) (eof : Bool) (line : List ℕ) (how : Ended) : Type 0 where
-  end : Ending
-  same : line ≡ event_line (last_event end)
-  ends : IsEndedBy how end
-  within : length given < 2 ^ 64 → ReadsEach 0 all_features eof given (events ++ last_event end ∷ [])
-  past_the_top : 2 ^ 64 ≤ length given → (offset : ℕ) × (end ≡ fault (at_offset OffsetRange offset))
-
 ends_well : (end : Ending) (r : Report) → r ≡ stream_end end → is_end r ≡ true → IsEndedBy End end
 ends_well (ended o) r e t = tt
 ends_well (fault f) r e t = let no : false ≡ true = sym (ap is_end e) ∙ t in cc
@@ -134,306 +81,362 @@ all_given false given = ([], sym (append-nil given))
 abbrev pub weight : Feed → ℕ
 weight f = (2 ^ 64 - f.state.offset) + ((2 ^ 64 - (f.state.offset + length f.held)) + (if f.eof then 0 else 1))
 
--- More may come, the parser is undecided on what is held, and what was given is below the top.
-pub record Wants (left rest taken written : Option (List ℕ)) (f : Feed) (page : List ℕ) : Type 0 where
-  pub progress : Progress left rest taken written f page
-  pub hint : ℕ
-  pub undecided : IsUndecided f.state f.eof f.held hint
-  pub below : length progress.given < 2 ^ 64
+-- ---- what is listed: each event by the text of what it reports
 
--- ---- a turn
+module _ (text_of : Report → List ℕ) where
+  -- The lines of what the feeder has passed are written, or wait on the page.
+  pub record Progress (left rest taken written : Option (List ℕ)) (f : Feed) (page : List ℕ) : Type 0 where
+    pub given : List ℕ
+    pub events : List Event
+    pub is_along : Along 0 all_features given f.state f.held events
+    pub gave : Consumes left rest given
+    pub at_end : f.eof ≡ true → IsAtEnd rest
+    pub lines : List ℕ
+    pub listed : Appends taken written lines
+    pub parts : listing_by text_of events ≡ lines ++ page
 
-module _ (left rest taken written : Option (List ℕ)) (f : Feed) (page : List ℕ) (p : Progress left rest taken written f page) where
-  ends_at : f.state.offset + length f.held ≡ length p.given
-  ends_at = let o : f.state.offset + length f.held ≡ 0 + length p.given = along.ends_at 0 all_features p.given f.state f.held p.events p.is_along in omega (arith, o)
-
-  begins_here : ReadingBegins 0 all_features p.given p.events
-  begins_here = along.events_begin 0 all_features p.given f.state f.held p.events p.is_along true p.given refl
-
-  -- all lines that waited are written
-  pub written_out : (written' : Option (List ℕ)) → Appends written written' page → Progress left rest taken written' f []
-  written_out written' w = record {
-    given = p.given;
-    events = p.events;
-    is_along = p.is_along;
-    gave = p.gave;
-    at_end = p.at_end;
-    lines = p.lines ++ page;
-    listed = Appends-trans taken written written' p.lines page p.listed w;
-    parts = p.parts ∙ sym (append-nil (p.lines ++ page));
+  pub begun : (left taken : Option (List ℕ)) → Progress left left taken taken (new_feed 0 all_features) []
+  begun left taken = record {
+    given = [];
+    events = [];
+    is_along = along.begins 0 all_features;
+    gave = Consumes-nil left;
+    at_end = λ e. let no : true ≡ false = sym e in cc;
+    lines = [];
+    listed = Appends-nil taken;
+    parts = refl;
   }
 
-  -- a beginning of those that waited is written
-  pub cut : (written' : Option (List ℕ)) (e : ListError) → IsCut written written' page e → Lists left rest taken written' (Err e)
-  cut written' Output (n, w) = record {
-    given = p.given;
-    shown = p.lines ++ take n page;
-    gave = p.gave;
-    listed = Appends-trans taken written written' p.lines (take n page) p.listed w;
-    begins = λ l. begins_listing p.given p.events (p.lines ++ take n page) (drop n page) begins_here (p.parts ∙ cut_page p.lines page n);
-  }
-  cut written' Input w = absurd w
-  cut written' Memory w = absurd w
+  -- ---- lines
 
-  -- no memory for what came
-  pub no_memory : (rest' : Option (List ℕ)) (piece : List ℕ) → Consumes rest rest' piece → Lists left rest' taken written (Err Memory)
-  no_memory rest' piece c = record {
-    given = p.given ++ piece;
-    shown = p.lines;
-    gave = Consumes-trans left rest rest' p.given piece p.gave c;
-    listed = p.listed;
-    begins = λ l. begins_listing (p.given ++ piece) p.events p.lines page (along.events_begin 0 all_features p.given f.state f.held p.events p.is_along false (p.given ++ piece) (piece, refl)) p.parts;
+  listing-append : (es fs : List Event) → listing_by text_of (es ++ fs) ≡ listing_by text_of es ++ listing_by text_of fs
+  listing-append [] fs = refl
+  listing-append (x ∷ es) fs = ap (λ (l : List ℕ). text_of x.report ++ l) (listing-append es fs) ∙ sym (append_assoc (text_of x.report) (listing_by text_of es) (listing_by text_of fs))
+
+  one_more : (es : List Event) (e : Event) → listing_by text_of (es ++ e ∷ []) ≡ listing_by text_of es ++ text_of e.report
+  one_more es e = listing-append es (e ∷ []) ∙ ap (λ (l : List ℕ). listing_by text_of es ++ l) (append-nil (text_of e.report))
+
+  -- a beginning of the listing, of a stream whose reading begins with these events
+  begins_listing : (stream : List ℕ) (events : List Event) (lines more : List ℕ) → ReadingBegins 0 all_features stream events → listing_by text_of events ≡ lines ++ more → Begins text_of stream lines
+  begins_listing stream events lines more r e = record {
+    events = r.events;
+    reading = r.reading;
+    left = more ++ listing_by text_of r.more;
+    parts = ap (listing_by text_of) r.begins ∙ (listing-append events r.more ∙ (ap (λ (x : List ℕ). x ++ listing_by text_of r.more) e ∙ append_assoc lines more (listing_by text_of r.more)));
   }
 
-  -- the line of an event was put after those that waited
-  put_line : (written' : Option (List ℕ)) (line page' : List ℕ) (e : Event) (w : PutsLine written written' page line page') → line ≡ event_line e
-      → Appends taken written' (p.lines ++ w.lines) × (listing_of (p.events ++ e ∷ []) ≡ (p.lines ++ w.lines) ++ page')
-  put_line written' line page' e w same = (
-    Appends-trans taken written written' p.lines w.lines p.listed w.writes,
-    one_more p.events e ∙ (ap (λ (x : List ℕ). x ++ event_line e) p.parts ∙ (append_assoc p.lines page (event_line e) ∙ (ap (λ (x : List ℕ). p.lines ++ (page ++ x)) (sym same) ∙ waits_after))),
-  )
-    where
-      waits_after : p.lines ++ (page ++ line) ≡ (p.lines ++ w.lines) ++ page'
-      waits_after = ap (λ (x : List ℕ). p.lines ++ x) w.waits ∙ sym (append_assoc p.lines w.lines page')
+  -- a page of which so much was written
+  cut_page : (lines page : List ℕ) (n : ℕ) → lines ++ page ≡ (lines ++ take n page) ++ drop n page
+  cut_page lines page n = ap (λ (x : List ℕ). lines ++ x) (sym (take-append-drop n page)) ∙ sym (append_assoc lines (take n page) (drop n page))
 
-  -- the listing of a reading that ends here, of which a part waits
-  last_line : (written' : Option (List ℕ)) (line page' : List ℕ) (end : Ending) (w : PutsLine written written' page line page') → line ≡ event_line (last_event end)
-      → (written'' : Option (List ℕ)) → Appends written' written'' page' → Appends taken written'' (listing_of (p.events ++ last_event end ∷ []))
-  last_line written' line page' end w same written'' v =
-      let (wrote, parts) = put_line written' line page' (last_event end) w same in
-      subst (Appends taken written'') (sym parts) (Appends-trans taken written' written'' (p.lines ++ w.lines) page' wrote v)
+  -- a run that ends with this line, after these events
+  record AtEnd (given : List ℕ) (events : List Event) (eof : Bool) (line : List ℕ) (how : Ended) : Type 0 where
+    end : Ending
+    same : line ≡ text_of (stream_end end)
+    ends : IsEndedBy how end
+    within : length given < 2 ^ 64 → ReadsEach 0 all_features eof given (events ++ last_event end ∷ [])
+    past_the_top : 2 ^ 64 ≤ length given → (offset : ℕ) × (end ≡ fault (at_offset OffsetRange offset))
 
-  -- the source's whole input is one of the streams that begin with what it gave
-  whole_input : (events : List Event) → ReadsEach 0 all_features f.eof p.given events → IsWhole left p.given events
-  whole_input events r = record { reading = r p.given (all_given f.eof p.given); all = of_input left rest p.gave f.eof r p.at_end }
-    where
-      of_input : (left rest : Option (List ℕ)) → Consumes left rest p.given → (eof : Bool) → ReadsEach 0 all_features eof p.given events → (eof ≡ true → IsAtEnd rest) → IfSome left (λ input. Reading input 0 all_features events)
-      of_input None rest g eof r h = tt
-      of_input (Some input) None g eof r h = absurd g
-      of_input (Some input) (Some more) g true r h = r input (g ∙ (ap (λ (x : List ℕ). p.given ++ x) (h refl) ∙ append-nil p.given))
-      of_input (Some input) (Some more) g false r h = r input (more, g)
+  -- More may come, the parser is undecided on what is held, and what was given is below the top.
+  pub record Wants (left rest taken written : Option (List ℕ)) (f : Feed) (page : List ℕ) : Type 0 where
+    pub progress : Progress left rest taken written f page
+    pub hint : ℕ
+    pub undecided : IsUndecided f.state f.eof f.held hint
+    pub below : length progress.given < 2 ^ 64
 
-  module _ (g : Feed) where
-    -- what a step did, where what was given is below the top
-    stepped : (x : Result Step Error) → Steps f x g → length p.given < 2 ^ 64 → Stepped 0 all_features f.eof p.given p.events x g.state g.held
-    stepped x s l = along.stepped 0 all_features p.given f.state f.held p.events p.is_along f.eof x g.state g.held (omega (arith, l)) s.parses s.shows
+  -- ---- a turn
 
-    given_below : (step : Step) → Steps f (Ok step) g → length p.given < 2 ^ 64
-    given_below step s = let o = below_top f.state g.state f.eof f.held step s.parses in omega (arith, o, ends_at)
+  module _ (left rest taken written : Option (List ℕ)) (f : Feed) (page : List ℕ) (p : Progress left rest taken written f page) where
+    ends_at : f.state.offset + length f.held ≡ length p.given
+    ends_at = let o : f.state.offset + length f.held ≡ 0 + length p.given = along.ends_at 0 all_features p.given f.state f.held p.events p.is_along in omega (arith, o)
 
-    -- an event that isn't the last one
-    went_on : (bytes : _) (payload : Payload) → (s : Steps f (Ok (Parsed bytes payload)) g) → is_end (report_of payload) ≡ false
-        → (written' : Option (List ℕ)) (page' : List ℕ) → PutsLine written written' page (line_of (report_of payload)) page' → Progress left rest taken written' g page' × (weight g < weight f)
-    went_on bytes payload s n written' page' w =
-        let came : Came 0 all_features f.eof p.given p.events bytes.now payload g.state g.held = stepped (Ok (Parsed bytes payload)) s (given_below (Parsed bytes payload) s) in
-        let (after, some) = came.goes_on n in
-        let (wrote, parts) = put_line written' (line_of (report_of payload)) page' came.event w (ap line_of came.is_payload.0) in
-        let o : g.state.offset + length g.held ≡ 0 + length p.given = along.ends_at 0 all_features p.given g.state g.held (p.events ++ came.event ∷ []) after in
-        let n : length f.held ≡ length bytes.now + length g.held = ap (λ (z : List ℕ). length z) s.shows ∙ length-append bytes.now g.held in (
-          record {
-            given = p.given;
-            events = p.events ++ came.event ∷ [];
-            is_along = after;
-            gave = p.gave;
-            at_end = λ e. p.at_end (sym s.eof ∙ e);
-            lines = p.lines ++ w.lines;
-            listed = wrote;
-            parts = parts;
-          },
-          rw s.eof (omega (arith, ends_at, o, n, some, given_below (Parsed bytes payload) s)),
-        )
+    begins_here : ReadingBegins 0 all_features p.given p.events
+    begins_here = along.events_begin 0 all_features p.given f.state f.held p.events p.is_along true p.given refl
 
-  -- ---- the turns
-
-  module _ (g : Feed) (x : Result Step Error) (s : Steps f x g) (written' : Option (List ℕ)) (page' : List ℕ) (w : PutsLine written written' page (line_after x) page') where
-    -- an event that isn't the last one: there is less to consume
-    pub advanced : turn.Advance ≡ turn_after x → Progress left rest taken written' g page' × (weight g < weight f)
-    advanced t = by_answer x refl t
-      where
-        by_end : (bytes : _) (payload : Payload) (b : Bool) → is_end (report_of payload) ≡ b → turn.Advance ≡ (if b then turn.End End else turn.Advance) → x ≡ Ok (Parsed bytes payload) → Progress left rest taken written' g page' × (weight g < weight f)
-        by_end bytes payload true e t is = cc
-        by_end bytes payload false e t is =
-            let s' = subst (λ y. Steps f y g) is s in
-            went_on g bytes payload s' e written' page' (subst (λ y. PutsLine written written' page (line_after y) page') is w)
-
-        by_answer : (y : Result Step Error) → x ≡ y → turn.Advance ≡ turn_after y → Progress left rest taken written' g page' × (weight g < weight f)
-        by_answer (Ok (NeedMoreData hint)) is t = cc
-        by_answer (Ok (Parsed bytes payload)) is t = by_end bytes payload (is_end (report_of payload)) refl t is
-        by_answer (Err e) is t = cc
-
-    -- a request: the parser is undecided
-    pub asked : turn.Read ≡ turn_after x → Wants left rest taken written' g page' × (weight g ≡ weight f)
-    asked t = by_answer x refl t
-      where
-        by_end : (b : Bool) → turn.Read ≡ (if b then turn.End End else turn.Advance) → ⊥
-        by_end true t = cc
-        by_end false t = cc
-
-        request : (hint : ℕ) → x ≡ Ok (NeedMoreData hint) → Wants left rest taken written' g page' × (weight g ≡ weight f)
-        request hint is =
-            let s' = subst (λ y. Steps f y g) is s in
-            let w' = subst (λ y. PutsLine written written' page (line_after y) page') is w in
-            let l = given_below g (NeedMoreData hint) s' in
-            let (u, a) = stepped g (Ok (NeedMoreData hint)) s' l in
-            let stays : g.state ≡ f.state = asked_stays s'.parses in (
-              record {
-                progress = record {
-                  given = p.given;
-                  events = p.events;
-                  is_along = a;
-                  gave = p.gave;
-                  at_end = λ e. p.at_end (sym s.eof ∙ e);
-                  lines = p.lines ++ w'.lines;
-                  listed = Appends-trans taken written written' p.lines w'.lines p.listed w'.writes;
-                  parts = p.parts ∙ (ap (λ (z : List ℕ). p.lines ++ z) (sym (append-nil page) ∙ w'.waits) ∙ sym (append_assoc p.lines w'.lines page'));
-                };
-                hint = hint;
-                undecided = subst (λ b. IsUndecided g.state b g.held hint) (sym s.eof) u;
-                below = l;
-              },
-              rw (stays, sym s'.shows, s.eof) refl,
-            )
-
-        by_answer : (y : Result Step Error) → x ≡ y → turn.Read ≡ turn_after y → Wants left rest taken written' g page' × (weight g ≡ weight f)
-        by_answer (Ok (NeedMoreData hint)) is t = request hint is
-        by_answer (Ok (Parsed bytes payload)) is t = absurd (by_end (is_end (report_of payload)) t)
-        by_answer (Err e) is t = cc
-
-    end_at : (how : Ended) → turn.End how ≡ turn_after x → AtEnd p.given p.events f.eof (line_after x) how
-    end_at how t = by_answer x refl t
-      where
-        at_end : (bytes : _) (payload : Payload) (b : Bool) → is_end (report_of payload) ≡ b → turn.End how ≡ (if b then turn.End End else turn.Advance) → x ≡ Ok (Parsed bytes payload) → AtEnd p.given p.events f.eof (line_of (report_of payload)) how
-        at_end bytes payload false e t is = cc
-        at_end bytes payload true e t is =
-            let s' = subst (λ y. Steps f y g) is s in
-            let l = given_below g (Parsed bytes payload) s' in
-            let came : Came 0 all_features f.eof p.given p.events bytes.now payload g.state g.held = stepped g (Ok (Parsed bytes payload)) s' l in
-            let each = came.ends e in
-            let reading : Reading p.given 0 all_features (p.events ++ came.event ∷ []) = each p.given (all_given f.eof p.given) in
-            let last : came.event ≡ last_event reading.end = reading_ends p.given p.events came.event reading in
-            let reports : report_of payload ≡ stream_end reading.end = came.is_payload.0 ∙ ap (λ (y : Event). y.report) last in
-            let is_it : how ≡ End = cc in
-            record {
-              end = reading.end;
-              same = ap line_of reports;
-              ends = subst (λ (h : Ended). IsEndedBy h reading.end) (sym is_it) (ends_well reading.end (report_of payload) reports e);
-              within = λ _. subst (λ (y : Event). ReadsEach 0 all_features f.eof p.given (p.events ++ y ∷ [])) last each;
-              past_the_top = λ h. absurd (omega (arith, h, l));
-            }
-
-        by_answer : (y : Result Step Error) → x ≡ y → turn.End how ≡ turn_after y → AtEnd p.given p.events f.eof (line_after y) how
-        by_answer (Ok (NeedMoreData hint)) is t = cc
-        by_answer (Ok (Parsed bytes payload)) is t = at_end bytes payload (is_end (report_of payload)) refl t is
-        by_answer (Err e) is t =
-            let s' = subst (λ y. Steps f y g) is s in
-            let is_it : how ≡ Fault e = cc in
-            record {
-              end = fault (fault_at e);
-              same = refl;
-              ends = subst (λ (h : Ended). IsEndedBy h (fault (fault_at e))) (sym is_it) refl;
-              within = λ l. (stepped g (Err e) s' l).0;
-              past_the_top = λ h. (f.state.offset, ap fault (s'.parses.past_the_top (omega (arith, h, ends_at))).0);
-            }
-
-    -- all is written, and the run ends
-    pub listed_all : (how : Ended) → turn.End how ≡ turn_after x → (written'' : Option (List ℕ)) → Appends written' written'' page' → IsListed left rest taken written'' how
-    listed_all how t written'' v =
-        let a = end_at how t in
-        record {
-          given = p.given;
-          first = p.events;
-          end = a.end;
-          gave = p.gave;
-          listed = last_line written' (line_after x) page' a.end w a.same written'' v;
-          ends = a.ends;
-          within = λ l. whole_input (p.events ++ last_event a.end ∷ []) (a.within l);
-          past_the_top = λ h. record { begins = begins_here; offset = (a.past_the_top h).0; is_fault = (a.past_the_top h).1 };
-        }
-
-    -- the last lines were cut
-    pub end_cut : (how : Ended) → turn.End how ≡ turn_after x → (written'' : Option (List ℕ)) (e : ListError) → IsCut written' written'' page' e → Lists left rest taken written'' (Err e)
-    end_cut how t written'' Output (n, v) =
-        let a = end_at how t in
-        let (wrote, parts) = put_line written' (line_after x) page' (last_event a.end) w a.same in
-        record {
-          given = p.given;
-          shown = (p.lines ++ w.lines) ++ take n page';
-          gave = p.gave;
-          listed = Appends-trans taken written' written'' (p.lines ++ w.lines) (take n page') wrote v;
-          begins = λ l. begins_listing p.given (p.events ++ last_event a.end ∷ []) ((p.lines ++ w.lines) ++ take n page') (drop n page')
-              (along.whole_begins 0 all_features true p.given (p.events ++ last_event a.end ∷ []) (λ stream m. subst (λ (y : List ℕ). Reading y 0 all_features (p.events ++ last_event a.end ∷ [])) (sym m) (a.within l p.given (all_given f.eof p.given))) p.given refl)
-              (parts ∙ cut_page (p.lines ++ w.lines) page' n);
-        }
-    end_cut how t written'' Input v = absurd v
-    end_cut how t written'' Memory v = absurd v
-
--- ---- a read
-
--- the lines that waited are written
-pub wants_written : (left rest taken written written' : Option (List ℕ)) (f : Feed) (page : List ℕ) → Wants left rest taken written f page → Appends written written' page → Wants left rest taken written' f []
-unfolding written_out
-wants_written left rest taken written written' f page p w = record {
-  progress = written_out left rest taken written f page p.progress written' w;
-  hint = p.hint;
-  undecided = p.undecided;
-  below = p.below;
-}
-
-module _ (left rest taken written : Option (List ℕ)) (f : Feed) (wants : Wants left rest taken written f []) where
-  p : Progress left rest taken written f []
-  p = wants.progress
-
-  -- the source failed: the lines of all events but the last are written
-  pub input_fails : (rest' : Option (List ℕ)) → Keeps rest rest' → Lists left rest' taken written (Err Input)
-  input_fails rest' k =
-      let (end, reading) = along.undecided_ends 0 all_features p.given f.state f.held p.events p.is_along f.eof wants.hint wants.undecided in
-      record {
-        given = p.given;
-        events = p.events;
-        last = last_event end;
-        gave = kept left rest rest' p.given p.gave k;
-        listed = subst (Appends taken written) (sym (p.parts ∙ append-nil p.lines)) p.listed;
-        reading = reading;
-      }
-
-  -- it gave something, or ended
-  pub filled : (rest' : Option (List ℕ)) (g : Feed) → Fills rest rest' f g → Progress left rest' taken written g [] × (weight g < weight f)
-  filled rest' g (inl (none, at_end, is)) = subst (λ (h : Feed). Progress left rest' taken written h [] × (weight h < weight f)) (sym is) (
-    record {
+    -- all lines that waited are written
+    pub written_out : (written' : Option (List ℕ)) → Appends written written' page → Progress left rest taken written' f []
+    written_out written' w = record {
       given = p.given;
       events = p.events;
       is_along = p.is_along;
-      gave = subst (Consumes left rest') (append-nil p.given) (Consumes-trans left rest rest' p.given [] p.gave none);
-      at_end = λ _. at_end;
-      lines = p.lines;
-      listed = p.listed;
-      parts = p.parts;
-    },
-    rw wants.undecided.0 (omega arith),
-  )
-  filled rest' g (inr (piece, gave, some, is)) = subst (λ (h : Feed). Progress left rest' taken written h [] × (weight h < weight f)) (sym is) (
-    record {
-      given = p.given ++ piece;
-      events = p.events;
-      is_along = along.pushed 0 all_features p.given f.state f.held p.events piece p.is_along;
-      gave = Consumes-trans left rest rest' p.given piece p.gave gave;
-      at_end = λ e. let no : true ≡ false = sym e ∙ wants.undecided.0 in cc;
-      lines = p.lines;
-      listed = p.listed;
-      parts = p.parts;
-    },
-    lighter,
-  )
-    where
-      lighter : weight (pushed f piece) < weight f
-      lighter =
-          let o : f.state.offset + length f.held ≡ length wants.progress.given = ends_at left rest taken written f [] wants.progress in
-          let n : length (pushed f piece).held ≡ length f.held + length piece = length-append f.held piece in
-          let same : (pushed f piece).state.offset ≡ f.state.offset = refl in
-          rw wants.undecided.0 (omega (arith, o, n, same, wants.below, some))
+      gave = p.gave;
+      at_end = p.at_end;
+      lines = p.lines ++ page;
+      listed = Appends-trans taken written written' p.lines page p.listed w;
+      parts = p.parts ∙ sym (append-nil (p.lines ++ page));
+    }
 
-  -- a read that was given up
-  pub not_filled : (rest' : Option (List ℕ)) (g : Feed) (e : ListError) → Refills rest rest' f g (Err e) → Lists left rest' taken written (Err e)
-  not_filled rest' g Input k = input_fails rest' k
-  not_filled rest' g Memory k = no_memory left rest taken written f [] p rest' k.0 k.1
-  not_filled rest' g Output k = absurd k
+    -- a beginning of those that waited is written
+    pub cut : (written' : Option (List ℕ)) (e : ListError) → IsCut written written' page e → ListsBy text_of left rest taken written' (Err e)
+    cut written' Output (n, w) = record {
+      given = p.given;
+      shown = p.lines ++ take n page;
+      gave = p.gave;
+      listed = Appends-trans taken written written' p.lines (take n page) p.listed w;
+      begins = λ l. begins_listing p.given p.events (p.lines ++ take n page) (drop n page) begins_here (p.parts ∙ cut_page p.lines page n);
+    }
+    cut written' Input w = absurd w
+    cut written' Memory w = absurd w
+
+    -- no memory for what came
+    pub no_memory : (rest' : Option (List ℕ)) (piece : List ℕ) → Consumes rest rest' piece → ListsBy text_of left rest' taken written (Err Memory)
+    no_memory rest' piece c = record {
+      given = p.given ++ piece;
+      shown = p.lines;
+      gave = Consumes-trans left rest rest' p.given piece p.gave c;
+      listed = p.listed;
+      begins = λ l. begins_listing (p.given ++ piece) p.events p.lines page (along.events_begin 0 all_features p.given f.state f.held p.events p.is_along false (p.given ++ piece) (piece, refl)) p.parts;
+    }
+
+    -- the line of an event was put after those that waited
+    put_line : (written' : Option (List ℕ)) (line page' : List ℕ) (e : Event) (w : PutsLine written written' page line page') → line ≡ text_of e.report
+        → Appends taken written' (p.lines ++ w.lines) × (listing_by text_of (p.events ++ e ∷ []) ≡ (p.lines ++ w.lines) ++ page')
+    put_line written' line page' e w same = (
+      Appends-trans taken written written' p.lines w.lines p.listed w.writes,
+      one_more p.events e ∙ (ap (λ (x : List ℕ). x ++ text_of e.report) p.parts ∙ (append_assoc p.lines page (text_of e.report) ∙ (ap (λ (x : List ℕ). p.lines ++ (page ++ x)) (sym same) ∙ waits_after))),
+    )
+      where
+        waits_after : p.lines ++ (page ++ line) ≡ (p.lines ++ w.lines) ++ page'
+        waits_after = ap (λ (x : List ℕ). p.lines ++ x) w.waits ∙ sym (append_assoc p.lines w.lines page')
+
+    -- the listing of a reading that ends here, of which a part waits
+    last_line : (written' : Option (List ℕ)) (line page' : List ℕ) (end : Ending) (w : PutsLine written written' page line page') → line ≡ text_of (stream_end end)
+        → (written'' : Option (List ℕ)) → Appends written' written'' page' → Appends taken written'' (listing_by text_of (p.events ++ last_event end ∷ []))
+    last_line written' line page' end w same written'' v =
+        let (wrote, parts) = put_line written' line page' (last_event end) w same in
+        subst (Appends taken written'') (sym parts) (Appends-trans taken written' written'' (p.lines ++ w.lines) page' wrote v)
+
+    -- the source's whole input is one of the streams that begin with what it gave
+    whole_input : (events : List Event) → ReadsEach 0 all_features f.eof p.given events → IsWhole left p.given events
+    whole_input events r = record { reading = r p.given (all_given f.eof p.given); all = of_input left rest p.gave f.eof r p.at_end }
+      where
+        of_input : (left rest : Option (List ℕ)) → Consumes left rest p.given → (eof : Bool) → ReadsEach 0 all_features eof p.given events → (eof ≡ true → IsAtEnd rest) → IfSome left (λ input. Reading input 0 all_features events)
+        of_input None rest g eof r h = tt
+        of_input (Some input) None g eof r h = absurd g
+        of_input (Some input) (Some more) g true r h = r input (g ∙ (ap (λ (x : List ℕ). p.given ++ x) (h refl) ∙ append-nil p.given))
+        of_input (Some input) (Some more) g false r h = r input (more, g)
+
+    module _ (g : Feed) where
+      -- what a step did, where what was given is below the top
+      stepped : (x : Result Step Error) → Steps f x g → length p.given < 2 ^ 64 → Stepped 0 all_features f.eof p.given p.events x g.state g.held
+      stepped x s l = along.stepped 0 all_features p.given f.state f.held p.events p.is_along f.eof x g.state g.held (omega (arith, l)) s.parses s.shows
+
+      given_below : (step : Step) → Steps f (Ok step) g → length p.given < 2 ^ 64
+      given_below step s = let o = below_top f.state g.state f.eof f.held step s.parses in omega (arith, o, ends_at)
+
+      -- an event that isn't the last one
+      went_on : (bytes : _) (payload : Payload) → (s : Steps f (Ok (Parsed bytes payload)) g) → is_end (report_of payload) ≡ false
+          → (written' : Option (List ℕ)) (page' : List ℕ) → PutsLine written written' page (text_of (report_of payload)) page' → Progress left rest taken written' g page' × (weight g < weight f)
+      went_on bytes payload s n written' page' w =
+          let came : Came 0 all_features f.eof p.given p.events bytes.now payload g.state g.held = stepped (Ok (Parsed bytes payload)) s (given_below (Parsed bytes payload) s) in
+          let (after, some) = came.goes_on n in
+          let (wrote, parts) = put_line written' (text_of (report_of payload)) page' came.event w (ap text_of came.is_payload.0) in
+          let o : g.state.offset + length g.held ≡ 0 + length p.given = along.ends_at 0 all_features p.given g.state g.held (p.events ++ came.event ∷ []) after in
+          let n : length f.held ≡ length bytes.now + length g.held = ap (λ (z : List ℕ). length z) s.shows ∙ length-append bytes.now g.held in (
+            record {
+              given = p.given;
+              events = p.events ++ came.event ∷ [];
+              is_along = after;
+              gave = p.gave;
+              at_end = λ e. p.at_end (sym s.eof ∙ e);
+              lines = p.lines ++ w.lines;
+              listed = wrote;
+              parts = parts;
+            },
+            rw s.eof (omega (arith, ends_at, o, n, some, given_below (Parsed bytes payload) s)),
+          )
+
+    -- ---- the turns
+
+    module _ (g : Feed) (x : Result Step Error) (s : Steps f x g) (written' : Option (List ℕ)) (page' : List ℕ) (w : PutsLine written written' page (text_after text_of x) page') where
+      -- an event that isn't the last one: there is less to consume
+      pub advanced : turn.Advance ≡ turn_after x → Progress left rest taken written' g page' × (weight g < weight f)
+      advanced t = by_answer x refl t
+        where
+          by_end : (bytes : _) (payload : Payload) (b : Bool) → is_end (report_of payload) ≡ b → turn.Advance ≡ (if b then turn.End End else turn.Advance) → x ≡ Ok (Parsed bytes payload) → Progress left rest taken written' g page' × (weight g < weight f)
+          by_end bytes payload true e t is = cc
+          by_end bytes payload false e t is =
+              let s' = subst (λ y. Steps f y g) is s in
+              went_on g bytes payload s' e written' page' (subst (λ y. PutsLine written written' page (text_after text_of y) page') is w)
+
+          by_answer : (y : Result Step Error) → x ≡ y → turn.Advance ≡ turn_after y → Progress left rest taken written' g page' × (weight g < weight f)
+          by_answer (Ok (NeedMoreData hint)) is t = cc
+          by_answer (Ok (Parsed bytes payload)) is t = by_end bytes payload (is_end (report_of payload)) refl t is
+          by_answer (Err e) is t = cc
+
+      -- a request: the parser is undecided
+      pub asked : turn.Read ≡ turn_after x → Wants left rest taken written' g page' × (weight g ≡ weight f)
+      asked t = by_answer x refl t
+        where
+          by_end : (b : Bool) → turn.Read ≡ (if b then turn.End End else turn.Advance) → ⊥
+          by_end true t = cc
+          by_end false t = cc
+
+          request : (hint : ℕ) → x ≡ Ok (NeedMoreData hint) → Wants left rest taken written' g page' × (weight g ≡ weight f)
+          request hint is =
+              let s' = subst (λ y. Steps f y g) is s in
+              let w' = subst (λ y. PutsLine written written' page (text_after text_of y) page') is w in
+              let l = given_below g (NeedMoreData hint) s' in
+              let (u, a) = stepped g (Ok (NeedMoreData hint)) s' l in
+              let stays : g.state ≡ f.state = asked_stays s'.parses in (
+                record {
+                  progress = record {
+                    given = p.given;
+                    events = p.events;
+                    is_along = a;
+                    gave = p.gave;
+                    at_end = λ e. p.at_end (sym s.eof ∙ e);
+                    lines = p.lines ++ w'.lines;
+                    listed = Appends-trans taken written written' p.lines w'.lines p.listed w'.writes;
+                    parts = p.parts ∙ (ap (λ (z : List ℕ). p.lines ++ z) (sym (append-nil page) ∙ w'.waits) ∙ sym (append_assoc p.lines w'.lines page'));
+                  };
+                  hint = hint;
+                  undecided = subst (λ b. IsUndecided g.state b g.held hint) (sym s.eof) u;
+                  below = l;
+                },
+                rw (stays, sym s'.shows, s.eof) refl,
+              )
+
+          by_answer : (y : Result Step Error) → x ≡ y → turn.Read ≡ turn_after y → Wants left rest taken written' g page' × (weight g ≡ weight f)
+          by_answer (Ok (NeedMoreData hint)) is t = request hint is
+          by_answer (Ok (Parsed bytes payload)) is t = absurd (by_end (is_end (report_of payload)) t)
+          by_answer (Err e) is t = cc
+
+      end_at : (how : Ended) → turn.End how ≡ turn_after x → AtEnd p.given p.events f.eof (text_after text_of x) how
+      end_at how t = by_answer x refl t
+        where
+          at_end : (bytes : _) (payload : Payload) (b : Bool) → is_end (report_of payload) ≡ b → turn.End how ≡ (if b then turn.End End else turn.Advance) → x ≡ Ok (Parsed bytes payload) → AtEnd p.given p.events f.eof (text_of (report_of payload)) how
+          at_end bytes payload false e t is = cc
+          at_end bytes payload true e t is =
+              let s' = subst (λ y. Steps f y g) is s in
+              let l = given_below g (Parsed bytes payload) s' in
+              let came : Came 0 all_features f.eof p.given p.events bytes.now payload g.state g.held = stepped g (Ok (Parsed bytes payload)) s' l in
+              let each = came.ends e in
+              let reading : Reading p.given 0 all_features (p.events ++ came.event ∷ []) = each p.given (all_given f.eof p.given) in
+              let last : came.event ≡ last_event reading.end = reading_ends p.given p.events came.event reading in
+              let reports : report_of payload ≡ stream_end reading.end = came.is_payload.0 ∙ ap (λ (y : Event). y.report) last in
+              let is_it : how ≡ End = cc in
+              record {
+                end = reading.end;
+                same = ap text_of reports;
+                ends = subst (λ (h : Ended). IsEndedBy h reading.end) (sym is_it) (ends_well reading.end (report_of payload) reports e);
+                within = λ _. subst (λ (y : Event). ReadsEach 0 all_features f.eof p.given (p.events ++ y ∷ [])) last each;
+                past_the_top = λ h. absurd (omega (arith, h, l));
+              }
+
+          by_answer : (y : Result Step Error) → x ≡ y → turn.End how ≡ turn_after y → AtEnd p.given p.events f.eof (text_after text_of y) how
+          by_answer (Ok (NeedMoreData hint)) is t = cc
+          by_answer (Ok (Parsed bytes payload)) is t = at_end bytes payload (is_end (report_of payload)) refl t is
+          by_answer (Err e) is t =
+              let s' = subst (λ y. Steps f y g) is s in
+              let is_it : how ≡ Fault e = cc in
+              record {
+                end = fault (fault_at e);
+                same = refl;
+                ends = subst (λ (h : Ended). IsEndedBy h (fault (fault_at e))) (sym is_it) refl;
+                within = λ l. (stepped g (Err e) s' l).0;
+                past_the_top = λ h. (f.state.offset, ap fault (s'.parses.past_the_top (omega (arith, h, ends_at))).0);
+              }
+
+      -- all is written, and the run ends
+      pub listed_all : (how : Ended) → turn.End how ≡ turn_after x → (written'' : Option (List ℕ)) → Appends written' written'' page' → IsListed text_of left rest taken written'' how
+      listed_all how t written'' v =
+          let a = end_at how t in
+          record {
+            given = p.given;
+            first = p.events;
+            end = a.end;
+            gave = p.gave;
+            listed = last_line written' (text_after text_of x) page' a.end w a.same written'' v;
+            ends = a.ends;
+            within = λ l. whole_input (p.events ++ last_event a.end ∷ []) (a.within l);
+            past_the_top = λ h. record { begins = begins_here; offset = (a.past_the_top h).0; is_fault = (a.past_the_top h).1 };
+          }
+
+      -- the last lines were cut
+      pub end_cut : (how : Ended) → turn.End how ≡ turn_after x → (written'' : Option (List ℕ)) (e : ListError) → IsCut written' written'' page' e → ListsBy text_of left rest taken written'' (Err e)
+      end_cut how t written'' Output (n, v) =
+          let a = end_at how t in
+          let (wrote, parts) = put_line written' (text_after text_of x) page' (last_event a.end) w a.same in
+          record {
+            given = p.given;
+            shown = (p.lines ++ w.lines) ++ take n page';
+            gave = p.gave;
+            listed = Appends-trans taken written' written'' (p.lines ++ w.lines) (take n page') wrote v;
+            begins = λ l. begins_listing p.given (p.events ++ last_event a.end ∷ []) ((p.lines ++ w.lines) ++ take n page') (drop n page')
+                (along.whole_begins 0 all_features true p.given (p.events ++ last_event a.end ∷ []) (λ stream m. subst (λ (y : List ℕ). Reading y 0 all_features (p.events ++ last_event a.end ∷ [])) (sym m) (a.within l p.given (all_given f.eof p.given))) p.given refl)
+                (parts ∙ cut_page (p.lines ++ w.lines) page' n);
+          }
+      end_cut how t written'' Input v = absurd v
+      end_cut how t written'' Memory v = absurd v
+
+  -- ---- a read
+
+  -- the lines that waited are written
+  pub wants_written : (left rest taken written written' : Option (List ℕ)) (f : Feed) (page : List ℕ) → Wants left rest taken written f page → Appends written written' page → Wants left rest taken written' f []
+  unfolding written_out
+  wants_written left rest taken written written' f page p w = record {
+    progress = written_out left rest taken written f page p.progress written' w;
+    hint = p.hint;
+    undecided = p.undecided;
+    below = p.below;
+  }
+
+  module _ (left rest taken written : Option (List ℕ)) (f : Feed) (wants : Wants left rest taken written f []) where
+    p : Progress left rest taken written f []
+    p = wants.progress
+
+    -- the source failed: the lines of all events but the last are written
+    pub input_fails : (rest' : Option (List ℕ)) → Keeps rest rest' → ListsBy text_of left rest' taken written (Err Input)
+    input_fails rest' k =
+        let (end, reading) = along.undecided_ends 0 all_features p.given f.state f.held p.events p.is_along f.eof wants.hint wants.undecided in
+        record {
+          given = p.given;
+          events = p.events;
+          last = last_event end;
+          gave = kept left rest rest' p.given p.gave k;
+          listed = subst (Appends taken written) (sym (p.parts ∙ append-nil p.lines)) p.listed;
+          reading = reading;
+        }
+
+    -- it gave something, or ended
+    pub filled : (rest' : Option (List ℕ)) (g : Feed) → Fills rest rest' f g → Progress left rest' taken written g [] × (weight g < weight f)
+    filled rest' g (inl (none, at_end, is)) = subst (λ (h : Feed). Progress left rest' taken written h [] × (weight h < weight f)) (sym is) (
+      record {
+        given = p.given;
+        events = p.events;
+        is_along = p.is_along;
+        gave = subst (Consumes left rest') (append-nil p.given) (Consumes-trans left rest rest' p.given [] p.gave none);
+        at_end = λ _. at_end;
+        lines = p.lines;
+        listed = p.listed;
+        parts = p.parts;
+      },
+      rw wants.undecided.0 (omega arith),
+    )
+    filled rest' g (inr (piece, gave, some, is)) = subst (λ (h : Feed). Progress left rest' taken written h [] × (weight h < weight f)) (sym is) (
+      record {
+        given = p.given ++ piece;
+        events = p.events;
+        is_along = along.pushed 0 all_features p.given f.state f.held p.events piece p.is_along;
+        gave = Consumes-trans left rest rest' p.given piece p.gave gave;
+        at_end = λ e. let no : true ≡ false = sym e ∙ wants.undecided.0 in cc;
+        lines = p.lines;
+        listed = p.listed;
+        parts = p.parts;
+      },
+      lighter,
+    )
+      where
+        lighter : weight (pushed f piece) < weight f
+        lighter =
+            let o : f.state.offset + length f.held ≡ length wants.progress.given = ends_at left rest taken written f [] wants.progress in
+            let n : length (pushed f piece).held ≡ length f.held + length piece = length-append f.held piece in
+            let same : (pushed f piece).state.offset ≡ f.state.offset = refl in
+            rw wants.undecided.0 (omega (arith, o, n, same, wants.below, some))
+
+    -- a read that was given up
+    pub not_filled : (rest' : Option (List ℕ)) (g : Feed) (e : ListError) → Refills rest rest' f g (Err e) → ListsBy text_of left rest' taken written (Err e)
+    not_filled rest' g Input k = input_fails rest' k
+    not_filled rest' g Memory k = no_memory left rest taken written f [] p rest' k.0 k.1
+    not_filled rest' g Output k = absurd k

@@ -38,10 +38,10 @@ line_of (unknown_section id contents from to) = codes "unknown" ++ field id (fie
 line_of (stream_end (fault f)) = codes "fault" ++ field f.offset (codes " " ++ (message_of f.fault ++ fault_number f.number (codes "\n")))
 line_of (stream_end (ended offset)) = codes "end" ++ field offset (codes "\n")
 
--- the line of an event
-abbrev pub event_line : Event → List ℕ
-event_line e = line_of e.report
+-- events by such lines: the text of each, by what it reports
+abbrev pub listing_by : (Report → List ℕ) → List Event → List ℕ
+listing_by text_of events = flat_map (λ e. text_of e.report) events
 
 -- the listing of events: a line for each
 abbrev pub listing_of : List Event → List ℕ
-listing_of events = flat_map event_line events
+listing_of events = listing_by line_of events

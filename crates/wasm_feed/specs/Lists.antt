@@ -4,10 +4,10 @@ use Rattle.std.specs.Io.KnownBytes.{Consumes, Appends, IsAtEnd, Keeps}
 use Rattle.wasm_base.specs.FaultAt.{fault_at, at_offset}
 use Rattle.wasm_base.specs.declared.fault.Fault.TheVariants.{OffsetRange}
 use Rattle.wasm_parser.specs.Content.{Ending, fault, ended}
-use Rattle.wasm_parser.specs.Reading.{Event, last_event, Reading}
+use Rattle.wasm_parser.specs.Reading.{Report, Event, last_event, Reading}
 use Rattle.wasm_feed.specs.Along.{ReadingBegins}
 use Rattle.wasm_feed.specs.Feed.{Feed, pushed, finished}
-use Rattle.wasm_feed.specs.Listing.{listing_of}
+use Rattle.wasm_feed.specs.Listing.{line_of, listing_by}
 use Rattle.wasm_feed.specs.declared.listing.Ended.{Ended}
 use Rattle.wasm_feed.specs.declared.listing.Ended.TheVariants.{End, Fault}
 use Rattle.wasm_feed.specs.declared.listing.ListError.{ListError}
@@ -36,46 +36,50 @@ pub record PassesTop (given : List ℕ) (first : List Event) (end : Ending) : Ty
   pub is_fault : end ≡ fault (at_offset OffsetRange offset)
 
 -- Written is the listing of all events of what the source gave, and the run ended as they do.
-pub record IsListed (left rest taken written : Option (List ℕ)) (how : Ended) : Type 0 where
+pub record IsListed (text_of : Report → List ℕ) (left rest taken written : Option (List ℕ)) (how : Ended) : Type 0 where
   pub given : List ℕ
   pub first : List Event
   pub end : Ending
   pub gave : Consumes left rest given
-  pub listed : Appends taken written (listing_of (first ++ last_event end ∷ []))
+  pub listed : Appends taken written (listing_by text_of (first ++ last_event end ∷ []))
   pub ends : IsEndedBy how end
   pub within : length given < 2 ^ 64 → IsWhole left given (first ++ last_event end ∷ [])
   pub past_the_top : 2 ^ 64 ≤ length given → PassesTop given first end
 
 -- Written are the lines of all events but the last, of what the source gave.
-pub record IsAllButLast (left rest taken written : Option (List ℕ)) : Type 0 where
+pub record IsAllButLast (text_of : Report → List ℕ) (left rest taken written : Option (List ℕ)) : Type 0 where
   pub given : List ℕ
   pub events : List Event
   pub last : Event
   pub gave : Consumes left rest given
-  pub listed : Appends taken written (listing_of events)
+  pub listed : Appends taken written (listing_by text_of events)
   pub reading : Reading given 0 all_features (events ++ last ∷ [])
 
 -- a beginning of the listing of a stream
-pub record Begins (stream shown : List ℕ) : Type 0 where
+pub record Begins (text_of : Report → List ℕ) (stream shown : List ℕ) : Type 0 where
   pub events : List Event
   pub reading : Reading stream 0 all_features events
   pub left : List ℕ
-  pub parts : listing_of events ≡ shown ++ left
+  pub parts : listing_by text_of events ≡ shown ++ left
 
 -- Written is a beginning of the listing of what the source gave.
-pub record IsBeginning (left rest taken written : Option (List ℕ)) : Type 0 where
+pub record IsBeginning (text_of : Report → List ℕ) (left rest taken written : Option (List ℕ)) : Type 0 where
   pub given : List ℕ
   pub shown : List ℕ
   pub gave : Consumes left rest given
   pub listed : Appends taken written shown
-  pub begins : length given < 2 ^ 64 → Begins given shown
+  pub begins : length given < 2 ^ 64 → Begins text_of given shown
+
+-- what a listing of a source by such lines has written at each of its ends
+abbrev pub ListsBy : (text_of : Report → List ℕ) (left rest taken written : Option (List ℕ)) → Result Ended ListError → Type 0
+ListsBy text_of left rest taken written (Ok how) = IsListed text_of left rest taken written how
+ListsBy text_of left rest taken written (Err Input) = IsAllButLast text_of left rest taken written
+ListsBy text_of left rest taken written (Err Output) = IsBeginning text_of left rest taken written
+ListsBy text_of left rest taken written (Err Memory) = IsBeginning text_of left rest taken written
 
 -- what a listing of a source has written at each of its ends
 abbrev pub Lists : (left rest taken written : Option (List ℕ)) → Result Ended ListError → Type 0
-Lists left rest taken written (Ok how) = IsListed left rest taken written how
-Lists left rest taken written (Err Input) = IsAllButLast left rest taken written
-Lists left rest taken written (Err Output) = IsBeginning left rest taken written
-Lists left rest taken written (Err Memory) = IsBeginning left rest taken written
+Lists left rest taken written how = ListsBy line_of left rest taken written how
 
 -- The source was at its end, which the feeder was told; or it gave some bytes, which were pushed.
 abbrev pub Fills : (left rest : Option (List ℕ)) → (old new : Feed) → Type 0

@@ -4,7 +4,7 @@ use Rattle.wasm_base.specs.FaultAt.{fault_at}
 use Rattle.wasm_base.specs.declared.error.Error.{Error}
 use Rattle.wasm_parser.specs.Content.{fault}
 use Rattle.wasm_parser.specs.ParseAnswer.{report_of, is_end}
-use Rattle.wasm_parser.specs.Reading.{stream_end}
+use Rattle.wasm_parser.specs.Reading.{Report, stream_end}
 use Rattle.wasm_feed.specs.Listing.{line_of}
 use Rattle.wasm_feed.specs.Page.{IsCut, PutsLine}
 use Rattle.wasm_feed.specs.declared.feeder.Step.{Step}
@@ -14,11 +14,15 @@ use Rattle.wasm_feed.specs.declared.listing.ListError.{ListError}
 use Rattle.wasm_feed.specs.declared.listing.Turn.{Turn}
 use Rattle.wasm_feed.specs.declared.listing.Turn.TheVariants as turn
 
--- the line that is written for an answer; a request has none
+-- what is written for an answer, by what it reports; nothing for a request
+abbrev pub text_after : (text_of : Report → List ℕ) → Result Step Error → List ℕ
+text_after text_of (Ok (NeedMoreData hint)) = []
+text_after text_of (Ok (Parsed bytes payload)) = text_of (report_of payload)
+text_after text_of (Err e) = text_of (stream_end (fault (fault_at e)))
+
+-- the line that is written for it
 abbrev pub line_after : Result Step Error → List ℕ
-line_after (Ok (NeedMoreData hint)) = []
-line_after (Ok (Parsed bytes payload)) = line_of (report_of payload)
-line_after (Err e) = line_of (stream_end (fault (fault_at e)))
+line_after answer = text_after line_of answer
 
 -- what is done after an answer: at the end of the stream, and at a fault, the listing ends
 abbrev pub turn_after : Result Step Error → Turn

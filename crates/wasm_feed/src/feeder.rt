@@ -1,14 +1,17 @@
 // A feeder: it is given the bytes of a stream in pieces, and lends its payloads one by one.
-ghost use Rattle.std.specs.Prelude.{◌≡◌, ◌+◌, ◌++◌, true, [], drop, length, OnOk, OnErr, IfErr};
+ghost use Rattle.std.specs.Prelude.{◌≡◌, ◌+◌, ◌<◌, ◌++◌, true, [], drop, length, OnOk, OnErr, IfErr};
 ghost use Rattle.wasm_base.specs.FaultAt.{fault_at};
 ghost use Rattle.wasm_base.specs.Features.{feature_bits};
 ghost use Rattle.wasm_base.specs.Owned.{out_of_memory};
 ghost use Rattle.wasm_parser.specs.ParseAnswer.{ParseAnswer};
 ghost use Rattle.wasm_feed.specs.Cursors.{feed_of, finished_cursor};
 ghost use Rattle.wasm_feed.specs.Feed.{empty_feed, new_feed, pushed, finished, RefusesPush};
+ghost use Rattle.wasm_feed.specs.Lists.{Refills, input_failed};
 ghost use Rattle.wasm_feed.specs.Step.{answer_of, shown, is_request, GivesStep};
 
 use crate::buffer::{after, append};
+use crate::listing::{ListError, read_more};
+use crate::source::Source;
 use std::alloc::{Allocator, Global};
 use std::marker::Model;
 use wasm_parser::{Chunk, Error, Fault, Parser, Payload, Result, WasmFeatures, fits};
@@ -212,6 +215,23 @@ impl<A: Allocator> Feeder<A> {
             return Err(Error::new(Fault::OffsetRange, offset));
         }
         refill(&mut self.cursor, &mut self.bytes, piece)
+    }
+
+    /// Reads from this source once, into `room`, and takes what came as the next bytes of the stream; or where nothing came,
+    /// that it was the end. A stream that passes the offset 2^64 - 1 is a fault of the next step.
+    ///
+    /// `Input` where the source failed; `Memory` where the growth was refused. Either leaves the feeder as it was.
+    pub fn read_from<R: Source>(
+        &mut self,
+        input: &mut R,
+        room: &mut [u8],
+    ) -> std::result::Result<(), ListError>
+        requires { 0 < length room.old }
+        ensures refills { Refills (R.left input.old) (R.left input.new) self.old self.new result }
+        ensures failed { R.has_failed input.new ≡ input_failed result (R.has_failed input.old) }
+        ensures unchanged { OnErr result (self.new ≡ self.old) }
+    {
+        read_more(&mut self.cursor, &mut self.bytes, input, room)
     }
 
     /// One step along the stream, and what is made of it.

@@ -22,7 +22,7 @@ pub use events::{Event, EventKind};
 pub use feeder::{Cursor, Feeder, Opened, Step};
 pub use line::Line;
 pub use lines::{fault_line, payload_line};
-pub use listing::{Ended, ListError, list};
+pub use listing::{Ended, ListError, Turn, list};
 pub use pieces::{fits_pieces, read_pieces};
 pub use sink::{BoundedSink, Sink, WriteSink, write_all};
 pub use source::{Failed, ReadSource, SliceSource, Source};

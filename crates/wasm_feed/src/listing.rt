@@ -1,5 +1,5 @@
 // The listing of a stream.
-ghost use Rattle.std.specs.Prelude.{◌≡◌, ◌≤◌, ◌<◌, length};
+ghost use Rattle.std.specs.Prelude.{◌≡◌, ◌≤◌, ◌<◌, length, OnErr};
 ghost use Rattle.wasm_feed.specs.Cursors.{feed_of};
 ghost use Rattle.wasm_feed.specs.Lists.{Lists, Refills, input_failed, output_failed};
 ghost use Rattle.wasm_feed.specs.Turns.{TakesTurn};
@@ -44,14 +44,14 @@ impl From<AllocError> for ListError {
     }
 }
 
-/// What a listing does after an answer of the parser.
+/// What is done after a step along a stream.
 #[derive(Clone, Copy)]
-pub(crate) enum Turn {
-    /// It goes on with the bytes that are stored.
+pub enum Turn {
+    /// To go on with the bytes that are stored.
     Advance,
-    /// It reads more of them.
+    /// To read more of them.
     Read,
-    /// It ends.
+    /// To end.
     End(Ended),
 }
 
@@ -85,8 +85,8 @@ fn put_answer<A: Allocator, W: Sink>(
     }
 }
 
-// Reads once, and stores what came, or that it was the end.
-fn read_more<A: Allocator, R: Source>(
+/// Reads once, and stores what came, or that it was the end.
+pub(crate) fn read_more<A: Allocator, R: Source>(
     cursor: &mut Cursor,
     stored: &mut Vec<u8, A>,
     input: &mut R,
@@ -95,6 +95,8 @@ fn read_more<A: Allocator, R: Source>(
     requires { 0 < length room.old }
     ensures refills { Refills (R.left input.old) (R.left input.new)
         (feed_of stored.old.items cursor.old) (feed_of stored.new.items cursor.new) result }
+    ensures unchanged { OnErr result (feed_of stored.new.items cursor.new
+        ≡ feed_of stored.old.items cursor.old) }
     ensures failed { R.has_failed input.new ≡ input_failed result (R.has_failed input.old) }
 {
     match input.read(room) {

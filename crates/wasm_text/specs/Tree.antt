@@ -1,9 +1,10 @@
 -- Lines of text, some of them under others, and what a writer has written of them.
-use Rattle.std.specs.Prelude.{◌≡◌, ℕ, Bool, true, false, List, [], ◌++◌, codes, Option, Result, Ok, Err, nat_eq, if◌then◌else◌}
+use Rattle.std.specs.Prelude.{◌≡◌, ◌≢◌, ℕ, Bool, true, false, List, [], ◌++◌, codes, Option, Some, None, Result, Ok, Err, nat_eq, if◌then◌else◌}
 use Rattle.std.specs.List.{flat_map, list_all, list_any}
 use Rattle.std.specs.Io.KnownBytes.{Appends}
 use Rattle.wasm_feed.specs.Lists.{output_failed}
 use Rattle.wasm_feed.specs.declared.listing.ListError.{ListError}
+use Rattle.wasm_feed.specs.declared.listing.ListError.TheVariants.{Input}
 
 -- a line of the first level, with its line feed; or one that is under another, without its first two blanks and its line feed
 pub data Line : Type 0 where
@@ -35,33 +36,13 @@ pub record IsOutlined (text outline : List ℕ) : Type 0 where
   pub outlines : outline ≡ flat_map first_of lines
 
 -- what a writer is: the bytes that its sink has taken, where these are known, those that wait, whether a line was begun and not
--- ended, and whether the sink has failed
+-- ended, whether the sink has failed, and why the writer has stopped, if it has
 pub record Writing : Type 0 where
   pub taken : Option (List ℕ)
   pub waiting : List ℕ
   pub is_begun : Bool
   pub has_failed : Bool
-
--- Bytes were put after those that wait, of which some may have been written.
-pub record IsPushed (bytes : List ℕ) (old new : Writing) : Type 0 where
-  pub moved : List ℕ
-  pub took : Appends old.taken new.taken moved
-  pub parts : old.waiting ++ bytes ≡ moved ++ new.waiting
-  pub begun : new.is_begun ≡ old.is_begun
-  pub failed : new.has_failed ≡ old.has_failed
-
--- A beginning of those that waited was written, and no more could be.
-pub record IsStuck (why : ListError) (old new : Writing) : Type 0 where
-  pub moved : List ℕ
-  pub left : List ℕ
-  pub took : Appends old.taken new.taken moved
-  pub parts : old.waiting ≡ moved ++ left
-  pub failed : new.has_failed ≡ output_failed {A = Unit {0}} (Err why) old.has_failed
-
--- what becomes of bytes that are put after those that wait
-abbrev pub Pushes : (bytes : List ℕ) (old new : Writing) → Result (Unit {0}) ListError → Type 0
-Pushes bytes old new (Ok done) = IsPushed bytes old new
-Pushes bytes old new (Err why) = IsStuck why old new
+  pub why : Option ListError
 
 -- what there was at first, and the outline since
 pub record Origin : Type 0 where
@@ -75,7 +56,7 @@ begun true part = codes "  " ++ part
 begun false part = []
 
 -- All that was written or waits is whole lines with this outline, and perhaps a line that was begun.
-pub record IsWritten (o : Origin) (w : Writing) : Type 0 where
+pub record IsGoing (o : Origin) (w : Writing) : Type 0 where
   pub written : List ℕ
   pub text : List ℕ
   pub part : List ℕ
@@ -92,17 +73,64 @@ pub record IsCutShort (o : Origin) (why : ListError) (w : Writing) : Type 0 wher
   pub outlined : IsOutlined (written ++ left) o.outline
   pub took : Appends o.taken w.taken written
   pub failed : w.has_failed ≡ output_failed {A = Unit {0}} (Err why) o.has_failed
+  pub no_input : why ≢ Input
 
--- What was written is under the line before it, if it was written at all.
-abbrev pub Adds : (old new : Writing) → Result (Unit {0}) ListError → Type 0
-Adds old new (Ok done) = (o : Origin) → IsWritten o old → IsWritten o new
-Adds old new (Err why) = (o : Origin) → IsWritten o old → IsCutShort o why new
+-- Lines with this outline were written, as far as they could be.
+abbrev pub IsWrittenAs : Option ListError → Origin → Writing → Type 0
+IsWrittenAs None o w = IsGoing o w
+IsWrittenAs (Some why) o w = IsCutShort o why w
+
+abbrev pub IsWritten : Origin → Writing → Type 0
+IsWritten o w = IsWrittenAs w.why o w
+
+-- What was written is under the lines before it.
+abbrev pub Adds : (old new : Writing) → Type 0
+Adds old new = (o : Origin) → IsWritten o old → IsWritten o new
 
 -- the outline with one line more
 abbrev pub with_line : Origin → List ℕ → Origin
 with_line o line = record o { outline = o.outline ++ line }
 
--- This line of the first level was written, if it could be.
-abbrev pub AddsFirst : (line : List ℕ) (old new : Writing) → Result (Unit {0}) ListError → Type 0
-AddsFirst line old new (Ok done) = (o : Origin) → IsWritten o old → IsWritten (with_line o line) new
-AddsFirst line old new (Err why) = (o : Origin) → IsWritten o old → IsCutShort (with_line o line) why new
+-- This line of the first level was written.
+abbrev pub AddsFirst : (line : List ℕ) (old new : Writing) → Type 0
+AddsFirst line old new = (o : Origin) → IsWritten o old → IsWritten (with_line o line) new
+
+-- ---- bytes
+
+-- Bytes were put after those that wait, of which some may have been written.
+pub record IsPushed (bytes : List ℕ) (old new : Writing) : Type 0 where
+  pub moved : List ℕ
+  pub took : Appends old.taken new.taken moved
+  pub parts : old.waiting ++ bytes ≡ moved ++ new.waiting
+  pub begun : new.is_begun ≡ old.is_begun
+  pub failed : new.has_failed ≡ old.has_failed
+  pub why : new.why ≡ old.why
+
+-- A beginning of those that waited was written, and no more could be.
+pub record IsStuck (why : ListError) (old new : Writing) : Type 0 where
+  pub moved : List ℕ
+  pub left : List ℕ
+  pub took : Appends old.taken new.taken moved
+  pub parts : old.waiting ≡ moved ++ left
+  pub begun : new.is_begun ≡ old.is_begun
+  pub failed : new.has_failed ≡ output_failed {A = Unit {0}} (Err why) old.has_failed
+  pub no_input : why ≢ Input
+
+-- what becomes of bytes that are put after those that wait
+abbrev pub Pushes : (bytes : List ℕ) (old new : Writing) → Result (Unit {0}) ListError → Type 0
+Pushes bytes old new (Ok done) = IsPushed bytes old new
+Pushes bytes old new (Err why) = IsStuck why old new
+
+-- the same of a writer that stops where it is stuck
+abbrev pub PutsAs : (before after : Option ListError) (bytes : List ℕ) (old new : Writing) → Type 0
+PutsAs (Some why) after bytes old new = new ≡ old
+PutsAs None None bytes old new = IsPushed bytes old new
+PutsAs None (Some why) bytes old new = IsStuck why old new
+
+abbrev pub Puts : (bytes : List ℕ) (old new : Writing) → Type 0
+Puts bytes old new = PutsAs old.why new.why bytes old new
+
+-- nothing waits, and no line is begun, unless the writer has stopped
+pub record IsOut (w : Writing) : Type 0 where
+  pub none_waits : w.why ≡ None → w.waiting ≡ []
+  pub none_begun : w.why ≡ None → w.is_begun ≡ false

@@ -1,6 +1,6 @@
 // Lines of text, some of them under others.
-ghost use Rattle.std.specs.Prelude.{◌≡◌, [], true, false, OnOk};
-ghost use Rattle.wasm_text.specs.Tree.{Adds, AddsFirst, Pushes};
+ghost use Rattle.std.specs.Prelude.{◌≡◌, [], None, true, false, OnOk};
+ghost use Rattle.wasm_text.specs.Tree.{Adds, AddsFirst, IsOut, Puts, Pushes};
 
 use std::alloc::Global;
 use std::marker::Model;
@@ -17,12 +17,13 @@ const SHOWN: usize = 16;
 /// seldom.
 ///
 /// A line under another is begun by `item` or `line`, put together from the parts that the other calls write, and ended by `end`
-/// or by the next one. The first of these calls that fails is the last: the sink has failed, or there was no memory.
+/// or by the next one. Where the sink fails, or memory is refused, the tree stops and writes nothing more: `stopped` says why.
 #[derive(Drop)]
 pub struct Tree<'w, W: Sink> {
     output: &'w mut W,
     waiting: Vec<u8>,
     is_begun: bool,
+    why: Option<ListError>,
 }
 
 impl<'w, W: Sink> Model for Tree<'w, W> {
@@ -30,7 +31,7 @@ impl<'w, W: Sink> Model for Tree<'w, W> {
 
     ghost Value = { Writing };
 
-    ghost view = { λ t. record { taken = W.taken t.output.now; waiting = t.waiting.items; is_begun = t.is_begun; has_failed = W.has_failed t.output.now } };
+    ghost view = { λ t. record { taken = W.taken t.output.now; waiting = t.waiting.items; is_begun = t.is_begun; has_failed = W.has_failed t.output.now; why = t.why } };
 }
 
 impl<'w, W: Sink> Tree<'w, W> {
@@ -40,12 +41,25 @@ impl<'w, W: Sink> Tree<'w, W> {
             output,
             waiting: Vec::new(alloc),
             is_begun: false,
+            why: None,
         }
     }
 
-    /// Writes what waits.
-    pub fn write_out(&mut self) -> Result<(), ListError>
-        ensures writes { Pushes [] self.old self.new result }
+    /// Why the tree has stopped, if it has.
+    pub fn stopped(&self) -> Option<ListError>
+        ensures { result ≡ self.now.why }
+    {
+        self.why
+    }
+
+    /// Whether the tree has stopped.
+    pub fn has_stopped(&self) -> bool {
+        self.why.is_some()
+    }
+
+    // Writes what waits.
+    fn move_out(&mut self) -> Result<(), ListError>
+        ensures pushes { Pushes [] self.old self.new result }
         ensures all { OnOk result (self.new.waiting ≡ []) }
     {
         match write_all(self.output, &self.waiting) {
@@ -58,146 +72,188 @@ impl<'w, W: Sink> Tree<'w, W> {
     }
 
     // Puts bytes after those that wait, which are written first where there is no room.
-    fn push(&mut self, bytes: &[u8]) -> Result<(), ListError>
+    fn try_push(&mut self, bytes: &[u8]) -> Result<(), ListError>
         ensures { Pushes bytes.now self.old self.new result }
     {
         if bytes.len() > ROOM - self.waiting.len().min(ROOM) {
-            self.write_out()?;
+            self.move_out()?;
         }
-        self.waiting.extend_from_slice(bytes)?;
-        Ok(())
+        match self.waiting.extend_from_slice(bytes) {
+            Ok(()) => Ok(()),
+            Err(_) => Err(ListError::Memory),
+        }
+    }
+
+    // The same, unless the tree has stopped; it stops where this can't be.
+    fn push(&mut self, bytes: &[u8])
+        ensures { Puts bytes.now self.old self.new }
+    {
+        if self.why.is_some() {
+            return;
+        }
+        if let Err(why) = self.try_push(bytes) {
+            self.why = Some(why);
+        }
+    }
+
+    // Writes what waits, unless the tree has stopped.
+    fn move_all(&mut self)
+        ensures puts { Puts [] self.old self.new }
+        ensures all { self.new.why ≡ None → self.new.waiting ≡ [] }
+    {
+        if self.why.is_some() {
+            return;
+        }
+        if let Err(why) = self.move_out() {
+            self.why = Some(why);
+        }
+    }
+
+    /// Writes what waits. A line that is begun is ended first.
+    pub fn write_out(&mut self)
+        ensures adds { Adds self.old self.new }
+        ensures out { IsOut self.new }
+    {
+        self.end();
+        self.move_all();
+    }
+
+    /// Stops, since memory was refused.
+    pub fn out_of_memory(&mut self)
+        ensures { Adds self.old self.new }
+    {
+        if self.why.is_none() {
+            self.why = Some(ListError::Memory);
+        }
     }
 
     /// Writes a line of the first level, with its line feed.
-    pub fn first(&mut self, line: &[u8]) -> Result<(), ListError>
-        ensures { AddsFirst line.now self.old self.new result }
+    pub fn first(&mut self, line: &[u8])
+        ensures { AddsFirst line.now self.old self.new }
     {
-        self.end()?;
-        self.push(line)
+        self.end();
+        self.push(line);
     }
 
     /// Begins a line under another: that of an item whose bytes begin at this offset in the whole stream. At level 1 it is
     /// under a line of the first level.
-    pub fn item(&mut self, level: usize, offset: u64) -> Result<(), ListError>
-        ensures { Adds self.old self.new result }
+    pub fn item(&mut self, level: usize, offset: u64)
+        ensures { Adds self.old self.new }
     {
-        self.indent(level)?;
-        self.digits(offset)
+        self.indent(level);
+        self.digits(offset);
     }
 
-    /// Begins a line under another: that of what has no offset of its own.
-    pub fn line(&mut self, level: usize, word: &str) -> Result<(), ListError>
-        ensures { Adds self.old self.new result }
+    /// Begins a line under another, with this word: that of what has no offset of its own.
+    pub fn line(&mut self, level: usize, word: &str)
+        ensures { Adds self.old self.new }
     {
-        self.indent(level)?;
-        self.text(word)
+        self.indent(level);
+        self.text(word);
     }
 
     // Begins a line at this level.
-    fn indent(&mut self, level: usize) -> Result<(), ListError>
-        ensures { Adds self.old self.new result }
+    fn indent(&mut self, level: usize)
+        ensures { Adds self.old self.new }
     {
-        self.end()?;
-        self.begin()?;
+        self.end();
+        self.begin();
         for _ in 1..level {
-            self.text("  ")?;
+            self.text("  ");
         }
-        Ok(())
     }
 
     // Begins a line, if none is begun.
-    fn begin(&mut self) -> Result<(), ListError>
-        ensures adds { Adds self.old self.new result }
-        ensures begun { OnOk result (self.new.is_begun ≡ true) }
+    fn begin(&mut self)
+        ensures adds { Adds self.old self.new }
+        ensures begun { self.new.is_begun ≡ true }
     {
         if self.is_begun {
-            return Ok(());
+            return;
         }
-        self.push(b"  ")?;
+        self.push(b"  ");
         self.is_begun = true;
-        Ok(())
     }
 
     /// Ends the line that is begun, if one is.
-    pub fn end(&mut self) -> Result<(), ListError>
-        ensures adds { Adds self.old self.new result }
-        ensures ended { OnOk result (self.new.is_begun ≡ false) }
+    pub fn end(&mut self)
+        ensures adds { Adds self.old self.new }
+        ensures ended { self.new.is_begun ≡ false }
     {
         if !self.is_begun {
-            return Ok(());
+            return;
         }
-        self.push(b"\n")?;
+        self.push(b"\n");
         self.is_begun = false;
-        Ok(())
     }
 
     // Writes bytes that are no line feeds; with one they are left out.
-    fn bytes(&mut self, bytes: &[u8]) -> Result<(), ListError>
-        ensures { Adds self.old self.new result }
+    fn bytes(&mut self, bytes: &[u8])
+        ensures { Adds self.old self.new }
     {
         if bytes.contains(&b'\n') {
-            return Ok(());
+            return;
         }
-        self.begin()?;
-        self.push(bytes)
+        self.begin();
+        self.push(bytes);
     }
 
     /// Writes a text, which has no line feed, as it is.
-    pub fn text(&mut self, text: &str) -> Result<(), ListError>
-        ensures { Adds self.old self.new result }
+    pub fn text(&mut self, text: &str)
+        ensures { Adds self.old self.new }
     {
-        self.bytes(text.as_bytes())
+        self.bytes(text.as_bytes());
     }
 
     /// Writes a blank and a word.
-    pub fn word(&mut self, word: &str) -> Result<(), ListError>
-        ensures { Adds self.old self.new result }
+    pub fn word(&mut self, word: &str)
+        ensures { Adds self.old self.new }
     {
-        self.text(" ")?;
-        self.text(word)
+        self.text(" ");
+        self.text(word);
     }
 
     /// Writes a blank, the name of a field, and `=`.
-    pub fn field(&mut self, name: &str) -> Result<(), ListError>
-        ensures { Adds self.old self.new result }
+    pub fn field(&mut self, name: &str)
+        ensures { Adds self.old self.new }
     {
-        self.word(name)?;
-        self.text("=")
+        self.word(name);
+        self.text("=");
     }
 
     /// Writes a number in decimal digits.
-    pub fn digits(&mut self, number: u64) -> Result<(), ListError>
-        ensures { Adds self.old self.new result }
+    pub fn digits(&mut self, number: u64)
+        ensures { Adds self.old self.new }
     {
         let mut line = Line::new();
         line.number(number);
-        self.bytes(line.as_bytes())
+        self.bytes(line.as_bytes());
     }
 
     /// Writes a field that is a number.
-    pub fn number(&mut self, name: &str, number: u64) -> Result<(), ListError>
-        ensures { Adds self.old self.new result }
+    pub fn number(&mut self, name: &str, number: u64)
+        ensures { Adds self.old self.new }
     {
-        self.field(name)?;
-        self.digits(number)
+        self.field(name);
+        self.digits(number);
     }
 
     /// Writes a field that is a number with a sign.
-    pub fn signed(&mut self, name: &str, number: i64) -> Result<(), ListError>
-        ensures { Adds self.old self.new result }
+    pub fn signed(&mut self, name: &str, number: i64)
+        ensures { Adds self.old self.new }
     {
-        self.field(name)?;
+        self.field(name);
         if number < 0 {
-            self.text("-")?;
+            self.text("-");
         }
-        self.digits(number.unsigned_abs())
+        self.digits(number.unsigned_abs());
     }
 
     /// Writes a field that is a number, or `none`.
-    pub fn number_if_any(&mut self, name: &str, number: Option<u64>) -> Result<(), ListError>
-        ensures { Adds self.old self.new result }
+    pub fn number_if_any(&mut self, name: &str, number: Option<u64>)
+        ensures { Adds self.old self.new }
     {
-        self.field(name)?;
+        self.field(name);
         match number {
             Some(number) => self.digits(number),
             None => self.text("none"),
@@ -205,78 +261,77 @@ impl<'w, W: Sink> Tree<'w, W> {
     }
 
     /// Writes a field that is `true` or `false`.
-    pub fn flag(&mut self, name: &str, flag: bool) -> Result<(), ListError>
-        ensures { Adds self.old self.new result }
+    pub fn flag(&mut self, name: &str, flag: bool)
+        ensures { Adds self.old self.new }
     {
-        self.field(name)?;
-        self.text(if flag { "true" } else { "false" })
+        self.field(name);
+        self.text(if flag { "true" } else { "false" });
     }
 
     // Writes two hexadecimal digits.
-    fn hexadecimal(&mut self, byte: u8) -> Result<(), ListError>
-        ensures { Adds self.old self.new result }
+    fn hexadecimal(&mut self, byte: u8)
+        ensures { Adds self.old self.new }
     {
         let digits = b"0123456789abcdef";
         let (high, low) = (usize::from(byte / 16), usize::from(byte % 16));
-        self.bytes(&[digits[high], digits[low]])
+        self.bytes(&[digits[high], digits[low]]);
     }
 
     // Writes a byte of a text in quotes.
-    fn quoted_byte(&mut self, byte: u8) -> Result<(), ListError>
-        ensures { Adds self.old self.new result }
+    fn quoted_byte(&mut self, byte: u8)
+        ensures { Adds self.old self.new }
     {
         if byte < 32 || byte > 126 || byte == b'"' || byte == b'\\' {
-            self.text("\\")?;
-            return self.hexadecimal(byte);
+            self.text("\\");
+            self.hexadecimal(byte);
+        } else {
+            self.bytes(&[byte]);
         }
-        self.bytes(&[byte])
     }
 
     /// Writes a field that is a text: in double quotes, where `"`, `\` and bytes outside 32 to 126 are `\` and two
     /// hexadecimal digits.
-    pub fn quoted(&mut self, name: &str, text: &str) -> Result<(), ListError>
-        ensures { Adds self.old self.new result }
+    pub fn quoted(&mut self, name: &str, text: &str)
+        ensures { Adds self.old self.new }
     {
-        self.field(name)?;
-        self.text("\"")?;
+        self.field(name);
+        self.text("\"");
         for byte in text.as_bytes() {
-            self.quoted_byte(*byte)?;
+            self.quoted_byte(*byte);
         }
-        self.text("\"")
+        self.text("\"");
     }
 
     /// Writes a field that is raw bytes: their count, a colon, and the first 16 in hexadecimal.
-    pub fn raw(&mut self, name: &str, bytes: &[u8]) -> Result<(), ListError>
-        ensures { Adds self.old self.new result }
+    pub fn raw(&mut self, name: &str, bytes: &[u8])
+        ensures { Adds self.old self.new }
     {
-        self.number(name, bytes.len() as u64)?;
-        self.text(":")?;
+        self.number(name, bytes.len() as u64);
+        self.text(":");
         for byte in &bytes[..bytes.len().min(SHOWN)] {
-            self.hexadecimal(*byte)?;
+            self.hexadecimal(*byte);
         }
-        Ok(())
     }
 
     /// Writes a field that is a range of offsets in the whole stream: `start..end`.
-    pub fn range(&mut self, name: &str, start: u64, end: u64) -> Result<(), ListError>
-        ensures { Adds self.old self.new result }
+    pub fn range(&mut self, name: &str, start: u64, end: u64)
+        ensures { Adds self.old self.new }
     {
-        self.number(name, start)?;
-        self.text("..")?;
-        self.digits(end)
+        self.number(name, start);
+        self.text("..");
+        self.digits(end);
     }
 
     /// Writes a line that is a fault: `fault`, its offset in the whole stream, its message, and its number, if it has one.
-    pub fn fault(&mut self, level: usize, error: &Error) -> Result<(), ListError>
-        ensures { Adds self.old self.new result }
+    pub fn fault(&mut self, level: usize, error: &Error)
+        ensures { Adds self.old self.new }
     {
-        self.line(level, "fault ")?;
-        self.digits(error.offset())?;
-        self.word(error.message())?;
+        self.line(level, "fault ");
+        self.digits(error.offset());
+        self.word(error.message());
         if let Some(number) = error.number() {
-            self.text(": ")?;
-            self.digits(number)?;
+            self.text(": ");
+            self.digits(number);
         }
-        Ok(())
     }
 }
