@@ -49,7 +49,11 @@ impl Show for NameSectionReader<'_> {
 }
 
 /// Writes the name of a custom section, and under it, if its data is known, what that says.
-pub fn show_custom<W: Sink>(alloc: Global, section: &CustomSectionReader<'_>, out: &mut Tree<'_, W>)
+pub(crate) fn show_custom<W: Sink>(
+    alloc: Global,
+    section: &CustomSectionReader<'_>,
+    out: &mut Tree<'_, W>,
+)
     ensures { Adds out.old out.new }
 {
     out.line(1, "section");
@@ -60,8 +64,8 @@ pub fn show_custom<W: Sink>(alloc: Global, section: &CustomSectionReader<'_>, ou
     }
 }
 
-/// Writes what the data of a custom section says on the line that is begun, which is at this level, and its items under it.
-pub fn show_known<W: Sink>(level: usize, known: &KnownCustom<'_>, out: &mut Tree<'_, W>)
+// Writes what the data of a custom section says on the line that is begun, which is at this level, and its items under it.
+fn show_known<W: Sink>(level: usize, known: &KnownCustom<'_>, out: &mut Tree<'_, W>)
     ensures { Adds out.old out.new }
 {
     match known {

@@ -12,8 +12,7 @@ mod show;
 mod tree;
 mod types;
 
-pub use custom::{show_custom, show_known};
-pub use lists::{Items, show_fault, show_items, show_list, show_section};
+pub use lists::{Items, show_fault, show_items, show_list};
 pub use payload::show_payload;
-pub use show::{Show, Text};
+pub use show::Show;
 pub use tree::Tree;

@@ -77,7 +77,7 @@ pub(crate) fn show_extent<T, W: Sink>(
 }
 
 /// Writes the items of a section, each on a line at this level, with its offset.
-pub fn show_section<'a, T: FromReader<'a> + Show, W: Sink>(
+pub(crate) fn show_section<'a, T: FromReader<'a> + Show, W: Sink>(
     level: usize,
     section: &SectionLimited<'a, T>,
     out: &mut Tree<'_, W>,

@@ -12,7 +12,7 @@ pub trait Show: Drop {
 }
 
 /// What is part of an item's text, without a name.
-pub trait Text: Drop {
+pub(crate) trait Text: Drop {
     /// Writes it on the line that is begun.
     fn text<W: Sink>(&self, out: &mut Tree<'_, W>)
         ensures { Adds out.old out.new };
