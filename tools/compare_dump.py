@@ -105,7 +105,7 @@ def dump(program, data):
     done = subprocess.run([program], input=data, stdout=subprocess.PIPE, timeout=600)
     lines = done.stdout.decode("ascii").split("\n")
     assert lines.pop() == "", lines
-    return listing_texts(lines)
+    return listing_texts(lines, data)
 
 
 def expected_lines(listing, data):

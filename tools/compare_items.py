@@ -555,10 +555,11 @@ def read_with(program, cases):
     return found
 
 
-def text_of(row, lines):
-    """What they say, as the model writes it; of lines that can't be read, themselves."""
+def text_of(case, lines):
+    """What they say of a case, as the model writes it; of lines that can't be read, themselves."""
+    row, data, offset, _ = case
     try:
-        return case_text(row, lines)
+        return case_text(row, lines, data, offset)
     except (AssertionError, LookupError, ValueError, StopIteration) as error:
         return "%s: %s" % (type(error).__name__, " / ".join(lines))
 
@@ -614,7 +615,7 @@ def main():
             row, data, offset, features = case
             # Imports have a blank after each.
             expected = shortened(outcome(row, data, offset, features)).rstrip(" ")
-            line = text_of(row, lines)
+            line = text_of(case, lines)
             sort = sort_of(row, expected)
             kinds[sort] = kinds.get(sort, 0) + 1
             if not agrees(line, expected):

@@ -1,7 +1,8 @@
 """Reads the lines that tell of items, and gives each item's text as a model writes it.
 
-`case_text(row, lines)` reads the lines of a case of `crates/wasm_show_items`; `listing_texts(lines)` those of a whole stream, as the
-program `wasm_dump` writes them; `shortened(text)` gives a model's text with no more of raw bytes than the lines have.
+`case_text(row, lines, data, offset)` reads the lines of a case of `crates/wasm_show_items`; `listing_texts(lines, data)` those of a whole
+stream, as the program `wasm_dump` writes them; `shortened(text)` gives a model's text with no more of raw bytes than the lines have.
+The models say nothing of where subsections and names begin: these offsets are compared with the bytes themselves.
 """
 import re
 
@@ -374,6 +375,98 @@ def announced(node, name, text):
     return text
 
 
+# ---- where subsections and names begin
+
+
+def number_at(data, place):
+    """A u32 in LEB128, and the place after it; an IndexError where there is none."""
+    value = shift = 0
+    while True:
+        byte = data[place]
+        value |= (byte & 127) << shift
+        place, shift = place + 1, shift + 7
+        if value >= 2**32 or shift == 35 and byte >= 128:
+            raise IndexError
+        if byte < 128:
+            return value, place
+
+
+def starts_of_parts(data, place):
+    """Where each subsection begins, and where its content does; an IndexError at one whose id or size can't be read."""
+    while place < len(data):
+        size, content = number_at(data, place + 1)
+        if data[place] >= 128 or content + size > len(data):
+            raise IndexError
+        yield place, content
+        place = content + size
+
+
+def after_names(data, place):
+    count, place = number_at(data, place)
+    for _ in range(count):
+        size, place = number_at(data, number_at(data, place)[1])
+        place += size
+    return place
+
+
+def starts_of_names(data, place):
+    """Where each name with its index begins."""
+    count, place = number_at(data, place)
+    for _ in range(count):
+        size, content = number_at(data, number_at(data, place)[1])
+        yield place, content
+        place = content + size
+
+
+def starts_of_maps(data, place):
+    """Where each index with its names begins, and where its names do."""
+    count, place = number_at(data, place)
+    for _ in range(count):
+        content = number_at(data, place)[1]
+        yield place, content
+        place = after_names(data, content)
+
+
+def check_starts(node, starts, offset, under=None):
+    """Looks whether each line that isn't a fault has the next of these offsets, and then at what is under it."""
+    for one in node.under:
+        is_fault = one.text.startswith("fault ")
+        try:
+            start, content = next(starts, (None, None))
+        except IndexError:
+            # It is a fault, behind which a subsection may begin anywhere.
+            assert is_fault, one.text
+            return
+        if not is_fault:
+            assert start is not None and int(one.offset) == start + offset, one.text
+            if under:
+                under(one, content)
+
+
+def check_places(row, node, data, offset):
+    """Looks whether subsections and names are said to begin where they do, in bytes that begin at this offset."""
+    def names(one, place):
+        check_starts(one, starts_of_names(data, place), offset)
+
+    def maps(one, place):
+        check_starts(one, starts_of_maps(data, place), offset, names)
+
+    def part(one, place):
+        if one.words[0] in NAMES[1:]:
+            (maps if one.words[0] in INDIRECT else names)(one, place)
+
+    if row == "namemap":
+        names(node, 0)
+    elif row == "indirect":
+        maps(node, 0)
+    elif row in ("names", "dylink"):
+        check_starts(node, starts_of_parts(data, 0), offset, part if row == "names" else None)
+    elif row == "linking":
+        check_starts(node, starts_of_parts(data, int(node["subsections"]) - offset), offset)
+
+
+# ---- cases
+
 # The text of each item, by its row.
 ITEMS = {
     "kind": lambda node: node["kind"].replace("_", ""),
@@ -427,8 +520,8 @@ CUSTOM = {
 }
 
 
-def case_text(row, lines):
-    """The text of a case: an item and how many bytes it takes, a section, or a fault."""
+def case_text(row, lines, data, offset):
+    """The text of a case: an item and how many bytes it takes, a section, or a fault. Its bytes begin at this offset."""
     nodes = nodes_of(lines)
     if row == "flatimports":
         return " ".join(placed(node, import_item) for node in nodes)
@@ -437,6 +530,7 @@ def case_text(row, lines):
         return nodes[0].text
     if row in CUSTOM:
         assert len(nodes) == 1
+        check_places(row, nodes[0], data, offset)
         return CUSTOM[row](nodes[0])
     assert len(nodes) == 2
     return "%s used %s" % (ITEMS[row](nodes[0]), nodes[1]["used"])
@@ -452,18 +546,20 @@ KNOWN = {"name": "names", "metadata.code.branch_hint": "hints", "producers": "pr
          "coremodules": "coremodules", "coreinstances": "coreinstances", "corestack": "corestack", "linking": "linking"}
 
 
-def custom_text(node):
-    """The name of a custom section, and what its data says."""
+def custom_text(node, data, offset):
+    """The name of a custom section, and what its data says, which begins at this offset."""
     name = node.fields.pop("name")
     if node.words == ["section", "unknown"]:
         assert not node.under
         return name + " unknown"
     title = bytes.fromhex(name[1:]).decode()
-    return "%s %s" % (name, CUSTOM[KNOWN.get(title, "reloc" if title.startswith("reloc.") else None)](node))
+    row = KNOWN.get(title, "reloc" if title.startswith("reloc.") else None)
+    check_places(row, node, data, offset)
+    return "%s %s" % (name, CUSTOM[row](node))
 
 
-def listing_texts(lines):
-    """The lines of a stream as a model has them: each event's line, and under it a line an item."""
+def listing_texts(lines, data):
+    """The lines of this stream as a model has them: each event's line, and under it a line an item."""
     texts, place = [], 0
     while place < len(lines):
         event = lines[place]
@@ -473,7 +569,8 @@ def listing_texts(lines):
         texts.append(event)
         nodes, words = nodes_of(lines[place + 1 : end]), event.split(" ")
         if words[0] == "custom":
-            texts += ["  " + custom_text(node) for node in nodes]
+            start, end_of_data = int(words[3]), int(words[2])
+            texts += ["  " + custom_text(node, data[start:end_of_data], start) for node in nodes]
         else:
             assert words[0] == "section" or not nodes, event
             texts += ["  " + placed(node, ITEMS[SECTIONS[int(words[1])]], " ") for node in nodes]
