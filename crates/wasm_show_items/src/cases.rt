@@ -50,8 +50,7 @@ impl From<io::Error> for Failed {
 pub(crate) fn run(rt: &HostRuntime) -> Result<(), Failed> {
     let mut bytes = Vec::new(rt.alloc());
     rt.stdin().read_to_end(&mut bytes)?;
-    let mut sink = WriteSink::new(rt.stdout());
-    let mut out = Tree::new(rt.alloc(), &mut sink);
+    let mut out = Tree::new(rt.alloc(), WriteSink::new(rt.stdout()));
     show_cases(rt.alloc(), &bytes, &mut out)?;
     out.write_out();
     if out.has_stopped() {
@@ -60,7 +59,7 @@ pub(crate) fn run(rt: &HostRuntime) -> Result<(), Failed> {
     Ok(())
 }
 
-fn show_cases<W: Sink>(alloc: Global, bytes: &[u8], out: &mut Tree<'_, W>) -> Result<(), Failed> {
+fn show_cases<W: Sink>(alloc: Global, bytes: &[u8], out: &mut Tree<W>) -> Result<(), Failed> {
     if !fits(0, bytes.len()) {
         return Err(Failed::Cases);
     }
@@ -76,7 +75,7 @@ fn show_cases<W: Sink>(alloc: Global, bytes: &[u8], out: &mut Tree<'_, W>) -> Re
 fn show_case<W: Sink>(
     alloc: Global,
     cases: &mut BinaryReader<'_>,
-    out: &mut Tree<'_, W>,
+    out: &mut Tree<W>,
 ) -> Result<(), Failed> {
     let name = cases.read_string()?;
     let features = WasmFeatures::from_bits_retain(u32::from(cases.read_u8()?));
@@ -126,7 +125,7 @@ fn show_outcome<T: Show, W: Sink>(
     offset: u64,
     item: &wasm_base::Result<T>,
     used: usize,
-    out: &mut Tree<'_, W>,
+    out: &mut Tree<W>,
 ) {
     match item {
         Ok(item) => {
@@ -141,7 +140,7 @@ fn show_outcome<T: Show, W: Sink>(
 
 fn show_read<'a, T: FromReader<'a> + Show, W: Sink>(
     reader: &mut BinaryReader<'a>,
-    out: &mut Tree<'_, W>,
+    out: &mut Tree<W>,
 ) {
     let offset = reader.original_position();
     let item = T::from_reader(reader);
@@ -151,7 +150,7 @@ fn show_read<'a, T: FromReader<'a> + Show, W: Sink>(
 fn show_read_in<'a, T: FromReaderIn<'a> + Show, W: Sink>(
     alloc: Global,
     reader: &mut BinaryReader<'a>,
-    out: &mut Tree<'_, W>,
+    out: &mut Tree<W>,
 ) {
     let offset = reader.original_position();
     let item = T::from_reader(alloc, reader);
@@ -159,7 +158,7 @@ fn show_read_in<'a, T: FromReaderIn<'a> + Show, W: Sink>(
 }
 
 // Writes the imports of a section, each with its offset, or the fault of its count.
-fn show_flattened<W: Sink>(reader: BinaryReader<'_>, out: &mut Tree<'_, W>) {
+fn show_flattened<W: Sink>(reader: BinaryReader<'_>, out: &mut Tree<W>) {
     match ImportSectionReader::new(reader) {
         Ok(section) => show_items(1, section.into_imports_with_offsets(), out),
         Err(e) => show_fault(1, &e, out),

@@ -14,7 +14,7 @@ pub(crate) fn show_row<W: Sink>(
     alloc: Global,
     row: &str,
     reader: BinaryReader<'_>,
-    out: &mut Tree<'_, W>,
+    out: &mut Tree<W>,
 ) -> bool {
     match row {
         "hints" => show_counted::<BranchHintFunction<'_>, W>(reader, out),
@@ -35,7 +35,7 @@ pub(crate) fn show_row<W: Sink>(
 }
 
 // Writes what was read, or its fault.
-fn show_section<T: Show, W: Sink>(read: Result<T>, out: &mut Tree<'_, W>) {
+fn show_section<T: Show, W: Sink>(read: Result<T>, out: &mut Tree<W>) {
     match read {
         Ok(section) => {
             out.line(1, "section");
@@ -48,7 +48,7 @@ fn show_section<T: Show, W: Sink>(read: Result<T>, out: &mut Tree<'_, W>) {
 // Writes the items of a section, or the fault of its count.
 fn show_counted<'a, T: FromReader<'a> + Show, W: Sink>(
     reader: BinaryReader<'a>,
-    out: &mut Tree<'_, W>,
+    out: &mut Tree<W>,
 ) {
     match SectionLimited::<T>::new(reader) {
         Ok(section) => {

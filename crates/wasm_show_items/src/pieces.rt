@@ -51,7 +51,7 @@ pub(crate) fn show_events<W: Sink>(
     alloc: Global,
     reader: BinaryReader<'_>,
     offset: u64,
-    out: &mut Tree<'_, W>,
+    out: &mut Tree<W>,
 ) -> Result<(), Failed> {
     let mut text = String::new(alloc);
     write_events(alloc, reader, offset, &mut text)?;
@@ -110,7 +110,7 @@ pub(crate) fn show_steps<W: Sink>(
     alloc: Global,
     reader: BinaryReader<'_>,
     offset: u64,
-    out: &mut Tree<'_, W>,
+    out: &mut Tree<W>,
 ) -> Result<(), Failed> {
     let mut text = String::new(alloc);
     write_steps(alloc, reader, offset, &mut text)?;

@@ -1,1 +1,3 @@
+pub mod Chosen
+pub mod Dump
 pub mod Tree

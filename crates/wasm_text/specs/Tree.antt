@@ -44,6 +44,10 @@ pub record Writing : Type 0 where
   pub has_failed : Bool
   pub why : Option ListError
 
+-- a writer that has written nothing yet
+abbrev pub starts : (taken : Option (List ℕ)) (failed : Bool) → Writing
+starts taken failed = record { taken = taken; waiting = []; is_begun = false; has_failed = failed; why = None }
+
 -- what there was at first, and the outline since
 pub record Origin : Type 0 where
   pub taken : Option (List ℕ)

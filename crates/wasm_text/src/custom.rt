@@ -12,7 +12,7 @@ use wasm_custom::{
 use wasm_feed::Sink;
 
 impl Show for BranchHint {
-    fn show<W: Sink>(&self, _level: usize, out: &mut Tree<'_, W>) {
+    fn show<W: Sink>(&self, _level: usize, out: &mut Tree<W>) {
         out.number("func_offset", u64::from(self.func_offset));
         out.flag("taken", self.taken);
     }
@@ -20,14 +20,14 @@ impl Show for BranchHint {
 
 /// The hints are under its line.
 impl Show for BranchHintFunction<'_> {
-    fn show<W: Sink>(&self, level: usize, out: &mut Tree<'_, W>) {
+    fn show<W: Sink>(&self, level: usize, out: &mut Tree<W>) {
         out.number("func", u64::from(self.func));
         show_list("hints", level, &self.hints, out);
     }
 }
 
 impl Show for ProducersFieldValue<'_> {
-    fn show<W: Sink>(&self, _level: usize, out: &mut Tree<'_, W>) {
+    fn show<W: Sink>(&self, _level: usize, out: &mut Tree<W>) {
         out.quoted("name", self.name);
         out.quoted("version", self.version);
     }
@@ -35,7 +35,7 @@ impl Show for ProducersFieldValue<'_> {
 
 /// The values are under its line.
 impl Show for ProducersField<'_> {
-    fn show<W: Sink>(&self, level: usize, out: &mut Tree<'_, W>) {
+    fn show<W: Sink>(&self, level: usize, out: &mut Tree<W>) {
         out.quoted("name", self.name);
         show_list("values", level, &self.values, out);
     }
@@ -43,7 +43,7 @@ impl Show for ProducersField<'_> {
 
 /// The subsections are under the line.
 impl Show for NameSectionReader<'_> {
-    fn show<W: Sink>(&self, level: usize, out: &mut Tree<'_, W>) {
+    fn show<W: Sink>(&self, level: usize, out: &mut Tree<W>) {
         show_items(under(level), self.clone().unwrap(), out);
     }
 }
@@ -52,7 +52,7 @@ impl Show for NameSectionReader<'_> {
 pub(crate) fn show_custom<W: Sink>(
     alloc: Global,
     section: &CustomSectionReader<'_>,
-    out: &mut Tree<'_, W>,
+    out: &mut Tree<W>,
 )
     ensures { Adds out.old out.new }
 {
@@ -65,7 +65,7 @@ pub(crate) fn show_custom<W: Sink>(
 }
 
 // Writes what the data of a custom section says on the line that is begun, which is at this level, and its items under it.
-fn show_known<W: Sink>(level: usize, known: &KnownCustom<'_>, out: &mut Tree<'_, W>)
+fn show_known<W: Sink>(level: usize, known: &KnownCustom<'_>, out: &mut Tree<W>)
     ensures { Adds out.old out.new }
 {
     match known {

@@ -23,14 +23,14 @@ fn kind_word(kind: &ExternalKind) -> &'static str {
 }
 
 impl Show for ExternalKind {
-    fn show<W: Sink>(&self, _level: usize, out: &mut Tree<'_, W>) {
+    fn show<W: Sink>(&self, _level: usize, out: &mut Tree<W>) {
         out.field("kind");
         out.text(kind_word(self));
     }
 }
 
 // Writes the word of what is imported, and its type.
-fn show_imported<T: Show, W: Sink>(word: &str, level: usize, ty: &T, out: &mut Tree<'_, W>)
+fn show_imported<T: Show, W: Sink>(word: &str, level: usize, ty: &T, out: &mut Tree<W>)
     ensures { Adds out.old out.new }
 {
     out.field("ty");
@@ -39,7 +39,7 @@ fn show_imported<T: Show, W: Sink>(word: &str, level: usize, ty: &T, out: &mut T
 }
 
 impl Show for TypeRef {
-    fn show<W: Sink>(&self, level: usize, out: &mut Tree<'_, W>) {
+    fn show<W: Sink>(&self, level: usize, out: &mut Tree<W>) {
         match self {
             TypeRef::Func(index) => show_imported("func", level, index, out),
             TypeRef::FuncExact(index) => show_imported("func_exact", level, index, out),
@@ -52,7 +52,7 @@ impl Show for TypeRef {
 }
 
 impl Show for Import<'_> {
-    fn show<W: Sink>(&self, level: usize, out: &mut Tree<'_, W>) {
+    fn show<W: Sink>(&self, level: usize, out: &mut Tree<W>) {
         out.quoted("module", self.module);
         out.quoted("name", self.name);
         self.ty.show(level, out);
@@ -60,7 +60,7 @@ impl Show for Import<'_> {
 }
 
 impl Show for ImportItemCompact<'_> {
-    fn show<W: Sink>(&self, level: usize, out: &mut Tree<'_, W>) {
+    fn show<W: Sink>(&self, level: usize, out: &mut Tree<W>) {
         out.quoted("name", self.name);
         self.ty.show(level, out);
     }
@@ -68,7 +68,7 @@ impl Show for ImportItemCompact<'_> {
 
 /// A group's imports are under its line.
 impl Show for Imports<'_> {
-    fn show<W: Sink>(&self, level: usize, out: &mut Tree<'_, W>) {
+    fn show<W: Sink>(&self, level: usize, out: &mut Tree<W>) {
         match self {
             Imports::Single(offset, import) => {
                 out.number("offset", *offset);
@@ -88,7 +88,7 @@ impl Show for Imports<'_> {
 }
 
 // Writes the offsets of an expression as a field.
-fn show_expr<W: Sink>(name: &str, expr: &ConstExpr<'_>, out: &mut Tree<'_, W>)
+fn show_expr<W: Sink>(name: &str, expr: &ConstExpr<'_>, out: &mut Tree<W>)
     ensures { Adds out.old out.new }
 {
     let range = expr.range();
@@ -96,13 +96,13 @@ fn show_expr<W: Sink>(name: &str, expr: &ConstExpr<'_>, out: &mut Tree<'_, W>)
 }
 
 impl Show for ConstExpr<'_> {
-    fn show<W: Sink>(&self, _level: usize, out: &mut Tree<'_, W>) {
+    fn show<W: Sink>(&self, _level: usize, out: &mut Tree<W>) {
         show_expr("expr", self, out);
     }
 }
 
 impl Show for Table<'_> {
-    fn show<W: Sink>(&self, level: usize, out: &mut Tree<'_, W>) {
+    fn show<W: Sink>(&self, level: usize, out: &mut Tree<W>) {
         self.ty.show(level, out);
         match &self.init {
             TableInit::RefNull => out.word("init=null"),
@@ -112,14 +112,14 @@ impl Show for Table<'_> {
 }
 
 impl Show for GlobalItem<'_> {
-    fn show<W: Sink>(&self, level: usize, out: &mut Tree<'_, W>) {
+    fn show<W: Sink>(&self, level: usize, out: &mut Tree<W>) {
         self.ty.show(level, out);
         show_expr("init_expr", &self.init_expr, out);
     }
 }
 
 impl Show for Export<'_> {
-    fn show<W: Sink>(&self, level: usize, out: &mut Tree<'_, W>) {
+    fn show<W: Sink>(&self, level: usize, out: &mut Tree<W>) {
         out.quoted("name", self.name);
         self.kind.show(level, out);
         out.number("index", u64::from(self.index));
@@ -127,7 +127,7 @@ impl Show for Export<'_> {
 }
 
 // Writes what becomes of an element segment.
-fn show_element_kind<W: Sink>(kind: &ElementKind<'_>, out: &mut Tree<'_, W>)
+fn show_element_kind<W: Sink>(kind: &ElementKind<'_>, out: &mut Tree<W>)
     ensures { Adds out.old out.new }
 {
     match kind {
@@ -145,7 +145,7 @@ fn show_element_kind<W: Sink>(kind: &ElementKind<'_>, out: &mut Tree<'_, W>)
 }
 
 // Writes the offsets and the count of the items of an element segment.
-fn show_elements_extent<W: Sink>(items: &ElementItems<'_>, out: &mut Tree<'_, W>)
+fn show_elements_extent<W: Sink>(items: &ElementItems<'_>, out: &mut Tree<W>)
     ensures { Adds out.old out.new }
 {
     match items {
@@ -158,7 +158,7 @@ fn show_elements_extent<W: Sink>(items: &ElementItems<'_>, out: &mut Tree<'_, W>
 }
 
 // Writes the items of an element segment.
-fn show_elements<W: Sink>(level: usize, items: &ElementItems<'_>, out: &mut Tree<'_, W>)
+fn show_elements<W: Sink>(level: usize, items: &ElementItems<'_>, out: &mut Tree<W>)
     ensures { Adds out.old out.new }
 {
     match items {
@@ -168,7 +168,7 @@ fn show_elements<W: Sink>(level: usize, items: &ElementItems<'_>, out: &mut Tree
 }
 
 impl Show for Element<'_> {
-    fn show<W: Sink>(&self, level: usize, out: &mut Tree<'_, W>) {
+    fn show<W: Sink>(&self, level: usize, out: &mut Tree<W>) {
         show_element_kind(&self.kind, out);
         show_elements_extent(&self.items, out);
         out.range("range", self.range.start, self.range.end);
@@ -177,7 +177,7 @@ impl Show for Element<'_> {
 }
 
 // Writes what becomes of a data segment.
-fn show_data_kind<W: Sink>(kind: &DataKind<'_>, out: &mut Tree<'_, W>)
+fn show_data_kind<W: Sink>(kind: &DataKind<'_>, out: &mut Tree<W>)
     ensures { Adds out.old out.new }
 {
     match kind {
@@ -194,7 +194,7 @@ fn show_data_kind<W: Sink>(kind: &DataKind<'_>, out: &mut Tree<'_, W>)
 }
 
 impl Show for Data<'_> {
-    fn show<W: Sink>(&self, _level: usize, out: &mut Tree<'_, W>) {
+    fn show<W: Sink>(&self, _level: usize, out: &mut Tree<W>) {
         show_data_kind(&self.kind, out);
         out.raw("data", self.bytes);
         out.range("range", self.range.start, self.range.end);

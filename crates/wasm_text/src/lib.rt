@@ -7,12 +7,16 @@ mod items;
 mod linking;
 mod lists;
 mod names;
+mod only;
 mod payload;
 mod show;
+mod stream;
 mod tree;
 mod types;
 
 pub use lists::{Items, show_fault, show_items, show_list};
+pub use only::Only;
 pub use payload::show_payload;
 pub use show::Show;
+pub use stream::dump;
 pub use tree::Tree;

@@ -14,7 +14,7 @@ use wasm_custom::{
 use wasm_feed::Sink;
 
 impl Show for Segment<'_> {
-    fn show<W: Sink>(&self, _level: usize, out: &mut Tree<'_, W>) {
+    fn show<W: Sink>(&self, _level: usize, out: &mut Tree<W>) {
         out.quoted("name", self.name);
         out.number("alignment", u64::from(self.alignment));
         out.number("flags", u64::from(self.flags.bits()));
@@ -22,7 +22,7 @@ impl Show for Segment<'_> {
 }
 
 impl Show for InitFunc {
-    fn show<W: Sink>(&self, _level: usize, out: &mut Tree<'_, W>) {
+    fn show<W: Sink>(&self, _level: usize, out: &mut Tree<W>) {
         out.number("priority", u64::from(self.priority));
         out.number("symbol_index", u64::from(self.symbol_index));
     }
@@ -41,7 +41,7 @@ fn comdat_word(kind: &ComdatSymbolKind) -> &'static str {
 }
 
 impl Show for ComdatSymbol {
-    fn show<W: Sink>(&self, _level: usize, out: &mut Tree<'_, W>) {
+    fn show<W: Sink>(&self, _level: usize, out: &mut Tree<W>) {
         out.field("kind");
         out.text(comdat_word(&self.kind));
         out.number("index", u64::from(self.index));
@@ -50,7 +50,7 @@ impl Show for ComdatSymbol {
 
 /// The symbols are under its line.
 impl Show for Comdat<'_> {
-    fn show<W: Sink>(&self, level: usize, out: &mut Tree<'_, W>) {
+    fn show<W: Sink>(&self, level: usize, out: &mut Tree<W>) {
         out.quoted("name", self.name);
         out.number("flags", u64::from(self.flags));
         show_list("symbols", level, &self.symbols, out);
@@ -58,13 +58,7 @@ impl Show for Comdat<'_> {
 }
 
 // Writes a symbol that has an index and perhaps a name.
-fn show_indexed<W: Sink>(
-    kind: &str,
-    flags: u32,
-    index: u32,
-    name: &Option<&str>,
-    out: &mut Tree<'_, W>,
-)
+fn show_indexed<W: Sink>(kind: &str, flags: u32, index: u32, name: &Option<&str>, out: &mut Tree<W>)
     ensures { Adds out.old out.new }
 {
     out.word(kind);
@@ -77,7 +71,7 @@ fn show_indexed<W: Sink>(
 }
 
 // Writes where the data of a symbol is, if it is here.
-fn show_defined<W: Sink>(symbol: &Option<DefinedDataSymbol>, out: &mut Tree<'_, W>)
+fn show_defined<W: Sink>(symbol: &Option<DefinedDataSymbol>, out: &mut Tree<W>)
     ensures { Adds out.old out.new }
 {
     match symbol {
@@ -91,12 +85,7 @@ fn show_defined<W: Sink>(symbol: &Option<DefinedDataSymbol>, out: &mut Tree<'_, 
 }
 
 // Writes a symbol that is data.
-fn show_data<W: Sink>(
-    flags: u32,
-    name: &str,
-    symbol: &Option<DefinedDataSymbol>,
-    out: &mut Tree<'_, W>,
-)
+fn show_data<W: Sink>(flags: u32, name: &str, symbol: &Option<DefinedDataSymbol>, out: &mut Tree<W>)
     ensures { Adds out.old out.new }
 {
     out.word("data");
@@ -106,7 +95,7 @@ fn show_data<W: Sink>(
 }
 
 // Writes a symbol that is a section.
-fn show_section_symbol<W: Sink>(flags: u32, section: u32, out: &mut Tree<'_, W>)
+fn show_section_symbol<W: Sink>(flags: u32, section: u32, out: &mut Tree<W>)
     ensures { Adds out.old out.new }
 {
     out.word("section");
@@ -115,7 +104,7 @@ fn show_section_symbol<W: Sink>(flags: u32, section: u32, out: &mut Tree<'_, W>)
 }
 
 impl Show for SymbolInfo<'_> {
-    fn show<W: Sink>(&self, _level: usize, out: &mut Tree<'_, W>) {
+    fn show<W: Sink>(&self, _level: usize, out: &mut Tree<W>) {
         match self {
             SymbolInfo::Func { flags, index, name } => {
                 show_indexed("func", flags.bits(), *index, name, out);
@@ -143,7 +132,7 @@ impl Show for SymbolInfo<'_> {
 
 /// The items of a list are under its line.
 impl Show for Linking<'_> {
-    fn show<W: Sink>(&self, level: usize, out: &mut Tree<'_, W>) {
+    fn show<W: Sink>(&self, level: usize, out: &mut Tree<W>) {
         match self {
             Linking::SegmentInfo(segments) => show_list("segment_info", level, segments, out),
             Linking::InitFuncs(functions) => show_list("init_funcs", level, functions, out),
@@ -161,7 +150,7 @@ impl Show for Linking<'_> {
 
 /// The subsections are under the line.
 impl Show for LinkingSectionReader<'_> {
-    fn show<W: Sink>(&self, level: usize, out: &mut Tree<'_, W>) {
+    fn show<W: Sink>(&self, level: usize, out: &mut Tree<W>) {
         let range = self.range();
         out.number("version", u64::from(self.version()));
         out.range("range", range.start, range.end);
@@ -172,13 +161,13 @@ impl Show for LinkingSectionReader<'_> {
 
 /// The subsections are under the line.
 impl Show for Dylink0SectionReader<'_> {
-    fn show<W: Sink>(&self, level: usize, out: &mut Tree<'_, W>) {
+    fn show<W: Sink>(&self, level: usize, out: &mut Tree<W>) {
         show_items(under(level), self.clone().unwrap(), out);
     }
 }
 
 impl Show for MemInfo {
-    fn show<W: Sink>(&self, _level: usize, out: &mut Tree<'_, W>) {
+    fn show<W: Sink>(&self, _level: usize, out: &mut Tree<W>) {
         out.word("mem_info");
         out.number("memory_size", u64::from(self.memory_size));
         out.number("memory_alignment", u64::from(self.memory_alignment));
@@ -188,14 +177,14 @@ impl Show for MemInfo {
 }
 
 impl Show for ExportInfo<'_> {
-    fn show<W: Sink>(&self, _level: usize, out: &mut Tree<'_, W>) {
+    fn show<W: Sink>(&self, _level: usize, out: &mut Tree<W>) {
         out.quoted("name", self.name);
         out.number("flags", u64::from(self.flags.bits()));
     }
 }
 
 impl Show for ImportInfo<'_> {
-    fn show<W: Sink>(&self, _level: usize, out: &mut Tree<'_, W>) {
+    fn show<W: Sink>(&self, _level: usize, out: &mut Tree<W>) {
         out.quoted("module", self.module);
         out.quoted("field", self.field);
         out.number("flags", u64::from(self.flags.bits()));
@@ -208,7 +197,7 @@ fn show_words<T: Show, W: Sink>(
     item: &str,
     level: usize,
     items: &[T],
-    out: &mut Tree<'_, W>,
+    out: &mut Tree<W>,
 )
     ensures { Adds out.old out.new }
 {
@@ -218,7 +207,7 @@ fn show_words<T: Show, W: Sink>(
 
 /// The items of a list are under its line.
 impl Show for Dylink0Subsection<'_> {
-    fn show<W: Sink>(&self, level: usize, out: &mut Tree<'_, W>) {
+    fn show<W: Sink>(&self, level: usize, out: &mut Tree<W>) {
         match self {
             Dylink0Subsection::MemInfo(info) => info.show(level, out),
             Dylink0Subsection::Needed(names) => {
@@ -277,7 +266,7 @@ fn relocation_word(ty: &RelocationType) -> &'static str {
 }
 
 impl Show for RelocationEntry {
-    fn show<W: Sink>(&self, _level: usize, out: &mut Tree<'_, W>) {
+    fn show<W: Sink>(&self, _level: usize, out: &mut Tree<W>) {
         out.field("type");
         out.text(relocation_word(&self.ty));
         out.number("offset", u64::from(self.offset));
@@ -288,7 +277,7 @@ impl Show for RelocationEntry {
 
 /// The relocations are under the line.
 impl Show for RelocSectionReader<'_> {
-    fn show<W: Sink>(&self, level: usize, out: &mut Tree<'_, W>) {
+    fn show<W: Sink>(&self, level: usize, out: &mut Tree<W>) {
         let range = self.range();
         out.number("section", u64::from(self.section_index()));
         out.range("range", range.start, range.end);

@@ -21,7 +21,7 @@ pub trait Items: Drop {
 }
 
 /// Writes the items of a list, each on a line at this level, with its offset. A fault is a line in the place of its item.
-pub fn show_items<I: Items, W: Sink>(level: usize, mut items: I, out: &mut Tree<'_, W>)
+pub fn show_items<I: Items, W: Sink>(level: usize, mut items: I, out: &mut Tree<W>)
     ensures { Adds out.old out.new }
 {
     for _ in 0..u64::MAX {
@@ -36,7 +36,7 @@ pub fn show_items<I: Items, W: Sink>(level: usize, mut items: I, out: &mut Tree<
 }
 
 // Writes an item, or its fault.
-fn show_item<T: Show, W: Sink>(level: usize, item: &Result<(u64, T)>, out: &mut Tree<'_, W>)
+fn show_item<T: Show, W: Sink>(level: usize, item: &Result<(u64, T)>, out: &mut Tree<W>)
     ensures { Adds out.old out.new }
 {
     match item {
@@ -49,7 +49,7 @@ fn show_item<T: Show, W: Sink>(level: usize, item: &Result<(u64, T)>, out: &mut 
 }
 
 /// Writes a fault. That there is no memory is no fault of a stream: the tree stops.
-pub fn show_fault<W: Sink>(level: usize, error: &Error, out: &mut Tree<'_, W>)
+pub fn show_fault<W: Sink>(level: usize, error: &Error, out: &mut Tree<W>)
     ensures { Adds out.old out.new }
 {
     match error.fault() {
@@ -67,7 +67,7 @@ pub(crate) fn under(level: usize) -> usize {
 pub(crate) fn show_extent<T, W: Sink>(
     name: &str,
     section: &SectionLimited<'_, T>,
-    out: &mut Tree<'_, W>,
+    out: &mut Tree<W>,
 )
     ensures { Adds out.old out.new }
 {
@@ -80,7 +80,7 @@ pub(crate) fn show_extent<T, W: Sink>(
 pub(crate) fn show_section<'a, T: FromReader<'a> + Show, W: Sink>(
     level: usize,
     section: &SectionLimited<'a, T>,
-    out: &mut Tree<'_, W>,
+    out: &mut Tree<W>,
 )
     ensures { Adds out.old out.new }
 {
@@ -96,7 +96,7 @@ pub fn show_list<'a, T: FromReader<'a> + Show, W: Sink>(
     name: &str,
     level: usize,
     section: &SectionLimited<'a, T>,
-    out: &mut Tree<'_, W>,
+    out: &mut Tree<W>,
 )
     ensures { Adds out.old out.new }
 {
@@ -105,12 +105,7 @@ pub fn show_list<'a, T: FromReader<'a> + Show, W: Sink>(
 }
 
 /// Writes items without offsets, each on a line at this level that begins with this word.
-pub(crate) fn show_lines<T: Show, W: Sink>(
-    level: usize,
-    word: &str,
-    items: &[T],
-    out: &mut Tree<'_, W>,
-)
+pub(crate) fn show_lines<T: Show, W: Sink>(level: usize, word: &str, items: &[T], out: &mut Tree<W>)
     ensures { Adds out.old out.new }
 {
     for item in items {
@@ -124,7 +119,7 @@ pub(crate) fn write_lines<T: Text, W: Sink>(
     level: usize,
     word: &str,
     items: &[T],
-    out: &mut Tree<'_, W>,
+    out: &mut Tree<W>,
 )
     ensures { Adds out.old out.new }
 {
@@ -135,7 +130,7 @@ pub(crate) fn write_lines<T: Text, W: Sink>(
 }
 
 /// Writes texts on the line that is begun, each after a blank.
-pub(crate) fn write_words<T: Text, W: Sink>(items: &[T], out: &mut Tree<'_, W>)
+pub(crate) fn write_words<T: Text, W: Sink>(items: &[T], out: &mut Tree<W>)
     ensures { Adds out.old out.new }
 {
     for item in items {

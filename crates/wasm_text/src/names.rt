@@ -9,7 +9,7 @@ use wasm_custom::{IndirectNameMap, IndirectNaming, Name, NameMap, Naming};
 use wasm_feed::Sink;
 
 impl Show for Naming<'_> {
-    fn show<W: Sink>(&self, _level: usize, out: &mut Tree<'_, W>) {
+    fn show<W: Sink>(&self, _level: usize, out: &mut Tree<W>) {
         out.number("index", u64::from(self.index));
         out.quoted("name", self.name);
     }
@@ -17,7 +17,7 @@ impl Show for Naming<'_> {
 
 /// The names are under its line.
 impl Show for IndirectNaming<'_> {
-    fn show<W: Sink>(&self, level: usize, out: &mut Tree<'_, W>) {
+    fn show<W: Sink>(&self, level: usize, out: &mut Tree<W>) {
         out.number("index", u64::from(self.index));
         self.names.show(level, out);
     }
@@ -25,20 +25,20 @@ impl Show for IndirectNaming<'_> {
 
 /// The names are under the line.
 impl Show for NameMap<'_> {
-    fn show<W: Sink>(&self, level: usize, out: &mut Tree<'_, W>) {
+    fn show<W: Sink>(&self, level: usize, out: &mut Tree<W>) {
         show_items(under(level), self.clone().unwrap(), out);
     }
 }
 
 /// What has names is under the line.
 impl Show for IndirectNameMap<'_> {
-    fn show<W: Sink>(&self, level: usize, out: &mut Tree<'_, W>) {
+    fn show<W: Sink>(&self, level: usize, out: &mut Tree<W>) {
         show_items(under(level), self.clone().unwrap(), out);
     }
 }
 
 // Writes what names are of, and the names.
-fn show_map<T: Show, W: Sink>(word: &str, level: usize, names: &T, out: &mut Tree<'_, W>)
+fn show_map<T: Show, W: Sink>(word: &str, level: usize, names: &T, out: &mut Tree<W>)
     ensures { Adds out.old out.new }
 {
     out.word(word);
@@ -46,12 +46,7 @@ fn show_map<T: Show, W: Sink>(word: &str, level: usize, names: &T, out: &mut Tre
 }
 
 /// Writes a subsection that isn't known.
-pub(crate) fn show_unknown<W: Sink>(
-    ty: u8,
-    contents: &[u8],
-    range: &Range<u64>,
-    out: &mut Tree<'_, W>,
-)
+pub(crate) fn show_unknown<W: Sink>(ty: u8, contents: &[u8], range: &Range<u64>, out: &mut Tree<W>)
     ensures { Adds out.old out.new }
 {
     out.word("unknown");
@@ -61,7 +56,7 @@ pub(crate) fn show_unknown<W: Sink>(
 }
 
 // Writes the name of the module.
-fn show_module_name<W: Sink>(name: &str, range: &Range<u64>, out: &mut Tree<'_, W>)
+fn show_module_name<W: Sink>(name: &str, range: &Range<u64>, out: &mut Tree<W>)
     ensures { Adds out.old out.new }
 {
     out.word("module");
@@ -71,7 +66,7 @@ fn show_module_name<W: Sink>(name: &str, range: &Range<u64>, out: &mut Tree<'_, 
 
 /// The names are under its line.
 impl Show for Name<'_> {
-    fn show<W: Sink>(&self, level: usize, out: &mut Tree<'_, W>) {
+    fn show<W: Sink>(&self, level: usize, out: &mut Tree<W>) {
         match self {
             Name::Module { name, name_range } => show_module_name(name, name_range, out),
             Name::Function(names) => show_map("function", level, names, out),

@@ -10,7 +10,7 @@ use wasm_items::ImportSection;
 use wasm_parser::Payload;
 
 /// Writes what a payload holds, under its line.
-pub fn show_payload<W: Sink>(alloc: Global, payload: &Payload<'_>, out: &mut Tree<'_, W>)
+pub fn show_payload<W: Sink>(alloc: Global, payload: &Payload<'_>, out: &mut Tree<W>)
     ensures { Adds out.old out.new }
 {
     match payload {

@@ -1,6 +1,6 @@
 // Lines of text, some of them under others.
 ghost use Rattle.std.specs.Prelude.{◌≡◌, [], None, true, false, OnOk};
-ghost use Rattle.wasm_text.specs.Tree.{Adds, AddsFirst, IsOut, Puts, Pushes};
+ghost use Rattle.wasm_text.specs.Tree.{Adds, AddsFirst, IsOut, Puts, Pushes, starts};
 
 use std::alloc::Global;
 use std::marker::Model;
@@ -18,31 +18,46 @@ const SHOWN: usize = 16;
 ///
 /// A line under another is begun by `item` or `line`, put together from the parts that the other calls write, and ended by `end`
 /// or by the next one. Where the sink fails, or memory is refused, the tree stops and writes nothing more: `stopped` says why.
-#[derive(Drop)]
-pub struct Tree<'w, W: Sink> {
-    output: &'w mut W,
+pub struct Tree<W: Sink> {
+    output: W,
     waiting: Vec<u8>,
     is_begun: bool,
     why: Option<ListError>,
 }
 
-impl<'w, W: Sink> Model for Tree<'w, W> {
+impl<W: Sink> Model for Tree<W> {
     ghost use Rattle.wasm_text.specs.Tree.{Writing};
 
     ghost Value = { Writing };
 
-    ghost view = { λ t. record { taken = W.taken t.output.now; waiting = t.waiting.items; is_begun = t.is_begun; has_failed = W.has_failed t.output.now; why = t.why } };
+    ghost view = { λ t. record { taken = W.taken t.output; waiting = t.waiting.items; is_begun = t.is_begun; has_failed = W.has_failed t.output; why = t.why } };
 }
 
-impl<'w, W: Sink> Tree<'w, W> {
+impl<W: Sink> Tree<W> {
     /// Writes to this sink. Nothing is written yet.
-    pub fn new(alloc: Global, output: &'w mut W) -> Tree<'w, W> {
+    pub fn new(alloc: Global, output: W) -> Tree<W>
+        ensures { result ≡ starts (W.taken output) (W.has_failed output) }
+    {
         Tree {
             output,
             waiting: Vec::new(alloc),
             is_begun: false,
             why: None,
         }
+    }
+
+    /// The sink, with what was written to it. What waits is not.
+    pub fn into_output(self) -> W
+        ensures taken { W.taken result ≡ self.taken }
+        ensures failed { W.has_failed result ≡ self.has_failed }
+    {
+        let Tree {
+            output,
+            waiting: _,
+            is_begun: _,
+            why: _,
+        } = self;
+        output
     }
 
     /// Why the tree has stopped, if it has.
@@ -62,7 +77,7 @@ impl<'w, W: Sink> Tree<'w, W> {
         ensures pushes { Pushes [] self.old self.new result }
         ensures all { OnOk result (self.new.waiting ≡ []) }
     {
-        match write_all(self.output, &self.waiting) {
+        match write_all(&mut self.output, &self.waiting) {
             Ok(()) => {
                 self.waiting.clear();
                 Ok(())

@@ -30,7 +30,7 @@ fn heap_word(heap: &HeapType) -> &'static str {
 }
 
 impl Text for HeapType {
-    fn text<W: Sink>(&self, out: &mut Tree<'_, W>) {
+    fn text<W: Sink>(&self, out: &mut Tree<W>) {
         if let HeapType::Concrete(index) = self {
             out.digits(u64::from(*index));
             return;
@@ -40,7 +40,7 @@ impl Text for HeapType {
 }
 
 impl Text for RefType {
-    fn text<W: Sink>(&self, out: &mut Tree<'_, W>) {
+    fn text<W: Sink>(&self, out: &mut Tree<W>) {
         out.text(if self.nullable { "(ref null " } else { "(ref " });
         self.heap.text(out);
         out.text(")");
@@ -48,7 +48,7 @@ impl Text for RefType {
 }
 
 impl Text for ValType {
-    fn text<W: Sink>(&self, out: &mut Tree<'_, W>) {
+    fn text<W: Sink>(&self, out: &mut Tree<W>) {
         match self {
             ValType::I32 => out.text("i32"),
             ValType::I64 => out.text("i64"),
@@ -61,7 +61,7 @@ impl Text for ValType {
 }
 
 impl Text for StorageType {
-    fn text<W: Sink>(&self, out: &mut Tree<'_, W>) {
+    fn text<W: Sink>(&self, out: &mut Tree<W>) {
         match self {
             StorageType::I8 => out.text("i8"),
             StorageType::I16 => out.text("i16"),
@@ -71,7 +71,7 @@ impl Text for StorageType {
 }
 
 // Writes a type of what may be mutable.
-fn write_mutable<T: Text, W: Sink>(mutable: bool, ty: &T, out: &mut Tree<'_, W>)
+fn write_mutable<T: Text, W: Sink>(mutable: bool, ty: &T, out: &mut Tree<W>)
     ensures { Adds out.old out.new }
 {
     if !mutable {
@@ -85,7 +85,7 @@ fn write_mutable<T: Text, W: Sink>(mutable: bool, ty: &T, out: &mut Tree<'_, W>)
 
 /// A field of a structure.
 impl Text for FieldType {
-    fn text<W: Sink>(&self, out: &mut Tree<'_, W>) {
+    fn text<W: Sink>(&self, out: &mut Tree<W>) {
         out.text("(field ");
         write_mutable(self.mutable, &self.storage, out);
         out.text(")");
@@ -93,7 +93,7 @@ impl Text for FieldType {
 }
 
 // Writes the types of parameters or results, if there are any.
-fn write_types<W: Sink>(start: &str, types: &[ValType], out: &mut Tree<'_, W>)
+fn write_types<W: Sink>(start: &str, types: &[ValType], out: &mut Tree<W>)
     ensures { Adds out.old out.new }
 {
     if types.is_empty() {
@@ -105,7 +105,7 @@ fn write_types<W: Sink>(start: &str, types: &[ValType], out: &mut Tree<'_, W>)
 }
 
 impl Text for FuncType {
-    fn text<W: Sink>(&self, out: &mut Tree<'_, W>) {
+    fn text<W: Sink>(&self, out: &mut Tree<W>) {
         out.text("(func");
         write_types(" (param", &self.params, out);
         write_types(" (result", &self.results, out);
@@ -114,7 +114,7 @@ impl Text for FuncType {
 }
 
 // Writes the type of an array.
-fn write_array<W: Sink>(field: &FieldType, out: &mut Tree<'_, W>)
+fn write_array<W: Sink>(field: &FieldType, out: &mut Tree<W>)
     ensures { Adds out.old out.new }
 {
     out.text("(array ");
@@ -123,7 +123,7 @@ fn write_array<W: Sink>(field: &FieldType, out: &mut Tree<'_, W>)
 }
 
 // Writes the type of a structure.
-fn write_struct<W: Sink>(fields: &[FieldType], out: &mut Tree<'_, W>)
+fn write_struct<W: Sink>(fields: &[FieldType], out: &mut Tree<W>)
     ensures { Adds out.old out.new }
 {
     out.text("(struct");
@@ -132,7 +132,7 @@ fn write_struct<W: Sink>(fields: &[FieldType], out: &mut Tree<'_, W>)
 }
 
 impl Text for CompositeType {
-    fn text<W: Sink>(&self, out: &mut Tree<'_, W>) {
+    fn text<W: Sink>(&self, out: &mut Tree<W>) {
         match self {
             CompositeType::Func(ty) => ty.text(out),
             CompositeType::Array(field) => write_array(field, out),
@@ -142,7 +142,7 @@ impl Text for CompositeType {
 }
 
 impl Text for SubType {
-    fn text<W: Sink>(&self, out: &mut Tree<'_, W>) {
+    fn text<W: Sink>(&self, out: &mut Tree<W>) {
         out.text(if self.is_final {
             "(sub final "
         } else {
@@ -158,7 +158,7 @@ impl Text for SubType {
 }
 
 // Writes a type as a field of an item.
-fn show_type<T: Text, W: Sink>(name: &str, ty: &T, out: &mut Tree<'_, W>)
+fn show_type<T: Text, W: Sink>(name: &str, ty: &T, out: &mut Tree<W>)
     ensures { Adds out.old out.new }
 {
     out.field(name);
@@ -166,25 +166,25 @@ fn show_type<T: Text, W: Sink>(name: &str, ty: &T, out: &mut Tree<'_, W>)
 }
 
 impl Show for HeapType {
-    fn show<W: Sink>(&self, _level: usize, out: &mut Tree<'_, W>) {
+    fn show<W: Sink>(&self, _level: usize, out: &mut Tree<W>) {
         show_type("type", self, out);
     }
 }
 
 impl Show for RefType {
-    fn show<W: Sink>(&self, _level: usize, out: &mut Tree<'_, W>) {
+    fn show<W: Sink>(&self, _level: usize, out: &mut Tree<W>) {
         show_type("type", self, out);
     }
 }
 
 impl Show for ValType {
-    fn show<W: Sink>(&self, _level: usize, out: &mut Tree<'_, W>) {
+    fn show<W: Sink>(&self, _level: usize, out: &mut Tree<W>) {
         show_type("type", self, out);
     }
 }
 
 impl Show for TableType {
-    fn show<W: Sink>(&self, _level: usize, out: &mut Tree<'_, W>) {
+    fn show<W: Sink>(&self, _level: usize, out: &mut Tree<W>) {
         show_type("element_type", &self.element_type, out);
         out.flag("table64", self.table64);
         out.number("initial", self.initial);
@@ -194,7 +194,7 @@ impl Show for TableType {
 }
 
 impl Show for MemoryType {
-    fn show<W: Sink>(&self, _level: usize, out: &mut Tree<'_, W>) {
+    fn show<W: Sink>(&self, _level: usize, out: &mut Tree<W>) {
         out.flag("memory64", self.memory64);
         out.flag("shared", self.shared);
         out.number("initial", self.initial);
@@ -204,7 +204,7 @@ impl Show for MemoryType {
 }
 
 impl Show for GlobalType {
-    fn show<W: Sink>(&self, _level: usize, out: &mut Tree<'_, W>) {
+    fn show<W: Sink>(&self, _level: usize, out: &mut Tree<W>) {
         out.field("content_type");
         write_mutable(self.mutable, &self.content_type, out);
         out.flag("shared", self.shared);
@@ -212,7 +212,7 @@ impl Show for GlobalType {
 }
 
 impl Show for TagType {
-    fn show<W: Sink>(&self, _level: usize, out: &mut Tree<'_, W>) {
+    fn show<W: Sink>(&self, _level: usize, out: &mut Tree<W>) {
         match self.kind {
             TagKind::Exception => {}
         }
@@ -224,7 +224,7 @@ impl Show for TagType {
 
 /// A group that isn't explicit is one type, on the same line.
 impl Show for RecGroup {
-    fn show<W: Sink>(&self, level: usize, out: &mut Tree<'_, W>) {
+    fn show<W: Sink>(&self, level: usize, out: &mut Tree<W>) {
         out.flag("explicit", self.explicit);
         if self.explicit {
             write_lines(under(level), "type=", &self.types, out);

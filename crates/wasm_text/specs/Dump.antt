@@ -1,0 +1,79 @@
+-- What a dump writes.
+use Rattle.std.specs.Prelude.{◌≡◌, ℕ, Bool, List, [], ◌++◌, Option, Some, Result, Ok, Err}
+use Rattle.std.specs.Io.KnownBytes.{Appends}
+use Rattle.wasm_base.specs.declared.error.Error.{Error}
+use Rattle.wasm_feed.specs.Feed.{Feed}
+use Rattle.wasm_feed.specs.Lists.{ListsBy, input_failed, output_failed}
+use Rattle.wasm_feed.specs.Step.{Steps}
+use Rattle.wasm_feed.specs.Turns.{text_after, turn_after}
+use Rattle.wasm_feed.specs.declared.feeder.Step.{Step}
+use Rattle.wasm_feed.specs.declared.listing.Ended.{Ended}
+use Rattle.wasm_feed.specs.declared.listing.ListError.{ListError}
+use Rattle.wasm_feed.specs.declared.listing.ListError.TheVariants.{Input, Output, Memory}
+use Rattle.wasm_feed.specs.declared.listing.Turn.{Turn}
+use Rattle.wasm_text.specs.Chosen.{chosen_line}
+use Rattle.wasm_text.specs.Tree.{IsOutlined, Writing, Origin, IsWritten, AddsFirst, starts}
+use Rattle.wasm_text.specs.declared.only.Only.{Only}
+
+-- A text with this outline was written.
+pub record WritesWhole (taken written : Option (List ℕ)) (outline : List ℕ) : Type 0 where
+  pub text : List ℕ
+  pub outlined : IsOutlined text outline
+  pub wrote : Appends taken written text
+
+-- A beginning of one was written.
+pub record WritesSome (taken written : Option (List ℕ)) (outline : List ℕ) : Type 0 where
+  pub text : List ℕ
+  pub left : List ℕ
+  pub outlined : IsOutlined (text ++ left) outline
+  pub wrote : Appends taken written text
+
+-- what was written of a text with this outline, by how the dump ended
+abbrev pub Writes : Result Ended ListError → (taken written : Option (List ℕ)) (outline : List ℕ) → Type 0
+Writes (Ok how) taken written outline = WritesWhole taken written outline
+Writes (Err Input) taken written outline = WritesWhole taken written outline
+Writes (Err Output) taken written outline = WritesSome taken written outline
+Writes (Err Memory) taken written outline = WritesSome taken written outline
+
+-- The lines of the first level are those of the source's listing that are shown; all others begin with two blanks.
+pub record Dumps (only : Only) (left rest taken written : Option (List ℕ)) (result : Result Ended ListError) : Type 0 where
+  pub outline : List ℕ
+  pub lists : ListsBy (chosen_line only) left rest (Some []) (Some outline) result
+  pub writes : Writes result taken written outline
+
+-- ---- the parts of a dump
+
+-- A step of the feeder was shown, and this is done next.
+pub record ShowsStep (only : Only) (old new : Feed) (before after : Writing) (next : Turn) : Type 0 where
+  pub answer : Result Step Error
+  pub steps : Steps old answer new
+  pub turns : next ≡ turn_after answer
+  pub shows : AddsFirst (text_after (chosen_line only) answer) before after
+
+-- a dump's origin: what the sink had taken, and whether it had failed
+abbrev pub origin : (taken : Option (List ℕ)) (failed : Bool) (outline : List ℕ) → Origin
+origin taken failed outline = record { taken = taken; has_failed = failed; outline = outline }
+
+-- a source before a call and after it: the bytes that it has left, and whether it has failed
+pub record Read : Type 0 where
+  pub left : Option (List ℕ)
+  pub rest : Option (List ℕ)
+  pub had_failed : Bool
+  pub has_failed : Bool
+
+abbrev pub read_of : {R : Type 0} → (left : R → Option (List ℕ)) (failed : R → Bool) (old new : R) → Read
+read_of left failed old new = record { left = left old; rest = left new; had_failed = failed old; has_failed = failed new }
+
+-- A dump by a writer over a sink that had taken this.
+pub record DumpsFrom (only : Only) (input : Read) (taken : Option (List ℕ)) (failed : Bool) (result : Result Ended ListError) (new : Writing) : Type 0 where
+  pub dumps : Dumps only input.left input.rest taken new.taken result
+  pub source : input.has_failed ≡ input_failed result input.had_failed
+  pub sink : new.has_failed ≡ output_failed result failed
+
+-- The same by a writer whose outline is empty.
+abbrev pub DumpsInto : (only : Only) (input : Read) (old : Writing) (result : Result Ended ListError) (new : Writing) → Type 0
+DumpsInto only input old result new = (taken : Option (List ℕ)) (failed : Bool) → IsWritten (origin taken failed []) old → DumpsFrom only input taken failed result new
+
+-- The same by a tree that has written nothing yet.
+abbrev pub DumpsByTree : (only : Only) (input : Read) (old : Writing) (result : Result Ended ListError) (new : Writing) → Type 0
+DumpsByTree only input old result new = (taken : Option (List ℕ)) (failed : Bool) → old ≡ starts taken failed → DumpsFrom only input taken failed result new
