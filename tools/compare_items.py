@@ -5,8 +5,8 @@
     compare_items.py --files LIST --model PATH [--program PATH] [--show N]
 
 The model is a Python file with `outcome(row, bytes, offset, features)`, which gives the text of the item and how many bytes it
-takes, or its fault. The program is `crates/wasm_show_items`, built: it reads all cases at once. A new item is a row of `ROWS`
-here and a row of `show_case` there. With `--files`, LIST is a text file with the path of a module or of an archive of modules on each
+takes, or its fault. The program is `crates/wasm_show_items`, built: it reads all cases at once, and `texts.py` reads its lines. A new
+item is a row of `ROWS` here, a row of `show_case` there, and a row of `ITEMS` in `texts.py`. With `--files`, LIST is a text file with the path of a module or of an archive of modules on each
 line, and every item of their sections is compared.
 """
 import importlib.util
@@ -15,6 +15,9 @@ import os
 import random
 import subprocess
 import sys
+
+sys.path.insert(0, os.path.dirname(os.path.abspath(__file__)))
+from texts import case_text, shortened
 
 TOP = os.path.dirname(os.path.dirname(os.path.abspath(__file__)))
 
@@ -530,12 +533,35 @@ def cases_of(list_of_files, outcome):
 # ---- comparing
 
 
+def cases_of_lines(lines):
+    """The lines of each case: an empty line is after them."""
+    case = []
+    for line in lines:
+        if line:
+            case.append(line)
+        else:
+            yield case
+            case = []
+    assert not case
+
+
 def read_with(program, cases):
-    """The lines that the program writes, one a case."""
+    """The lines that the program writes of each case."""
     done = subprocess.run([program], input=packed(cases), stdout=subprocess.PIPE, timeout=600, check=True)
     lines = done.stdout.decode("ascii").split("\n")
-    assert lines.pop() == "" and len(lines) == len(cases), (len(lines), len(cases))
-    return lines
+    assert lines.pop() == ""
+    found = list(cases_of_lines(lines))
+    assert len(found) == len(cases), (len(found), len(cases))
+    return found
+
+
+def text_of(case, lines):
+    """What they say of a case, as the model writes it; of lines that can't be read, themselves."""
+    row, data, offset, _ = case
+    try:
+        return case_text(row, lines, data, offset)
+    except (AssertionError, LookupError, ValueError, StopIteration) as error:
+        return "%s: %s" % (type(error).__name__, " / ".join(lines))
 
 
 def load(path):
@@ -546,7 +572,7 @@ def load(path):
 
 
 def agrees(line, expected):
-    """Whether a line is what the model says; after a star it says no more."""
+    """Whether a text is what the model says; after a star it says no more."""
     return line == expected or expected.endswith("*") and line.startswith(expected[:-1])
 
 
@@ -585,9 +611,11 @@ def main():
         if not cases:
             break
         compared += len(cases)
-        for case, line in zip(cases, read_with(options["--program"], cases)):
+        for case, lines in zip(cases, read_with(options["--program"], cases)):
             row, data, offset, features = case
-            expected = outcome(row, data, offset, features)
+            # Imports have a blank after each.
+            expected = shortened(outcome(row, data, offset, features)).rstrip(" ")
+            line = text_of(case, lines)
             sort = sort_of(row, expected)
             kinds[sort] = kinds.get(sort, 0) + 1
             if not agrees(line, expected):

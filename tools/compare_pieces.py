@@ -132,7 +132,8 @@ def short_cases(depth):
 
 def run(cases):
     done = subprocess.run([PROGRAM], input=leb(len(cases)) + b"".join(cases), stdout=subprocess.PIPE, check=True)
-    return done.stdout.decode().split("\n")
+    # An empty line is after each.
+    return done.stdout.decode().split("\n")[::2]
 
 
 def main():

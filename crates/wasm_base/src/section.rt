@@ -345,6 +345,16 @@ impl<'a, T> Drop for SectionLimitedIntoIterIn<'a, T> {
     }
 }
 
+impl<'a, T> SectionLimitedIntoIterIn<'a, T> {
+    /// The offset in the whole stream where the iterator is.
+    pub fn original_position(&self) -> u64
+        ensures offset { result ≡ (place self.now.reader).offset }
+        ensures fits { result + length (place self.now.reader).rest < 2 ^ 64 }
+    {
+        self.items.original_position()
+    }
+}
+
 // Reads the next item of those that are left.
 fn read_in<'a, T: FromReaderIn<'a>>(
     alloc: Global,

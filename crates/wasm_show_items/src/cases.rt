@@ -1,20 +1,20 @@
-// The cases on standard input, and the text of each.
-use crate::custom::show_custom;
+// The cases on standard input, and the lines of each.
+use crate::customs::show_row;
 use crate::pieces::{show_events, show_steps};
-use crate::show::{Show, show_fault, show_item};
 use bitflags::Flags;
 use std::alloc::{AllocError, Global};
-use std::fmt::Write;
-use std::io::{self, Read, Write as _};
+use std::io::{self, Read};
 use wasm_base::{BinaryReader, Error, FromReader, FromReaderIn, WasmFeatures, fits};
 use wasm_custom::{
     Comdat, CoreDumpInstance, CoreDumpStackFrame, CoreDumpValue, RelocationEntry, SymbolInfo,
 };
+use wasm_feed::{Sink, WriteSink};
 use wasm_items::{
     ConstExpr, Data, Element, Export, ExternalKind, Global as GlobalItem, HeapType, Import,
     ImportSection, ImportSectionReader, Imports, MemoryType, RecGroup, RefType, Table, TagType,
     TypeRef, ValType,
 };
+use wasm_text::{Show, Tree, show_fault, show_items};
 
 /// Why the cases could not be shown.
 #[derive(Debug, Drop)]
@@ -43,20 +43,23 @@ impl From<io::Error> for Failed {
     }
 }
 
-/// Reads the cases, and writes a line for each.
+/// Reads the cases, and writes the lines of each, and an empty line after them.
 ///
 /// The input is a count, and for each case the name of a row below, a byte of features, the offset of the first byte in
 /// the stream, and the bytes after their size; numbers are in LEB128.
 pub(crate) fn run(rt: &HostRuntime) -> Result<(), Failed> {
     let mut bytes = Vec::new(rt.alloc());
     rt.stdin().read_to_end(&mut bytes)?;
-    let mut text = String::new(rt.alloc());
-    show_cases(rt.alloc(), &bytes, &mut text)?;
-    rt.stdout().write_all(text.as_bytes())?;
+    let mut out = Tree::new(rt.alloc(), WriteSink::new(rt.stdout()));
+    show_cases(rt.alloc(), &bytes, &mut out)?;
+    out.write_out();
+    if out.has_stopped() {
+        return Err(Failed::System);
+    }
     Ok(())
 }
 
-fn show_cases(alloc: Global, bytes: &[u8], out: &mut String) -> Result<(), Failed> {
+fn show_cases<W: Sink>(alloc: Global, bytes: &[u8], out: &mut Tree<W>) -> Result<(), Failed> {
     if !fits(0, bytes.len()) {
         return Err(Failed::Cases);
     }
@@ -64,12 +67,16 @@ fn show_cases(alloc: Global, bytes: &[u8], out: &mut String) -> Result<(), Faile
     let count = cases.read_var_u32()?;
     for _ in 0..count {
         show_case(alloc, &mut cases, out)?;
-        writeln!(out, "")?;
+        out.first(b"\n");
     }
     Ok(())
 }
 
-fn show_case(alloc: Global, cases: &mut BinaryReader<'_>, out: &mut String) -> Result<(), Failed> {
+fn show_case<W: Sink>(
+    alloc: Global,
+    cases: &mut BinaryReader<'_>,
+    out: &mut Tree<W>,
+) -> Result<(), Failed> {
     let name = cases.read_string()?;
     let features = WasmFeatures::from_bits_retain(u32::from(cases.read_u8()?));
     let offset = cases.read_var_u64()?;
@@ -79,33 +86,33 @@ fn show_case(alloc: Global, cases: &mut BinaryReader<'_>, out: &mut String) -> R
     }
     let mut reader = BinaryReader::new_features(bytes, offset, features);
     match name {
-        "kind" => show_read::<ExternalKind>(&mut reader, out)?,
-        "typeref" => show_read::<TypeRef>(&mut reader, out)?,
-        "import" => show_read::<Import<'_>>(&mut reader, out)?,
-        "imports" => show_read::<Imports<'_>>(&mut reader, out)?,
-        "valtype" => show_read::<ValType>(&mut reader, out)?,
-        "reftype" => show_read::<RefType>(&mut reader, out)?,
-        "heaptype" => show_read::<HeapType>(&mut reader, out)?,
-        "table" => show_read::<Table<'_>>(&mut reader, out)?,
-        "memory" => show_read::<MemoryType>(&mut reader, out)?,
-        "tag" => show_read::<TagType>(&mut reader, out)?,
-        "global" => show_read::<GlobalItem<'_>>(&mut reader, out)?,
-        "export" => show_read::<Export<'_>>(&mut reader, out)?,
-        "constexpr" => show_read::<ConstExpr<'_>>(&mut reader, out)?,
-        "element" => show_read::<Element<'_>>(&mut reader, out)?,
-        "data" => show_read::<Data<'_>>(&mut reader, out)?,
-        "recgroup" => show_read_in::<RecGroup>(alloc, &mut reader, out)?,
-        "flatimports" => show_flattened(reader, out)?,
+        "kind" => show_read::<ExternalKind, W>(&mut reader, out),
+        "typeref" => show_read::<TypeRef, W>(&mut reader, out),
+        "import" => show_read::<Import<'_>, W>(&mut reader, out),
+        "imports" => show_read::<Imports<'_>, W>(&mut reader, out),
+        "valtype" => show_read::<ValType, W>(&mut reader, out),
+        "reftype" => show_read::<RefType, W>(&mut reader, out),
+        "heaptype" => show_read::<HeapType, W>(&mut reader, out),
+        "table" => show_read::<Table<'_>, W>(&mut reader, out),
+        "memory" => show_read::<MemoryType, W>(&mut reader, out),
+        "tag" => show_read::<TagType, W>(&mut reader, out),
+        "global" => show_read::<GlobalItem<'_>, W>(&mut reader, out),
+        "export" => show_read::<Export<'_>, W>(&mut reader, out),
+        "constexpr" => show_read::<ConstExpr<'_>, W>(&mut reader, out),
+        "element" => show_read::<Element<'_>, W>(&mut reader, out),
+        "data" => show_read::<Data<'_>, W>(&mut reader, out),
+        "recgroup" => show_read_in::<RecGroup, W>(alloc, &mut reader, out),
+        "flatimports" => show_flattened(reader, out),
         "events" => show_events(alloc, reader, offset, out)?,
         "steps" => show_steps(alloc, reader, offset, out)?,
-        "relocation" => show_read::<RelocationEntry>(&mut reader, out)?,
-        "symbol" => show_read::<SymbolInfo<'_>>(&mut reader, out)?,
-        "comdat" => show_read::<Comdat<'_>>(&mut reader, out)?,
-        "corevalue" => show_read::<CoreDumpValue>(&mut reader, out)?,
-        "instance" => show_read_in::<CoreDumpInstance>(alloc, &mut reader, out)?,
-        "frame" => show_read_in::<CoreDumpStackFrame>(alloc, &mut reader, out)?,
+        "relocation" => show_read::<RelocationEntry, W>(&mut reader, out),
+        "symbol" => show_read::<SymbolInfo<'_>, W>(&mut reader, out),
+        "comdat" => show_read::<Comdat<'_>, W>(&mut reader, out),
+        "corevalue" => show_read::<CoreDumpValue, W>(&mut reader, out),
+        "instance" => show_read_in::<CoreDumpInstance, W>(alloc, &mut reader, out),
+        "frame" => show_read_in::<CoreDumpStackFrame, W>(alloc, &mut reader, out),
         _ => {
-            if !show_custom(alloc, name, reader, out)? {
+            if !show_row(alloc, name, reader, out) {
                 return Err(Failed::Cases);
             }
         }
@@ -113,47 +120,47 @@ fn show_case(alloc: Global, cases: &mut BinaryReader<'_>, out: &mut String) -> R
     Ok(())
 }
 
-// Writes an item that was read and how many bytes it takes, or its fault.
-fn show_outcome<T: Show>(
-    item: wasm_base::Result<T>,
+// Writes an item that was read at this offset and how many bytes it takes, or its fault.
+fn show_outcome<T: Show, W: Sink>(
+    offset: u64,
+    item: &wasm_base::Result<T>,
     used: usize,
-    out: &mut String,
-) -> Result<(), AllocError> {
+    out: &mut Tree<W>,
+) {
     match item {
         Ok(item) => {
-            item.show(out)?;
-            write!(out, " used {used}")
+            out.item(1, offset);
+            item.show(1, out);
+            out.line(1, "used=");
+            out.digits(used as u64);
         }
-        Err(e) => show_fault(&e, out),
+        Err(e) => show_fault(1, e, out),
     }
 }
 
-fn show_read<'a, T: FromReader<'a> + Show>(
+fn show_read<'a, T: FromReader<'a> + Show, W: Sink>(
     reader: &mut BinaryReader<'a>,
-    out: &mut String,
-) -> Result<(), AllocError> {
+    out: &mut Tree<W>,
+) {
+    let offset = reader.original_position();
     let item = T::from_reader(reader);
-    show_outcome(item, reader.current_position(), out)
+    show_outcome(offset, &item, reader.current_position(), out);
 }
 
-fn show_read_in<'a, T: FromReaderIn<'a> + Show>(
+fn show_read_in<'a, T: FromReaderIn<'a> + Show, W: Sink>(
     alloc: Global,
     reader: &mut BinaryReader<'a>,
-    out: &mut String,
-) -> Result<(), AllocError> {
+    out: &mut Tree<W>,
+) {
+    let offset = reader.original_position();
     let item = T::from_reader(alloc, reader);
-    show_outcome(item, reader.current_position(), out)
+    show_outcome(offset, &item, reader.current_position(), out);
 }
 
 // Writes the imports of a section, each with its offset, or the fault of its count.
-fn show_flattened(reader: BinaryReader<'_>, out: &mut String) -> Result<(), AllocError> {
+fn show_flattened<W: Sink>(reader: BinaryReader<'_>, out: &mut Tree<W>) {
     match ImportSectionReader::new(reader) {
-        Ok(section) => {
-            for import in section.into_imports_with_offsets() {
-                show_item(import, out)?;
-            }
-            Ok(())
-        }
-        Err(e) => show_fault(&e, out),
+        Ok(section) => show_items(1, section.into_imports_with_offsets(), out),
+        Err(e) => show_fault(1, &e, out),
     }
 }

@@ -1,12 +1,9 @@
-//! Shows items of byte strings, and streams in pieces: a text for each case on standard input.
+//! Shows items of byte strings, and streams in pieces: the lines of each case on standard input, and an empty line after them.
 #![tactic(auto)]
 
 mod cases;
-mod custom;
-mod linking;
+mod customs;
 mod pieces;
-mod show;
-mod types;
 
 use std::process::ExitCode;
 

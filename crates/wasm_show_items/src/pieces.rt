@@ -1,12 +1,38 @@
 // Streams in pieces: the events that are read, and each step of a feeder.
 use crate::cases::Failed;
-use crate::show::{show_bytes, show_fault, show_range};
 use bitflags::Flags;
 use std::alloc::{AllocError, Global};
 use std::fmt::Write;
-use wasm_base::{BinaryReader, WasmFeatures};
-use wasm_feed::{Event, EventKind, Feeder, Step, fits_pieces, read_pieces};
+use std::ops::Range;
+use wasm_base::{BinaryReader, Error, WasmFeatures};
+use wasm_feed::{Event, EventKind, Feeder, Sink, Step, fits_pieces, read_pieces};
 use wasm_parser::{Encoding, Payload};
+use wasm_text::Tree;
+
+// Writes the text of a fault.
+fn show_fault(e: &Error, out: &mut String) -> Result<(), AllocError> {
+    let (offset, message) = (e.offset(), e.message());
+    match e.number() {
+        Some(number) => write!(out, "fault {offset} {message}: {number}"),
+        None => write!(out, "fault {offset} {message}"),
+    }
+}
+
+// Writes bytes in hexadecimal.
+fn show_bytes(bytes: &[u8], out: &mut String) -> Result<(), AllocError> {
+    write!(out, "x")?;
+    for byte in bytes {
+        let byte = *byte;
+        write!(out, "{byte:02x}")?;
+    }
+    Ok(())
+}
+
+// Writes offsets.
+fn show_range(range: Range<u64>, out: &mut String) -> Result<(), AllocError> {
+    let (start, end) = (range.start, range.end);
+    write!(out, "{start}..{end}")
+}
 
 // Pieces: their count, and each after its size.
 fn pieces_of<'a>(alloc: Global, reader: &mut BinaryReader<'a>) -> Result<Vec<&'a [u8]>, Failed> {
@@ -21,7 +47,20 @@ fn pieces_of<'a>(alloc: Global, reader: &mut BinaryReader<'a>) -> Result<Vec<&'a
 }
 
 /// Writes the events of a stream in pieces that begins at this offset.
-pub(crate) fn show_events(
+pub(crate) fn show_events<W: Sink>(
+    alloc: Global,
+    reader: BinaryReader<'_>,
+    offset: u64,
+    out: &mut Tree<W>,
+) -> Result<(), Failed> {
+    let mut text = String::new(alloc);
+    write_events(alloc, reader, offset, &mut text)?;
+    writeln!(text, "")?;
+    out.first(text.as_bytes());
+    Ok(())
+}
+
+fn write_events(
     alloc: Global,
     mut reader: BinaryReader<'_>,
     offset: u64,
@@ -67,7 +106,20 @@ fn show_event(event: &Event, out: &mut String) -> Result<(), AllocError> {
 
 /// Writes the steps of a feeder that is given pieces as it asks for them, and one step after the last. Each with the
 /// bytes that are then held and stored.
-pub(crate) fn show_steps(
+pub(crate) fn show_steps<W: Sink>(
+    alloc: Global,
+    reader: BinaryReader<'_>,
+    offset: u64,
+    out: &mut Tree<W>,
+) -> Result<(), Failed> {
+    let mut text = String::new(alloc);
+    write_steps(alloc, reader, offset, &mut text)?;
+    writeln!(text, "")?;
+    out.first(text.as_bytes());
+    Ok(())
+}
+
+fn write_steps(
     alloc: Global,
     mut reader: BinaryReader<'_>,
     offset: u64,

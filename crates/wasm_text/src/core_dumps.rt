@@ -1,0 +1,72 @@
+// Texts of core dumps.
+use crate::lists::{show_lines, under, write_lines};
+use crate::show::Show;
+use crate::tree::Tree;
+use wasm_custom::{
+    CoreDumpInstance, CoreDumpInstancesSection, CoreDumpModulesSection, CoreDumpSection,
+    CoreDumpStackFrame, CoreDumpStackSection, CoreDumpValue,
+};
+use wasm_feed::Sink;
+
+impl Show for CoreDumpSection<'_> {
+    fn show<W: Sink>(&self, _level: usize, out: &mut Tree<W>) {
+        out.quoted("process", self.name);
+    }
+}
+
+/// The modules are under the line.
+impl Show for CoreDumpModulesSection<'_> {
+    fn show<W: Sink>(&self, level: usize, out: &mut Tree<W>) {
+        out.number("modules", self.modules.len() as u64);
+        show_lines(under(level), "module", &self.modules, out);
+    }
+}
+
+/// The indices of memories and globals are under its line.
+impl Show for CoreDumpInstance {
+    fn show<W: Sink>(&self, level: usize, out: &mut Tree<W>) {
+        out.number("module_index", u64::from(self.module_index));
+        write_lines(under(level), "memory=", &self.memories, out);
+        write_lines(under(level), "global=", &self.globals, out);
+    }
+}
+
+/// The instances are under the line.
+impl Show for CoreDumpInstancesSection {
+    fn show<W: Sink>(&self, level: usize, out: &mut Tree<W>) {
+        out.number("instances", self.instances.len() as u64);
+        show_lines(under(level), "instance", &self.instances, out);
+    }
+}
+
+impl Show for CoreDumpValue {
+    fn show<W: Sink>(&self, _level: usize, out: &mut Tree<W>) {
+        match self {
+            CoreDumpValue::Missing => out.word("missing"),
+            CoreDumpValue::I32(number) => out.signed("i32", i64::from(*number)),
+            CoreDumpValue::I64(number) => out.signed("i64", *number),
+            CoreDumpValue::F32(float) => out.number("f32_bits", u64::from(float.bits())),
+            CoreDumpValue::F64(float) => out.number("f64_bits", float.bits()),
+        }
+    }
+}
+
+/// The values are under its line.
+impl Show for CoreDumpStackFrame {
+    fn show<W: Sink>(&self, level: usize, out: &mut Tree<W>) {
+        out.number("instanceidx", u64::from(self.instanceidx));
+        out.number("funcidx", u64::from(self.funcidx));
+        out.number("codeoffset", u64::from(self.codeoffset));
+        show_lines(under(level), "local", &self.locals, out);
+        show_lines(under(level), "stack", &self.stack, out);
+    }
+}
+
+/// The frames are under the line.
+impl Show for CoreDumpStackSection<'_> {
+    fn show<W: Sink>(&self, level: usize, out: &mut Tree<W>) {
+        out.quoted("thread", self.name);
+        out.number("frames", self.frames.len() as u64);
+        show_lines(under(level), "frame", &self.frames, out);
+    }
+}

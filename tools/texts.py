@@ -1,0 +1,587 @@
+"""Reads the lines that tell of items, and gives each item's text as a model writes it.
+
+`case_text(row, lines, data, offset)` reads the lines of a case of `crates/wasm_show_items`; `listing_texts(lines, data)` those of a whole
+stream, as the program `wasm_dump` writes them; `shortened(text)` gives a model's text with no more of raw bytes than the lines have.
+The models say nothing of where subsections and names begin: these offsets are compared with the bytes themselves.
+"""
+import re
+
+# How many of some raw bytes the lines show, after their count.
+SHOWN = 16
+
+# The types of relocations in the order of their numbers.
+RELOCATIONS = ["R_WASM_" + name for name in """FUNCTION_INDEX_LEB TABLE_INDEX_SLEB TABLE_INDEX_I32 MEMORY_ADDR_LEB MEMORY_ADDR_SLEB
+    MEMORY_ADDR_I32 TYPE_INDEX_LEB GLOBAL_INDEX_LEB FUNCTION_OFFSET_I32 SECTION_OFFSET_I32 EVENT_INDEX_LEB MEMORY_ADDR_REL_SLEB
+    TABLE_INDEX_REL_SLEB GLOBAL_INDEX_I32 MEMORY_ADDR_LEB64 MEMORY_ADDR_SLEB64 MEMORY_ADDR_I64 MEMORY_ADDR_REL_SLEB64
+    TABLE_INDEX_SLEB64 TABLE_INDEX_I64 TABLE_NUMBER_LEB MEMORY_ADDR_TLS_SLEB FUNCTION_OFFSET_I64 MEMORY_ADDR_LOCREL_I32
+    TABLE_INDEX_REL_SLEB64 MEMORY_ADDR_TLS_SLEB64 FUNCTION_INDEX_I32""".split()]
+
+# The subsections of names in the order of their ids.
+NAMES = "module function local label type table memory global element data field tag parameter tag_parameter".split()
+INDIRECT = ("local", "label", "field", "parameter", "tag_parameter")
+
+
+# ---- lines
+
+
+class Node:
+    """A line, and the lines under it."""
+
+    def __init__(self, text):
+        self.text, self.under = text, []
+        self.offset, self.words, self.fields = None, [], {}
+        if not text.startswith("fault "):
+            self.read()
+
+    def read(self):
+        place = 0
+        while place < len(self.text):
+            found = re.compile(r'([a-z0-9_]+)=').match(self.text, place)
+            start = found.end() if found else place
+            end = value_end(self.text, start)
+            value = self.text[start:end]
+            if found:
+                assert found[1] not in self.fields, self.text
+                self.fields[found[1]] = as_hex(value) if value.startswith('"') else value
+            elif place == 0 and value.isdigit():
+                self.offset = value
+            else:
+                self.words.append(value)
+            assert self.text[end : end + 1] in ("", " "), self.text
+            place = end + 1
+
+    def __getitem__(self, name):
+        return self.fields[name]
+
+    def any(self, name):
+        """A number that may be missing."""
+        value = self.fields[name]
+        return "-" if value == "none" else value
+
+
+def value_end(text, place):
+    """Where a value ends: a text in quotes, an expression in parentheses, or what has no blank."""
+    if text.startswith('"', place):
+        return text.index('"', place + 1) + 1
+    depth = 0
+    while place < len(text) and (depth or text[place] != " "):
+        depth += {"(": 1, ")": -1}.get(text[place], 0)
+        place += 1
+    return place
+
+
+def as_hex(quoted):
+    plain = re.sub(r"\\([0-9a-f]{2})", lambda found: chr(int(found[1], 16)), quoted[1:-1])
+    return "x" + plain.encode("latin-1").hex()
+
+
+def nodes_of(lines):
+    """The lines of the first of these levels, each with those under it."""
+    top = Node("")
+    path = [top]
+    for line in lines:
+        text = line.lstrip(" ")
+        blanks = len(line) - len(text)
+        assert text and blanks % 2 == 0 and 1 <= blanks // 2 <= len(path), lines
+        del path[blanks // 2 :]
+        node = Node(text)
+        path[-1].under.append(node)
+        path.append(node)
+    return top.under
+
+
+# ---- types
+
+
+def expression_of(text):
+    """An expression in parentheses, as lists of words."""
+    stack = [[]]
+    for word in re.findall(r"[()]|[^() ]+", text):
+        if word == "(":
+            stack.append([])
+        elif word == ")":
+            last = stack.pop()
+            stack[-1].append(last)
+        else:
+            stack[-1].append(word)
+    assert len(stack) == 1 and len(stack[0]) == 1, text
+    return stack[0][0]
+
+
+def value_type(part):
+    if isinstance(part, str):
+        return part
+    assert part[0] == "ref" and (len(part) == 2 or len(part) == 3 and part[1] == "null"), part
+    return "%s:%s" % ("null" if len(part) == 3 else "ref", part[-1])
+
+
+def may_change(part):
+    """A type, and whether what has it is mutable."""
+    if isinstance(part, list) and part[0] == "mut":
+        return value_type(part[1]), "true"
+    return value_type(part), "false"
+
+
+def field(part):
+    return "field(%s %s )" % may_change(part)
+
+
+def some(parts):
+    return "[%s]" % "".join(part + " " for part in parts)
+
+
+def composite(part):
+    if part[0] == "array":
+        return "array " + field(part[1])
+    if part[0] == "struct":
+        assert all(one[0] == "field" and len(one) == 2 for one in part[1:])
+        return "struct " + some(field(one[1]) for one in part[1:])
+    lists = {one[0]: one[1:] for one in part[1:]}
+    assert part[0] == "func" and set(lists) <= {"param", "result"}, part
+    return "func(%s %s )" % tuple(some(value_type(one) for one in lists.get(word, [])) for word in ("param", "result"))
+
+
+def sub_type(text):
+    part = expression_of(text)
+    is_final = part[1] == "final"
+    rest = part[2:] if is_final else part[1:]
+    assert part[0] == "sub" and len(rest) <= 2
+    return "sub(%s %s %s )" % ("true" if is_final else "false", rest[0] if len(rest) == 2 else "-", composite(rest[-1]))
+
+
+def type_of(node, name="type"):
+    return value_type(expression_of(node[name]))
+
+
+# ---- items
+
+
+def rec_group(node):
+    types = [one["type"] for one in node.under] if node["explicit"] == "true" else [node["type"]]
+    return "rec(%s %s )" % (node["explicit"], some(map(sub_type, types)))
+
+
+def table_type(node):
+    return "table(%s %s %s %s %s )" % (type_of(node, "element_type"), node["table64"], node["initial"], node.any("maximum"), node["shared"])
+
+
+def memory(node):
+    return "memory(%s %s %s %s %s )" % (node["memory64"], node["shared"], node["initial"], node.any("maximum"), node.any("page_size_log2"))
+
+
+def global_type(node):
+    ty, mutable = may_change(expression_of(node["content_type"]))
+    return "global(%s %s %s )" % (ty, mutable, node["shared"])
+
+
+def tag(node):
+    return "tag(%s %s )" % (node["kind"], node["func_type_idx"])
+
+
+def type_ref(node):
+    other = {"table": table_type, "memory": memory, "global": global_type, "tag": tag}
+    if node["ty"] in other:
+        return other[node["ty"]](node)
+    return "%s %s" % (node["ty"].replace("_", ""), node["index"])
+
+
+def import_item(node):
+    return "import(%s %s %s )" % (node["module"], node["name"], type_ref(node))
+
+
+def compact_item(node):
+    return "item(%s %s )" % (node["name"], type_ref(node))
+
+
+def imports(node):
+    if "offset" in node.fields:
+        return "single %s %s" % (node["offset"], import_item(node))
+    if "items" in node.fields:
+        return "compact1 %s %s" % (node["module"], listed(node, "items", compact_item))
+    return "compact2 %s %s %s" % (node["module"], type_ref(node), listed(node, "names", lambda one: one["name"]))
+
+
+def listed(node, name, item):
+    """The offsets and the count of a list, and its items, each with its offset."""
+    return "%s #%s[%s]" % (node[name], node["count"], "".join(placed(one, item) + " " for one in node.under))
+
+
+def placed(node, item, between=":"):
+    if node.text.startswith("fault "):
+        return node.text
+    return node.offset + between + item(node)
+
+
+def unplaced(node, item):
+    return node.text if node.text.startswith("fault ") else item(node)
+
+
+def table(node):
+    return "table(%s %s )" % (table_type(node), node["init"])
+
+
+def export(node):
+    return "export(%s %s %s )" % (node["name"], node["kind"].replace("_", ""), node["index"])
+
+
+def element(node):
+    kind = node["kind"]
+    if kind == "active":
+        kind += " %s %s" % (node.any("table_index"), node["offset_expr"])
+    if "functions" in node.fields:
+        items = listed(node, "functions", lambda one: one["index"])
+    else:
+        items = type_of(node) + " " + listed(node, "expressions", lambda one: one["expr"])
+    return "element(%s %s %s )" % (kind, items, node["range"])
+
+
+def raw(value):
+    count, start = value.split(":")
+    assert len(start) == 2 * min(int(count), SHOWN)
+    return "x" + start + ("" if int(count) <= SHOWN else "+" + count)
+
+
+def data(node):
+    kind = node["kind"]
+    if kind == "active":
+        kind += " %s %s" % (node["memory_index"], node["offset_expr"])
+    return "data(%s %s %s )" % (kind, raw(node["data"]), node["range"])
+
+
+# ---- custom sections
+
+
+def name_map(node):
+    return "{%s}" % "".join(unplaced(one, lambda one: "name(%s %s )" % (one["index"], one["name"])) + " " for one in node.under)
+
+
+def indirect_map(node):
+    return "{%s}" % "".join(unplaced(one, lambda one: "names(%s %s )" % (one["index"], name_map(one))) + " " for one in node.under)
+
+
+def subsections(node, one):
+    return "<%s>" % "".join(unplaced(part, one) + " " for part in node.under)
+
+
+def unknown(node):
+    return "unknown %s %s %s" % (node["ty"], raw(node["contents"]), node["range"])
+
+
+def name_part(node):
+    word = node.words[0]
+    if word == "unknown":
+        return unknown(node)
+    if word == "module":
+        return "module %s %s" % (node["name"], node["range"])
+    return "%d%s" % (NAMES.index(word), indirect_map(node) if word in INDIRECT else name_map(node))
+
+
+def function_hints(node):
+    return "function(%s %s )" % (node["func"], listed(node, "hints", lambda one: "hint(%s %s )" % (one["func_offset"], one["taken"])))
+
+
+def producers_field(node):
+    return "field(%s %s )" % (node["name"], listed(node, "values", lambda one: "value(%s %s )" % (one["name"], one["version"])))
+
+
+def listed_word(node, word, item):
+    assert all(one.words == [word] for one in node.under), node.text
+    return some(item(one) for one in node.under)
+
+
+def dylink_part(node):
+    if "target_arch" in node.fields:
+        return "6 " + node["target_arch"]
+    word = node.words[0]
+    if word == "unknown":
+        return unknown(node)
+    if word == "mem_info":
+        return "1 meminfo(%s )" % " ".join(node[name] for name in ("memory_size", "memory_alignment", "table_size", "table_alignment"))
+    if word == "export_info":
+        return "3 " + listed_word(node, "export", lambda one: "export(%s %s )" % (one["name"], one["flags"]))
+    if word == "import_info":
+        return "4 " + listed_word(node, "import", lambda one: "import(%s %s %s )" % (one["module"], one["field"], one["flags"]))
+    number, item = {"needed": (2, "library"), "runtime_path": (5, "folder")}[word]
+    return "%d %s" % (number, listed_word(node, item, lambda one: one["name"]))
+
+
+def symbol(node):
+    kind, start = node.words[0], "%s %s" % (node.words[0], node["flags"])
+    if kind == "section":
+        return start + " " + node["section"]
+    if kind == "data":
+        where = "-" if node.words[1:] == ["undefined"] else "defined(%s %s %s )" % (node["index"], node["offset"], node["size"])
+        return "%s %s %s" % (start, node["name"], where)
+    return "%s %s %s" % (start, node["index"], node.any("name"))
+
+
+def comdat(node):
+    return "comdat(%s %s %s )" % (node["name"], node["flags"], listed(node, "symbols", lambda one: "symbol(%s %s )" % (one["kind"], one["index"])))
+
+
+LINKING = {
+    "segment_info": (5, lambda one: "segment(%s %s %s )" % (one["name"], one["alignment"], one["flags"])),
+    "init_funcs": (6, lambda one: "init(%s %s )" % (one["priority"], one["symbol_index"])),
+    "comdat_info": (7, comdat),
+    "symbol_table": (8, symbol),
+}
+
+
+def linking_part(node):
+    if "target_arch" in node.fields:
+        return "9 " + node["target_arch"]
+    if node.words == ["unknown"]:
+        return unknown(node)
+    name = next(iter(node.fields))
+    return "%d %s" % (LINKING[name][0], listed(node, name, LINKING[name][1]))
+
+
+def linking(node):
+    return "version %s at %s %s %s" % (node["version"], node["subsections"], node["range"], subsections(node, linking_part))
+
+
+def relocation(node):
+    return "reloc(%d %s %s %s )" % (RELOCATIONS.index(node["type"]), node["offset"], node["index"], node["addend"])
+
+
+def reloc(node):
+    return "section %s %s %s" % (node["section"], node["range"], listed(node, "entries", relocation))
+
+
+def core_value(node):
+    if node.words[-1:] == ["missing"]:
+        return "missing"
+    name, value = next(iter(node.fields.items()))
+    return "%s:%s" % (name.replace("_bits", ""), value)
+
+
+def under_word(node, word):
+    return [one for one in node.under if one.words[:1] == [word]]
+
+
+def instance(node):
+    lists = [some(one[name] for one in node.under if name in one.fields) for name in ("memory", "global")]
+    return "instance(%s %s )" % (node["module_index"], " ".join(lists))
+
+
+def frame(node):
+    lists = [some(map(core_value, under_word(node, word))) for word in ("local", "stack")]
+    assert all(one.words[0] in ("local", "stack") for one in node.under)
+    return "frame(%s %s %s %s )" % (node["instanceidx"], node["funcidx"], node["codeoffset"], " ".join(lists))
+
+
+def announced(node, name, text):
+    assert int(node[name]) == len(node.under), node.text
+    return text
+
+
+# ---- where subsections and names begin
+
+
+def number_at(data, place):
+    """A u32 in LEB128, and the place after it; an IndexError where there is none."""
+    value = shift = 0
+    while True:
+        byte = data[place]
+        value |= (byte & 127) << shift
+        place, shift = place + 1, shift + 7
+        if value >= 2**32 or shift == 35 and byte >= 128:
+            raise IndexError
+        if byte < 128:
+            return value, place
+
+
+def starts_of_parts(data, place):
+    """Where each subsection begins, and where its content does; an IndexError at one whose id or size can't be read."""
+    while place < len(data):
+        size, content = number_at(data, place + 1)
+        if data[place] >= 128 or content + size > len(data):
+            raise IndexError
+        yield place, content
+        place = content + size
+
+
+def after_names(data, place):
+    count, place = number_at(data, place)
+    for _ in range(count):
+        size, place = number_at(data, number_at(data, place)[1])
+        place += size
+    return place
+
+
+def starts_of_names(data, place):
+    """Where each name with its index begins."""
+    count, place = number_at(data, place)
+    for _ in range(count):
+        size, content = number_at(data, number_at(data, place)[1])
+        yield place, content
+        place = content + size
+
+
+def starts_of_maps(data, place):
+    """Where each index with its names begins, and where its names do."""
+    count, place = number_at(data, place)
+    for _ in range(count):
+        content = number_at(data, place)[1]
+        yield place, content
+        place = after_names(data, content)
+
+
+def check_starts(node, starts, offset, under=None):
+    """Looks whether each line that isn't a fault has the next of these offsets, and then at what is under it."""
+    for one in node.under:
+        is_fault = one.text.startswith("fault ")
+        try:
+            start, content = next(starts, (None, None))
+        except IndexError:
+            # It is a fault, behind which a subsection may begin anywhere.
+            assert is_fault, one.text
+            return
+        if not is_fault:
+            assert start is not None and int(one.offset) == start + offset, one.text
+            if under:
+                under(one, content)
+
+
+def check_places(row, node, data, offset):
+    """Looks whether subsections and names are said to begin where they do, in bytes that begin at this offset."""
+    def names(one, place):
+        check_starts(one, starts_of_names(data, place), offset)
+
+    def maps(one, place):
+        check_starts(one, starts_of_maps(data, place), offset, names)
+
+    def part(one, place):
+        if one.words[0] in NAMES[1:]:
+            (maps if one.words[0] in INDIRECT else names)(one, place)
+
+    if row == "namemap":
+        names(node, 0)
+    elif row == "indirect":
+        maps(node, 0)
+    elif row in ("names", "dylink"):
+        check_starts(node, starts_of_parts(data, 0), offset, part if row == "names" else None)
+    elif row == "linking":
+        check_starts(node, starts_of_parts(data, int(node["subsections"]) - offset), offset)
+
+
+# ---- cases
+
+# The text of each item, by its row.
+ITEMS = {
+    "kind": lambda node: node["kind"].replace("_", ""),
+    "typeref": type_ref,
+    "import": import_item,
+    "imports": imports,
+    "valtype": type_of,
+    "reftype": type_of,
+    "heaptype": lambda node: node["type"],
+    "table": table,
+    "memory": memory,
+    "tag": tag,
+    "global": lambda node: "global(%s %s )" % (global_type(node), node["init_expr"]),
+    "export": export,
+    "constexpr": lambda node: node["expr"],
+    "element": element,
+    "data": data,
+    "recgroup": rec_group,
+    "symbol": symbol,
+    "comdat": comdat,
+    "relocation": relocation,
+    "corevalue": core_value,
+    "instance": instance,
+    "frame": frame,
+    "index": lambda node: node["index"],
+}
+
+
+def counted(item):
+    def text(node):
+        name = next(name for name in ("items", "functions", "fields") if name in node.fields)
+        return listed(node, name, item)
+
+    return text
+
+
+# The text of each custom section, by its row.
+CUSTOM = {
+    "namemap": name_map,
+    "indirect": indirect_map,
+    "names": lambda node: subsections(node, name_part),
+    "hints": counted(function_hints),
+    "producers": counted(producers_field),
+    "dylink": lambda node: subsections(node, dylink_part),
+    "linking": linking,
+    "reloc": reloc,
+    "core": lambda node: node["process"],
+    "coremodules": lambda node: announced(node, "modules", listed_word(node, "module", lambda one: one["name"])),
+    "coreinstances": lambda node: announced(node, "instances", listed_word(node, "instance", instance)),
+    "corestack": lambda node: node["thread"] + " " + announced(node, "frames", listed_word(node, "frame", frame)),
+}
+
+
+def case_text(row, lines, data, offset):
+    """The text of a case: an item and how many bytes it takes, a section, or a fault. Its bytes begin at this offset."""
+    nodes = nodes_of(lines)
+    if row == "flatimports":
+        return " ".join(placed(node, import_item) for node in nodes)
+    if nodes[0].text.startswith("fault "):
+        assert len(nodes) == 1 and not nodes[0].under
+        return nodes[0].text
+    if row in CUSTOM:
+        assert len(nodes) == 1
+        check_places(row, nodes[0], data, offset)
+        return CUSTOM[row](nodes[0])
+    assert len(nodes) == 2
+    return "%s used %s" % (ITEMS[row](nodes[0]), nodes[1]["used"])
+
+
+# ---- streams
+
+# The row of each kind of section that has items, by its id.
+SECTIONS = {1: "recgroup", 2: "import", 3: "index", 4: "table", 5: "memory", 6: "global", 7: "export", 9: "element", 11: "data", 13: "tag"}
+
+# The row of each custom section that is known, by its name.
+KNOWN = {"name": "names", "metadata.code.branch_hint": "hints", "producers": "producers", "dylink.0": "dylink", "core": "core",
+         "coremodules": "coremodules", "coreinstances": "coreinstances", "corestack": "corestack", "linking": "linking"}
+
+
+def custom_text(node, data, offset):
+    """The name of a custom section, and what its data says, which begins at this offset."""
+    name = node.fields.pop("name")
+    if node.words == ["section", "unknown"]:
+        assert not node.under
+        return name + " unknown"
+    title = bytes.fromhex(name[1:]).decode()
+    row = KNOWN.get(title, "reloc" if title.startswith("reloc.") else None)
+    check_places(row, node, data, offset)
+    return "%s %s" % (name, CUSTOM[row](node))
+
+
+def listing_texts(lines, data):
+    """The lines of this stream as a model has them: each event's line, and under it a line an item."""
+    texts, place = [], 0
+    while place < len(lines):
+        event = lines[place]
+        end = place + 1
+        while end < len(lines) and lines[end].startswith("  "):
+            end += 1
+        texts.append(event)
+        nodes, words = nodes_of(lines[place + 1 : end]), event.split(" ")
+        if words[0] == "custom":
+            start, end_of_data = int(words[3]), int(words[2])
+            texts += ["  " + custom_text(node, data[start:end_of_data], start) for node in nodes]
+        else:
+            assert words[0] == "section" or not nodes, event
+            texts += ["  " + placed(node, ITEMS[SECTIONS[int(words[1])]], " ") for node in nodes]
+        place = end
+    return texts
+
+
+def shortened(text):
+    """A model's text with as much of raw bytes as the lines have."""
+    def short(found):
+        count = len(found[2]) // 2
+        return found[1] + found[2][: 2 * SHOWN] + ("" if count <= SHOWN else "+%d" % count)
+
+    return re.sub(r"(\bdata\((?:passive|declared|active [0-9]+ [0-9.]+) x|\bunknown [0-9]+ x)([0-9a-f]*)", short, text)
