@@ -1,0 +1,302 @@
+// Feeders of streams that come in pieces.
+use bitflags::Flags;
+use std::alloc::Global;
+use std::process::Abort;
+use std::test::Fail;
+use wasm_feed::{Feeder, Step};
+use wasm_parser::{Error, Fault, Payload, Result, WasmFeatures};
+use wasm_test_heap::Sparing;
+
+// A header, a function section, and a code section with one body.
+const MODULE: &[u8] = b"\0asm\x01\0\0\0\x03\x02\x01\0\x0a\x04\x01\x02\0\x0b";
+
+// More blocks than any of these feeders takes.
+const AMPLE: u64 = 20;
+
+// What a step is: how many bytes it shows, or how many it asks for.
+#[derive(Clone, Copy, Debug, PartialEq, Eq)]
+enum Told {
+    Shows(usize),
+    Asks(usize),
+    Ends(u64),
+    Refuses(Error),
+}
+
+fn say(step: Result<Step<'_>>) -> Told {
+    match step {
+        Ok(Step::NeedMoreData(hint)) => Told::Asks(hint),
+        Ok(
+            Step::Parsed {
+                payload: Payload::End(at),
+                ..
+            },
+        ) => Told::Ends(at),
+        Ok(Step::Parsed { bytes, .. }) => Told::Shows(bytes.len()),
+        Err(error) => Told::Refuses(error),
+    }
+}
+
+#[test]
+fn a_module_in_three_pieces(rt: HostRuntime) -> std::result::Result<(), Fail> {
+    let mut feeder = Feeder::new(rt.alloc(), 0, WasmFeatures::all());
+    let steps: [(Told, usize, usize); 3] = [
+        (Told::Asks(3), 5, 5),
+        (Told::Asks(2), 2, 10),
+        (Told::Asks(1), 0, 7),
+    ];
+    for (index, (last, held, stored)) in steps.iter().enumerate() {
+        assert!(rt; feeder.wants_more());
+        if !feeder.wants_more() {
+            return Ok(());
+        }
+        feeder.push(&MODULE[5 * index..5 * index + 5])?;
+        assert_eq!(rt; feeder.held(), feeder.stored());
+        let mut now = say(feeder.step());
+        for _ in 0..3 {
+            if let Told::Shows(_) = now {
+                now = say(feeder.step());
+            }
+        }
+        assert_eq!(rt; now, *last);
+        assert_eq!(rt; (feeder.held(), feeder.stored()), (*held, *stored));
+    }
+    if feeder.wants_more() {
+        feeder.push(&MODULE[15..])?;
+    }
+    assert_eq!(rt; say(feeder.step()), Told::Shows(3));
+    assert_eq!(rt; say(feeder.step()), Told::Asks(1));
+    feeder.finish();
+    assert!(rt; !feeder.wants_more());
+    for _ in 0..2 {
+        feeder.finish();
+        assert_eq!(rt; say(feeder.step()), Told::Ends(18));
+    }
+    Ok(())
+}
+
+#[test]
+fn faults_and_features(rt: HostRuntime) -> std::result::Result<(), Fail> {
+    let mut feeder = Feeder::new(rt.alloc(), 7, WasmFeatures::MEMORY64);
+    if feeder.wants_more() {
+        feeder.push(b"\0asm\x01\0\0\0\x02\x01\0\x02")?;
+    }
+    assert_eq!(rt; feeder.step_with(say), Told::Shows(8));
+    match feeder.open().step()? {
+        Step::Parsed {
+            bytes,
+            payload: Payload::ImportSection(section),
+        } => {
+            assert_eq!(rt; bytes, b"\x02\x01\0".as_slice());
+            assert_eq!(rt; section.range(), 17..18);
+        }
+        _other => assert!(rt; false),
+    }
+    assert_eq!(rt; say(feeder.step()), Told::Asks(1));
+    if feeder.wants_more() {
+        feeder.push(b"\0")?;
+    }
+    let fault = Error::new(Fault::OutOfOrder, 20);
+    for _ in 0..2 {
+        assert_eq!(rt; say(feeder.step()), Told::Refuses(fault));
+    }
+    Ok(())
+}
+
+#[test]
+fn pushes_past_the_top(rt: HostRuntime) -> std::result::Result<(), Fail> {
+    let mut feeder = Feeder::new(rt.alloc(), 18446744073709551607, WasmFeatures::all());
+    if feeder.wants_more() {
+        feeder.push(b"\0asm\x01\0\0\0")?;
+    }
+    assert_eq!(rt; say(feeder.step()), Told::Shows(8));
+    assert_eq!(rt; say(feeder.step()), Told::Asks(1));
+    let fault = Error::new(Fault::OffsetRange, 18446744073709551615);
+    if feeder.wants_more() {
+        assert_eq!(rt; feeder.push(b"\0"), Err(fault));
+    }
+    assert_eq!(rt; (feeder.held(), feeder.stored()), (0, 8));
+    assert!(rt; feeder.wants_more());
+    if feeder.wants_more() {
+        feeder.push(b"")?;
+    }
+    feeder.finish();
+    assert_eq!(rt; say(feeder.step()), Told::Ends(18446744073709551615));
+    Ok(())
+}
+
+// The loop that the documents show.
+#[test]
+fn pieces_of_a_download(rt: HostRuntime) -> std::result::Result<(), Fail> {
+    let mut feeder = Feeder::new(rt.alloc(), 0, WasmFeatures::all());
+    let mut download = MODULE;
+    let mut last = 0;
+    for _ in 0..20 {
+        match feeder.open().step()? {
+            Step::Parsed {
+                payload: Payload::End(_),
+                ..
+            } => break,
+            Step::Parsed { bytes, .. } => last = bytes.len(),
+            Step::NeedMoreData(_) => {}
+        }
+        if feeder.wants_more() {
+            if download.is_empty() {
+                feeder.finish();
+            } else {
+                let (piece, later) = download.split_at(download.len().min(5));
+                feeder.push(piece)?;
+                download = later;
+            }
+        }
+    }
+    assert_eq!(rt; (last, feeder.held()), (3, 0));
+    Ok(())
+}
+
+// The steps of the module in pieces of these sizes, and whether a push was refused: it leaves the feeder as it was, and is
+// repeated.
+fn steps_in(
+    rt: &impl Abort,
+    alloc: Global,
+    heap: &Sparing<Global>,
+    sizes: &[usize],
+) -> std::result::Result<(Vec<Told>, bool), Fail> {
+    let mut feeder = Feeder::new_in(heap, 0, WasmFeatures::all());
+    let mut steps = Vec::new(alloc);
+    let mut refused = false;
+    let mut rest = MODULE;
+    for size in sizes {
+        let (piece, later) = rest.split_at(rest.len().min(*size));
+        rest = later;
+        let before = (feeder.held(), feeder.stored());
+        if feeder.wants_more() && feeder.push(piece).is_err() {
+            assert_eq!(rt; (feeder.held(), feeder.stored()), before);
+            refused = true;
+            heap.give(AMPLE);
+            if feeder.wants_more() {
+                feeder.push(piece)?;
+            }
+        }
+        for _ in 0..4 {
+            let step = feeder.step_with(say);
+            steps.push(step)?;
+            if let Told::Asks(_) = step {
+                break;
+            }
+        }
+    }
+    feeder.finish();
+    steps.push(feeder.step_with(say))?;
+    Ok((steps, refused))
+}
+
+#[test]
+fn refused_pushes_are_repeated(rt: HostRuntime) -> std::result::Result<(), Fail> {
+    let (asks, shows) = (Told::Asks, Told::Shows);
+    let rows: [(&[usize], &[Told]); 2] = [
+        (
+            &[5, 5, 5, 3],
+            &[
+                asks(3),
+                shows(8),
+                asks(2),
+                shows(4),
+                shows(3),
+                asks(1),
+                shows(3),
+                asks(1),
+                Told::Ends(18),
+            ],
+        ),
+        (
+            &[8, 10],
+            &[
+                shows(8),
+                asks(1),
+                shows(4),
+                shows(3),
+                shows(3),
+                asks(1),
+                Told::Ends(18),
+            ],
+        ),
+    ];
+    for (sizes, steps) in rows {
+        let mut runs = 0;
+        for blocks in 0..AMPLE {
+            let heap = Sparing::new(rt.alloc(), blocks);
+            let (told, refused) = steps_in(&rt, rt.alloc(), &heap, sizes)?;
+            assert_eq!(rt; told.as_slice(), steps);
+            if !refused {
+                runs = blocks;
+                break;
+            }
+        }
+        assert!(rt; runs >= 2, "{runs}");
+    }
+    Ok(())
+}
+
+// What a compiler makes of the parts of a module.
+#[derive(Clone, Copy, Debug, PartialEq, Eq)]
+enum Task {
+    Expect(u32),
+    Compile(u64),
+    Declare,
+    Finish,
+    Wait,
+}
+
+fn task_for(payload: &Payload<'_>) -> Task {
+    match payload {
+        Payload::CodeSectionStart { count, .. } => Task::Expect(*count),
+        Payload::CodeSectionEntry(body) => Task::Compile(body.range().end),
+        Payload::End(_) => Task::Finish,
+        _ => Task::Declare,
+    }
+}
+
+fn task_of(step: Step<'_>) -> Task {
+    match step {
+        Step::Parsed { payload, .. } => task_for(&payload),
+        Step::NeedMoreData(_) => Task::Wait,
+    }
+}
+
+// The loop of a compiler that takes bodies as they come, as the documents show it.
+#[test]
+fn bodies_as_they_come(rt: HostRuntime) -> std::result::Result<(), Fail> {
+    let mut download: &[u8] =
+        b"\0asm\x01\0\0\0\x03\x03\x02\0\0\x0a\x08\x02\x02\0\x0b\x03\0\x01\x0b";
+    let mut feeder = Feeder::new(rt.alloc(), 0, WasmFeatures::all());
+    let mut tasks = Vec::new(rt.alloc());
+    for _ in 0..40 {
+        let task = task_of(feeder.open().step()?);
+        if task == Task::Finish {
+            break;
+        }
+        tasks.push(task)?;
+        if feeder.wants_more() {
+            if download.is_empty() {
+                feeder.finish();
+            } else {
+                let (piece, later) = download.split_at(download.len().min(9));
+                feeder.push(piece)?;
+                download = later;
+            }
+        }
+    }
+    let wanted = [
+        Task::Wait,
+        Task::Declare,
+        Task::Wait,
+        Task::Declare,
+        Task::Expect(2),
+        Task::Wait,
+        Task::Compile(19),
+        Task::Compile(23),
+        Task::Wait,
+    ];
+    assert_eq!(rt; tasks.as_slice(), wanted.as_slice());
+    Ok(())
+}
