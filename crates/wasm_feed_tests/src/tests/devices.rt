@@ -1,10 +1,11 @@
 // A source and a sink that fail or go short at a chosen call.
 ghost use Rattle.std.specs.Prelude.{◌≡◌, false};
 
+use super::ends;
 use std::io::{self, Write};
 use std::test::Fail;
 use wasm_feed::{
-    BoundedSink, Ended, Failed, ListError, ReadSource, Sink, SliceSource, Source, WriteSink, list,
+    BoundedSink, Ended, Failed, ListError, ReadSource, Sink, SliceSource, Source, WriteSink,
 };
 
 /// A source of the bytes of a slice, a few at a time, that fails at one call.
@@ -125,7 +126,7 @@ fn a_source_that_fails_leaves_the_lines_of_what_it_gave(rt: HostRuntime) -> Resu
         for (calls, lines) in written.iter().enumerate() {
             let mut input = Failing::after(BODY, piece, calls);
             let mut output = BoundedSink::new(rt.alloc(), 100)?;
-            let ended = list(rt.alloc(), &mut input, &mut output, piece);
+            let ended = ends(rt.alloc(), &mut input, &mut output, piece);
             let has_failed = !lines.ends_with(b"end 18\n");
             assert_eq!(rt;
                 ended == Err(ListError::Input),
@@ -145,7 +146,7 @@ fn a_source_that_goes_short_changes_nothing(rt: HostRuntime) -> Result<(), Fail>
         let mut input = Failing::after(MODULE, step, 20);
         let mut output = BoundedSink::new(rt.alloc(), 64)?;
         assert_eq!(rt;
-            list(rt.alloc(), &mut input, &mut output, 5),
+            ends(rt.alloc(), &mut input, &mut output, 5),
             Ok(Ended::End)
         );
         assert_eq!(rt; output.written(), LISTING);
@@ -163,7 +164,7 @@ fn a_sink_that_goes_short_or_fails(rt: HostRuntime) -> Result<(), Fail> {
             calls_left: calls,
             failed: false,
         };
-        let ended = list(rt.alloc(), &mut input, &mut output, 5);
+        let ended = ends(rt.alloc(), &mut input, &mut output, 5);
         if calls < LISTING.len() {
             assert!(rt; ended == Err(ListError::Output), "{calls}");
             assert_eq!(rt; output.inner.written(), &LISTING[..calls]);
@@ -183,7 +184,7 @@ fn a_reader_and_a_writer_of_the_standard_library(rt: HostRuntime) -> Result<(), 
     let mut written = Vec::<u8>::new(rt.alloc());
     let mut output = WriteSink::new(&mut written);
     assert_eq!(rt;
-        list(rt.alloc(), &mut input, &mut output, 65_536),
+        ends(rt.alloc(), &mut input, &mut output, 65_536),
         Ok(Ended::End)
     );
     assert!(rt; !output.failed() && !input.failed());
@@ -210,7 +211,7 @@ fn a_writer_that_takes_nothing(rt: HostRuntime) -> Result<(), Fail> {
     let mut input = SliceSource::new(MODULE);
     let mut output = WriteSink::new(Full);
     assert_eq!(rt;
-        list(rt.alloc(), &mut input, &mut output, 65_536),
+        ends(rt.alloc(), &mut input, &mut output, 65_536),
         Err(ListError::Output)
     );
     assert!(rt; output.failed());
@@ -251,7 +252,7 @@ fn at_most_a_piece_is_read_at_once(rt: HostRuntime) -> Result<(), Fail> {
         };
         let mut output = BoundedSink::new(rt.alloc(), 64)?;
         assert_eq!(rt;
-            list(rt.alloc(), &mut input, &mut output, piece),
+            ends(rt.alloc(), &mut input, &mut output, piece),
             Ok(Ended::End)
         );
         assert_eq!(rt; output.written(), LISTING);
@@ -265,7 +266,7 @@ fn a_sink_of_each_size(rt: HostRuntime) -> Result<(), Fail> {
     for size in 0..LISTING.len() + 2 {
         let mut input = SliceSource::new(MODULE);
         let mut output = BoundedSink::new(rt.alloc(), size)?;
-        let ended = list(rt.alloc(), &mut input, &mut output, 4);
+        let ended = ends(rt.alloc(), &mut input, &mut output, 4);
         let is_full = size < LISTING.len();
         assert_eq!(rt; ended == Err(ListError::Output), is_full, "{size}");
         assert_eq!(rt; ended == Ok(Ended::End), !is_full, "{size}");

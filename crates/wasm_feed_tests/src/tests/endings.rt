@@ -1,9 +1,10 @@
 // Where a reader waits: ways in which the stream goes on, after which its next events differ.
+use super::events;
 use std::alloc::Global;
 use std::ops::Range;
 use std::process::Abort;
 use std::test::Fail;
-use wasm_feed::{EventKind, fits_pieces, read_pieces};
+use wasm_feed::EventKind;
 use wasm_parser::{Encoding, Error, Fault, NumberKind};
 
 // A module's header; the same with a function section of one function, and the start of a code section with its one body.
@@ -33,16 +34,13 @@ fn gives(
     before: usize,
     wanted: &Row<'_>,
 ) -> Result<(), Fail> {
-    assert!(rt; fits_pieces(0, pieces));
-    if fits_pieces(0, pieces) {
-        let events = read_pieces(alloc, 0, pieces)?;
-        match events.get(before) {
-            Some(event) => {
-                assert_eq!(rt; event.kind, wanted.1);
-                assert_eq!(rt; event.range, wanted.2);
-            }
-            None => assert!(rt; false),
+    let events = events(alloc, 0, pieces)?;
+    match events.get(before) {
+        Some(event) => {
+            assert_eq!(rt; event.kind, wanted.1);
+            assert_eq!(rt; event.range, wanted.2);
         }
+        None => assert!(rt; false),
     }
     Ok(())
 }

@@ -1,6 +1,6 @@
 // Feeders of streams that come in pieces.
 use bitflags::Flags;
-use std::alloc::Global;
+use std::alloc::{Allocator, Global};
 use std::process::Abort;
 use std::test::Fail;
 use wasm_feed::{Feeder, Step};
@@ -36,6 +36,25 @@ fn say(step: Result<Step<'_>>) -> Told {
     }
 }
 
+// What the next step is.
+fn step(feeder: &mut Feeder) -> Told {
+    say(feeder.step())
+}
+
+// The same by `step_with`, of a feeder with any memory.
+fn step_with<A: Allocator>(feeder: &mut Feeder<A>) -> Told {
+    feeder.step_with(say)
+}
+
+// Pushes a piece, if the feeder wants more.
+fn push<A: Allocator>(feeder: &mut Feeder<A>, piece: &[u8]) -> Result<()> {
+    if feeder.wants_more() {
+        feeder.push(piece)
+    } else {
+        Ok(())
+    }
+}
+
 #[test]
 fn a_module_in_three_pieces(rt: HostRuntime) -> std::result::Result<(), Fail> {
     let mut feeder = Feeder::new(rt.alloc(), 0, WasmFeatures::all());
@@ -46,30 +65,25 @@ fn a_module_in_three_pieces(rt: HostRuntime) -> std::result::Result<(), Fail> {
     ];
     for (index, (last, held, stored)) in steps.iter().enumerate() {
         assert!(rt; feeder.wants_more());
-        if !feeder.wants_more() {
-            return Ok(());
-        }
-        feeder.push(&MODULE[5 * index..5 * index + 5])?;
+        push(&mut feeder, &MODULE[5 * index..5 * index + 5])?;
         assert_eq!(rt; feeder.held(), feeder.stored());
-        let mut now = say(feeder.step());
+        let mut now = step(&mut feeder);
         for _ in 0..3 {
             if let Told::Shows(_) = now {
-                now = say(feeder.step());
+                now = step(&mut feeder);
             }
         }
         assert_eq!(rt; now, *last);
         assert_eq!(rt; (feeder.held(), feeder.stored()), (*held, *stored));
     }
-    if feeder.wants_more() {
-        feeder.push(&MODULE[15..])?;
-    }
-    assert_eq!(rt; say(feeder.step()), Told::Shows(3));
-    assert_eq!(rt; say(feeder.step()), Told::Asks(1));
+    push(&mut feeder, &MODULE[15..])?;
+    assert_eq!(rt; step(&mut feeder), Told::Shows(3));
+    assert_eq!(rt; step(&mut feeder), Told::Asks(1));
     feeder.finish();
     assert!(rt; !feeder.wants_more());
     for _ in 0..2 {
         feeder.finish();
-        assert_eq!(rt; say(feeder.step()), Told::Ends(18));
+        assert_eq!(rt; step(&mut feeder), Told::Ends(18));
     }
     Ok(())
 }
@@ -77,10 +91,8 @@ fn a_module_in_three_pieces(rt: HostRuntime) -> std::result::Result<(), Fail> {
 #[test]
 fn faults_and_features(rt: HostRuntime) -> std::result::Result<(), Fail> {
     let mut feeder = Feeder::new(rt.alloc(), 7, WasmFeatures::MEMORY64);
-    if feeder.wants_more() {
-        feeder.push(b"\0asm\x01\0\0\0\x02\x01\0\x02")?;
-    }
-    assert_eq!(rt; feeder.step_with(say), Told::Shows(8));
+    push(&mut feeder, b"\0asm\x01\0\0\0\x02\x01\0\x02")?;
+    assert_eq!(rt; step_with(&mut feeder), Told::Shows(8));
     match feeder.open().step()? {
         Step::Parsed {
             bytes,
@@ -91,13 +103,11 @@ fn faults_and_features(rt: HostRuntime) -> std::result::Result<(), Fail> {
         }
         _other => assert!(rt; false),
     }
-    assert_eq!(rt; say(feeder.step()), Told::Asks(1));
-    if feeder.wants_more() {
-        feeder.push(b"\0")?;
-    }
+    assert_eq!(rt; step(&mut feeder), Told::Asks(1));
+    push(&mut feeder, b"\0")?;
     let fault = Error::new(Fault::OutOfOrder, 20);
     for _ in 0..2 {
-        assert_eq!(rt; say(feeder.step()), Told::Refuses(fault));
+        assert_eq!(rt; step(&mut feeder), Told::Refuses(fault));
     }
     Ok(())
 }
@@ -105,22 +115,16 @@ fn faults_and_features(rt: HostRuntime) -> std::result::Result<(), Fail> {
 #[test]
 fn pushes_past_the_top(rt: HostRuntime) -> std::result::Result<(), Fail> {
     let mut feeder = Feeder::new(rt.alloc(), 18446744073709551607, WasmFeatures::all());
-    if feeder.wants_more() {
-        feeder.push(b"\0asm\x01\0\0\0")?;
-    }
-    assert_eq!(rt; say(feeder.step()), Told::Shows(8));
-    assert_eq!(rt; say(feeder.step()), Told::Asks(1));
+    push(&mut feeder, b"\0asm\x01\0\0\0")?;
+    assert_eq!(rt; step(&mut feeder), Told::Shows(8));
+    assert_eq!(rt; step(&mut feeder), Told::Asks(1));
     let fault = Error::new(Fault::OffsetRange, 18446744073709551615);
-    if feeder.wants_more() {
-        assert_eq!(rt; feeder.push(b"\0"), Err(fault));
-    }
+    assert_eq!(rt; push(&mut feeder, b"\0"), Err(fault));
     assert_eq!(rt; (feeder.held(), feeder.stored()), (0, 8));
     assert!(rt; feeder.wants_more());
-    if feeder.wants_more() {
-        feeder.push(b"")?;
-    }
+    push(&mut feeder, b"")?;
     feeder.finish();
-    assert_eq!(rt; say(feeder.step()), Told::Ends(18446744073709551615));
+    assert_eq!(rt; step(&mut feeder), Told::Ends(18446744073709551615));
     Ok(())
 }
 
@@ -144,7 +148,7 @@ fn pieces_of_a_download(rt: HostRuntime) -> std::result::Result<(), Fail> {
                 feeder.finish();
             } else {
                 let (piece, later) = download.split_at(download.len().min(5));
-                feeder.push(piece)?;
+                push(&mut feeder, piece)?;
                 download = later;
             }
         }
@@ -169,16 +173,14 @@ fn steps_in(
         let (piece, later) = rest.split_at(rest.len().min(*size));
         rest = later;
         let before = (feeder.held(), feeder.stored());
-        if feeder.wants_more() && feeder.push(piece).is_err() {
+        if push(&mut feeder, piece).is_err() {
             assert_eq!(rt; (feeder.held(), feeder.stored()), before);
             refused = true;
             heap.give(AMPLE);
-            if feeder.wants_more() {
-                feeder.push(piece)?;
-            }
+            push(&mut feeder, piece)?;
         }
         for _ in 0..4 {
-            let step = feeder.step_with(say);
+            let step = step_with(&mut feeder);
             steps.push(step)?;
             if let Told::Asks(_) = step {
                 break;
@@ -186,7 +188,7 @@ fn steps_in(
         }
     }
     feeder.finish();
-    steps.push(feeder.step_with(say))?;
+    steps.push(step_with(&mut feeder))?;
     Ok((steps, refused))
 }
 
@@ -281,7 +283,7 @@ fn bodies_as_they_come(rt: HostRuntime) -> std::result::Result<(), Fail> {
                 feeder.finish();
             } else {
                 let (piece, later) = download.split_at(download.len().min(9));
-                feeder.push(piece)?;
+                push(&mut feeder, piece)?;
                 download = later;
             }
         }

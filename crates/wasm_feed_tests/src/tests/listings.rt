@@ -1,8 +1,9 @@
 // Listings of worked streams.
+use super::lists;
 use std::alloc::Global;
 use std::process::Abort;
 use std::test::Fail;
-use wasm_feed::{BoundedSink, Ended, ListError, Sink, SliceSource, list};
+use wasm_feed::{BoundedSink, Ended, ListError, Sink};
 use wasm_parser::{Error, Fault};
 
 /// A stream after a module's header, and its listing after the header's line.
@@ -110,9 +111,8 @@ pub(super) fn list_after_header(
         let mut listing = b"version 0 8 1 module\n".to_vec(alloc)?;
         listing.extend_from_slice(lines)?;
         for piece in [1, 5, 65_536] {
-            let mut input = SliceSource::new(stream.as_slice());
             let mut output = BoundedSink::new(alloc, 400)?;
-            let ended = list(alloc, &mut input, &mut output, piece);
+            let ended = lists(alloc, &stream, &mut output, piece);
             assert!(rt; ended.is_ok(), "{after:?}");
             assert_eq!(rt; output.written(), listing.as_slice(), "{after:?}");
             assert!(rt; !output.failed());
@@ -167,9 +167,8 @@ fn says_how_a_stream_ends(rt: HostRuntime) -> Result<(), Fail> {
         ),
     ];
     for (stream, how, lines) in streams {
-        let mut input = SliceSource::new(stream);
         let mut output = BoundedSink::new(rt.alloc(), 200)?;
-        let ended = list(rt.alloc(), &mut input, &mut output, 3);
+        let ended = lists(rt.alloc(), stream, &mut output, 3);
         assert!(rt; ended == how, "{stream:?}");
         assert_eq!(rt; output.written(), lines, "{stream:?}");
     }
@@ -183,12 +182,7 @@ fn list_with_ample_memory(rt: HostRuntime) -> Result<(), Fail> {
         b"version 0 8 1 module\nsection 3 10 12 1\ncode 14 18 1 3\nbody 16 18\nend 18\n".as_slice();
     for piece in [1, 5, 18, 65_536] {
         let mut output = BoundedSink::new(rt.alloc(), 100)?;
-        let ended = list(
-            rt.alloc(),
-            &mut SliceSource::new(stream),
-            &mut output,
-            piece,
-        );
+        let ended = lists(rt.alloc(), stream, &mut output, piece);
         assert!(rt; ended == Ok(Ended::End), "{piece}");
         assert_eq!(rt; output.written(), lines, "{piece}");
     }

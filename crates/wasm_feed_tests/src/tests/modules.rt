@@ -1,8 +1,9 @@
 // Modules with sections, listed and walked over.
 use super::listings::list_after_header;
+use super::lists;
 use std::alloc::{AllocError, Global};
 use std::test::Fail;
-use wasm_feed::{BoundedSink, Ended, Sink, SliceSource, list};
+use wasm_feed::{BoundedSink, Ended, Sink};
 use wasm_parser::{Error, Fault, NumberKind, Parser, Payload};
 
 /// A stream after a module's header, and its listing after the header's line.
@@ -207,9 +208,8 @@ fn lists_long_sections(rt: HostRuntime) -> Result<(), Fail> {
         let mut listing = lines.clone()?;
         listing.extend_from_slice(last)?;
         for piece in [1, 7, 65_536] {
-            let mut input = SliceSource::new(whole.as_slice());
             let mut output = BoundedSink::new(rt.alloc(), 600)?;
-            assert_eq!(rt; list(rt.alloc(), &mut input, &mut output, piece), Ok(how));
+            assert_eq!(rt; lists(rt.alloc(), &whole, &mut output, piece), Ok(how));
             assert_eq!(rt; output.written(), listing.as_slice());
         }
     }
@@ -230,10 +230,9 @@ fn lists_more_than_a_mebibyte(rt: HostRuntime) -> Result<(), Fail> {
     }
     listing.push_str("end 100008\n")?;
     assert_eq!(rt; listing.len(), 1_138_972);
-    let mut input = SliceSource::new(stream.as_slice());
     let mut output = BoundedSink::new(rt.alloc(), 1_138_972)?;
     assert_eq!(rt;
-        list(rt.alloc(), &mut input, &mut output, 65_536),
+        lists(rt.alloc(), &stream, &mut output, 65_536),
         Ok(Ended::End)
     );
     assert!(rt; output.written() == listing.as_bytes());

@@ -1,10 +1,11 @@
 // Streams that are cut into pieces.
+use super::events;
 use bitflags::Flags;
 use std::alloc::{AllocError, Global};
 use std::ops::Range;
 use std::process::Abort;
 use std::test::Fail;
-use wasm_feed::{EventKind, Feeder, fits_pieces, read_pieces, read_pieces_in};
+use wasm_feed::{EventKind, Feeder, fits_pieces, read_pieces_in};
 use wasm_parser::{Encoding, Error, Fault, WasmFeatures};
 use wasm_test_heap::Sparing;
 
@@ -51,15 +52,12 @@ fn gives(
 ) -> Result<(), Fail> {
     for (size, spaced) in [(1, false), (5, false), (30, false), (1, true), (7, true)] {
         let pieces = cut(alloc, stream, size, spaced)?;
-        assert!(rt; fits_pieces(start, &pieces));
-        if fits_pieces(start, &pieces) {
-            let events = read_pieces(alloc, start, &pieces)?;
-            assert_eq!(rt; events.len(), wanted.len());
-            for (event, (kind, range, bytes)) in events.iter().zip(wanted) {
-                assert_eq!(rt; &event.kind, kind);
-                assert_eq!(rt; &event.range, range);
-                assert_eq!(rt; event.bytes.as_slice(), *bytes);
-            }
+        let events = events(alloc, start, &pieces)?;
+        assert_eq!(rt; events.len(), wanted.len());
+        for (event, (kind, range, bytes)) in events.iter().zip(wanted) {
+            assert_eq!(rt; &event.kind, kind);
+            assert_eq!(rt; &event.range, range);
+            assert_eq!(rt; event.bytes.as_slice(), *bytes);
         }
     }
     Ok(())
@@ -176,19 +174,24 @@ fn near_the_top(rt: HostRuntime) -> Result<(), Fail> {
     Ok(())
 }
 
+// How many events these pieces have, read with memory from this allocator.
+fn count_in(heap: &Sparing<Global>, pieces: &[&[u8]]) -> Result<usize, Error> {
+    if !fits_pieces(40, pieces) {
+        return Ok(0);
+    }
+    Ok(read_pieces_in(heap, 40, pieces)?.len())
+}
+
 // Each growth of a reading is refused in turn: that is a want of memory each time.
 fn runs_out(rt: &impl Abort, alloc: Global, stream: &[u8], least: u64) -> Result<(), Fail> {
     let pieces = cut(alloc, stream, 5, true)?;
-    if !fits_pieces(40, &pieces) {
-        return Ok(());
-    }
-    let whole = read_pieces(alloc, 40, &pieces)?;
+    let whole = events(alloc, 40, &pieces)?;
     let mut refused = 0;
     for blocks in 0..AMPLE {
         let heap = Sparing::new(alloc, blocks);
-        match read_pieces_in(&heap, 40, &pieces) {
-            Ok(events) => {
-                assert_eq!(rt; events.len(), whole.len());
+        match count_in(&heap, &pieces) {
+            Ok(count) => {
+                assert_eq!(rt; count, whole.len());
                 refused = blocks;
                 break;
             }

@@ -1,6 +1,8 @@
 // Listings and sinks whose memory runs out at a chosen growth.
+use super::lists;
+use std::alloc::Global;
 use std::test::Fail;
-use wasm_feed::{BoundedSink, ListError, Sink, SliceSource, Source, list, list_in};
+use wasm_feed::{BoundedSink, Ended, ListError, Sink, SliceSource, Source, list_in};
 use wasm_test_heap::Sparing;
 
 /// A stream, and its listing.
@@ -23,11 +25,20 @@ const LISTINGS: [(&[u8], &[u8]); 4] = [
 /// More blocks than any of the listings takes.
 const AMPLE: u64 = 200;
 
+// How a listing ends whose memory comes from this allocator.
+fn ends_in<R: Source, W: Sink>(
+    heap: &Sparing<Global>,
+    input: &mut R,
+    output: &mut W,
+) -> Result<Ended, ListError> {
+    list_in(heap, input, output, 3)
+}
+
 #[test]
 fn a_listing_whose_memory_runs_out(rt: HostRuntime) -> Result<(), Fail> {
     for (stream, lines) in LISTINGS {
         let mut whole = BoundedSink::new(rt.alloc(), 200)?;
-        let ended = list(rt.alloc(), &mut SliceSource::new(stream), &mut whole, 3);
+        let ended = lists(rt.alloc(), stream, &mut whole, 3);
         assert!(rt; ended.is_ok(), "{stream:?}");
         assert_eq!(rt; whole.written(), lines, "{stream:?}");
         // As many runs are refused as there are counts of blocks below the first that suffices.
@@ -36,7 +47,7 @@ fn a_listing_whose_memory_runs_out(rt: HostRuntime) -> Result<(), Fail> {
             let heap = Sparing::new(rt.alloc(), blocks);
             let mut input = SliceSource::new(stream);
             let mut output = BoundedSink::new(rt.alloc(), 200)?;
-            let answer = list_in(&heap, &mut input, &mut output, 3);
+            let answer = ends_in(&heap, &mut input, &mut output);
             assert!(rt; !input.failed() && !output.failed());
             if answer == Err(ListError::Memory) {
                 assert!(rt; lines.starts_with(output.written()), "{stream:?} {blocks}");

@@ -1,7 +1,8 @@
 // Streams without their custom sections.
+use std::alloc::Global;
 use std::test::Fail;
 use wasm_feed::{strip, strip_in, strip_in_place};
-use wasm_parser::{Error, Fault};
+use wasm_parser::{Error, Fault, Result};
 use wasm_test_heap::Sparing;
 
 /// Streams, what is left of them where the names are kept, and what is left elsewhere.
@@ -81,13 +82,32 @@ const FAULTS: [(&[u8], Fault, u64); 6] = [
     ),
 ];
 
+// What is left of a stream.
+fn left_of(alloc: Global, stream: &[u8], keep_names: bool) -> Result<Vec<u8>> {
+    strip(alloc, stream, keep_names)
+}
+
+// The same, in its own memory.
+fn take_out(stream: &mut Vec<u8>, keep_names: bool) -> Result<()> {
+    strip_in_place(stream, keep_names)
+}
+
+// What is left of a stream, with memory from this allocator.
+fn left_in<'a>(
+    heap: &'a Sparing<Global>,
+    stream: &[u8],
+    keep_names: bool,
+) -> Result<Vec<u8, &'a Sparing<Global>>> {
+    strip_in(heap, stream, keep_names)
+}
+
 #[test]
-fn strips_modules(rt: HostRuntime) -> Result<(), Fail> {
+fn strips_modules(rt: HostRuntime) -> std::result::Result<(), Fail> {
     for (stream, with_names, without) in STRIPPED {
         for (keep_names, wanted) in [(true, with_names), (false, without)] {
-            let left = strip(rt.alloc(), stream, keep_names)?;
+            let left = left_of(rt.alloc(), stream, keep_names)?;
             assert_eq!(rt; left.as_slice(), wanted, "{stream:?} {keep_names}");
-            let again = strip(rt.alloc(), &left, keep_names)?;
+            let again = left_of(rt.alloc(), &left, keep_names)?;
             assert_eq!(rt; again.as_slice(), wanted, "{stream:?} {keep_names}");
         }
     }
@@ -95,17 +115,17 @@ fn strips_modules(rt: HostRuntime) -> Result<(), Fail> {
 }
 
 #[test]
-fn strips_modules_in_place(rt: HostRuntime) -> Result<(), Fail> {
+fn strips_modules_in_place(rt: HostRuntime) -> std::result::Result<(), Fail> {
     for (stream, with_names, without) in STRIPPED {
         for (keep_names, wanted) in [(true, with_names), (false, without)] {
             let mut bytes = Vec::from_slice(rt.alloc(), stream)?;
-            strip_in_place(&mut bytes, keep_names)?;
+            take_out(&mut bytes, keep_names)?;
             assert_eq!(rt; bytes.as_slice(), wanted, "{stream:?} {keep_names}");
         }
     }
     for (stream, fault, offset) in FAULTS {
         let mut bytes = Vec::from_slice(rt.alloc(), stream)?;
-        let answer = strip_in_place(&mut bytes, false);
+        let answer = take_out(&mut bytes, false);
         assert_eq!(rt; answer, Err(Error::new(fault, offset)), "{stream:?}");
         assert_eq!(rt; bytes.as_slice(), stream, "{stream:?}");
     }
@@ -113,11 +133,11 @@ fn strips_modules_in_place(rt: HostRuntime) -> Result<(), Fail> {
 }
 
 #[test]
-fn strips_only_accepted_streams(rt: HostRuntime) -> Result<(), Fail> {
+fn strips_only_accepted_streams(rt: HostRuntime) -> std::result::Result<(), Fail> {
     for (stream, fault, offset) in FAULTS {
         for keep_names in [true, false] {
             let none = Sparing::new(rt.alloc(), 0);
-            let answer = strip_in(&none, stream, keep_names);
+            let answer = left_in(&none, stream, keep_names);
             assert_eq!(rt;
                 answer.err(),
                 Some(Error::new(fault, offset)),
@@ -129,11 +149,11 @@ fn strips_only_accepted_streams(rt: HostRuntime) -> Result<(), Fail> {
 }
 
 #[test]
-fn stripping_whose_memory_runs_out(rt: HostRuntime) -> Result<(), Fail> {
+fn stripping_whose_memory_runs_out(rt: HostRuntime) -> std::result::Result<(), Fail> {
     for (stream, with_names, without) in STRIPPED {
         for (keep_names, wanted) in [(true, with_names), (false, without)] {
             let none = Sparing::new(rt.alloc(), 0);
-            let refused = strip_in(&none, stream, keep_names);
+            let refused = left_in(&none, stream, keep_names);
             assert_eq!(rt;
                 refused.err(),
                 Some(Error::new(Fault::OutOfMemory, 0)),
@@ -141,7 +161,7 @@ fn stripping_whose_memory_runs_out(rt: HostRuntime) -> Result<(), Fail> {
             );
             // One growth suffices, whatever is left.
             let one = Sparing::new(rt.alloc(), 1);
-            let left = strip_in(&one, stream, keep_names)?;
+            let left = left_in(&one, stream, keep_names)?;
             assert_eq!(rt; left.as_slice(), wanted, "{stream:?} {keep_names}");
         }
     }
