@@ -1,4 +1,6 @@
 // Custom sections on worked bytes.
+ghost use Rattle.std.specs.Prelude.{◌+◌, ◌<◌, ◌^◌, length};
+
 mod core_dumps;
 mod dylink;
 mod hints_and_producers;
@@ -16,6 +18,13 @@ use wasm_custom::CustomSectionReader;
 // That a value is the one that is wanted.
 fn same<T: PartialEq + Debug + Drop>(rt: &impl Abort, found: T, wanted: T) {
     assert!(rt; found == wanted, "{found:?}, and not {wanted:?}");
+}
+
+// A reader of these bytes. A proof is told nothing of them, which tests don't ask for.
+fn window(bytes: &[u8], offset: u64) -> BinaryReader<'_>
+    requires { offset + length bytes.now < 2 ^ 64 }
+{
+    BinaryReader::new(bytes, offset)
 }
 
 #[test]

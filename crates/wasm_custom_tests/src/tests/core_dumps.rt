@@ -1,7 +1,7 @@
 // Core dumps on worked bytes.
-use super::same;
+use super::{same, window};
 use std::test::Fail;
-use wasm_base::{BinaryReader, CoreStart, Error, Fault, FromReader, FromReaderIn, NumberKind};
+use wasm_base::{CoreStart, Error, Fault, FromReader, FromReaderIn, NumberKind};
 use wasm_custom::{
     CoreDumpInstance, CoreDumpInstancesSection, CoreDumpModulesSection, CoreDumpSection,
     CoreDumpStackFrame, CoreDumpStackSection, CoreDumpValue,
@@ -38,7 +38,7 @@ fn values(rt: HostRuntime) -> Result<(), Fail> {
         ),
     ];
     for (bytes, wanted, used) in rows {
-        let mut reader = BinaryReader::new(bytes, 600);
+        let mut reader = window(bytes, 600);
         let value = CoreDumpValue::from_reader(&mut reader)?;
         same(&rt, parts(&value), wanted);
         same(&rt, reader.original_position(), 600 + used);
@@ -58,7 +58,7 @@ fn values(rt: HostRuntime) -> Result<(), Fail> {
         ),
     ];
     for (bytes, wanted) in rows {
-        let refused = CoreDumpValue::from_reader(&mut BinaryReader::new(bytes, 600)).err();
+        let refused = CoreDumpValue::from_reader(&mut window(bytes, 600)).err();
         same(&rt, refused, Some(wanted));
     }
     Ok(())
@@ -66,20 +66,20 @@ fn values(rt: HostRuntime) -> Result<(), Fail> {
 
 #[test]
 fn sections_of_a_core_dump(rt: HostRuntime) -> Result<(), Fail> {
-    let section = CoreDumpSection::new(BinaryReader::new(b"\x00\x09test.wasm", 0))?;
+    let section = CoreDumpSection::new(window(b"\x00\x09test.wasm", 0))?;
     same(&rt, section.name, "test.wasm");
     let bytes = b"\x82\x00\x00\x04test\x00\x80\x00";
-    let section = CoreDumpModulesSection::new(rt.alloc(), BinaryReader::new(bytes, 9))?;
+    let section = CoreDumpModulesSection::new(rt.alloc(), window(bytes, 9))?;
     same(&rt, section.modules.as_slice(), ["test", ""].as_slice());
     let bytes = b"\x01\x00\x02\x01\x00\x01\x03";
-    let section = CoreDumpInstancesSection::new(rt.alloc(), BinaryReader::new(bytes, 0))?;
+    let section = CoreDumpInstancesSection::new(rt.alloc(), window(bytes, 0))?;
     assert_eq!(rt; section.instances.len(), 1);
     let instance = &section.instances.as_slice()[0];
     same(&rt, instance.module_index, 2);
     same(&rt, instance.memories.as_slice(), [0].as_slice());
     same(&rt, instance.globals.as_slice(), [3].as_slice());
     let bytes = b"\x00\x04main\x01\x00\x04\x2a\x33\x01\x7f\x01\x01\x7f\x02";
-    let section = CoreDumpStackSection::new(rt.alloc(), BinaryReader::new(bytes, 0))?;
+    let section = CoreDumpStackSection::new(rt.alloc(), window(bytes, 0))?;
     same(&rt, section.name, "main");
     assert_eq!(rt; section.frames.len(), 1);
     let frame = &section.frames.as_slice()[0];
@@ -97,13 +97,13 @@ fn sections_of_a_core_dump(rt: HostRuntime) -> Result<(), Fail> {
 
 #[test]
 fn items_that_own_lists(rt: HostRuntime) -> Result<(), Fail> {
-    let mut reader = BinaryReader::new(b"\x00\x80\x01\x00\x82\x00\x05\x86\x00\x07", 50);
+    let mut reader = window(b"\x00\x80\x01\x00\x82\x00\x05\x86\x00\x07", 50);
     let instance = CoreDumpInstance::from_reader(rt.alloc(), &mut reader)?;
     same(&rt, reader.original_position(), 59);
     same(&rt, instance.module_index, 128);
     assert_eq!(rt; instance.memories.len(), 0);
     same(&rt, instance.globals.as_slice(), [5, 6].as_slice());
-    let mut reader = BinaryReader::new(b"\x00\x81\x00\x02\x03\x02\x01\x7e\x7f\x00\x0b", 50);
+    let mut reader = window(b"\x00\x81\x00\x02\x03\x02\x01\x7e\x7f\x00\x0b", 50);
     let frame = CoreDumpStackFrame::from_reader(rt.alloc(), &mut reader)?;
     same(&rt, reader.original_position(), 60);
     same(
@@ -115,9 +115,9 @@ fn items_that_own_lists(rt: HostRuntime) -> Result<(), Fail> {
     same(&rt, parts(&frame.locals.as_slice()[0]), ("missing", 0));
     same(&rt, parts(&frame.locals.as_slice()[1]), ("i64", -1));
     assert_eq!(rt; frame.stack.len(), 0);
-    let refused = CoreDumpInstance::from_reader(rt.alloc(), &mut BinaryReader::new(b"\x01", 7));
+    let refused = CoreDumpInstance::from_reader(rt.alloc(), &mut window(b"\x01", 7));
     same(&rt, refused.err(), Some(start(CoreStart::Instance, 7)));
-    let refused = CoreDumpStackFrame::from_reader(rt.alloc(), &mut BinaryReader::new(b"\x80", 7));
+    let refused = CoreDumpStackFrame::from_reader(rt.alloc(), &mut window(b"\x80", 7));
     same(&rt, refused.err(), Some(start(CoreStart::Frame, 7)));
     Ok(())
 }
@@ -136,7 +136,7 @@ fn core_dumps_that_are_refused(rt: HostRuntime) {
         ),
     ];
     for (bytes, wanted) in rows {
-        let refused = CoreDumpSection::new(BinaryReader::new(bytes, 30)).err();
+        let refused = CoreDumpSection::new(window(bytes, 30)).err();
         same(&rt, refused, Some(wanted));
     }
     let rows: [(&[u8], Error); 5] = [
@@ -147,7 +147,7 @@ fn core_dumps_that_are_refused(rt: HostRuntime) {
         (b"\x01\x01", start(CoreStart::Module, 30)),
     ];
     for (bytes, wanted) in rows {
-        let refused = CoreDumpModulesSection::new(rt.alloc(), BinaryReader::new(bytes, 30)).err();
+        let refused = CoreDumpModulesSection::new(rt.alloc(), window(bytes, 30)).err();
         same(&rt, refused, Some(wanted));
     }
     let rows: [(&[u8], Error); 4] = [
@@ -160,7 +160,7 @@ fn core_dumps_that_are_refused(rt: HostRuntime) {
         ),
     ];
     for (bytes, wanted) in rows {
-        let refused = CoreDumpInstancesSection::new(rt.alloc(), BinaryReader::new(bytes, 30)).err();
+        let refused = CoreDumpInstancesSection::new(rt.alloc(), window(bytes, 30)).err();
         same(&rt, refused, Some(wanted));
     }
     let rows: [(&[u8], Error); 5] = [
@@ -174,7 +174,7 @@ fn core_dumps_that_are_refused(rt: HostRuntime) {
         (b"\x00\x00\x01\x00\x01\x02\x03\x00", eof(38)),
     ];
     for (bytes, wanted) in rows {
-        let refused = CoreDumpStackSection::new(rt.alloc(), BinaryReader::new(bytes, 30)).err();
+        let refused = CoreDumpStackSection::new(rt.alloc(), window(bytes, 30)).err();
         same(&rt, refused, Some(wanted));
     }
 }

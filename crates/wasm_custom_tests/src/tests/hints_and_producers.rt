@@ -1,7 +1,7 @@
 // Branch hints and producers on worked bytes.
-use super::same;
+use super::{same, window};
 use std::test::Fail;
-use wasm_base::{BinaryReader, Error, Fault, FromReader, Lead};
+use wasm_base::{Error, Fault, FromReader, Lead};
 use wasm_custom::{
     BranchHintFunction, BranchHintSectionReader, ProducersField, ProducersSectionReader,
 };
@@ -13,7 +13,7 @@ fn leading(lead: Lead, byte: u64, offset: u64) -> Error {
 #[test]
 fn hints_of_functions(rt: HostRuntime) -> Result<(), Fail> {
     let bytes = b"\x01\x00\x01\x05\x01\x01";
-    let functions = BranchHintSectionReader::new(BinaryReader::new(bytes, 0))?;
+    let functions = BranchHintSectionReader::new(window(bytes, 0))?;
     let mut functions = functions.into_iter();
     let function = functions.next().ok_or("no function")??;
     same(&rt, function.func, 0);
@@ -26,7 +26,7 @@ fn hints_of_functions(rt: HostRuntime) -> Result<(), Fail> {
 
     // A function elsewhere, with numbers of several bytes, and bytes after it.
     let bytes = b"\x81\x01\x82\x00\x80\x01\x01\x00\xff\x00\x01\x01\x07";
-    let mut reader = BinaryReader::new(bytes, 5000);
+    let mut reader = window(bytes, 5000);
     let function = BranchHintFunction::from_reader(&mut reader)?;
     same(&rt, reader.original_position(), 5012);
     same(&rt, function.func, 129);
@@ -59,7 +59,7 @@ fn hints_that_are_refused(rt: HostRuntime) {
         ),
     ];
     for (bytes, offset, wanted) in rows {
-        let refused = BranchHintFunction::from_reader(&mut BinaryReader::new(bytes, offset)).err();
+        let refused = BranchHintFunction::from_reader(&mut window(bytes, offset)).err();
         same(&rt, refused, Some(wanted));
     }
 }
@@ -67,7 +67,7 @@ fn hints_that_are_refused(rt: HostRuntime) {
 #[test]
 fn fields_of_producers(rt: HostRuntime) -> Result<(), Fail> {
     let bytes = b"\x01\x08language\x02\x03wat\x011\x01C\x039.0";
-    let fields = ProducersSectionReader::new(BinaryReader::new(bytes, 0))?;
+    let fields = ProducersSectionReader::new(window(bytes, 0))?;
     let mut fields = fields.into_iter();
     let field = fields.next().ok_or("no field")??;
     same(&rt, field.name, "language");
@@ -82,7 +82,7 @@ fn fields_of_producers(rt: HostRuntime) -> Result<(), Fail> {
 
     // Values are passed over whether or not they are UTF-8, which is seen when they are read.
     let bytes = b"\x83\x00sdk\x81\x00\x02\xc3\x28\x00\x0b";
-    let mut reader = BinaryReader::new(bytes, 900);
+    let mut reader = window(bytes, 900);
     let field = ProducersField::from_reader(&mut reader)?;
     same(&rt, reader.original_position(), 911);
     same(&rt, field.name, "sdk");
@@ -112,7 +112,7 @@ fn producers_that_are_refused(rt: HostRuntime) {
         ),
     ];
     for (bytes, offset, wanted) in rows {
-        let refused = ProducersField::from_reader(&mut BinaryReader::new(bytes, offset)).err();
+        let refused = ProducersField::from_reader(&mut window(bytes, offset)).err();
         same(&rt, refused, Some(wanted));
     }
 }

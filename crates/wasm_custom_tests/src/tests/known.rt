@@ -1,11 +1,11 @@
 // Custom sections that are known by their names.
 ghost use Rattle.std.specs.Prelude.{◌+◌, ◌<◌, ◌^◌, length};
 
-use super::same;
+use super::{same, window};
 use std::alloc::{Allocator, Global};
 use std::process::Abort;
 use std::test::Fail;
-use wasm_base::{BinaryReader, Error, Fault, fits};
+use wasm_base::{Error, Fault, fits};
 use wasm_custom::{CustomSectionReader, KnownCustom};
 use wasm_test_heap::Sparing;
 
@@ -39,7 +39,7 @@ fn is_known_as(
     wanted: (&str, usize),
 ) -> Result<(), Fail> {
     assert!(rt; fits(8, bytes.len()));
-    let section = CustomSectionReader::new(BinaryReader::new(bytes, 8))?;
+    let section = CustomSectionReader::new(window(bytes, 8))?;
     let known = section.as_known(alloc)?;
     assert_eq!(rt; kind_of(&known), wanted, "{bytes:?}");
     Ok(())
@@ -98,7 +98,7 @@ fn known_with_ample_memory(rt: HostRuntime) -> Result<(), Fail> {
 fn runs_out(rt: &impl Abort, alloc: Global, bytes: &[u8], least: u64) -> Result<(), Fail>
     requires { 8 + length bytes.now < 2 ^ 64 }
 {
-    let section = CustomSectionReader::new(BinaryReader::new(bytes, 8))?;
+    let section = CustomSectionReader::new(window(bytes, 8))?;
     let whole = section.as_known(alloc)?;
     assert!(rt; kind_of(&whole).0 != "unknown");
     let mut refused = 0;

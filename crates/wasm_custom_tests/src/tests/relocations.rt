@@ -1,16 +1,16 @@
 // Relocations on worked bytes.
 ghost use Rattle.std.specs.Prelude.{◌+◌, ◌<◌, ◌^◌, length};
 
-use super::same;
+use super::{same, window};
 use std::test::Fail;
-use wasm_base::{BinaryReader, Error, Fault, FromReader, Lead, NumberKind, Result};
+use wasm_base::{Error, Fault, FromReader, Lead, NumberKind, Result};
 use wasm_custom::{RelocAddendKind, RelocSectionReader, RelocationEntry, RelocationType};
 
 // An entry, and the offset after it.
 fn entry(bytes: &[u8], offset: u64) -> Result<(RelocationEntry, u64)>
     requires { offset + length bytes.now < 2 ^ 64 }
 {
-    let mut reader = BinaryReader::new(bytes, offset);
+    let mut reader = window(bytes, offset);
     let entry = RelocationEntry::from_reader(&mut reader)?;
     Ok((entry, reader.original_position()))
 }
@@ -128,7 +128,7 @@ fn entries_that_are_refused(rt: HostRuntime) {
 #[test]
 fn a_section_of_relocations(rt: HostRuntime) -> std::result::Result<(), Fail> {
     let bytes = b"\x03\x01\x03\x06\x00\x7f";
-    let section = RelocSectionReader::new(BinaryReader::new(bytes, 0))?;
+    let section = RelocSectionReader::new(window(bytes, 0))?;
     same(&rt, section.section_index(), 3);
     same(&rt, section.range(), 0..6);
     same(&rt, section.entries().range(), 1..6);
@@ -141,7 +141,7 @@ fn a_section_of_relocations(rt: HostRuntime) -> std::result::Result<(), Fail> {
     same(&rt, last.relocation_range(), Ok(4294967292..4294967297));
 
     let bytes = b"\x85\x00\x81\x00\x05\x01\x02\x03\xff";
-    let section = RelocSectionReader::new(BinaryReader::new(bytes, 70000))?;
+    let section = RelocSectionReader::new(window(bytes, 70000))?;
     same(&rt, section.section_index(), 5);
     same(&rt, section.range(), 70000..70009);
     same(&rt, section.entries().range(), 70002..70009);
@@ -152,9 +152,9 @@ fn a_section_of_relocations(rt: HostRuntime) -> std::result::Result<(), Fail> {
     same(&rt, entries.next(), Some(Err(left)));
     same(&rt, entries.next(), None);
 
-    let refused = RelocSectionReader::new(BinaryReader::new(b"\x80", 4)).err();
+    let refused = RelocSectionReader::new(window(b"\x80", 4)).err();
     same(&rt, refused, Some(Error::new(Fault::UnexpectedEof, 5)));
-    let refused = RelocSectionReader::new(BinaryReader::new(b"\x07", 4)).err();
+    let refused = RelocSectionReader::new(window(b"\x07", 4)).err();
     same(&rt, refused, Some(Error::new(Fault::UnexpectedEof, 5)));
     Ok(())
 }
