@@ -1,6 +1,6 @@
 // Listings of worked streams.
 use super::lists;
-use std::alloc::Global;
+use std::alloc::{AllocError, Global};
 use std::process::Abort;
 use std::test::Fail;
 use wasm_feed::{BoundedSink, Ended, ListError, Sink};
@@ -99,24 +99,35 @@ const LISTINGS: [(&[u8], &[u8]); 32] = [
     (b"\x08\x05\0\0", b"fault 10 unexpected end-of-file\n"),
 ];
 
-// Each stream after a module's header has this listing after the header's line, whatever the size of its pieces.
+// A stream has this listing, whatever the size of its pieces.
+fn lists_as(rt: &impl Abort, alloc: Global, stream: &[u8], listing: &[u8]) -> Result<(), Fail> {
+    for piece in [1, 5, 65_536] {
+        let mut output = BoundedSink::new(alloc, 400)?;
+        let ended = lists(alloc, stream, &mut output, piece);
+        assert!(rt; ended.is_ok(), "{stream:?}");
+        assert_eq!(rt; output.written(), listing, "{stream:?}");
+        assert!(rt; !output.failed());
+    }
+    Ok(())
+}
+
+// These bytes and others after them.
+pub(super) fn joined(alloc: Global, first: &[u8], more: &[u8]) -> Result<Vec<u8>, AllocError> {
+    let mut joined = first.to_vec(alloc)?;
+    joined.extend_from_slice(more)?;
+    Ok(joined)
+}
+
+// Each stream after a module's header has this listing after the header's line.
 pub(super) fn list_after_header(
     rt: &impl Abort,
     alloc: Global,
     rows: &[(&[u8], &[u8])],
 ) -> Result<(), Fail> {
     for (after, lines) in rows {
-        let mut stream = b"\0asm\x01\0\0\0".to_vec(alloc)?;
-        stream.extend_from_slice(after)?;
-        let mut listing = b"version 0 8 1 module\n".to_vec(alloc)?;
-        listing.extend_from_slice(lines)?;
-        for piece in [1, 5, 65_536] {
-            let mut output = BoundedSink::new(alloc, 400)?;
-            let ended = lists(alloc, &stream, &mut output, piece);
-            assert!(rt; ended.is_ok(), "{after:?}");
-            assert_eq!(rt; output.written(), listing.as_slice(), "{after:?}");
-            assert!(rt; !output.failed());
-        }
+        let stream = joined(alloc, b"\0asm\x01\0\0\0", after)?;
+        let listing = joined(alloc, b"version 0 8 1 module\n", lines)?;
+        lists_as(rt, alloc, &stream, &listing)?;
     }
     Ok(())
 }

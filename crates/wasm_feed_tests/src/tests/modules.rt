@@ -1,10 +1,11 @@
 // Modules with sections, listed and walked over.
-use super::listings::list_after_header;
+use super::listings::{joined, list_after_header};
 use super::lists;
 use std::alloc::{AllocError, Global};
+use std::process::Abort;
 use std::test::Fail;
 use wasm_feed::{BoundedSink, Ended, Sink};
-use wasm_parser::{Error, Fault, NumberKind, Parser, Payload};
+use wasm_parser::{Error, Fault, NumberKind, Parser, Payload, Result as ParserResult};
 
 /// A stream after a module's header, and its listing after the header's line.
 const SECTIONS: [(&[u8], &[u8]); 15] = [
@@ -138,24 +139,37 @@ fn fault_line(alloc: Global, error: &Error) -> Result<String, AllocError> {
     format!(in alloc; "fault {} {}\n", error.offset(), error.message())
 }
 
-#[test]
-fn walks_over_modules(rt: HostRuntime) -> Result<(), Fail> {
-    for (after, lines) in SECTIONS {
-        let mut stream = b"\0asm\x01\0\0\0".to_vec(rt.alloc())?;
-        stream.extend_from_slice(after)?;
-        let mut wanted = b"version 0 8 1 module\n".to_vec(rt.alloc())?;
-        wanted.extend_from_slice(lines)?;
-        let mut listing = Vec::new(rt.alloc());
-        for item in Parser::new(0).parse_all(stream.as_slice()) {
-            let line = match item {
-                Ok(payload) => line_of(rt.alloc(), &payload)?,
-                Err(error) => fault_line(rt.alloc(), &error)?,
-            };
-            listing.extend_from_slice(line.as_bytes())?;
-        }
+// The line of what a walk gives.
+fn item_line(alloc: Global, item: ParserResult<Payload<'_>>) -> Result<String, AllocError> {
+    match item {
+        Ok(payload) => line_of(alloc, &payload),
+        Err(error) => fault_line(alloc, &error),
+    }
+}
+
+// The lines of a walk over a stream.
+fn walked(alloc: Global, stream: &[u8]) -> Result<Vec<u8>, AllocError> {
+    let mut listing = Vec::new(alloc);
+    for item in Parser::new(0).parse_all(stream) {
+        listing.extend_from_slice(item_line(alloc, item)?.as_bytes())?;
+    }
+    Ok(listing)
+}
+
+// A walk over each stream after a module's header has these lines after the header's.
+fn walks_after_header(rt: &impl Abort, alloc: Global, rows: &[(&[u8], &[u8])]) -> Result<(), Fail> {
+    for (after, lines) in rows {
+        let stream = joined(alloc, b"\0asm\x01\0\0\0", after)?;
+        let wanted = joined(alloc, b"version 0 8 1 module\n", lines)?;
+        let listing = walked(alloc, &stream)?;
         assert_eq!(rt; listing.as_slice(), wanted.as_slice(), "{after:?}");
     }
     Ok(())
+}
+
+#[test]
+fn walks_over_modules(rt: HostRuntime) -> Result<(), Fail> {
+    walks_after_header(&rt, rt.alloc(), &SECTIONS)
 }
 
 /// Parts of a module whose lengths, counts and sizes have two bytes or more: of each its first bytes, how many zeros
@@ -184,36 +198,57 @@ const LONG_PARTS: [(&[u8], usize, &[u8]); 17] = [
     (b"\x00\x83\x01\x80\x01", 129, b"custom 18346 18477 18476\n"),
 ];
 
-#[test]
-fn lists_long_sections(rt: HostRuntime) -> Result<(), Fail> {
-    let mut stream = b"\0asm\x01\0\0\0".to_vec(rt.alloc())?;
-    let mut lines = b"version 0 8 1 module\n".to_vec(rt.alloc())?;
-    for (first, zeros, line) in LONG_PARTS {
-        stream.extend_from_slice(first)?;
-        stream.resize(stream.len() + zeros, 0)?;
-        lines.extend_from_slice(line)?;
-    }
-    let fault = Error::new(Fault::NumberTooLarge(NumberKind::VarU32), 18482);
-    let endings: [(&[u8], &[u8], Ended); 2] = [
-        (b"", b"end 18477\n", Ended::End),
-        (
-            b"\x00\x80\x80\x80\x80\x10",
-            b"fault 18482 invalid var_u32: integer too large\n",
-            Ended::Fault(fault),
-        ),
-    ];
-    for (more, last, how) in endings {
-        let mut whole = stream.clone()?;
-        whole.extend_from_slice(more)?;
-        let mut listing = lines.clone()?;
-        listing.extend_from_slice(last)?;
-        for piece in [1, 7, 65_536] {
-            let mut output = BoundedSink::new(rt.alloc(), 600)?;
-            assert_eq!(rt; lists(rt.alloc(), &whole, &mut output, piece), Ok(how));
-            assert_eq!(rt; output.written(), listing.as_slice());
-        }
+fn push_zeros(stream: &mut Vec<u8>, count: usize) -> Result<(), AllocError> {
+    for _ in 0..count {
+        stream.push(0)?;
     }
     Ok(())
+}
+
+// A stream of these parts after a module's header, and its listing but for the last line.
+fn long_stream(alloc: Global) -> Result<(Vec<u8>, Vec<u8>), AllocError> {
+    let mut stream = b"\0asm\x01\0\0\0".to_vec(alloc)?;
+    let mut lines = b"version 0 8 1 module\n".to_vec(alloc)?;
+    for (first, zeros, line) in LONG_PARTS {
+        stream.extend_from_slice(first)?;
+        push_zeros(&mut stream, zeros)?;
+        lines.extend_from_slice(line)?;
+    }
+    Ok((stream, lines))
+}
+
+// A stream ends so and has this listing, whatever the size of its pieces.
+fn ends_as(
+    rt: &impl Abort,
+    alloc: Global,
+    stream: &[u8],
+    how: Ended,
+    listing: &[u8],
+) -> Result<(), Fail> {
+    for piece in [1, 7, 65_536] {
+        let mut output = BoundedSink::new(alloc, 600)?;
+        let ended = lists(alloc, stream, &mut output, piece);
+        assert_eq!(rt; ended, Ok(how));
+        assert_eq!(rt; output.written(), listing);
+    }
+    Ok(())
+}
+
+#[test]
+fn lists_long_sections(rt: HostRuntime) -> Result<(), Fail> {
+    let (stream, lines) = long_stream(rt.alloc())?;
+    let listing = joined(rt.alloc(), &lines, b"end 18477\n")?;
+    ends_as(&rt, rt.alloc(), &stream, Ended::End, &listing)
+}
+
+#[test]
+fn lists_long_sections_and_a_fault(rt: HostRuntime) -> Result<(), Fail> {
+    let (front, lines) = long_stream(rt.alloc())?;
+    let stream = joined(rt.alloc(), &front, b"\x00\x80\x80\x80\x80\x10")?;
+    let last = b"fault 18482 invalid var_u32: integer too large\n";
+    let listing = joined(rt.alloc(), &lines, last)?;
+    let fault = Error::new(Fault::NumberTooLarge(NumberKind::VarU32), 18482);
+    ends_as(&rt, rt.alloc(), &stream, Ended::Fault(fault), &listing)
 }
 
 /// How many empty sections of an unknown id the long listing has.

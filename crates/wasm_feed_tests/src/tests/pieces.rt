@@ -5,7 +5,7 @@ use std::alloc::{AllocError, Global};
 use std::ops::Range;
 use std::process::Abort;
 use std::test::Fail;
-use wasm_feed::{EventKind, Feeder, fits_pieces, read_pieces_in};
+use wasm_feed::{Event, EventKind, Feeder, fits_pieces, read_pieces_in};
 use wasm_parser::{Encoding, Error, Fault, WasmFeatures};
 use wasm_test_heap::Sparing;
 
@@ -42,6 +42,29 @@ fn cut(alloc: Global, bytes: &[u8], size: usize, spaced: bool) -> Result<Vec<&[u
     Ok(pieces)
 }
 
+// That an event is this one.
+fn is(rt: &impl Abort, event: &Event, wanted: &Wanted<'_>) {
+    assert_eq!(rt; event.kind, wanted.0);
+    assert_eq!(rt; event.range, wanted.1);
+    assert_eq!(rt; event.bytes.as_slice(), wanted.2);
+}
+
+// The events of these pieces are these.
+fn are(
+    rt: &impl Abort,
+    alloc: Global,
+    start: u64,
+    pieces: &[&[u8]],
+    wanted: &[Wanted<'_>],
+) -> Result<(), Fail> {
+    let events = events(alloc, start, pieces)?;
+    assert_eq!(rt; events.len(), wanted.len());
+    for (event, wanted) in events.iter().zip(wanted) {
+        is(rt, event, wanted);
+    }
+    Ok(())
+}
+
 // The stream's events are these, wherever it is cut.
 fn gives(
     rt: &impl Abort,
@@ -52,13 +75,7 @@ fn gives(
 ) -> Result<(), Fail> {
     for (size, spaced) in [(1, false), (5, false), (30, false), (1, true), (7, true)] {
         let pieces = cut(alloc, stream, size, spaced)?;
-        let events = events(alloc, start, &pieces)?;
-        assert_eq!(rt; events.len(), wanted.len());
-        for (event, (kind, range, bytes)) in events.iter().zip(wanted) {
-            assert_eq!(rt; &event.kind, kind);
-            assert_eq!(rt; &event.range, range);
-            assert_eq!(rt; event.bytes.as_slice(), *bytes);
-        }
+        are(rt, alloc, start, &pieces, wanted)?;
     }
     Ok(())
 }

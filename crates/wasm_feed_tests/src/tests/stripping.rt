@@ -1,12 +1,15 @@
 // Streams without their custom sections.
 use std::alloc::Global;
+use std::process::Abort;
 use std::test::Fail;
 use wasm_feed::{strip, strip_in, strip_in_place};
 use wasm_parser::{Error, Fault, Result};
 use wasm_test_heap::Sparing;
 
-/// Streams, what is left of them where the names are kept, and what is left elsewhere.
-const STRIPPED: [(&[u8], &[u8], &[u8]); 9] = [
+/// A stream, what is left of it where the names are kept, and what is left elsewhere.
+type Row = (&'static [u8], &'static [u8], &'static [u8]);
+
+const STRIPPED: [Row; 9] = [
     (
         b"\0asm\x01\0\0\0\0\x01\0\x01\x01\0\0\x02\x01a",
         b"\0asm\x01\0\0\0\x01\x01\0",
@@ -52,8 +55,10 @@ const STRIPPED: [(&[u8], &[u8], &[u8]); 9] = [
     ),
 ];
 
-/// Streams that aren't accepted: the fault, and its offset.
-const FAULTS: [(&[u8], Fault, u64); 6] = [
+/// A stream that isn't accepted, the fault, and its offset.
+type Refused = (&'static [u8], Fault, u64);
+
+const FAULTS: [Refused; 6] = [
     (
         b"\0asm\x01\0\0\0\x03\x02\x01\0",
         Fault::FunctionWithoutCode,
@@ -82,6 +87,15 @@ const FAULTS: [(&[u8], Fault, u64); 6] = [
     ),
 ];
 
+// The rows by a function, since a proof over them is told nothing of their bytes.
+fn rows() -> &'static [Row] {
+    &STRIPPED
+}
+
+fn faults() -> &'static [Refused] {
+    &FAULTS
+}
+
 // What is left of a stream.
 fn left_of(alloc: Global, stream: &[u8], keep_names: bool) -> Result<Vec<u8>> {
     strip(alloc, stream, keep_names)
@@ -101,69 +115,101 @@ fn left_in<'a>(
     strip_in(heap, stream, keep_names)
 }
 
+// What is left of a stream is this, of which nothing goes.
+fn leaves(
+    rt: &impl Abort,
+    alloc: Global,
+    stream: &[u8],
+    keep_names: bool,
+    wanted: &[u8],
+) -> Result<()> {
+    let left = left_of(alloc, stream, keep_names)?;
+    assert_eq!(rt; left.as_slice(), wanted, "{stream:?} {keep_names}");
+    let again = left_of(alloc, &left, keep_names)?;
+    assert_eq!(rt; again.as_slice(), wanted, "{stream:?} {keep_names}");
+    Ok(())
+}
+
+// The same is left in place.
+fn leaves_in_place(
+    rt: &impl Abort,
+    mut bytes: Vec<u8>,
+    keep_names: bool,
+    wanted: &[u8],
+) -> Result<()> {
+    take_out(&mut bytes, keep_names)?;
+    assert_eq!(rt; bytes.as_slice(), wanted, "{keep_names}");
+    Ok(())
+}
+
+// The same is left with one growth, and without any a want of memory is answered.
+fn leaves_in(
+    rt: &impl Abort,
+    alloc: Global,
+    stream: &[u8],
+    keep_names: bool,
+    wanted: &[u8],
+) -> Result<()> {
+    let none = Sparing::new(alloc, 0);
+    let refused = left_in(&none, stream, keep_names).err();
+    let want = Error::new(Fault::OutOfMemory, 0);
+    assert_eq!(rt; refused, Some(want), "{stream:?}");
+    let one = Sparing::new(alloc, 1);
+    let left = left_in(&one, stream, keep_names)?;
+    assert_eq!(rt; left.as_slice(), wanted, "{stream:?} {keep_names}");
+    Ok(())
+}
+
+// The fault of a stream is told whatever memory there is.
+fn tells(rt: &impl Abort, alloc: Global, stream: &[u8], keep_names: bool, fault: Error) {
+    let none = Sparing::new(alloc, 0);
+    let refused = left_in(&none, stream, keep_names).err();
+    assert_eq!(rt; refused, Some(fault), "{stream:?} {keep_names}");
+}
+
 #[test]
 fn strips_modules(rt: HostRuntime) -> std::result::Result<(), Fail> {
-    for (stream, with_names, without) in STRIPPED {
-        for (keep_names, wanted) in [(true, with_names), (false, without)] {
-            let left = left_of(rt.alloc(), stream, keep_names)?;
-            assert_eq!(rt; left.as_slice(), wanted, "{stream:?} {keep_names}");
-            let again = left_of(rt.alloc(), &left, keep_names)?;
-            assert_eq!(rt; again.as_slice(), wanted, "{stream:?} {keep_names}");
-        }
+    for (stream, with_names, without) in rows() {
+        leaves(&rt, rt.alloc(), stream, true, with_names)?;
+        leaves(&rt, rt.alloc(), stream, false, without)?;
     }
     Ok(())
 }
 
 #[test]
 fn strips_modules_in_place(rt: HostRuntime) -> std::result::Result<(), Fail> {
-    for (stream, with_names, without) in STRIPPED {
-        for (keep_names, wanted) in [(true, with_names), (false, without)] {
-            let mut bytes = Vec::from_slice(rt.alloc(), stream)?;
-            take_out(&mut bytes, keep_names)?;
-            assert_eq!(rt; bytes.as_slice(), wanted, "{stream:?} {keep_names}");
-        }
-    }
-    for (stream, fault, offset) in FAULTS {
-        let mut bytes = Vec::from_slice(rt.alloc(), stream)?;
-        let answer = take_out(&mut bytes, false);
-        assert_eq!(rt; answer, Err(Error::new(fault, offset)), "{stream:?}");
-        assert_eq!(rt; bytes.as_slice(), stream, "{stream:?}");
+    for (stream, with_names, without) in rows() {
+        leaves_in_place(&rt, stream.to_vec(rt.alloc())?, true, with_names)?;
+        leaves_in_place(&rt, stream.to_vec(rt.alloc())?, false, without)?;
     }
     Ok(())
 }
 
 #[test]
-fn strips_only_accepted_streams(rt: HostRuntime) -> std::result::Result<(), Fail> {
-    for (stream, fault, offset) in FAULTS {
-        for keep_names in [true, false] {
-            let none = Sparing::new(rt.alloc(), 0);
-            let answer = left_in(&none, stream, keep_names);
-            assert_eq!(rt;
-                answer.err(),
-                Some(Error::new(fault, offset)),
-                "{stream:?} {keep_names}"
-            );
-        }
+fn leaves_other_streams_in_place(rt: HostRuntime) -> std::result::Result<(), Fail> {
+    for (stream, fault, offset) in faults() {
+        let mut bytes = stream.to_vec(rt.alloc())?;
+        let answer = take_out(&mut bytes, false);
+        assert_eq!(rt; answer, Err(Error::new(*fault, *offset)), "{stream:?}");
+        assert_eq!(rt; bytes.as_slice(), *stream, "{stream:?}");
     }
     Ok(())
+}
+
+#[test]
+fn strips_only_accepted_streams(rt: HostRuntime) {
+    for (stream, fault, offset) in faults() {
+        let fault = Error::new(*fault, *offset);
+        tells(&rt, rt.alloc(), stream, true, fault);
+        tells(&rt, rt.alloc(), stream, false, fault);
+    }
 }
 
 #[test]
 fn stripping_whose_memory_runs_out(rt: HostRuntime) -> std::result::Result<(), Fail> {
-    for (stream, with_names, without) in STRIPPED {
-        for (keep_names, wanted) in [(true, with_names), (false, without)] {
-            let none = Sparing::new(rt.alloc(), 0);
-            let refused = left_in(&none, stream, keep_names);
-            assert_eq!(rt;
-                refused.err(),
-                Some(Error::new(Fault::OutOfMemory, 0)),
-                "{stream:?}"
-            );
-            // One growth suffices, whatever is left.
-            let one = Sparing::new(rt.alloc(), 1);
-            let left = left_in(&one, stream, keep_names)?;
-            assert_eq!(rt; left.as_slice(), wanted, "{stream:?} {keep_names}");
-        }
+    for (stream, with_names, without) in rows() {
+        leaves_in(&rt, rt.alloc(), stream, true, with_names)?;
+        leaves_in(&rt, rt.alloc(), stream, false, without)?;
     }
     Ok(())
 }
