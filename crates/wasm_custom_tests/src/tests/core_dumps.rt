@@ -122,10 +122,16 @@ fn items_that_own_lists(rt: HostRuntime) -> Result<(), Fail> {
     Ok(())
 }
 
+fn eof(offset: u64) -> Error {
+    Error::new(Fault::UnexpectedEof, offset)
+}
+
+fn left(offset: u64) -> Error {
+    Error::new(Fault::CustomTrailing, offset)
+}
+
 #[test]
-fn core_dumps_that_are_refused(rt: HostRuntime) {
-    let eof = |offset: u64| Error::new(Fault::UnexpectedEof, offset);
-    let left = |offset: u64| Error::new(Fault::CustomTrailing, offset);
+fn processes_that_are_refused(rt: HostRuntime) {
     let rows: [(&[u8], Error); 4] = [
         (b"\x01\x00", start(CoreStart::Name, 30)),
         (b"\x00\x01", eof(32)),
@@ -139,6 +145,10 @@ fn core_dumps_that_are_refused(rt: HostRuntime) {
         let refused = CoreDumpSection::new(window(bytes, 30)).err();
         same(&rt, refused, Some(wanted));
     }
+}
+
+#[test]
+fn modules_that_are_refused(rt: HostRuntime) {
     let rows: [(&[u8], Error); 5] = [
         (b"\x02\x00\x01a\x01", start(CoreStart::Module, 30)),
         (b"\x02\x00\x01a", eof(34)),
@@ -150,6 +160,10 @@ fn core_dumps_that_are_refused(rt: HostRuntime) {
         let refused = CoreDumpModulesSection::new(rt.alloc(), window(bytes, 30)).err();
         same(&rt, refused, Some(wanted));
     }
+}
+
+#[test]
+fn instances_that_are_refused(rt: HostRuntime) {
     let rows: [(&[u8], Error); 4] = [
         (b"\x02\x00\x02\x00\x00\x07", start(CoreStart::Instance, 35)),
         (b"\x01\x00\x02\x00\x00\x07", left(35)),
@@ -163,6 +177,10 @@ fn core_dumps_that_are_refused(rt: HostRuntime) {
         let refused = CoreDumpInstancesSection::new(rt.alloc(), window(bytes, 30)).err();
         same(&rt, refused, Some(wanted));
     }
+}
+
+#[test]
+fn stacks_that_are_refused(rt: HostRuntime) {
     let rows: [(&[u8], Error); 5] = [
         (b"\x02", start(CoreStart::StackName, 30)),
         (b"\x00\x00\x01\x03", start(CoreStart::Frame, 33)),
