@@ -4,6 +4,7 @@ mod limits;
 mod numbers;
 mod owned;
 mod passed;
+mod refusals;
 mod sections;
 mod skips;
 mod subsections;

@@ -358,9 +358,9 @@ impl<'a> CoreDumpModulesSection<'a> {
 }
 
 impl<'a, A: Allocator + Copy> CoreDumpModulesSection<'a, A> {
-    // As `new`, with any allocator.
+    /// The same as `new`, with memory from any allocator: `OutOfMemory`, at offset 0, where it refuses a growth.
     #[tactic(auto, unfolding(crate::specs::CoreDumps::modules_in))]
-    pub(crate) fn new_in(alloc: A, mut reader: BinaryReader<'a>) -> Result<Self>
+    pub fn new_in(alloc: A, mut reader: BinaryReader<'a>) -> Result<Self>
         ensures gives { GivesResultUnlessMemory modules_parts result (modules_in (place reader.entry)) }
     {
         let start = reader.original_position();
@@ -383,9 +383,9 @@ impl CoreDumpInstancesSection {
 }
 
 impl<A: Allocator + Copy> CoreDumpInstancesSection<A> {
-    // As `new`, with any allocator.
+    /// The same as `new`, with memory from any allocator: `OutOfMemory`, at offset 0, where it refuses a growth.
     #[tactic(auto, unfolding(crate::specs::CoreDumps::instances_in))]
-    pub(crate) fn new_in(alloc: A, mut reader: BinaryReader<'_>) -> Result<Self>
+    pub fn new_in(alloc: A, mut reader: BinaryReader<'_>) -> Result<Self>
         ensures gives { GivesResultUnlessMemory instances_parts result (instances_in (place reader.entry)) }
     {
         let instances = read_instances(alloc, &mut reader)?;
@@ -407,9 +407,9 @@ impl<'a> CoreDumpStackSection<'a> {
 }
 
 impl<'a, A: Allocator + Copy> CoreDumpStackSection<'a, A> {
-    // As `new`, with any allocator.
+    /// The same as `new`, with memory from any allocator: `OutOfMemory`, at offset 0, where it refuses a growth.
     #[tactic(auto, unfolding(crate::specs::CoreDumps::stack_in))]
-    pub(crate) fn new_in(alloc: A, mut reader: BinaryReader<'a>) -> Result<Self>
+    pub fn new_in(alloc: A, mut reader: BinaryReader<'a>) -> Result<Self>
         ensures gives { GivesResultUnlessMemory stack_parts result (stack_in (place reader.entry)) }
     {
         let start = reader.original_position();

@@ -191,28 +191,26 @@ fn read_imports<'a, A: Allocator>(
     read_list(alloc, reader)
 }
 
-// A subsection with this id, whose lists grow by any allocator.
-#[tactic(auto, unfolding(crate::specs::Dylink::dylink_subsection_in))]
-pub(crate) fn read_subsection<'a, A: Allocator>(
-    alloc: A,
-    id: u8,
-    mut reader: BinaryReader<'a>,
-) -> Result<Dylink0Subsection<'a, A>>
-    ensures gives { GivesResultUnlessMemory dylink_parts result
-        (dylink_subsection_in id reader.entry) }
-{
-    match id {
-        1 => Ok(Dylink0Subsection::MemInfo(reader.read()?)),
-        2 => Ok(Dylink0Subsection::Needed(read_texts(alloc, &mut reader)?)),
-        3 => Ok(Dylink0Subsection::ExportInfo(read_exports(alloc, &mut reader)?)),
-        4 => Ok(Dylink0Subsection::ImportInfo(read_imports(alloc, &mut reader)?)),
-        5 => Ok(Dylink0Subsection::RuntimePath(read_texts(alloc, &mut reader)?)),
-        6 => Ok(Dylink0Subsection::TargetArch(reader.read_unlimited_string()?)),
-        _ => Ok(Dylink0Subsection::Unknown {
-            ty: id,
-            contents: reader.remaining_buffer(),
-            range: reader.range(),
-        }),
+impl<'a, A: Allocator> Dylink0Subsection<'a, A> {
+    /// The same as `from_reader`, with memory from any allocator: `OutOfMemory`, at offset 0, where it refuses a growth.
+    #[tactic(auto, unfolding(crate::specs::Dylink::dylink_subsection_in))]
+    pub fn from_reader_in(alloc: A, id: u8, mut reader: BinaryReader<'a>) -> Result<Self>
+        ensures gives { GivesResultUnlessMemory dylink_parts result
+            (dylink_subsection_in id reader.entry) }
+    {
+        match id {
+            1 => Ok(Dylink0Subsection::MemInfo(reader.read()?)),
+            2 => Ok(Dylink0Subsection::Needed(read_texts(alloc, &mut reader)?)),
+            3 => Ok(Dylink0Subsection::ExportInfo(read_exports(alloc, &mut reader)?)),
+            4 => Ok(Dylink0Subsection::ImportInfo(read_imports(alloc, &mut reader)?)),
+            5 => Ok(Dylink0Subsection::RuntimePath(read_texts(alloc, &mut reader)?)),
+            6 => Ok(Dylink0Subsection::TargetArch(reader.read_unlimited_string()?)),
+            _ => Ok(Dylink0Subsection::Unknown {
+                ty: id,
+                contents: reader.remaining_buffer(),
+                range: reader.range(),
+            }),
+        }
     }
 }
 
@@ -223,6 +221,6 @@ impl<'a> Subsection<'a> for Dylink0Subsection<'a> {
     type Memory = SomeMemory;
 
     fn from_reader(alloc: Global, id: u8, reader: BinaryReader<'a>) -> Result<Self> {
-        read_subsection(alloc, id, reader)
+        Dylink0Subsection::from_reader_in(alloc, id, reader)
     }
 }

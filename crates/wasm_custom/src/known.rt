@@ -200,8 +200,9 @@ impl<'a> CustomSectionReader<'a> {
         self.as_known_in(alloc, alloc)
     }
 
-    // As `as_known`, with any allocator for lists that are owned.
-    pub(crate) fn as_known_in<A: Allocator + Copy>(
+    /// The same as `as_known`, with the memory of core dumps from any allocator: `OutOfMemory`, at offset 0, where it refuses a
+    /// growth. What a section of subsections reads later takes its memory from `kept`.
+    pub fn as_known_in<A: Allocator + Copy>(
         &self,
         kept: Global,
         alloc: A,

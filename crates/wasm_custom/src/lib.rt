@@ -13,8 +13,6 @@ mod linking;
 mod names;
 mod producers;
 mod relocations;
-#[cfg(test)]
-mod tests;
 
 pub use branch_hints::{BranchHint, BranchHintFunction, BranchHintSectionReader};
 pub use core_dumps::{

@@ -3,5 +3,5 @@ use Rattle.std.specs.Prelude.{ℕ, ◌-◌, vec_len}
 use Rattle.wasm_feed.specs.declared.sink.BoundedSink.{BoundedSink}
 
 -- how many bytes a sink of bounded size still has room for
-abbrev pub room_left : BoundedSink → ℕ
+abbrev pub room_left : {A : Type 0} → BoundedSink A → ℕ
 room_left sink = sink.size - vec_len sink.bytes

@@ -160,7 +160,7 @@ impl<A: Allocator> Feeder<A> {
     ghost use Rattle.wasm_feed.specs.Step.{Steps};
 
     /// The same as `new`, with memory from any allocator.
-    pub(crate) fn new_in(alloc: A, offset: u64, features: WasmFeatures) -> Feeder<A>
+    pub fn new_in(alloc: A, offset: u64, features: WasmFeatures) -> Feeder<A>
         ensures { result ≡ new_feed offset (feature_bits features) }
     {
         let mut parser = Parser::new(offset);

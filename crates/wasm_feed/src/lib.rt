@@ -15,15 +15,13 @@ mod pieces;
 mod sink;
 mod source;
 mod stripping;
-#[cfg(test)]
-mod tests;
 
 pub use events::{Event, EventKind};
 pub use feeder::{Cursor, Feeder, Opened, Step};
 pub use line::Line;
 pub use lines::{fault_line, payload_line};
-pub use listing::{Ended, ListError, Turn, list};
-pub use pieces::{fits_pieces, read_pieces};
+pub use listing::{Ended, ListError, Turn, list, list_in};
+pub use pieces::{fits_pieces, read_pieces, read_pieces_in};
 pub use sink::{BoundedSink, Sink, WriteSink, write_all};
 pub use source::{Failed, ReadSource, SliceSource, Source};
-pub use stripping::{strip, strip_in_place};
+pub use stripping::{strip, strip_in, strip_in_place};

@@ -112,8 +112,8 @@ pub(crate) fn read_more<A: Allocator, R: Source>(
     }
 }
 
-// The same as `list`, with memory from any allocator.
-pub(crate) fn list_in<A: Allocator + Copy, R: Source, W: Sink>(
+/// The same as `list`, with memory from any allocator: `Memory` where it refuses a growth.
+pub fn list_in<A: Allocator + Copy, R: Source, W: Sink>(
     alloc: A,
     input: &mut R,
     output: &mut W,

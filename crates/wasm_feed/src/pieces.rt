@@ -47,8 +47,8 @@ fn read_held<A: Allocator + Copy>(
     }
 }
 
-// The same as `read_pieces`, with memory from any allocator.
-pub(crate) fn read_pieces_in<A: Allocator + Copy>(
+/// The same as `read_pieces`, with memory from any allocator: `OutOfMemory`, at offset 0, where it refuses a growth.
+pub fn read_pieces_in<A: Allocator + Copy>(
     alloc: A,
     offset: u64,
     pieces: &[&[u8]],

@@ -52,8 +52,8 @@ pub(crate) fn room<A: Allocator>(alloc: A, size: usize) -> Result<Vec<u8, A>, Al
 
 /// A sink that keeps up to `size` bytes in memory, and fails only when it is full.
 #[derive(Drop)]
-pub struct BoundedSink {
-    bytes: Vec<u8>,
+pub struct BoundedSink<A: Allocator = Global> {
+    bytes: Vec<u8, A>,
     size: usize,
     failed: bool,
     ghost room: { size ≤ vec_capacity bytes },
@@ -63,6 +63,17 @@ pub struct BoundedSink {
 impl BoundedSink {
     /// A sink with room for so many bytes.
     pub fn new(alloc: Global, size: usize) -> Result<Self, AllocError>
+        ensures bytes { IfOk result (λ s. s.bytes.items ≡ []) }
+        ensures size { IfOk result (λ s. s.size ≡ size) }
+        ensures failed { IfOk result (λ s. s.failed ≡ false) }
+    {
+        BoundedSink::new_in(alloc, size)
+    }
+}
+
+impl<A: Allocator> BoundedSink<A> {
+    /// The same as `new`, with memory from any allocator.
+    pub fn new_in(alloc: A, size: usize) -> Result<Self, AllocError>
         ensures bytes { IfOk result (λ s. s.bytes.items ≡ []) }
         ensures size { IfOk result (λ s. s.size ≡ size) }
         ensures failed { IfOk result (λ s. s.failed ≡ false) }
@@ -82,7 +93,7 @@ impl BoundedSink {
     }
 }
 
-impl Sink for BoundedSink {
+impl<A: Allocator> Sink for BoundedSink<A> {
     ghost use Rattle.wasm_feed.specs.Devices.{room_left};
 
     ghost taken = { λ s. Some s.bytes.items };

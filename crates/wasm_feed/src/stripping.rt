@@ -157,8 +157,9 @@ pub fn strip_in_place<A: Allocator>(bytes: &mut Vec<u8, A>, keep_names: bool) ->
     move_left(bytes, keep_names)
 }
 
-// The same as `strip`, with memory from any allocator.
-pub(crate) fn strip_in<A: Allocator>(alloc: A, bytes: &[u8], keep_names: bool) -> Result<Vec<u8, A>>
+/// The same as `strip`, with memory from any allocator: of an accepted stream `OutOfMemory`, at offset 0, where it refuses the
+/// one growth.
+pub fn strip_in<A: Allocator>(alloc: A, bytes: &[u8], keep_names: bool) -> Result<Vec<u8, A>>
     ensures { Strips keep_names bytes.now result }
 {
     // A slice is shorter than 2^64 bytes, which the functions below want to know.

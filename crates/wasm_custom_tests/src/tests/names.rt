@@ -1,0 +1,196 @@
+// Names on worked bytes.
+ghost use Rattle.std.specs.Prelude.{◌+◌, ◌<◌, ◌^◌, length};
+
+use super::{same, window};
+use std::ops::Range;
+use std::process::Abort;
+use std::test::Fail;
+use wasm_base::{Error, Fault, NumberKind, Result};
+use wasm_custom::{IndirectNameMap, Name, NameMap, NameSectionReader};
+
+fn map<'a>(bytes: &'a [u8], offset: u64) -> Result<NameMap<'a>>
+    requires { offset + length bytes.now < 2 ^ 64 }
+{
+    NameMap::new(window(bytes, offset))
+}
+
+// The next name of a map.
+fn next_name<'a>(names: &mut NameMap<'a>) -> Option<Result<(u32, &'a str)>> {
+    match names.next()? {
+        Ok(name) => Some(Ok((name.index, name.name))),
+        Err(error) => Some(Err(error)),
+    }
+}
+
+// The next index of a map, and the names of what it has.
+fn next_names<'a>(names: &mut IndirectNameMap<'a>) -> Option<Result<(u32, NameMap<'a>)>> {
+    match names.next()? {
+        Ok(naming) => Some(Ok((naming.index, naming.names))),
+        Err(error) => Some(Err(error)),
+    }
+}
+
+// The name of the module and its range, if they come next.
+fn module<'a>(names: &mut NameSectionReader<'a>) -> Option<(&'a str, Range<u64>)> {
+    match names.next()? {
+        Ok(Name::Module { name, name_range }) => Some((name, name_range)),
+        _other => None,
+    }
+}
+
+// The names of functions, if they come next.
+fn functions<'a>(names: &mut NameSectionReader<'a>) -> Option<NameMap<'a>> {
+    match names.next()? {
+        Ok(Name::Function(functions)) => Some(functions),
+        _other => None,
+    }
+}
+
+// The names of locals, if they come next.
+fn locals<'a>(names: &mut NameSectionReader<'a>) -> Option<IndirectNameMap<'a>> {
+    match names.next()? {
+        Ok(Name::Local(locals)) => Some(locals),
+        _other => None,
+    }
+}
+
+// The names of types, if they come next.
+fn types<'a>(names: &mut NameSectionReader<'a>) -> Option<NameMap<'a>> {
+    match names.next()? {
+        Ok(Name::Types(types)) => Some(types),
+        _other => None,
+    }
+}
+
+// The id, the bytes and the range of an unknown subsection, if it comes next.
+fn unknown<'a>(names: &mut NameSectionReader<'a>) -> Option<(u8, &'a [u8], Range<u64>)> {
+    match names.next()? {
+        Ok(
+            Name::Unknown {
+                ty,
+                contents,
+                range,
+            },
+        ) => Some((ty, contents, range)),
+        _other => None,
+    }
+}
+
+// The fault that comes next.
+fn refusal(names: &mut NameSectionReader<'_>) -> Option<Error> {
+    names.next()?.err()
+}
+
+// That nothing comes next.
+fn is_over(names: &mut NameSectionReader<'_>) -> bool {
+    names.next().is_none()
+}
+
+// The map gives these names and faults, and nothing after them.
+fn gives_names(rt: &impl Abort, mut names: NameMap<'_>, wanted: &[Result<(u32, &str)>]) {
+    for one in wanted {
+        let given = next_name(&mut names);
+        assert!(rt; given == Some(*one), "{given:?} is given for {one:?}");
+    }
+    for _ in 0..4 {
+        assert!(rt; next_name(&mut names).is_none());
+    }
+}
+
+#[test]
+fn names_by_index(rt: HostRuntime) -> std::result::Result<(), Fail> {
+    let order = |offset: u64| Err(Error::new(Fault::NamesOrder, offset));
+    let bytes = &[3, 5, 1, 0x61, 3, 1, 0x62, 4, 1, 0x63];
+    gives_names(&rt, map(bytes, 0)?, &[Ok((5, "a")), order(4), order(7)]);
+    let bytes = &[4, 0x80, 1, 1, 0x61, 0x80, 1, 0, 0x81, 1, 0, 3, 0, 9];
+    let left = Err(Error::new(Fault::SizeMismatch, 1013));
+    let wanted = &[
+        Ok((128, "a")),
+        order(1005),
+        Ok((129, "")),
+        order(1011),
+        left,
+    ];
+    gives_names(&rt, map(bytes, 1000)?, wanted);
+    let bytes = &[3, 0, 0, 1, 2, 0xc3, 0x28, 2, 0];
+    let text = Err(Error::new(Fault::MalformedUtf8, 76));
+    gives_names(&rt, map(bytes, 70)?, &[Ok((0, "")), text]);
+    gives_names(&rt, map(&[0x80, 0], 70)?, &[]);
+    let most = &[0xff, 0xff, 0xff, 0xff, 0x0f];
+    gives_names(
+        &rt,
+        map(most, 0)?,
+        &[Err(Error::new(Fault::UnexpectedEof, 5))],
+    );
+    let refused = map(&[0xff, 0xff, 0xff, 0xff, 0x1f], 7).err();
+    let large = Error::new(Fault::NumberTooLarge(NumberKind::VarU32), 11);
+    same(&rt, refused, Some(large));
+    Ok(())
+}
+
+#[test]
+fn names_of_what_an_index_has(rt: HostRuntime) -> std::result::Result<(), Fail> {
+    let mut names = IndirectNameMap::new(window(&[2, 1, 1, 0, 1, 0x61, 0, 0], 0))?;
+    let (index, first) = next_names(&mut names).ok_or("none")??;
+    same(&rt, index, 1);
+    gives_names(&rt, first.clone()?, &[Ok((0, "a"))]);
+    let refused = next_names(&mut names).ok_or("none")?.err();
+    same(&rt, refused, Some(Error::new(Fault::IndirectOrder, 6)));
+    assert!(rt; next_names(&mut names).is_none());
+    let bytes = &[
+        2, 0x80, 1, 2, 7, 1, 0xff, 7, 0, 0x82, 1, 1, 0, 0xa1, 0x8d, 6,
+    ];
+    let mut names = IndirectNameMap::new(window(bytes, 500))?;
+    let (index, first) = next_names(&mut names).ok_or("none")??;
+    same(&rt, index, 128);
+    let text = Err(Error::new(Fault::MalformedUtf8, 506));
+    gives_names(&rt, first, &[text]);
+    let long = next_names(&mut names).ok_or("none")?.err();
+    same(&rt, long, Some(Error::new(Fault::StringSize, 515)));
+    for _ in 0..4 {
+        assert!(rt; next_names(&mut names).is_none());
+    }
+    Ok(())
+}
+
+#[test]
+fn sections_of_names(rt: HostRuntime) -> std::result::Result<(), Fail> {
+    let bytes = &[0, 2, 1, 0x61, 1, 4, 1, 0, 1, 0x66, 0, 1, 0, 14, 0];
+    let mut names = NameSectionReader::new(rt.alloc(), window(bytes, 0));
+    same(&rt, module(&mut names), Some(("a", 2..4)));
+    let named = functions(&mut names).ok_or("no functions")?;
+    gives_names(&rt, named, &[Ok((0, "f"))]);
+    let order = Error::new(Fault::NameSectionOrder, 10);
+    same(&rt, refusal(&mut names), Some(order));
+    let nothing = Some((14, b"".as_slice(), 15..15));
+    same(&rt, unknown(&mut names), nothing);
+    for _ in 0..4 {
+        assert!(rt; is_over(&mut names));
+    }
+    Ok(())
+}
+
+#[test]
+fn subsections_of_names_with_faults(rt: HostRuntime) -> std::result::Result<(), Fail> {
+    let bytes = &[1, 0, 2, 1, 0, 0x8d, 4, 1, 0, 3, 0x82, 0, 0, 5];
+    let mut names = NameSectionReader::new(rt.alloc(), window(bytes, 300));
+    let short = Error::new(Fault::UnexpectedEof, 302);
+    same(&rt, refusal(&mut names), Some(short));
+    let mut named = locals(&mut names).ok_or("no locals")?;
+    assert!(rt; next_names(&mut named).is_none());
+    let id = Error::new(Fault::InvalidU7, 305);
+    same(&rt, refusal(&mut names), Some(id));
+    gives_names(&rt, types(&mut names).ok_or("no types")?, &[]);
+    let order = Error::new(Fault::NameSectionOrder, 309);
+    same(&rt, refusal(&mut names), Some(order));
+    Ok(())
+}
+
+#[test]
+fn nothing_is_after_the_name_of_a_module(rt: HostRuntime) {
+    let trailing = &[0, 3, 1, 0x61, 0xff];
+    let mut names = NameSectionReader::new(rt.alloc(), window(trailing, 0));
+    let left = Error::new(Fault::NameTrailing, 4);
+    same(&rt, refusal(&mut names), Some(left));
+    assert!(rt; is_over(&mut names));
+}

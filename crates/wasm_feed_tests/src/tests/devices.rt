@@ -1,0 +1,293 @@
+// A source and a sink that fail or go short at a chosen call.
+ghost use Rattle.std.specs.Prelude.{◌≡◌, false};
+
+use super::ends;
+use std::io::{self, Write};
+use std::test::Fail;
+use wasm_feed::{
+    BoundedSink, Ended, Failed, ListError, ReadSource, Sink, SliceSource, Source, WriteSink,
+};
+
+/// A source of the bytes of a slice, a few at a time, that fails at one call.
+#[derive(Drop)]
+pub(crate) struct Failing<'a> {
+    rest: &'a [u8],
+    step: usize,
+    calls_left: usize,
+    failed: bool,
+}
+
+impl<'a> Failing<'a> {
+    /// Gives `step` bytes a call, and fails after so many calls.
+    pub(crate) fn after(bytes: &'a [u8], step: usize, calls: usize) -> Self
+        ensures { result.failed ≡ false }
+    {
+        Failing {
+            rest: bytes,
+            step,
+            calls_left: calls,
+            failed: false,
+        }
+    }
+}
+
+impl Source for Failing<'_> {
+    ghost use Rattle.std.specs.Prelude.{Some};
+
+    ghost left = { λ s. Some s.rest.now };
+
+    ghost has_failed = { λ s. s.failed };
+
+    fn read(&mut self, buf: &mut [u8]) -> Result<usize, Failed> {
+        if self.calls_left == 0 {
+            self.failed = true;
+            return Err(Failed);
+        }
+        self.calls_left -= 1;
+        let count = buf.len().min(self.rest.len()).min(self.step.max(1));
+        buf[..count].copy_from_slice(&self.rest[..count]);
+        self.rest = &self.rest[count..];
+        Ok(count)
+    }
+
+    fn failed(&self) -> bool {
+        self.failed
+    }
+}
+
+const MODULE: &[u8] = b"\0asm\x01\0\0\0\0\x02\x01a";
+
+/// A module with one body.
+const BODY: &[u8] = b"\0asm\x01\0\0\0\x03\x02\x01\0\x0a\x04\x01\x02\0\x0b";
+
+const LISTING: &[u8] = b"version 0 8 1 module\ncustom 10 12 12\nend 12\n";
+
+/// A sink that takes one byte a call, and fails at one call.
+#[derive(Drop)]
+struct Slow {
+    inner: BoundedSink,
+    calls_left: usize,
+    failed: bool,
+}
+
+impl Sink for Slow {
+    ghost use Rattle.std.specs.Prelude.{Some};
+
+    ghost taken = { λ s. Some s.inner.bytes.items };
+
+    ghost has_failed = { λ s. s.failed };
+
+    fn write(&mut self, buf: &[u8]) -> Result<usize, Failed> {
+        let Some(calls) = self.calls_left.checked_sub(1) else {
+            self.failed = true;
+            return Err(Failed);
+        };
+        self.calls_left = calls;
+        let first = &buf[..buf.len().min(1)];
+        match self.inner.write(first) {
+            Ok(count) => Ok(count),
+            Err(_) => {
+                self.failed = true;
+                Err(Failed)
+            }
+        }
+    }
+
+    fn failed(&self) -> bool {
+        self.failed
+    }
+}
+
+#[test]
+fn a_source_that_fails_leaves_the_lines_of_what_it_gave(rt: HostRuntime) -> Result<(), Fail> {
+    // How many bytes are read at once, and the lines that are written where the next reads fail, one after the other.
+    let rows: [(usize, [&[u8]; 4]); 3] = [
+        (3, [b"", b"", b"", b"version 0 8 1 module\n"]),
+        (
+            10,
+            [
+                b"",
+                b"version 0 8 1 module\n",
+                b"version 0 8 1 module\nsection 3 10 12 1\ncode 14 18 1 3\nbody 16 18\n",
+                b"version 0 8 1 module\nsection 3 10 12 1\ncode 14 18 1 3\nbody 16 18\nend 18\n",
+            ],
+        ),
+        (
+            18,
+            [
+                b"",
+                b"version 0 8 1 module\nsection 3 10 12 1\ncode 14 18 1 3\nbody 16 18\n",
+                b"version 0 8 1 module\nsection 3 10 12 1\ncode 14 18 1 3\nbody 16 18\nend 18\n",
+                b"version 0 8 1 module\nsection 3 10 12 1\ncode 14 18 1 3\nbody 16 18\nend 18\n",
+            ],
+        ),
+    ];
+    for (piece, written) in rows {
+        for (calls, lines) in written.iter().enumerate() {
+            let mut input = Failing::after(BODY, piece, calls);
+            let mut output = BoundedSink::new(rt.alloc(), 100)?;
+            let ended = ends(rt.alloc(), &mut input, &mut output, piece);
+            let has_failed = !lines.ends_with(b"end 18\n");
+            assert_eq!(rt;
+                ended == Err(ListError::Input),
+                has_failed,
+                "{piece} {calls}"
+            );
+            assert!(rt; input.failed() == has_failed && !output.failed());
+            assert_eq!(rt; output.written(), *lines);
+        }
+    }
+    Ok(())
+}
+
+#[test]
+fn a_source_that_goes_short_changes_nothing(rt: HostRuntime) -> Result<(), Fail> {
+    for step in 1..14 {
+        let mut input = Failing::after(MODULE, step, 20);
+        let mut output = BoundedSink::new(rt.alloc(), 64)?;
+        assert_eq!(rt;
+            ends(rt.alloc(), &mut input, &mut output, 5),
+            Ok(Ended::End)
+        );
+        assert_eq!(rt; output.written(), LISTING);
+        assert!(rt; !input.failed() && !output.failed());
+    }
+    Ok(())
+}
+
+#[test]
+fn a_sink_that_goes_short_or_fails(rt: HostRuntime) -> Result<(), Fail> {
+    for calls in 0..LISTING.len() + 2 {
+        let mut input = SliceSource::new(MODULE);
+        let mut output = Slow {
+            inner: BoundedSink::new(rt.alloc(), 64)?,
+            calls_left: calls,
+            failed: false,
+        };
+        let ended = ends(rt.alloc(), &mut input, &mut output, 5);
+        if calls < LISTING.len() {
+            assert!(rt; ended == Err(ListError::Output), "{calls}");
+            assert_eq!(rt; output.inner.written(), &LISTING[..calls]);
+            assert!(rt; output.failed() && !input.failed());
+        } else {
+            assert!(rt; ended == Ok(Ended::End), "{calls}");
+            assert_eq!(rt; output.inner.written(), LISTING);
+            assert!(rt; !output.failed());
+        }
+    }
+    Ok(())
+}
+
+#[test]
+fn a_reader_and_a_writer_of_the_standard_library(rt: HostRuntime) -> Result<(), Fail> {
+    let mut input = ReadSource::new(MODULE);
+    let mut written = Vec::<u8>::new(rt.alloc());
+    let mut output = WriteSink::new(&mut written);
+    assert_eq!(rt;
+        ends(rt.alloc(), &mut input, &mut output, 65_536),
+        Ok(Ended::End)
+    );
+    assert!(rt; !output.failed() && !input.failed());
+    assert_eq!(rt; written.as_slice(), LISTING);
+    Ok(())
+}
+
+/// A writer that takes nothing.
+#[derive(Drop)]
+struct Full;
+
+impl Write for Full {
+    fn write(&mut self, _buf: &[u8]) -> io::Result<usize> {
+        Ok(0)
+    }
+
+    fn flush(&mut self) -> io::Result<()> {
+        Ok(())
+    }
+}
+
+#[test]
+fn a_writer_that_takes_nothing(rt: HostRuntime) -> Result<(), Fail> {
+    let mut input = SliceSource::new(MODULE);
+    let mut output = WriteSink::new(Full);
+    assert_eq!(rt;
+        ends(rt.alloc(), &mut input, &mut output, 65_536),
+        Err(ListError::Output)
+    );
+    assert!(rt; output.failed());
+    assert_eq!(rt; output.write(b""), Ok(0));
+    Ok(())
+}
+
+/// A source of the bytes of a slice that keeps the largest room that it was given.
+#[derive(Drop)]
+struct Measuring<'a> {
+    inner: SliceSource<'a>,
+    largest: usize,
+}
+
+impl Source for Measuring<'_> {
+    ghost use Rattle.std.specs.Prelude.{Some};
+
+    ghost left = { λ s. Some s.inner.rest.now };
+
+    ghost has_failed = { λ _. false };
+
+    fn read(&mut self, buf: &mut [u8]) -> Result<usize, Failed> {
+        self.largest = self.largest.max(buf.len());
+        self.inner.read(buf)
+    }
+
+    fn failed(&self) -> bool {
+        self.inner.failed()
+    }
+}
+
+#[test]
+fn at_most_a_piece_is_read_at_once(rt: HostRuntime) -> Result<(), Fail> {
+    for piece in [1, 3, 65_536] {
+        let mut input = Measuring {
+            inner: SliceSource::new(MODULE),
+            largest: 0,
+        };
+        let mut output = BoundedSink::new(rt.alloc(), 64)?;
+        assert_eq!(rt;
+            ends(rt.alloc(), &mut input, &mut output, piece),
+            Ok(Ended::End)
+        );
+        assert_eq!(rt; output.written(), LISTING);
+        assert!(rt; 0 < input.largest && input.largest <= piece, "{piece}");
+    }
+    Ok(())
+}
+
+#[test]
+fn a_sink_of_each_size(rt: HostRuntime) -> Result<(), Fail> {
+    for size in 0..LISTING.len() + 2 {
+        let mut input = SliceSource::new(MODULE);
+        let mut output = BoundedSink::new(rt.alloc(), size)?;
+        let ended = ends(rt.alloc(), &mut input, &mut output, 4);
+        let is_full = size < LISTING.len();
+        assert_eq!(rt; ended == Err(ListError::Output), is_full, "{size}");
+        assert_eq!(rt; ended == Ok(Ended::End), !is_full, "{size}");
+        assert_eq!(rt; output.failed(), is_full, "{size}");
+        assert_eq!(rt; output.written(), &LISTING[..size.min(LISTING.len())]);
+    }
+    Ok(())
+}
+
+#[test]
+fn a_sink_takes_what_fits(rt: HostRuntime) -> Result<(), Fail> {
+    let mut sink = BoundedSink::new(rt.alloc(), 5)?;
+    assert_eq!(rt; sink.write(b"abc"), Ok(3));
+    assert_eq!(rt; sink.write(b""), Ok(0));
+    assert_eq!(rt; sink.write(b"def"), Ok(2));
+    assert_eq!(rt; sink.write(b""), Ok(0));
+    assert!(rt; !sink.failed());
+    assert_eq!(rt; sink.write(b"f"), Err(Failed));
+    assert!(rt; sink.failed());
+    assert_eq!(rt; sink.write(b""), Ok(0));
+    assert!(rt; sink.failed());
+    assert_eq!(rt; sink.written(), b"abcde".as_slice());
+    Ok(())
+}
