@@ -51,12 +51,14 @@ pub(crate) fn run(rt: &HostRuntime) -> Result<(), Failed> {
     let mut bytes = Vec::new(rt.alloc());
     rt.stdin().read_to_end(&mut bytes)?;
     let mut out = Tree::new(rt.alloc(), WriteSink::new(rt.stdout()));
-    show_cases(rt.alloc(), &bytes, &mut out)?;
+    let shown = show_cases(rt.alloc(), &bytes, &mut out);
     out.write_out();
-    if out.has_stopped() {
+    let has_stopped = out.has_stopped();
+    drop(out.into_output());
+    if has_stopped {
         return Err(Failed::System);
     }
-    Ok(())
+    shown
 }
 
 fn show_cases<W: Sink>(alloc: Global, bytes: &[u8], out: &mut Tree<W>) -> Result<(), Failed> {
