@@ -1,5 +1,6 @@
 // Lines of text, some of them under others.
 ghost use Rattle.std.specs.Prelude.{◌≡◌, [], None, true, false, OnOk};
+ghost use Rattle.std.specs.Option.{is_some};
 ghost use Rattle.wasm_text.specs.Tree.{Adds, AddsFirst, IsOut, Puts, Pushes, starts};
 
 use std::alloc::Global;
@@ -68,7 +69,9 @@ impl<W: Sink> Tree<W> {
     }
 
     /// Whether the tree has stopped.
-    pub fn has_stopped(&self) -> bool {
+    pub fn has_stopped(&self) -> bool
+        ensures { result ≡ is_some self.now.why }
+    {
         self.why.is_some()
     }
 
