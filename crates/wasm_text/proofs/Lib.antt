@@ -1,2 +1,3 @@
 pub mod Dumping
+pub mod Lines
 pub mod Writing

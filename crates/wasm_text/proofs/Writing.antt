@@ -10,7 +10,7 @@ use Rattle.std.proofs.lemmas.List.Folds.{list_all-append, list_any-append}
 use Rattle.wasm_feed.specs.Lists.{output_failed}
 use Rattle.wasm_feed.specs.declared.listing.ListError.{ListError}
 use Rattle.wasm_feed.specs.declared.listing.ListError.TheVariants.{Output, Memory}
-use Rattle.wasm_text.specs.Tree.{Line, first, under, has_line_feed, is_line, text_of, first_of, IsOutlined, Writing, Origin, IsGoing, IsCutShort, IsWrittenAs, IsWritten, with_line, IsPushed, IsStuck, PutsAs, Puts}
+use Rattle.wasm_text.specs.Tree.{Line, first, under, has_line_feed, is_line, text_of, first_of, EndsLine, IsOutlined, Writing, Origin, IsGoing, IsCutShort, IsWrittenAs, IsWritten, with_line, IsPushed, IsStuck, PutsAs, Puts}
 
 -- ---- lines after lines
 
@@ -27,8 +27,8 @@ under_more : (text outline line : List ℕ) → has_line_feed line ≡ false →
 under_more text outline line one i = subst (IsOutlined (text ++ text_of (under line))) (append-nil outline) (outlined_more text outline (under line) (rw one refl) i)
 
 -- a line of the first level
-first_more : (text outline line : List ℕ) → IsOutlined text outline → IsOutlined (text ++ line) (outline ++ line)
-first_more text outline line i = outlined_more text outline (first line) refl i
+first_more : (text outline line : List ℕ) → EndsLine line → IsOutlined text outline → IsOutlined (text ++ line) (outline ++ line)
+first_more text outline line e i = subst (λ (x : List ℕ). IsOutlined (text ++ x) (outline ++ x)) (sym e.parts) (outlined_more text outline (first e.front) refl i)
 
 -- ---- bytes put after those that wait
 
@@ -57,11 +57,11 @@ short_still : (o : Origin) (w : Writing) (why : ListError) (b : Bool) → IsCutS
 short_still o w why b c = record { written = c.written; left = c.left; outlined = c.outlined; took = c.took; failed = c.failed; no_input = c.no_input }
 
 -- a line of the first level, of which nothing could be written
-first_short : (o : Origin) (w : Writing) (why : ListError) (line : List ℕ) → IsCutShort o why w → IsCutShort (with_line o line) why w
-first_short o w why line c = record {
+first_short : (o : Origin) (w : Writing) (why : ListError) (line : List ℕ) → EndsLine line → IsCutShort o why w → IsCutShort (with_line o line) why w
+first_short o w why line e c = record {
   written = c.written;
   left = c.left ++ line;
-  outlined = subst (λ (x : List ℕ). IsOutlined x (o.outline ++ line)) (append_assoc c.written c.left line) (first_more (c.written ++ c.left) o.outline line c.outlined);
+  outlined = subst (λ (x : List ℕ). IsOutlined x (o.outline ++ line)) (append_assoc c.written c.left line) (first_more (c.written ++ c.left) o.outline line e c.outlined);
   took = c.took;
   failed = c.failed;
   no_input = c.no_input;
@@ -108,12 +108,12 @@ module _ (o : Origin) (old new : Writing) (i : IsGoing o old) where
   }
 
   -- a line of the first level
-  first_grows : (line : List ℕ) → old.is_begun ≡ false → IsPushed line old new → IsGoing (with_line o line) new
-  first_grows line b p = record {
+  first_grows : (line : List ℕ) → EndsLine line → old.is_begun ≡ false → IsPushed line old new → IsGoing (with_line o line) new
+  first_grows line e b p = record {
     written = i.written ++ p.moved;
     text = i.text ++ line;
     part = [];
-    outlined = first_more i.text o.outline line i.outlined;
+    outlined = first_more i.text o.outline line e i.outlined;
     one_line = refl;
     parts = grown i.written old.waiting line p.moved new.waiting p.parts ∙ rw (p.begun, b) (ap (λ (x : List ℕ). x ++ line) (i.parts ∙ rw b (append-nil i.text)) ∙ sym (append-nil (i.text ++ line)));
     took = Appends-trans o.taken old.taken new.taken i.written p.moved i.took p.took;
@@ -193,8 +193,8 @@ module _ (o : Origin) (old new : Writing) where
   pub puts_part : (bytes : List ℕ) → old.is_begun ≡ true → has_line_feed bytes ≡ false → Puts bytes old new → IsWritten o old → IsWritten o new
   puts_part bytes b none p i = by_why o bytes old.why new.why refl refl p i (λ g h. part_grows o old new g bytes b none h) (λ why w c. c)
 
-  pub puts_first : (line : List ℕ) → old.is_begun ≡ false → Puts line old new → IsWritten o old → IsWritten (with_line o line) new
-  puts_first line b p i = by_why (with_line o line) line old.why new.why refl refl p i (λ g h. first_grows o old new g line b h) (λ why w c. first_short o w why line c)
+  pub puts_first : (line : List ℕ) → EndsLine line → old.is_begun ≡ false → Puts line old new → IsWritten o old → IsWritten (with_line o line) new
+  puts_first line e b p i = by_why (with_line o line) line old.why new.why refl refl p i (λ g h. first_grows o old new g line e b h) (λ why w c. first_short o w why line e c)
 
   pub puts_all : Puts [] old new → IsWritten o old → IsWritten o new
   puts_all p i = by_why o [] old.why new.why refl refl p i (λ g h. all_moves o old new g h) (λ why w c. c)

@@ -6,7 +6,7 @@ use Rattle.wasm_feed.specs.Lists.{output_failed}
 use Rattle.wasm_feed.specs.declared.listing.ListError.{ListError}
 use Rattle.wasm_feed.specs.declared.listing.ListError.TheVariants.{Input}
 
--- a line of the first level, with its line feed; or one that is under another, without its first two blanks and its line feed
+-- a line of the first level, without its line feed; or one that is under another, without its first two blanks and its line feed
 pub data Line : Type 0 where
   first : List ℕ → Line
   under : List ℕ → Line
@@ -20,13 +20,18 @@ is_line (first text) = true
 is_line (under text) = if has_line_feed text then false else true
 
 abbrev pub text_of : Line → List ℕ
-text_of (first text) = text
+text_of (first text) = text ++ codes "\n"
 text_of (under text) = codes "  " ++ (text ++ codes "\n")
 
 -- what it adds to the outline
 abbrev pub first_of : Line → List ℕ
-first_of (first text) = text
+first_of (first text) = text ++ codes "\n"
 first_of (under text) = []
+
+-- The text ends with a line feed.
+pub record EndsLine (text : List ℕ) : Type 0 where
+  pub front : List ℕ
+  pub parts : text ≡ front ++ codes "\n"
 
 -- The text is made of lines, and its outline is those of the first level: the others begin with two blanks.
 pub record IsOutlined (text outline : List ℕ) : Type 0 where

@@ -16,6 +16,7 @@ use wasm_feed::{
 use wasm_parser::{Parser, Payload, Result as ParserResult};
 
 // Writes the line of a payload and what it holds, if it is shown.
+#[tactic(auto, using(crate::proofs::Lines::line_ends))]
 fn show_chosen<W: Sink>(
     alloc: Global,
     only: &Only<'_>,
@@ -33,6 +34,7 @@ fn show_chosen<W: Sink>(
 }
 
 // Writes what a step answered, and says what is to be done next.
+#[tactic(auto, using(crate::proofs::Lines::line_ends))]
 fn show_answer<W: Sink>(
     alloc: Global,
     only: &Only<'_>,

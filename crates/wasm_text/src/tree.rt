@@ -1,7 +1,7 @@
 // Lines of text, some of them under others.
 ghost use Rattle.std.specs.Prelude.{◌≡◌, [], None, true, false, OnOk};
 ghost use Rattle.std.specs.Option.{is_some};
-ghost use Rattle.wasm_text.specs.Tree.{Adds, AddsFirst, IsOut, Puts, Pushes, starts};
+ghost use Rattle.wasm_text.specs.Tree.{Adds, AddsFirst, EndsLine, IsOut, Puts, Pushes, starts};
 
 use std::alloc::Global;
 use std::marker::Model;
@@ -145,8 +145,9 @@ impl<W: Sink> Tree<W> {
         }
     }
 
-    /// Writes a line of the first level, with its line feed.
+    /// Writes a line of the first level, which has its line feed.
     pub fn first(&mut self, line: &[u8])
+        requires { EndsLine line.now }
         ensures { AddsFirst line.now self.old self.new }
     {
         self.end();
