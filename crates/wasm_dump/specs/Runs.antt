@@ -4,18 +4,8 @@ use Rattle.wasm_feed.specs.Lists.{input_failed, output_failed}
 use Rattle.wasm_feed.specs.declared.listing.Ended.{Ended}
 use Rattle.wasm_feed.specs.declared.listing.ListError.{ListError}
 use Rattle.wasm_feed.specs.declared.listing.ListError.TheVariants.{Output}
-use Rattle.wasm_text.specs.Dump.{Read, Dumps}
+use Rattle.wasm_text.specs.Dump.{Device, Dumps}
 use Rattle.wasm_text.specs.declared.only.Only.{Only}
-
--- a sink before a call and after it: the bytes that it has taken, and whether it has failed
-pub record Written : Type 0 where
-  pub before : Option (List ℕ)
-  pub after : Option (List ℕ)
-  pub had_failed : Bool
-  pub has_failed : Bool
-
-abbrev pub sink_of : {W : Type 0} → (taken : W → Option (List ℕ)) (failed : W → Bool) (old new : W) → Written
-sink_of taken failed old new = record { before = taken old; after = taken new; had_failed = failed old; has_failed = failed new }
 
 -- What was written was handed on, or the output failed to; after a dump that was given up nothing is done.
 abbrev pub HandsOn : (how : Result Ended ListError) (had_failed has_failed handed_on : Bool) → Result Ended ListError → Type 0
@@ -23,8 +13,8 @@ HandsOn (Ok ended) had_failed has_failed handed_on result = ((result ≡ Ok ende
 HandsOn (Err why) had_failed has_failed handed_on result = (result ≡ Err why) × (has_failed ≡ had_failed)
 
 -- The input was dumped, and what was written handed on.
-pub record RunsDump (only : Only) (input : Read) (output : Written) (handed_on : Bool) (result : Result Ended ListError) : Type 0 where
+pub record RunsDump (only : Only) (input output : Device) (handed_on : Bool) (result : Result Ended ListError) : Type 0 where
   pub how : Result Ended ListError
-  pub dumps : Dumps only input.left input.rest output.before output.after how
+  pub dumps : Dumps only input.before input.after output.before output.after how
   pub source : input.has_failed ≡ input_failed how input.had_failed
   pub ends : HandsOn how (output_failed how output.had_failed) output.has_failed handed_on result

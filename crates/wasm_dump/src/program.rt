@@ -1,7 +1,7 @@
 // The program, over any devices.
-ghost use Rattle.wasm_text.specs.Dump.{read_of};
+ghost use Rattle.wasm_text.specs.Dump.{device_of};
 ghost use Rattle.std.specs.Io.KnownBytes.{Keeps};
-ghost use Rattle.wasm_dump.specs.Runs.{HandsOn, RunsDump, sink_of};
+ghost use Rattle.wasm_dump.specs.Runs.{HandsOn, RunsDump};
 
 use crate::command::{Command, command_after_name, sections_named};
 use std::alloc::Global;
@@ -101,8 +101,8 @@ pub fn dump_input<R: Source, W: Write>(
     input: &mut R,
     output: WriteSink<W>,
 ) -> (Result<Ended, ListError>, WriteSink<W>)
-    ensures { RunsDump only.now (read_of R.left R.has_failed input.old input.new)
-        (sink_of ⟦<WriteSink<W> as Sink>⟧.taken ⟦<WriteSink<W> as Sink>⟧.has_failed
+    ensures { RunsDump only.now (device_of R.left R.has_failed input.old input.new)
+        (device_of ⟦<WriteSink<W> as Sink>⟧.taken ⟦<WriteSink<W> as Sink>⟧.has_failed
         output result.1) result.1.handed_on result.0 }
 {
     let mut tree = Tree::new(alloc, output);

@@ -51,7 +51,7 @@ some_of o w s = record { text = s.text; left = []; outlined = rw (append-nil s.t
 
 -- a dump that was cut short, or whose input failed
 cut_off : (only : Only) (left rest : Option (List ℕ)) (had has : Bool) → has ≡ had → (taken : Option (List ℕ)) (failed : Bool) (outline : List ℕ) (why : ListError) (w : Writing) → IsBeginning (chosen_line only) left rest (Some []) (Some outline)
-    → IsCutShort (origin taken failed outline) why w → DumpsFrom only (record { left = left; rest = rest; had_failed = had; has_failed = has }) taken failed (Err why) w
+    → IsCutShort (origin taken failed outline) why w → DumpsFrom only (record { before = left; after = rest; had_failed = had; has_failed = has }) taken failed (Err why) w
 cut_off only left rest had has h taken failed outline Output w b c = record {
   dumps = record { outline = outline; lists = b; writes = record { text = c.written; left = c.left; outlined = c.outlined; wrote = c.took } };
   source = h;
@@ -105,17 +105,17 @@ module _ (only : Only) (left rest : Option (List ℕ)) (before : Writing) (f : F
 
   -- the tree has stopped
   pub stopped : (had has : Bool) → has ≡ had → (why : ListError) → new.why ≡ Some why → (taken : Option (List ℕ)) (failed : Bool) → IsWritten (origin taken failed []) before
-      → DumpsFrom only (record { left = left; rest = rest; had_failed = had; has_failed = has }) taken failed (Err why) new
+      → DumpsFrom only (record { before = left; after = rest; had_failed = had; has_failed = has }) taken failed (Err why) new
   stopped had has h why w taken failed i = cut_off only left rest had has h taken failed _ why new (begins next refl) (as_short _ new why w (written taken failed i))
 
   -- it has after all was to be written
   pub stopped_at_last : (had has : Bool) → has ≡ had → (last : Writing) (why : ListError) → Adds new last → last.why ≡ Some why → (taken : Option (List ℕ)) (failed : Bool) → IsWritten (origin taken failed []) before
-      → DumpsFrom only (record { left = left; rest = rest; had_failed = had; has_failed = has }) taken failed (Err why) last
+      → DumpsFrom only (record { before = left; after = rest; had_failed = had; has_failed = has }) taken failed (Err why) last
   stopped_at_last had has h last why a w taken failed i = cut_off only left rest had has h taken failed _ why last (begins next refl) (as_short _ last why w (a _ (written taken failed i)))
 
   -- all is written
   pub ended : (had has : Bool) → has ≡ had → (how : Ended) (last : Writing) → next ≡ turn.End how → Adds new last → IsOut last → last.why ≡ None → (taken : Option (List ℕ)) (failed : Bool) → IsWritten (origin taken failed []) before
-      → DumpsFrom only (record { left = left; rest = rest; had_failed = had; has_failed = has }) taken failed (Ok how) last
+      → DumpsFrom only (record { before = left; after = rest; had_failed = had; has_failed = has }) taken failed (Ok how) last
   ended had has h how last t a out going taken failed i =
       let all = a _ (written taken failed i) in
       record {
@@ -140,7 +140,7 @@ module _ (only : Only) (left rest : Option (List ℕ)) (before : Writing) (f : F
   all taken failed i = a _ (d.writing taken failed i)
 
   pub not_filled : (had mid has : Bool) → mid ≡ had → (rest' : Option (List ℕ)) (g : Feed) (e : ListError) → Refills rest rest' f g (Err e) → has ≡ input_failed {A = Unit {0}} (Err e) mid → (taken : Option (List ℕ)) (failed : Bool) → IsWritten (origin taken failed []) before
-      → DumpsFrom only (record { left = left; rest = rest'; had_failed = had; has_failed = has }) taken failed (Err e) last
+      → DumpsFrom only (record { before = left; after = rest'; had_failed = had; has_failed = has }) taken failed (Err e) last
   not_filled had mid has m rest' g Input r h taken failed i = record {
     dumps = record { outline = d.outline; lists = progress.not_filled (chosen_line only) left rest (Some []) (Some d.outline) f d.listing rest' g Input r; writes = whole (origin taken failed d.outline) last going out (all taken failed i) };
     source = h;
@@ -173,8 +173,8 @@ fresh taken failed w e = subst (IsWritten (origin taken failed [])) (sym e) (rec
 
 -- no memory to begin with
 pub no_room : (only : Only) (left : Option (List ℕ)) (had : Bool) (taken : Option (List ℕ)) (failed : Bool) (w : Writing) → w ≡ Tree.starts taken failed
-    → DumpsFrom only (record { left = left; rest = left; had_failed = had; has_failed = had }) taken failed (Err Memory) w
-no_room only left had taken failed w e = subst (DumpsFrom only (record { left = left; rest = left; had_failed = had; has_failed = had }) taken failed (Err Memory)) (sym e) (record {
+    → DumpsFrom only (record { before = left; after = left; had_failed = had; has_failed = had }) taken failed (Err Memory) w
+no_room only left had taken failed w e = subst (DumpsFrom only (record { before = left; after = left; had_failed = had; has_failed = had }) taken failed (Err Memory)) (sym e) (record {
   dumps = record {
     outline = [];
     lists = progress.no_memory (chosen_line only) left left (Some []) (Some []) (new_feed 0 all_features) [] (progress.begun (chosen_line only) left (Some [])) left [] (Consumes-nil left);

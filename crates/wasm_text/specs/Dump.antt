@@ -54,26 +54,26 @@ pub record ShowsStep (only : Only) (old new : Feed) (before after : Writing) (ne
 abbrev pub origin : (taken : Option (List ℕ)) (failed : Bool) (outline : List ℕ) → Origin
 origin taken failed outline = record { taken = taken; has_failed = failed; outline = outline }
 
--- a source before a call and after it: the bytes that it has left, and whether it has failed
-pub record Read : Type 0 where
-  pub left : Option (List ℕ)
-  pub rest : Option (List ℕ)
+-- what a call does to a device: the bytes that a source has left, or that a sink has taken, and whether it has failed
+pub record Device : Type 0 where
+  pub before : Option (List ℕ)
+  pub after : Option (List ℕ)
   pub had_failed : Bool
   pub has_failed : Bool
 
-abbrev pub read_of : {R : Type 0} → (left : R → Option (List ℕ)) (failed : R → Bool) (old new : R) → Read
-read_of left failed old new = record { left = left old; rest = left new; had_failed = failed old; has_failed = failed new }
+abbrev pub device_of : {D : Type 0} → (bytes : D → Option (List ℕ)) (failed : D → Bool) (old new : D) → Device
+device_of bytes failed old new = record { before = bytes old; after = bytes new; had_failed = failed old; has_failed = failed new }
 
 -- A dump by a writer over a sink that had taken this.
-pub record DumpsFrom (only : Only) (input : Read) (taken : Option (List ℕ)) (failed : Bool) (result : Result Ended ListError) (new : Writing) : Type 0 where
-  pub dumps : Dumps only input.left input.rest taken new.taken result
+pub record DumpsFrom (only : Only) (input : Device) (taken : Option (List ℕ)) (failed : Bool) (result : Result Ended ListError) (new : Writing) : Type 0 where
+  pub dumps : Dumps only input.before input.after taken new.taken result
   pub source : input.has_failed ≡ input_failed result input.had_failed
   pub sink : new.has_failed ≡ output_failed result failed
 
 -- The same by a writer whose outline is empty.
-abbrev pub DumpsInto : (only : Only) (input : Read) (old : Writing) (result : Result Ended ListError) (new : Writing) → Type 0
+abbrev pub DumpsInto : (only : Only) (input : Device) (old : Writing) (result : Result Ended ListError) (new : Writing) → Type 0
 DumpsInto only input old result new = (taken : Option (List ℕ)) (failed : Bool) → IsWritten (origin taken failed []) old → DumpsFrom only input taken failed result new
 
 -- The same by a tree that has written nothing yet.
-abbrev pub DumpsByTree : (only : Only) (input : Read) (old : Writing) (result : Result Ended ListError) (new : Writing) → Type 0
+abbrev pub DumpsByTree : (only : Only) (input : Device) (old : Writing) (result : Result Ended ListError) (new : Writing) → Type 0
 DumpsByTree only input old result new = (taken : Option (List ℕ)) (failed : Bool) → old ≡ starts taken failed → DumpsFrom only input taken failed result new

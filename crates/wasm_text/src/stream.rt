@@ -3,7 +3,7 @@ ghost use Rattle.std.specs.Prelude.{◌≡◌, ◌≤◌, ◌<◌, length, Some,
 ghost use Rattle.wasm_parser.specs.ParseAnswer.{report_of};
 ghost use Rattle.wasm_feed.specs.Turns.{text_after, turn_after};
 ghost use Rattle.wasm_text.specs.Chosen.{chosen_line};
-ghost use Rattle.wasm_text.specs.Dump.{DumpsByTree, DumpsInto, ShowsStep, read_of};
+ghost use Rattle.wasm_text.specs.Dump.{DumpsByTree, DumpsInto, ShowsStep, device_of};
 ghost use Rattle.wasm_text.specs.Tree.{AddsFirst};
 
 use crate::only::{Only, chooses};
@@ -96,7 +96,7 @@ fn dump_into<R: Source, W: Sink>(
     room: &mut [u8],
 ) -> Result<Ended, ListError>
     requires { 0 < length room.old }
-    ensures { DumpsInto only.now (read_of R.left R.has_failed input.old input.new)
+    ensures { DumpsInto only.now (device_of R.left R.has_failed input.old input.new)
         out.old result out.new }
 {
     let mut line = Line::new();
@@ -136,7 +136,7 @@ pub fn dump<R: Source, W: Sink>(
     piece: usize,
 ) -> Result<Ended, ListError>
     requires { 1 ≤ piece }
-    ensures { DumpsByTree only.now (read_of R.left R.has_failed input.old input.new)
+    ensures { DumpsByTree only.now (device_of R.left R.has_failed input.old input.new)
         out.old result out.new }
 {
     let mut room = vec![in alloc; 0u8; piece]?;
