@@ -7,7 +7,8 @@ use wasm_parser::{Error, Fault};
 use wasm_text::{Only, Tree, dump};
 
 /// A module with an item in each of its sections, and names that don't ascend.
-const MODULE: &[u8] = b"\0asm\x01\0\0\0\x01\x05\x01\x60\x01\x7f\0\x02\x0a\x01\x03env\x01m\x02\0\x01\x03\x02\x01\0\
+const MODULE: &[u8] =
+    b"\0asm\x01\0\0\0\x01\x05\x01\x60\x01\x7f\0\x02\x0a\x01\x03env\x01m\x02\0\x01\x03\x02\x01\0\
 \x07\x05\x01\x01f\0\0\x09\x05\x01\x01\0\x01\0\x0a\x04\x01\x02\0\x0b\x0b\x06\x01\x01\x03a\x22\xff\
 \0\x0e\x04name\x01\x07\x02\0\x01f\0\x01g";
 
@@ -77,10 +78,7 @@ fn shows_every_item(rt: HostRuntime) -> Result<(), Fail> {
 #[test]
 fn shows_chosen_sections(rt: HostRuntime) -> Result<(), Fail> {
     let rows: [(Only<'_>, &[u8]); 5] = [
-        (
-            Only::Id(3),
-            b"section 3 29 31 1\n  30 index=0\nend 75\n",
-        ),
+        (Only::Id(3), b"section 3 29 31 1\n  30 index=0\nend 75\n"),
         (Only::Id(10), b"code 47 51 1 3\nbody 49 51\nend 75\n"),
         (Only::Id(13), b"end 75\n"),
         (
@@ -100,7 +98,8 @@ fn shows_faults_at_their_place(rt: HostRuntime) -> Result<(), Fail> {
     // The second index can't be read, and the body is missing.
     let stream = b"\0asm\x01\0\0\0\x03\x03\x02\x85\x80";
     let how = Ok(Ended::Fault(Error::new(Fault::FunctionWithoutCode, 13)));
-    let text = b"version 0 8 1 module\nsection 3 10 13 2\n  fault 13 unexpected end-of-file\nfault 13 function section has non-zero count but code section is absent\n";
+    let text =
+        b"version 0 8 1 module\nsection 3 10 13 2\n  fault 13 unexpected end-of-file\nfault 13 function section has non-zero count but code section is absent\n";
     dumps(&rt, rt.alloc(), &Only::All, stream, how, text)
 }
 
@@ -108,7 +107,8 @@ fn shows_faults_at_their_place(rt: HostRuntime) -> Result<(), Fail> {
 fn writes_texts_in_quotes(rt: HostRuntime) -> Result<(), Fail> {
     // The name is `a"\` and a letter of two bytes, and then a line feed.
     let stream = b"\0asm\x01\0\0\0\x07\x0a\x01\x06a\"\\\xc3\xa9\n\x03\x07";
-    let text = b"version 0 8 1 module\nsection 7 10 20 1\n  11 name=\"a\\22\\5c\\c3\\a9\\0a\" kind=global index=7\nend 20\n";
+    let text =
+        b"version 0 8 1 module\nsection 7 10 20 1\n  11 name=\"a\\22\\5c\\c3\\a9\\0a\" kind=global index=7\nend 20\n";
     dumps(&rt, rt.alloc(), &Only::All, stream, Ok(Ended::End), text)
 }
 
@@ -159,7 +159,8 @@ fn shows_what_came_before_the_source_failed(rt: HostRuntime) -> Result<(), Fail>
     let (ended, output) = dumped(rt.alloc(), &Only::All, &mut input, sink, 4);
     assert!(rt; ended == Err(ListError::Input));
     assert!(rt; input.failed());
-    let text = b"version 0 8 1 module\nsection 1 10 15 1\n  11 explicit=false type=(sub final (func (param i32)))\nsection 2 17 27 1\n  18 module=\"env\" name=\"m\" ty=memory memory64=false shared=false initial=1 maximum=none page_size_log2=none\n";
+    let text =
+        b"version 0 8 1 module\nsection 1 10 15 1\n  11 explicit=false type=(sub final (func (param i32)))\nsection 2 17 27 1\n  18 module=\"env\" name=\"m\" ty=memory memory64=false shared=false initial=1 maximum=none page_size_log2=none\n";
     assert_eq!(rt; output.written(), text.as_slice());
     Ok(())
 }
