@@ -9,6 +9,7 @@ pub struct Sparing<B: Allocator> {
 }
 
 impl<B: Allocator> Sparing<B> {
+    /// Takes its blocks from this allocator, so many of them. No clause says what a cell holds, so tests show what it does.
     pub fn new(inner: B, blocks: u64) -> Sparing<B> {
         Sparing {
             inner,
