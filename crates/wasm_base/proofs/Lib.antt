@@ -3,11 +3,13 @@ pub mod InnerLists
 pub mod InTurn
 pub mod Lists
 pub mod NumberLaws
+pub mod NumberPlaces
 pub mod Numbers
 pub mod OneOutcome
 pub mod OwnBytes
 pub mod Pages
 pub mod PassedNumbers
+pub mod Passing
 pub mod Runs
 pub mod SameFaults
 pub mod SectionIn

@@ -1,31 +1,22 @@
 -- What calls of `next` over subsections give, one after the other.
-use Rattle.std.proofs.Common.{◌≡◌, ℕ, ◌+◌, ◌-◌, ◌<◌, ◌≤◌, Bool, List, [], ◌∷◌, length, drop, Option, Some, None, Result, Ok, Err, refl, sym, subst, arith, length-drop, drop-drop, ap}
+use Rattle.std.proofs.Common.{◌≡◌, ℕ, ◌-◌, ◌<◌, ◌≤◌, Bool, List, [], ◌∷◌, length, drop, Option, Some, None, Result, Ok, Err, refl, sym, subst, arith, length-drop}
 use Rattle.std.specs.Prelude.{map}
 use Rattle.std.specs.Iterator.{Yields}
 use Rattle.wasm_base.specs.FaultAt.{FaultAt}
 use Rattle.wasm_base.specs.Outcome.{Outcome}
 use Rattle.wasm_base.specs.Section.{item_or_fault}
 use Rattle.wasm_base.specs.Subsections.{UnlessTaken, ReadsSubsection, NextSubsection, FirstSubsection, SubsectionsOf, GivesSubsections, subsection_at}
-use Rattle.wasm_base.specs.Window.{Window, Place, place, advanced, KeepsWindow}
+use Rattle.wasm_base.specs.Window.{Window, Place, place, KeepsWindow}
 use Rattle.wasm_base.specs.declared.error.Error.{Error}
 
--- A reader that goes on is at the place after the bytes between.
-moved : (s t : Window) → KeepsWindow s t → place t ≡ advanced (t.position - s.position) (place s)
-moved s t kept =
-    let m : t.position ≡ s.position + (t.position - s.position) = omega (arith, kept.forward) in
-    let o : t.start + t.position ≡ s.start + s.position + (t.position - s.position) = omega (arith, m, kept.start) in
-    let r : drop t.position t.bytes ≡ drop (t.position - s.position) (drop s.position s.bytes) = rw (kept.bytes, drop-drop (t.position - s.position) s.position s.bytes) (ap (λ (n : ℕ). drop n s.bytes) m) in
-    λ i. record { features = kept.features i; offset = o i; rest = r i }
-
 module _ {T : Type 0} (meaning : ℕ → Window → Result T FaultAt → Type 0) (takes : Bool) where
-  first : (s t : Window) (o : Outcome (ℕ × Window)) (x : Result T Error) (given : List (Result T FaultAt)) → ReadsSubsection meaning takes o x (place t) → KeepsWindow s t → s.position < t.position
-      → SubsectionsOf (UnlessTaken meaning takes) (place t) given → FirstSubsection (UnlessTaken meaning takes) (place s) o (item_or_fault x) (λ q. SubsectionsOf (UnlessTaken meaning takes) q given)
-  first s t (Ok head) x given reads kept moves others = (reads.0, subst (λ (q : Place). SubsectionsOf (UnlessTaken meaning takes) q given) reads.1 others)
-  first s t (Err fault) x given reads kept moves others = (reads, (t.position - s.position, omega (arith, moves), subst (λ (q : Place). SubsectionsOf (UnlessTaken meaning takes) q given) (moved s t kept) others))
+  first : (s t : Window) (o : Outcome (ℕ × Window)) (x : Result T Error) (given : List (Result T FaultAt)) → ReadsSubsection meaning takes (place s) o x (place t) → SubsectionsOf (UnlessTaken meaning takes) (place t) given → FirstSubsection (UnlessTaken meaning takes) (place s) o (item_or_fault x) (λ q. SubsectionsOf (UnlessTaken meaning takes) q given)
+  first s t (Ok head) x given reads others = (reads.0, subst (λ (q : Place). SubsectionsOf (UnlessTaken meaning takes) q given) reads.1 others)
+  first s t (Err fault) x given reads others = (reads.0, subst (λ (q : Place). SubsectionsOf (UnlessTaken meaning takes) q given) reads.1 others)
 
   run_is_subsections : (s t u : Window) (given : List (Result T Error)) → Yields (NextSubsection meaning takes) s given t → NextSubsection meaning takes t None u → SubsectionsOf (UnlessTaken meaning takes) (place s) (map item_or_fault given)
   run_is_subsections s t u [] run end = (subst (λ (v : Window). NextSubsection {T = T} meaning takes v None u) (sym run) end).0
-  run_is_subsections s t u (x ∷ given) run end = (run.1.3, first s run.0 (subsection_at (place s)) x (map item_or_fault given) run.1.0 run.1.1 run.1.2 (run_is_subsections run.0 t u given run.2 end))
+  run_is_subsections s t u (x ∷ given) run end = (run.1.3, first s run.0 (subsection_at (place s)) x (map item_or_fault given) run.1.0 (run_is_subsections run.0 t u given run.2 end))
 
   -- A call leaves fewer bytes.
   fewer : (s t : Window) → KeepsWindow s t → s.position < t.position → 0 < length (place s).rest → length (place t).rest < length (place s).rest

@@ -1,5 +1,5 @@
 -- Counted items inside an item, which are passed over when it is read. Core specification, Binary format, Conventions, Lists.
-use Rattle.std.specs.Prelude.{ℕ, zero, suc, ◌-◌, Ok}
+use Rattle.std.specs.Prelude.{◌≡◌, ℕ, zero, suc, ◌-◌, Ok}
 use Rattle.wasm_base.specs.Number.{unsigned_at}
 use Rattle.wasm_base.specs.Outcome.{Outcome, ◌>>=◌}
 use Rattle.wasm_base.specs.Section.{Section}
@@ -30,3 +30,11 @@ inner_section_at pass p = do
   count ← unsigned_at VarU32 p
   end ← all_passed_at pass count.0 count.1
   Ok (section_between p count end.1, end.1)
+
+-- Wherever an item is read that is such a one, passing over it takes the bytes that reading it takes.
+abbrev pub PassesIfSuch : {T : Type 0} → (T → Type 0) → (Place → Outcome T → Type 0) → (Place → Outcome (Unit {0})) → Type 0
+PassesIfSuch {T} Such meaning pass = (p q : Place) (x : T) → Such x → meaning p (Ok (x, q)) → pass p ≡ Ok (tt, q)
+
+-- Wherever an item is read, passing over it takes the bytes that reading it takes.
+abbrev pub PassesAsRead : {T : Type 0} → (Place → Outcome T → Type 0) → (Place → Outcome (Unit {0})) → Type 0
+PassesAsRead meaning pass = PassesIfSuch (λ x. Unit {0}) meaning pass

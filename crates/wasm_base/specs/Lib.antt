@@ -24,3 +24,4 @@ pub mod Subsections
 pub mod TextOf
 pub mod Widths
 pub mod Window
+pub mod Walks

@@ -75,3 +75,13 @@ in_window p short = Err (at_offset UnexpectedEof (p.offset + length p.rest))
 -- reading an unsigned number of this kind
 unfoldable pub unsigned_at : NumberKind → Place → Outcome ℕ
 unsigned_at kind p = in_window p (number kind p.rest)
+
+-- how many of these bytes reading a number takes: those of the number, those up to the wrong one, or all
+abbrev pub bytes_read : List ℕ → Number → ℕ
+bytes_read bytes (read sum used) = used
+bytes_read bytes (bad fault i) = suc i
+bytes_read bytes short = length bytes
+
+-- the place after the bytes that reading a number of this kind takes, whatever they say
+unfoldable pub after_number : NumberKind → Place → Place
+after_number kind p = advanced (bytes_read p.rest (number kind p.rest)) p

@@ -5,11 +5,13 @@ use Rattle.std.specs.Iterator.{Drains}
 use Rattle.wasm_base.specs.FaultAt.{FaultAt}
 use Rattle.wasm_base.specs.Hints.{TakesNoMemory}
 use Rattle.wasm_base.specs.Name.{u7_at, window_at}
+use Rattle.wasm_base.specs.Number.{after_number}
 use Rattle.wasm_base.specs.Outcome.{Outcome, ◌>>=◌}
 use Rattle.wasm_base.specs.Owned.{out_of_memory}
 use Rattle.wasm_base.specs.Section.{item_or_fault}
 use Rattle.wasm_base.specs.Window.{Window, Place, place, advanced, KeepsWindow}
 use Rattle.wasm_base.specs.declared.error.Error.{Error}
+use Rattle.wasm_base.specs.declared.fault.NumberKind.TheVariants.{VarU32}
 
 -- the id of a subsection and its window: a byte below 128, a size, and so many bytes
 unfoldable pub subsection_at : Place → Outcome (ℕ × Window)
@@ -17,6 +19,15 @@ subsection_at p = do
   id ← u7_at p
   window ← window_at id.1
   Ok ((id.0, window.0), window.1)
+
+-- the place after an id, and after the size that follows an id below 128
+abbrev pub after_id : Place → Outcome ℕ → Place
+after_id p (Ok id) = after_number VarU32 id.1
+after_id p (Err fault) = advanced 1 p
+
+-- where the next subsection begins after the fault of an id or a size: after the bytes that reading them takes
+unfoldable pub after_refused : Place → Place
+after_refused p = after_id p (u7_at p)
 
 -- What is said of a subsection is what its id and its window mean, or a want of memory where it takes memory.
 abbrev pub UnlessTaken : {T : Type 0} → (ℕ → Window → Result T FaultAt → Type 0) → Bool → ℕ → Window → Result T FaultAt → Type 0
@@ -27,22 +38,23 @@ UnlessTaken meaning takes id window (Err e) = meaning id window (Err e) ⊎ (IsT
 abbrev pub MeansSubsection : {T : Type 0} → (ℕ → Window → Result T FaultAt → Type 0) → Bool → ℕ → Window → Result T Error → Type 0
 MeansSubsection meaning takes id window result = UnlessTaken meaning takes id window (item_or_fault result)
 
--- The subsection that was read means this, and its reader is after it; or its id or size has this fault.
-abbrev pub ReadsSubsection : {T : Type 0} → (ℕ → Window → Result T FaultAt → Type 0) → Bool → Outcome (ℕ × Window) → Result T Error → Place → Type 0
-ReadsSubsection meaning takes (Ok head) given after = MeansSubsection meaning takes head.0.0 head.0.1 given × (after ≡ head.1)
-ReadsSubsection meaning takes (Err fault) given after = item_or_fault given ≡ Err fault
+-- The subsection that was read at a place means this, and its reader is after it; or its id or size has this fault, and its
+-- reader is after the bytes that reading them takes.
+abbrev pub ReadsSubsection : {T : Type 0} → (ℕ → Window → Result T FaultAt → Type 0) → Bool → Place → Outcome (ℕ × Window) → Result T Error → Place → Type 0
+ReadsSubsection meaning takes p (Ok head) given after = MeansSubsection meaning takes head.0.0 head.0.1 given × (after ≡ head.1)
+ReadsSubsection meaning takes p (Err fault) given after = (item_or_fault given ≡ Err fault) × (after ≡ after_refused p)
 
 -- one call of `next`: a subsection for as long as bytes are left, and each takes one of them at least; no want of memory where
 -- no subsection takes any
 abbrev pub NextSubsection : {T : Type 0} → (ℕ → Window → Result T FaultAt → Type 0) → Bool → Window → Option (Result T Error) → Window → Type 0
 NextSubsection meaning takes s None t = (length (place s).rest ≡ 0) × (t ≡ s)
-NextSubsection meaning takes s (Some given) t = ReadsSubsection meaning takes (subsection_at (place s)) given (place t) × KeepsWindow s t × (s.position < t.position) × (0 < length (place s).rest) × (takes ≡ false → TakesNoMemory given)
+NextSubsection meaning takes s (Some given) t = ReadsSubsection meaning takes (place s) (subsection_at (place s)) given (place t) × KeepsWindow s t × (s.position < t.position) × (0 < length (place s).rest) × (takes ≡ false → TakesNoMemory given)
 
 -- What comes first of the subsections of a window: what the first one means, and the others are those after it. After the
--- fault of an id or a size the others are those of a later place, whichever it is.
+-- fault of an id or a size the others are those after the bytes that reading these takes.
 abbrev pub FirstSubsection : {T : Type 0} → (ℕ → Window → Result T FaultAt → Type 0) → Place → Outcome (ℕ × Window) → Result T FaultAt → (Place → Type 0) → Type 0
 FirstSubsection meaning p (Ok head) given Others = meaning head.0.0 head.0.1 given × Others head.1
-FirstSubsection meaning p (Err fault) given Others = (given ≡ Err fault) × ((taken : ℕ) × (0 < taken) × Others (advanced taken p))
+FirstSubsection meaning p (Err fault) given Others = (given ≡ Err fault) × Others (after_refused p)
 
 -- The subsections that a window has from a place on, one after the other to the end.
 abbrev pub SubsectionsOf : {T : Type 0} → (ℕ → Window → Result T FaultAt → Type 0) → Place → List (Result T FaultAt) → Type 0

@@ -131,11 +131,11 @@ impl fmt::Display for Error {
 }
 
 impl<T: Drop> From<AllocFailed<T>> for Error {
-    ghost use Rattle.std.specs.Prelude.{◌≡◌};
-    ghost use Rattle.wasm_base.specs.FaultAt.{fault_at, at_offset};
+    ghost use Rattle.std.specs.Prelude.{◌≡◌, None};
+    ghost use Rattle.wasm_base.specs.FaultAt.{fault_at, at_offset, hint_of};
     ghost use Rattle.wasm_base.specs.declared.fault.Fault.TheVariants.{OutOfMemory};
 
-    ghost from_gives = { λ _ e. fault_at e ≡ at_offset OutOfMemory 0 };
+    ghost from_gives = { λ _ e. (fault_at e ≡ at_offset OutOfMemory 0) × (hint_of e ≡ None) };
 
     fn from(_refused: AllocFailed<T>) -> Error {
         Error::new(Fault::OutOfMemory, 0)

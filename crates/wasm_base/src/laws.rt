@@ -6,6 +6,7 @@ ghost use Rattle.wasm_base.specs.Comparing.{DecidesWhether, DecidesSame, IsCopy}
 ghost use Rattle.wasm_base.specs.FaultAt.{fault_at};
 ghost use Rattle.wasm_base.specs.Features.{feature_bits};
 ghost use Rattle.wasm_base.specs.Float.{bits_of_32, bits_of_64};
+ghost use Rattle.wasm_base.specs.Inner.{PassesAsRead};
 ghost use Rattle.wasm_base.specs.Item.{AllowsOne, Determines};
 ghost use Rattle.wasm_base.specs.Owned.{UnlessMemory};
 ghost use Rattle.wasm_base.specs.Section.{Section, Items, AtItsOffset, GivesItems, GivesTheSame, GivesTheSameUnlessMemory, GivesEqual, all_items, item_or_fault, item_alone};
@@ -17,7 +18,17 @@ use crate::error::Error;
 use crate::fault::{CoreStart, Fault, Lead, NumberKind};
 use crate::features::WasmFeatures;
 use crate::float::{Ieee32, Ieee64};
+use crate::inner::InnerItem;
 use crate::item::FromReader;
+use crate::limits::{
+    _MAX_WASM_TABLE_SIZE, DEFAULT_WASM_PAGE_SIZE, MAX_WASM_BR_TABLE_SIZE, MAX_WASM_CATCHES,
+    MAX_WASM_DATA_SEGMENTS, MAX_WASM_ELEMENT_SEGMENTS, MAX_WASM_EXPORTS, MAX_WASM_FUNCTION_LOCALS,
+    MAX_WASM_FUNCTION_PARAMS, MAX_WASM_FUNCTION_RETURNS, MAX_WASM_FUNCTION_SIZE,
+    MAX_WASM_FUNCTIONS, MAX_WASM_GLOBALS, MAX_WASM_HANDLERS, MAX_WASM_IMPORTS, MAX_WASM_MEMORIES,
+    MAX_WASM_MODULES_AND_COMPONENTS, MAX_WASM_SELECT_RESULT_SIZE, MAX_WASM_STRING_SIZE,
+    MAX_WASM_STRUCT_FIELDS, MAX_WASM_SUBTYPING_DEPTH, MAX_WASM_SUPERTYPES, MAX_WASM_TABLE_ENTRIES,
+    MAX_WASM_TABLES, MAX_WASM_TAGS, MAX_WASM_TYPE_SIZE, MAX_WASM_TYPES,
+};
 use crate::owned::FromReaderIn;
 use crate::reader::BinaryReader;
 use crate::section::{
@@ -126,6 +137,11 @@ pub fn these_allow_one_outcome<'a, T: FromReader<'a>, U: FromReader<'a>>()
         ⟦<(T, U) as FromReader<'a>>⟧.meaning }
 {}
 
+/// Wherever a name is read, passing over it as an item of an inner list takes the bytes that reading it takes.
+pub fn passing_over_a_name_takes_its_bytes<'a>()
+    ensures { PassesAsRead ⟦<&'a str as FromReader<'a>>⟧.meaning ⟦<&'a str as InnerItem<'a>>⟧.passed_at }
+{}
+
 /// How many bytes a number takes at most, which unused bits its last byte may have, and how large the sum of its
 /// groups is: all three follow from how many bits its value has, and whether it is signed.
 pub fn widths_of_numbers()
@@ -197,4 +213,35 @@ pub fn copies_are_the_same<'a, T, U: Clone>()
     ensures subsections { IsCopy
         ⟦<Subsections<'a, T> as Clone>⟧.is_clone
         ⟦<Subsections<'a, T> as Clone>⟧.is_infallible }
+{}
+
+/// Each limit of modules is this number.
+pub fn limits_of_modules()
+    ensures types { MAX_WASM_TYPES ≡ 1000000 }
+    ensures supertypes { MAX_WASM_SUPERTYPES ≡ 5 }
+    ensures functions { MAX_WASM_FUNCTIONS ≡ 1000000 }
+    ensures imports { MAX_WASM_IMPORTS ≡ 1000000 }
+    ensures exports { MAX_WASM_EXPORTS ≡ 1000000 }
+    ensures globals { MAX_WASM_GLOBALS ≡ 1000000 }
+    ensures element_segments { MAX_WASM_ELEMENT_SEGMENTS ≡ 100000 }
+    ensures data_segments { MAX_WASM_DATA_SEGMENTS ≡ 100000 }
+    ensures name { MAX_WASM_STRING_SIZE ≡ 100000 }
+    ensures body { MAX_WASM_FUNCTION_SIZE ≡ 7654321 }
+    ensures locals { MAX_WASM_FUNCTION_LOCALS ≡ 50000 }
+    ensures params { MAX_WASM_FUNCTION_PARAMS ≡ 1000 }
+    ensures results { MAX_WASM_FUNCTION_RETURNS ≡ 1000 }
+    ensures table { _MAX_WASM_TABLE_SIZE ≡ 10000000 }
+    ensures table_entries { MAX_WASM_TABLE_ENTRIES ≡ 10000000 }
+    ensures tables { MAX_WASM_TABLES ≡ 100000 }
+    ensures memories { MAX_WASM_MEMORIES ≡ 100 }
+    ensures tags { MAX_WASM_TAGS ≡ 1000000 }
+    ensures labels { MAX_WASM_BR_TABLE_SIZE ≡ 7654321 }
+    ensures fields { MAX_WASM_STRUCT_FIELDS ≡ 10000 }
+    ensures catches { MAX_WASM_CATCHES ≡ 10000 }
+    ensures subtyping_depth { MAX_WASM_SUBTYPING_DEPTH ≡ 63 }
+    ensures handlers { MAX_WASM_HANDLERS ≡ 10000 }
+    ensures type_size { MAX_WASM_TYPE_SIZE ≡ 1000000 }
+    ensures select_results { MAX_WASM_SELECT_RESULT_SIZE ≡ 10 }
+    ensures modules { MAX_WASM_MODULES_AND_COMPONENTS ≡ 1000 }
+    ensures page { DEFAULT_WASM_PAGE_SIZE ≡ 65536 }
 {}

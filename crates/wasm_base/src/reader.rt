@@ -11,7 +11,7 @@ ghost use Rattle.wasm_base.specs.Hints.{TakesNoMemory, Hints, missing_at, missin
 ghost use Rattle.wasm_base.specs.Item.{Means};
 ghost use Rattle.wasm_base.specs.Name.{bytes_at, byte_at, peeked_at, peeked_byte_at, of_four, u32_at, u7_at, name_limit, text_at, window_at};
 ghost use Rattle.wasm_base.specs.TextOf.{text_of};
-ghost use Rattle.wasm_base.specs.Number.{bits_of, unsigned_at};
+ghost use Rattle.wasm_base.specs.Number.{after_number, bits_of, bytes_read, number, unsigned_at};
 ghost use Rattle.wasm_base.specs.Outcome.{Gives, GivesBy};
 ghost use Rattle.wasm_base.specs.Signed.{signed_at, FitsBits};
 ghost use Rattle.wasm_base.specs.Skip.{skipped_name_at, numbers_passed_at, window_of, NeverGoesBack, PassesOver};
@@ -273,6 +273,7 @@ impl<'a> BinaryReader<'a> {
         ensures hints { Hints 1 result }
         ensures memory { TakesNoMemory result }
         ensures moves { 0 < length (place self.old).rest → self.old.position < self.new.position }
+        ensures passes { 0 < length (place self.old).rest → place self.new ≡ advanced 1 (place self.old) }
     {
         let byte = self.read_u8()?;
         if byte >= 128 {
@@ -361,6 +362,37 @@ impl<'a> BinaryReader<'a> {
         ensures moves { OnOk result ((place self.old).offset < (place self.new).offset) }
     {
         Ok(self.read_groups(NumberKind::VarU32)? as u32)
+    }
+
+    // How many bytes reading a number of this kind takes, whatever they say.
+    fn bytes_of_number(&self, kind: NumberKind) -> usize
+        ensures length { result ≡ bytes_read (place self.now).rest (number kind (place self.now).rest) }
+        ensures within { result ≤ length (place self.now).rest }
+    {
+        let rest = self.remaining_buffer();
+        match number_in(kind, rest) {
+            Found::Read { sum: _, used } => used,
+            Found::Bad { fault: _, place } => place + 1,
+            Found::Short => rest.len(),
+        }
+    }
+
+    /// Reads a u32 in LEB128, with the faults of `read_var_u32`. After a fault too it is passed: up to the byte that is
+    /// wrong, or to the end.
+    #[tactic(auto, unfolding(crate::specs::Number::after_number), using(crate::proofs::NumberPlaces::read_is_passed))]
+    pub(crate) fn pass_var_u32(&mut self) -> Result<u32>
+        ensures gives { GivesBy (λ n. n) result self.old self.new (unsigned_at VarU32) }
+        ensures keeps { KeepsWindow self.old self.new }
+        ensures memory { TakesNoMemory result }
+        ensures after { place self.new ≡ after_number VarU32 (place self.old) }
+    {
+        match self.read_var_u32() {
+            Ok(number) => Ok(number),
+            Err(e) => {
+                self.advance(self.bytes_of_number(NumberKind::VarU32));
+                Err(e)
+            }
+        }
     }
 
     // Passes over numbers of one byte, 32 at once, up to the first longer one. Answers how many numbers are left.

@@ -1,10 +1,14 @@
 // Subsections of a window.
-ghost use Rattle.std.specs.Prelude.{⊤, ◌≡◌, ◌<◌, ℕ, Bool, false, Result, length};
+ghost use Rattle.std.specs.Prelude.{⊤, ◌≡◌, ◌<◌, ℕ, Bool, false, OnErr, Result, length};
 ghost use Rattle.std.specs.Iterator.{at_most};
 ghost use Rattle.wasm_base.specs.FaultAt.{FaultAt};
 ghost use Rattle.wasm_base.specs.Hints.{TakesNoMemory};
+ghost use Rattle.wasm_base.specs.Name.{window_at};
+ghost use Rattle.wasm_base.specs.Number.{after_number};
+ghost use Rattle.wasm_base.specs.Outcome.{GivesBy};
 ghost use Rattle.wasm_base.specs.Subsections.{MeansSubsection, ReadsSubsection, NextSubsection, subsection_at};
 ghost use Rattle.wasm_base.specs.Window.{Window, place, KeepsWindow, range_of};
+ghost use Rattle.wasm_base.specs.declared.fault.NumberKind.TheVariants.{VarU32};
 
 use crate::error::Result;
 use crate::reader::BinaryReader;
@@ -64,9 +68,9 @@ pub trait Subsection<'a>: Sized + Drop {
 /// The subsections of a window: each is an id, a byte below 128, a size, a u32, and so many bytes.
 ///
 /// They come one after the other, each read as a `T`, up to the window's end. After a subsection's own fault, `OutOfMemory`
-/// among them, the next one comes. An id or a size can have a fault too, `InvalidU7` at the id or that of `read_reader`;
-/// each call takes at least one byte, so the subsections always end. Offsets count bytes from the start of the whole
-/// stream.
+/// among them, the next one comes. An id or a size can have a fault too, `InvalidU7` at the id or that of `read_reader`: the
+/// next one comes after the id, or after the bytes that reading the size takes, up to a wrong one or to the end. So each call
+/// takes at least one byte, and the subsections always end. Offsets count bytes from the start of the whole stream.
 pub struct Subsections<'a, T> {
     alloc: Global,
     reader: BinaryReader<'a>,
@@ -141,18 +145,32 @@ impl<'a, T> Subsections<'a, T> {
     }
 }
 
+// Reads a size and a window of so many bytes. After a fault the reader is after the size, or what there is of it.
+#[tactic(auto, unfolding(crate::specs::Name::window_at))]
+fn read_window<'a>(reader: &mut BinaryReader<'a>) -> Result<BinaryReader<'a>>
+    ensures gives { GivesBy (λ window. window) result reader.old reader.new window_at }
+    ensures keeps { KeepsWindow reader.old reader.new }
+    ensures memory { TakesNoMemory result }
+    ensures after { OnErr result (place reader.new ≡ after_number VarU32 (place reader.old)) }
+{
+    let size = reader.pass_var_u32()?;
+    let start = reader.original_position();
+    let bytes = reader.read_bytes(size as usize)?;
+    Ok(BinaryReader::new_features(bytes, start, reader.features()))
+}
+
 // Reads the subsection that comes next.
-#[tactic(auto, unfolding(crate::specs::Subsections::subsection_at))]
+#[tactic(auto, unfolding(crate::specs::Subsections::subsection_at, crate::specs::Subsections::after_refused))]
 fn read_subsection<'a, T: Subsection<'a>>(alloc: Global, reader: &mut BinaryReader<'a>) -> Result<T>
     requires { 0 < length (place reader.old).rest }
-    ensures reads { ReadsSubsection T.meaning T.Memory.TAKES_MEMORY (subsection_at (place reader.old)) result
-        (place reader.new) }
+    ensures reads { ReadsSubsection T.meaning T.Memory.TAKES_MEMORY (place reader.old)
+        (subsection_at (place reader.old)) result (place reader.new) }
     ensures keeps { KeepsWindow reader.old reader.new }
     ensures moves { reader.old.position < reader.new.position }
     ensures memory { T.Memory.TAKES_MEMORY ≡ false → TakesNoMemory result }
 {
     let id = reader.read_u7()?;
-    let window = reader.read_reader()?;
+    let window = read_window(reader)?;
     T::from_reader(alloc, id, window)
 }
 

@@ -1,10 +1,10 @@
 -- Relocation types and their numbers.
-use Rattle.std.proofs.Common.{◌≡◌, ℕ, zero, suc, ◌+◌, List, [], ◌∷◌, slice_get, get_or, Option, Some, None, Result, refl, sym, ap, arith, ◌∙◌}
+use Rattle.std.proofs.Common.{◌≡◌, ℕ, zero, suc, ◌+◌, ◌<◌, List, [], ◌∷◌, slice_get, get_or, Option, Some, None, Result, Ok, Err, refl, sym, ap, arith, ◌∙◌}
 use Rattle.std.proofs.lemmas.Option.{slice_get_within, slice_get-get_or}
 use Rattle.std.specs.Option.{ok_or}
 use Rattle.wasm_custom.specs.Relocations.{types, number_of, IsTypeOf}
 use Rattle.wasm_custom.specs.declared.relocations.RelocationType.{RelocationType}
-use Rattle.wasm_custom.specs.declared.relocations.RelocationType.TheVariants.{FunctionIndexLeb}
+use Rattle.wasm_custom.specs.declared.relocations.RelocationType.TheVariants.{FunctionIndexLeb, TableIndexSleb, TableIndexI32, MemoryAddrLeb, MemoryAddrSleb, MemoryAddrI32, TypeIndexLeb, GlobalIndexLeb, FunctionOffsetI32, SectionOffsetI32, EventIndexLeb, MemoryAddrRelSleb, TableIndexRelSleb, GlobalIndexI32, MemoryAddrLeb64, MemoryAddrSleb64, MemoryAddrI64, MemoryAddrRelSleb64, TableIndexSleb64, TableIndexI64, TableNumberLeb, MemoryAddrTlsSleb, FunctionOffsetI64, MemoryAddrLocrelI32, TableIndexRelSleb64, MemoryAddrTlsSleb64, FunctionIndexI32}
 
 -- Types whose numbers count up from here.
 abbrev CountsFrom : ℕ → List RelocationType → Type 0
@@ -25,3 +25,45 @@ type_has_number i ty e =
 pub numbered : (number : ℕ) (found : Option RelocationType) (result : Result RelocationType (Unit {0})) → found ≡ slice_get types number → result ≡ ok_or found tt → IsTypeOf number result
 numbered number (Some ty) result is e = rw e (((λ _. slice_get_within types number ty (sym is)), (λ _. refl)), type_has_number number ty (sym is))
 numbered number None result is e = rw e (((λ h. cc), (λ lt. let z : None ≡ Some (get_or types number FunctionIndexLeb) = is ∙ slice_get-get_or types number FunctionIndexLeb lt in absurd (cc))), tt)
+
+-- Each type is the one that its number has in the list.
+type_in_list : (ty : RelocationType) → slice_get types (number_of ty) ≡ Some ty
+type_in_list FunctionIndexLeb = refl
+type_in_list TableIndexSleb = refl
+type_in_list TableIndexI32 = refl
+type_in_list MemoryAddrLeb = refl
+type_in_list MemoryAddrSleb = refl
+type_in_list MemoryAddrI32 = refl
+type_in_list TypeIndexLeb = refl
+type_in_list GlobalIndexLeb = refl
+type_in_list FunctionOffsetI32 = refl
+type_in_list SectionOffsetI32 = refl
+type_in_list EventIndexLeb = refl
+type_in_list MemoryAddrRelSleb = refl
+type_in_list TableIndexRelSleb = refl
+type_in_list GlobalIndexI32 = refl
+type_in_list MemoryAddrLeb64 = refl
+type_in_list MemoryAddrSleb64 = refl
+type_in_list MemoryAddrI64 = refl
+type_in_list MemoryAddrRelSleb64 = refl
+type_in_list TableIndexSleb64 = refl
+type_in_list TableIndexI64 = refl
+type_in_list TableNumberLeb = refl
+type_in_list MemoryAddrTlsSleb = refl
+type_in_list FunctionOffsetI64 = refl
+type_in_list MemoryAddrLocrelI32 = refl
+type_in_list TableIndexRelSleb64 = refl
+type_in_list MemoryAddrTlsSleb64 = refl
+type_in_list FunctionIndexI32 = refl
+
+-- A number's type, where it is the number of a type, is that type.
+pub type_of_its_number : (ty : RelocationType) (number : ℕ) (result : Result RelocationType (Unit {0})) → number ≡ number_of ty → IsTypeOf number result → result ≡ Ok ty
+type_of_its_number ty number (Err e) is found =
+    let lt : number_of ty < 27 = slice_get_within types (number_of ty) ty (type_in_list ty) in
+    let some = found.0.1 (rw is lt) in
+    absurd (cc)
+type_of_its_number ty number (Ok other) is found =
+    let same : number_of other ≡ number_of ty = found.1 ∙ is in
+    let z : Some other ≡ Some ty = sym (type_in_list other) ∙ ap (slice_get types) same ∙ type_in_list ty in
+    let y : other ≡ ty = cc in
+    ap (λ (t : RelocationType). Ok t) y

@@ -6,7 +6,7 @@ use Rattle.wasm_base.specs.Name.{text_at}
 use Rattle.wasm_base.specs.Number.{unsigned_at}
 use Rattle.wasm_base.specs.Outcome.{Outcome, ◌>>=◌}
 use Rattle.wasm_base.specs.Owned.{list_at}
-use Rattle.wasm_base.specs.Window.{Window, Place, place, range_of}
+use Rattle.wasm_base.specs.Window.{Window, Place, place, rest_range}
 use Rattle.wasm_base.specs.declared.fault.NumberKind.TheVariants.{VarU32}
 use Rattle.wasm_custom.specs.Flags.{symbol_bits}
 use Rattle.wasm_custom.specs.declared.dylink.Dylink0Subsection.{Dylink0Subsection}
@@ -86,4 +86,4 @@ dylink_subsection_in id w =
     else if id == 4 then begins_with imports (list_at import_info_at (place w))
     else if id == 5 then begins_with (texts 5) (list_at (text_at None) (place w))
     else if id == 6 then begins_with arch (text_at None (place w))
-    else Ok (unknown id (place w).rest (range_of w))
+    else Ok (unknown id (place w).rest (rest_range w))

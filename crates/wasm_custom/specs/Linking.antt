@@ -8,7 +8,7 @@ use Rattle.wasm_base.specs.Name.{byte_at, name_limit, text_at}
 use Rattle.wasm_base.specs.Number.{unsigned_at}
 use Rattle.wasm_base.specs.Outcome.{Outcome, ◌>>=◌}
 use Rattle.wasm_base.specs.Section.{Section, section_in}
-use Rattle.wasm_base.specs.Window.{Window, Place, place, whole_window, range_of}
+use Rattle.wasm_base.specs.Window.{Window, Place, place, whole_window, range_of, rest_range}
 use Rattle.wasm_base.specs.declared.fault.Fault.TheVariants.{LinkingVersion}
 use Rattle.wasm_base.specs.declared.fault.Lead.TheVariants as Leads
 use Rattle.wasm_base.specs.declared.fault.NumberKind.TheVariants.{VarU32}
@@ -214,7 +214,7 @@ linking_subsection_in id w =
     else if id == 7 then listed_in 7 w
     else if id == 8 then listed_in 8 w
     else if id == 9 then arch_in w
-    else Ok (unknown id (place w).rest (range_of w))
+    else Ok (unknown id (place w).rest (rest_range w))
 
 -- the section for linkers: its version, its offsets, and the window of its subsections
 pub record LinkingSection : Type 0 where

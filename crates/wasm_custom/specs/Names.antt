@@ -1,7 +1,7 @@
 -- Names. Core specification, Appendix, Custom Sections, Name Section; the subsections beyond those for functions and locals are of
 -- the extended name section proposal.
 use Rattle.std.specs.declared.ops.Range.{Range}
-use Rattle.std.specs.Prelude.{ℕ, ◌==◌, List, length, Some, None, Result, Ok, Err, nat_lt, if◌then◌else◌}
+use Rattle.std.specs.Prelude.{ℕ, ◌≤◌, ◌==◌, List, length, Some, None, Result, Ok, Err, nat_lt, if◌then◌else◌}
 use Rattle.wasm_base.specs.FaultAt.{FaultAt, at_offset}
 use Rattle.wasm_base.specs.Inner.{inner_section_at}
 use Rattle.wasm_base.specs.Name.{name_limit, text_at}
@@ -9,7 +9,7 @@ use Rattle.wasm_base.specs.Number.{unsigned_at}
 use Rattle.wasm_base.specs.Outcome.{Outcome, ◌>>=◌}
 use Rattle.wasm_base.specs.Section.{Items, all_items, section_in}
 use Rattle.wasm_base.specs.Skip.{skipped_name_at}
-use Rattle.wasm_base.specs.Window.{Window, Place, place, range_of}
+use Rattle.wasm_base.specs.Window.{Window, Place, place, rest_range}
 use Rattle.wasm_base.specs.declared.fault.Fault.TheVariants.{NameTrailing}
 use Rattle.wasm_base.specs.declared.fault.NumberKind.TheVariants.{VarU32}
 use Rattle.wasm_custom.specs.Ascending.{Ascending, none_given}
@@ -44,6 +44,10 @@ unfoldable pub passed_naming_at : Place → Outcome (Unit {0})
 passed_naming_at p = do
   index ← unsigned_at VarU32 p
   skipped_name_at index.1
+
+-- Its name is no longer than what is passed over may be.
+abbrev pub IsShortNaming : Naming → Type 0
+IsShortNaming naming = length naming.name.now ≤ name_limit
 
 -- an index and the names of what it has, which are passed over (Indirect Name Maps)
 unfoldable pub indirect_naming_at : Place → Outcome IndirectNaming
@@ -103,7 +107,7 @@ id_of name = id_of_parts (name_parts name)
 unfoldable pub module_name_in : Window → Result NameParts FaultAt
 module_name_in w = do
   name ← text_at (Some name_limit) (place w)
-  if nat_lt 0 (length name.1.rest) then Err (at_offset NameTrailing name.1.offset) else Ok (module_name name.0 (range_of w))
+  if nat_lt 0 (length name.1.rest) then Err (at_offset NameTrailing name.1.offset) else Ok (module_name name.0 (rest_range w))
 
 abbrev pub direct_in : (id : ℕ) → Window → Result NameParts FaultAt
 direct_in id w = do
@@ -132,4 +136,4 @@ name_in id w =
     else if id == 11 then direct_in 11 w
     else if id == 12 then indirect_in 12 w
     else if id == 13 then indirect_in 13 w
-    else Ok (unknown id (place w).rest (range_of w))
+    else Ok (unknown id (place w).rest (rest_range w))

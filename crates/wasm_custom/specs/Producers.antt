@@ -1,8 +1,8 @@
 -- What a module was produced with. Tool conventions, Producers Section.
-use Rattle.std.specs.Prelude.{ℕ, Bool, ◌||◌, List, None, Ok, Err, codes, bytes_eq, if◌then◌else◌}
+use Rattle.std.specs.Prelude.{ℕ, ◌≤◌, Bool, ◌||◌, List, length, None, Ok, Err, codes, bytes_eq, if◌then◌else◌}
 use Rattle.wasm_base.specs.FaultAt.{at_offset}
 use Rattle.wasm_base.specs.Inner.{inner_section_at}
-use Rattle.wasm_base.specs.Name.{text_at}
+use Rattle.wasm_base.specs.Name.{name_limit, text_at}
 use Rattle.wasm_base.specs.Outcome.{Outcome, ◌>>=◌}
 use Rattle.wasm_base.specs.Section.{Section}
 use Rattle.wasm_base.specs.Skip.{skipped_name_at}
@@ -41,6 +41,10 @@ unfoldable pub passed_value_at : Place → Outcome (Unit {0})
 passed_value_at p = do
   name ← skipped_name_at p
   skipped_name_at name.1
+
+-- Neither of its texts is longer than what is passed over may be.
+abbrev pub IsShortValue : ProducersFieldValue → Type 0
+IsShortValue value = (length value.name.now ≤ name_limit) × (length value.version.now ≤ name_limit)
 
 -- a field, with the bytes of its name
 pub record FieldParts : Type 0 where

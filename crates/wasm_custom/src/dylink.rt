@@ -208,7 +208,7 @@ impl<'a, A: Allocator> Dylink0Subsection<'a, A> {
             _ => Ok(Dylink0Subsection::Unknown {
                 ty: id,
                 contents: reader.remaining_buffer(),
-                range: reader.range(),
+                range: reader.remaining_range(),
             }),
         }
     }

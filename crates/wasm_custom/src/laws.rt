@@ -2,16 +2,19 @@
 //! whole runs over them.
 ghost use Rattle.std.specs.Hash as hashed;
 ghost use Rattle.std.specs.Ordering.{nat_cmp};
-ghost use Rattle.std.specs.Prelude.{◌≡◌, Ok, Some};
+ghost use Rattle.std.specs.Prelude.{◌≡◌, Ok, Some, false};
 ghost use Rattle.wasm_base.specs.Announced.{GivesAnnounced};
 ghost use Rattle.wasm_base.specs.Comparing.{DecidesSame, IsCopy};
+ghost use Rattle.wasm_base.specs.Inner.{PassesAsRead, PassesIfSuch};
 ghost use Rattle.wasm_base.specs.Item.{AllowsOne, Determines};
-ghost use Rattle.wasm_base.specs.Window.{Place};
+ghost use Rattle.wasm_base.specs.Subsections.{GivesSubsections, UnlessTaken};
+ghost use Rattle.wasm_base.specs.Window.{Place, Window};
 ghost use Rattle.wasm_base.specs.declared.fault.Fault.TheVariants.{IndirectOrder, NameSectionOrder, NamesOrder};
 ghost use Rattle.wasm_custom.specs.Ascending.{GivesAscending};
 ghost use Rattle.wasm_custom.specs.Flags.{segment_bits, symbol_bits};
 ghost use Rattle.wasm_custom.specs.Hashed.{hash_of_addend, hash_of_relocation, hash_of_symbol_kind};
-ghost use Rattle.wasm_custom.specs.Names.{id_of, index_of, index_of_indirect, offset_of_entry, offset_of_subsection};
+ghost use Rattle.wasm_custom.specs.Names.{IsShortNaming, id_of, index_of, index_of_indirect, offset_of_entry, offset_of_subsection};
+ghost use Rattle.wasm_custom.specs.Producers.{IsShortValue};
 ghost use Rattle.wasm_custom.specs.Relocations.{number_of};
 
 use crate::branch_hints::{BranchHint, BranchHintFunction};
@@ -20,14 +23,16 @@ use crate::custom::CustomSectionReader;
 use crate::dylink::{ExportInfo, ImportInfo, MemInfo};
 use crate::flags::{SegmentFlags, SymbolFlags};
 use crate::linking::{
-    Comdat, ComdatSymbol, ComdatSymbolKind, DefinedDataSymbol, InitFunc, Linking,
+    Comdat, ComdatSymbol, ComdatSymbolKind, DefinedDataSymbol, InitFunc, Linking, LinkingIntoIter,
     LinkingSectionReader, Segment, SymbolInfo,
 };
 use crate::names::{IndirectNameMap, IndirectNaming, Name, NameMap, NameSectionReader, Naming};
 use crate::producers::{ProducersField, ProducersFieldValue};
 use crate::relocations::{RelocAddendKind, RelocSectionReader, RelocationEntry, RelocationType};
 use std::hash::Hash;
-use wasm_base::{FromReader, FromReaderIn, SectionLimitedIntoIter, Subsections};
+use wasm_base::{
+    FromReader, FromReaderIn, InnerItem, SectionLimitedIntoIter, Subsection, Subsections,
+};
 
 /// Two relocations, types of relocations or kinds of addends are equal exactly if they are the same.
 pub fn equal_relocations_are_the_same()
@@ -215,6 +220,47 @@ pub fn names_ascend<'a>()
         ⟦<Subsections<'a, Name<'a>> as Iterator>⟧.next_gives
         offset_of_subsection id_of NameSectionOrder
         ⟦<NameSectionReader<'a> as Iterator>⟧.next_gives }
+{}
+
+/// Calls of `next` up to the first `None` give the subsections of a section for linkers, one after the other to its end, and
+/// nothing comes after that `None`. Each is what its id and its window mean, or its fault.
+pub fn subsections_for_linkers<'a>()
+    ensures { (s : Window) →
+        GivesSubsections ⟦<LinkingIntoIter<'a> as Iterator>⟧.next_gives
+        (UnlessTaken ⟦<Linking<'a> as Subsection<'a>>⟧.meaning false) s }
+{}
+
+/// A type of relocations is its number where it is cast, and is the type of this number.
+pub fn a_relocation_type_is_its_number(ty: RelocationType) -> (u8, Result<RelocationType, ()>)
+    ensures number { result.0 ≡ number_of ty }
+    ensures back { result.1 ≡ Ok ty }
+{
+    let number = cast(ty);
+    (number, RelocationType::try_from(number))
+}
+
+// The number that a cast gives.
+fn cast(ty: RelocationType) -> u8
+    ensures { result ≡ number_of ty }
+{
+    ty as u8
+}
+
+/// Wherever an item of an inner list is read, passing over it takes the bytes that reading it takes; of an index with a name,
+/// and of a producer's value, this is so where each text has at most 100,000 bytes, the limit of what is passed over.
+pub fn passing_over_takes_what_reading_takes<'a>()
+    ensures hint { PassesAsRead
+        ⟦<BranchHint as FromReader<'a>>⟧.meaning
+        ⟦<BranchHint as InnerItem<'a>>⟧.passed_at }
+    ensures comdat_symbol { PassesAsRead
+        ⟦<ComdatSymbol as FromReader<'a>>⟧.meaning
+        ⟦<ComdatSymbol as InnerItem<'a>>⟧.passed_at }
+    ensures naming { PassesIfSuch IsShortNaming
+        ⟦<Naming<'a> as FromReader<'a>>⟧.meaning
+        ⟦<Naming<'a> as InnerItem<'a>>⟧.passed_at }
+    ensures value { PassesIfSuch IsShortValue
+        ⟦<ProducersFieldValue<'a> as FromReader<'a>>⟧.meaning
+        ⟦<ProducersFieldValue<'a> as InnerItem<'a>>⟧.passed_at }
 {}
 
 /// Names, what linkers and dynamic linkers read, and flags allow one outcome at each place too.

@@ -415,7 +415,7 @@ impl<'a> Subsection<'a> for Linking<'a> {
             _ => Ok(Linking::Unknown {
                 ty: id,
                 contents: reader.remaining_buffer(),
-                range: reader.range(),
+                range: reader.remaining_range(),
             }),
         }
     }

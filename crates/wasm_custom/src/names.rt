@@ -234,7 +234,7 @@ pub enum Name<'a> {
     Module {
         /// The name.
         name: &'a str,
-        /// The offsets of the whole subsection, in bytes from the start of the whole stream.
+        /// The offsets of the name and its size: of all that was left of the subsection, in the whole stream.
         name_range: Range<u64>,
     },
     /// The names of functions.
@@ -280,14 +280,12 @@ fn module_name<'a>(mut reader: BinaryReader<'a>) -> Result<Name<'a>>
     ensures gives { GivesResult name_parts result (module_name_in reader.entry) }
     ensures memory { TakesNoMemory result }
 {
+    let name_range = reader.remaining_range();
     let name = reader.read_string()?;
     if !reader.eof() {
         return Err(Error::new(Fault::NameTrailing, reader.original_position()));
     }
-    Ok(Name::Module {
-        name,
-        name_range: reader.range(),
-    })
+    Ok(Name::Module { name, name_range })
 }
 
 /// The name of the module is the whole subsection: bytes after it are `NameTrailing`, at the first of them. Other subsections
@@ -317,7 +315,7 @@ impl<'a> Subsection<'a> for Name<'a> {
             _ => Ok(Name::Unknown {
                 ty: id,
                 contents: reader.remaining_buffer(),
-                range: reader.range(),
+                range: reader.remaining_range(),
             }),
         }
     }

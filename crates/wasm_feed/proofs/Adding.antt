@@ -10,8 +10,8 @@ use Rattle.wasm_parser.specs.Reading as reading
 use Rattle.wasm_parser.specs.Reading.{last_event}
 use Rattle.wasm_parser.specs.declared.payload.Payload.{Payload}
 use Rattle.wasm_parser.specs.declared.payload.Payload.TheVariants.{Version, TypeSection, ImportSection, FunctionSection, TableSection, MemorySection, TagSection, GlobalSection, ExportSection, StartSection, ElementSection, DataCountSection, DataSection, CodeSectionStart, CodeSectionEntry, CustomSection, UnknownSection, End}
-use Rattle.wasm_parser.proofs.AnswerBounds.{consumes}
-use Rattle.wasm_feed.specs.Along.{Came}
+use Rattle.wasm_parser.proofs.ForCallers.{answers_go_along}
+use Rattle.wasm_parser.specs.Along.{Came}
 use Rattle.wasm_feed.specs.Cursors.{feed_of}
 use Rattle.wasm_feed.specs.Events.{IsKindOf, IsEvent, is_last, offsets_of, IsEventOfStep}
 use Rattle.wasm_feed.specs.Feed.{Feed, new_feed, pushed, finished}
@@ -23,7 +23,7 @@ use Rattle.wasm_feed.specs.declared.events.EventKind.TheVariants as kinds
 use Rattle.wasm_feed.specs.declared.feeder.Cursor.{Cursor}
 use Rattle.wasm_feed.specs.declared.feeder.Step.{Step}
 use Rattle.wasm_feed.specs.declared.feeder.Step.TheVariants.{NeedMoreData, Parsed}
-use Rattle.wasm_feed.proofs.Along.{begins, pushed as along_pushed, stepped}
+use Rattle.wasm_feed.proofs.Stepping.{stepped}
 use Rattle.wasm_feed.proofs.Joining.{joined_more, joined_parts}
 
 -- the end alone is the last payload
@@ -113,7 +113,7 @@ module _ {A : Type 0} (start features : ℕ) (given : List ℕ) (f g : Feed) (va
 pub fewer : {A : Type 0} (f g : Feed) (x : Result Step Error) (value : Event A) → Steps f x g → IsEventOfStep x (Some value) → is_last value.kind ≡ false → length g.held < length f.held
 fewer f g (Ok (NeedMoreData hint)) value s i n = absurd i
 fewer f g (Ok (Parsed bytes payload)) value s i n =
-    let c = consumes f.state g.state f.eof f.held (answer_of (Ok (Parsed bytes payload))) s.parses in
+    let c = answers_go_along.consumes f.state g.state f.eof f.held (answer_of (Ok (Parsed bytes payload))) s.parses in
     let some : nat_eq (length bytes.now) 0 ≡ false = c.1 ∙ (sym (last_is_end payload value.kind i.kind) ∙ n) in
     let parts : length f.held ≡ length bytes.now + length g.held = ap (λ (y : List ℕ). length y) s.shows ∙ length-append bytes.now g.held in
     let z : 0 < length bytes.now = not_zero (length bytes.now) some in
@@ -128,10 +128,10 @@ steps_in bytes old new x parses shows finished wants = record { parses = parses;
 -- ---- the pieces
 
 pub come_begins : {A : Type 0} (start features : ℕ) → HasCome {A = A} start features [] (new_feed start features) []
-come_begins start features = ([], begins start features, tt)
+come_begins start features = ([], answers_go_along.begins start features, tt)
 
 pub come_pushed : {A : Type 0} (start features : ℕ) (given : List ℕ) (f : Feed) (values : List (Event A)) (piece : List ℕ) → HasCome start features given f values → HasCome start features (given ++ piece) (pushed f piece) values
-come_pushed start features given f values piece h = (h.0, along_pushed start features given f.state f.held h.0 piece h.1, h.2)
+come_pushed start features given f values piece h = (h.0, answers_go_along.more start features given f.state f.held h.0 piece h.1, h.2)
 
 pub come_finished : {A : Type 0} (start features : ℕ) (given : List ℕ) (f g : Feed) (values : List (Event A)) → g ≡ finished f → HasCome start features given f values → HasCome start features given g values
 come_finished start features given f g values e h = subst (λ (x : Feed). HasCome start features given x values) (sym e) (h.0, h.1, h.2)

@@ -13,8 +13,7 @@ use Rattle.wasm_parser.specs.Reading.{Report, version, counted, start_section, d
 use Rattle.wasm_parser.specs.Shifted.{shifted_report, shifted_event, shifted_events}
 use Rattle.wasm_parser.specs.declared.payload.Encoding.{Encoding}
 use Rattle.wasm_parser.specs.declared.payload.Encoding.TheVariants.{Module, Component}
-use Rattle.wasm_parser.proofs.FramesKept.{frames_read_the_same}
-use Rattle.wasm_parser.proofs.KindIds.{id_as}
+use Rattle.wasm_parser.proofs.ForCallers.{frames_read_the_same, custom_id}
 use Rattle.wasm_feed.specs.Stripped.{custom_stays, frame_stays, report_stays, event_stays, left_bytes, staying, IsMovedBack}
 
 -- ---- the events of one section
@@ -49,7 +48,7 @@ custom_at keep features at f text used e z true s = inl (rw (z, e) s, (rw e s, t
 custom_at keep features at f text used e z false s = inr (rw (z, e) s, section_event features at custom f, refl, rw e s, refl)
 
 form_at : (keep : Bool) (features at : ℕ) (encoding : Encoding) (f : Frame) (form : Form) → kind_of encoding f.id ≡ whole form → IsFormed form f.sized.content → StaysOrGoes keep f (section_event features at form f ∷ [])
-form_at keep features at encoding f custom k (text, used, e) = custom_at keep features at f text used e (id_as encoding (whole custom) f.id k) (custom_stays keep text) refl
+form_at keep features at encoding f custom k (text, used, e) = custom_at keep features at f text used e (custom_id encoding f.id k) (custom_stays keep text) refl
 form_at keep features at encoding f items k g = inl (other_stays keep f (λ z. let n : whole items ≡ whole custom = custom_zero encoding f.id (whole items) k z in cc), (refl, tt), append-nil (frame_bytes f))
 form_at keep features at encoding f index k g = inl (other_stays keep f (λ z. let n : whole index ≡ whole custom = custom_zero encoding f.id (whole index) k z in cc), (refl, tt), append-nil (frame_bytes f))
 form_at keep features at encoding f data_count k g = inl (other_stays keep f (λ z. let n : whole data_count ≡ whole custom = custom_zero encoding f.id (whole data_count) k z in cc), (refl, tt), append-nil (frame_bytes f))

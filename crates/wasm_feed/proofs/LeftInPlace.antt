@@ -4,7 +4,7 @@ use Rattle.std.specs.List.{copy_within}
 use Rattle.std.proofs.lemmas.List.{take_at, drop-drop, length-drop, take-append-drop}
 use Rattle.std.proofs.lemmas.List.Edits.{take-paste, drop-paste}
 use lib.Seq.{paste}
-use Rattle.wasm_feed.specs.Along.{Along}
+use Rattle.wasm_parser.specs.Along.{Along}
 use Rattle.wasm_feed.specs.Cursors.{feed_of}
 use Rattle.wasm_feed.specs.Lists.{all_features}
 use Rattle.wasm_feed.specs.Strips.{HasLeft}

@@ -7,12 +7,11 @@ use Rattle.wasm_base.specs.declared.error.Error.{Error}
 use Rattle.wasm_parser.specs.Content.{fault, ended}
 use Rattle.wasm_parser.specs.EventRanges.{consumed_by}
 use Rattle.wasm_parser.specs.ParseAnswer.{report_of, is_end}
-use Rattle.wasm_parser.specs.Reading.{Report, version, counted, start_section, data_count_section, code_start, code_entry, custom_section, unknown_section, stream_end, Event, last_event, Reading}
+use Rattle.wasm_parser.specs.Reading.{Event, last_event, Reading}
 use Rattle.wasm_parser.specs.declared.payload.Payload.{Payload}
-use Rattle.wasm_parser.proofs.AnswerBounds.{consumes}
-use Rattle.wasm_parser.proofs.Ends.{tiles_consume}
+use Rattle.wasm_parser.proofs.ForCallers.{answers_go_along}
 use Rattle.wasm_parser.specs.ParserState.{ParserState, initial_state}
-use Rattle.wasm_feed.specs.Along.{Along, Came, ReadsEach}
+use Rattle.wasm_parser.specs.Along.{Along, Came, ReadsEach}
 use Rattle.wasm_feed.specs.Feed.{Feed}
 use Rattle.wasm_feed.specs.Lists.{all_features}
 use Rattle.wasm_feed.specs.Step.{answer_of, Steps}
@@ -21,25 +20,8 @@ use Rattle.wasm_feed.specs.Strips.{IsFateOf, FateComes, IsFewer, HasLeft, ReadsL
 use Rattle.wasm_feed.specs.declared.feeder.Step.TheVariants.{Parsed}
 use Rattle.wasm_feed.specs.declared.stripping.Fate.{Fate}
 use Rattle.wasm_feed.specs.declared.stripping.Fate.TheVariants.{Stays, Goes, End}
-use Rattle.wasm_feed.proofs.Along.{begins, pushed, stepped}
+use Rattle.wasm_feed.proofs.Stepping.{stepped}
 use Rattle.wasm_feed.proofs.LeftFrames.{left_more}
-
--- the end is the last of a reading
-ended_with : (r : Report) → is_end r ≡ true → (offset : ℕ) × (r ≡ stream_end (ended offset))
-ended_with (stream_end (ended offset)) e = (offset, refl)
-ended_with (stream_end (fault f)) e = cc
-ended_with (version num encoding from to) e = cc
-ended_with (counted id count window) e = cc
-ended_with (start_section func from to) e = cc
-ended_with (data_count_section count from to) e = cc
-ended_with (code_start count from to size) e = cc
-ended_with (code_entry window) e = cc
-ended_with (custom_section text data_offset window) e = cc
-ended_with (unknown_section id contents from to) e = cc
-
-no_bytes : (xs : List ℕ) → nat_eq (length xs) 0 ≡ true → xs ≡ []
-no_bytes [] e = refl
-no_bytes (x ∷ xs) e = absurd (grind (arith, nat_tests))
 
 some_bytes : (n : ℕ) → nat_eq n 0 ≡ false → 0 < n
 some_bytes n e = grind (arith, nat_tests)
@@ -47,7 +29,7 @@ some_bytes n e = grind (arith, nat_tests)
 -- fewer bytes are held after a part that isn't the end
 fewer : (f g : Feed) (bytes : Bor (List ℕ)) (payload : Payload) → Steps f (Ok (Parsed bytes payload)) g → is_end (report_of payload) ≡ false → length g.held < length f.held
 fewer f g bytes payload s n =
-    let c = consumes f.state g.state f.eof f.held (answer_of (Ok (Parsed bytes payload))) s.parses in
+    let c = answers_go_along.consumes f.state g.state f.eof f.held (answer_of (Ok (Parsed bytes payload))) s.parses in
     let parts : length f.held ≡ length bytes.now + length g.held = ap (λ (y : List ℕ). length y) s.shows ∙ length-append bytes.now g.held in
     let z : 0 < length bytes.now = some_bytes (length bytes.now) (c.1 ∙ n) in
     omega (arith, parts, z)
@@ -73,11 +55,7 @@ module _ (keep : Bool) (stream : List ℕ) (events : List Event) (f g : Feed) (a
       (u.event, (ap (report_stays keep) (sym u.is_payload.0) ∙ i.1, (u.goes_on i.0).0))
   part_comes bytes payload End s i =
       let u : Came 0 all_features true stream events bytes.now payload g.state g.held = came bytes payload s in
-      let (offset, e) = ended_with (report_of payload) i in
-      let c = consumes f.state g.state f.eof f.held (answer_of (Ok (Parsed bytes payload))) s.parses in
-      let r : u.event.report ≡ stream_end (ended offset) = sym u.is_payload.0 ∙ e in
-      let b : u.event.consumed ≡ [] = u.consumed ∙ no_bytes bytes.now (c.1 ∙ i) in
-      let last : u.event ≡ last_event (ended offset) = (λ j. record { report = r j; consumed = b j }) in
+      let (offset, last) = u.last i in
       (offset, subst (λ (x : Event). Reading stream 0 all_features (events ++ x ∷ [])) last (u.ends i stream refl))
 
   pub fault_comes : (e : Error) → Steps f (Err e) g → EndsWithFault stream e
@@ -90,7 +68,7 @@ module _ (keep : Bool) (stream : List ℕ) (events : List Event) (f g : Feed) (a
 -- nothing is read yet
 pub nothing_left : (keep : Bool) (stream : List ℕ) (f : Feed) → f.state ≡ initial_state 0 all_features → f.held ≡ stream → HasLeft keep stream f []
 nothing_left keep stream f s h =
-    ([], subst₂ (λ (p : ParserState) (held : List ℕ). Along 0 all_features stream p held []) (sym s) (sym h) (pushed 0 all_features [] (initial_state 0 all_features) [] [] stream (begins 0 all_features)), refl)
+    ([], subst₂ (λ (p : ParserState) (held : List ℕ). Along 0 all_features stream p held []) (sym s) (sym h) (answers_go_along.more 0 all_features [] (initial_state 0 all_features) [] [] stream (answers_go_along.begins 0 all_features)), refl)
 
 one_stays : (keep : Bool) (e : Event) → event_stays keep e ≡ true → left_bytes keep (e ∷ []) ≡ e.consumed
 one_stays keep e s = rw s (append-nil e.consumed)
@@ -131,6 +109,5 @@ left_shorter keep (e ∷ events) = by_fate (event_stays keep e) (left_shorter ke
 pub no_longer : (keep : Bool) (stream : List ℕ) (f : Feed) (left : List ℕ) → HasLeft keep stream f left → length left ≤ length stream
 no_longer keep stream f left (events, a, e) =
     let n : length left ≡ length (left_bytes keep events) = ap (λ (x : List ℕ). length x) e in
-    let c : length (consumed_by events) ≡ length a.prefix = ap (λ (x : List Event). length (consumed_by x)) a.listed ∙ ap (λ (x : List ℕ). length x) (tiles_consume 0 all_features a.is_after.tiles ∙ a.is_after.is_prefix) in
-    let w : length stream ≡ length a.prefix + length f.held = ap (λ (x : List ℕ). length x) a.whole ∙ length-append a.prefix f.held in
-    omega (arith, n, c, w, left_shorter keep events)
+    let w : length stream ≡ length (consumed_by events) + length f.held = ap (λ (x : List ℕ). length x) (answers_go_along.consumed 0 all_features stream f.state f.held events a) ∙ length-append (consumed_by events) f.held in
+    omega (arith, n, w, left_shorter keep events)

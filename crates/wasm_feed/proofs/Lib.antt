@@ -1,7 +1,7 @@
 pub mod Adding
-pub mod Along
 pub mod ByHand
 pub mod Decimal
+pub mod ForCallers
 pub mod Joining
 pub mod LeftFrames
 pub mod LeftInPlace

@@ -7,18 +7,21 @@ use Rattle.wasm_base.specs.FaultAt.{fault_at, at_offset}
 use Rattle.wasm_base.specs.declared.error.Error.{Error}
 use Rattle.wasm_base.specs.declared.fault.Fault.TheVariants.{OffsetRange}
 use Rattle.wasm_parser.specs.Content.{Ending, fault, ended}
+use Rattle.wasm_parser.specs.EventRanges.{consumed_by}
 use Rattle.wasm_parser.specs.GivesNextEvent.{MayBe, IsUndecided}
 use Rattle.wasm_parser.specs.ParseAnswer.{report_of, is_end, ParseAnswer}
 use Rattle.wasm_parser.specs.ParserState.{ParserState}
 use Rattle.wasm_parser.specs.Reading.{Report, stream_end, Event, events_of, last_event, Reading}
 use Rattle.wasm_parser.specs.declared.payload.Payload.{Payload}
-use Rattle.wasm_feed.specs.Along.{Along, ReadingBegins, ReadsEach, Came, Stepped}
+use Rattle.wasm_parser.specs.Along.{Along, ReadingBegins, BeginsEach, ReadsEach, Came}
+use Rattle.wasm_parser.proofs.ForCallers.{answers_go_along}
 use Rattle.wasm_feed.specs.Feed.{Feed, new_feed, pushed, finished}
 use Rattle.wasm_feed.specs.Listing.{listing_by}
 use Rattle.wasm_feed.specs.Lists.{all_features, IsEndedBy, IsWhole, IsListed, Begins, Fills, Refills, ListsBy}
+use Rattle.wasm_feed.specs.Progress.{weight, Progress, Wants}
 use Rattle.wasm_feed.specs.Page.{IsCut, PutsLine}
 use Rattle.wasm_feed.specs.Cursors.{feed_of}
-use Rattle.wasm_feed.specs.Step.{answer_of, shown, is_request, Steps}
+use Rattle.wasm_feed.specs.Step.{chunk_of, answer_of, shown, is_request, Stepped, Steps}
 use Rattle.wasm_feed.specs.declared.feeder.Cursor.{Cursor}
 use Rattle.wasm_feed.specs.Turns.{text_after, turn_after}
 use Rattle.wasm_feed.specs.declared.feeder.Step.{Step}
@@ -28,22 +31,13 @@ use Rattle.wasm_feed.specs.declared.listing.Ended.TheVariants.{End, Fault}
 use Rattle.wasm_feed.specs.declared.listing.ListError.{ListError}
 use Rattle.wasm_feed.specs.declared.listing.ListError.TheVariants.{Input, Output, Memory}
 use Rattle.wasm_feed.specs.declared.listing.Turn.TheVariants as turn
-use Rattle.wasm_feed.proofs.Along as along
-use Rattle.wasm_feed.proofs.Stepping.{after_answer}
+use Rattle.wasm_feed.proofs.Stepping.{stepped as step_along}
 
 -- ---- what the feeder was given
 
--- where the parser answers more than a fault, what was given is below the top
-below_top : (p q : ParserState) (eof : Bool) (held : List ℕ) (step : Step) → ParseAnswer p eof held (answer_of (Ok step)) q → p.offset + length held < 2 ^ 64
-below_top p q eof held step a = by_test (nat_lt (p.offset + length held) (2 ^ 64)) refl
-  where
-    by_test : (b : Bool) → nat_lt (p.offset + length held) (2 ^ 64) ≡ b → p.offset + length held < 2 ^ 64
-    by_test true t = ltb-true _ _ t
-    by_test false t = absurd (a.past_the_top (ltb-false _ _ t))
-
--- a request leaves the parser where it is
-asked_stays : {p q : ParserState} {eof : Bool} {held : List ℕ} {hint : ℕ} → ParseAnswer p eof held (answer_of (Ok (NeedMoreData hint))) q → q ≡ p
-asked_stays {p} {q} {eof} {held} {hint} a = after_answer p q eof held (answer_of (Ok (NeedMoreData hint))) a
+-- a reading that is told begins each of its streams
+whole_begins : (start features : ℕ) (eof : Bool) (given : List ℕ) (events : List Event) → ReadsEach start features eof given events → BeginsEach start features eof given events
+whole_begins start features eof given events r stream m = record { events = events; more = []; reading = r stream m; begins = sym (append-nil events) }
 
 -- a source that kept its bytes
 kept : (left rest rest' : Option (List ℕ)) (given : List ℕ) → Consumes left rest given → Keeps rest rest' → Consumes left rest' given
@@ -77,29 +71,14 @@ all_given : (eof : Bool) (given : List ℕ) → MayBe eof given given
 all_given true given = refl
 all_given false given = ([], sym (append-nil given))
 
--- how much there may be left: bytes to consume, bytes to come, and the end to be told
-abbrev pub weight : Feed → ℕ
-weight f = (2 ^ 64 - f.state.offset) + ((2 ^ 64 - (f.state.offset + length f.held)) + (if f.eof then 0 else 1))
-
 -- ---- what is listed: each event by the text of what it reports
 
 module _ (text_of : Report → List ℕ) where
-  -- The lines of what the feeder has passed are written, or wait on the page.
-  pub record Progress (left rest taken written : Option (List ℕ)) (f : Feed) (page : List ℕ) : Type 0 where
-    pub given : List ℕ
-    pub events : List Event
-    pub is_along : Along 0 all_features given f.state f.held events
-    pub gave : Consumes left rest given
-    pub at_end : f.eof ≡ true → IsAtEnd rest
-    pub lines : List ℕ
-    pub listed : Appends taken written lines
-    pub parts : listing_by text_of events ≡ lines ++ page
-
-  pub begun : (left taken : Option (List ℕ)) → Progress left left taken taken (new_feed 0 all_features) []
+  pub begun : (left taken : Option (List ℕ)) → Progress text_of left left taken taken (new_feed 0 all_features) []
   begun left taken = record {
     given = [];
     events = [];
-    is_along = along.begins 0 all_features;
+    is_along = answers_go_along.begins 0 all_features;
     gave = Consumes-nil left;
     at_end = λ e. let no : true ≡ false = sym e in cc;
     lines = [];
@@ -135,26 +114,25 @@ module _ (text_of : Report → List ℕ) where
     same : line ≡ text_of (stream_end end)
     ends : IsEndedBy how end
     within : length given < 2 ^ 64 → ReadsEach 0 all_features eof given (events ++ last_event end ∷ [])
-    past_the_top : 2 ^ 64 ≤ length given → (offset : ℕ) × (end ≡ fault (at_offset OffsetRange offset))
-
-  -- More may come, the parser is undecided on what is held, and what was given is below the top.
-  pub record Wants (left rest taken written : Option (List ℕ)) (f : Feed) (page : List ℕ) : Type 0 where
-    pub progress : Progress left rest taken written f page
-    pub hint : ℕ
-    pub undecided : IsUndecided f.state f.eof f.held hint
-    pub below : length progress.given < 2 ^ 64
+    past_the_top : 2 ^ 64 ≤ length given → end ≡ fault (at_offset OffsetRange (length (consumed_by events)))
 
   -- ---- a turn
 
-  module _ (left rest taken written : Option (List ℕ)) (f : Feed) (page : List ℕ) (p : Progress left rest taken written f page) where
+  module _ (left rest taken written : Option (List ℕ)) (f : Feed) (page : List ℕ) (p : Progress text_of left rest taken written f page) where
     ends_at : f.state.offset + length f.held ≡ length p.given
-    ends_at = let o : f.state.offset + length f.held ≡ 0 + length p.given = along.ends_at 0 all_features p.given f.state f.held p.events p.is_along in omega (arith, o)
+    ends_at = let o : f.state.offset + length f.held ≡ 0 + length p.given = answers_go_along.ends 0 all_features p.given f.state f.held p.events p.is_along in omega (arith, o)
+
+    -- the parser is where the events end
+    passed : f.state.offset ≡ length (consumed_by p.events)
+    passed =
+        let n : length p.given ≡ length (consumed_by p.events) + length f.held = ap (λ (x : List ℕ). length x) (answers_go_along.consumed 0 all_features p.given f.state f.held p.events p.is_along) ∙ length-append (consumed_by p.events) f.held in
+        omega (arith, n, ends_at)
 
     begins_here : ReadingBegins 0 all_features p.given p.events
-    begins_here = along.events_begin 0 all_features p.given f.state f.held p.events p.is_along true p.given refl
+    begins_here = answers_go_along.first 0 all_features p.given f.state f.held p.events true p.is_along p.given refl
 
     -- all lines that waited are written
-    pub written_out : (written' : Option (List ℕ)) → Appends written written' page → Progress left rest taken written' f []
+    pub written_out : (written' : Option (List ℕ)) → Appends written written' page → Progress text_of left rest taken written' f []
     written_out written' w = record {
       given = p.given;
       events = p.events;
@@ -185,7 +163,7 @@ module _ (text_of : Report → List ℕ) where
       shown = p.lines;
       gave = Consumes-trans left rest rest' p.given piece p.gave c;
       listed = p.listed;
-      begins = λ l. begins_listing (p.given ++ piece) p.events p.lines page (along.events_begin 0 all_features p.given f.state f.held p.events p.is_along false (p.given ++ piece) (piece, refl)) p.parts;
+      begins = λ l. begins_listing (p.given ++ piece) p.events p.lines page (answers_go_along.first 0 all_features p.given f.state f.held p.events false p.is_along (p.given ++ piece) (piece, refl)) p.parts;
     }
 
     -- the line of an event was put after those that waited
@@ -219,19 +197,19 @@ module _ (text_of : Report → List ℕ) where
     module _ (g : Feed) where
       -- what a step did, where what was given is below the top
       stepped : (x : Result Step Error) → Steps f x g → length p.given < 2 ^ 64 → Stepped 0 all_features f.eof p.given p.events x g.state g.held
-      stepped x s l = along.stepped 0 all_features p.given f.state f.held p.events p.is_along f.eof x g.state g.held (omega (arith, l)) s.parses s.shows
+      stepped x s l = step_along 0 all_features p.given f.state f.held p.events p.is_along f.eof x g.state g.held (omega (arith, l)) s.parses s.shows
 
       given_below : (step : Step) → Steps f (Ok step) g → length p.given < 2 ^ 64
-      given_below step s = let o = below_top f.state g.state f.eof f.held step s.parses in omega (arith, o, ends_at)
+      given_below step s = let o = answers_go_along.below f.state g.state f.eof f.held (chunk_of step) s.parses in omega (arith, o, ends_at)
 
       -- an event that isn't the last one
       went_on : (bytes : _) (payload : Payload) → (s : Steps f (Ok (Parsed bytes payload)) g) → is_end (report_of payload) ≡ false
-          → (written' : Option (List ℕ)) (page' : List ℕ) → PutsLine written written' page (text_of (report_of payload)) page' → Progress left rest taken written' g page' × (weight g < weight f)
+          → (written' : Option (List ℕ)) (page' : List ℕ) → PutsLine written written' page (text_of (report_of payload)) page' → Progress text_of left rest taken written' g page' × (weight g < weight f)
       went_on bytes payload s n written' page' w =
           let came : Came 0 all_features f.eof p.given p.events bytes.now payload g.state g.held = stepped (Ok (Parsed bytes payload)) s (given_below (Parsed bytes payload) s) in
           let (after, some) = came.goes_on n in
           let (wrote, parts) = put_line written' (text_of (report_of payload)) page' came.event w (ap text_of came.is_payload.0) in
-          let o : g.state.offset + length g.held ≡ 0 + length p.given = along.ends_at 0 all_features p.given g.state g.held (p.events ++ came.event ∷ []) after in
+          let o : g.state.offset + length g.held ≡ 0 + length p.given = answers_go_along.ends 0 all_features p.given g.state g.held (p.events ++ came.event ∷ []) after in
           let n : length f.held ≡ length bytes.now + length g.held = ap (λ (z : List ℕ). length z) s.shows ∙ length-append bytes.now g.held in (
             record {
               given = p.given;
@@ -250,35 +228,35 @@ module _ (text_of : Report → List ℕ) where
 
     module _ (g : Feed) (x : Result Step Error) (s : Steps f x g) (written' : Option (List ℕ)) (page' : List ℕ) (w : PutsLine written written' page (text_after text_of x) page') where
       -- an event that isn't the last one: there is less to consume
-      pub advanced : turn.Advance ≡ turn_after x → Progress left rest taken written' g page' × (weight g < weight f)
+      pub advanced : turn.Advance ≡ turn_after x → Progress text_of left rest taken written' g page' × (weight g < weight f)
       advanced t = by_answer x refl t
         where
-          by_end : (bytes : _) (payload : Payload) (b : Bool) → is_end (report_of payload) ≡ b → turn.Advance ≡ (if b then turn.End End else turn.Advance) → x ≡ Ok (Parsed bytes payload) → Progress left rest taken written' g page' × (weight g < weight f)
+          by_end : (bytes : _) (payload : Payload) (b : Bool) → is_end (report_of payload) ≡ b → turn.Advance ≡ (if b then turn.End End else turn.Advance) → x ≡ Ok (Parsed bytes payload) → Progress text_of left rest taken written' g page' × (weight g < weight f)
           by_end bytes payload true e t is = cc
           by_end bytes payload false e t is =
               let s' = subst (λ y. Steps f y g) is s in
               went_on g bytes payload s' e written' page' (subst (λ y. PutsLine written written' page (text_after text_of y) page') is w)
 
-          by_answer : (y : Result Step Error) → x ≡ y → turn.Advance ≡ turn_after y → Progress left rest taken written' g page' × (weight g < weight f)
+          by_answer : (y : Result Step Error) → x ≡ y → turn.Advance ≡ turn_after y → Progress text_of left rest taken written' g page' × (weight g < weight f)
           by_answer (Ok (NeedMoreData hint)) is t = cc
           by_answer (Ok (Parsed bytes payload)) is t = by_end bytes payload (is_end (report_of payload)) refl t is
           by_answer (Err e) is t = cc
 
       -- a request: the parser is undecided
-      pub asked : turn.Read ≡ turn_after x → Wants left rest taken written' g page' × (weight g ≡ weight f)
+      pub asked : turn.Read ≡ turn_after x → Wants text_of left rest taken written' g page' × (weight g ≡ weight f)
       asked t = by_answer x refl t
         where
           by_end : (b : Bool) → turn.Read ≡ (if b then turn.End End else turn.Advance) → ⊥
           by_end true t = cc
           by_end false t = cc
 
-          request : (hint : ℕ) → x ≡ Ok (NeedMoreData hint) → Wants left rest taken written' g page' × (weight g ≡ weight f)
+          request : (hint : ℕ) → x ≡ Ok (NeedMoreData hint) → Wants text_of left rest taken written' g page' × (weight g ≡ weight f)
           request hint is =
               let s' = subst (λ y. Steps f y g) is s in
               let w' = subst (λ y. PutsLine written written' page (text_after text_of y) page') is w in
               let l = given_below g (NeedMoreData hint) s' in
               let (u, a) = stepped g (Ok (NeedMoreData hint)) s' l in
-              let stays : g.state ≡ f.state = asked_stays s'.parses in (
+              let stays : g.state ≡ f.state = answers_go_along.becomes f.state g.state f.eof f.held (answer_of (Ok (NeedMoreData hint))) s'.parses in (
                 record {
                   progress = record {
                     given = p.given;
@@ -297,7 +275,7 @@ module _ (text_of : Report → List ℕ) where
                 rw (stays, sym s'.shows, s.eof) refl,
               )
 
-          by_answer : (y : Result Step Error) → x ≡ y → turn.Read ≡ turn_after y → Wants left rest taken written' g page' × (weight g ≡ weight f)
+          by_answer : (y : Result Step Error) → x ≡ y → turn.Read ≡ turn_after y → Wants text_of left rest taken written' g page' × (weight g ≡ weight f)
           by_answer (Ok (NeedMoreData hint)) is t = request hint is
           by_answer (Ok (Parsed bytes payload)) is t = absurd (by_end (is_end (report_of payload)) t)
           by_answer (Err e) is t = cc
@@ -335,7 +313,7 @@ module _ (text_of : Report → List ℕ) where
                 same = refl;
                 ends = subst (λ (h : Ended). IsEndedBy h (fault (fault_at e))) (sym is_it) refl;
                 within = λ l. (stepped g (Err e) s' l).0;
-                past_the_top = λ h. (f.state.offset, ap fault (s'.parses.past_the_top (omega (arith, h, ends_at))).0);
+                past_the_top = λ h. ap fault (s'.parses.past_the_top (omega (arith, h, ends_at))).0 ∙ ap (λ (o : ℕ). fault (at_offset OffsetRange o)) passed;
               }
 
       -- all is written, and the run ends
@@ -350,7 +328,7 @@ module _ (text_of : Report → List ℕ) where
             listed = last_line written' (text_after text_of x) page' a.end w a.same written'' v;
             ends = a.ends;
             within = λ l. whole_input (p.events ++ last_event a.end ∷ []) (a.within l);
-            past_the_top = λ h. record { begins = begins_here; offset = (a.past_the_top h).0; is_fault = (a.past_the_top h).1 };
+            past_the_top = λ h. record { begins = begins_here; is_fault = a.past_the_top h };
           }
 
       -- the last lines were cut
@@ -364,7 +342,7 @@ module _ (text_of : Report → List ℕ) where
             gave = p.gave;
             listed = Appends-trans taken written' written'' (p.lines ++ w.lines) (take n page') wrote v;
             begins = λ l. begins_listing p.given (p.events ++ last_event a.end ∷ []) ((p.lines ++ w.lines) ++ take n page') (drop n page')
-                (along.whole_begins 0 all_features true p.given (p.events ++ last_event a.end ∷ []) (λ stream m. subst (λ (y : List ℕ). Reading y 0 all_features (p.events ++ last_event a.end ∷ [])) (sym m) (a.within l p.given (all_given f.eof p.given))) p.given refl)
+                (whole_begins 0 all_features true p.given (p.events ++ last_event a.end ∷ []) (λ stream m. subst (λ (y : List ℕ). Reading y 0 all_features (p.events ++ last_event a.end ∷ [])) (sym m) (a.within l p.given (all_given f.eof p.given))) p.given refl)
                 (parts ∙ cut_page (p.lines ++ w.lines) page' n);
           }
       end_cut how t written'' Input v = absurd v
@@ -373,7 +351,7 @@ module _ (text_of : Report → List ℕ) where
   -- ---- a read
 
   -- the lines that waited are written
-  pub wants_written : (left rest taken written written' : Option (List ℕ)) (f : Feed) (page : List ℕ) → Wants left rest taken written f page → Appends written written' page → Wants left rest taken written' f []
+  pub wants_written : (left rest taken written written' : Option (List ℕ)) (f : Feed) (page : List ℕ) → Wants text_of left rest taken written f page → Appends written written' page → Wants text_of left rest taken written' f []
   unfolding written_out
   wants_written left rest taken written written' f page p w = record {
     progress = written_out left rest taken written f page p.progress written' w;
@@ -382,14 +360,14 @@ module _ (text_of : Report → List ℕ) where
     below = p.below;
   }
 
-  module _ (left rest taken written : Option (List ℕ)) (f : Feed) (wants : Wants left rest taken written f []) where
-    p : Progress left rest taken written f []
+  module _ (left rest taken written : Option (List ℕ)) (f : Feed) (wants : Wants text_of left rest taken written f []) where
+    p : Progress text_of left rest taken written f []
     p = wants.progress
 
     -- the source failed: the lines of all events but the last are written
     pub input_fails : (rest' : Option (List ℕ)) → Keeps rest rest' → ListsBy text_of left rest' taken written (Err Input)
     input_fails rest' k =
-        let (end, reading) = along.undecided_ends 0 all_features p.given f.state f.held p.events p.is_along f.eof wants.hint wants.undecided in
+        let (end, reading) = answers_go_along.cut_short 0 all_features p.given f.state f.held p.events f.eof wants.hint p.is_along wants.undecided in
         record {
           given = p.given;
           events = p.events;
@@ -400,8 +378,8 @@ module _ (text_of : Report → List ℕ) where
         }
 
     -- it gave something, or ended
-    pub filled : (rest' : Option (List ℕ)) (g : Feed) → Fills rest rest' f g → Progress left rest' taken written g [] × (weight g < weight f)
-    filled rest' g (inl (none, at_end, is)) = subst (λ (h : Feed). Progress left rest' taken written h [] × (weight h < weight f)) (sym is) (
+    pub filled : (rest' : Option (List ℕ)) (g : Feed) → Fills rest rest' f g → Progress text_of left rest' taken written g [] × (weight g < weight f)
+    filled rest' g (inl (none, at_end, is)) = subst (λ (h : Feed). Progress text_of left rest' taken written h [] × (weight h < weight f)) (sym is) (
       record {
         given = p.given;
         events = p.events;
@@ -414,11 +392,11 @@ module _ (text_of : Report → List ℕ) where
       },
       rw wants.undecided.0 (omega arith),
     )
-    filled rest' g (inr (piece, gave, some, is)) = subst (λ (h : Feed). Progress left rest' taken written h [] × (weight h < weight f)) (sym is) (
+    filled rest' g (inr (piece, gave, some, is)) = subst (λ (h : Feed). Progress text_of left rest' taken written h [] × (weight h < weight f)) (sym is) (
       record {
         given = p.given ++ piece;
         events = p.events;
-        is_along = along.pushed 0 all_features p.given f.state f.held p.events piece p.is_along;
+        is_along = answers_go_along.more 0 all_features p.given f.state f.held p.events piece p.is_along;
         gave = Consumes-trans left rest rest' p.given piece p.gave gave;
         at_end = λ e. let no : true ≡ false = sym e ∙ wants.undecided.0 in cc;
         lines = p.lines;

@@ -13,11 +13,8 @@ use Rattle.wasm_parser.specs.Reading.{stream_end, Event, last_event, events_of, 
 use Rattle.wasm_parser.specs.Shifted.{shifted_event}
 use Rattle.wasm_parser.specs.declared.payload.Encoding.{Encoding}
 use Rattle.wasm_parser.specs.declared.payload.Encoding.TheVariants.{Module, Component}
-use Rattle.wasm_parser.proofs.AcceptedFrames.{reads_accepted}
-use Rattle.wasm_parser.proofs.AcceptedLists.{all_prefix}
-use Rattle.wasm_parser.proofs.Accepting.{fault_ends}
-use Rattle.wasm_parser.proofs.FramesKept.{Spares, filter_twice, each_of, rankless_may_go}
-use Rattle.wasm_parser.proofs.FramesTold.{one_division, frames_give_events}
+use Rattle.wasm_parser.proofs.ForCallers.{reads_accepted, fault_ends, rankless_may_go, one_division, frames_give_events}
+use Rattle.wasm_parser.proofs.PlainLists.{all_prefix, Spares, filter_twice, each_of}
 use Rattle.wasm_feed.specs.Lists.{all_features}
 use Rattle.wasm_feed.specs.Stripped.{frame_stays, stripped, left_bytes, AreLeft, IsStripped, EndsWithFault, RefusesToStrip, LeavesStream, StripsInPlace, StrippingTwiceIsOnce}
 use Rattle.wasm_feed.specs.Strips.{MovesLeft, ReadsLeft}

@@ -4,8 +4,9 @@ use Rattle.std.specs.Io.KnownBytes.{Consumes, Appends, IsAtEnd, Keeps}
 use Rattle.wasm_base.specs.FaultAt.{fault_at, at_offset}
 use Rattle.wasm_base.specs.declared.fault.Fault.TheVariants.{OffsetRange}
 use Rattle.wasm_parser.specs.Content.{Ending, fault, ended}
+use Rattle.wasm_parser.specs.EventRanges.{consumed_by}
 use Rattle.wasm_parser.specs.Reading.{Report, Event, last_event, Reading}
-use Rattle.wasm_feed.specs.Along.{ReadingBegins}
+use Rattle.wasm_parser.specs.Along.{ReadingBegins}
 use Rattle.wasm_feed.specs.Feed.{Feed, pushed, finished}
 use Rattle.wasm_feed.specs.Listing.{line_of, listing_by}
 use Rattle.wasm_feed.specs.declared.listing.Ended.{Ended}
@@ -29,11 +30,11 @@ pub record IsWhole (left : Option (List ℕ)) (given : List ℕ) (events : List 
   pub reading : Reading given 0 all_features events
   pub all : IfSome left (λ input. Reading input 0 all_features events)
 
--- The bytes that the source gave pass the top of the offsets, which is the fault after these events of theirs.
+-- The bytes that the source gave pass the top of the offsets, which is the fault after these events of theirs, at the offset where
+-- these end: the parser's.
 pub record PassesTop (given : List ℕ) (first : List Event) (end : Ending) : Type 0 where
   pub begins : ReadingBegins 0 all_features given first
-  pub offset : ℕ
-  pub is_fault : end ≡ fault (at_offset OffsetRange offset)
+  pub is_fault : end ≡ fault (at_offset OffsetRange (length (consumed_by first)))
 
 -- Written is the listing of all events of what the source gave, and the run ended as they do.
 pub record IsListed (text_of : Report → List ℕ) (left rest taken written : Option (List ℕ)) (how : Ended) : Type 0 where

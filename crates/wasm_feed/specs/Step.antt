@@ -1,9 +1,10 @@
 -- What a step of a feeder answers, and what the feeder then is.
-use Rattle.std.specs.Prelude.{◌≡◌, ℕ, ◌+◌, Bool, true, false, List, [], ◌++◌, length, drop, Result, Ok, Err, if◌then◌else◌}
+use Rattle.std.specs.Prelude.{◌≡◌, ℕ, Bool, true, false, List, [], ◌++◌, length, drop, Result, Ok, Err}
 use Rattle.wasm_base.specs.declared.error.Error.{Error}
-use Rattle.wasm_parser.specs.ParseAnswer.{ParseAnswer, report_of, is_end}
-use Rattle.wasm_parser.specs.ParserState.{ParserState, ended_state}
-use Rattle.wasm_parser.specs.StateAfter.{state_after}
+use Rattle.wasm_parser.specs.Along.{state_after_answer, GoesAlong}
+use Rattle.wasm_parser.specs.ParseAnswer.{ParseAnswer}
+use Rattle.wasm_parser.specs.ParserState.{ParserState}
+use Rattle.wasm_parser.specs.Reading.{Event}
 use Rattle.wasm_parser.specs.declared.payload.Chunk.{Chunk}
 use Rattle.wasm_parser.specs.declared.payload.Chunk.TheVariants as chunk
 use Rattle.wasm_feed.specs.Feed.{Feed}
@@ -31,13 +32,6 @@ is_request (Ok (NeedMoreData hint)) = true
 is_request (Ok (Parsed bytes payload)) = false
 is_request (Err e) = false
 
--- the parser after an answer: what was reported is passed, and nothing else changes it
-abbrev pub state_after_answer : ParserState → Result Chunk Error → ParserState
-state_after_answer p (Ok (chunk.NeedMoreData hint)) = p
-state_after_answer p (Ok (chunk.Parsed consumed payload)) =
-    if is_end (report_of payload) then ended_state p else state_after p (p.offset + consumed) (report_of payload)
-state_after_answer p (Err e) = p
-
 -- The step is what a parser that is here answers on these bytes, and shows those that it consumed.
 pub record GivesStep (p : ParserState) (eof : Bool) (held : List ℕ) (result : Result Step Error) : Type 0 where
   pub parses : ParseAnswer p eof held (answer_of result) (state_after_answer p (answer_of result))
@@ -51,3 +45,7 @@ pub record Steps (old : Feed) (result : Result Step Error) (new : Feed) : Type 0
   pub stored : new.stored ≡ old.stored
   pub eof : new.eof ≡ old.eof
   pub wants_more : new.wants_more ≡ is_request result
+
+-- what a step says of every stream that goes on as what was given, of which these events were read before it
+abbrev pub Stepped : (start features : ℕ) (eof : Bool) (given : List ℕ) (events : List Event) → Result Step Error → (new : ParserState) (left : List ℕ) → Type 0
+Stepped start features eof given events result new left = GoesAlong start features eof given events (answer_of result) (shown result) new left

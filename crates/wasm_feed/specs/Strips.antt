@@ -6,7 +6,7 @@ use Rattle.wasm_base.specs.declared.error.Error.{Error}
 use Rattle.wasm_parser.specs.Content.{ended}
 use Rattle.wasm_parser.specs.ParseAnswer.{is_end}
 use Rattle.wasm_parser.specs.Reading.{Report, Event, last_event, Reading}
-use Rattle.wasm_feed.specs.Along.{Along}
+use Rattle.wasm_parser.specs.Along.{Along}
 use Rattle.wasm_feed.specs.Feed.{Feed}
 use Rattle.wasm_feed.specs.Lists.{all_features}
 use Rattle.wasm_feed.specs.Stripped.{event_stays, report_stays, left_bytes, EndsWithFault}

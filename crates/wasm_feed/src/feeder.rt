@@ -218,7 +218,8 @@ impl<A: Allocator> Feeder<A> {
     }
 
     /// Reads from this source once, into `room`, and takes what came as the next bytes of the stream; or where nothing came,
-    /// that it was the end. A stream that passes the offset 2^64 - 1 is a fault of the next step.
+    /// that it was the end. A stream that passes the offset 2^64 - 1 is a fault of the next step. The feeder must want more, as for
+    /// `push`, and `room` must have a byte.
     ///
     /// `Input` where the source failed; `Memory` where the growth was refused. Either leaves the feeder as it was.
     pub fn read_from<R: Source>(
@@ -226,7 +227,8 @@ impl<A: Allocator> Feeder<A> {
         input: &mut R,
         room: &mut [u8],
     ) -> std::result::Result<(), ListError>
-        requires { 0 < length room.old }
+        requires wants { self.old.wants_more ≡ true }
+        requires room { 0 < length room.old }
         ensures refills { Refills (R.left input.old) (R.left input.new) self.old self.new result }
         ensures failed { R.has_failed input.new ≡ input_failed result (R.has_failed input.old) }
         ensures unchanged { OnErr result (self.new ≡ self.old) }

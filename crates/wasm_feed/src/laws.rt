@@ -3,13 +3,21 @@ ghost use Rattle.wasm_base.specs.Comparing.{DecidesWhether, DecidesSame, IsCopy}
 ghost use Rattle.std.specs.Prelude.{◌≡◌};
 ghost use Rattle.wasm_feed.specs.Ends.{fault_at_end};
 ghost use Rattle.wasm_feed.specs.Stripped.{StrippingTwiceIsOnce};
-ghost use Rattle.wasm_feed.specs.Waits.{FeedersWait};
+ghost use Rattle.wasm_feed.specs.FeedersLaws.{FeedersGoAlong, FeedersWait};
 
 use crate::listing::{Ended, ListError};
 use crate::source::Failed;
 
-/// A feeder wants more only where its parser is undecided on the bytes that it holds, and more may come. After a push it
-/// stores less than the bytes that bound the undecided ones and the piece together.
+/// Where a feeder is along a stream: a new one is where nothing was given, a piece adds to what was given, and a step is the next
+/// event of every stream that goes on so, its last one, or undecided, whatever calls came before. A payload but the end shows some
+/// bytes, so a loop over steps ends; what the parser is afterwards follows from the step; and after the end or a fault the next
+/// step answers the same.
+pub fn feeders_go_along()
+    ensures { FeedersGoAlong }
+{}
+
+/// A feeder wants more only where its parser is undecided on the bytes that it holds, and more may come. After bytes
+/// came, by a push or a read, it stores less than the bound of the undecided ones and the piece together.
 pub fn feeders_wait_where_undecided()
     ensures { FeedersWait }
 {}

@@ -139,6 +139,7 @@ impl<W: Write> WriteSink<W> {
     pub fn new(writer: W) -> Self
         ensures writer { result.writer ≡ writer }
         ensures failed { result.failed ≡ false }
+        ensures all { result.handed_on ≡ true }
     {
         WriteSink {
             writer,
@@ -152,6 +153,7 @@ impl<W: Write> WriteSink<W> {
         ensures bytes { Keeps (W.contents self.old.writer) (W.contents self.new.writer) }
         ensures failed { self.new.failed ≡ (if is_ok result then self.old.failed else true) }
         ensures all { OnOk result (self.new.handed_on ≡ true) }
+        ensures kept { OnErr result (self.new.handed_on ≡ self.old.handed_on) }
     {
         match self.writer.flush() {
             Ok(()) => {

@@ -1,10 +1,12 @@
 // Worked examples, devices that fail or go short, and memory that runs out.
+mod bytewise;
 mod devices;
 mod endings;
 mod feeding;
 mod listings;
 mod modules;
 mod pieces;
+mod reads;
 mod refusals;
 mod stripping;
 

@@ -5,3 +5,4 @@ pub mod OwnBytes
 pub mod Same
 pub mod SameGroup
 pub mod ToCome
+pub mod PassedItems

@@ -7,7 +7,7 @@ use Rattle.wasm_base.specs.Item.{ReadsAs}
 use Rattle.wasm_base.specs.Section.{Items, NextItem}
 use Rattle.wasm_base.specs.Window.{place}
 use Rattle.wasm_base.specs.declared.error.Error.{Error}
-use Rattle.wasm_items.specs.Flattened.{group_imports, imports_of_groups, GivesFirst, GivesAll}
+use Rattle.wasm_items.specs.Flattened.{group_imports, imports_of_groups, NextImport, GivesAll}
 use Rattle.wasm_items.specs.Imports.{ImportParts, group_parts, group_at}
 use Rattle.wasm_items.specs.declared.imports.Imports.{Imports}
 
@@ -66,17 +66,17 @@ group_given s t x next =
     let read = item.0 in
     rw (on, left, read, item.2) refl
 
-module _ {A B : Type 0} (view : A → B) where
-  run_is_all : (s t u : List B) (given : List A) → Yields (GivesFirst view) s given t → GivesFirst view t None u → map view given ≡ s
-  run_is_all s t u [] run end = sym (run ∙ end.0)
-  run_is_all s t u (x ∷ given) run end = rw (run_is_all run.0 t u given run.2 end) (sym run.1)
+module _ {X B : Type 0} (view : Result X Error → B) where
+  run_is_all : (s t u : List B) (given : List (Result X Error)) → Yields (NextImport view) s given t → NextImport view t None u → map view given ≡ s
+  run_is_all s t u [] run end = sym (run ∙ end.0.0)
+  run_is_all s t u (x ∷ given) run end = rw (run_is_all run.0 t u given run.2 end) (sym run.1.0)
 
-  nothing_after : (s t u : List B) (given : Option A) → GivesFirst view s None t → GivesFirst view t given u → given ≡ None
+  nothing_after : (s t u : List B) (given : Option (Result X Error)) → NextImport view s None t → NextImport view t given u → given ≡ None
   nothing_after s t u None end next = refl
-  nothing_after s t u (Some x) end next = absurd (let z : [] ≡ view x ∷ u = sym end.1 ∙ next in cc)
+  nothing_after s t u (Some x) end next = absurd (let z : [] ≡ view x ∷ u = sym end.0.1 ∙ next.0 in cc)
 
   -- All that is to come is given.
-  pub gives_all : GivesAll view (GivesFirst view)
+  pub gives_all : GivesAll view (NextImport view)
   gives_all = record {
     items = λ s given run. run_is_all s run.1.0 run.0 given run.1.1 run.1.2;
     after = λ s t u given end next. nothing_after s t u given end next;

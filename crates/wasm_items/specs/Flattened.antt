@@ -1,8 +1,9 @@
 -- The imports of an import section one by one, without their groups. Core specification, Binary format, Modules, Import Section; the groups
 -- are of the proposal for compact imports.
-use Rattle.std.specs.Prelude.{◌≡◌, ℕ, zero, suc, List, [], ◌∷◌, ◌++◌, map, Option, Some, None, Result, Ok, Err, if◌then◌else◌}
+use Rattle.std.specs.Prelude.{◌≡◌, ℕ, zero, suc, List, [], ◌∷◌, ◌++◌, map, Option, Some, None, IfSome, Result, Ok, Err, if◌then◌else◌}
 use Rattle.std.specs.Iterator.{Drains}
 use Rattle.wasm_base.specs.FaultAt.{FaultAt, fault_at}
+use Rattle.wasm_base.specs.Hints.{TakesNoMemory}
 use Rattle.wasm_base.specs.Name.{name_limit, text_at}
 use Rattle.wasm_base.specs.Outcome.{Outcome}
 use Rattle.wasm_base.specs.Section.{Items, at_the_end}
@@ -77,6 +78,10 @@ found (Err e) = Err (fault_at e)
 abbrev pub GivesFirst : {A B : Type 0} → (A → B) → List B → Option A → List B → Type 0
 GivesFirst view before (Some given) after = before ≡ view given ∷ after
 GivesFirst view before None after = (before ≡ []) × (after ≡ [])
+
+-- one call of `next`, which takes no memory
+abbrev pub NextImport : {X B : Type 0} → (Result X Error → B) → List B → Option (Result X Error) → List B → Type 0
+NextImport view before given after = GivesFirst view before given after × IfSome given TakesNoMemory
 
 -- Calls of `next` up to the first `None` give all that is to come, in order, and nothing comes after that `None`.
 pub record GivesAll {A B : Type 0} (view : A → B) (next : List B → Option A → List B → Type 0) : Type 0 where

@@ -1,8 +1,9 @@
 // The imports of an import section one by one.
 ghost use Rattle.std.specs.Iterator.{at_most};
-ghost use Rattle.std.specs.Prelude.{◌≡◌, ◌++◌, [], map, length};
+ghost use Rattle.std.specs.Prelude.{◌≡◌, ◌++◌, [], map, length, IfSome};
+ghost use Rattle.wasm_base.specs.Hints.{TakesNoMemory};
 ghost use Rattle.wasm_base.specs.Window.{place};
-ghost use Rattle.wasm_items.specs.Flattened.{imports_of_groups, group_imports, flattened, import_alone, found_at, found, GivesFirst};
+ghost use Rattle.wasm_items.specs.Flattened.{imports_of_groups, group_imports, flattened, import_alone, found_at, found, GivesFirst, NextImport};
 ghost use Rattle.wasm_items.specs.Imports.{group_parts};
 ghost use Rattle.wasm_items.specs.Left.{items_left, names_left};
 
@@ -19,7 +20,8 @@ struct ItemsLeft<'a> {
 
 impl<'a> ItemsLeft<'a> {
     fn next_import(&mut self) -> Option<Result<(u64, Import<'a>)>>
-        ensures { GivesFirst found_at (items_left self.old) result (items_left self.new) }
+        ensures gives { GivesFirst found_at (items_left self.old) result (items_left self.new) }
+        ensures memory { IfSome result TakesNoMemory }
     {
         let module = self.module;
         match self.items.next() {
@@ -42,7 +44,8 @@ struct NamesLeft<'a> {
 
 impl<'a> NamesLeft<'a> {
     fn next_import(&mut self) -> Option<Result<(u64, Import<'a>)>>
-        ensures { GivesFirst found_at (names_left self.old) result (names_left self.new) }
+        ensures gives { GivesFirst found_at (names_left self.old) result (names_left self.new) }
+        ensures memory { IfSome result TakesNoMemory }
     {
         let (module, ty) = (self.module, self.ty);
         match self.names.next() {
@@ -85,7 +88,7 @@ impl<'a> Model for ImportsIter<'a> {
 impl<'a> Iterator for ImportsIter<'a> {
     type Item = Result<(u64, Import<'a>)>;
 
-    ghost next_gives = { GivesFirst found_at };
+    ghost next_gives = { NextImport found_at };
 
     ghost remaining = { λ imports. at_most (length imports) };
 
@@ -136,8 +139,9 @@ fn next_import<'a>(
     group: &mut ImportsIter<'a>,
     groups: &mut SectionLimitedIntoIter<'a, Imports<'a>>,
 ) -> Option<Result<(u64, Import<'a>)>>
-    ensures { GivesFirst found_at (group.old ++ imports_of_groups groups.old) result
+    ensures gives { GivesFirst found_at (group.old ++ imports_of_groups groups.old) result
         (group.new ++ imports_of_groups groups.new) }
+    ensures memory { IfSome result TakesNoMemory }
 {
     'left: loop {
         if let Some(import) = group.next() {
@@ -176,7 +180,7 @@ impl<'a> Model for IntoImportsWithOffsets<'a> {
 impl<'a> Iterator for IntoImportsWithOffsets<'a> {
     type Item = Result<(u64, Import<'a>)>;
 
-    ghost next_gives = { GivesFirst found_at };
+    ghost next_gives = { NextImport found_at };
 
     ghost remaining = { λ imports. at_most (length imports) };
 
@@ -205,7 +209,7 @@ impl<'a> Model for IntoImports<'a> {
 impl<'a> Iterator for IntoImports<'a> {
     type Item = Result<Import<'a>>;
 
-    ghost next_gives = { GivesFirst found };
+    ghost next_gives = { NextImport found };
 
     ghost remaining = { λ imports. at_most (length imports) };
 

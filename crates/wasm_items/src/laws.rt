@@ -1,6 +1,7 @@
 //! What comparing and copying items says, what holds of items that were read, and of whole runs over them.
 ghost use Rattle.std.specs.Prelude.{◌≡◌, Ok};
 ghost use Rattle.wasm_base.specs.Comparing.{DecidesWhether, DecidesSame, IsCopy};
+ghost use Rattle.wasm_base.specs.Inner.{PassesAsRead};
 ghost use Rattle.wasm_base.specs.Item.{AllowsOne, Determines};
 ghost use Rattle.wasm_base.specs.Window.{Place};
 ghost use Rattle.wasm_items.specs.Announced.{ElementsAreGiven};
@@ -23,7 +24,7 @@ use crate::types::{
     StorageType, SubType, TableType, TagKind, TagType, ValType,
 };
 use std::hash::Hash;
-use wasm_base::{FromReader, FromReaderIn, SectionLimitedIntoIter};
+use wasm_base::{FromReader, FromReaderIn, InnerItem, SectionLimitedIntoIter};
 
 /// Two types, kinds or externals, which own no list, are equal exactly if they are the same.
 pub fn equal_types_are_the_same()
@@ -132,6 +133,16 @@ pub fn all_imports_come<'a>()
     ensures of_an_item { GivesAll found_at ⟦<ImportsIter<'a> as Iterator>⟧.next_gives }
     ensures with_offsets { GivesAll found_at ⟦<IntoImportsWithOffsets<'a> as Iterator>⟧.next_gives }
     ensures alone { GivesAll found ⟦<IntoImports<'a> as Iterator>⟧.next_gives }
+{}
+
+/// Wherever an import of a group or a constant expression is read, passing over it takes the bytes that reading it takes.
+pub fn passing_over_takes_what_reading_takes<'a>()
+    ensures item { PassesAsRead
+        ⟦<ImportItemCompact<'a> as FromReader<'a>>⟧.meaning
+        ⟦<ImportItemCompact<'a> as InnerItem<'a>>⟧.passed_at }
+    ensures expression { PassesAsRead
+        ⟦<ConstExpr<'a> as FromReader<'a>>⟧.meaning
+        ⟦<ConstExpr<'a> as InnerItem<'a>>⟧.passed_at }
 {}
 
 /// Each of these items allows one outcome at each place, so the iterators over a section of them, and clones of these,

@@ -1,26 +1,13 @@
 //! Lists the sections of the WebAssembly stream on standard input, or strips it of its custom sections.
 #![tactic(auto)]
 
-mod command;
-mod program;
-mod stripping;
 #[cfg(test)]
 mod tests;
 
-use program::run_program;
-use std::env;
 use std::process::ExitCode;
-use wasm_feed::{ReadSource, WriteSink};
+pub use wasm_list_run::run;
+use wasm_list_run::run_host;
 
 fn main(rt: HostRuntime) -> ExitCode {
-    let mut input = ReadSource::new(rt.stdin());
-    let mut output = WriteSink::new(rt.stdout());
-    let mut errors = WriteSink::new(rt.stderr());
-    run_program(
-        rt.alloc(),
-        env::args(&rt),
-        &mut input,
-        &mut output,
-        &mut errors,
-    )
+    run_host(rt)
 }

@@ -8,7 +8,7 @@ use Rattle.wasm_parser.specs.declared.payload.Encoding.{Encoding}
 use Rattle.wasm_parser.specs.declared.payload.Encoding.TheVariants.{Module, Component}
 use Rattle.wasm_parser.specs.Grammar.{SectionContext}
 use Rattle.wasm_parser.specs.Accepted.{Frame, frame_count, frame_rank, IsSection}
-use Rattle.wasm_parser.proofs.AcceptedLists.{all_of, all_to}
+use Rattle.wasm_parser.proofs.PlainLists.{all_of, all_to}
 
 -- whether a frame is a module's section with this id
 abbrev pub is_section : Encoding → ℕ → Frame → Bool

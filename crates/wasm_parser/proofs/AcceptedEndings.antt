@@ -8,7 +8,7 @@ use Rattle.wasm_parser.specs.declared.payload.Encoding.{Encoding}
 use Rattle.wasm_parser.specs.Content.{fault, ended}
 use Rattle.wasm_parser.specs.Grammar.{SectionContext, end_at_section}
 use Rattle.wasm_parser.specs.Accepted.{Frame, frame_count, IsSection, IsMatched}
-use Rattle.wasm_parser.proofs.AcceptedLists.{any_of, none_of}
+use Rattle.wasm_parser.proofs.PlainLists.{any_of, none_of}
 use Rattle.wasm_parser.proofs.AcceptedCounts.{is_section, counts_of, Knows, section_yes, yes_section, any_counts, offends}
 use Rattle.wasm_parser.proofs.AcceptedFits.{some_to, some_from}
 

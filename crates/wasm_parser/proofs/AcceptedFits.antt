@@ -11,7 +11,7 @@ use Rattle.wasm_parser.specs.Content.{custom, items, index, data_count, unknown,
 use Rattle.wasm_parser.specs.Grammar.{SectionContext, wrong_count, wrong_data}
 use Rattle.wasm_parser.specs.Accepted.{Frame, frame_count, frame_rank, IsSection}
 use Rattle.wasm_parser.proofs.StateLaws.{Follows, follows_all}
-use Rattle.wasm_parser.proofs.AcceptedLists.{all_of, all_to, any_of, any_to}
+use Rattle.wasm_parser.proofs.PlainLists.{all_of, all_to, any_of, any_to}
 use Rattle.wasm_parser.proofs.AcceptedCounts.{is_section, counts_of, Knows, section_yes, yes_section, no_counts, HasCount, same_to, same_of}
 
 -- a rank that is asked for only above 0

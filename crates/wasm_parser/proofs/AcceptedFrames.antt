@@ -7,7 +7,7 @@ use Rattle.wasm_parser.specs.Grammar.{version, Tile, tile, verdict, header_gramm
 use Rattle.wasm_parser.specs.Tiling.{bytes_of, context_of, bodies_left, bytes_left, encoding_of}
 use Rattle.wasm_parser.specs.Reading.{Reads}
 use Rattle.wasm_parser.specs.Accepted.{IsAccepted, IsMatched, header_bytes}
-use Rattle.wasm_parser.proofs.AcceptedLists.{all_prefix}
+use Rattle.wasm_parser.proofs.PlainLists.{all_prefix}
 use Rattle.wasm_parser.proofs.Endings.{header_end, inside_end}
 use Rattle.wasm_parser.proofs.AcceptedEndings.{end_from}
 use Rattle.wasm_parser.proofs.AcceptedHeaders.{HeaderParts, header_parts}

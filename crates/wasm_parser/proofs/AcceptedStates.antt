@@ -11,7 +11,7 @@ use Rattle.wasm_parser.specs.Grammar.{section, code_start, code_entry, Tile, til
 use Rattle.wasm_parser.specs.Tiling.{bytes_of, context_of, bodies_left, bytes_left, encoding_of}
 use Rattle.wasm_parser.specs.Accepted.{Sized, sized_bytes, IsNumber, IsSized, Frame, frame_bytes, frame_count, frame_rank, IsFrame, FitsAfter, CodeDivision, IsSection, IsGood}
 use Rattle.wasm_parser.proofs.StateLaws.{Follows}
-use Rattle.wasm_parser.proofs.AcceptedLists.{split_last}
+use Rattle.wasm_parser.proofs.PlainLists.{split_last}
 use Rattle.wasm_parser.proofs.AcceptedCounts.{Knows}
 use Rattle.wasm_parser.proofs.AcceptedContents.{good_from}
 use Rattle.wasm_parser.proofs.KindIds.{code_id}

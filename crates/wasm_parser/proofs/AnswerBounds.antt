@@ -190,7 +190,7 @@ asks_for_some p new eof rest r h = asks_by (nat_lt (p.offset + length rest) (2 ^
 
 -- ---- what its payloads hold
 
-holds_at : (p new : ParserState) (consumed : ℕ) (payload : Payload) (v : Verdict) → Answers p v (Ok (Parsed consumed payload)) new → ItemsBegin payload
+pub holds_at : (p new : ParserState) (consumed : ℕ) (payload : Payload) (v : Verdict) → Answers p v (Ok (Parsed consumed payload)) new → ItemsBegin payload
 holds_at p new consumed payload (tile t) a = a.1.1
 holds_at p new consumed payload (final (fault f)) a = absurd a
 holds_at p new consumed payload (final (ended o)) a = a.1.1

@@ -14,7 +14,7 @@ use Rattle.wasm_parser.specs.Sections.{ReportsBody, ReportsFault, BodiesFollow}
 use Rattle.wasm_parser.specs.Tiling.{bytes_of, context_of, grammar, bodies_left, bytes_left, bodies_after, Faultless}
 use Rattle.wasm_parser.proofs.Endings.{inside_end}
 use Rattle.wasm_parser.proofs.StateLaws.{Placed, placed, IsBody, IsHeader, headed}
-use Rattle.wasm_parser.proofs.AcceptedLists.{split_last}
+use Rattle.wasm_parser.proofs.PlainLists.{split_last}
 use Rattle.wasm_parser.proofs.AcceptedParts.{BodyParts, body_parts}
 
 -- where the last element of a list is, or an earlier one, with what is after it

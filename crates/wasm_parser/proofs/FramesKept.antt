@@ -1,5 +1,5 @@
 -- Sections that have no rank may go, and come.
-use Rattle.std.proofs.Common.{◌≡◌, ℕ, ◌+◌, ◌<◌, inl, inr, Bool, true, false, cond, ◌||◌, List, [], ◌∷◌, ◌++◌, length, nat_lt, slice_index_or, refl, sym, ap, subst, ◌∙◌, arith, ltb-true, ltb-false}
+use Rattle.std.proofs.Common.{◌≡◌, ℕ, ◌+◌, ◌<◌, inl, inr, Bool, true, false, cond, ◌||◌, List, [], ◌∷◌, ◌++◌, length, nat_lt, refl, sym, ap, subst, ◌∙◌, arith, ltb-true, ltb-false}
 use Rattle.std.specs.List.{All, Any, filter, list_any, flat_map}
 use Rattle.std.proofs.lemmas.List.Elements.{All-nil, All-cons, All-head, All-tail, All-filter, All-weaker}
 use Rattle.wasm_base.specs.Window.{window_over}
@@ -12,28 +12,12 @@ use Rattle.wasm_parser.specs.Shifted.{shifted_report, shifted_event, shifted_eve
 use Rattle.wasm_parser.specs.declared.payload.Encoding.{Encoding}
 use Rattle.wasm_parser.specs.declared.payload.Encoding.TheVariants.{Module}
 use Rattle.wasm_parser.proofs.AcceptedCounts.{is_section, section_yes, yes_section}
-use Rattle.wasm_parser.proofs.AcceptedLists.{any_of, any_to, all_prefix}
+use Rattle.wasm_parser.proofs.PlainLists.{any_of, any_to, all_prefix, Spares, filter_twice, each_of}
 use Rattle.wasm_parser.proofs.Shifting.{section_moves}
 
 -- ---- what is left of lists
 
 module _ {X : Type 0} where
-  -- a test that the elements which go don't pass
-  abbrev pub Spares : (p q : X → Bool) → X → Type 0
-  Spares p q x = p x ≡ true → q x ≡ true
-
-  -- where two tests of which the second spares the first are made, the first decides
-  filter_step : (p q : X → Bool) (x : X) (xs : List X) → Spares p q x → filter p (filter q xs) ≡ filter p xs → (b c : Bool) → p x ≡ b → q x ≡ c
-      → filter p (cond c (x ∷ filter q xs) (filter q xs)) ≡ cond b (x ∷ filter p xs) (filter p xs)
-  filter_step p q x xs h ih true true e f = rw e (ap (λ (l : List X). x ∷ l) ih)
-  filter_step p q x xs h ih true false e f = let g : q x ≡ true = h e in cc
-  filter_step p q x xs h ih false true e f = rw e ih
-  filter_step p q x xs h ih false false e f = ih
-
-  pub filter_twice : (p q : X → Bool) (xs : List X) → All (Spares p q) xs → filter p (filter q xs) ≡ filter p xs
-  filter_twice p q [] a = refl
-  filter_twice p q (x ∷ xs) a = filter_step p q x xs (All-head (Spares p q) x xs a) (filter_twice p q xs (All-tail (Spares p q) x xs a)) (p x) (q x) refl refl
-
   -- what passes is left
   any_step : (p q : X → Bool) (x : X) (xs : List X) → Spares p q x → list_any p (filter q xs) ≡ list_any p xs → (b c : Bool) → p x ≡ b → q x ≡ c
       → list_any p (cond c (x ∷ filter q xs) (filter q xs)) ≡ (b || list_any p xs)
@@ -84,9 +68,6 @@ module _ {X : Type 0} where
   -- the same of two lists of which the same pass
   all_same : (P : X → Type 0) (p : X → Bool) → ((x : X) → p x ≡ false → P x) → (xs ys : List X) → filter p xs ≡ filter p ys → All P xs → All P ys
   all_same P p h xs ys e a = all_passed P p h ys (subst (All P) e (All-filter p P xs a))
-
-  pub each_of : (P : X → Type 0) → ((x : X) → P x) → (xs : List X) → All P xs
-  each_of P h xs = λ k d l. h (slice_index_or xs k d)
 
 -- ---- sections that fit after others
 

@@ -35,6 +35,10 @@ id_of_kind Component (suc id) = tt
 pub id_as : (encoding : Encoding) (kind : Kind) (id : ℕ) → kind_of encoding id ≡ kind → IdOf encoding kind id
 id_as encoding kind id e = subst (λ (k : Kind). IdOf encoding k id) e (id_of_kind encoding id)
 
+-- a custom section has the id 0
+pub custom_id : (encoding : Encoding) (id : ℕ) → kind_of encoding id ≡ whole custom → id ≡ 0
+custom_id encoding id e = id_as encoding (whole custom) id e
+
 -- a code section is a module's, with the id 10
 pub code_id : (encoding : Encoding) (id : ℕ) → kind_of encoding id ≡ code → (encoding ≡ Module) × (id ≡ 10)
 code_id encoding id e = id_as encoding code id e

@@ -1,3 +1,5 @@
+pub mod Along
+pub mod ForCallers
 pub mod Accepting
 pub mod Bodies
 pub mod BodyCounts
@@ -31,7 +33,7 @@ pub mod AcceptedFits
 pub mod AcceptedFrames
 pub mod AcceptedHeaders
 pub mod AcceptedKnows
-pub mod AcceptedLists
+pub mod PlainLists
 pub mod AcceptedParts
 pub mod OpenSections
 pub mod AcceptedStates

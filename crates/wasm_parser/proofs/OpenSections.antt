@@ -4,7 +4,7 @@ use Rattle.std.specs.List.{All}
 use Rattle.wasm_parser.specs.Content.{code, kind_of}
 use Rattle.wasm_parser.specs.Grammar.{Tile, tile, verdict, section_grammar, body_grammar}
 use Rattle.wasm_parser.specs.Tiling.{bytes_of, grammar, Faultless, context_of, encoding_of, bodies_left, bytes_left}
-use Rattle.wasm_parser.proofs.AcceptedLists.{all_prefix}
+use Rattle.wasm_parser.proofs.PlainLists.{all_prefix}
 use Rattle.wasm_parser.proofs.AcceptedParts.{SectionParts, section_parts, BodyParts, body_parts}
 use Rattle.wasm_parser.proofs.AcceptedTiles.{IsWhole, whole_or_code}
 

@@ -18,7 +18,7 @@ use Rattle.wasm_parser.proofs.FramesSame.{frames_same, headers_same}
 use Rattle.wasm_parser.proofs.ReadingLaws.{reads_same}
 use Rattle.wasm_parser.proofs.KindIds.{code_id}
 use Rattle.wasm_parser.proofs.AcceptedHeaders.{HeaderParts, header_parts}
-use Rattle.wasm_parser.proofs.AcceptedLists.{all_prefix}
+use Rattle.wasm_parser.proofs.PlainLists.{all_prefix}
 use Rattle.wasm_parser.proofs.AcceptedParts.{SectionParts, WholeParts, content_parts, HeadParts, head_parts, BodyParts}
 use Rattle.wasm_parser.proofs.AcceptedTiles.{made, IsWhole}
 use Rattle.wasm_parser.proofs.AcceptedWalks.{stream_of, stream_more, accepted_reads}

@@ -1,10 +1,21 @@
 -- What is after the rest of a code section that a parser passes.
-use Rattle.std.proofs.Common.{◌≡◌, ℕ, ◌+◌, ◌<◌, ◌≤◌, Bool, true, false, cond, max, List, [], ◌∷◌, ◌++◌, length, Some, None, is_some, nat_eq, refl, sym, ap, subst, ◌∙◌, arith, length-append}
+use Rattle.std.proofs.Common.{◌≡◌, ℕ, ◌+◌, ◌<◌, ◌≤◌, Bool, true, false, cond, max, List, [], ◌∷◌, ◌++◌, length, Option, Some, None, is_some, nat_eq, refl, sym, ap, subst, ◌∙◌, arith, length-append, append-nil, append_assoc}
 use Rattle.std.proofs.lemmas.Bool.{eqb-true}
+use Rattle.std.proofs.lemmas.Grind.{flat_map-append}
+use Rattle.std.proofs.lemmas.List.{append_cancel_left}
+use Rattle.std.proofs.lemmas.List.Elements.{All-nil, All-cons, All-append}
+use Rattle.std.specs.Prelude.{All, IsSome}
+use Rattle.wasm_base.specs.Window.{Window}
+use Rattle.wasm_parser.specs.Along.{Along}
+use Rattle.wasm_parser.specs.EventRanges.{consumed_by}
 use Rattle.wasm_parser.specs.Grammar.{Shape, version, section, code_start, code_entry, Tile, tile, SectionContext, verdict, section_grammar, body_grammar}
-use Rattle.wasm_parser.specs.ParserState.{ParserState, IsStateAfter, greatest, is_start, ends_in_code, skipped_state}
-use Rattle.wasm_parser.specs.Skipped.{CompletesCode, SkipsSection}
+use Rattle.wasm_parser.specs.ParserState.{ParserState, IsStateAfter, greatest, is_start, ends_in_code, skippable_of, skipped_state}
+use Rattle.wasm_parser.specs.Reading as reading
+use Rattle.wasm_parser.specs.Reading.{Event, tile_report, event_of, events_of}
+use Rattle.wasm_parser.specs.Sections.{ReportsBody}
+use Rattle.wasm_parser.specs.Skipped.{CompletesCode, SkipsSection, LeavesOut, SkippingLeavesOutBodies}
 use Rattle.wasm_parser.specs.Tiling.{bytes_of, encoding_of, counts, bodies_left, bytes_left, context_of, grammar, Faultless}
+use Rattle.wasm_parser.proofs.Ends.{tiles_consume}
 use Rattle.wasm_parser.proofs.Longest.{longest}
 use Rattle.wasm_parser.proofs.ReadingLaws.{stops_at}
 use Rattle.wasm_parser.proofs.StateLaws.{IsBody, bodied}
@@ -98,3 +109,82 @@ skips_section p q c e start prefix bodies s l k =
 pub in_code_where_skippable : (b : Bool) (left : ℕ) → is_some (cond b (Some left) None) ≡ true → b ≡ true
 in_code_where_skippable true left e = refl
 in_code_where_skippable false left e = cc
+
+-- ---- the reading without the bodies that are passed
+
+skipped_at-tiles : (p : ParserState) (start : ℕ) (prefix bodies : List ℕ) (s : IsStateAfter p start prefix) (k : CompletesCode start prefix bodies) (c : p.in_code ≡ true) (l : length bodies ≡ p.left) (same : KnowsSame k.tiles s.tiles) → (skipped_at p start prefix bodies s k c l same).tiles ≡ k.tiles
+unfolding skipped_at
+skipped_at-tiles p start prefix bodies s k c l same = refl
+
+reports_body : (features from to : ℕ) (shape : Shape) → IsBody shape → (window : Window) × (tile_report features from to shape ≡ reading.code_entry window)
+reports_body features from to (code_entry content) b = (_, refl)
+reports_body features from to (version num encoding) b = absurd b
+reports_body features from to (section form id content) b = absurd b
+reports_body features from to (code_start count width size) b = absurd b
+
+-- the events of tiles that are bodies
+record Bodies (start features : ℕ) (us later : List Tile) : Type 0 where
+  events : List Event
+  each : All ReportsBody events
+  parts : events_of start features (later ++ us) ≡ events_of start features us ++ events
+
+bodies_later : (start features : ℕ) (us later : List Tile) → ends_in_code us ≡ true → is_start us ≡ false → Faultless start (later ++ us) → length (bytes_of (later ++ us)) ≤ length (bytes_of us) + bytes_left us → Bodies start features us later
+bodies_later start features us [] c s f l = record { events = []; each = All-nil ReportsBody; parts = sym (append-nil (events_of start features us)) }
+bodies_later start features us (t ∷ later) c s f l =
+    let n = length-append (bytes_of (later ++ us)) t.bytes in
+    let k : KnowsSame (later ++ us) us = only_bodies start us later c s f.0 (omega (arith, l, n)) in
+    let e = k.left in
+    let some : 0 < length t.bytes = tile_least start (later ++ us) t.bytes t f.1 in
+    let b : IsBody t.shape = body_next start (later ++ us) t.bytes t (omega (arith, l, n, e, some)) f.1 in
+    let r : Bodies start features us later = bodies_later start features us later c s f.0 (omega (arith, l, n)) in
+    let x : Event = event_of features (start + length (bytes_of (later ++ us))) t in
+    record {
+      events = r.events ++ x ∷ [];
+      each = All-append ReportsBody r.events (x ∷ []) r.each (All-cons ReportsBody x [] (reports_body features (start + length (bytes_of (later ++ us))) (start + length (bytes_of (later ++ us)) + length t.bytes) t.shape b) (All-nil ReportsBody));
+      parts = ap (λ (y : List Event). y ++ x ∷ []) r.parts ∙ append_assoc (events_of start features us) r.events (x ∷ []);
+    }
+
+module _ (start features : ℕ) (prefix bodies : List ℕ) (p : ParserState) (events : List Event) (a : Along start features prefix p [] events) (c : p.in_code ≡ true) (l : length bodies ≡ p.left) (k : CompletesCode start a.prefix bodies) where
+  us : List Tile
+  us = a.is_after.tiles
+
+  w : bytes_of k.tiles ≡ bytes_of a.is_after.tiles ++ bodies
+  w = k.whole ∙ ap (λ (x : List ℕ). x ++ bodies) (sym a.is_after.is_prefix)
+
+  left_out_by : (later : List Tile) → k.tiles ≡ later ++ a.is_after.tiles → LeavesOut start features prefix bodies events (skipped_state p)
+  left_out_by later z =
+      let n : length (bytes_of (later ++ a.is_after.tiles)) ≡ length (bytes_of a.is_after.tiles) + length bodies = ap (λ (x : List Tile). length (bytes_of x)) (sym z) ∙ (ap (λ (x : List ℕ). length x) w ∙ length-append (bytes_of a.is_after.tiles) bodies) in
+      let at = a.is_after.left in
+      let ends : ends_in_code a.is_after.tiles ≡ true = a.is_after.in_code c in
+      let begun = some_tile a.is_after.tiles ends in
+      let f : Faultless start (later ++ a.is_after.tiles) = subst (Faultless start) z k.faultless in
+      let fits : length (bytes_of (later ++ a.is_after.tiles)) ≤ length (bytes_of a.is_after.tiles) + bytes_left a.is_after.tiles = omega (arith, n, at, l) in
+      let same : KnowsSame k.tiles a.is_after.tiles = subst (λ (x : List Tile). KnowsSame x a.is_after.tiles) (sym z) (only_bodies start a.is_after.tiles later ends begun f fits) in
+      let r : Bodies start features a.is_after.tiles later = bodies_later start features a.is_after.tiles later ends begun f fits in
+      let is_after : IsStateAfter (skipped_state p) start (a.prefix ++ bodies) = skipped_at p start a.prefix bodies a.is_after k c l same in
+      let all : events_of start features k.tiles ≡ events_of start features a.is_after.tiles ++ r.events = ap (events_of start features) z ∙ r.parts in
+      let consumed : bytes_of a.is_after.tiles ++ consumed_by r.events ≡ bytes_of a.is_after.tiles ++ bodies =
+      ap (λ (x : List ℕ). x ++ consumed_by r.events) (sym (tiles_consume start features a.is_after.tiles))
+      ∙ (sym (flat_map-append (λ (x : Event). x.consumed) (events_of start features a.is_after.tiles) r.events)
+      ∙ (ap consumed_by (sym all) ∙ (tiles_consume start features k.tiles ∙ w))) in
+      record {
+        passed = r.events;
+        each = r.each;
+        consumed = append_cancel_left (bytes_of a.is_after.tiles) (consumed_by r.events) bodies consumed;
+        is_along = record {
+          prefix = a.prefix ++ bodies;
+          is_after = is_after;
+          whole = ap (λ (x : List ℕ). x ++ bodies) (a.whole ∙ append-nil a.prefix) ∙ sym (append-nil (a.prefix ++ bodies));
+          has_features = a.has_features;
+          listed = ap (λ (x : List Event). x ++ r.events) a.listed ∙ (sym all ∙ ap (events_of start features) (sym (skipped_at-tiles p start a.prefix bodies a.is_after k c l same)));
+        };
+      }
+
+  left_out : LeavesOut start features prefix bodies events (skipped_state p)
+  left_out =
+      let (later, z) = longest (bytes_of k.tiles) start k.tiles a.is_after.tiles _ bodies (stops_at start k.tiles k.faultless (verdict (grammar start k.tiles) []) refl) a.is_after.faultless w in
+      left_out_by later z
+
+pub skipping_leaves_out_bodies : SkippingLeavesOutBodies
+skipping_leaves_out_bodies start features prefix bodies p events a some l k =
+    left_out start features prefix bodies p events a (in_code_where_skippable p.in_code p.left some) l (subst (λ (x : List ℕ). CompletesCode start x bodies) (a.whole ∙ append-nil a.prefix) k)

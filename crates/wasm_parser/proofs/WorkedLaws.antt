@@ -78,6 +78,12 @@ edges_of_rules = record {
   module_of_a_layer = ([], record { rest = 0x00 ∷ 0x61 ∷ 0x73 ∷ 0x6d ∷ 1 ∷ 0 ∷ 1 ∷ 0 ∷ []; whole = refl; faultless = tt; stops = refl });
   magic_cut = (head ∷ [], record { rest = 0x00 ∷ 0x61 ∷ 0x73 ∷ []; whole = refl; faultless = (tt, refl); stops = refl });
   id_of_128 = (head ∷ [], record { rest = 128 ∷ 0 ∷ []; whole = refl; faultless = (tt, refl); stops = refl });
+  id_of_127 = record {
+    tiles = small_tile unknown 127 ∷ head ∷ [];
+    end = ended 11;
+    reads = record { rest = []; whole = refl; faultless = ((tt, refl), refl); stops = refl };
+    listed = refl;
+  };
   unknown_id = (section_tile unknown 14 [] ∷ head ∷ [], record { rest = []; whole = refl; faultless = ((tt, refl), refl); stops = refl });
   length_cut = (head ∷ [], record { rest = 1 ∷ 0x80 ∷ []; whole = refl; faultless = (tt, refl); stops = refl });
   length_too_long = (head ∷ [], record { rest = 1 ∷ 0x80 ∷ 0x80 ∷ 0x80 ∷ 0x80 ∷ 0x80 ∷ []; whole = refl; faultless = (tt, refl); stops = refl });

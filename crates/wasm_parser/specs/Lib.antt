@@ -1,3 +1,4 @@
+pub mod Along
 pub mod Accepted
 pub mod ParseAnswer
 pub mod Content

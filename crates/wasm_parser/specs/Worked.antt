@@ -68,6 +68,13 @@ AComponent = Reading (component ++ 1 ∷ 1 ∷ 0 ∷ []) 0 3
     ∷ event (unknown_section 1 (0 ∷ []) 10 11) (1 ∷ 1 ∷ 0 ∷ [])
     ∷ event (stream_end (ended 11)) [] ∷ [])
 
+-- a section with the highest id below 128, which is an unknown one
+abbrev pub AHighId : Type 0
+AHighId = Reading (m ++ small 127) 0 3
+    (event (version 1 Module 0 8) m
+    ∷ event (unknown_section 127 (0 ∷ []) 10 11) (small 127)
+    ∷ event (stream_end (ended 11)) [] ∷ [])
+
 -- worked streams, by what is peculiar to each
 pub record WorkedStreams : Type 0 where
   pub a_body : ABody
@@ -93,6 +100,7 @@ pub record EdgesOfRules : Type 0 where
   pub module_of_a_layer : EndsSo (0x00 ∷ 0x61 ∷ 0x73 ∷ 0x6d ∷ 1 ∷ 0 ∷ 1 ∷ 0 ∷ []) (fault (record { fault = UnknownVersion; offset = 4; number = Some 65537 }))
   pub magic_cut : EndsSo (m ++ 0x00 ∷ 0x61 ∷ 0x73 ∷ []) (fault (at_offset UnexpectedEof 10))
   pub id_of_128 : EndsSo (m ++ 128 ∷ 0 ∷ []) (fault (at_offset MalformedSectionId 8))
+  pub id_of_127 : AHighId
   pub unknown_id : EndsSo (m ++ 14 ∷ 0 ∷ []) (ended 10)
   pub length_cut : EndsSo (m ++ 1 ∷ 0x80 ∷ []) (fault (at_offset UnexpectedEof 10))
   pub length_too_long : EndsSo (m ++ 1 ∷ 0x80 ∷ 0x80 ∷ 0x80 ∷ 0x80 ∷ 0x80 ∷ []) (fault (at_offset (NumberTooLong VarU32) 13))

@@ -1,10 +1,12 @@
 //! Laws of the definitions of framing, and what comparing and copying encodings say, each the contract of a function
 //! that does nothing.
 ghost use Rattle.wasm_base.specs.Comparing.{DecidesSame, IsCopy};
+ghost use Rattle.wasm_parser.specs.Along.{AnswersGoAlong};
 ghost use Rattle.wasm_parser.specs.FrameLaws.{FramesGiveEvents, FramesReadTheSame, OneDivision, RanklessMayGo};
 ghost use Rattle.wasm_parser.specs.Laws.{AcceptedEnds, AnswersLast, EventsLieEndToEnd, FaultEnds, EventsSayTheirBytes, FaultLiesWithin, LongestTiling, OneReading, ParserSuffices, SomeNextEvent, SomeReading, StartOnlyMoves, TilesStandAlone};
 ghost use Rattle.wasm_parser.specs.PayloadItems.{PayloadsGiveItems};
 ghost use Rattle.wasm_parser.specs.SectionLaws.{BodiesFollowTheirCount, RanksAscend, SectionsTile};
+ghost use Rattle.wasm_parser.specs.Skipped.{SkippingLeavesOutBodies};
 ghost use Rattle.wasm_parser.specs.Undecided.{EnoughIsDecided, OneComesNext, ShortIsUndecided};
 ghost use Rattle.wasm_parser.specs.Worked.{EdgesOfRules, WorkedStreams};
 ghost use Rattle.wasm_parser.specs.WorkedEndings.{WorkedEndings};
@@ -73,6 +75,20 @@ pub fn parser_suffices()
 /// bytes after them, whether those are then all of the stream or not.
 pub fn answers_last()
     ensures { AnswersLast }
+{}
+
+/// What a caller leans on that gives a stream bit by bit and hands in again what was not consumed: where its parser is along the
+/// stream is a new parser's place at first, stays where more bytes come, and moves with each answer, which is the next event of
+/// every stream that goes on so. A payload but the end consumes some bytes; what the parser is afterwards follows from the
+/// answer; the same bytes are answered the same way, and so is a fault, or the end, that was answered before.
+pub fn answers_go_along()
+    ensures { AnswersGoAlong }
+{}
+
+/// A caller that passes the rest of a code section by `skip_section`, without its bytes, goes on with the reading without the
+/// events of its bodies, where some bytes of that length complete the section.
+pub fn skipping_leaves_out_bodies()
+    ensures { SkippingLeavesOutBodies }
 {}
 
 /// No parser could wait for less. `front` is the beginning of a stream that starts at `offset`, a faultless tiling or

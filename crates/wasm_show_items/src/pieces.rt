@@ -46,6 +46,16 @@ fn pieces_of<'a>(alloc: Global, reader: &mut BinaryReader<'a>) -> Result<Vec<&'a
     Ok(pieces)
 }
 
+// Writes a text as a line, which a tree takes if it is no longer than what may wait.
+fn write_line<W: Sink>(mut text: String, out: &mut Tree<W>) -> Result<(), Failed> {
+    writeln!(text, "")?;
+    if text.len() > 65_536 {
+        return Err(Failed::Cases);
+    }
+    out.first(text.as_bytes());
+    Ok(())
+}
+
 /// Writes the events of a stream in pieces that begins at this offset.
 pub(crate) fn show_events<W: Sink>(
     alloc: Global,
@@ -55,9 +65,7 @@ pub(crate) fn show_events<W: Sink>(
 ) -> Result<(), Failed> {
     let mut text = String::new(alloc);
     write_events(alloc, reader, offset, &mut text)?;
-    writeln!(text, "")?;
-    out.first(text.as_bytes());
-    Ok(())
+    write_line(text, out)
 }
 
 fn write_events(
@@ -114,9 +122,7 @@ pub(crate) fn show_steps<W: Sink>(
 ) -> Result<(), Failed> {
     let mut text = String::new(alloc);
     write_steps(alloc, reader, offset, &mut text)?;
-    writeln!(text, "")?;
-    out.first(text.as_bytes());
-    Ok(())
+    write_line(text, out)
 }
 
 fn write_steps(

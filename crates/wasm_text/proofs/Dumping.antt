@@ -1,17 +1,24 @@
 -- How far a dump has come. Its outline is what a listing by the lines that are shown would have written.
-use Rattle.std.proofs.Common.{◌≡◌, ℕ, ◌<◌, Bool, false, List, [], ◌++◌, Option, Some, None, Ok, Err, refl, sym, ap, subst, ◌∙◌, append-nil, take}
+use Rattle.std.proofs.Common.{◌≡◌, ℕ, ◌<◌, Bool, true, false, if◌then◌else◌, List, [], ◌++◌, Option, Some, None, Result, Ok, Err, refl, sym, ap, subst, ◌∙◌, append-nil, take}
 use Rattle.std.specs.Io.KnownBytes.{Appends}
 use Rattle.std.proofs.KnownBytes.{Appends-nil, Consumes-nil}
 use Rattle.wasm_feed.specs.Feed.{Feed, new_feed}
 use Rattle.wasm_feed.specs.Lists.{all_features, IsBeginning, Refills, input_failed}
 use Rattle.wasm_feed.specs.Page.{PutsLine}
-use Rattle.wasm_feed.specs.Turns.{text_after}
+use Rattle.wasm_base.specs.declared.error.Error.{Error}
+use Rattle.wasm_parser.specs.ParseAnswer.{report_of, is_end}
+use Rattle.wasm_feed.specs.Step.{is_request}
+use Rattle.wasm_feed.specs.Turns.{text_after, turn_after}
+use Rattle.wasm_feed.specs.declared.feeder.Step.{Step}
+use Rattle.wasm_feed.specs.declared.feeder.Step.TheVariants.{NeedMoreData, Parsed}
 use Rattle.wasm_feed.specs.declared.listing.Ended.{Ended}
+use Rattle.wasm_feed.specs.declared.listing.Ended.TheVariants.{End}
 use Rattle.wasm_feed.specs.declared.listing.ListError.{ListError}
 use Rattle.wasm_feed.specs.declared.listing.ListError.TheVariants.{Input, Output, Memory}
 use Rattle.wasm_feed.specs.declared.listing.Turn.{Turn}
 use Rattle.wasm_feed.specs.declared.listing.Turn.TheVariants as turn
-use Rattle.wasm_feed.proofs.Progress as progress
+use Rattle.wasm_feed.specs.Progress.{weight, Progress, Wants}
+use Rattle.wasm_feed.proofs.ForCallers as progress
 use Rattle.wasm_text.specs.Chosen.{chosen_line}
 use Rattle.wasm_text.specs.Dump.{WritesWhole, WritesSome, ShowsStep, origin, DumpsFrom}
 use Rattle.wasm_text.specs.Tree as Tree
@@ -22,13 +29,13 @@ use Rattle.wasm_text.proofs.Writing.{as_going, as_short}
 -- the outline so far, the listing that has written it, and what was written with it
 pub record Dumping (only : Only) (left rest : Option (List ℕ)) (before : Writing) (f : Feed) (now : Writing) : Type 0 where
   pub outline : List ℕ
-  pub listing : progress.Progress (chosen_line only) left rest (Some []) (Some outline) f []
+  pub listing : Progress (chosen_line only) left rest (Some []) (Some outline) f []
   pub writing : (taken : Option (List ℕ)) (failed : Bool) → IsWritten (origin taken failed []) before → IsWritten (origin taken failed outline) now
 
 -- the same where the feeder is asked for more
 pub record Wanting (only : Only) (left rest : Option (List ℕ)) (before : Writing) (f : Feed) (now : Writing) : Type 0 where
   pub outline : List ℕ
-  pub listing : progress.Wants (chosen_line only) left rest (Some []) (Some outline) f []
+  pub listing : Wants (chosen_line only) left rest (Some []) (Some outline) f []
   pub writing : (taken : Option (List ℕ)) (failed : Bool) → IsWritten (origin taken failed []) before → IsWritten (origin taken failed outline) now
 
 pub starts : (only : Only) (left : Option (List ℕ)) (w : Writing) → Dumping only left left w (new_feed 0 all_features) w
@@ -66,6 +73,16 @@ cut_off only left rest had has h taken failed outline Input w b c = absurd (c.no
 
 -- ---- a step
 
+-- more is read only where it was asked for
+reads_where_asked : (x : Result Step Error) → turn.Read ≡ turn_after x → is_request x ≡ true
+reads_where_asked (Ok (NeedMoreData hint)) t = refl
+reads_where_asked (Err e) t = cc
+reads_where_asked (Ok (Parsed bytes payload)) t = by_end (is_end (report_of payload)) t
+  where
+    by_end : (b : Bool) → turn.Read ≡ (if b then turn.End End else turn.Advance) → false ≡ true
+    by_end true e = cc
+    by_end false e = cc
+
 -- the lines of a listing by what is shown, all of which are written
 puts : (outline line : List ℕ) → PutsLine (Some outline) (Some (outline ++ line)) [] line []
 puts outline line = record { lines = line; writes = refl; waits = sym (append-nil line) }
@@ -80,15 +97,18 @@ module _ (only : Only) (left rest : Option (List ℕ)) (before : Writing) (f : F
   put : PutsLine (Some d.outline) (Some (d.outline ++ text_after (chosen_line only) s.answer)) [] (text_after (chosen_line only) s.answer) []
   put = puts d.outline (text_after (chosen_line only) s.answer)
 
-  pub advanced : next ≡ turn.Advance → Dumping only left rest before g new × (progress.weight g < progress.weight f)
+  pub advanced : next ≡ turn.Advance → Dumping only left rest before g new × (weight g < weight f)
   advanced t =
       let (listing, less) = progress.advanced (chosen_line only) left rest (Some []) (Some d.outline) f [] d.listing g s.answer s.steps _ _ put (sym t ∙ s.turns) in
       (record { outline = d.outline ++ text_after (chosen_line only) s.answer; listing = listing; writing = written }, less)
 
-  pub asked : next ≡ turn.Read → Wanting only left rest before g new × (progress.weight g ≡ progress.weight f)
+  pub asked : next ≡ turn.Read → Wanting only left rest before g new × (weight g ≡ weight f)
   asked t =
       let (listing, same) = progress.asked (chosen_line only) left rest (Some []) (Some d.outline) f [] d.listing g s.answer s.steps _ _ put (sym t ∙ s.turns) in
       (record { outline = d.outline ++ text_after (chosen_line only) s.answer; listing = listing; writing = written }, same)
+
+  pub wants : next ≡ turn.Read → g.wants_more ≡ true
+  wants t = s.steps.wants_more ∙ reads_where_asked s.answer (sym t ∙ s.turns)
 
   -- what was listed after a step is a beginning
   nothing_cut : (outline : Option (List ℕ)) → (n : ℕ) × Appends outline outline (take n [])
@@ -131,7 +151,7 @@ module _ (only : Only) (left rest : Option (List ℕ)) (before : Writing) (f : F
 -- ---- a read
 
 module _ (only : Only) (left rest : Option (List ℕ)) (before : Writing) (f : Feed) (now last : Writing) (d : Wanting only left rest before f now) (a : Adds now last) (out : IsOut last) (going : last.why ≡ None) where
-  pub filled : (rest' : Option (List ℕ)) (g : Feed) → Refills rest rest' f g (Ok tt) → Dumping only left rest' before g last × (progress.weight g < progress.weight f)
+  pub filled : (rest' : Option (List ℕ)) (g : Feed) → Refills rest rest' f g (Ok tt) → Dumping only left rest' before g last × (weight g < weight f)
   filled rest' g r =
       let (listing, less) = progress.filled (chosen_line only) left rest (Some []) (Some d.outline) f d.listing rest' g r in
       (record { outline = d.outline; listing = listing; writing = λ taken failed i. a _ (d.writing taken failed i) }, less)

@@ -2,6 +2,7 @@
 use Rattle.std.specs.Prelude.{◌≡◌, ℕ, Bool, List, [], ◌++◌, Option, Some, Result, Ok, Err}
 use Rattle.std.specs.Io.KnownBytes.{Appends}
 use Rattle.wasm_base.specs.declared.error.Error.{Error}
+use Rattle.wasm_feed.specs.Calls.{Device}
 use Rattle.wasm_feed.specs.Feed.{Feed}
 use Rattle.wasm_feed.specs.Lists.{ListsBy, input_failed, output_failed}
 use Rattle.wasm_feed.specs.Step.{Steps}
@@ -53,16 +54,6 @@ pub record ShowsStep (only : Only) (old new : Feed) (before after : Writing) (ne
 -- a dump's origin: what the sink had taken, and whether it had failed
 abbrev pub origin : (taken : Option (List ℕ)) (failed : Bool) (outline : List ℕ) → Origin
 origin taken failed outline = record { taken = taken; has_failed = failed; outline = outline }
-
--- what a call does to a device: the bytes that a source has left, or that a sink has taken, and whether it has failed
-pub record Device : Type 0 where
-  pub before : Option (List ℕ)
-  pub after : Option (List ℕ)
-  pub had_failed : Bool
-  pub has_failed : Bool
-
-abbrev pub device_of : {D : Type 0} → (bytes : D → Option (List ℕ)) (failed : D → Bool) (old new : D) → Device
-device_of bytes failed old new = record { before = bytes old; after = bytes new; had_failed = failed old; has_failed = failed new }
 
 -- A dump by a writer over a sink that had taken this.
 pub record DumpsFrom (only : Only) (input : Device) (taken : Option (List ℕ)) (failed : Bool) (result : Result Ended ListError) (new : Writing) : Type 0 where

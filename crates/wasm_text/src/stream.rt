@@ -1,9 +1,10 @@
 // The dump of a stream.
 ghost use Rattle.std.specs.Prelude.{◌≡◌, ◌≤◌, ◌<◌, length, Some, None, OnOk, IfErr};
 ghost use Rattle.wasm_parser.specs.ParseAnswer.{report_of};
+ghost use Rattle.wasm_feed.specs.Calls.{device_of};
 ghost use Rattle.wasm_feed.specs.Turns.{text_after, turn_after};
 ghost use Rattle.wasm_text.specs.Chosen.{chosen_line};
-ghost use Rattle.wasm_text.specs.Dump.{DumpsByTree, DumpsInto, ShowsStep, device_of};
+ghost use Rattle.wasm_text.specs.Dump.{DumpsByTree, DumpsInto, ShowsStep};
 ghost use Rattle.wasm_text.specs.Tree.{AddsFirst};
 
 use crate::only::{Only, chooses};

@@ -1,5 +1,5 @@
 // Lines of text, some of them under others.
-ghost use Rattle.std.specs.Prelude.{◌≡◌, [], None, true, false, OnOk};
+ghost use Rattle.std.specs.Prelude.{◌≡◌, ◌≤◌, [], None, true, false, OnOk, length, vec_len};
 ghost use Rattle.std.specs.Option.{is_some};
 ghost use Rattle.wasm_text.specs.Tree.{Adds, AddsFirst, EndsLine, IsOut, Puts, Pushes, starts};
 
@@ -24,6 +24,7 @@ pub struct Tree<W: Sink> {
     waiting: Vec<u8>,
     is_begun: bool,
     why: Option<ListError>,
+    ghost within: { vec_len waiting ≤ 65536 },
 }
 
 impl<W: Sink> Model for Tree<W> {
@@ -91,9 +92,10 @@ impl<W: Sink> Tree<W> {
 
     // Puts bytes after those that wait, which are written first where there is no room.
     fn try_push(&mut self, bytes: &[u8]) -> Result<(), ListError>
+        requires { length bytes.now ≤ 65536 }
         ensures { Pushes bytes.now self.old self.new result }
     {
-        if bytes.len() > ROOM - self.waiting.len().min(ROOM) {
+        if bytes.len() > ROOM - self.waiting.len() {
             self.move_out()?;
         }
         match self.waiting.extend_from_slice(bytes) {
@@ -104,6 +106,7 @@ impl<W: Sink> Tree<W> {
 
     // The same, unless the tree has stopped; it stops where this can't be.
     fn push(&mut self, bytes: &[u8])
+        requires { length bytes.now ≤ 65536 }
         ensures { Puts bytes.now self.old self.new }
     {
         if self.why.is_some() {
@@ -145,9 +148,18 @@ impl<W: Sink> Tree<W> {
         }
     }
 
-    /// Writes a line of the first level, which has its line feed.
+    /// How many bytes wait to be written: never more than 65,536.
+    pub fn waits(&self) -> usize
+        ensures waits { result ≡ length self.now.waiting }
+        ensures bounded { result ≤ 65536 }
+    {
+        self.waiting.len()
+    }
+
+    /// Writes a line of the first level, which has its line feed, and at most 65,536 bytes.
     pub fn first(&mut self, line: &[u8])
-        requires { EndsLine line.now }
+        requires line { EndsLine line.now }
+        requires short { length line.now ≤ 65536 }
         ensures { AddsFirst line.now self.old self.new }
     {
         self.end();
@@ -206,8 +218,9 @@ impl<W: Sink> Tree<W> {
         self.is_begun = false;
     }
 
-    // Writes bytes that are no line feeds; with one they are left out.
-    fn bytes(&mut self, bytes: &[u8])
+    // Writes bytes that are no line feeds, for which there is room; with one they are left out.
+    fn piece(&mut self, bytes: &[u8])
+        requires { length bytes.now ≤ 65536 }
         ensures { Adds self.old self.new }
     {
         if bytes.contains(&b'\n') {
@@ -215,6 +228,19 @@ impl<W: Sink> Tree<W> {
         }
         self.begin();
         self.push(bytes);
+    }
+
+    // The same of any number of bytes.
+    fn bytes(&mut self, bytes: &[u8])
+        ensures { Adds self.old self.new }
+    {
+        let mut rest = bytes;
+        'pieces: while rest.len() > ROOM {
+            let (first, later) = rest.split_at(ROOM);
+            self.piece(first);
+            rest = later;
+        }
+        self.piece(rest);
     }
 
     /// Writes a text, which has no line feed, as it is.

@@ -1,4 +1,6 @@
 // Dumps of worked streams.
+mod worked;
+
 use std::alloc::Global;
 use std::process::Abort;
 use std::test::Fail;
@@ -62,7 +64,7 @@ fn dumps(
     text: &[u8],
 ) -> Result<(), Fail> {
     for piece in [1, 7, 65_536] {
-        let sink = BoundedSink::new(alloc, 2_000)?;
+        let sink = BoundedSink::new(alloc, 6_000)?;
         let (ended, output) = dumped(alloc, only, &mut SliceSource::new(stream), sink, piece);
         assert!(rt; ended == how, "{piece}");
         assert_eq!(rt; output.written(), text, "{piece}");

@@ -1,5 +1,12 @@
-pub mod BodySums
+pub mod Collected
+pub mod Each
 pub mod Ending
+pub mod Folding
 pub mod Importing
+pub mod Loading
+pub mod Naming
+pub mod Payloads
 pub mod Starting
 pub mod Sums
+pub mod Visiting
+pub mod Walking

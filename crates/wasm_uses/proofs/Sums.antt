@@ -10,7 +10,7 @@ use Rattle.wasm_base.specs.Window.{Place, place}
 use Rattle.wasm_base.specs.declared.error.Error.{Error}
 use Rattle.wasm_base.specs.declared.fault.Fault.TheVariants.{SizeMismatch}
 use Rattle.wasm_base.specs.declared.fault.NumberKind.TheVariants.{VarU32}
-use Rattle.wasm_base.proofs.Walks.{gives, item_came, fault_came}
+use Rattle.wasm_parser.proofs.ForCallers.{gives, item_came, fault_came}
 use Rattle.wasm_uses.specs.Totals.{total_at, plus}
 
 pub plus_twice : (m n : ℕ) (r : Result ℕ FaultAt) → plus m (plus n r) ≡ plus (m + n) r

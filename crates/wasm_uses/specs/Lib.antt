@@ -1,5 +1,12 @@
-pub mod Bodies
 pub mod Careless
+pub mod Collecting
+pub mod Compiling
+pub mod Customs
+pub mod Folding
 pub mod Imported
+pub mod Linking
+pub mod Outside
+pub mod Printing
 pub mod Streams
 pub mod Totals
+pub mod Visits

@@ -1,14 +1,19 @@
 -- What a walk over the parts of a stream finds, with all features and from offset 0.
-use Rattle.std.specs.Prelude.{◌≡◌, ℕ, List, [], ◌∷◌, map, Option, Some, None, Result, Ok, Err, MatchResult}
+use Rattle.std.specs.Prelude.{◌≡◌, ℕ, List, [], ◌∷◌, ◌++◌, map, Option, Some, None, Result, Ok, Err, MatchResult}
 use Rattle.wasm_base.specs.FaultAt.{FaultAt, fault_at}
 use Rattle.wasm_base.specs.declared.error.Error.{Error}
-use Rattle.wasm_parser.specs.Content.{fault, ended}
-use Rattle.wasm_parser.specs.Reading.{Report, version, counted, start_section, data_count_section, code_start, code_entry, custom_section, unknown_section, stream_end, Event, Reading}
+use Rattle.wasm_parser.specs.Content.{Ending, fault, ended}
+use Rattle.wasm_parser.specs.Reading.{Report, version, counted, start_section, data_count_section, code_start, code_entry, custom_section, unknown_section, stream_end, Event, last_event, Reading}
 use Rattle.wasm_parser.specs.ParseAll.{event_report}
+
+-- how a walk over all parts ends: at an offset, or at a fault
+abbrev pub ending_of : Result ℕ Error → Ending
+ending_of (Ok offset) = ended offset
+ending_of (Err e) = fault (fault_at e)
 
 -- The stream's reading ends at this offset, with no fault; or at this fault.
 abbrev pub IsEndOf : List ℕ → Result ℕ Error → Type 0
-IsEndOf stream result = (events : List Event) (r : Reading stream 0 3 events) → MatchResult result (λ offset. r.end ≡ ended offset) (λ e. r.end ≡ fault (fault_at e))
+IsEndOf stream result = (before : List Event) × Reading stream 0 3 (before ++ last_event (ending_of result) ∷ [])
 
 -- the function that a part starts
 abbrev pub started_by : Report → Option ℕ

@@ -2,8 +2,12 @@
 mod ended;
 mod events;
 mod hostile;
+mod linking;
+mod outside;
+mod printing;
 mod steps;
 mod streams;
+mod visits;
 
 ghost use Rattle.std.specs.Prelude.{◌<◌, ◌^◌, length};
 

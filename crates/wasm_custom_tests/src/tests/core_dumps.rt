@@ -196,3 +196,15 @@ fn stacks_that_are_refused(rt: HostRuntime) {
         same(&rt, refused, Some(wanted));
     }
 }
+
+#[test]
+fn names_of_any_length(rt: HostRuntime) {
+    let name = b"\0\xa1\x8d\x06";
+    let refused = CoreDumpSection::new(window(name, 50)).err();
+    same(&rt, refused, Some(eof(54)));
+    let refused = CoreDumpStackSection::new(rt.alloc(), window(name, 50)).err();
+    same(&rt, refused, Some(eof(54)));
+    let modules = b"\x01\0\xa1\x8d\x06";
+    let refused = CoreDumpModulesSection::new(rt.alloc(), window(modules, 50)).err();
+    same(&rt, refused, Some(eof(55)));
+}

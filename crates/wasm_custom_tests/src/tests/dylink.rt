@@ -1,9 +1,10 @@
 // What dynamic linkers read, on worked bytes.
 use super::{same, window};
 use std::alloc::Global;
+use std::ops::Range;
 use std::process::Abort;
 use std::test::Fail;
-use wasm_base::{Error, Fault};
+use wasm_base::{BinaryReader, Error, Fault, Subsection};
 use wasm_custom::{Dylink0SectionReader, Dylink0Subsection, SymbolFlags};
 use wasm_test_heap::Sparing;
 
@@ -125,5 +126,50 @@ fn lists_whose_memory_runs_out(rt: HostRuntime) -> Result<(), Fail> {
         &[4, 0, 0, 0, 0, 0, 0, 0, 0, 0, 0, 0, 0],
         1,
     );
+    Ok(())
+}
+
+#[test]
+fn texts_of_any_length(rt: HostRuntime) {
+    let rows: [(&[u8], u64); 6] = [
+        (b"\x02\x04\x01\xa1\x8d\x06", 56),
+        (b"\x05\x04\x01\xa1\x8d\x06", 56),
+        (b"\x03\x04\x01\xa1\x8d\x06", 56),
+        (b"\x04\x04\x01\xa1\x8d\x06", 56),
+        (b"\x04\x05\x01\0\xa1\x8d\x06", 57),
+        (b"\x06\x03\xa1\x8d\x06", 55),
+    ];
+    for (bytes, offset) in rows {
+        let mut all = Dylink0SectionReader::new(rt.alloc(), window(bytes, 50));
+        let short = Error::new(Fault::UnexpectedEof, offset);
+        same(&rt, refusal(&mut all), Some(short));
+        assert!(rt; is_over(&mut all));
+    }
+}
+
+// The id, the bytes and the range of an unknown subsection that a reader is at.
+fn unknown_at<'a>(
+    alloc: Global,
+    id: u8,
+    reader: BinaryReader<'a>,
+) -> Option<(u8, &'a [u8], Range<u64>)> {
+    match Dylink0Subsection::from_reader(alloc, id, reader) {
+        Ok(
+            Dylink0Subsection::Unknown {
+                ty,
+                contents,
+                range,
+            },
+        ) => Some((ty, contents, range)),
+        _other => None,
+    }
+}
+
+#[test]
+fn an_unknown_subsection_that_was_begun(rt: HostRuntime) -> Result<(), Fail> {
+    let mut reader = window(b"\x09\x08\x07\x06\x05", 500);
+    reader.read_bytes(2)?;
+    let rest = Some((0, b"\x07\x06\x05".as_slice(), 502..505));
+    same(&rt, unknown_at(rt.alloc(), 0, reader), rest);
     Ok(())
 }

@@ -3,7 +3,8 @@ use super::{same, window};
 use std::test::Fail;
 use wasm_base::{Error, Fault, FromReader, Lead};
 use wasm_custom::{
-    BranchHintFunction, BranchHintSectionReader, ProducersField, ProducersSectionReader,
+    BranchHintFunction, BranchHintSectionReader, ProducersField, ProducersFieldValue,
+    ProducersSectionReader,
 };
 
 fn leading(lead: Lead, byte: u64, offset: u64) -> Error {
@@ -114,5 +115,17 @@ fn producers_that_are_refused(rt: HostRuntime) {
     for (bytes, offset, wanted) in rows {
         let refused = ProducersField::from_reader(&mut window(bytes, offset)).err();
         same(&rt, refused, Some(wanted));
+    }
+}
+
+#[test]
+fn texts_of_any_length(rt: HostRuntime) {
+    let short = |offset: u64| Some(Error::new(Fault::UnexpectedEof, offset));
+    let refused = ProducersField::from_reader(&mut window(b"\xa1\x8d\x06", 50)).err();
+    same(&rt, refused, short(53));
+    let rows: [(&[u8], u64); 2] = [(b"\xa1\x8d\x06", 53), (b"\0\xa1\x8d\x06", 54)];
+    for (bytes, offset) in rows {
+        let refused = ProducersFieldValue::from_reader(&mut window(bytes, 50)).err();
+        same(&rt, refused, short(offset));
     }
 }

@@ -1,14 +1,18 @@
 // What linkers read, on worked bytes.
 use super::{same, window};
 use bitflags::Flags;
+use std::alloc::Global;
 use std::fmt::Debug;
 use std::ops::Range;
 use std::process::Abort;
 use std::test::Fail;
-use wasm_base::{Error, Fault, FromReader, Lead, Result, SectionLimitedIntoIterWithOffsets, fits};
+use wasm_base::{
+    BinaryReader, Error, Fault, FromReader, Lead, Result, SectionLimitedIntoIterWithOffsets,
+    Subsection, fits,
+};
 use wasm_custom::{
     Comdat, ComdatSymbol, ComdatSymbolKind, DefinedDataSymbol, Linking, LinkingIntoIter,
-    LinkingSectionReader, SegmentFlags, SymbolFlags, SymbolInfo,
+    LinkingSectionReader, Segment, SegmentFlags, SymbolFlags, SymbolInfo,
 };
 
 // The bytes of each row are read as its text, and so many are used; or its fault is answered.
@@ -231,5 +235,94 @@ fn subsections_for_linkers(rt: HostRuntime) -> std::result::Result<(), Fail> {
     same(&rt, unknown(&mut subsections), one);
     let refused = subsections.next().ok_or("none")?.err();
     same(&rt, refused, Some(fault(Fault::UnexpectedEof, 2021)));
+    Ok(())
+}
+
+// What one call says of texts of 100,001 bytes, of which none is there.
+fn refused_text(
+    bytes: &[u8],
+    offset: u64,
+) -> (&[u8], std::result::Result<(&'static str, u64), Error>) {
+    (bytes, Err(fault(Fault::UnexpectedEof, offset)))
+}
+
+#[test]
+fn texts_of_any_length(rt: HostRuntime) -> std::result::Result<(), Fail> {
+    let name = [refused_text(b"\xa1\x8d\x06", 53)];
+    reads::<Segment<'_>>(&rt, rt.alloc(), 50, &name)?;
+    reads::<Comdat<'_>>(&rt, rt.alloc(), 50, &name)?;
+    let rows = [
+        refused_text(b"\0\0\0\xa1\x8d\x06", 56),
+        refused_text(b"\x02\0\0\xa1\x8d\x06", 56),
+        refused_text(b"\x04\0\0\xa1\x8d\x06", 56),
+        refused_text(b"\x05\0\0\xa1\x8d\x06", 56),
+        refused_text(b"\x01\0\xa1\x8d\x06", 55),
+    ];
+    reads::<SymbolInfo<'_>>(&rt, rt.alloc(), 50, &rows)
+}
+
+#[test]
+fn an_architecture_one_byte_too_long(rt: HostRuntime) -> std::result::Result<(), Fail> {
+    let bytes = window(b"\x02\x09\x03\xa1\x8d\x06", 50);
+    let mut subsections = LinkingSectionReader::new(rt.alloc(), bytes)?.into_iter();
+    let refused = subsections.next().ok_or("none")?.err();
+    same(&rt, refused, Some(fault(Fault::StringSize, 55)));
+    assert!(rt; subsections.next().is_none());
+    Ok(())
+}
+
+#[test]
+fn undefined_data_with_an_explicit_name(rt: HostRuntime) -> std::result::Result<(), Fail> {
+    let text = "Data { flags: SymbolFlags(80), name: \"d\", symbol: None }";
+    let rows: &[(&[u8], _)] = &[(b"\x01\x50\x01\x64", Ok((text, 4)))];
+    reads::<SymbolInfo<'_>>(&rt, rt.alloc(), 0, rows)
+}
+
+#[test]
+fn bits_of_flags(rt: HostRuntime) {
+    let rows = [
+        (SymbolFlags::BINDING_WEAK, 1),
+        (SymbolFlags::BINDING_LOCAL, 2),
+        (SymbolFlags::VISIBILITY_HIDDEN, 4),
+        (SymbolFlags::UNDEFINED, 16),
+        (SymbolFlags::EXPORTED, 32),
+        (SymbolFlags::EXPLICIT_NAME, 64),
+        (SymbolFlags::NO_STRIP, 128),
+        (SymbolFlags::TLS, 256),
+        (SymbolFlags::ABSOLUTE, 512),
+    ];
+    for (flags, bits) in rows {
+        assert_eq!(rt; flags.bits(), bits);
+    }
+    assert_eq!(rt; SymbolFlags::all().bits(), 1015);
+    assert_eq!(rt; SegmentFlags::STRINGS.bits(), 1);
+    assert_eq!(rt; SegmentFlags::TLS.bits(), 2);
+    assert_eq!(rt; SegmentFlags::all().bits(), 3);
+}
+
+// The id, the bytes and the range of an unknown subsection that a reader is at.
+fn unknown_at<'a>(
+    alloc: Global,
+    id: u8,
+    reader: BinaryReader<'a>,
+) -> Option<(u8, &'a [u8], Range<u64>)> {
+    match Linking::from_reader(alloc, id, reader) {
+        Ok(
+            Linking::Unknown {
+                ty,
+                contents,
+                range,
+            },
+        ) => Some((ty, contents, range)),
+        _other => None,
+    }
+}
+
+#[test]
+fn an_unknown_subsection_that_was_begun(rt: HostRuntime) -> std::result::Result<(), Fail> {
+    let mut reader = window(b"\x09\x08\x07\x06\x05", 500);
+    reader.read_bytes(2)?;
+    let rest = Some((99, b"\x07\x06\x05".as_slice(), 502..505));
+    same(&rt, unknown_at(rt.alloc(), 99, reader), rest);
     Ok(())
 }

@@ -2,10 +2,11 @@
 ghost use Rattle.std.specs.Prelude.{◌+◌, ◌<◌, ◌^◌, length};
 
 use super::{same, window};
+use std::alloc::Global;
 use std::ops::Range;
 use std::process::Abort;
 use std::test::Fail;
-use wasm_base::{Error, Fault, NumberKind, Result};
+use wasm_base::{BinaryReader, Error, Fault, NumberKind, Result, Subsection};
 use wasm_custom::{IndirectNameMap, Name, NameMap, NameSectionReader};
 
 fn map<'a>(bytes: &'a [u8], offset: u64) -> Result<NameMap<'a>>
@@ -193,4 +194,118 @@ fn nothing_is_after_the_name_of_a_module(rt: HostRuntime) {
     let left = Error::new(Fault::NameTrailing, 4);
     same(&rt, refusal(&mut names), Some(left));
     assert!(rt; is_over(&mut names));
+}
+
+// The names of a subsection, direct or by what has them, with a number for its kind.
+enum Kind<'a> {
+    Direct(u8, NameMap<'a>),
+    Indirect(u8, IndirectNameMap<'a>),
+    Other,
+}
+
+fn kind_of<'a>(name: Name<'a>) -> Kind<'a> {
+    match name {
+        Name::Function(names) => Kind::Direct(1, names),
+        Name::Local(names) => Kind::Indirect(2, names),
+        Name::Label(names) => Kind::Indirect(3, names),
+        Name::Types(names) => Kind::Direct(4, names),
+        Name::Table(names) => Kind::Direct(5, names),
+        Name::Memory(names) => Kind::Direct(6, names),
+        Name::Global(names) => Kind::Direct(7, names),
+        Name::Element(names) => Kind::Direct(8, names),
+        Name::Data(names) => Kind::Direct(9, names),
+        Name::Field(names) => Kind::Indirect(10, names),
+        Name::Tag(names) => Kind::Direct(11, names),
+        Name::Parameter(names) => Kind::Indirect(12, names),
+        Name::TagParameter(names) => Kind::Indirect(13, names),
+        _other => Kind::Other,
+    }
+}
+
+// The kind of the subsection that comes next, the index of its first entry, and the first name that it has.
+fn first<'a>(names: &mut NameSectionReader<'a>) -> Option<(u8, u32, &'a str)> {
+    match kind_of(names.next()?.ok()?) {
+        Kind::Direct(kind, mut names) => {
+            let (index, name) = next_name(&mut names)?.ok()?;
+            Some((kind, index, name))
+        }
+        Kind::Indirect(kind, mut names) => {
+            let (index, mut inner) = next_names(&mut names)?.ok()?;
+            let (_inner, name) = next_name(&mut inner)?.ok()?;
+            Some((kind, index, name))
+        }
+        Kind::Other => None,
+    }
+}
+
+#[test]
+fn each_kind_of_names(rt: HostRuntime) {
+    let bytes =
+        b"\x03\x07\x01\x83\0\x01\0\x01l\x04\x84\0\x01\x04\x01t\x05\x04\x01\x05\x01T\x06\x04\x01\x06\x01m\
+        \x07\x04\x01\x07\x01g\x08\x04\x01\x08\x01e\x09\x04\x01\x09\x01d\x0a\x06\x01\x0a\x01\0\x01f\
+        \x0b\x04\x01\x0b\x01x\x0c\x06\x01\x0c\x01\0\x01p\x0d\x06\x01\x0d\x01\0\x01q\x0e\0";
+    let mut names = NameSectionReader::new(rt.alloc(), window(bytes, 40));
+    let rows = [
+        (3, 3, "l"),
+        (4, 4, "t"),
+        (5, 5, "T"),
+        (6, 6, "m"),
+        (7, 7, "g"),
+        (8, 8, "e"),
+        (9, 9, "d"),
+        (10, 10, "f"),
+        (11, 11, "x"),
+        (12, 12, "p"),
+        (13, 13, "q"),
+    ];
+    for row in rows {
+        same(&rt, first(&mut names), Some(row));
+    }
+    let end = 40 + bytes.len() as u64;
+    let nothing = Some((14, b"".as_slice(), end..end));
+    same(&rt, unknown(&mut names), nothing);
+    assert!(rt; is_over(&mut names));
+}
+
+#[test]
+fn parameters_of_tags_in_their_order(rt: HostRuntime) {
+    let bytes = b"\x0d\x01\0\x0d\x01\0\x0c\x01\0\x0e\0";
+    let mut names = NameSectionReader::new(rt.alloc(), window(bytes, 40));
+    assert!(rt; refusal(&mut names).is_none());
+    for offset in [43, 46] {
+        let order = Error::new(Fault::NameSectionOrder, offset);
+        same(&rt, refusal(&mut names), Some(order));
+    }
+    same(&rt, unknown(&mut names), Some((14, b"".as_slice(), 51..51)));
+}
+
+#[test]
+fn names_one_byte_too_long(rt: HostRuntime) -> std::result::Result<(), Fail> {
+    let short = Err(Error::new(Fault::UnexpectedEof, 55));
+    gives_names(&rt, map(b"\x01\0\xa1\x8d\x06", 50)?, &[short]);
+    let bytes = window(b"\0\x03\xa1\x8d\x06", 50);
+    let mut names = NameSectionReader::new(rt.alloc(), bytes);
+    let long = Error::new(Fault::StringSize, 54);
+    same(&rt, refusal(&mut names), Some(long));
+    assert!(rt; is_over(&mut names));
+    Ok(())
+}
+
+// The range of a module's name, or of an unknown subsection, that a reader is at.
+fn range_at(alloc: Global, id: u8, reader: BinaryReader<'_>) -> Option<Range<u64>> {
+    match Name::from_reader(alloc, id, reader) {
+        Ok(Name::Module { name_range, .. }) => Some(name_range),
+        Ok(Name::Unknown { range, .. }) => Some(range),
+        _other => None,
+    }
+}
+
+#[test]
+fn subsections_that_were_begun(rt: HostRuntime) -> std::result::Result<(), Fail> {
+    let mut reader = window(b"\x09\x08\x81\0a", 500);
+    reader.read_bytes(2)?;
+    let module = range_at(rt.alloc(), 0, reader.clone()?);
+    same(&rt, module, Some(502..505));
+    same(&rt, range_at(rt.alloc(), 14, reader), Some(502..505));
+    Ok(())
 }

@@ -98,43 +98,52 @@ impl Sink for Slow {
     }
 }
 
+/// The lines of the module with one body, of which those of its first parts are written where a read fails.
+const BODY_LISTING: &[u8] =
+    b"version 0 8 1 module\nsection 3 10 12 1\ncode 14 18 1 3\nbody 16 18\nend 18\n";
+
 #[test]
 fn a_source_that_fails_leaves_the_lines_of_what_it_gave(rt: HostRuntime) -> Result<(), Fail> {
-    // How many bytes are read at once, and the lines that are written where the next reads fail, one after the other.
-    let rows: [(usize, [&[u8]; 4]); 3] = [
-        (3, [b"", b"", b"", b"version 0 8 1 module\n"]),
-        (
-            10,
-            [
-                b"",
-                b"version 0 8 1 module\n",
-                b"version 0 8 1 module\nsection 3 10 12 1\ncode 14 18 1 3\nbody 16 18\n",
-                b"version 0 8 1 module\nsection 3 10 12 1\ncode 14 18 1 3\nbody 16 18\nend 18\n",
-            ],
-        ),
-        (
-            18,
-            [
-                b"",
-                b"version 0 8 1 module\nsection 3 10 12 1\ncode 14 18 1 3\nbody 16 18\n",
-                b"version 0 8 1 module\nsection 3 10 12 1\ncode 14 18 1 3\nbody 16 18\nend 18\n",
-                b"version 0 8 1 module\nsection 3 10 12 1\ncode 14 18 1 3\nbody 16 18\nend 18\n",
-            ],
-        ),
+    // How many bytes are read at once, and how many bytes of lines are written where each read fails, the last one that says that
+    // it is the end. The lines of the header, a section, a code section's start and a body end after 21, 39, 54 and 65 bytes.
+    let rows: [(usize, &[usize]); 3] = [
+        (3, &[0, 0, 0, 21, 39, 54, 65]),
+        (10, &[0, 21, 65]),
+        (18, &[0, 65]),
     ];
     for (piece, written) in rows {
-        for (calls, lines) in written.iter().enumerate() {
+        for (calls, count) in written.iter().enumerate() {
             let mut input = Failing::after(BODY, piece, calls);
             let mut output = BoundedSink::new(rt.alloc(), 100)?;
             let ended = ends(rt.alloc(), &mut input, &mut output, piece);
-            let has_failed = !lines.ends_with(b"end 18\n");
+            assert_eq!(rt; ended, Err(ListError::Input), "{piece} {calls}");
+            assert!(rt; input.failed() && !output.failed());
             assert_eq!(rt;
-                ended == Err(ListError::Input),
-                has_failed,
-                "{piece} {calls}"
+                output.written(),
+                &BODY_LISTING[..(*count).min(BODY_LISTING.len())]
             );
-            assert!(rt; input.failed() == has_failed && !output.failed());
-            assert_eq!(rt; output.written(), *lines);
+        }
+        let mut input = Failing::after(BODY, piece, written.len());
+        let mut output = BoundedSink::new(rt.alloc(), 100)?;
+        let ended = ends(rt.alloc(), &mut input, &mut output, piece);
+        assert_eq!(rt; ended, Ok(Ended::End), "{piece}");
+        assert_eq!(rt; output.written(), BODY_LISTING);
+    }
+    Ok(())
+}
+
+#[test]
+fn a_sink_that_fails_at_each_byte_of_a_module(rt: HostRuntime) -> Result<(), Fail> {
+    for piece in [3, 10, 18] {
+        for calls in 0..BODY_LISTING.len() {
+            let mut output = Slow {
+                inner: BoundedSink::new(rt.alloc(), 100)?,
+                calls_left: calls,
+                failed: false,
+            };
+            let ended = ends(rt.alloc(), &mut SliceSource::new(BODY), &mut output, piece);
+            assert_eq!(rt; ended, Err(ListError::Output), "{piece} {calls}");
+            assert_eq!(rt; output.inner.written(), &BODY_LISTING[..calls]);
         }
     }
     Ok(())
@@ -216,6 +225,45 @@ fn a_writer_that_takes_nothing(rt: HostRuntime) -> Result<(), Fail> {
     );
     assert!(rt; output.failed());
     assert_eq!(rt; output.write(b""), Ok(0));
+    Ok(())
+}
+
+/// A writer that takes all bytes and notes how often it was flushed, which fails the first times.
+#[derive(Drop)]
+struct Noting {
+    failures: usize,
+    flushes: usize,
+}
+
+impl Write for Noting {
+    fn write(&mut self, buf: &[u8]) -> io::Result<usize> {
+        Ok(buf.len())
+    }
+
+    fn flush(&mut self) -> io::Result<()> {
+        self.flushes = self.flushes.saturating_add(1);
+        if self.flushes <= self.failures {
+            return Err(io::Error::from(io::ErrorKind::BrokenPipe));
+        }
+        Ok(())
+    }
+}
+
+#[test]
+fn a_sink_flushes_its_writer(rt: HostRuntime) -> Result<(), Fail> {
+    let mut writer = Noting {
+        failures: 1,
+        flushes: 0,
+    };
+    let mut sink = WriteSink::new(&mut writer);
+    assert_eq!(rt; sink.write(b"abc"), Ok(3));
+    assert_eq!(rt; sink.flush(), Err(Failed));
+    assert!(rt; sink.failed());
+    assert_eq!(rt; sink.flush(), Ok(()));
+    assert!(rt; sink.failed());
+    assert_eq!(rt; sink.flush(), Ok(()));
+    drop(sink);
+    assert_eq!(rt; writer.flushes, 3);
     Ok(())
 }
 

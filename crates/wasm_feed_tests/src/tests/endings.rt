@@ -1,5 +1,6 @@
 // Where a reader waits: ways in which the stream goes on, after which its next events differ.
 use super::events;
+use super::pieces::cut;
 use std::alloc::Global;
 use std::ops::Range;
 use std::process::Abort;
@@ -26,7 +27,7 @@ fn refused(ending: &[u8], fault: Fault, offset: u64) -> Row<'_> {
     )
 }
 
-// The event after so many others is this, where these pieces are the stream.
+// The event after so many others is this, where these pieces are the stream, and where it comes byte by byte.
 fn gives(
     rt: &impl Abort,
     alloc: Global,
@@ -34,13 +35,19 @@ fn gives(
     before: usize,
     wanted: &Row<'_>,
 ) -> Result<(), Fail> {
-    let events = events(alloc, 0, pieces)?;
-    match events.get(before) {
-        Some(event) => {
-            assert_eq!(rt; event.kind, wanted.1);
-            assert_eq!(rt; event.range, wanted.2);
+    let mut stream = Vec::new(alloc);
+    for piece in pieces {
+        stream.extend_from_slice(piece)?;
+    }
+    let bytes = cut(alloc, &stream, 1, false)?;
+    for events in [events(alloc, 0, pieces)?, events(alloc, 0, &bytes)?] {
+        match events.get(before) {
+            Some(event) => {
+                assert_eq!(rt; event.kind, wanted.1);
+                assert_eq!(rt; event.range, wanted.2);
+            }
+            None => assert!(rt; false),
         }
-        None => assert!(rt; false),
     }
     Ok(())
 }

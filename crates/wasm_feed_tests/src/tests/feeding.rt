@@ -48,7 +48,7 @@ fn step_with<A: Allocator>(feeder: &mut Feeder<A>) -> Told {
 }
 
 // Pushes a piece, if the feeder wants more.
-fn push<A: Allocator>(feeder: &mut Feeder<A>, piece: &[u8]) -> Result<()> {
+pub(super) fn push<A: Allocator>(feeder: &mut Feeder<A>, piece: &[u8]) -> Result<()> {
     if feeder.wants_more() {
         feeder.push(piece)
     } else {
@@ -86,6 +86,50 @@ fn a_module_in_three_pieces(rt: HostRuntime) -> std::result::Result<(), Fail> {
         feeder.finish();
         assert_eq!(rt; step(&mut feeder), Told::Ends(18));
     }
+    Ok(())
+}
+
+#[test]
+fn a_module_one_byte_at_a_time(rt: HostRuntime) -> std::result::Result<(), Fail> {
+    let mut feeder = Feeder::new(rt.alloc(), 0, WasmFeatures::all());
+    assert_eq!(rt; step(&mut feeder), Told::Asks(4));
+    // After each byte: how many bytes a step shows, if it shows any; then how many are asked for, and how many are held.
+    let rows: [(usize, usize, usize); 18] = [
+        (0, 3, 1),
+        (0, 2, 2),
+        (0, 1, 3),
+        (0, 4, 4),
+        (0, 3, 5),
+        (0, 2, 6),
+        (0, 1, 7),
+        (8, 1, 0),
+        (0, 1, 1),
+        (0, 2, 2),
+        (0, 1, 3),
+        (4, 1, 0),
+        (0, 1, 1),
+        (0, 1, 2),
+        (3, 1, 0),
+        (0, 2, 1),
+        (0, 1, 2),
+        (3, 1, 0),
+    ];
+    let mut rest = MODULE;
+    for (shown, hint, held) in rows {
+        let (byte, later) = rest.split_at(rest.len().min(1));
+        rest = later;
+        push(&mut feeder, byte)?;
+        if shown > 0 {
+            assert_eq!(rt; (feeder.held(), feeder.stored()), (shown, shown));
+            assert_eq!(rt; step(&mut feeder), Told::Shows(shown));
+        }
+        assert_eq!(rt; feeder.held(), held);
+        assert_eq!(rt; step(&mut feeder), Told::Asks(hint));
+        assert_eq!(rt; (feeder.held(), feeder.wants_more()), (held, true));
+    }
+    feeder.finish();
+    assert_eq!(rt; step(&mut feeder), Told::Ends(18));
+    assert_eq!(rt; feeder.held(), 0);
     Ok(())
 }
 

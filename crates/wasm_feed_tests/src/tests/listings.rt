@@ -178,10 +178,12 @@ fn says_how_a_stream_ends(rt: HostRuntime) -> Result<(), Fail> {
         ),
     ];
     for (stream, how, lines) in streams {
-        let mut output = BoundedSink::new(rt.alloc(), 200)?;
-        let ended = lists(rt.alloc(), stream, &mut output, 3);
-        assert!(rt; ended == how, "{stream:?}");
-        assert_eq!(rt; output.written(), lines, "{stream:?}");
+        for piece in [1, 3] {
+            let mut output = BoundedSink::new(rt.alloc(), 200)?;
+            let ended = lists(rt.alloc(), stream, &mut output, piece);
+            assert!(rt; ended == how, "{stream:?}");
+            assert_eq!(rt; output.written(), lines, "{stream:?}");
+        }
     }
     Ok(())
 }

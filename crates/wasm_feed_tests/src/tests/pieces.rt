@@ -25,7 +25,12 @@ const AMPLE: u64 = 60;
 type Wanted<'a> = (EventKind, Range<u64>, &'a [u8]);
 
 // The bytes in pieces of so many, with empty ones between them or without.
-fn cut(alloc: Global, bytes: &[u8], size: usize, spaced: bool) -> Result<Vec<&[u8]>, AllocError> {
+pub(super) fn cut(
+    alloc: Global,
+    bytes: &[u8],
+    size: usize,
+    spaced: bool,
+) -> Result<Vec<&[u8]>, AllocError> {
     let mut pieces = Vec::new(alloc);
     let mut rest = bytes;
     for _ in 0..100 {

@@ -58,7 +58,18 @@ const STRIPPED: [Row; 9] = [
 /// A stream that isn't accepted, the fault, and its offset.
 type Refused = (&'static [u8], Fault, u64);
 
-const FAULTS: [Refused; 6] = [
+const FAULTS: [Refused; 8] = [
+    // A section that stays stands after one that goes, and before the fault.
+    (
+        b"\0asm\x01\0\0\0\0\x02\x01a\x01\x01\0\x80",
+        Fault::MalformedSectionId,
+        15,
+    ),
+    (
+        b"\0asm\x01\0\0\0\0\x01\0\x03\x02\x01\0",
+        Fault::FunctionWithoutCode,
+        15,
+    ),
     (
         b"\0asm\x01\0\0\0\x03\x02\x01\0",
         Fault::FunctionWithoutCode,
@@ -88,11 +99,11 @@ const FAULTS: [Refused; 6] = [
 ];
 
 // The rows by a function, since a proof over them is told nothing of their bytes.
-fn rows() -> &'static [Row] {
+pub(super) fn rows() -> &'static [Row] {
     &STRIPPED
 }
 
-fn faults() -> &'static [Refused] {
+pub(super) fn faults() -> &'static [Refused] {
     &FAULTS
 }
 

@@ -6,8 +6,8 @@ use std::process::Abort;
 use std::test::Fail;
 use wasm_base::{BinaryReader, Error, Fault, Lead, Result, WasmFeatures, fits};
 use wasm_items::{
-    GlobalType, Import, ImportSection, ImportSectionReader, Imports, IntoImports,
-    IntoImportsWithOffsets, MemoryType, TagKind, TagType, TypeRef, ValType,
+    Export, GlobalType, Import, ImportItemCompact, ImportSection, ImportSectionReader, Imports,
+    IntoImports, IntoImportsWithOffsets, MemoryType, TagKind, TagType, TypeRef, ValType,
 };
 
 fn import<'a>(module: &'a str, name: &'a str, ty: TypeRef) -> Import<'a> {
@@ -288,4 +288,33 @@ fn windows_of_groups(rt: HostRuntime) -> std::result::Result<(), Fail> {
         _other => assert!(rt; false),
     }
     Ok(())
+}
+
+#[test]
+fn names_one_byte_too_long(rt: HostRuntime) {
+    let all = WasmFeatures::all();
+    let refused = |offset: u64| Error::new(Fault::StringSize, offset);
+    refuses::<Import<'_>>(
+        &rt,
+        50,
+        all,
+        &[
+            (b"\xa1\x8d\x06", refused(52)),
+            (b"\0\xa1\x8d\x06", refused(53)),
+        ],
+    );
+    refuses::<Imports<'_>>(
+        &rt,
+        50,
+        all,
+        &[
+            (b"\xa1\x8d\x06", refused(52)),
+            (b"\0\xa1\x8d\x06", refused(53)),
+            (b"\x01m\0\x7f\x01\xa1\x8d\x06", refused(57)),
+            (b"\x01m\0\x7e\0\0\x01\xa1\x8d\x06", refused(59)),
+        ],
+    );
+    let item = &[(b"\xa1\x8d\x06".as_slice(), refused(52))];
+    refuses::<ImportItemCompact<'_>>(&rt, 50, all, item);
+    refuses::<Export<'_>>(&rt, 50, all, item);
 }

@@ -1,10 +1,12 @@
 // The statuses and messages of runs.
-use crate::program::{finish, run, run_program};
+use crate::run;
 use std::env::Args;
 use std::io::{self, Read, Write};
 use std::process::ExitCode;
 use std::test::Fail;
-use wasm_feed::{BoundedSink, ReadSource, Sink, SliceSource, Source, WriteSink};
+use wasm_feed::{BoundedSink, Failed, ReadSource, Sink, SliceSource, Source, WriteSink};
+use wasm_list_run::run_program;
+use wasm_run::finish;
 
 const MODULE: &[u8] = b"\0asm\x01\0\0\0\0\x02\x01a";
 
@@ -148,6 +150,53 @@ fn says_which_device_failed_in_stripping(rt: HostRuntime) -> Result<(), Fail> {
     Ok(())
 }
 
+/// A source of the bytes of a slice that notes the smallest and the largest room that it was given.
+#[derive(Drop)]
+struct Measuring<'a> {
+    inner: SliceSource<'a>,
+    smallest: usize,
+    largest: usize,
+}
+
+impl Source for Measuring<'_> {
+    ghost use Rattle.std.specs.Prelude.{Some, false};
+
+    ghost left = { λ s. Some s.inner.rest.now };
+
+    ghost has_failed = { λ _. false };
+
+    fn read(&mut self, buf: &mut [u8]) -> Result<usize, Failed> {
+        self.smallest = self.smallest.min(buf.len());
+        self.largest = self.largest.max(buf.len());
+        self.inner.read(buf)
+    }
+
+    fn failed(&self) -> bool {
+        self.inner.failed()
+    }
+}
+
+#[test]
+fn reads_in_pieces_of_65536(rt: HostRuntime) -> Result<(), Fail> {
+    let asked: [&[&str]; 2] = [&[], &["strip"]];
+    for arguments in asked {
+        let arguments = words(rt, arguments)?;
+        let mut input = Measuring {
+            inner: SliceSource::new(MODULE),
+            smallest: usize::MAX,
+            largest: 0,
+        };
+        let mut output = BoundedSink::new(rt.alloc(), 200)?;
+        let mut errors = BoundedSink::new(rt.alloc(), 200)?;
+        assert_eq!(rt;
+            run(rt.alloc(), &arguments, &mut input, &mut output, &mut errors),
+            0
+        );
+        assert_eq!(rt; (input.smallest, input.largest), (65_536, 65_536));
+    }
+    Ok(())
+}
+
 /// A reader that fails.
 #[derive(Drop)]
 struct Broken;
@@ -283,6 +332,22 @@ fn a_program_that_cannot_begin(rt: HostRuntime) -> Result<(), Fail> {
     assert_eq!(rt; errors.written(), b"out of memory\n".as_slice());
     let mut left = [0; 20];
     assert_eq!(rt; input.read(&mut left), Ok(MODULE.len()));
+    assert_eq!(rt; written.as_slice(), b"".as_slice());
+    Ok(())
+}
+
+#[test]
+fn an_argument_that_is_no_text(rt: HostRuntime) -> Result<(), Fail> {
+    let mut input = SliceSource::new(MODULE);
+    let mut written = Vec::<u8>::new(rt.alloc());
+    let mut output = WriteSink::new(&mut written);
+    let mut errors = BoundedSink::new(rt.alloc(), 40)?;
+    let given = Err(io::Error::from(io::ErrorKind::InvalidData));
+    assert_eq!(rt;
+        run_program(rt.alloc(), given, &mut input, &mut output, &mut errors),
+        ExitCode::from(2)
+    );
+    assert_eq!(rt; errors.written(), b"usage: wasm_list [strip]\n".as_slice());
     assert_eq!(rt; written.as_slice(), b"".as_slice());
     Ok(())
 }

@@ -2,7 +2,7 @@
 use super::same;
 use std::process::Abort;
 use std::test::Fail;
-use wasm_parser::{Error, Fault, NumberKind, Parser, Payload, WasmFeatures};
+use wasm_parser::{Chunk, Error, Fault, NumberKind, Parser, Payload, WasmFeatures};
 
 // The fault at which a stream ends, if it does.
 fn fault_of(stream: &[u8], start: u64) -> Option<Error> {
@@ -14,14 +14,42 @@ fn fault_of(stream: &[u8], start: u64) -> Option<Error> {
     None
 }
 
-// Each of these streams, at its start, ends at its fault.
+// The fault of the next part of these bytes, of which so many are passed, where more may come. The bytes of a part are passed.
+fn next_fault(parser: &mut Parser, bytes: &[u8], passed: &mut usize) -> Option<Error> {
+    match parser.parse(&bytes[(*passed).min(bytes.len())..], false) {
+        Ok(Chunk::Parsed { consumed, .. }) => *passed = passed.saturating_add(consumed),
+        Ok(Chunk::NeedMoreData(_)) => {}
+        Err(error) => return Some(error),
+    }
+    None
+}
+
+// The fault at which a stream ends whose bytes come one by one, each part being taken as soon as it is there.
+fn fault_byte_by_byte(stream: &[u8], start: u64) -> Option<Error> {
+    let mut parser = Parser::new(start);
+    let mut passed = 0;
+    for last in 0..stream.len() {
+        let bytes = &stream[..last + 1];
+        let found = next_fault(&mut parser, bytes, &mut passed);
+        if found.is_some() {
+            return found;
+        }
+        let found = next_fault(&mut parser, bytes, &mut passed);
+        if found.is_some() {
+            return found;
+        }
+    }
+    parser
+        .parse(&stream[passed.min(stream.len())..], true)
+        .err()
+}
+
+// Each of these streams, at its start, ends at its fault, be it walked over or given byte by byte.
 fn end_so(rt: &impl Abort, rows: &[(&[u8], u64, Fault, u64)]) {
     for (stream, start, fault, offset) in rows {
-        assert_eq!(rt;
-            fault_of(stream, *start),
-            Some(Error::new(*fault, *offset)),
-            "{stream:?}"
-        );
+        let fault = Some(Error::new(*fault, *offset));
+        assert_eq!(rt; fault_of(stream, *start), fault, "{stream:?}");
+        assert_eq!(rt; fault_byte_by_byte(stream, *start), fault, "{stream:?}");
     }
 }
 
@@ -279,12 +307,22 @@ fn the_first_of_two_faults_in_code_and_headers(rt: HostRuntime) {
 }
 
 #[test]
-fn too_large_comes_before_out_of_order(rt: HostRuntime) {
+fn near_the_top_of_the_offsets_byte_by_byte(rt: HostRuntime) {
     let start = 18446744073709551600;
     let fault = Error::new(Fault::SectionTooLarge, 18446744073709551612).with_number(6);
+    let stream = b"\0asm\x01\0\0\0\x01\x01\0\x01\x06";
+    same(&rt, fault_of(stream, start), Some(fault));
+    same(&rt, fault_byte_by_byte(stream, start), Some(fault));
+    let fault = Error::new(Fault::SectionTooLarge, 18446744073709551609).with_number(6);
+    let stream = b"\0asm\x01\0\0\0\0\x06";
+    same(&rt, fault_byte_by_byte(stream, start), Some(fault));
+    let fault = Error::new(Fault::UnexpectedEof, 18446744073709551610);
+    let stream = b"\0asm\x01\0\0\0\0\x05";
+    same(&rt, fault_byte_by_byte(stream, start), Some(fault));
+    let fault = Error::new(Fault::OffsetRange, 18446744073709551608);
     same(
         &rt,
-        fault_of(b"\0asm\x01\0\0\0\x01\x01\0\x01\x06", start),
+        fault_byte_by_byte(b"\0asm\x01\0\0\0", 18446744073709551608),
         Some(fault),
     );
 }

@@ -30,8 +30,9 @@ fn hints_in_a_header(rt: HostRuntime) {
 #[test]
 fn hints_in_sections(rt: HostRuntime) -> Result<(), Error> {
     let mut parser = after_header(7)?;
-    let rows: [(&[u8], Option<usize>); 12] = [
+    let rows: [(&[u8], Option<usize>); 13] = [
         (b"\x01\x85\x80", Some(1)),
+        (b"\x01\x02\0", Some(1)),
         (b"\x01\x05\0\0", Some(3)),
         (b"\x0e\x85\0\0", Some(4)),
         (b"\0\x03\x05ab", None),

@@ -55,7 +55,7 @@ fn headers_that_begin(rt: HostRuntime) {
 
 #[test]
 fn sections_that_begin(rt: HostRuntime) -> Result<(), Fail> {
-    let rows: [(&[u8], Answer); 18] = [
+    let rows: [(&[u8], Answer); 19] = [
         (b"", Answer::Asks(1)),
         (b"\0", Answer::Asks(3)),
         (b"\0asm", refuses(Fault::MagicAtSection, 8)),
@@ -67,6 +67,7 @@ fn sections_that_begin(rt: HostRuntime) -> Result<(), Fail> {
         (b"\x01\0", refuses(Fault::UnexpectedEof, 10)),
         (b"\x01\x01\x01\x02\x03\x04", Answer::Consumes(3)),
         (b"\x01\x85\0\0\0", Answer::Asks(3)),
+        (b"\x01\x02\0", Answer::Asks(1)),
         (b"\x08\x02", Answer::Asks(2)),
         (b"\x08\x01\x01", Answer::Consumes(3)),
         (b"\x08\x02\x01\x01", refuses(Fault::StartContent, 11)),

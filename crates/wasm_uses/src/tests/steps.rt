@@ -1,5 +1,4 @@
 // Steps of a feeder, by callers of another crate.
-use crate::bodies::size_of_bodies;
 use crate::walks::total;
 use bitflags::Flags;
 use std::alloc::Global;
@@ -7,9 +6,6 @@ use std::test::Fail;
 use wasm_base::{Error, Fault, Result, WasmFeatures};
 use wasm_feed::{Feeder, Step};
 use wasm_parser::{Encoding, Payload};
-
-// A header, a function section, and a code section with one body.
-const MODULE: &[u8] = b"\0asm\x01\0\0\0\x03\x02\x01\0\x0a\x04\x01\x02\0\x0b";
 
 // A feeder of these bytes, which are a whole stream.
 fn fed(alloc: Global, bytes: &[u8]) -> Result<Feeder> {
@@ -42,26 +38,6 @@ fn payloads_are_read(rt: HostRuntime) -> std::result::Result<(), Fail> {
     for _ in 0..2 {
         assert_eq!(rt; feeder.step().err(), Some(fault));
         assert_eq!(rt; feeder.open().step().err(), Some(fault));
-    }
-    Ok(())
-}
-
-#[test]
-fn bodies_are_added_up(rt: HostRuntime) -> std::result::Result<(), Fail> {
-    let alloc = rt.alloc();
-    let rows: [(&[u8], Result<u64>); 3] = [
-        (MODULE, Ok(3)),
-        (
-            b"\0asm\x01\0\0\0\x03\x03\x02\0\0\x0a\x09\x02\x02\0\x0b\x04\0\x41\0\x0b",
-            Ok(8),
-        ),
-        (
-            b"\0asm\x01\0\0\0\x03\x02\x01\0\x0a\x04\x01\x02\0\x0b\x80",
-            Err(Error::new(Fault::MalformedSectionId, 18)),
-        ),
-    ];
-    for (bytes, wanted) in rows {
-        assert_eq!(rt; size_of_bodies(alloc, bytes, WasmFeatures::all()), wanted);
     }
     Ok(())
 }

@@ -1,7 +1,7 @@
 use Rattle.std.proofs.Common.{◌≡◌, Some, refl, ap}
 use Rattle.wasm_base.specs.Comparing.{DecidesWhether}
 use Rattle.wasm_base.specs.FaultAt.{FaultAt}
-use Rattle.wasm_base.proofs.SameFaults.{error}
+use Rattle.wasm_parser.proofs.ForCallers.{equal_errors}
 use Rattle.wasm_feed.specs.Ends.{fault_at_end}
 use Rattle.wasm_feed.specs.contracts.listing.EndedPartialEq.TheImpl as Compared
 use Rattle.wasm_feed.specs.declared.listing.Ended.TheVariants.{End, Fault}
@@ -14,7 +14,7 @@ ended : DecidesWhether (λ one other. fault_at_end one ≡ fault_at_end other) (
 ended End End = (λ h. refl, λ h. refl)
 ended End (Fault f) = (λ h. cc, λ h. cc)
 ended (Fault e) End = (λ h. cc, λ h. cc)
-ended (Fault e) (Fault f) = (λ h. ap Some ((error e f).0 h), λ h. (error e f).1 (some_is _ _ h))
+ended (Fault e) (Fault f) = (λ h. ap Some ((equal_errors e f).0 h), λ h. (equal_errors e f).1 (some_is _ _ h))
 
 pub returns-clause-ended : goal.returns-clause-ended
 returns-clause-ended c = ended

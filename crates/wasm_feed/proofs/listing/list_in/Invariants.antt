@@ -1,7 +1,7 @@
 use Rattle.std.proofs.Common.{◌≡◌, ◌<◌, vec_len}
 use Rattle.wasm_feed.specs.Cursors.{feed_of}
 use Rattle.wasm_feed.specs.Listing.{line_of}
-use Rattle.wasm_feed.proofs.Progress.{Progress, weight}
+use Rattle.wasm_feed.specs.Progress.{Progress, weight}
 use Rattle.wasm_feed.proofs.listing.list_in.Given as goal
 
 -- how far the listing has come

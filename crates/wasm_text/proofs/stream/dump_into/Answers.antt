@@ -1,7 +1,7 @@
 use Rattle.std.proofs.Common.{refl, ◌∙◌, arith}
 use Rattle.std.proofs.lemmas.Grind.{common_steps}
 use Rattle.std.proofs.lemmas.Result.{err_from_is_err_and}
-use Rattle.wasm_text.proofs.Dumping.{starts, advanced, asked, stopped, stopped_at_last, ended, filled, not_filled}
+use Rattle.wasm_text.proofs.Dumping.{starts, advanced, asked, wants, stopped, stopped_at_last, ended, filled, not_filled}
 use Rattle.wasm_text.proofs.stream.dump_into.Goals as goal
 
 pub events-init : goal.events-init
@@ -35,6 +35,9 @@ returns-in_err-go_on-in-End g c taken failed i =
 pub returns-in-End : goal.returns-in-End
 returns-in-End g c taken failed i =
     ended _ _ _ _ _ _ c.events.invariant.dumping _ _ _ c.show_step-turn.ensures _ _ c.events.invariant.input _ _ c.in-End.is c.write_out-in-End.ensures.adds c.write_out-in-End.ensures.out c.in_ok-go_on-in-End.ensures.ok taken failed i
+
+pub read_from-requires-clause-wants : goal.read_from-requires-clause-wants
+read_from-requires-clause-wants g c = wants _ _ _ _ _ _ c.events.invariant.dumping _ _ _ c.show_step-turn.ensures c.in-Read.is
 
 pub events-preserved : goal.events-preserved
 events-preserved g c =

@@ -1,5 +1,5 @@
 use Rattle.std.proofs.Common.{◌≡◌, ◌<◌, length}
-use Rattle.wasm_feed.proofs.Progress.{weight}
+use Rattle.wasm_feed.specs.Progress.{weight}
 use Rattle.wasm_text.proofs.Dumping.{Dumping}
 use Rattle.wasm_text.proofs.stream.dump_into.Given as goal
 

@@ -8,27 +8,27 @@ parts-init c = rw c.new-parser.ensures (begun c.args.bytes.now)
 pub returns-in-End : goal.returns-in-End
 returns-in-End c =
     let small : length c.args.bytes.now < 2 ^ 64 = omega arith in
-    λ events r. ends c.args.bytes.now _ _ _ _ _ _ c.parts.invariant small c.in-End.is (rw c.in-Ok-Parsed.field-0-is at c.in-Ok-Parsed.ensures.answers) events r
+    ends c.args.bytes.now _ _ _ c.parts.invariant small _ _ (rw c.in-Ok-Parsed.field-0-is at c.in-Ok-Parsed.ensures.answers) _ c.in-End.is
 
 pub split_at-requires : goal.split_at-requires
 split_at-requires c =
     let small : length c.args.bytes.now < 2 ^ 64 = omega arith in
-    (moved c.args.bytes.now _ _ _ _ _ c.parts.invariant small c.in_default.not-End (rw c.in-Ok-Parsed.field-0-is at c.in-Ok-Parsed.ensures.answers)).there
+    (moved c.args.bytes.now _ _ _ c.parts.invariant small _ _ (rw c.in-Ok-Parsed.field-0-is at c.in-Ok-Parsed.ensures.answers) c.in_default.not-End).there
 
 pub parts-smaller : goal.parts-smaller
 parts-smaller c =
     let small : length c.args.bytes.now < 2 ^ 64 = omega arith in
-    let next = moved c.args.bytes.now _ _ _ _ _ c.parts.invariant small c.in_default.not-End (rw c.in-Ok-Parsed.field-0-is at c.in-Ok-Parsed.ensures.answers) in
+    let next = moved c.args.bytes.now _ _ _ c.parts.invariant small _ _ (rw c.in-Ok-Parsed.field-0-is at c.in-Ok-Parsed.ensures.answers) c.in_default.not-End in
     let goal_is : length c.split_at.result.1.now < length c.parts.rest.now = rw c.split_at.ensures.back (omega (arith, next.there, next.some, length-drop c.in-Ok-Parsed.consumed c.parts.rest.now)) in
     goal_is
 
 pub parts-preserved : goal.parts-preserved
 parts-preserved c =
     let small : length c.args.bytes.now < 2 ^ 64 = omega arith in
-    let next = moved c.args.bytes.now _ _ _ _ _ c.parts.invariant small c.in_default.not-End (rw c.in-Ok-Parsed.field-0-is at c.in-Ok-Parsed.ensures.answers) in
+    let next = moved c.args.bytes.now _ _ _ c.parts.invariant small _ _ (rw c.in-Ok-Parsed.field-0-is at c.in-Ok-Parsed.ensures.answers) c.in_default.not-End in
     rw c.split_at.ensures.back next.passed
 
 pub returns-in-Err : goal.returns-in-Err
 returns-in-Err c =
     let small : length c.args.bytes.now < 2 ^ 64 = omega arith in
-    λ events r. stops c.args.bytes.now _ _ _ _ c.parts.invariant small c.in-Err.ensures.answers events r
+    stops c.args.bytes.now _ _ _ c.parts.invariant small _ c.in-Err.ensures.answers

@@ -1,5 +1,5 @@
 use Rattle.std.proofs.lemmas.Result.{err_from_is_err_and}
-use Rattle.wasm_base.proofs.Walks.{gives, after_item, at_a_fault}
+use Rattle.wasm_parser.proofs.ForCallers.{gives, after_item, at_a_fault}
 use Rattle.wasm_uses.proofs.walks.check.Goals as goal
 
 pub returns-in_err-item : goal.returns-in_err-item

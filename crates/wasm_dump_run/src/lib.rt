@@ -1,0 +1,7 @@
+//! The program that shows every item of a WebAssembly stream, over any devices.
+#![tactic(auto)]
+
+mod command;
+mod program;
+
+pub use program::{dump_input, run_host, run_program};

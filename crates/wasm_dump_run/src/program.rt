@@ -1,0 +1,207 @@
+// The program, over any devices.
+ghost use Rattle.std.specs.Prelude.{◌≡◌, map, string_bytes, OnOk, OnErr, ℕ, take, true, is_ok, if◌then◌else◌};
+ghost use Rattle.std.specs.Io.KnownBytes.{Appends, Keeps};
+ghost use Rattle.std.specs.Process.{exit_status};
+ghost use Rattle.std.specs.Vec.Iter.{into_iter_items};
+ghost use Rattle.wasm_feed.specs.Calls.{device_of};
+ghost use Rattle.wasm_run.specs.Endings.{Reports, status_of};
+ghost use Rattle.wasm_dump_run.specs.Commands.{asked_if_any, asked_of};
+ghost use Rattle.wasm_dump_run.specs.Runs.{HandsOn, Helps, Runs, RunsDump, RunsProgram, Shows, ShowsChosen, help_text};
+
+use crate::command::{Command, command_asked, sections_named};
+use std::alloc::Global;
+use std::env::{self, Args};
+use std::io::{self, Write};
+use std::process::ExitCode;
+use wasm_feed::{Ended, Failed, ListError, ReadSource, Sink, Source, WriteSink, write_all};
+use wasm_run::{PIECE, complain, give_up};
+use wasm_text::{Only, Tree, dump};
+
+/// What `--help` says.
+const HELP: &[u8] = b"usage: wasm_dump [--section ID|NAME] < FILE
+
+Shows what the WebAssembly module in FILE holds: a line for each section and body, and under it a line for each item, which begins
+with the offset of its bytes in the file. A fault of an item is a line at its place. With --section only the sections with this id
+or name are shown.
+
+  wasm_dump < a.wasm                     all of it
+  wasm_dump --section import < a.wasm    its imports
+
+The status is 0, or 1 where the file has a fault at which reading stops, 2 for other arguments, and 3 where the input, the output
+or memory failed.
+";
+
+// The same, in the words of its clause.
+fn help() -> &'static [u8]
+    ensures { result.now ≡ help_text }
+{
+    HELP
+}
+
+/// The program over the standard streams.
+pub fn run_host(rt: HostRuntime) -> ExitCode {
+    let mut input = ReadSource::new(rt.stdin());
+    let output = WriteSink::new(rt.stdout());
+    let mut errors = WriteSink::new(rt.stderr());
+    run_program(rt.alloc(), env::args(&rt), &mut input, output, &mut errors).0
+}
+
+/// The whole program: it looks at the arguments after the program's own name, shows the input, hands on what the output has kept,
+/// and answers the exit status, and the output.
+///
+/// An argument that is no text is another argument; arguments that could not be had otherwise are a want of memory.
+pub fn run_program<R: Source, W: Write, E: Sink>(
+    alloc: Global,
+    arguments: io::Result<Args>,
+    input: &mut R,
+    output: WriteSink<W>,
+    errors: &mut E,
+) -> (ExitCode, WriteSink<W>)
+    ensures { RunsProgram (asked_if_any (λ args. map string_bytes (into_iter_items args)) arguments)
+        result.1.handed_on
+        (device_of R.left R.has_failed input.old input.new)
+        (device_of ⟦<WriteSink<W> as Sink>⟧.taken ⟦<WriteSink<W> as Sink>⟧.has_failed
+        output result.1)
+        (device_of E.taken E.has_failed errors.old errors.new) (exit_status result.0) }
+{
+    let Some(command) = command_asked(arguments) else {
+        return (ExitCode::from(give_up(errors, ListError::Memory)), output);
+    };
+    let (status, output) = run_command(alloc, command, input, output, errors);
+    (ExitCode::from(status), output)
+}
+
+// Does what is asked for, and answers the status: 0 at the end of the stream and where help was asked for, 1 at a fault of the
+// stream, 2 where it isn't known what to do, and 3 where the input, the output or memory failed.
+fn run_command<R: Source, W: Write, E: Sink>(
+    alloc: Global,
+    command: Command,
+    input: &mut R,
+    output: WriteSink<W>,
+    errors: &mut E,
+) -> (u8, WriteSink<W>)
+    ensures { Runs (asked_of command) result.1.handed_on
+        (device_of R.left R.has_failed input.old input.new)
+        (device_of ⟦<WriteSink<W> as Sink>⟧.taken ⟦<WriteSink<W> as Sink>⟧.has_failed
+        output result.1)
+        (device_of E.taken E.has_failed errors.old errors.new) result.0 }
+{
+    match command {
+        Command::All => show_input(alloc, &Only::All, input, output, errors),
+        Command::Section(word) => show_chosen(alloc, &word, input, output, errors),
+        Command::Help => show_help(output, errors),
+        Command::Unknown => {
+            complain(errors, b"usage: wasm_dump [--help] [--section ID|NAME]\n");
+            (2, output)
+        }
+    }
+}
+
+// Writes how the program is used, and hands it on.
+fn write_help<W: Write>(output: &mut WriteSink<W>) -> Result<(), Failed>
+    ensures ok { OnOk result
+        (Appends (W.contents output.old.writer) (W.contents output.new.writer) help_text) }
+    ensures all { OnOk result (output.new.handed_on ≡ true) }
+    ensures err { OnErr result ((n : ℕ)
+        × Appends (W.contents output.old.writer) (W.contents output.new.writer) (take n help_text)) }
+    ensures failed { output.new.failed ≡ (if is_ok result then output.old.failed else true) }
+{
+    write_all(output, help())?;
+    output.flush()
+}
+
+// Says how the program is used, and answers the status.
+fn show_help<W: Write, E: Sink>(mut output: WriteSink<W>, errors: &mut E) -> (u8, WriteSink<W>)
+    ensures { Helps result.1.handed_on
+        (device_of ⟦<WriteSink<W> as Sink>⟧.taken ⟦<WriteSink<W> as Sink>⟧.has_failed
+        output result.1)
+        (device_of E.taken E.has_failed errors.old errors.new) result.0 }
+{
+    match write_help(&mut output) {
+        Ok(()) => (0, output),
+        Err(_) => (give_up(errors, ListError::Output), output),
+    }
+}
+
+// Shows the sections of the input that this word chooses, and answers the status.
+fn show_chosen<R: Source, W: Write, E: Sink>(
+    alloc: Global,
+    word: &str,
+    input: &mut R,
+    output: WriteSink<W>,
+    errors: &mut E,
+) -> (u8, WriteSink<W>)
+    ensures { ShowsChosen word.now result.1.handed_on
+        (device_of R.left R.has_failed input.old input.new)
+        (device_of ⟦<WriteSink<W> as Sink>⟧.taken ⟦<WriteSink<W> as Sink>⟧.has_failed
+        output result.1)
+        (device_of E.taken E.has_failed errors.old errors.new) result.0 }
+{
+    let only = sections_named(word);
+    show_input(alloc, &only, input, output, errors)
+}
+
+// Shows these sections of the input, and answers the status. A message goes to `errors` where a device or memory failed.
+fn show_input<R: Source, W: Write, E: Sink>(
+    alloc: Global,
+    only: &Only<'_>,
+    input: &mut R,
+    output: WriteSink<W>,
+    errors: &mut E,
+) -> (u8, WriteSink<W>)
+    ensures { Shows only.now result.1.handed_on
+        (device_of R.left R.has_failed input.old input.new)
+        (device_of ⟦<WriteSink<W> as Sink>⟧.taken ⟦<WriteSink<W> as Sink>⟧.has_failed
+        output result.1)
+        (device_of E.taken E.has_failed errors.old errors.new) result.0 }
+{
+    let (how, output) = dump_input(alloc, only, input, output);
+    (answer(how, errors), output)
+}
+
+// The status of a dump that ended so, of which a message says why it was given up.
+fn answer<E: Sink>(how: Result<Ended, ListError>, errors: &mut E) -> u8
+    ensures status { result ≡ status_of how }
+    ensures reports { Reports how (device_of E.taken E.has_failed errors.old errors.new) }
+{
+    match how {
+        Ok(Ended::End) => 0,
+        Ok(Ended::Fault(_)) => 1,
+        Err(why) => give_up(errors, why),
+    }
+}
+
+// Hands on all that was written, after a dump that was not given up.
+fn hand_on<W: Write>(
+    how: Result<Ended, ListError>,
+    output: &mut WriteSink<W>,
+) -> Result<Ended, ListError>
+    ensures keeps { Keeps (W.contents output.old.writer) (W.contents output.new.writer) }
+    ensures ends { HandsOn how output.old.failed output.new.failed output.new.handed_on result }
+{
+    match how {
+        Ok(ended) => match output.flush() {
+            Ok(()) => Ok(ended),
+            Err(_) => Err(ListError::Output),
+        },
+        Err(why) => Err(why),
+    }
+}
+
+/// Shows these sections of the input, and hands on all that was written. Answers how it ended, and the output.
+pub fn dump_input<R: Source, W: Write>(
+    alloc: Global,
+    only: &Only<'_>,
+    input: &mut R,
+    output: WriteSink<W>,
+) -> (Result<Ended, ListError>, WriteSink<W>)
+    ensures { RunsDump only.now (device_of R.left R.has_failed input.old input.new)
+        (device_of ⟦<WriteSink<W> as Sink>⟧.taken ⟦<WriteSink<W> as Sink>⟧.has_failed
+        output result.1) result.1.handed_on result.0 }
+{
+    let mut tree = Tree::new(alloc, output);
+    let how = dump(alloc, only, input, &mut tree, PIECE);
+    let mut output = tree.into_output();
+    let result = hand_on(how, &mut output);
+    (result, output)
+}

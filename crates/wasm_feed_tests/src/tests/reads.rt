@@ -1,0 +1,76 @@
+// Loops over a source by a feeder.
+use bitflags::Flags;
+use std::alloc::Global;
+use std::test::Fail;
+use wasm_feed::{Feeder, SliceSource, Step};
+use wasm_parser::{Payload, WasmFeatures};
+
+// A header, a function section, and a code section with one body.
+const MODULE: &[u8] = b"\0asm\x01\0\0\0\x03\x02\x01\0\x0a\x04\x01\x02\0\x0b";
+
+// Whether a step is the end, and whether it is a request.
+fn look_at(step: Step<'_>) -> (bool, bool) {
+    match step {
+        Step::NeedMoreData(_) => (false, true),
+        Step::Parsed { payload, .. } => (is_end(payload), false),
+    }
+}
+
+fn is_end(payload: Payload<'_>) -> bool {
+    match payload {
+        Payload::End(_) => true,
+        _other => false,
+    }
+}
+
+// How many reads, and how many steps without a request, it takes to read these bytes into room for so many, and how many bytes
+// were stored at most. Bytes are asked for where a step asks, and nowhere else.
+fn read_by(alloc: Global, bytes: &[u8], size: usize) -> Result<(u32, u32, usize), Fail> {
+    let mut room = vec![in alloc; 0u8; size.max(1)]?;
+    let mut source = SliceSource::new(bytes);
+    let mut feeder = Feeder::new(alloc, 0, WasmFeatures::all());
+    let mut reads = 0u32;
+    let mut steps = 0u32;
+    let mut most = 0;
+    for _turn in 0..200 {
+        let (is_last, asks) = look_at(feeder.open().step()?);
+        if !asks {
+            steps = steps.wrapping_add(1);
+        }
+        if is_last {
+            return Ok((reads, steps, most));
+        }
+        if feeder.wants_more() && room.len() > 0 {
+            feeder.read_from(&mut source, room.as_mut_slice())?;
+            reads = reads.wrapping_add(1);
+            most = feeder.stored().max(most);
+        }
+    }
+    Ok((reads, steps, most))
+}
+
+#[test]
+fn a_source_is_read_where_more_is_asked_for(rt: HostRuntime) -> Result<(), Fail> {
+    assert_eq!(rt; read_by(rt.alloc(), MODULE, 18)?, (2, 5, 18));
+    assert_eq!(rt; read_by(rt.alloc(), MODULE, 10)?, (3, 5, 10));
+    assert_eq!(rt; read_by(rt.alloc(), MODULE, 3)?, (7, 5, 9));
+    assert_eq!(rt; read_by(rt.alloc(), MODULE, 1)?, (19, 5, 8));
+    Ok(())
+}
+
+#[test]
+fn a_source_with_nothing_is_at_its_end(rt: HostRuntime) -> Result<(), Fail> {
+    let mut room = [0u8; 4];
+    let mut source = SliceSource::new(b"");
+    let mut feeder = Feeder::new(rt.alloc(), 0, WasmFeatures::all());
+    if feeder.wants_more() {
+        feeder.read_from(&mut source, &mut room)?;
+    }
+    assert_eq!(rt;
+        (feeder.held(), feeder.stored(), feeder.wants_more()),
+        (0, 0, false)
+    );
+    assert!(rt; feeder.step().is_err());
+    assert!(rt; !feeder.wants_more());
+    Ok(())
+}

@@ -1,0 +1,27 @@
+use Rattle.std.proofs.Common.{Ok, refl}
+use Rattle.wasm_feed.specs.declared.listing.Ended.TheVariants.{End, Fault}
+use Rattle.wasm_list_run.proofs.program.list_input.Goals as goal
+
+pub returns-in-Ok-End : goal.returns-in-Ok-End
+returns-in-Ok-End g c = record {
+  how = Ok End;
+  runs = record {
+    lists = rw c.in-Ok-End.field-0-is at c.in-Ok-End.ensures.lists;
+    answers = refl;
+    source = rw c.in-Ok-End.field-0-is at c.in-Ok-End.ensures.input;
+    sink = rw c.in-Ok-End.field-0-is at c.in-Ok-End.ensures.output;
+    reports = record { bytes = refl; failed = refl };
+  };
+}
+
+pub returns-in-Ok-Fault : goal.returns-in-Ok-Fault
+returns-in-Ok-Fault g c = record {
+  how = Ok (Fault c.in-Ok-Fault.field-0-0);
+  runs = record {
+    lists = rw c.in-Ok-Fault.field-0-is at c.in-Ok-Fault.ensures.lists;
+    answers = refl;
+    source = rw c.in-Ok-Fault.field-0-is at c.in-Ok-Fault.ensures.input;
+    sink = rw c.in-Ok-Fault.field-0-is at c.in-Ok-Fault.ensures.output;
+    reports = record { bytes = refl; failed = refl };
+  };
+}

@@ -1,0 +1,73 @@
+-- What a run that strips its input does.
+use Rattle.std.specs.Prelude.{◌≡◌, ◌≢◌, ◌⊎◌, ℕ, ◌<◌, Bool, true, false, List, [], ◌++◌, length, take, codes, Option, Vec, Result, Ok, Err}
+use Rattle.std.specs.Io.KnownBytes.{Appends, Consumes, IsAtEnd, Keeps}
+use Rattle.wasm_base.specs.FaultAt.{FaultAt, fault_at}
+use Rattle.wasm_base.specs.Message.{error_text}
+use Rattle.wasm_base.specs.declared.error.Error.{Error}
+use Rattle.wasm_parser.specs.Accepted.{IsAccepted}
+use Rattle.wasm_feed.specs.Lists.{input_failed}
+use Rattle.wasm_feed.specs.Stripped.{IsStripped, EndsWithFault}
+use Rattle.wasm_feed.specs.declared.listing.ListError.{ListError}
+use Rattle.wasm_feed.specs.declared.listing.ListError.TheVariants.{Input, Output, Memory}
+use Rattle.wasm_feed.specs.Calls.{Device}
+use Rattle.wasm_run.specs.Devices.{IsUntouched, Says}
+use Rattle.wasm_run.specs.Endings.{GivesUpAs, WritesAll, WritesSome}
+
+-- what one read gave, which was put after the bytes before; nothing at the end of the source
+abbrev pub ReadsPiece : (left rest : Option (List ℕ)) (before : List ℕ) → Result Bool ListError → (after : List ℕ) → Type 0
+ReadsPiece left rest before (Ok true) after = (piece : List ℕ) × Consumes left rest piece × (0 < length piece) × (after ≡ before ++ piece)
+ReadsPiece left rest before (Ok false) after = Consumes left rest [] × IsAtEnd rest × (after ≡ before)
+ReadsPiece left rest before (Err Input) after = Keeps left rest
+ReadsPiece left rest before (Err Memory) after = (piece : List ℕ) × Consumes left rest piece
+ReadsPiece left rest before (Err Output) after = ⊥
+
+-- what the source gave: all that it had left, or some of it before it failed or memory was refused
+abbrev pub ReadsAll : {A : Type 0} → (left rest : Option (List ℕ)) → Result (Vec ℕ A) ListError → Type 0
+ReadsAll left rest (Ok bytes) = Consumes left rest bytes.items × IsAtEnd rest
+ReadsAll left rest (Err Input) = (given : List ℕ) × Consumes left rest given
+ReadsAll left rest (Err Memory) = (given : List ℕ) × Consumes left rest given
+ReadsAll left rest (Err Output) = ⊥
+
+-- The run says what the fault of the stream is.
+pub record TellsFault (f : FaultAt) (errors : Device) (status : ℕ) : Type 0 where
+  pub answers : status ≡ 1
+  pub says : Says errors (error_text f ++ codes "\n")
+
+-- A fault is answered by its text, for which memory may be wanting.
+abbrev pub Refuses : Error → (errors : Device) (status : ℕ) → Type 0
+Refuses e errors status = TellsFault (fault_at e) errors status ⊎ GivesUpAs Memory errors status
+
+-- The stream is not accepted, its reading ends with this fault, and nothing was written.
+pub record WritesNothing (stream : List ℕ) (e : Error) (output errors : Device) (status : ℕ) : Type 0 where
+  pub refused : ¬ IsAccepted stream
+  pub fault : EndsWithFault stream e
+  pub sink : IsUntouched output
+  pub answers : Refuses e errors status
+
+-- What is left of the stream was written, as far as the output took it; or it was refused.
+abbrev pub WritesStripped : (stream : List ℕ) (output errors : Device) (status : ℕ) → Type 0
+WritesStripped stream output errors status =
+    ((left : List ℕ) × IsStripped false stream left × (WritesAll left output errors status ⊎ WritesSome left output errors status))
+    ⊎ ((e : Error) × WritesNothing stream e output errors status)
+
+-- The source gave all that it had left, which was stripped.
+pub record StripsInput (input output errors : Device) (status : ℕ) : Type 0 where
+  pub given : List ℕ
+  pub gave : Consumes input.before input.after given
+  pub at_end : IsAtEnd input.after
+  pub source : input.has_failed ≡ input.had_failed
+  pub writes : WritesStripped given output errors status
+
+-- The source failed, or memory for what it gave was refused: nothing was written.
+pub record CannotRead (input output errors : Device) (status : ℕ) : Type 0 where
+  pub why : ListError
+  pub reading : why ≢ Output
+  pub given : List ℕ
+  pub gave : Consumes input.before input.after given
+  pub source : input.has_failed ≡ input_failed {A = Unit {0}} (Err why) input.had_failed
+  pub sink : IsUntouched output
+  pub gives_up : GivesUpAs why errors status
+
+-- a run that strips its input
+abbrev pub RunsStripping : (input output errors : Device) (status : ℕ) → Type 0
+RunsStripping input output errors status = StripsInput input output errors status ⊎ CannotRead input output errors status

@@ -1,0 +1,99 @@
+// The input without its custom sections.
+ghost use Rattle.wasm_feed.specs.Lists.{input_failed};
+ghost use Rattle.wasm_feed.specs.Calls.{device_of};
+ghost use Rattle.wasm_list_run.specs.Strips.{ReadsAll, ReadsPiece, Refuses, RunsStripping, WritesStripped};
+ghost use Rattle.std.specs.Prelude.{◌≡◌, ◌<◌, length};
+
+use std::alloc::Global;
+use wasm_feed::{ListError, Sink, Source, strip_in_place, write_all};
+use wasm_parser::Error;
+use wasm_run::{complain, give_up, room};
+
+// Reads once, and puts what came after these bytes. Answers whether anything came.
+fn read_piece<R: Source>(
+    input: &mut R,
+    room: &mut [u8],
+    bytes: &mut Vec<u8>,
+) -> Result<bool, ListError>
+    requires { length room.old ≡ 65536 }
+    ensures reads { ReadsPiece (R.left input.old) (R.left input.new)
+        bytes.old.items result bytes.new.items }
+    ensures failed { R.has_failed input.new ≡ input_failed result (R.has_failed input.old) }
+{
+    match input.read(room) {
+        Ok(0) => Ok(false),
+        Ok(count) => {
+            bytes.extend_from_slice(&room[..count])?;
+            Ok(true)
+        }
+        Err(_) => Err(ListError::Input),
+    }
+}
+
+// All bytes that the source gives.
+fn read_all<R: Source>(alloc: Global, input: &mut R) -> Result<Vec<u8>, ListError>
+    ensures reads { ReadsAll (R.left input.old) (R.left input.new) result }
+    ensures failed { R.has_failed input.new ≡ input_failed result (R.has_failed input.old) }
+{
+    let mut room = room(alloc)?;
+    let mut bytes = Vec::new(alloc);
+    'pieces: loop {
+        if !read_piece(input, room.as_mut_slice(), &mut bytes)? {
+            return Ok(bytes);
+        }
+    }
+}
+
+// Says what the fault of the stream is, and answers the status of that.
+fn tell_fault<E: Sink>(alloc: Global, errors: &mut E, error: Error) -> u8
+    ensures { Refuses error (device_of E.taken E.has_failed errors.old errors.new) result }
+{
+    match format!(in alloc; "{error}\n") {
+        Ok(text) => {
+            complain(errors, text.as_bytes());
+            1
+        }
+        Err(_) => give_up(errors, ListError::Memory),
+    }
+}
+
+// Writes what is left of a stream, or says why nothing is.
+fn write_stripped<W: Sink, E: Sink>(
+    alloc: Global,
+    mut bytes: Vec<u8>,
+    output: &mut W,
+    errors: &mut E,
+) -> u8
+    ensures { WritesStripped bytes.items
+        (device_of W.taken W.has_failed output.old output.new)
+        (device_of E.taken E.has_failed errors.old errors.new) result }
+{
+    match strip_in_place(&mut bytes, false) {
+        Ok(()) => match write_all(output, &bytes) {
+            Ok(()) => 0,
+            Err(_) => give_up(errors, ListError::Output),
+        },
+        Err(error) => tell_fault(alloc, errors, error),
+    }
+}
+
+/// Strips the input: reads all of it, and writes what is left without its custom sections. Answers the exit status: 0, 1 at a
+/// fault of the stream, and 3 where the input, the output or memory failed.
+///
+/// A message goes to `errors` for the last two, and nothing to the output. Whether it could be written changes no status.
+pub(crate) fn strip_input<R: Source, W: Sink, E: Sink>(
+    alloc: Global,
+    input: &mut R,
+    output: &mut W,
+    errors: &mut E,
+) -> u8
+    ensures { RunsStripping
+        (device_of R.left R.has_failed input.old input.new)
+        (device_of W.taken W.has_failed output.old output.new)
+        (device_of E.taken E.has_failed errors.old errors.new) result }
+{
+    match read_all(alloc, input) {
+        Ok(bytes) => write_stripped(alloc, bytes, output, errors),
+        Err(why) => give_up(errors, why),
+    }
+}

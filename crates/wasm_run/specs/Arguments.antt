@@ -1,0 +1,9 @@
+-- Arguments that could not be had.
+use Rattle.std.specs.Prelude.{Bool, true, false}
+use Rattle.std.specs.declared.io.ErrorKind.{ErrorKind}
+use Rattle.std.specs.declared.io.ErrorKind.TheVariants.{InvalidData}
+
+-- whether one of the arguments is no text, which is why they could not be had
+abbrev pub is_no_text : ErrorKind → Bool
+is_no_text InvalidData = true
+is_no_text other = false

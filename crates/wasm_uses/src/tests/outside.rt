@@ -1,0 +1,76 @@
+// A module's outside.
+use crate::outside::{Misfit, Spans, outside_of};
+use std::alloc::{AllocError, Global};
+use std::test::Fail;
+use wasm_base::{Error, Fault};
+use wasm_items::{Export, ExternalKind, Import, TypeRef};
+
+// A function and a global are imported, the function by a group; a function, a table and a tag are its own.
+const HEAD: &[u8] =
+    b"\0asm\x01\0\0\0\x01\x04\x01\x60\0\0\x02\x11\x02\x01m\0\x7f\x01\x01f\0\0\x01m\x01g\x03\x7f\0\x03\x02\x01\0\x04\x04\x01\x70\0\x01\x0d\x03\x01\0\0";
+
+// A module of these, and of these sections after them.
+fn module(alloc: Global, sections: &[u8]) -> Result<Vec<u8>, AllocError> {
+    let mut bytes = HEAD.to_vec(alloc)?;
+    bytes.extend_from_slice(sections)?;
+    Ok(bytes)
+}
+
+#[test]
+fn exports_of_what_is_there(rt: HostRuntime) -> Result<(), Fail> {
+    let bytes = module(
+        rt.alloc(),
+        b"\x07\x0d\x03\x01a\0\x01\x01b\x01\0\x01c\x03\0\x0a\x04\x01\x02\0\x0b",
+    )?;
+    let outside = outside_of(rt.alloc(), &bytes).map_err(|_misfit| "no outside")?;
+    let spans = Spans {
+        functions: 2,
+        tables: 1,
+        memories: 0,
+        globals: 1,
+        tags: 1,
+    };
+    assert_eq!(rt; outside.spans, spans);
+    assert_eq!(rt; outside.imports.len(), 2);
+    assert_eq!(rt;
+        outside.imports[0],
+        Import {
+            module: "m",
+            name: "f",
+            ty: TypeRef::Func(0)
+        }
+    );
+    assert_eq!(rt; outside.exports.len(), 3);
+    assert_eq!(rt;
+        outside.exports[2],
+        Export {
+            name: "c",
+            kind: ExternalKind::Global,
+            index: 0
+        }
+    );
+    Ok(())
+}
+
+#[test]
+fn exports_of_what_is_not_there(rt: HostRuntime) -> Result<(), Fail> {
+    let bytes = module(rt.alloc(), b"\x07\x09\x02\x01a\x04\0\x01b\0\x02")?;
+    let misfit = outside_of(rt.alloc(), &bytes).err();
+    assert_eq!(rt; misfit, Some(Misfit::NoSuch(1)));
+    Ok(())
+}
+
+#[test]
+fn a_stream_with_a_fault_has_no_outside(rt: HostRuntime) -> Result<(), Fail> {
+    let misfit = outside_of(rt.alloc(), b"\0asm\x01\0\0\0\x07\x05\x01\x01a\x20\0").err();
+    assert_eq!(rt;
+        misfit,
+        Some(Misfit::Stream(Error::new(Fault::ExactExport, 14)))
+    );
+    let misfit = outside_of(rt.alloc(), b"\0asm\x01\0\0\0\x03\x02\x01\0").err();
+    assert_eq!(rt;
+        misfit,
+        Some(Misfit::Stream(Error::new(Fault::FunctionWithoutCode, 12)))
+    );
+    Ok(())
+}

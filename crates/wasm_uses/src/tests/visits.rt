@@ -1,0 +1,94 @@
+// Visits of streams that come in pieces.
+use crate::compiling::{Compiler, Compiling, compile_pieces};
+use crate::customs::custom_sizes;
+use bitflags::Flags;
+use std::alloc::{AllocError, Global};
+use std::test::Fail;
+use wasm_base::{Error, Fault, Result, WasmFeatures};
+use wasm_items::FunctionBody;
+
+// Two functions, a custom section before them and one after.
+const MODULE: &[u8] =
+    b"\0asm\x01\0\0\0\0\x04\x03abc\x03\x03\x02\0\0\x0a\x09\x02\x02\0\x0b\x04\0\x41\0\x0b\0\x83\0\x01d\xff";
+
+// A compiler that notes where its bodies lie.
+struct Places {
+    first: u64,
+    last: u64,
+    count: u32,
+}
+
+impl Compiler for Places {
+    fn compile(&mut self, body: FunctionBody<'_>) {
+        let range = body.range();
+        if self.count == 0 {
+            self.first = range.start;
+        }
+        self.last = range.end;
+        self.count = self.count.wrapping_add(1);
+    }
+}
+
+// The bytes in pieces of so many.
+fn cut<'a>(
+    alloc: Global,
+    bytes: &'a [u8],
+    size: usize,
+) -> std::result::Result<Vec<&'a [u8]>, AllocError> {
+    let mut pieces = Vec::new(alloc);
+    for piece in bytes.chunks(size.max(1)) {
+        pieces.push(piece)?;
+    }
+    Ok(pieces)
+}
+
+// What a compiler saw of these bytes, cut so, and what was answered.
+fn compiled(alloc: Global, bytes: &[u8], size: usize) -> Result<((u64, u64, u32), Result<usize>)> {
+    let Ok(pieces) = cut(alloc, bytes, size) else {
+        return Err(Error::new(Fault::OutOfMemory, 0));
+    };
+    let mut compiler = Compiling(Places {
+        first: 0,
+        last: 0,
+        count: 0,
+    });
+    let mut most = Ok(0);
+    if wasm_feed::fits_pieces(0, &pieces) {
+        most = compile_pieces(alloc, WasmFeatures::all(), &pieces, &mut compiler);
+    }
+    let Compiling(Places { first, last, count }) = compiler;
+    Ok(((first, last, count), most))
+}
+
+#[test]
+fn bodies_are_handed_on(rt: HostRuntime) -> std::result::Result<(), Fail> {
+    for size in [1, 3, 7, 41] {
+        let (places, most) = compiled(rt.alloc(), MODULE, size)?;
+        assert_eq!(rt; places, (23, 30, 2));
+        assert_eq!(rt; most.map(|most| most <= size.saturating_add(7)), Ok(true));
+    }
+    Ok(())
+}
+
+#[test]
+fn bodies_before_a_fault_are_handed_on(rt: HostRuntime) -> std::result::Result<(), Fail> {
+    let (places, most) = compiled(
+        rt.alloc(),
+        b"\0asm\x01\0\0\0\x03\x02\x01\0\x0a\x04\x01\x02\0\x0b\x80",
+        2,
+    )?;
+    assert_eq!(rt; places, (16, 18, 1));
+    assert_eq!(rt; most, Err(Error::new(Fault::MalformedSectionId, 18)));
+    Ok(())
+}
+
+#[test]
+fn custom_sections_are_listed(rt: HostRuntime) -> std::result::Result<(), Fail> {
+    let pieces = cut(rt.alloc(), MODULE, 5)?;
+    assert!(rt; wasm_feed::fits_pieces(0, &pieces));
+    let list = custom_sizes(rt.alloc(), WasmFeatures::all(), &pieces)?;
+    assert_eq!(rt; list.len(), 2);
+    assert_eq!(rt; (list[0].name.as_str(), list[0].size), ("abc", 6));
+    assert_eq!(rt; (list[1].name.as_str(), list[1].size), ("d", 6));
+    Ok(())
+}
