@@ -6,4 +6,4 @@ use Rattle.std.specs.declared.io.ErrorKind.TheVariants.{InvalidData}
 -- whether one of the arguments is no text, which is why they could not be had
 abbrev pub is_no_text : ErrorKind → Bool
 is_no_text InvalidData = true
-is_no_text other = false
+is_no_text _ = false

@@ -1,5 +1,5 @@
 -- Calls that leave a device alone or write to it, and what is said when a run is given up.
-use Rattle.std.specs.Prelude.{◌≡◌, ℕ, Bool, false, List, take, codes, Option}
+use Rattle.std.specs.Prelude.{◌≡◌, ℕ, false, List, take, codes}
 use Rattle.std.specs.Io.KnownBytes.{Appends}
 use Rattle.wasm_feed.specs.Calls.{Device}
 use Rattle.wasm_feed.specs.declared.listing.ListError.{ListError}
