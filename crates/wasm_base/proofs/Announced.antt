@@ -1,5 +1,6 @@
 -- Lists inside an item that was read, which have all the items that they announce.
-use Rattle.std.proofs.Common.{◌≡◌, ℕ, zero, suc, ◌+◌, ◌-◌, false, List, [], ◌∷◌, length, take, drop, nat_lt, Result, Ok, Err, refl, sym, ap, subst, arith, ◌∙◌, le-ltb}
+use Rattle.std.proofs.Common.{◌≡◌, ℕ, zero, suc, ◌+◌, ◌-◌, false, List, [], ◌∷◌, length, take, drop, nat_lt, Result, Ok, Err, refl, sym, ap}
+use Rattle.std.proofs.Common.{subst, arith, ◌∙◌, le-ltb}
 use Rattle.std.specs.Prelude.{map}
 use Rattle.std.proofs.lemmas.List.{drop-take}
 use Rattle.wasm_base.proofs.OwnBytes.{cut, OwnAt, Own, own_nothing, own_both, own_number}
@@ -21,7 +22,8 @@ pub record InSteps {A B : Type 0} (first : Outcome A) (next : A × Place → Out
   pub one : first ≡ Ok between
   pub other : next between ≡ Ok x
 
-pub in_steps : {A B : Type 0} (first : Outcome A) (next : A × Place → Outcome B) (x : B × Place) → (first >>= next) ≡ Ok x → InSteps first next x
+pub in_steps : {A B : Type 0} (first : Outcome A) (next : A × Place → Outcome B) (x : B × Place) → (first >>= next) ≡ Ok x
+    → InSteps first next x
 in_steps (Ok r) next x e = record { between = r; one = refl; other = e }
 in_steps (Err f) next x e = cc
 
@@ -36,13 +38,20 @@ pub own_all : (pass : Place → Outcome (Unit {0})) → Own pass → (count : �
 own_all pass own zero = own_nothing tt
 own_all pass own (suc count) = own_both pass (λ a p. all_passed_at pass count p) own (λ a. own_all pass own count)
 
-ends : {T : Type 0} (features offset : ℕ) (rest : List ℕ) (given : List (Result T FaultAt)) → length rest ≡ 0 → given ≡ at_the_end (record { features = features; offset = offset; rest = rest }) → given ≡ []
+ends : {T : Type 0} (features offset : ℕ) (rest : List ℕ) (given : List (Result T FaultAt)) → length rest ≡ 0 → given
+    ≡ at_the_end (record { features = features; offset = offset; rest = rest }) → given ≡ []
 ends {T} features offset rest given none e =
     let t : nat_lt 0 (length rest) ≡ false = le-ltb 0 (length rest) (omega (arith, none)) in
     e ∙ (rw t refl)
 
 -- the place in the window of a list, after its count
-window_place : (p c e : Place) (k m : ℕ) → c ≡ advanced k p → c.offset ≡ p.offset + k → e.offset ≡ c.offset + m → (let w : Window = record { features = p.features; start = p.offset; bytes = take (e.offset - p.offset) p.rest; position = c.offset - p.offset } in place w) ≡ cut m c
+window_place : (p c e : Place) (k m : ℕ) → c ≡ advanced k p → c.offset ≡ p.offset + k → e.offset ≡ c.offset + m
+    → (let w : Window = record {
+      features = p.features;
+      start = p.offset;
+      bytes = take (e.offset - p.offset) p.rest;
+      position = c.offset - p.offset;
+    } in place w) ≡ cut m c
 window_place p c e k m is at end =
     let o : p.offset + (c.offset - p.offset) ≡ c.offset = omega (arith, at) in
     let j : c.offset - p.offset ≡ k = omega (arith, at) in
@@ -52,16 +61,19 @@ window_place p c e k m is at end =
     let f : p.features ≡ c.features = ap (λ (w : Place). w.features) (sym is) in
     λ i. record { features = f i; offset = o i; rest = r i }
 
-module _ {T B : Type 0} (pass : Place → Outcome (Unit {0})) (own : Own pass) (view : T → B) (reading : Place → Outcome B) (follows : Follows pass reading) where
+module _ {T B : Type 0} (pass : Place → Outcome (Unit {0})) (own : Own pass) (view : T → B) (reading : Place → Outcome B)
+    (follows : Follows pass reading) where
   -- The items of a window that ends where passing over them does.
-  all_read : (count m : ℕ) (p e : Place) (given : List (Result T FaultAt)) → all_passed_at pass count p ≡ Ok (tt, e) → e.offset ≡ p.offset + m → ItemsOf (ReadsAs view reading) count (cut m p) given → AreSoMany count given
+  all_read : (count m : ℕ) (p e : Place) (given : List (Result T FaultAt)) → all_passed_at pass count p ≡ Ok (tt, e) → e.offset
+      ≡ p.offset + m → ItemsOf (ReadsAs view reading) count (cut m p) given → AreSoMany count given
   all_read zero m p e given passed moved items =
       let same : p ≡ e = ap (λ (r : Unit {0} × Place). r.1) (read_as (tt, p) (tt, e) passed) in
       let z : m ≡ 0 = omega (arith, moved, ap (λ (w : Place). w.offset) same) in
       let none : length (take m p.rest) ≡ 0 = rw z refl in
       rw (ends p.features p.offset (take m p.rest) given none items) tt
   all_read (suc count) m p e [] passed moved items = items
-  all_read (suc count) m p e (x ∷ given) passed moved items = by x given items (all_read count later.used steps.between.1 e given steps.other (ap (λ (w : Place). w.offset) later.after))
+  all_read (suc count) m p e (x ∷ given) passed moved items = by
+      x given items (all_read count later.used steps.between.1 e given steps.other (ap (λ (w : Place). w.offset) later.after))
     where
       steps : InSteps (pass p) (λ r. all_passed_at pass count r.1) (tt, e)
       steps = in_steps (pass p) (λ r. all_passed_at pass count r.1) (tt, e) passed
@@ -78,7 +90,9 @@ module _ {T B : Type 0} (pass : Place → Outcome (Unit {0})) (own : Own pass) (
       here : (y : B) × (reading (cut m p) ≡ Ok (y, cut later.used steps.between.1))
       here = follows.reads (cut m p) (cut later.used steps.between.1) (one.alone m later.used used)
 
-      by : (x : Result T FaultAt) (given : List (Result T FaultAt)) → ItemsOf (ReadsAs view reading) (suc count) (cut m p) (x ∷ given) → (ItemsOf (ReadsAs view reading) count (cut later.used steps.between.1) given → AreSoMany count given) → AreSoMany (suc count) (x ∷ given)
+      by : (x : Result T FaultAt) (given : List (Result T FaultAt)) → ItemsOf (ReadsAs view reading) (suc count) (cut m p) (x ∷ given)
+          → (ItemsOf (ReadsAs view reading) count (cut later.used steps.between.1) given → AreSoMany count given)
+          → AreSoMany (suc count) (x ∷ given)
       by (Err f) given items again = absurd (let z = sym here.1 ∙ items.0 in cc)
       by (Ok x) given items again =
           let left : B × Place = (here.0, cut later.used steps.between.1) in
@@ -87,12 +101,15 @@ module _ {T B : Type 0} (pass : Place → Outcome (Unit {0})) (own : Own pass) (
           again (subst (λ (q : Place). ItemsOf (ReadsAs view reading) count q given) (sym (ap (λ (r : B × Place). r.1) both)) items.2)
 
   -- The items of the section that a list is.
-  inner_read : (p q : Place) (s : Section) (given : List (Result T FaultAt)) → inner_section_at pass p ≡ Ok (s, q) → ItemsOf (ReadsAs view reading) s.count (place s.reader) given → AreSoMany s.count given
+  inner_read : (p q : Place) (s : Section) (given : List (Result T FaultAt)) → inner_section_at pass p ≡ Ok (s, q)
+      → ItemsOf (ReadsAs view reading) s.count (place s.reader) given → AreSoMany s.count given
   unfolding inner_section_at
   inner_read p q s given e items =
-      let counted = in_steps (unsigned_at VarU32 p) (λ c. all_passed_at pass c.0 c.1 >>= λ end. let o : Outcome Section = Ok (section_between p c end.1, end.1) in o) (s, q) e in
+      let counted = in_steps (unsigned_at VarU32 p) (λ c. all_passed_at pass c.0 c.1 >>= λ end.
+      let o : Outcome Section = Ok (section_between p c end.1, end.1) in o) (s, q) e in
       let count : ℕ × Place = counted.between in
-      let passed = in_steps (all_passed_at pass count.0 count.1) (λ end. let o : Outcome Section = Ok (section_between p count end.1, end.1) in o) (s, q) counted.other in
+      let passed = in_steps (all_passed_at pass count.0 count.1)
+      (λ end. let o : Outcome Section = Ok (section_between p count end.1, end.1) in o) (s, q) counted.other in
       let end : Place = passed.between.1 in
       let both : (section_between p count end, end) ≡ (s, q) = read_as (section_between p count end, end) (s, q) passed.other in
       let same : section_between p count end ≡ s = ap (λ (r : Section × Place). r.0) both in
@@ -100,8 +117,11 @@ module _ {T B : Type 0} (pass : Place → Outcome (Unit {0})) (own : Own pass) (
       let all = (own_all pass own count.0).at count.1 tt end passed.one in
       let after : count.1.offset ≡ p.offset + number.used = ap (λ (w : Place). w.offset) number.after in
       let last : end.offset ≡ count.1.offset + all.used = ap (λ (w : Place). w.offset) all.after in
-      let there : place (section_between p count end).reader ≡ cut all.used count.1 = window_place p count.1 end number.used all.used number.after after last in
-      let moved : ItemsOf (ReadsAs view reading) count.0 (cut all.used count.1) given = subst (λ (w : Place). ItemsOf (ReadsAs view reading) count.0 w given) there (subst (λ (z : Section). ItemsOf (ReadsAs view reading) z.count (place z.reader) given) (sym same) items) in
+      let there : place (section_between p count end).reader ≡ cut all.used count.1 =
+      window_place p count.1 end number.used all.used number.after after last in
+      let moved : ItemsOf (ReadsAs view reading) count.0 (cut all.used count.1) given =
+      subst (λ (w : Place). ItemsOf (ReadsAs view reading) count.0 w given) there
+      (subst (λ (z : Section). ItemsOf (ReadsAs view reading) z.count (place z.reader) given) (sym same) items) in
       let so_many : AreSoMany count.0 given = all_read count.0 all.used count.1 end given passed.one last moved in
       subst (λ (z : Section). AreSoMany z.count given) same so_many
 
@@ -113,8 +133,16 @@ module _ {T B : Type 0} (pass : Place → Outcome (Unit {0})) (own : Own pass) (
   unmapped (suc count) (Err e ∷ given) h = h
 
   pub announced : (p q : Place) (s : Section) → inner_section_at pass p ≡ Ok (s, q) → GivesAnnounced (NextItem (ReadsAs view reading)) s
-  announced p q s e given run = unmapped s.count given (inner_read p q s (map item_or_fault given) e ((runs_give_items (ReadsAs view reading) (all_items s)).items refl given run))
+  announced p q s e given run = unmapped s.count given (inner_read p q s (map item_or_fault given) e
+      ((runs_give_items (ReadsAs view reading) (all_items s)).items refl given run))
 
 -- What was passed over by its own reading can be read.
 pub after_follows : {A : Type 0} (reading : Place → Outcome A) → Follows (after_reading reading) reading
-after_follows {A} reading = record { reads = λ p q e. let s = in_steps (reading p) (λ r. let o : Outcome (Unit {0}) = Ok (tt, r.1) in o) (tt, q) e in (s.between.0, s.one ∙ ap (λ (r : Unit {0} × Place). let o : Outcome A = Ok (s.between.0, r.1) in o) (read_as (tt, s.between.1) (tt, q) s.other)) }
+after_follows {A} reading = record {
+  reads = λ p q e. let s = in_steps (reading p) (λ r. let o : Outcome (Unit {0}) = Ok (tt, r.1) in o)
+      (tt, q) e in (
+        s.between.0,
+        s.one ∙ ap (λ (r : Unit {0} × Place). let o : Outcome A = Ok (s.between.0, r.1) in o)
+            (read_as (tt, s.between.1) (tt, q) s.other),
+      );
+}

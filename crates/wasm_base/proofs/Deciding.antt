@@ -42,7 +42,8 @@ truth_itself false = refl
 pub truth : Decides (Truth.ghosts).eq
 truth = record { same = truth_same; itself = truth_itself }
 
-option_same : {A : Type 0} {compare : A → A → Bool} → Decides compare → (one other : Option A) → option_eq compare one other ≡ true → one ≡ other
+option_same : {A : Type 0} {compare : A → A → Bool} → Decides compare → (one other : Option A) → option_eq compare one other ≡ true → one
+    ≡ other
 option_same t None None h = refl
 option_same t (Some one) (Some other) h = ap Some (t.same one other h)
 option_same t one other h = cc
@@ -75,7 +76,8 @@ compares [] each = tt
 compares ([] ∷ Fss) each = (λ _ _. true, compares Fss each)
 compares ((F ∷ Fs) ∷ Fss) each = (each.0.compare, compares Fss each.1)
 
-choices_same : (Fss : List (List Field)) (each : ComparedEach Fss) (c d : Choice Fss) → by false false Fss (compares Fss each) c d ≡ true → c ≡ d
+choices_same : (Fss : List (List Field)) (each : ComparedEach Fss) (c d : Choice Fss) → by false false Fss (compares Fss each) c d ≡ true
+    → c ≡ d
 choices_same [] each c d h = absurd c
 choices_same ([] ∷ Fss) each (inl x) (inl y) h = refl
 choices_same ([] ∷ Fss) each (inr x) (inr y) h = ap inr (choices_same Fss each x y h)
@@ -101,7 +103,8 @@ field F {compare = compare} t = record {
 }
 
 -- an enum of which some variants have fields
-pub variants : (N : Record) (each : ComparedEach N.parts) → Decides (λ one other. by false false N.parts (compares N.parts each) (N.as_values one) (N.as_values other))
+pub variants : (N : Record) (each : ComparedEach N.parts) → Decides
+    (λ one other. by false false N.parts (compares N.parts each) (N.as_values one) (N.as_values other))
 variants N each = record {
   same = λ one other h. values_one N one other (choices_same N.parts each (N.as_values one) (N.as_values other) h);
   itself = λ one. choices_itself N.parts each (N.as_values one);

@@ -1,12 +1,15 @@
 -- Items whose meaning allows one outcome.
-use Rattle.std.proofs.Common.{◌≡◌, ℕ, zero, suc, Bool, true, false, cond, List, [], ◌∷◌, length, Result, Ok, Err, refl, sym, ap, ◌∙◌, subst, inl, inr}
+use Rattle.std.proofs.Common.{◌≡◌, ℕ, zero, suc, Bool, true, false, cond, List, [], ◌∷◌, length, Result, Ok, Err, refl, sym, ap, ◌∙◌, subst}
+use Rattle.std.proofs.Common.{inl, inr}
 use Rattle.std.specs.Prelude.{nat_lt, map}
 use Rattle.std.specs.Iterator.{Drains}
 use Rattle.wasm_base.specs.FaultAt.{FaultAt, fault_at, at_offset}
 use Rattle.wasm_base.specs.Item.{Determines, Alike, AllowsOne, SameOutcome, ReadsAs, BothInTurn, outcome_map}
 use Rattle.wasm_base.specs.Outcome.{Outcome}
 use Rattle.wasm_base.specs.Owned.{UnlessMemory}
-use Rattle.wasm_base.specs.Section.{Items, NextItem, NextItemIn, AtItsOffset, ItemsOf, SameItems, SameUnlessMemory, GivesTheSame, GivesTheSameUnlessMemory, GivesEqual, at_the_end, item_or_fault, item_alone}
+use Rattle.wasm_base.specs.Section.{Items, NextItem, NextItemIn, AtItsOffset, ItemsOf, SameItems, SameUnlessMemory, GivesTheSame}
+use Rattle.wasm_base.specs.Section.{SameRuns, EqualRuns, run_over, run_with_offsets}
+use Rattle.wasm_base.specs.Section.{GivesTheSameUnlessMemory, GivesEqual, at_the_end, item_or_fault, item_alone}
 use Rattle.wasm_base.specs.Window.{Place, place}
 use Rattle.wasm_base.specs.declared.error.Error.{Error}
 use Rattle.wasm_base.specs.declared.fault.Fault.TheVariants.{SizeMismatch}
@@ -21,7 +24,8 @@ module _ {T : Type 0} (meaning : Place → Outcome T → Type 0) where
   same_end p xs ys e f = rw (e, f) (end_self (nat_lt 0 (length p.rest)) (at_offset SizeMismatch p.offset))
 
   -- The items of a window are the same, if each of them allows one outcome.
-  pub same_items : AllowsOne meaning → (count : ℕ) (p : Place) (xs ys : List (Result T FaultAt)) → ItemsOf meaning count p xs → ItemsOf meaning count p ys → SameItems meaning xs ys
+  pub same_items : AllowsOne meaning → (count : ℕ) (p : Place) (xs ys : List (Result T FaultAt)) → ItemsOf meaning count p xs
+      → ItemsOf meaning count p ys → SameItems meaning xs ys
   same_items one zero p xs ys h k = same_end p xs ys h k
   same_items one (suc count) p [] ys h k = absurd h
   same_items one (suc count) p (x ∷ xs) [] h k = absurd k
@@ -34,7 +38,8 @@ module _ {T : Type 0} (meaning : Place → Outcome T → Type 0) where
   same_items one (suc count) p (Err e ∷ xs) (Err f ∷ ys) h k = (one.one p (Err e) (Err f) h.0 k.0, rw (h.1, k.1) tt)
 
   -- They are equal, if the meaning determines each of them.
-  pub equal_items : Determines meaning → (count : ℕ) (p : Place) (xs ys : List (Result T FaultAt)) → ItemsOf meaning count p xs → ItemsOf meaning count p ys → xs ≡ ys
+  pub equal_items : Determines meaning → (count : ℕ) (p : Place) (xs ys : List (Result T FaultAt)) → ItemsOf meaning count p xs
+      → ItemsOf meaning count p ys → xs ≡ ys
   equal_items det zero p xs ys h k = h ∙ sym k
   equal_items det (suc count) p [] ys h k = absurd h
   equal_items det (suc count) p (x ∷ xs) [] h k = absurd k
@@ -54,15 +59,19 @@ module _ {T : Type 0} (meaning : Place → Outcome T → Type 0) where
       rw (same, h.1, k.1) refl
 
   -- Without their offsets they are the items of the window.
-  without_offsets : (count : ℕ) (p : Place) (xs : List (Result (ℕ × T) Error)) → ItemsOf (AtItsOffset meaning) count p (map item_or_fault xs) → ItemsOf meaning count p (map item_alone xs)
+  without_offsets : (count : ℕ) (p : Place) (xs : List (Result (ℕ × T) Error))
+      → ItemsOf (AtItsOffset meaning) count p (map item_or_fault xs) → ItemsOf meaning count p (map item_alone xs)
   without_offsets zero p [] h = last (nat_lt 0 (length p.rest)) h
     where
-      last : (b : Bool) → [] ≡ cond b (let x : Result (ℕ × T) FaultAt = Err (at_offset SizeMismatch p.offset) in x ∷ []) [] → [] ≡ cond b (let x : Result T FaultAt = Err (at_offset SizeMismatch p.offset) in x ∷ []) []
+      last : (b : Bool) → [] ≡ cond b (let x : Result (ℕ × T) FaultAt = Err (at_offset SizeMismatch p.offset) in x ∷ []) [] → []
+          ≡ cond b (let x : Result T FaultAt = Err (at_offset SizeMismatch p.offset) in x ∷ []) []
       last true e = cc
       last false e = refl
   without_offsets zero p (x ∷ xs) h = last x xs (nat_lt 0 (length p.rest)) h
     where
-      last : (x : Result (ℕ × T) Error) (xs : List (Result (ℕ × T) Error)) (b : Bool) → item_or_fault x ∷ map item_or_fault xs ≡ cond b (let y : Result (ℕ × T) FaultAt = Err (at_offset SizeMismatch p.offset) in y ∷ []) [] → item_alone x ∷ map item_alone xs ≡ cond b (let y : Result T FaultAt = Err (at_offset SizeMismatch p.offset) in y ∷ []) []
+      last : (x : Result (ℕ × T) Error) (xs : List (Result (ℕ × T) Error)) (b : Bool) → item_or_fault x ∷ map item_or_fault xs
+          ≡ cond b (let y : Result (ℕ × T) FaultAt = Err (at_offset SizeMismatch p.offset) in y ∷ []) [] → item_alone x ∷ map item_alone xs
+          ≡ cond b (let y : Result T FaultAt = Err (at_offset SizeMismatch p.offset) in y ∷ []) []
       last (Ok x) xs true e = cc
       last (Err f) [] true e = let z : fault_at f ≡ at_offset SizeMismatch p.offset = cc in rw z refl
       last (Err f) (y ∷ xs) true e = cc
@@ -72,36 +81,50 @@ module _ {T : Type 0} (meaning : Place → Outcome T → Type 0) where
   without_offsets (suc count) p (Err e ∷ []) h = (h.0, refl)
   without_offsets (suc count) p (Err e ∷ x ∷ xs) h = absurd (let e = h.1 in cc)
 
-  module _ (Agree : List (Result T FaultAt) → List (Result T FaultAt) → Type 0) (none : Agree [] []) (items : (count : ℕ) (p : Place) (xs ys : List (Result T FaultAt)) → ItemsOf meaning count p xs → ItemsOf meaning count p ys → Agree xs ys) where
+  module _ (Agree : List (Result T FaultAt) → List (Result T FaultAt) → Type 0) (none : Agree [] [])
+      (items : (count : ℕ) (p : Place) (xs ys : List (Result T FaultAt)) → ItemsOf meaning count p xs → ItemsOf meaning count p ys
+      → Agree xs ys) where
     -- Two runs from the same place agree, if all lists of the window's items do.
-    runs_agree : (s t : Items) → t ≡ s → (given others : List (Result T Error)) → Drains (NextItem meaning) s given → Drains (NextItem meaning) t others → Agree (map item_or_fault given) (map item_or_fault others)
+    runs_agree : (s t : Items) → t ≡ s → (given others : List (Result T Error)) → Drains (NextItem meaning) s given
+        → Drains (NextItem meaning) t others → Agree (map item_or_fault given) (map item_or_fault others)
     runs_agree s t e given others run others_run = by_ended s.ended refl
       where
         again : Drains (NextItem meaning) s others
         again = subst (λ (v : Items). Drains (NextItem meaning) v others) e others_run
 
         by_ended : (b : Bool) → s.ended ≡ b → Agree (map item_or_fault given) (map item_or_fault others)
-        by_ended true ended = rw ((runs_give_items meaning s).over ended given run, (runs_give_items meaning s).over ended others again) none
-        by_ended false going = items s.left (place s.reader) _ _ ((runs_give_items meaning s).items going given run) ((runs_give_items meaning s).items going others again)
+        by_ended true ended = rw ((runs_give_items meaning s).over ended given run, (runs_give_items meaning s).over ended others again)
+            none
+        by_ended false going = items s.left (place s.reader) _ _ ((runs_give_items meaning s).items going given run)
+            ((runs_give_items meaning s).items going others again)
 
     -- So do runs without and with offsets.
-    offsets_agree : (s : Items) (given : List (Result T Error)) (others : List (Result (ℕ × T) Error)) → Drains (NextItem meaning) s given → Drains (NextItem (AtItsOffset meaning)) s others → Agree (map item_or_fault given) (map item_alone others)
+    offsets_agree : (s : Items) (given : List (Result T Error)) (others : List (Result (ℕ × T) Error)) → Drains (NextItem meaning) s given
+        → Drains (NextItem (AtItsOffset meaning)) s others → Agree (map item_or_fault given) (map item_alone others)
     offsets_agree s given others run others_run = by_ended s.ended refl
       where
         by_ended : (b : Bool) → s.ended ≡ b → Agree (map item_or_fault given) (map item_alone others)
-        by_ended true ended = rw ((runs_give_items meaning s).over ended given run, (runs_give_items (AtItsOffset meaning) s).over ended others others_run) none
-        by_ended false going = items s.left (place s.reader) _ _ ((runs_give_items meaning s).items going given run) (without_offsets s.left (place s.reader) others ((runs_give_items (AtItsOffset meaning) s).items going others others_run))
+        by_ended true ended = rw (
+          (runs_give_items meaning s).over ended given run,
+          (runs_give_items (AtItsOffset meaning) s).over ended others others_run,
+        ) none
+        by_ended false going = items s.left (place s.reader) _ _ ((runs_give_items meaning s).items going given run)
+            (without_offsets s.left (place s.reader) others ((runs_give_items (AtItsOffset meaning) s).items going others others_run))
 
-  pub runs_give_the_same : AllowsOne meaning → (s t : Items) → t ≡ s → GivesTheSame meaning (NextItem meaning) item_or_fault s (NextItem meaning) item_or_fault t
+  pub runs_give_the_same : AllowsOne meaning → (s t : Items) → t ≡ s
+      → SameRuns meaning (NextItem meaning) s t
   runs_give_the_same one = runs_agree (SameItems meaning) tt (same_items one)
 
-  pub runs_give_equal : Determines meaning → (s t : Items) → t ≡ s → GivesEqual (NextItem meaning) item_or_fault s (NextItem meaning) item_or_fault t
+  pub runs_give_equal : Determines meaning → (s t : Items) → t ≡ s
+      → EqualRuns (NextItem meaning) s t
   runs_give_equal det = runs_agree (λ xs ys. xs ≡ ys) refl (equal_items det)
 
-  pub offsets_give_the_same : AllowsOne meaning → (s : Items) → GivesTheSame meaning (NextItem meaning) item_or_fault s (NextItem (AtItsOffset meaning)) item_alone s
+  pub offsets_give_the_same : AllowsOne meaning → (s : Items) → GivesTheSame meaning (run_over (NextItem meaning) s)
+      (run_with_offsets (NextItem (AtItsOffset meaning)) s)
   offsets_give_the_same one = offsets_agree (SameItems meaning) tt (same_items one)
 
-  pub offsets_give_equal : Determines meaning → (s : Items) → GivesEqual (NextItem meaning) item_or_fault s (NextItem (AtItsOffset meaning)) item_alone s
+  pub offsets_give_equal : Determines meaning → (s : Items) → GivesEqual (run_over (NextItem meaning) s)
+      (run_with_offsets (NextItem (AtItsOffset meaning)) s)
   offsets_give_equal det = offsets_agree (λ xs ys. xs ≡ ys) refl (equal_items det)
 
 -- Of items that own lists the same holds, up to a want of memory.
@@ -113,21 +136,26 @@ module _ {T : Type 0} (meaning : Place → Outcome T → Type 0) where
   same_owned_end : (p : Place) (xs ys : List (Result T FaultAt)) → xs ≡ at_the_end p → ys ≡ at_the_end p → SameUnlessMemory meaning xs ys
   same_owned_end p xs ys e f = rw (e, f) (end_again (nat_lt 0 (length p.rest)) (at_offset SizeMismatch p.offset))
 
-  same_owned_items : AllowsOne meaning → (count : ℕ) (p : Place) (xs ys : List (Result T FaultAt)) → ItemsOf (UnlessMemory meaning) count p xs → ItemsOf (UnlessMemory meaning) count p ys → SameUnlessMemory meaning xs ys
+  same_owned_items : AllowsOne meaning → (count : ℕ) (p : Place) (xs ys : List (Result T FaultAt))
+      → ItemsOf (UnlessMemory meaning) count p xs → ItemsOf (UnlessMemory meaning) count p ys → SameUnlessMemory meaning xs ys
   same_owned_items one zero p xs ys h k = same_owned_end p xs ys h k
   same_owned_items one (suc count) p [] ys h k = absurd h
   same_owned_items one (suc count) p (x ∷ xs) [] h k = absurd k
   same_owned_items one (suc count) p (Ok x ∷ xs) (Ok y ∷ ys) h k =
       let same = one.one p (Ok (x, h.0)) (Ok (y, k.0)) h.1 k.1 in
-      let there : meaning p (Ok (x, k.0)) = subst (λ q. meaning p (Ok (x, q))) same.1 h.1 in
-      (((p, k.0, there, k.1), same.0), same_owned_items one count k.0 xs ys (subst (λ q. ItemsOf (UnlessMemory meaning) count q xs) same.1 h.2) k.2)
+      let there : meaning p (Ok (x, k.0)) = subst (λ q. meaning p (Ok (x, q))) same.1 h.1 in (
+        ((p, k.0, there, k.1), same.0),
+        same_owned_items one count k.0 xs ys
+            (subst (λ q. ItemsOf (UnlessMemory meaning) count q xs) same.1 h.2) k.2,
+      )
   same_owned_items one (suc count) p (Ok x ∷ xs) (Err f ∷ ys) h (inl none, last) = none
   same_owned_items one (suc count) p (Ok x ∷ xs) (Err f ∷ ys) h (inr fault, last) = absurd (one.one p (Ok (x, h.0)) (Err f) h.1 fault)
   same_owned_items one (suc count) p (Err e ∷ xs) (Ok y ∷ ys) (inl none, last) k = none
   same_owned_items one (suc count) p (Err e ∷ xs) (Ok y ∷ ys) (inr fault, last) k = absurd (one.one p (Err e) (Ok (y, k.0)) fault k.1)
   same_owned_items one (suc count) p (Err e ∷ xs) (Err f ∷ ys) (inl none, last) k = inr (inl none)
   same_owned_items one (suc count) p (Err e ∷ xs) (Err f ∷ ys) (inr fault, last) (inl none, end) = inr (inr none)
-  same_owned_items one (suc count) p (Err e ∷ xs) (Err f ∷ ys) (inr fault, last) (inr other, end) = inl (one.one p (Err e) (Err f) fault other)
+  same_owned_items one (suc count) p (Err e ∷ xs) (Err f ∷ ys) (inr fault, last) (inr other, end) =
+      inl (one.one p (Err e) (Err f) fault other)
 
   pub runs_give_the_same_owned : AllowsOne meaning → (s t : Items) → t ≡ s → GivesTheSameUnlessMemory meaning (NextItemIn meaning) s t
   runs_give_the_same_owned one s t e given others run others_run = by_ended s.ended refl
@@ -136,14 +164,19 @@ module _ {T : Type 0} (meaning : Place → Outcome T → Type 0) where
       again = subst (λ (v : Items). Drains (NextItemIn meaning) v others) e others_run
 
       by_ended : (b : Bool) → s.ended ≡ b → SameUnlessMemory meaning (map item_or_fault given) (map item_or_fault others)
-      by_ended true ended = rw ((runs_give_owned_items meaning s).over ended given run, (runs_give_owned_items meaning s).over ended others again) tt
-      by_ended false going = same_owned_items one s.left (place s.reader) _ _ ((runs_give_owned_items meaning s).items going given run) ((runs_give_owned_items meaning s).items going others again)
+      by_ended true ended = rw (
+        (runs_give_owned_items meaning s).over ended given run,
+        (runs_give_owned_items meaning s).over ended others again,
+      ) tt
+      by_ended false going = same_owned_items one s.left (place s.reader) _ _ ((runs_give_owned_items meaning s).items going given run)
+          ((runs_give_owned_items meaning s).items going others again)
 
 -- What is read by a function of the place allows one outcome, whatever counts of its value.
 pub reads_as_one : {X Y : Type 0} (view : X → Y) (reading : Place → Outcome Y) → AllowsOne (ReadsAs view reading)
 reads_as_one {X} {Y} view reading = record { one = one }
   where
-    one : (p : Place) (a b : Outcome X) → reading p ≡ outcome_map view a → reading p ≡ outcome_map view b → SameOutcome (ReadsAs view reading) a b
+    one : (p : Place) (a b : Outcome X) → reading p ≡ outcome_map view a → reading p ≡ outcome_map view b
+        → SameOutcome (ReadsAs view reading) a b
     one p (Ok x) (Ok y) h k =
         let left : Y × Place = (view x.0, x.1) in
         let right : Y × Place = (view y.0, y.1) in
@@ -165,7 +198,8 @@ reads_determine {X} reading = record { one = one }
     one p (Err e) (Err f) h k = sym h ∙ k
 
 module _ {A B : Type 0} (first : Place → Outcome A → Type 0) (second : Place → Outcome B → Type 0) where
-  pair_of_alike : (x y : A × B) → Alike first x.0 y.0 → Alike second x.1 y.1 → (p q : Place) → BothInTurn first second p (Ok (x, q)) → BothInTurn first second p (Ok (y, q))
+  pair_of_alike : (x y : A × B) → Alike first x.0 y.0 → Alike second x.1 y.1 → (p q : Place) → BothInTurn first second p (Ok (x, q))
+      → BothInTurn first second p (Ok (y, q))
   pair_of_alike x y h k p q m = (m.0, (h p m.0).0 m.1, (k m.0 q).0 m.2)
 
   alike_back : {T : Type 0} (meaning : Place → Outcome T → Type 0) (x y : T) → Alike meaning x y → Alike meaning y x
@@ -175,11 +209,18 @@ module _ {A B : Type 0} (first : Place → Outcome A → Type 0) (second : Place
   pub both_in_turn_one : AllowsOne first → AllowsOne second → AllowsOne (BothInTurn first second)
   both_in_turn_one a b = record { one = one }
     where
-      one : (p : Place) (x y : Outcome (A × B)) → BothInTurn first second p x → BothInTurn first second p y → SameOutcome (BothInTurn first second) x y
+      one : (p : Place) (x y : Outcome (A × B)) → BothInTurn first second p x → BothInTurn first second p y
+          → SameOutcome (BothInTurn first second) x y
       one p (Ok x) (Ok y) h k =
           let f = a.one p (Ok (x.0.0, h.0)) (Ok (y.0.0, k.0)) h.1 k.1 in
-          let s = b.one k.0 (Ok (x.0.1, x.1)) (Ok (y.0.1, y.1)) (subst (λ q. second q (Ok (x.0.1, x.1))) f.1 h.2) k.2 in
-          (λ q r. (pair_of_alike x.0 y.0 f.0 s.0 q r, pair_of_alike y.0 x.0 (alike_back first x.0.0 y.0.0 f.0) (alike_back second x.0.1 y.0.1 s.0) q r), s.1)
+          let s = b.one k.0 (Ok (x.0.1, x.1)) (Ok (y.0.1, y.1)) (subst (λ q. second q (Ok (x.0.1, x.1))) f.1 h.2) k.2 in (
+            λ q r. (
+              pair_of_alike x.0 y.0 f.0 s.0 q r,
+              pair_of_alike y.0 x.0 (alike_back first x.0.0 y.0.0 f.0)
+                  (alike_back second x.0.1 y.0.1 s.0) q r,
+            ),
+            s.1,
+          )
       one p (Ok x) (Err e) h (inl k) = absurd (a.one p (Ok (x.0.0, h.0)) (Err e) h.1 k)
       one p (Ok x) (Err e) h (inr k) =
           let f = a.one p (Ok (x.0.0, h.0)) (Ok (k.0, k.1)) h.1 k.2 in
@@ -208,7 +249,8 @@ module _ {A B : Type 0} (first : Place → Outcome A → Type 0) (second : Place
       one : (p : Place) (x y : Outcome (A × B)) → BothInTurn first second p x → BothInTurn first second p y → x ≡ y
       one p (Ok x) (Ok y) h k =
           let f = between _ _ (a.one p (Ok (x.0.0, h.0)) (Ok (y.0.0, k.0)) h.1 k.1) in
-          let s = between _ _ (b.one k.0 (Ok (x.0.1, x.1)) (Ok (y.0.1, y.1)) (subst (λ q. second q (Ok (x.0.1, x.1))) (ap (λ z. z.1) f) h.2) k.2) in
+          let s = between _ _ (b.one k.0 (Ok (x.0.1, x.1)) (Ok (y.0.1, y.1)) (subst (λ q. second q (Ok (x.0.1, x.1))) (ap (λ z. z.1) f) h.2)
+          k.2) in
           λ i. Ok (((f i).0, (s i).0), (s i).1)
       one p (Ok x) (Err e) h (inl k) = absurd (differ _ e (a.one p (Ok (x.0.0, h.0)) (Err e) h.1 k))
       one p (Ok x) (Err e) h (inr k) =

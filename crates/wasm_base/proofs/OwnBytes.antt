@@ -1,5 +1,6 @@
 -- Readings that depend on no byte after those that they take.
-use Rattle.std.proofs.Common.{length-drop, ◌≡◌, ℕ, zero, suc, ◌+◌, ◌-◌, ◌<◌, ◌≤◌, Bool, true, false, cond, List, [], ◌∷◌, ◌++◌, length, take, drop, nat_lt, Ok, Err, refl, sym, ap, subst, arith, ◌∙◌, ℤ, ltb-false, le-ltb}
+use Rattle.std.proofs.Common.{length-drop, ◌≡◌, ℕ, zero, suc, ◌+◌, ◌-◌, ◌<◌, ◌≤◌, Bool, true, false, cond, List, [], ◌∷◌, ◌++◌, length}
+use Rattle.std.proofs.Common.{take, drop, nat_lt, Ok, Err, refl, sym, ap, subst, arith, ◌∙◌, ℤ, ltb-false, le-ltb}
 use Rattle.std.proofs.Math.Seq.{take-add}
 use Rattle.std.proofs.lemmas.List.{drop-take, take-take, length-take}
 use Rattle.wasm_base.proofs.NumberLaws.{Used, number-used, number-more}
@@ -39,7 +40,8 @@ same_read {A} x y p q e =
 
 cut_advanced : (u n m : ℕ) (p : Place) → n ≡ u + m → advanced u (cut n p) ≡ cut m (advanced u p)
 cut_advanced u n m p e =
-    let r : drop u (take n p.rest) ≡ take m (drop u p.rest) = subst (λ (k : ℕ). drop u (take k p.rest) ≡ take m (drop u p.rest)) (sym e) (drop-take u m p.rest) in
+    let r : drop u (take n p.rest) ≡ take m (drop u p.rest) = subst (λ (k : ℕ). drop u (take k p.rest) ≡ take m (drop u p.rest)) (sym e)
+    (drop-take u m p.rest) in
     λ i. record { features = p.features; offset = p.offset + u; rest = r i }
 
 -- nothing is taken
@@ -64,10 +66,12 @@ pub own_fault : {A : Type 0} (fault : FaultAt) → Own {A = A} (λ p. Err fault)
 own_fault fault = own_refused (λ p. fault)
 
 -- one reading and then another
-pub own_both : {A B : Type 0} (first : Place → Outcome A) (next : A → Place → Outcome B) → Own first → ((a : A) → Own (next a)) → Own (λ p. first p >>= λ r. next r.0 r.1)
+pub own_both : {A B : Type 0} (first : Place → Outcome A) (next : A → Place → Outcome B) → Own first → ((a : A) → Own (next a))
+    → Own (λ p. first p >>= λ r. next r.0 r.1)
 own_both {A} {B} first next one two = record { at = λ p x q e. by p x q (first p) refl e }
   where
-    by : (p : Place) (x : B) (q : Place) (o : Outcome A) → first p ≡ o → (o >>= λ r. next r.0 r.1) ≡ Ok (x, q) → OwnAt (λ p. first p >>= λ r. next r.0 r.1) p x q
+    by : (p : Place) (x : B) (q : Place) (o : Outcome A) → first p ≡ o → (o >>= λ r. next r.0 r.1) ≡ Ok (x, q)
+        → OwnAt (λ p. first p >>= λ r. next r.0 r.1) p x q
     by p x q (Err f) is e = cc
     by p x q (Ok r) is e =
         let f = one.at p r.0 r.1 is in
@@ -84,7 +88,9 @@ pub own_cond : {A : Type 0} (b : Bool) (f g : Place → Outcome A) → Own f →
 own_cond true f g one other = one
 own_cond false f g one other = other
 
-byte_own : (features offset : ℕ) (rest : List ℕ) (x : ℕ) (q : Place) → byte_at (record { features = features; offset = offset; rest = rest }) ≡ Ok (x, q) → OwnAt byte_at (record { features = features; offset = offset; rest = rest }) x q
+byte_own : (features offset : ℕ) (rest : List ℕ) (x : ℕ) (q : Place)
+    → byte_at (record { features = features; offset = offset; rest = rest }) ≡ Ok (x, q)
+    → OwnAt byte_at (record { features = features; offset = offset; rest = rest }) x q
 byte_own features offset [] x q e = cc
 byte_own features offset (b ∷ bs) x q e =
     let p : Place = record { features = features; offset = offset; rest = b ∷ bs } in
@@ -96,7 +102,8 @@ byte_own features offset (b ∷ bs) x q e =
       alone = λ n m k. by n m k s.0 s.1;
     }
   where
-    by : (n m : ℕ) → n ≡ 1 + m → b ≡ x → advanced 1 (record { features = features; offset = offset; rest = b ∷ bs }) ≡ q → byte_at (cut n (record { features = features; offset = offset; rest = b ∷ bs })) ≡ Ok (x, cut m q)
+    by : (n m : ℕ) → n ≡ 1 + m → b ≡ x → advanced 1 (record { features = features; offset = offset; rest = b ∷ bs }) ≡ q
+        → byte_at (cut n (record { features = features; offset = offset; rest = b ∷ bs })) ≡ Ok (x, cut m q)
     by zero m k h i = absurd (omega (arith, k))
     by (suc n) m k h i = let z : n ≡ m = omega (arith, k) in rw (sym h, sym i, sym z) refl
 
@@ -108,7 +115,9 @@ pub cut_number : (kind : NumberKind) (xs : List ℕ) (v k m : ℕ) → number ki
 cut_number kind xs v k m e le =
     let used : Used kind xs v k = number-used kind xs v k e in
     let parts : take (k + (m - k)) xs ≡ take k xs ++ take (m - k) (drop k xs) = take-add k (m - k) xs in
-    let whole : number kind (take k xs ++ take (m - k) (drop k xs)) ≡ number kind (take k xs) = number-more kind (take k xs) (take (m - k) (drop k xs)) (λ n. let z : read v k ≡ short = sym used.alone ∙ n in cc) in
+    let whole : number kind (take k xs ++ take (m - k) (drop k xs))
+    ≡ number kind (take k xs) = number-more kind (take k xs) (take (m - k) (drop k xs))
+    (λ n. let z : read v k ≡ short = sym used.alone ∙ n in cc) in
     let n : m ≡ k + (m - k) = omega arith in
     subst (λ (j : ℕ). number kind (take j xs) ≡ read v k) (sym n) (rw (parts, whole) used.alone)
 
@@ -140,7 +149,7 @@ own_number_at kind p x q e = by (number kind p.rest) refl e
 pub own_number : (kind : NumberKind) → Own (unsigned_at kind)
 own_number kind = record { at = λ p x q e. (own_number_at kind p x q e).own }
 
--- A signed number is what its groups are, by how far they go.
+-- A signed number is what its septets are, by how far they go.
 pub record OwnSigned (kind : NumberKind) (p : Place) (x : ℤ) (q : Place) : Type 0 where
   pub own : OwnAt (signed_at kind) p x q
   pub some : 0 < own.used
@@ -149,7 +158,8 @@ pub own_signed_at : (kind : NumberKind) (p : Place) (x : ℤ) (q : Place) → si
 unfolding signed_at
 own_signed_at kind p x q e = by (unsigned_at kind p) refl e
   where
-    by : (o : Outcome ℕ) → unsigned_at kind p ≡ o → (o >>= λ sum. let z : Outcome ℤ = Ok (signed_value sum.0 (sum.1.offset - p.offset), sum.1) in z) ≡ Ok (x, q) → OwnSigned kind p x q
+    by : (o : Outcome ℕ) → unsigned_at kind p ≡ o → (o >>= λ sum.
+        let z : Outcome ℤ = Ok (signed_value sum.0 (sum.1.offset - p.offset), sum.1) in z) ≡ Ok (x, q) → OwnSigned kind p x q
     by (Err f) is e = cc
     by (Ok r) is e =
         let n = own_number_at kind p r.0 r.1 is in
@@ -167,7 +177,9 @@ own_signed_at kind p x q e = by (unsigned_at kind p) refl e
 pub own_signed : (kind : NumberKind) → Own (signed_at kind)
 own_signed kind = record { at = λ p x q e. (own_signed_at kind p x q e).own }
 
-bytes_own : (count : ℕ) (p : Place) (t : Bool) (x : List ℕ) (q : Place) → nat_lt (length p.rest) count ≡ t → cond t (Err (at_offset UnexpectedEof p.offset)) (let o : Outcome (List ℕ) = Ok (take count p.rest, advanced count p) in o) ≡ Ok (x, q) → OwnAt (bytes_at count) p x q
+bytes_own : (count : ℕ) (p : Place) (t : Bool) (x : List ℕ) (q : Place) → nat_lt (length p.rest) count ≡ t
+    → cond t (Err (at_offset UnexpectedEof p.offset)) (let o : Outcome (List ℕ) = Ok (take count p.rest, advanced count p) in o) ≡ Ok (x, q)
+    → OwnAt (bytes_at count) p x q
 bytes_own count p true x q is e = cc
 bytes_own count p false x q is e =
     let s = same_read (take count p.rest) x (advanced count p) q e in
@@ -178,7 +190,13 @@ bytes_own count p false x q is e =
       after = sym s.1;
       alone = λ n m j.
           let l : count ≤ length (take n p.rest) = omega (arith, length-take n p.rest, le, j) in
-          rw (le-ltb (length (take n p.rest)) count l, take-take count n p.rest (omega (arith, j)), cut_advanced count n m p j, sym s.0, sym s.1) refl;
+          rw (
+            le-ltb (length (take n p.rest)) count l,
+            take-take count n p.rest (omega (arith, j)),
+            cut_advanced count n m p j,
+            sym s.0,
+            sym s.1,
+          ) refl;
     }
 
 pub own_bytes : (count : ℕ) → Own (bytes_at count)

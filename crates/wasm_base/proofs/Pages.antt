@@ -1,5 +1,6 @@
 -- Sizes of pages, as the code finds them: by the bits that are set.
-use Rattle.std.proofs.Common.{◌≡◌, ◌≤◌, ◌<◌, ◌+◌, ◌*◌, ◌/◌, ◌%◌, ◌^◌, ◌||◌, inl, inr, ℕ, zero, suc, true, false, sym, ◌∙◌, ap, arith, nat_le}
+use Rattle.std.proofs.Common.{◌≡◌, ◌≤◌, ◌<◌, ◌+◌, ◌*◌, ◌/◌, ◌%◌, ◌^◌, ◌||◌, inl, inr, ℕ, zero, suc, true, false, sym, ◌∙◌, ap, arith}
+use Rattle.std.proofs.Common.{nat_le}
 use Rattle.std.specs.Int.{IsPowerOfTwo, is_power_of_two}
 use Rattle.std.specs.Int.RustNames.{count_ones}
 use Rattle.std.proofs.Math.Arith.{le_of_le-suc-ne}

@@ -1,5 +1,6 @@
 -- Passing over a name takes the bytes that reading it takes.
-use Rattle.std.proofs.Common.{◌≡◌, ℕ, ◌-◌, ◌≤◌, Bool, true, false, cond, List, length, take, Option, Some, None, Ok, Err, nat_lt, refl, sym, ap, ◌∙◌, arith, le-ltb, ltb-false}
+use Rattle.std.proofs.Common.{◌≡◌, ℕ, ◌-◌, ◌≤◌, Bool, true, false, cond, List, length, take, Option, Some, None, Ok, Err, nat_lt, refl, sym}
+use Rattle.std.proofs.Common.{ap, ◌∙◌, arith, le-ltb, ltb-false}
 use Rattle.std.proofs.lemmas.List.{length-take-le}
 use Rattle.std.specs.Str.{is_utf8}
 use Rattle.wasm_base.proofs.Texts.{after_read, text_steps}
@@ -35,11 +36,14 @@ module _ (text : List ℕ) (q : Place) where
       (ap (λ (o : List ℕ × Place). o.0) y, rw (b_is, ap (λ (o : List ℕ × Place). o.1) y) refl, b_is)
 
 module _ (limit : Option ℕ) (text : List ℕ) (q : Place) where
-  size_step : (b : Bool) (size : ℕ × Place) → is_above limit size.0 ≡ b → after_read limit size ≡ Ok (text, q) → (take size.0 size.1.rest ≡ text) × (passed_at size.0 size.1 ≡ Ok (tt, q)) × (nat_lt (length size.1.rest) size.0 ≡ false)
+  size_step : (b : Bool) (size : ℕ × Place) → is_above limit size.0 ≡ b → after_read limit size ≡ Ok (text, q)
+      → (take size.0 size.1.rest ≡ text) × (passed_at size.0 size.1 ≡ Ok (tt, q)) × (nat_lt (length size.1.rest) size.0 ≡ false)
   size_step true size e h = let z = rw e at h in absurd (cc)
-  size_step false size e h = let z = rw e at h in bytes_taken text q (nat_lt (length size.1.rest) size.0) (is_utf8 (take size.0 size.1.rest)) size.0 size.1 refl refl z
+  size_step false size e h = let z = rw e at h in bytes_taken text q (nat_lt (length size.1.rest) size.0)
+      (is_utf8 (take size.0 size.1.rest)) size.0 size.1 refl refl z
 
-  outcome_step : (o : Outcome ℕ) → ((size : ℕ × Place) → is_above limit size.0 ≡ false → take size.0 size.1.rest ≡ text → nat_lt (length size.1.rest) size.0 ≡ false → is_above (Some name_limit) size.0 ≡ false)
+  outcome_step : (o : Outcome ℕ) → ((size : ℕ × Place) → is_above limit size.0 ≡ false → take size.0 size.1.rest ≡ text
+      → nat_lt (length size.1.rest) size.0 ≡ false → is_above (Some name_limit) size.0 ≡ false)
       → (o >>= after_read limit) ≡ Ok (text, q) → (o >>= after_skip) ≡ Ok (tt, q)
   outcome_step (Err e) within h = cc
   outcome_step (Ok size) within h =
@@ -54,9 +58,11 @@ module _ (limit : Option ℕ) (text : List ℕ) (q : Place) where
 -- a name of at most 100,000 bytes
 pub name_passed : (p q : Place) (text : List ℕ) → text_at (Some name_limit) p ≡ Ok (text, q) → skipped_name_at p ≡ Ok (tt, q)
 unfolding skipped_name_at
-name_passed p q text h = outcome_step (Some name_limit) text q (unsigned_at VarU32 p) (λ size k t there. k) (sym (text_steps (Some name_limit) p) ∙ h)
+name_passed p q text h = outcome_step (Some name_limit) text q (unsigned_at VarU32 p) (λ size k t there. k)
+    (sym (text_steps (Some name_limit) p) ∙ h)
 
-short_enough : (size : ℕ) (rest text : List ℕ) → length text ≤ name_limit → take size rest ≡ text → nat_lt (length rest) size ≡ false → nat_lt name_limit size ≡ false
+short_enough : (size : ℕ) (rest text : List ℕ) → length text ≤ name_limit → take size rest ≡ text → nat_lt (length rest) size ≡ false
+    → nat_lt name_limit size ≡ false
 short_enough size rest text le t there =
     let l : size ≤ length rest = ltb-false (length rest) size there in
     let n : length (take size rest) ≡ size = length-take-le size rest l in
@@ -66,4 +72,5 @@ short_enough size rest text le t there =
 -- a text of at most so many bytes
 pub text_passed : (p q : Place) (text : List ℕ) → length text ≤ name_limit → text_at None p ≡ Ok (text, q) → skipped_name_at p ≡ Ok (tt, q)
 unfolding skipped_name_at
-text_passed p q text le h = outcome_step None text q (unsigned_at VarU32 p) (λ size k t there. short_enough size.0 size.1.rest text le t there) (sym (text_steps None p) ∙ h)
+text_passed p q text le h = outcome_step None text q (unsigned_at VarU32 p)
+    (λ size k t there. short_enough size.0 size.1.rest text le t there) (sym (text_steps None p) ∙ h)

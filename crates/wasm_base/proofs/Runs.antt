@@ -1,5 +1,6 @@
 -- What calls of `next` give, one after the other.
-use Rattle.std.proofs.Common.{◌≡◌, ℕ, zero, suc, ◌+◌, ◌<◌, ◌≤◌, Bool, true, false, cond, List, [], ◌∷◌, length, Option, Some, None, Result, Ok, Err, refl, sym, subst, arith}
+use Rattle.std.proofs.Common.{◌≡◌, ℕ, zero, suc, ◌+◌, ◌<◌, ◌≤◌, Bool, true, false, cond, List, [], ◌∷◌, length, Option, Some, None, Result}
+use Rattle.std.proofs.Common.{Ok, Err, refl, sym, subst, arith}
 use Rattle.std.specs.Prelude.{nat_lt, map}
 use Rattle.std.specs.Iterator.{Yields}
 use Rattle.std.proofs.lemmas.Bool.{le-ltb, lt-ltb}
@@ -15,17 +16,20 @@ record Steps {T : Type 0} (meaning : Place → Outcome T → Type 0) (s : Items)
   item : s.ended ≡ false → 0 < s.left → ReadsItem meaning s given t
   last : s.ended ≡ false → s.left ≡ 0 → ReadsEnd s given t
 
-module _ {T : Type 0} (meaning : Place → Outcome T → Type 0) (next : Items → Option (Result T Error) → Items → Type 0) (steps : (s t : Items) (given : Option (Result T Error)) → next s given t → Steps meaning s given t) where
+module _ {T : Type 0} (meaning : Place → Outcome T → Type 0) (next : Items → Option (Result T Error) → Items → Type 0)
+    (steps : (s t : Items) (given : Option (Result T Error)) → next s given t → Steps meaning s given t) where
   -- An iterator that is over gives nothing.
   over_gives_nothing : (s t : Items) (given : List (Result T Error)) → s.ended ≡ true → Yields next s given t → given ≡ []
   over_gives_nothing s t [] ended run = refl
   over_gives_nothing s t (x ∷ given) ended run = absurd (let e = ((steps _ _ _ run.1).over ended).0 in cc)
 
   -- The items, by how many are left.
-  run_is_items : (left : ℕ) (s t u : Items) (given : List (Result T Error)) → s.ended ≡ false → s.left ≡ left → Yields next s given t → next t None u
+  run_is_items : (left : ℕ) (s t u : Items) (given : List (Result T Error)) → s.ended ≡ false → s.left ≡ left → Yields next s given t
+      → next t None u
       → ItemsOf meaning left (place s.reader) (map item_or_fault given)
   run_is_items zero s t u [] going none run end =
-      let last : ReadsEnd {T = T} s None u = subst (λ (v : Items). v.ended ≡ false → v.left ≡ 0 → ReadsEnd {T = T} v None u) (sym run) (steps _ _ _ end).last going none in
+      let last : ReadsEnd {T = T} s None u = subst (λ (v : Items). v.ended ≡ false → v.left ≡ 0 → ReadsEnd {T = T} v None u) (sym run)
+      (steps _ _ _ end).last going none in
       let test : nat_lt 0 (length (place s.reader).rest) ≡ false = le-ltb _ _ (omega (arith, last.0)) in
       rw test refl
   run_is_items zero s t u (Ok x ∷ given) going none run end = absurd ((steps _ _ _ run.1).last going none)
@@ -36,7 +40,8 @@ module _ {T : Type 0} (meaning : Place → Outcome T → Type 0) (next : Items �
       let nothing = over_gives_nothing run.0 t given ended run.2 in
       rw (test, nothing, last.1) refl
   run_is_items (suc left) s t u [] going some run end =
-      subst (λ (v : Items). v.ended ≡ false → 0 < v.left → ReadsItem meaning v None u) (sym run) (steps _ _ _ end).item going (omega (arith, some))
+      subst (λ (v : Items). v.ended ≡ false → 0 < v.left → ReadsItem meaning v None u) (sym run) (steps _ _ _ end).item going
+      (omega (arith, some))
   run_is_items (suc left) s t u (Ok x ∷ given) going some run end =
       let item = (steps _ _ _ run.1).item going (omega (arith, some)) in
       (place run.0.reader, item.0, run_is_items left run.0 t u given item.2 (omega (arith, item.1, some)) run.2 end)
@@ -86,4 +91,5 @@ module _ {T : Type 0} (meaning : Place → Outcome T → Type 0) where
 
   -- Where memory may be refused, an item may come to that.
   pub runs_give_owned_items : (s : Items) → GivesItems (NextItemIn meaning) (UnlessMemory meaning) s
-  runs_give_owned_items = runs_give (UnlessMemory meaning) (NextItemIn meaning) (λ s t given went. record { over = went.over; item = went.item; last = went.last })
+  runs_give_owned_items = runs_give (UnlessMemory meaning) (NextItemIn meaning)
+      (λ s t given went. record { over = went.over; item = went.item; last = went.last })

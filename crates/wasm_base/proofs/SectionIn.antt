@@ -14,7 +14,8 @@ gone_on w v kept =
     let b : w.bytes ≡ v.bytes = sym kept.bytes in
     λ i. record { features = f i; start = s i; bytes = b i; position = n i }
 
-pub section_is_in : (w : Window) (result : Result Section Error) → ReadsSection (place w) result → IfOk result (λ (s : Section). KeepsWindow w s.reader) → GivesResult {X = Section} (λ s. s) result (section_in w)
+pub section_is_in : (w : Window) (result : Result Section Error) → ReadsSection (place w) result
+    → IfOk result (λ (s : Section). KeepsWindow w s.reader) → GivesResult {X = Section} (λ s. s) result (section_in w)
 unfolding section_in
 section_is_in w (Ok s) reads kept = rw (reads, gone_on w s.reader kept) refl
 section_is_in w (Err e) reads kept = rw reads refl

@@ -1,5 +1,6 @@
 -- Names and texts, step by step.
-use Rattle.std.proofs.Common.{◌≡◌, ℕ, ◌+◌, ◌-◌, ◌<◌, Bool, true, false, cond, List, length, take, drop, Option, Ok, Err, nat_lt, refl, sym, ap, ◌∙◌, arith, drop-drop}
+use Rattle.std.proofs.Common.{◌≡◌, ℕ, ◌+◌, ◌-◌, ◌<◌, Bool, true, false, cond, List, length, take, drop, Option, Ok, Err, nat_lt, refl, sym}
+use Rattle.std.proofs.Common.{ap, ◌∙◌, arith, drop-drop}
 use Rattle.std.specs.Str.{IsUtf8, is_utf8}
 use Rattle.std.proofs.lemmas.Str.{IsUtf8-from_is_utf8, is_utf8-from_IsUtf8}
 use Rattle.wasm_base.specs.FaultAt.{at_offset}
@@ -36,21 +37,26 @@ advanced_twice j k p =
 
 text_same : (b c : Bool) (p : Place) (size used : ℕ) (text : List ℕ) → 0 < used
     → name_in_window p (cond b (refused UnexpectedEof used) (cond c (named text (used + size)) (refused MalformedUtf8 (used + size - 1))))
-    ≡ cond b (Err (at_offset UnexpectedEof (p.offset + used))) (cond c (Ok (text, advanced size (advanced used p))) (Err (at_offset MalformedUtf8 (p.offset + used + size - 1))))
+    ≡ cond b (Err (at_offset UnexpectedEof (p.offset + used))) (cond c (Ok (text, advanced size (advanced used p)))
+    (Err (at_offset MalformedUtf8 (p.offset + used + size - 1))))
 text_same true c p size used text h = refl
-text_same false true p size used text h = ap (λ (q : Place). let x : Outcome (List ℕ) = Ok (text, q) in x) (sym (advanced_twice used size p))
+text_same false true p size used text h = ap (λ (q : Place). let x : Outcome (List ℕ) = Ok (text, q) in x)
+    (sym (advanced_twice used size p))
 text_same false false p size used text h =
     let o : p.offset + (used + size - 1) ≡ p.offset + used + size - 1 = omega arith in
     ap (λ (n : ℕ). let x : Outcome (List ℕ) = Err (at_offset MalformedUtf8 n) in x) o
 
 text_of_steps : (b : Bool) (p : Place) (size : ℕ) (text : List ℕ)
-    → cond {A = Outcome (List ℕ)} b (Err (at_offset UnexpectedEof p.offset)) (cond (is_utf8 text) (Ok (text, advanced size p)) (Err (at_offset MalformedUtf8 (p.offset + size - 1))))
-    ≡ (let x : Outcome (List ℕ) = cond b (Err (at_offset UnexpectedEof p.offset)) (Ok (text, advanced size p)) in x >>= (λ bytes. cond (is_utf8 bytes.0) (Ok bytes) (Err (at_offset MalformedUtf8 (bytes.1.offset - 1)))))
+    → cond {A = Outcome (List ℕ)} b (Err (at_offset UnexpectedEof p.offset))
+    (cond (is_utf8 text) (Ok (text, advanced size p)) (Err (at_offset MalformedUtf8 (p.offset + size - 1))))
+    ≡ (let x : Outcome (List ℕ) = cond b (Err (at_offset UnexpectedEof p.offset)) (Ok (text, advanced size p)) in
+    x >>= (λ bytes. cond (is_utf8 bytes.0) (Ok bytes) (Err (at_offset MalformedUtf8 (bytes.1.offset - 1)))))
 text_of_steps true p size text = refl
 text_of_steps false p size text = refl
 
 after_same : (a : Bool) (p : Place) (size used : ℕ) → 0 < used
-    → name_in_window p (cond a (refused StringSize (used - 1)) (text_after p.rest size used)) ≡ cond a (Err (at_offset StringSize (p.offset + used - 1))) (text_of size (advanced used p))
+    → name_in_window p (cond a (refused StringSize (used - 1)) (text_after p.rest size used))
+    ≡ cond a (Err (at_offset StringSize (p.offset + used - 1))) (text_of size (advanced used p))
 unfolding text_of
 after_same true p size used h =
     let o : p.offset + (used - 1) ≡ p.offset + used - 1 = omega arith in
@@ -60,7 +66,8 @@ after_same false p size used h =
     text_same (nat_lt (length rest) size) (is_utf8 (take size rest)) p size used (take size rest) h
     ∙ text_of_steps (nat_lt (length rest) size) (advanced used p) size (take size rest)
 
-text_steps_at : (limit : Option ℕ) (p : Place) (n : Number) → number VarU32 p.rest ≡ n → name_in_window p (after_size limit p.rest n) ≡ (in_window p n >>= after_read limit)
+text_steps_at : (limit : Option ℕ) (p : Place) (n : Number) → number VarU32 p.rest ≡ n → name_in_window p (after_size limit p.rest n)
+    ≡ (in_window p n >>= after_read limit)
 text_steps_at limit p (read size used) e = after_same (is_above limit size) p size used (number-used VarU32 p.rest size used e).some
 text_steps_at limit p (bad fault i) e = refl
 text_steps_at limit p short e = refl

@@ -1,5 +1,6 @@
 -- The bits of numbers in LEB128, byte by byte.
-use Rattle.std.proofs.Common.{◌≡◌, ℕ, zero, suc, ◌<◌, ◌≤◌, Bool, true, false, ◌&&◌, ◌||◌, nat_eq, nat_lt, refl, sym, ◌∙◌, arith, eqb-true, eq-eqb, le-ltb, ltb-false}
+use Rattle.std.proofs.Common.{◌≡◌, ℕ, zero, suc, ◌<◌, ◌≤◌, Bool, true, false, ◌&&◌, ◌||◌, nat_eq, nat_lt, refl, sym, ◌∙◌, arith, eqb-true}
+use Rattle.std.proofs.Common.{eq-eqb, le-ltb, ltb-false}
 use Rattle.std.proofs.lemmas.Bool.{eqb-false}
 use Rattle.wasm_base.specs.Number.{is_unused_right}
 use Rattle.wasm_base.specs.Widths.{bit, last_bits, unused_bit, ChecksUnused}
@@ -55,12 +56,16 @@ or_by : (s t : Bool) → (s ≡ false → t ≡ true) → (s || t) ≡ true
 or_by true t h = refl
 or_by false t h = h refl
 
-unused_of : (kind : NumberKind) (b : ℕ) → all_below 7 (bit_fits kind b) ≡ true → (k : ℕ) → last_bits kind ≤ k → k < 7 → bit k b ≡ unused_bit kind b
+unused_of : (kind : NumberKind) (b : ℕ) → all_below 7 (bit_fits kind b) ≡ true → (k : ℕ) → last_bits kind ≤ k → k < 7 → bit k b
+    ≡ unused_bit kind b
 unused_of kind b h k from lt =
-    eqb-true (bit k b) (unused_bit kind b) (or_right (nat_lt k (last_bits kind)) (nat_eq (bit k b) (unused_bit kind b)) (le-ltb k (last_bits kind) from) (all_at 7 (bit_fits kind b) h k lt))
+    eqb-true (bit k b) (unused_bit kind b) (or_right (nat_lt k (last_bits kind)) (nat_eq (bit k b) (unused_bit kind b))
+    (le-ltb k (last_bits kind) from) (all_at 7 (bit_fits kind b) h k lt))
 
-unused_from : (kind : NumberKind) (b : ℕ) → ((k : ℕ) → last_bits kind ≤ k → k < 7 → bit k b ≡ unused_bit kind b) → all_below 7 (bit_fits kind b) ≡ true
-unused_from kind b h = all_from 7 (bit_fits kind b) (λ k lt. or_by (nat_lt k (last_bits kind)) (nat_eq (bit k b) (unused_bit kind b)) (λ e. eq-eqb (bit k b) (unused_bit kind b) (h k (ltb-false k (last_bits kind) e) lt)))
+unused_from : (kind : NumberKind) (b : ℕ) → ((k : ℕ) → last_bits kind ≤ k → k < 7 → bit k b ≡ unused_bit kind b)
+    → all_below 7 (bit_fits kind b) ≡ true
+unused_from kind b h = all_from 7 (bit_fits kind b) (λ k lt. or_by (nat_lt k (last_bits kind)) (nat_eq (bit k b) (unused_bit kind b))
+    (λ e. eq-eqb (bit k b) (unused_bit kind b) (h k (ltb-false k (last_bits kind) e) lt)))
 
 -- whether the bits of each byte below 128 are as its test says
 abbrev each_byte : NumberKind → Bool
@@ -68,7 +73,9 @@ each_byte kind = all_below 128 (λ b. same (is_unused_right kind b) (all_below 7
 
 by_bytes : (kind : NumberKind) → each_byte kind ≡ true → ChecksUnused kind
 by_bytes kind h b lt =
-    let e : is_unused_right kind b ≡ all_below 7 (bit_fits kind b) = same_is (is_unused_right kind b) (all_below 7 (bit_fits kind b)) (all_at 128 (λ b. same (is_unused_right kind b) (all_below 7 (bit_fits kind b))) h b lt) in
+    let e : is_unused_right kind b ≡ all_below 7 (bit_fits kind b) =
+    same_is (is_unused_right kind b) (all_below 7 (bit_fits kind b))
+    (all_at 128 (λ b. same (is_unused_right kind b) (all_below 7 (bit_fits kind b))) h b lt) in
     (λ right. unused_of kind b (sym e ∙ right), λ bits. e ∙ unused_from kind b bits)
 
 pub checks_unused : (kind : NumberKind) → ChecksUnused kind

@@ -14,4 +14,5 @@ AreSoMany (suc count) (Err e ∷ given) = ⊥
 
 -- Calls of `next` up to the first `None` give the announced items of the section, and no fault.
 abbrev pub GivesAnnounced : {T : Type 0} → (Items → Option (Result T Error) → Items → Type 0) → Section → Type 0
-GivesAnnounced {T} next section = (given : List (Result T Error)) → Drains next (all_items section) given → AreSoMany section.count given
+GivesAnnounced {T} next section = (given : List (Result T Error)) → Drains next (all_items section) given
+    → AreSoMany section.count given

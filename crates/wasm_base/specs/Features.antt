@@ -5,3 +5,7 @@ use Rattle.wasm_base.specs.declared.features.WasmFeatures.{WasmFeatures}
 -- the bits of a set of features
 abbrev pub feature_bits : WasmFeatures → ℕ
 feature_bits features = features.0
+
+-- all features
+abbrev pub all_features : ℕ
+all_features = 3

@@ -1,6 +1,6 @@
 -- What the code finds of a number.
 use Rattle.std.specs.Prelude.{◌≡◌, ℕ, ◌<◌, ◌≤◌, ◌⊎◌}
-use Rattle.wasm_base.specs.Groups.{sum_bound}
+use Rattle.wasm_base.specs.Septets.{sum_bound}
 use Rattle.wasm_base.specs.Number.{Number, read, bad, short}
 use Rattle.wasm_base.specs.declared.fault.Fault.{Fault}
 use Rattle.wasm_base.specs.declared.fault.Fault.TheVariants.{NumberTooLong, NumberTooLarge}

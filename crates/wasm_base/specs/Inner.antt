@@ -1,4 +1,5 @@
--- Counted items inside an item, which are passed over when it is read. Core specification, Binary format, Conventions, Lists.
+-- Counted items inside an item, which are passed over when it is read. Core specification, Binary format, Conventions,
+-- Lists.
 use Rattle.std.specs.Prelude.{◌≡◌, ℕ, zero, suc, ◌-◌, Ok}
 use Rattle.wasm_base.specs.Number.{unsigned_at}
 use Rattle.wasm_base.specs.Outcome.{Outcome, ◌>>=◌}
@@ -22,7 +23,10 @@ all_passed_at pass (suc count) p = do
 -- The section of a count and so many items, which are passed over: its window begins at the count, where p is, and its
 -- reader is after the count.
 abbrev pub section_between : (p : Place) → ℕ × Place → Place → Section
-section_between p count q = record { reader = record (window_between p q) { position = count.1.offset - p.offset }; count = count.0 }
+section_between p count q = record {
+  reader = record (window_between p q) { position = count.1.offset - p.offset };
+  count = count.0;
+}
 
 -- a count and so many items that are passed over
 unfoldable pub inner_section_at : (Place → Outcome (Unit {0})) → Place → Outcome Section
@@ -32,7 +36,8 @@ inner_section_at pass p = do
   Ok (section_between p count end.1, end.1)
 
 -- Wherever an item is read that is such a one, passing over it takes the bytes that reading it takes.
-abbrev pub PassesIfSuch : {T : Type 0} → (T → Type 0) → (Place → Outcome T → Type 0) → (Place → Outcome (Unit {0})) → Type 0
+abbrev pub PassesIfSuch : {T : Type 0} → (T → Type 0) → (Place → Outcome T → Type 0) → (Place → Outcome (Unit {0}))
+    → Type 0
 PassesIfSuch {T} Such meaning pass = (p q : Place) (x : T) → Such x → meaning p (Ok (x, q)) → pass p ≡ Ok (tt, q)
 
 -- Wherever an item is read, passing over it takes the bytes that reading it takes.

@@ -26,9 +26,12 @@ abbrev pub ReadsName : {X : Type 0} → (X → List ℕ) → Place → Outcome X
 ReadsName view = ReadsAs view (text_at (Some name_limit))
 
 -- one item and then another
-abbrev pub BothInTurn : {A B : Type 0} → (Place → Outcome A → Type 0) → (Place → Outcome B → Type 0) → Place → Outcome (A × B) → Type 0
-BothInTurn first second before (Ok x) = (between : Place) × first before (Ok (x.0.0, between)) × second between (Ok (x.0.1, x.1))
-BothInTurn {A} first second before (Err e) = first before (Err e) ⊎ ((a : A) × (between : Place) × first before (Ok (a, between)) × second between (Err e))
+abbrev pub BothInTurn : {A B : Type 0} → (Place → Outcome A → Type 0) → (Place → Outcome B → Type 0) → Place
+    → Outcome (A × B) → Type 0
+BothInTurn first second before (Ok x) = (between : Place) × first before (Ok (x.0.0, between))
+    × second between (Ok (x.0.1, x.1))
+BothInTurn {A} first second before (Err e) = first before (Err e)
+    ⊎ ((a : A) × (between : Place) × first before (Ok (a, between)) × second between (Err e))
 
 abbrev pub truth_of : ℕ × Place → ℕ → Outcome Bool
 truth_of byte zero = Ok (false, byte.1)

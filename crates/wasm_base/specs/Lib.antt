@@ -4,7 +4,7 @@ pub mod FaultAt
 pub mod Features
 pub mod Float
 pub mod Found
-pub mod Groups
+pub mod Septets
 pub mod Header
 pub mod Hints
 pub mod Inner

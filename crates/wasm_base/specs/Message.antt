@@ -2,7 +2,20 @@
 use Rattle.std.specs.Prelude.{ℕ, List, [], ◌++◌, Option, Some, None, false, codes}
 use Rattle.std.specs.Fmt.{decimal, digits}
 use Rattle.wasm_base.specs.declared.fault.Fault.{Fault}
-use Rattle.wasm_base.specs.declared.fault.Fault.TheVariants.{OutOfMemory, UnexpectedEof, OffsetRange, BadMagic, UnknownVersion, MagicAtSection, MalformedSectionId, SectionTooLarge, OutOfOrder, StartContent, DataCountContent, FunctionCodeDiffer, FunctionWithoutCode, CodeWithoutFunction, DataCountDiffer, DataCountWithoutData, TrailingCode, NumberTooLong, NumberTooLarge, StringSize, MalformedUtf8, InvalidU7, InvalidBool, SizeMismatch, LeadingByte, DataFlags, ElementFlags, ElementFunctionOnly, ExactExport, GlobalFlags, Compact7F, Compact7E, MemoryFlags, PageSize, TableEncoding, TableFlags, TagAttributes, NamesOrder, IndirectOrder, NameSectionOrder, NameTrailing, ProducersField, LinkingVersion, CoreStartByte, CoreValue, CustomTrailing, NotConstant, Supertypes}
+use Rattle.wasm_base.specs.declared.fault.Fault.TheVariants.{OutOfMemory, UnexpectedEof, OffsetRange, BadMagic}
+use Rattle.wasm_base.specs.declared.fault.Fault.TheVariants.{UnknownVersion, MagicAtSection, MalformedSectionId}
+use Rattle.wasm_base.specs.declared.fault.Fault.TheVariants.{SectionTooLarge, OutOfOrder, StartContent}
+use Rattle.wasm_base.specs.declared.fault.Fault.TheVariants.{DataCountContent, FunctionCodeDiffer, FunctionWithoutCode}
+use Rattle.wasm_base.specs.declared.fault.Fault.TheVariants.{CodeWithoutFunction, DataCountDiffer, DataCountWithoutData}
+use Rattle.wasm_base.specs.declared.fault.Fault.TheVariants.{TrailingCode, NumberTooLong, NumberTooLarge, StringSize}
+use Rattle.wasm_base.specs.declared.fault.Fault.TheVariants.{MalformedUtf8, InvalidU7, InvalidBool, SizeMismatch}
+use Rattle.wasm_base.specs.declared.fault.Fault.TheVariants.{LeadingByte, DataFlags, ElementFlags, ElementFunctionOnly}
+use Rattle.wasm_base.specs.declared.fault.Fault.TheVariants.{ExactExport, GlobalFlags, Compact7F, Compact7E}
+use Rattle.wasm_base.specs.declared.fault.Fault.TheVariants.{MemoryFlags, PageSize, TableEncoding, TableFlags}
+use Rattle.wasm_base.specs.declared.fault.Fault.TheVariants.{TagAttributes, NamesOrder, IndirectOrder, NameSectionOrder}
+use Rattle.wasm_base.specs.declared.fault.Fault.TheVariants.{NameTrailing, ProducersField, LinkingVersion}
+use Rattle.wasm_base.specs.declared.fault.Fault.TheVariants.{CoreStartByte, CoreValue, CustomTrailing, NotConstant}
+use Rattle.wasm_base.specs.declared.fault.Fault.TheVariants.{Supertypes}
 use Rattle.wasm_base.specs.FaultAt.{FaultAt}
 use Rattle.wasm_base.specs.declared.fault.NumberKind.{NumberKind}
 use Rattle.wasm_base.specs.declared.fault.NumberKind.TheVariants.{VarU32, VarI32, VarU64, VarI64, VarS33}
@@ -99,4 +112,5 @@ number_text (Some n) = codes ": " ++ decimal n
 
 -- what an error prints: its text, its number, and its offset in hexadecimal
 abbrev pub error_text : FaultAt → List ℕ
-error_text r = message_of r.fault ++ number_text r.number ++ codes " (at offset 0x" ++ digits 16 false r.offset ++ codes ")"
+error_text r = message_of r.fault ++ number_text r.number
+    ++ codes " (at offset 0x" ++ digits 16 false r.offset ++ codes ")"

@@ -1,5 +1,6 @@
 -- Raw bytes, names and texts. Core specification, Binary format, Values, Bytes and Names.
-use Rattle.std.specs.Prelude.{ℕ, ◌+◌, ◌-◌, ◌*◌, Bool, false, List, [], ◌∷◌, length, take, drop, slice_index, Option, Some, None, Ok, Err, nat_lt, if◌then◌else◌}
+use Rattle.std.specs.Prelude.{ℕ, ◌+◌, ◌-◌, ◌*◌, Bool, false, List, [], ◌∷◌, length, take, drop, slice_index, Option}
+use Rattle.std.specs.Prelude.{Some, None, Ok, Err, nat_lt, if◌then◌else◌}
 use Rattle.std.specs.Str.{is_utf8}
 use Rattle.wasm_base.specs.FaultAt.{at_offset}
 use Rattle.wasm_base.specs.Number.{Number, read, bad, short, number, unsigned_at}
@@ -11,7 +12,8 @@ use Rattle.wasm_base.specs.declared.fault.NumberKind.TheVariants.{VarU32}
 
 -- so many raw bytes; where they aren't all there, they are missed where they begin
 abbrev pub bytes_at : ℕ → Place → Outcome (List ℕ)
-bytes_at n p = if nat_lt (length p.rest) n then Err (at_offset UnexpectedEof p.offset) else Ok (take n p.rest, advanced n p)
+bytes_at n p = if nat_lt (length p.rest) n then Err (at_offset UnexpectedEof p.offset) else
+    Ok (take n p.rest, advanced n p)
 
 abbrev pub first_of : Place → List ℕ → Outcome ℕ
 first_of p [] = Err (at_offset UnexpectedEof p.offset)
@@ -41,7 +43,8 @@ peeked_byte_at p = first_peeked p p.rest
 
 -- the number of four bytes, the lowest first
 abbrev pub of_four : List ℕ → ℕ
-of_four bytes = slice_index bytes 0 + 256 * slice_index bytes 1 + 65536 * slice_index bytes 2 + 16777216 * slice_index bytes 3
+of_four bytes = slice_index bytes 0 + 256 * slice_index bytes 1 + 65536 * slice_index bytes 2 + 16777216 * slice_index
+    bytes 3
 
 -- a number of four bytes
 unfoldable pub u32_at : Place → Outcome ℕ

@@ -1,5 +1,6 @@
 -- Numbers in LEB128. Core specification, Binary format, Values, Integers.
-use Rattle.std.specs.Prelude.{ℕ, suc, ◌+◌, ◌-◌, ◌*◌, ◌%◌, Bool, ◌||◌, List, [], ◌∷◌, length, take, slice_index, Option, Some, None, option_map, nat_lt, nat_le, Ok, Err, if◌then◌else◌}
+use Rattle.std.specs.Prelude.{ℕ, suc, ◌+◌, ◌-◌, ◌*◌, ◌%◌, Bool, ◌||◌, List, [], ◌∷◌, length, take, slice_index, Option}
+use Rattle.std.specs.Prelude.{Some, None, option_map, nat_lt, nat_le, Ok, Err, if◌then◌else◌}
 use Rattle.wasm_base.specs.FaultAt.{at_offset}
 use Rattle.wasm_base.specs.Outcome.{Outcome}
 use Rattle.wasm_base.specs.Window.{Place, advanced}
@@ -10,7 +11,7 @@ use Rattle.wasm_base.specs.declared.fault.NumberKind.TheVariants.{VarU32, VarI32
 
 -- what bytes say of the number that begins with them
 pub data Number : Type 0 where
-  -- its seven-bit groups have this sum, and it takes this many bytes
+  -- its septets have this sum, and it takes this many bytes
   read : (sum used : ℕ) → Number
   -- this is wrong, at the byte of this place
   bad : (fault : Fault) (place : ℕ) → Number
@@ -46,19 +47,19 @@ abbrev pub last_place : List ℕ → Option ℕ
 last_place [] = None
 last_place (b ∷ bs) = if nat_lt b 128 then Some 0 else option_map suc (last_place bs)
 
--- the sum of these bytes' seven-bit groups, the lowest first
-abbrev pub groups : List ℕ → ℕ
-groups [] = 0
-groups (b ∷ bs) = b % 128 + 128 * groups bs
+-- the sum of these bytes' septets, the lowest first
+abbrev pub septets : List ℕ → ℕ
+septets [] = 0
+septets (b ∷ bs) = b % 128 + 128 * septets bs
 
 -- what the bytes say of a number whose last byte is at this place
 abbrev pub ends_at : NumberKind → List ℕ → Option ℕ → Number
 ends_at kind bytes None =
     if nat_lt (length bytes) (most_bytes kind) then short else bad (NumberTooLong kind) (most_bytes kind - 1)
 ends_at kind bytes (Some i) =
-    if nat_lt (suc i) (most_bytes kind) then read (groups (take (suc i) bytes)) (suc i) else
+    if nat_lt (suc i) (most_bytes kind) then read (septets (take (suc i) bytes)) (suc i) else
     if nat_lt (most_bytes kind) (suc i) then bad (NumberTooLong kind) (most_bytes kind - 1) else
-    if is_unused_right kind (slice_index bytes i) then read (groups (take (suc i) bytes)) (suc i) else
+    if is_unused_right kind (slice_index bytes i) then read (septets (take (suc i) bytes)) (suc i) else
     bad (NumberTooLarge kind) i
 
 -- what bytes say of the number of this kind that begins with them

@@ -39,8 +39,10 @@ abbrev pub InTurn : {A : Type 0} → (Place → Outcome A → Type 0) → ℕ �
 InTurn meaning zero p (Ok (items, q)) = (items ≡ []) × (q ≡ p)
 InTurn meaning zero p (Err e) = ⊥
 InTurn {A} meaning (suc count) p (Ok ([], q)) = ⊥
-InTurn {A} meaning (suc count) p (Ok (x ∷ items, q)) = (between : Place) × meaning p (Ok (x, between)) × InTurn meaning count between (Ok (items, q))
-InTurn {A} meaning (suc count) p (Err e) = meaning p (Err e) ⊎ ((x : A) × (between : Place) × meaning p (Ok (x, between)) × InTurn meaning count between (Err e))
+InTurn {A} meaning (suc count) p (Ok (x ∷ items, q)) = (between : Place) × meaning p (Ok (x, between))
+    × InTurn meaning count between (Ok (items, q))
+InTurn {A} meaning (suc count) p (Err e) = meaning p (Err e)
+    ⊎ ((x : A) × (between : Place) × meaning p (Ok (x, between)) × InTurn meaning count between (Err e))
 
 -- after a count, so many items; or the count's fault
 abbrev pub AfterCount : {A : Type 0} → (Place → Outcome A → Type 0) → Outcome ℕ → Outcome (List A) → Type 0

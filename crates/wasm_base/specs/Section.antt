@@ -1,5 +1,6 @@
 -- Counted items in a window. Core specification, Binary format, Modules, Sections.
-use Rattle.std.specs.Prelude.{◌≡◌, ℕ, zero, suc, ◌+◌, ◌-◌, ◌<◌, ◌≤◌, ◌⊎◌, Bool, true, false, List, [], ◌∷◌, ◌++◌, length, Option, Some, None, IfSome, Result, Ok, Err, nat_lt, if◌then◌else◌, map}
+use Rattle.std.specs.Prelude.{◌≡◌, ℕ, zero, suc, ◌+◌, ◌-◌, ◌<◌, ◌≤◌, ◌⊎◌, Bool, true, false, List, [], ◌∷◌, ◌++◌}
+use Rattle.std.specs.Prelude.{length, Option, Some, None, IfSome, Result, Ok, Err, nat_lt, if◌then◌else◌, map}
 use Rattle.std.specs.Iterator.{Drains}
 use Rattle.wasm_base.specs.FaultAt.{FaultAt, fault_at, at_offset}
 use Rattle.wasm_base.specs.Hints.{TakesNoMemory, HintsNothing}
@@ -42,17 +43,21 @@ all_items s = record { reader = s.reader; count = s.count; left = s.count; ended
 -- An item is left, and is read by its meaning: the iterator goes on, or ends at its fault.
 abbrev pub ReadsItem : {T : Type 0} → (Place → Outcome T → Type 0) → Items → Option (Result T Error) → Items → Type 0
 ReadsItem meaning s None t = ⊥
-ReadsItem meaning s (Some (Ok x)) t = meaning (place s.reader) (Ok (x, place t.reader)) × (t.left + 1 ≡ s.left) × (t.ended ≡ false)
-ReadsItem meaning s (Some (Err e)) t = meaning (place s.reader) (Err (fault_at e)) × (t.left + 1 ≡ s.left) × (t.ended ≡ true)
+ReadsItem meaning s (Some (Ok x)) t = meaning (place s.reader) (Ok (x, place t.reader)) × (t.left + 1 ≡ s.left)
+    × (t.ended ≡ false)
+ReadsItem meaning s (Some (Err e)) t = meaning (place s.reader) (Err (fault_at e)) × (t.left + 1 ≡ s.left)
+    × (t.ended ≡ true)
 
 -- No item is left: nothing comes, or one fault where the window has bytes left. Either way it is over.
 abbrev pub ReadsEnd : {T : Type 0} → Items → Option (Result T Error) → Items → Type 0
 ReadsEnd s None t = (length (place s.reader).rest ≡ 0) × (t ≡ record s { ended = true })
 ReadsEnd s (Some (Ok x)) t = ⊥
-ReadsEnd s (Some (Err e)) t = (0 < length (place s.reader).rest) × (fault_at e ≡ at_offset SizeMismatch (place s.reader).offset) × (t ≡ record s { ended = true })
+ReadsEnd s (Some (Err e)) t = (0 < length (place s.reader).rest)
+    × (fault_at e ≡ at_offset SizeMismatch (place s.reader).offset) × (t ≡ record s { ended = true })
 
 -- one call of `next`
-pub record NextItem {T : Type 0} (meaning : Place → Outcome T → Type 0) (s : Items) (given : Option (Result T Error)) (t : Items) : Type 0 where
+pub record NextItem {T : Type 0} (meaning : Place → Outcome T → Type 0) (s : Items) (given : Option (Result T Error))
+    (t : Items) : Type 0 where
   pub over : s.ended ≡ true → (given ≡ None) × (t ≡ s)
   pub item : s.ended ≡ false → 0 < s.left → ReadsItem meaning s given t
   pub last : s.ended ≡ false → s.left ≡ 0 → ReadsEnd s given t
@@ -67,7 +72,8 @@ EndsAtFault (Ok x) t = t.ended ≡ false
 EndsAtFault (Err e) t = t.ended ≡ true
 
 -- one call of `next` over items that own lists, for which memory may be refused
-pub record NextItemIn {T : Type 0} (meaning : Place → Outcome T → Type 0) (s : Items) (given : Option (Result T Error)) (t : Items) : Type 0 where
+pub record NextItemIn {T : Type 0} (meaning : Place → Outcome T → Type 0) (s : Items) (given : Option (Result T Error))
+    (t : Items) : Type 0 where
   pub over : s.ended ≡ true → (given ≡ None) × (t ≡ s)
   pub item : s.ended ≡ false → 0 < s.left → ReadsItem (UnlessMemory meaning) s given t
   pub last : s.ended ≡ false → s.left ≡ 0 → ReadsEnd s given t
@@ -109,8 +115,10 @@ item_alone (Err e) = Err (fault_at e)
 
 -- What calls of `next` give from here up to the first `None`, by a relation that each call meets: the items of the
 -- window where the iterator is not over, and nothing where it is. After that `None` nothing comes any more.
-pub record GivesItems {T : Type 0} (next : Items → Option (Result T Error) → Items → Type 0) (meaning : Place → Outcome T → Type 0) (s : Items) : Type 0 where
-  pub items : s.ended ≡ false → (given : List (Result T Error)) → Drains next s given → ItemsOf meaning s.left (place s.reader) (map item_or_fault given)
+pub record GivesItems {T : Type 0} (next : Items → Option (Result T Error) → Items → Type 0)
+    (meaning : Place → Outcome T → Type 0) (s : Items) : Type 0 where
+  pub items : s.ended ≡ false → (given : List (Result T Error)) → Drains next s given
+      → ItemsOf meaning s.left (place s.reader) (map item_or_fault given)
   pub over : s.ended ≡ true → (given : List (Result T Error)) → Drains next s given → given ≡ []
   pub at_most : (given : List (Result T Error)) → Drains next s given → length given ≤ most_items s
   pub after : (t u : Items) (given : Option (Result T Error)) → next s None t → next t given u → given ≡ None
@@ -120,7 +128,8 @@ abbrev pub SameItem : {T : Type 0} → (Place → Outcome T → Type 0) → T �
 SameItem meaning x y = ((p : Place) × (q : Place) × meaning p (Ok (x, q)) × meaning p (Ok (y, q))) × Alike meaning x y
 
 -- item by item the same, and the same faults
-abbrev pub SameItems : {T : Type 0} → (Place → Outcome T → Type 0) → List (Result T FaultAt) → List (Result T FaultAt) → Type 0
+abbrev pub SameItems : {T : Type 0} → (Place → Outcome T → Type 0) → List (Result T FaultAt) → List (Result T FaultAt)
+    → Type 0
 SameItems meaning [] [] = Unit {0}
 SameItems meaning [] (y ∷ ys) = ⊥
 SameItems meaning (x ∷ xs) [] = ⊥
@@ -129,17 +138,50 @@ SameItems meaning (Ok x ∷ xs) (Err f ∷ ys) = ⊥
 SameItems meaning (Err e ∷ xs) (Ok y ∷ ys) = ⊥
 SameItems meaning (Err e ∷ xs) (Err f ∷ ys) = (e ≡ f) × SameItems meaning xs ys
 
--- Two iterators give the same items and the same fault, each by a relation that its calls of `next` meet; views say
--- what counts of what they give.
-abbrev pub GivesTheSame : {T A B : Type 0} → (Place → Outcome T → Type 0) → (Items → Option A → Items → Type 0) → (A → Result T FaultAt) → Items → (Items → Option B → Items → Type 0) → (B → Result T FaultAt) → Items → Type 0
-GivesTheSame {T} {A} {B} meaning next view s others_next others_view t = (given : List A) (others : List B) → Drains next s given → Drains others_next t others → SameItems meaning (map view given) (map others_view others)
+-- a run over items: what each call of `next` meets, what counts of what it gives, and where it begins
+pub record Run (T A : Type 0) : Type 1 where
+  pub next : Items → Option A → Items → Type 0
+  pub view : A → Result T FaultAt
+  pub from : Items
+
+abbrev pub run_over : {T : Type 0} → (Items → Option (Result T Error) → Items → Type 0) → Items → Run T (Result T Error)
+run_over next s = record { next = next; view = item_or_fault; from = s }
+
+abbrev pub run_with_offsets : {T : Type 0} → (Items → Option (Result (ℕ × T) Error) → Items → Type 0) → Items
+    → Run T (Result (ℕ × T) Error)
+run_with_offsets next s = record { next = next; view = item_alone; from = s }
+
+-- What two runs give, each up to the first `None`, agrees in this way.
+abbrev pub RunsAgree : {T A B : Type 0} → (List (Result T FaultAt) → List (Result T FaultAt) → Type 0) → Run T A
+    → Run T B → Type 0
+RunsAgree {T} {A} {B} agree one other = (given : List A) (others : List B) → Drains one.next one.from given
+    → Drains other.next other.from others → agree (map one.view given) (map other.view others)
+
+-- They give the same items and the same fault.
+abbrev pub GivesTheSame : {T A B : Type 0} → (Place → Outcome T → Type 0) → Run T A → Run T B → Type 0
+GivesTheSame meaning one other = RunsAgree (SameItems meaning) one other
 
 -- They give lists that are equal.
-abbrev pub GivesEqual : {T A B : Type 0} → (Items → Option A → Items → Type 0) → (A → Result T FaultAt) → Items → (Items → Option B → Items → Type 0) → (B → Result T FaultAt) → Items → Type 0
-GivesEqual {T} {A} {B} next view s others_next others_view t = (given : List A) (others : List B) → Drains next s given → Drains others_next t others → map view given ≡ map others_view others
+abbrev pub GivesEqual : {T A B : Type 0} → Run T A → Run T B → Type 0
+GivesEqual one other = RunsAgree (λ xs ys. xs ≡ ys) one other
+
+-- the same of runs by the same relation, from two places
+abbrev pub SameRuns : {T : Type 0} → (Place → Outcome T → Type 0) → (Items → Option (Result T Error) → Items → Type 0)
+    → (s t : Items) → Type 0
+SameRuns meaning next s t = GivesTheSame meaning (run_over next s) (run_over next t)
+
+abbrev pub EqualRuns : {T : Type 0} → (Items → Option (Result T Error) → Items → Type 0) → (s t : Items) → Type 0
+EqualRuns next s t = GivesEqual (run_over next s) (run_over next t)
+
+-- This holds of the items of a section and of those of a copy of it.
+abbrev pub OfCopies : (is_copy : Section → Section → Type 0) (begins : Section → Items → Type 0)
+    → ((s t : Items) → Type 0) → Type 0
+OfCopies is_copy begins agree = (section copy : Section) → is_copy section copy → (s t : Items) → begins section s
+    → begins copy t → agree s t
 
 -- item by item the same, and the same faults, up to a want of memory in either of them
-abbrev pub SameUnlessMemory : {T : Type 0} → (Place → Outcome T → Type 0) → List (Result T FaultAt) → List (Result T FaultAt) → Type 0
+abbrev pub SameUnlessMemory : {T : Type 0} → (Place → Outcome T → Type 0) → List (Result T FaultAt)
+    → List (Result T FaultAt) → Type 0
 SameUnlessMemory meaning [] [] = Unit {0}
 SameUnlessMemory meaning [] (y ∷ ys) = ⊥
 SameUnlessMemory meaning (x ∷ xs) [] = ⊥
@@ -148,10 +190,10 @@ SameUnlessMemory meaning (Ok x ∷ xs) (Err f ∷ ys) = f ≡ out_of_memory
 SameUnlessMemory meaning (Err e ∷ xs) (Ok y ∷ ys) = e ≡ out_of_memory
 SameUnlessMemory meaning (Err e ∷ xs) (Err f ∷ ys) = (e ≡ f) ⊎ (e ≡ out_of_memory) ⊎ (f ≡ out_of_memory)
 
--- Two runs over items that own lists give the same items and the same fault, up to a want of memory, each by a relation
--- that its calls of `next` meet.
-abbrev pub GivesTheSameUnlessMemory : {T : Type 0} → (Place → Outcome T → Type 0) → (Items → Option (Result T Error) → Items → Type 0) → Items → Items → Type 0
-GivesTheSameUnlessMemory {T} meaning next s t = (given others : List (Result T Error)) → Drains next s given → Drains next t others → SameUnlessMemory meaning (map item_or_fault given) (map item_or_fault others)
+-- Two runs over items that own lists give the same items and the same fault, up to a want of memory.
+abbrev pub GivesTheSameUnlessMemory : {T : Type 0} → (Place → Outcome T → Type 0)
+    → (Items → Option (Result T Error) → Items → Type 0) → (s t : Items) → Type 0
+GivesTheSameUnlessMemory meaning next s t = RunsAgree (SameUnlessMemory meaning) (run_over next s) (run_over next t)
 
 -- as an item that was read
 abbrev pub as_read : {T : Type 0} → T → Result T FaultAt

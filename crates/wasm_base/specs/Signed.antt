@@ -5,11 +5,11 @@ use Rattle.wasm_base.specs.Outcome.{Outcome, ◌>>=◌}
 use Rattle.wasm_base.specs.Window.{Place}
 use Rattle.wasm_base.specs.declared.fault.NumberKind.{NumberKind}
 
--- the signed number whose groups, in so many bytes, have this sum: the highest bit of its last group is its sign
+-- the signed number whose septets, in so many bytes, have this sum: the highest bit of its last septet is its sign
 abbrev pub signed_value : (sum used : ℕ) → ℤ
 signed_value sum used = if nat_lt (2 * sum) (2 ^ (7 * used)) then pos sum else pos sum -ℤ pos (2 ^ (7 * used))
 
--- reading a signed number of this kind: its groups, with a sign
+-- reading a signed number of this kind: its septets, with a sign
 unfoldable pub signed_at : NumberKind → Place → Outcome ℤ
 signed_at kind p = do
   sum ← unsigned_at kind p

@@ -35,6 +35,8 @@ abbrev pub NeverGoesBack : (Window → Result (Unit {0}) Error → Window → Ty
 NeverGoesBack calls = (old new : Window) (given : Result (Unit {0}) Error) → calls old given new → KeepsWindow old new
 
 -- The call passed over these bytes of the window, and they are the window that is returned; or it answered this error.
-abbrev pub PassesOver : (Window → Result (Unit {0}) Error → Window → Type 0) → Window → Result Window Error → Window → Type 0
-PassesOver calls old (Ok window) new = calls old (Ok tt) new × (window ≡ window_of (new.position - old.position) (place old))
+abbrev pub PassesOver : (Window → Result (Unit {0}) Error → Window → Type 0) → Window → Result Window Error → Window
+    → Type 0
+PassesOver calls old (Ok window) new = calls old (Ok tt) new
+    × (window ≡ window_of (new.position - old.position) (place old))
 PassesOver calls old (Err e) new = calls old (Err e) new

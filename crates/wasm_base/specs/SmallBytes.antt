@@ -8,8 +8,8 @@ abbrev pub is_large : ℕ → Bool
 is_large b = nat_le 128 b
 
 -- a bit for each such byte, that of the first byte the lowest
-abbrev pub large_bytes : List ℕ → ℕ
-large_bytes bytes = mask_l (map is_large bytes)
+abbrev pub continuation_bytes : List ℕ → ℕ
+continuation_bytes bytes = mask_l (map is_large bytes)
 
 -- how many bytes come before the first such one
 abbrev pub small_prefix : List ℕ → ℕ

@@ -1,6 +1,7 @@
 -- Subsections of a window. Tool conventions, Linking, Linking Metadata Section; core specification, Appendix, Custom
 -- Sections, Name Section, Subsections.
-use Rattle.std.specs.Prelude.{◌≡◌, ℕ, ◌<◌, ◌≤◌, ◌⊎◌, Bool, false, IsTrue, List, [], ◌∷◌, length, Option, Some, None, Result, Ok, Err, map}
+use Rattle.std.specs.Prelude.{◌≡◌, ℕ, ◌<◌, ◌≤◌, ◌⊎◌, Bool, false, IsTrue, List, [], ◌∷◌, length, Option, Some, None}
+use Rattle.std.specs.Prelude.{Result, Ok, Err, map}
 use Rattle.std.specs.Iterator.{Drains}
 use Rattle.wasm_base.specs.FaultAt.{FaultAt}
 use Rattle.wasm_base.specs.Hints.{TakesNoMemory}
@@ -30,41 +31,53 @@ unfoldable pub after_refused : Place → Place
 after_refused p = after_id p (u7_at p)
 
 -- What is said of a subsection is what its id and its window mean, or a want of memory where it takes memory.
-abbrev pub UnlessTaken : {T : Type 0} → (ℕ → Window → Result T FaultAt → Type 0) → Bool → ℕ → Window → Result T FaultAt → Type 0
+abbrev pub UnlessTaken : {T : Type 0} → (ℕ → Window → Result T FaultAt → Type 0) → Bool → ℕ → Window → Result T FaultAt
+    → Type 0
 UnlessTaken meaning takes id window (Ok x) = meaning id window (Ok x)
 UnlessTaken meaning takes id window (Err e) = meaning id window (Err e) ⊎ (IsTrue takes × (e ≡ out_of_memory))
 
 -- What a call returned for a subsection of this id is what its window means.
-abbrev pub MeansSubsection : {T : Type 0} → (ℕ → Window → Result T FaultAt → Type 0) → Bool → ℕ → Window → Result T Error → Type 0
+abbrev pub MeansSubsection : {T : Type 0} → (ℕ → Window → Result T FaultAt → Type 0) → Bool → ℕ → Window
+    → Result T Error → Type 0
 MeansSubsection meaning takes id window result = UnlessTaken meaning takes id window (item_or_fault result)
 
--- The subsection that was read at a place means this, and its reader is after it; or its id or size has this fault, and its
--- reader is after the bytes that reading them takes.
-abbrev pub ReadsSubsection : {T : Type 0} → (ℕ → Window → Result T FaultAt → Type 0) → Bool → Place → Outcome (ℕ × Window) → Result T Error → Place → Type 0
-ReadsSubsection meaning takes p (Ok head) given after = MeansSubsection meaning takes head.0.0 head.0.1 given × (after ≡ head.1)
+-- The subsection that was read at a place means this, and its reader is after it; or its id or size has this fault, and
+-- its reader is after the bytes that reading them takes.
+abbrev pub ReadsSubsection : {T : Type 0} → (ℕ → Window → Result T FaultAt → Type 0) → Bool → Place
+    → Outcome (ℕ × Window) → Result T Error → Place → Type 0
+ReadsSubsection meaning takes p (Ok head) given after = MeansSubsection meaning takes head.0.0 head.0.1 given
+    × (after ≡ head.1)
 ReadsSubsection meaning takes p (Err fault) given after = (item_or_fault given ≡ Err fault) × (after ≡ after_refused p)
 
--- one call of `next`: a subsection for as long as bytes are left, and each takes one of them at least; no want of memory where
--- no subsection takes any
-abbrev pub NextSubsection : {T : Type 0} → (ℕ → Window → Result T FaultAt → Type 0) → Bool → Window → Option (Result T Error) → Window → Type 0
+-- one call of `next`: a subsection for as long as bytes are left, and each takes one of them at least; no want of
+-- memory where no subsection takes any
+abbrev pub NextSubsection : {T : Type 0} → (ℕ → Window → Result T FaultAt → Type 0) → Bool → Window
+    → Option (Result T Error) → Window → Type 0
 NextSubsection meaning takes s None t = (length (place s).rest ≡ 0) × (t ≡ s)
-NextSubsection meaning takes s (Some given) t = ReadsSubsection meaning takes (place s) (subsection_at (place s)) given (place t) × KeepsWindow s t × (s.position < t.position) × (0 < length (place s).rest) × (takes ≡ false → TakesNoMemory given)
+NextSubsection meaning takes s (Some given) t = ReadsSubsection meaning takes (place s) (subsection_at (place s)) given
+    (place t) × KeepsWindow s t × (s.position < t.position) × (0 < length (place s).rest)
+    × (takes ≡ false → TakesNoMemory given)
 
--- What comes first of the subsections of a window: what the first one means, and the others are those after it. After the
--- fault of an id or a size the others are those after the bytes that reading these takes.
-abbrev pub FirstSubsection : {T : Type 0} → (ℕ → Window → Result T FaultAt → Type 0) → Place → Outcome (ℕ × Window) → Result T FaultAt → (Place → Type 0) → Type 0
+-- What comes first of the subsections of a window: what the first one means, and the others are those after it. After
+-- the fault of an id or a size the others are those after the bytes that reading these takes.
+abbrev pub FirstSubsection : {T : Type 0} → (ℕ → Window → Result T FaultAt → Type 0) → Place → Outcome (ℕ × Window)
+    → Result T FaultAt → (Place → Type 0) → Type 0
 FirstSubsection meaning p (Ok head) given Others = meaning head.0.0 head.0.1 given × Others head.1
 FirstSubsection meaning p (Err fault) given Others = (given ≡ Err fault) × Others (after_refused p)
 
 -- The subsections that a window has from a place on, one after the other to the end.
-abbrev pub SubsectionsOf : {T : Type 0} → (ℕ → Window → Result T FaultAt → Type 0) → Place → List (Result T FaultAt) → Type 0
+abbrev pub SubsectionsOf : {T : Type 0} → (ℕ → Window → Result T FaultAt → Type 0) → Place → List (Result T FaultAt)
+    → Type 0
 SubsectionsOf meaning p [] = length p.rest ≡ 0
-SubsectionsOf meaning p (x ∷ given) = (0 < length p.rest) × FirstSubsection meaning p (subsection_at p) x (λ q. SubsectionsOf meaning q given)
+SubsectionsOf meaning p (x ∷ given) = (0 < length p.rest)
+    × FirstSubsection meaning p (subsection_at p) x (λ q. SubsectionsOf meaning q given)
 
--- What calls of `next` give from here up to the first `None`, by a relation that each call meets: the subsections of the
--- window, at most as many as bytes are left. After that `None` nothing comes any more.
-pub record GivesSubsections {T : Type 0} (next : Window → Option (Result T Error) → Window → Type 0) (meaning : ℕ → Window → Result T FaultAt → Type 0) (s : Window) : Type 0 where
-  pub subsections : (given : List (Result T Error)) → Drains next s given → SubsectionsOf meaning (place s) (map item_or_fault given)
+-- What calls of `next` give from here up to the first `None`, by a relation that each call meets: the subsections of
+-- the window, at most as many as bytes are left. After that `None` nothing comes any more.
+pub record GivesSubsections {T : Type 0} (next : Window → Option (Result T Error) → Window → Type 0)
+    (meaning : ℕ → Window → Result T FaultAt → Type 0) (s : Window) : Type 0 where
+  pub subsections : (given : List (Result T Error)) → Drains next s given
+      → SubsectionsOf meaning (place s) (map item_or_fault given)
   pub at_most : (given : List (Result T Error)) → Drains next s given → length given ≤ length (place s).rest
   pub after : (t u : Window) (given : Option (Result T Error)) → next s None t → next t given u → given ≡ None
 
@@ -74,5 +87,6 @@ result_map view (Ok x) = Ok (view x)
 result_map view (Err e) = Err e
 
 -- The one thing that a subsection's id and window are read as, where view is what counts of a value.
-abbrev pub ReadsWindowAs : {X Y : Type 0} → (X → Y) → (ℕ → Window → Result Y FaultAt) → ℕ → Window → Result X FaultAt → Type 0
+abbrev pub ReadsWindowAs : {X Y : Type 0} → (X → Y) → (ℕ → Window → Result Y FaultAt) → ℕ → Window → Result X FaultAt
+    → Type 0
 ReadsWindowAs view reading id window outcome = reading id window ≡ result_map view outcome

@@ -1,6 +1,6 @@
 -- How wide numbers in LEB128 are, in bits. Core specification, Binary format, Values, Integers.
 use Rattle.std.specs.Prelude.{◌≡◌, ◌↔◌, ℕ, ◌-◌, ◌*◌, ◌/◌, ◌%◌, ◌^◌, ◌<◌, ◌≤◌, Bool, true, false, IsTrue, if◌then◌else◌}
-use Rattle.wasm_base.specs.Groups.{sum_bound}
+use Rattle.wasm_base.specs.Septets.{sum_bound}
 use Rattle.wasm_base.specs.Number.{most_bytes, bits_of, is_unused_right}
 use Rattle.wasm_base.specs.declared.fault.NumberKind.{NumberKind}
 use Rattle.wasm_base.specs.declared.fault.NumberKind.TheVariants.{VarU32, VarI32, VarU64, VarI64, VarS33}
@@ -31,8 +31,9 @@ IsLongEnough kind = (bits_of kind ≤ 7 * most_bytes kind) × (7 * (most_bytes k
 
 -- The unused bits of the last byte that a number may take are right exactly if each is as it has to be.
 abbrev pub ChecksUnused : NumberKind → Type 0
-ChecksUnused kind = (b : ℕ) → b < 128 → IsTrue (is_unused_right kind b) ↔ ((k : ℕ) → last_bits kind ≤ k → k < 7 → bit k b ≡ unused_bit kind b)
+ChecksUnused kind = (b : ℕ) → b < 128 → IsTrue (is_unused_right kind b)
+    ↔ ((k : ℕ) → last_bits kind ≤ k → k < 7 → bit k b ≡ unused_bit kind b)
 
--- The groups of a number have the bits of its value, or for a signed kind all bits of its bytes.
+-- The septets of a number have the bits of its value, or for a signed kind all bits of its bytes.
 abbrev pub BoundsSum : NumberKind → Type 0
 BoundsSum kind = sum_bound kind ≡ 2 ^ (if is_signed kind then 7 * most_bytes kind else bits_of kind)

@@ -34,7 +34,12 @@ window_over features offset bytes = record { features = features; start = offset
 
 -- the window from one place to a later one
 abbrev pub window_between : (p q : Place) → Window
-window_between p q = record { features = p.features; start = p.offset; bytes = take (q.offset - p.offset) p.rest; position = 0 }
+window_between p q = record {
+  features = p.features;
+  start = p.offset;
+  bytes = take (q.offset - p.offset) p.rest;
+  position = 0;
+}
 
 -- the offsets of a window, and of what its reader has before it
 abbrev pub range_of : Window → Range ℕ

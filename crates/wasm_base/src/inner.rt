@@ -14,24 +14,24 @@ use crate::reader::BinaryReader;
 use crate::section::SectionLimited;
 
 /// What a list inside an item can hold: it can be passed over, and read later.
-pub trait InnerItem<'a>: FromReader<'a> {
+pub trait SkipItem<'a>: FromReader<'a> {
     /// The place after what is passed over, or its fault.
     ghost passed_at: { Place → Outcome (Unit {0}) };
 
     /// Passes over an item.
     ///
     /// After a fault the reader is in its window, and not before where it was. A fault is never `OutOfMemory`.
-    fn pass_over(reader: &mut BinaryReader<'a>) -> Result<()>
+    fn skip_item(reader: &mut BinaryReader<'a>) -> Result<()>
         ensures gives { GivesBy (λ nothing. nothing) result reader.old reader.new passed_at }
         ensures keeps { KeepsWindow reader.old reader.new }
         ensures memory { TakesNoMemory result };
 }
 
 /// A name of at most 100,000 bytes, which need not be UTF-8.
-impl<'a> InnerItem<'a> for &'a str {
+impl<'a> SkipItem<'a> for &'a str {
     ghost passed_at = { skipped_name_at };
 
-    fn pass_over(reader: &mut BinaryReader<'a>) -> Result<()> {
+    fn skip_item(reader: &mut BinaryReader<'a>) -> Result<()> {
         reader.skip_string()
     }
 }
@@ -47,14 +47,14 @@ pub fn passed_since<'a>(before: &BinaryReader<'a>, after: &BinaryReader<'a>) -> 
 }
 
 // Passes over so many items, one after the other.
-fn pass_items<'a, T: InnerItem<'a>>(count: u32, reader: &mut BinaryReader<'a>) -> Result<()>
+fn pass_items<'a, T: SkipItem<'a>>(count: u32, reader: &mut BinaryReader<'a>) -> Result<()>
     ensures gives { GivesBy (λ nothing. nothing) result reader.old reader.new
         (all_passed_at T.passed_at count) }
     ensures keeps { KeepsWindow reader.old reader.new }
     ensures memory { TakesNoMemory result }
 {
     'items: for _ in 0..count {
-        T::pass_over(reader)?;
+        T::skip_item(reader)?;
     }
     Ok(())
 }
@@ -63,7 +63,7 @@ fn pass_items<'a, T: InnerItem<'a>>(count: u32, reader: &mut BinaryReader<'a>) -
 ///
 /// The faults are those of the count, a u32, and of passing over the items.
 #[tactic(auto, unfolding(crate::specs::Inner::inner_section_at))]
-pub fn read_inner<'a, T: InnerItem<'a>>(
+pub fn read_inner<'a, T: SkipItem<'a>>(
     reader: &mut BinaryReader<'a>,
 ) -> Result<SectionLimited<'a, T>>
     ensures gives { GivesBy (λ section. section) result reader.old reader.new

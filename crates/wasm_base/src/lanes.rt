@@ -1,6 +1,6 @@
 // Bytes below 128, looked at 32 at once: each is a number in LEB128 of one byte.
 ghost use Rattle.std.specs.Prelude.{◌≡◌, ◌<◌, ◌≤◌, ◌↔◌, IsTrue, All};
-ghost use Rattle.wasm_base.specs.SmallBytes.{large_bytes, small_prefix};
+ghost use Rattle.wasm_base.specs.SmallBytes.{continuation_bytes, small_prefix};
 
 use std::simd::prelude::*;
 
@@ -9,8 +9,8 @@ pub(crate) const LANES: usize = 32;
 
 // A bit for each byte of 128 or more, that of the first byte the lowest.
 #[inline(always)]
-fn large_bytes(bytes: u8x32) -> u64
-    ensures { result ≡ large_bytes bytes }
+fn continuation_bytes(bytes: u8x32) -> u64
+    ensures { result ≡ continuation_bytes bytes }
 {
     bytes.simd_ge(u8x32::splat(128)).to_bitmask()
 }
@@ -20,16 +20,16 @@ fn large_bytes(bytes: u8x32) -> u64
 pub(crate) fn are_below_128(bytes: u8x32) -> bool
     ensures { IsTrue result ↔ All (λ b. b < 128) bytes }
 {
-    large_bytes(bytes) == 0
+    continuation_bytes(bytes) == 0
 }
 
 /// How many bytes below 128 come before the first larger one.
 #[inline(always)]
-pub(crate) fn small_run(bytes: u8x32) -> usize
+pub(crate) fn single_byte_run(bytes: u8x32) -> usize
     ensures run { result ≡ small_prefix bytes }
     ensures few { result ≤ 32 }
 {
-    let large = large_bytes(bytes);
+    let large = continuation_bytes(bytes);
     if large == 0 {
         return LANES;
     }

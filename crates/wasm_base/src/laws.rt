@@ -9,7 +9,8 @@ ghost use Rattle.wasm_base.specs.Float.{bits_of_32, bits_of_64};
 ghost use Rattle.wasm_base.specs.Inner.{PassesAsRead};
 ghost use Rattle.wasm_base.specs.Item.{AllowsOne, Determines};
 ghost use Rattle.wasm_base.specs.Owned.{UnlessMemory};
-ghost use Rattle.wasm_base.specs.Section.{Section, Items, AtItsOffset, GivesItems, GivesTheSame, GivesTheSameUnlessMemory, GivesEqual, all_items, item_or_fault, item_alone};
+ghost use Rattle.wasm_base.specs.Section.{Section, Items, AtItsOffset, GivesItems, GivesTheSame, GivesEqual, SameRuns, EqualRuns, OfCopies};
+ghost use Rattle.wasm_base.specs.Section.{GivesTheSameUnlessMemory, run_over, run_with_offsets, all_items};
 ghost use Rattle.wasm_base.specs.Subsections.{UnlessTaken, GivesSubsections};
 ghost use Rattle.wasm_base.specs.Widths.{IsLongEnough, ChecksUnused, BoundsSum};
 ghost use Rattle.wasm_base.specs.Window.{Window};
@@ -18,7 +19,7 @@ use crate::error::Error;
 use crate::fault::{CoreStart, Fault, Lead, NumberKind};
 use crate::features::WasmFeatures;
 use crate::float::{Ieee32, Ieee64};
-use crate::inner::InnerItem;
+use crate::inner::SkipItem;
 use crate::item::FromReader;
 use crate::limits::{
     _MAX_WASM_TABLE_SIZE, DEFAULT_WASM_PAGE_SIZE, MAX_WASM_BR_TABLE_SIZE, MAX_WASM_CATCHES,
@@ -65,38 +66,30 @@ pub fn owned_items_of_a_window<'a, T: FromReaderIn<'a>>()
 pub fn subsections_of_a_window<'a, T: Subsection<'a>>()
     ensures { (s : Window) →
         GivesSubsections ⟦<Subsections<'a, T> as Iterator>⟧.next_gives
-        (UnlessTaken T.meaning T.Memory.TAKES_MEMORY) s }
+        (UnlessTaken T.meaning T.Allocation.ALLOCATES) s }
 {}
 
 /// Both iterators give the same items and the same fault, where the meaning of an item allows one outcome: equal
 /// ones, where it determines the value and all.
 pub fn both_iterators_give_the_same_items<'a, T: FromReader<'a>>()
-    ensures same { AllowsOne T.meaning → (s : Items) →
-        GivesTheSame T.meaning
-        ⟦<SectionLimitedIntoIter<'a, T> as Iterator>⟧.next_gives item_or_fault s
-        ⟦<SectionLimitedIntoIterWithOffsets<'a, T> as Iterator>⟧.next_gives item_alone s }
-    ensures equal { Determines T.meaning → (s : Items) →
-        GivesEqual
-        ⟦<SectionLimitedIntoIter<'a, T> as Iterator>⟧.next_gives item_or_fault s
-        ⟦<SectionLimitedIntoIterWithOffsets<'a, T> as Iterator>⟧.next_gives item_alone s }
+    ensures same { AllowsOne T.meaning → (s : Items) → GivesTheSame T.meaning
+        (run_over ⟦<SectionLimitedIntoIter<'a, T> as Iterator>⟧.next_gives s)
+        (run_with_offsets ⟦<SectionLimitedIntoIterWithOffsets<'a, T> as Iterator>⟧.next_gives s) }
+    ensures equal { Determines T.meaning → (s : Items) → GivesEqual
+        (run_over ⟦<SectionLimitedIntoIter<'a, T> as Iterator>⟧.next_gives s)
+        (run_with_offsets ⟦<SectionLimitedIntoIterWithOffsets<'a, T> as Iterator>⟧.next_gives s) }
 {}
 
 /// A clone of a section gives the same items and the same fault, where the meaning of an item allows one outcome.
 pub fn a_clone_gives_the_same_items<'a, T: FromReader<'a>>()
-    ensures same { AllowsOne T.meaning → (section copy : Section) →
-        ⟦<SectionLimited<'a, T> as Clone>⟧.is_clone section copy → (s t : Items) →
-        ⟦<SectionLimited<'a, T> as IntoIterator>⟧.into_iter_gives section s →
-        ⟦<SectionLimited<'a, T> as IntoIterator>⟧.into_iter_gives copy t →
-        GivesTheSame T.meaning
-        ⟦<SectionLimitedIntoIter<'a, T> as Iterator>⟧.next_gives item_or_fault s
-        ⟦<SectionLimitedIntoIter<'a, T> as Iterator>⟧.next_gives item_or_fault t }
-    ensures equal { Determines T.meaning → (section copy : Section) →
-        ⟦<SectionLimited<'a, T> as Clone>⟧.is_clone section copy → (s t : Items) →
-        ⟦<SectionLimited<'a, T> as IntoIterator>⟧.into_iter_gives section s →
-        ⟦<SectionLimited<'a, T> as IntoIterator>⟧.into_iter_gives copy t →
-        GivesEqual
-        ⟦<SectionLimitedIntoIter<'a, T> as Iterator>⟧.next_gives item_or_fault s
-        ⟦<SectionLimitedIntoIter<'a, T> as Iterator>⟧.next_gives item_or_fault t }
+    ensures same { AllowsOne T.meaning → OfCopies
+        ⟦<SectionLimited<'a, T> as Clone>⟧.is_clone
+        ⟦<SectionLimited<'a, T> as IntoIterator>⟧.into_iter_gives
+        (SameRuns T.meaning ⟦<SectionLimitedIntoIter<'a, T> as Iterator>⟧.next_gives) }
+    ensures equal { Determines T.meaning → OfCopies
+        ⟦<SectionLimited<'a, T> as Clone>⟧.is_clone
+        ⟦<SectionLimited<'a, T> as IntoIterator>⟧.into_iter_gives
+        (EqualRuns ⟦<SectionLimitedIntoIter<'a, T> as Iterator>⟧.next_gives) }
 {}
 
 /// A clone of a section gives the same items that own lists and the same fault, up to a want of memory, where the meaning
@@ -113,14 +106,10 @@ pub fn a_clone_gives_the_same_owned_items<'a, T: FromReaderIn<'a>>()
 pub fn a_cloned_iterator_gives_the_same_items<'a, T: FromReader<'a> + Clone>()
     ensures same { AllowsOne T.meaning → (s t : Items) →
         ⟦<SectionLimitedIntoIter<'a, T> as Clone>⟧.is_clone s t →
-        GivesTheSame T.meaning
-        ⟦<SectionLimitedIntoIter<'a, T> as Iterator>⟧.next_gives item_or_fault s
-        ⟦<SectionLimitedIntoIter<'a, T> as Iterator>⟧.next_gives item_or_fault t }
+        SameRuns T.meaning ⟦<SectionLimitedIntoIter<'a, T> as Iterator>⟧.next_gives s t }
     ensures equal { Determines T.meaning → (s t : Items) →
         ⟦<SectionLimitedIntoIter<'a, T> as Clone>⟧.is_clone s t →
-        GivesEqual
-        ⟦<SectionLimitedIntoIter<'a, T> as Iterator>⟧.next_gives item_or_fault s
-        ⟦<SectionLimitedIntoIter<'a, T> as Iterator>⟧.next_gives item_or_fault t }
+        EqualRuns ⟦<SectionLimitedIntoIter<'a, T> as Iterator>⟧.next_gives s t }
 {}
 
 /// Truths, numbers and names allow one outcome, and so does a pair of what allows one. Truths and numbers are
@@ -139,11 +128,11 @@ pub fn these_allow_one_outcome<'a, T: FromReader<'a>, U: FromReader<'a>>()
 
 /// Wherever a name is read, passing over it as an item of an inner list takes the bytes that reading it takes.
 pub fn passing_over_a_name_takes_its_bytes<'a>()
-    ensures { PassesAsRead ⟦<&'a str as FromReader<'a>>⟧.meaning ⟦<&'a str as InnerItem<'a>>⟧.passed_at }
+    ensures { PassesAsRead ⟦<&'a str as FromReader<'a>>⟧.meaning ⟦<&'a str as SkipItem<'a>>⟧.passed_at }
 {}
 
 /// How many bytes a number takes at most, which unused bits its last byte may have, and how large the sum of its
-/// groups is: all three follow from how many bits its value has, and whether it is signed.
+/// septets is: all three follow from how many bits its value has, and whether it is signed.
 pub fn widths_of_numbers()
     ensures bytes { (kind : NumberKind) → IsLongEnough kind }
     ensures unused { (kind : NumberKind) → ChecksUnused kind }
@@ -184,8 +173,8 @@ pub fn equal_errors_are_the_same()
     ensures { DecidesWhether (λ one other. fault_at one ≡ fault_at other) ⟦<Error as PartialEq>⟧.eq }
 {}
 
-/// A copy of a fault, of an error, its hint with it, of a set of features, of a float, of a reader, of a section, of an iterator
-/// over its items or of subsections is the same, and can always be made: it takes no memory.
+/// A copy is the same, and can always be made: it takes no memory. This is so of a fault, an error with its hint, a set of
+/// features, a float, a reader, a section, an iterator over its items, and subsections.
 pub fn copies_are_the_same<'a, T, U: Clone>()
     ensures error { IsCopy ⟦<Error as Clone>⟧.is_clone ⟦<Error as Clone>⟧.is_infallible }
     ensures fault { IsCopy ⟦<Fault as Clone>⟧.is_clone ⟦<Fault as Clone>⟧.is_infallible }

@@ -21,7 +21,7 @@ pub use error::{Error, Result, leading_byte_error};
 pub use fault::{CoreStart, Fault, Lead, NumberKind};
 pub use features::WasmFeatures;
 pub use float::{Ieee32, Ieee64};
-pub use inner::{InnerItem, passed_since, read_inner, read_inner_u32s};
+pub use inner::{SkipItem, passed_since, read_inner, read_inner_u32s};
 pub use item::FromReader;
 pub use limits::{
     _MAX_WASM_TABLE_SIZE, DEFAULT_WASM_PAGE_SIZE, MAX_WASM_BR_TABLE_SIZE, MAX_WASM_CATCHES,
@@ -34,9 +34,9 @@ pub use limits::{
     max_wasm_memory32_pages, max_wasm_memory64_pages,
 };
 pub use owned::{FromReaderIn, read_list, read_list_in};
-pub use reader::{BinaryReader, fits};
+pub use reader::{BinaryReader, MAGIC, fits};
 pub use section::{
     SectionLimited, SectionLimitedIntoIter, SectionLimitedIntoIterIn,
     SectionLimitedIntoIterWithOffsets,
 };
-pub use subsections::{Memory, NoMemory, SomeMemory, Subsection, Subsections};
+pub use subsections::{Allocation, MayAllocate, NeverAllocates, Subsection, Subsections};

@@ -1,8 +1,8 @@
 // Numbers in LEB128, as bytes.
 ghost use Rattle.std.specs.Prelude.{◌≡◌, ◌<◌, ◌≤◌, ◌^◌, ◌*◌, length, take, position};
-ghost use Rattle.wasm_base.specs.Number.{most_bytes, is_unused_right, groups, number};
+ghost use Rattle.wasm_base.specs.Number.{most_bytes, is_unused_right, septets, number};
 ghost use Rattle.wasm_base.specs.Found.{number_of, IsWithin};
-ghost use Rattle.wasm_base.specs.Groups.{is_last};
+ghost use Rattle.wasm_base.specs.Septets.{is_last};
 ghost use Rattle.wasm_base.specs.Signed.{signed_value, FitsBits};
 
 use crate::fault::{Fault, NumberKind};
@@ -44,10 +44,10 @@ fn last_of(bytes: &[u8], limit: usize) -> Option<usize>
     bytes.iter().take(limit).position(|b| *b < 128)
 }
 
-// The groups of seven bits, put together.
-fn sum_of_groups(bytes: &[u8]) -> u128
+// The septets, put together.
+fn sum_of_septets(bytes: &[u8]) -> u128
     requires { length bytes.now ≤ 10 }
-    ensures { result ≡ groups bytes.now }
+    ensures { result ≡ septets bytes.now }
 {
     let mut sum = 0u128;
     let mut weight = 1u128;
@@ -98,12 +98,12 @@ fn long_number_in(kind: NumberKind, bytes: &[u8]) -> Found
         };
     }
     Found::Read {
-        sum: sum_of_groups(&bytes[..last + 1]),
+        sum: sum_of_septets(&bytes[..last + 1]),
         used: last + 1,
     }
 }
 
-/// The signed number whose groups, in so many bytes, have this sum.
+/// The signed number whose septets, in so many bytes, have this sum.
 pub(crate) fn signed_of(sum: u128, used: u64) -> i64
     requires used { used ≤ 10 }
     requires sum { sum < 2 ^ 70 }

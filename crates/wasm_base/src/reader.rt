@@ -3,9 +3,9 @@ ghost use Rattle.std.specs.Fn.{FnOnceReturnsAtMut};
 ghost use Rattle.std.specs.Prelude.{⊤, ◌≡◌, ◌+◌, ◌<◌, ◌≤◌, ◌^◌, ◌==◌, ◌↔◌, IsTrue, IfOk, OnOk, OnErr, Some, None, length, true};
 ghost use Rattle.std.specs.Int.RustNames.{bit_and};
 ghost use Rattle.wasm_base.specs.FaultAt.{fault_at, at_offset, hint_of};
-ghost use Rattle.wasm_base.specs.Features.{feature_bits};
+ghost use Rattle.wasm_base.specs.Features.{feature_bits, all_features};
 ghost use Rattle.wasm_base.specs.Float.{bits_of_32, bits_of_64, u64_at};
-ghost use Rattle.wasm_base.specs.Groups.{sum_bound};
+ghost use Rattle.wasm_base.specs.Septets.{sum_bound};
 ghost use Rattle.wasm_base.specs.Header.{agree, magic, header_version_at};
 ghost use Rattle.wasm_base.specs.Hints.{TakesNoMemory, Hints, missing_at, missing_of_sized, missing_of_header};
 ghost use Rattle.wasm_base.specs.Item.{Means};
@@ -25,7 +25,7 @@ use crate::fault::{Fault, NumberKind};
 use crate::features::WasmFeatures;
 use crate::float::{Ieee32, Ieee64};
 use crate::item::FromReader;
-use crate::lanes::{LANES, are_below_128, small_run};
+use crate::lanes::{LANES, are_below_128, single_byte_run};
 use crate::limits::MAX_WASM_STRING_SIZE;
 use crate::number::{Found, number_in, signed_of};
 use bitflags::Flags;
@@ -93,7 +93,7 @@ impl<'a> BinaryReader<'a> {
     /// A reader of bytes that begin at this offset of the stream, with all features. `fits` says whether they may.
     pub fn new(bytes: &'a [u8], offset: u64) -> Self
         requires { offset + length bytes.now < 2 ^ 64 }
-        ensures { result ≡ window_over 3 offset bytes.now }
+        ensures { result ≡ window_over all_features offset bytes.now }
     {
         BinaryReader::new_features(bytes, offset, WasmFeatures::all())
     }
@@ -190,7 +190,7 @@ impl<'a> BinaryReader<'a> {
     }
 
     // Passes over bytes that are there.
-    fn advance(&mut self, len: usize)
+    fn move_past(&mut self, len: usize)
         requires { len ≤ length (place self.old).rest }
         ensures place { place self.new ≡ advanced len (place self.old) }
         ensures keeps { KeepsWindow self.old self.new }
@@ -248,7 +248,7 @@ impl<'a> BinaryReader<'a> {
         ensures unmoved { OnErr result (self.new ≡ self.old) }
     {
         let bytes = self.peek_bytes(len)?;
-        self.advance(len);
+        self.move_past(len);
         Ok(bytes)
     }
 
@@ -261,7 +261,7 @@ impl<'a> BinaryReader<'a> {
         ensures unmoved { OnErr result (self.new ≡ self.old) }
     {
         let byte = self.peek()?;
-        self.advance(1);
+        self.move_past(1);
         Ok(byte)
     }
 
@@ -321,9 +321,9 @@ impl<'a> BinaryReader<'a> {
         Ok(Ieee64(u64::from(low) + 4294967296 * u64::from(high)))
     }
 
-    // The groups of the number of this kind.
+    // The septets of the number of this kind.
     #[tactic(auto, unfolding(crate::specs::Number::unsigned_at))]
-    fn read_groups(&mut self, kind: NumberKind) -> Result<u128>
+    fn read_septets(&mut self, kind: NumberKind) -> Result<u128>
         ensures gives { GivesBy (λ n. n) result self.old self.new (unsigned_at kind) }
         ensures keeps { KeepsWindow self.old self.new }
         ensures hints { Hints 1 result }
@@ -335,7 +335,7 @@ impl<'a> BinaryReader<'a> {
         let rest = self.remaining_buffer();
         match number_in(kind, rest) {
             Found::Read { sum, used } => {
-                self.advance(used);
+                self.move_past(used);
                 Ok(sum)
             }
             Found::Bad { fault, place } => {
@@ -361,7 +361,7 @@ impl<'a> BinaryReader<'a> {
         ensures unmoved { OnErr result (self.new ≡ self.old) }
         ensures moves { OnOk result ((place self.old).offset < (place self.new).offset) }
     {
-        Ok(self.read_groups(NumberKind::VarU32)? as u32)
+        Ok(self.read_septets(NumberKind::VarU32)? as u32)
     }
 
     // How many bytes reading a number of this kind takes, whatever they say.
@@ -389,7 +389,7 @@ impl<'a> BinaryReader<'a> {
         match self.read_var_u32() {
             Ok(number) => Ok(number),
             Err(e) => {
-                self.advance(self.bytes_of_number(NumberKind::VarU32));
+                self.move_past(self.bytes_of_number(NumberKind::VarU32));
                 Err(e)
             }
         }
@@ -411,11 +411,11 @@ impl<'a> BinaryReader<'a> {
             }
             let bytes = u8x32::from_slice(rest);
             if !are_below_128(bytes) {
-                let run = small_run(bytes);
-                self.advance(run);
+                let run = single_byte_run(bytes);
+                self.move_past(run);
                 return left - run;
             }
-            self.advance(LANES);
+            self.move_past(LANES);
             left -= LANES;
         }
         left
@@ -451,7 +451,7 @@ impl<'a> BinaryReader<'a> {
         ensures unmoved { OnErr result (self.new ≡ self.old) }
         ensures moves { OnOk result ((place self.old).offset < (place self.new).offset) }
     {
-        Ok(self.read_groups(NumberKind::VarU64)? as u64)
+        Ok(self.read_septets(NumberKind::VarU64)? as u64)
     }
 
     // The signed number of this kind.
@@ -467,7 +467,7 @@ impl<'a> BinaryReader<'a> {
         ensures fits { IfOk result (λ n. FitsBits (bits_of kind) n) }
     {
         let start = self.original_position();
-        let sum = self.read_groups(kind)?;
+        let sum = self.read_septets(kind)?;
         Ok(signed_of(sum, self.original_position() - start))
     }
 
@@ -658,10 +658,13 @@ fn of_four(bytes: &[u8]) -> u32
         + 16777216 * u32::from(bytes[3])
 }
 
+/// The four bytes that begin a header (core specification, Binary format, Modules).
+pub const MAGIC: [u8; 4] = *b"\0asm";
+
 // Whether four bytes begin a header.
 fn is_magic(prefix: &[u8]) -> bool
     requires { length prefix.now ≡ 4 }
     ensures { result ≡ agree prefix.now magic }
 {
-    prefix[0] == 0x00 && prefix[1] == 0x61 && prefix[2] == 0x73 && prefix[3] == 0x6d
+    prefix[0] == MAGIC[0] && prefix[1] == MAGIC[1] && prefix[2] == MAGIC[2] && prefix[3] == MAGIC[3]
 }

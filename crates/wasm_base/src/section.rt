@@ -102,7 +102,8 @@ impl<'a, T> SectionLimited<'a, T> {
         self.count
     }
 
-    /// The offset after the count, in the whole stream; of a section made from an iterator, where that was.
+    /// The offset in the whole stream from which the items are read: after the count. Of a section that was made from an
+    /// iterator it is where that iterator was.
     pub fn original_position(&self) -> u64
         ensures offset { result ≡ (place self.now.reader).offset }
         ensures fits { result + length (place self.now.reader).rest < 2 ^ 64 }
@@ -167,8 +168,8 @@ impl<'a, T: FromReader<'a>> IntoIterator for SectionLimited<'a, T> {
 impl<'a, T> From<SectionLimitedIntoIter<'a, T>> for SectionLimited<'a, T> {
     ghost from_gives = { λ items section. section ≡ record { reader = items.reader; count = items.count } };
 
-    /// The section again, with the count that was announced. Its reader is where the iterator was, so that its
-    /// items are read from there.
+    /// The section again: the count is the one that was announced, and the items are read from where the iterator was. If it
+    /// has given some, the count is above the number of those that are left.
     fn from(items: SectionLimitedIntoIter<'a, T>) -> Self {
         items.into_section()
     }

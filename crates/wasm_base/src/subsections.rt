@@ -18,33 +18,33 @@ use std::marker::{Model, PhantomData};
 use std::ops::Range;
 
 /// Whether reading may ask for memory. Where it doesn't, no call answers `OutOfMemory`.
-pub trait Memory {
-    ghost TAKES_MEMORY: { Bool };
+pub trait Allocation {
+    ghost ALLOCATES: { Bool };
 
     /// Whether it may.
-    const TAKES_MEMORY: bool;
+    const ALLOCATES: bool;
 }
 
 /// Reading asks for no memory.
-pub struct NoMemory;
+pub struct NeverAllocates;
 
-impl Memory for NoMemory {
+impl Allocation for NeverAllocates {
     ghost use Rattle.std.specs.Prelude.{false};
 
-    ghost TAKES_MEMORY = { false };
+    ghost ALLOCATES = { false };
 
-    const TAKES_MEMORY: bool = false;
+    const ALLOCATES: bool = false;
 }
 
 /// Reading may ask for memory.
-pub struct SomeMemory;
+pub struct MayAllocate;
 
-impl Memory for SomeMemory {
+impl Allocation for MayAllocate {
     ghost use Rattle.std.specs.Prelude.{true};
 
-    ghost TAKES_MEMORY = { true };
+    ghost ALLOCATES = { true };
 
-    const TAKES_MEMORY: bool = true;
+    const ALLOCATES: bool = true;
 }
 
 /// What the subsections of a window can be read as.
@@ -54,23 +54,24 @@ pub trait Subsection<'a>: Sized + Drop {
     /// What a subsection with this id and this window may come to: a value, or a fault.
     ghost meaning: { ℕ → Window → Result Self FaultAt → Type 0 };
 
-    /// Whether reading may ask for memory: `NoMemory` or `SomeMemory`.
-    type Memory: Memory;
+    /// Whether reading may ask for memory: `NeverAllocates` or `MayAllocate`.
+    type Allocation: Allocation;
 
     /// Reads the subsection with this id, which is the reader's window.
     ///
     /// `OutOfMemory`, at offset 0, where a growth is refused.
     fn from_reader(alloc: Global, id: u8, reader: BinaryReader<'a>) -> Result<Self>
-        ensures means { MeansSubsection meaning Self.Memory.TAKES_MEMORY id reader.entry result }
-        ensures memory { Self.Memory.TAKES_MEMORY ≡ false → TakesNoMemory result };
+        ensures means { MeansSubsection meaning Self.Allocation.ALLOCATES id reader.entry result }
+        ensures memory { Self.Allocation.ALLOCATES ≡ false → TakesNoMemory result };
 }
 
 /// The subsections of a window: each is an id, a byte below 128, a size, a u32, and so many bytes.
 ///
 /// They come one after the other, each read as a `T`, up to the window's end. After a subsection's own fault, `OutOfMemory`
-/// among them, the next one comes. An id or a size can have a fault too, `InvalidU7` at the id or that of `read_reader`: the
-/// next one comes after the id, or after the bytes that reading the size takes, up to a wrong one or to the end. So each call
-/// takes at least one byte, and the subsections always end. Offsets count bytes from the start of the whole stream.
+/// among them, the next one comes. An id can have a fault too, `InvalidU7`, and a size those of `read_reader`. After the first
+/// the next subsection begins after the id, and after the others behind the bytes that reading the size takes, up to a wrong
+/// one or to the end. So each call takes at least one byte, and the subsections always end. Offsets count bytes from the start
+/// of the whole stream.
 pub struct Subsections<'a, T> {
     alloc: Global,
     reader: BinaryReader<'a>,
@@ -163,11 +164,11 @@ fn read_window<'a>(reader: &mut BinaryReader<'a>) -> Result<BinaryReader<'a>>
 #[tactic(auto, unfolding(crate::specs::Subsections::subsection_at, crate::specs::Subsections::after_refused))]
 fn read_subsection<'a, T: Subsection<'a>>(alloc: Global, reader: &mut BinaryReader<'a>) -> Result<T>
     requires { 0 < length (place reader.old).rest }
-    ensures reads { ReadsSubsection T.meaning T.Memory.TAKES_MEMORY (place reader.old)
+    ensures reads { ReadsSubsection T.meaning T.Allocation.ALLOCATES (place reader.old)
         (subsection_at (place reader.old)) result (place reader.new) }
     ensures keeps { KeepsWindow reader.old reader.new }
     ensures moves { reader.old.position < reader.new.position }
-    ensures memory { T.Memory.TAKES_MEMORY ≡ false → TakesNoMemory result }
+    ensures memory { T.Allocation.ALLOCATES ≡ false → TakesNoMemory result }
 {
     let id = reader.read_u7()?;
     let window = read_window(reader)?;
@@ -177,7 +178,7 @@ fn read_subsection<'a, T: Subsection<'a>>(alloc: Global, reader: &mut BinaryRead
 impl<'a, T: Subsection<'a>> Iterator for Subsections<'a, T> {
     type Item = Result<T>;
 
-    ghost next_gives = { NextSubsection T.meaning T.Memory.TAKES_MEMORY };
+    ghost next_gives = { NextSubsection T.meaning T.Allocation.ALLOCATES };
 
     ghost remaining = { λ subsections. at_most (length (place subsections).rest) };
 

@@ -13,9 +13,9 @@ use Rattle.wasm_base.specs.Section.{Section, NextItem}
 use Rattle.wasm_base.specs.Window.{Place}
 use Rattle.wasm_base.specs.declared.fault.Lead.TheVariants as Leads
 use Rattle.wasm_base.specs.declared.fault.NumberKind.TheVariants.{VarU32}
-use Rattle.wasm_custom.specs.BranchHints.{only_one, hint_size_at, taken_of, taken_at, branch_hint_at, function_hints_at}
-use Rattle.wasm_custom.specs.declared.branch_hints.BranchHint.{BranchHint}
-use Rattle.wasm_custom.specs.declared.branch_hints.BranchHintFunction.{BranchHintFunction}
+use Rattle.wasm_custom.specs.BranchHinting.{only_one, hint_size_at, taken_of, taken_at, branch_hint_at, function_hints_at}
+use Rattle.wasm_custom.specs.declared.branch_hinting.BranchHint.{BranchHint}
+use Rattle.wasm_custom.specs.declared.branch_hinting.BranchHintFunction.{BranchHintFunction}
 
 own_one : (byte : ℕ) → Own (λ p. only_one byte (p.offset - 1) p)
 own_one zero = own_refused (λ p. leading_byte Leads.BranchHint zero (p.offset - 1))
@@ -38,9 +38,12 @@ own_taken = own_both byte_at (λ byte p. taken_of byte (p.offset - 1) p) own_byt
 own_hint : Own branch_hint_at
 unfolding branch_hint_at
 own_hint =
-    own_both (unsigned_at VarU32) (λ offset p. hint_size_at p >>= λ size. taken_at size.1 >>= λ taken. let o : Outcome BranchHint = Ok (record { func_offset = offset; taken = taken.0 }, taken.1) in o) (own_number VarU32)
-    (λ offset. own_both hint_size_at (λ size p. taken_at p >>= λ taken. let o : Outcome BranchHint = Ok (record { func_offset = offset; taken = taken.0 }, taken.1) in o) own_size
-    (λ size. own_both taken_at (λ taken p. let o : Outcome BranchHint = Ok (record { func_offset = offset; taken = taken }, p) in o) own_taken (λ taken. own_nothing (record { func_offset = offset; taken = taken }))))
+    own_both (unsigned_at VarU32) (λ offset p. hint_size_at p >>= λ size. taken_at size.1 >>= λ taken.
+    let o : Outcome BranchHint = Ok (record { func_offset = offset; taken = taken.0 }, taken.1) in o) (own_number VarU32)
+    (λ offset. own_both hint_size_at (λ size p. taken_at p >>= λ taken.
+    let o : Outcome BranchHint = Ok (record { func_offset = offset; taken = taken.0 }, taken.1) in o) own_size
+    (λ size. own_both taken_at (λ taken p. let o : Outcome BranchHint = Ok (record { func_offset = offset; taken = taken }, p) in o)
+    own_taken (λ taken. own_nothing (record { func_offset = offset; taken = taken }))))
 
 abbrev pub Given : Section → Type 0
 Given hints = GivesAnnounced (NextItem (ReadsAs (λ (hint : BranchHint). hint) branch_hint_at)) hints
@@ -49,9 +52,12 @@ Given hints = GivesAnnounced (NextItem (ReadsAs (λ (hint : BranchHint). hint) b
 pub hints_given : (p q : Place) (function : BranchHintFunction) → function_hints_at p ≡ Ok (function, q) → Given function.hints
 unfolding function_hints_at
 hints_given p q function e =
-    let func = in_steps (unsigned_at VarU32 p) (λ f. inner_section_at (after_reading branch_hint_at) f.1 >>= λ h. let o : Outcome BranchHintFunction = Ok (record { func = f.0; hints = h.0 }, h.1) in o) (function, q) e in
-    let list = in_steps (inner_section_at (after_reading branch_hint_at) func.between.1) (λ h. let o : Outcome BranchHintFunction = Ok (record { func = func.between.0; hints = h.0 }, h.1) in o) (function, q) func.other in
+    let func = in_steps (unsigned_at VarU32 p) (λ f. inner_section_at (after_reading branch_hint_at) f.1 >>= λ h.
+    let o : Outcome BranchHintFunction = Ok (record { func = f.0; hints = h.0 }, h.1) in o) (function, q) e in
+    let list = in_steps (inner_section_at (after_reading branch_hint_at) func.between.1)
+    (λ h. let o : Outcome BranchHintFunction = Ok (record { func = func.between.0; hints = h.0 }, h.1) in o) (function, q) func.other in
     let hints : Section = list.between.0 in
     let read : BranchHintFunction = record { func = func.between.0; hints = hints } in
     let same : read ≡ function = ap (λ (r : BranchHintFunction × Place). r.0) (read_as (read, list.between.1) (function, q) list.other) in
-    subst (λ (f : BranchHintFunction). Given f.hints) same (announced (after_reading branch_hint_at) (own_passed branch_hint_at own_hint) (λ (hint : BranchHint). hint) branch_hint_at (after_follows branch_hint_at) func.between.1 list.between.1 hints list.one)
+    subst (λ (f : BranchHintFunction). Given f.hints) same (announced (after_reading branch_hint_at) (own_passed branch_hint_at own_hint)
+    (λ (hint : BranchHint). hint) branch_hint_at (after_follows branch_hint_at) func.between.1 list.between.1 hints list.one)

@@ -23,13 +23,16 @@ own_kind_or_fault byte None = own_refused (λ p. leading_byte Leads.ComdatSymbol
 
 own_kind : Own comdat_kind_at
 unfolding comdat_kind_at
-own_kind = own_both byte_at (λ byte p. comdat_kind_or_fault byte (p.offset - 1) p (comdat_kind_of byte)) own_byte (λ byte. own_kind_or_fault byte (comdat_kind_of byte))
+own_kind = own_both byte_at (λ byte p. comdat_kind_or_fault byte (p.offset - 1) p (comdat_kind_of byte)) own_byte
+    (λ byte. own_kind_or_fault byte (comdat_kind_of byte))
 
 own_symbol : Own comdat_symbol_at
 unfolding comdat_symbol_at
 own_symbol =
-    own_both comdat_kind_at (λ kind p. unsigned_at VarU32 p >>= λ index. let o : Outcome ComdatSymbol = Ok (record { kind = kind; index = index.0 }, index.1) in o) own_kind
-    (λ kind. own_both (unsigned_at VarU32) (λ index p. let o : Outcome ComdatSymbol = Ok (record { kind = kind; index = index }, p) in o) (own_number VarU32)
+    own_both comdat_kind_at (λ kind p. unsigned_at VarU32 p >>= λ index.
+    let o : Outcome ComdatSymbol = Ok (record { kind = kind; index = index.0 }, index.1) in o) own_kind
+    (λ kind. own_both (unsigned_at VarU32) (λ index p. let o : Outcome ComdatSymbol = Ok (record { kind = kind; index = index }, p) in o)
+    (own_number VarU32)
     (λ index. own_nothing (record { kind = kind; index = index })))
 
 abbrev pub Given : Section → Type 0
@@ -39,10 +42,17 @@ Given symbols = GivesAnnounced (NextItem (ReadsAs (λ (symbol : ComdatSymbol). s
 pub symbols_given : (p q : Place) (comdat : ComdatParts) → comdat_at p ≡ Ok (comdat, q) → Given comdat.symbols
 unfolding comdat_at
 symbols_given p q comdat e =
-    let name = in_steps (text_at None p) (λ n. unsigned_at VarU32 n.1 >>= λ f. inner_section_at (after_reading comdat_symbol_at) f.1 >>= λ s. let o : Outcome ComdatParts = Ok (record { name = n.0; flags = f.0; symbols = s.0 }, s.1) in o) (comdat, q) e in
-    let flags = in_steps (unsigned_at VarU32 name.between.1) (λ f. inner_section_at (after_reading comdat_symbol_at) f.1 >>= λ s. let o : Outcome ComdatParts = Ok (record { name = name.between.0; flags = f.0; symbols = s.0 }, s.1) in o) (comdat, q) name.other in
-    let list = in_steps (inner_section_at (after_reading comdat_symbol_at) flags.between.1) (λ s. let o : Outcome ComdatParts = Ok (record { name = name.between.0; flags = flags.between.0; symbols = s.0 }, s.1) in o) (comdat, q) flags.other in
+    let name = in_steps (text_at None p) (λ n. unsigned_at VarU32 n.1 >>= λ f.
+    inner_section_at (after_reading comdat_symbol_at) f.1 >>= λ s.
+    let o : Outcome ComdatParts = Ok (record { name = n.0; flags = f.0; symbols = s.0 }, s.1) in o) (comdat, q) e in
+    let flags = in_steps (unsigned_at VarU32 name.between.1) (λ f. inner_section_at (after_reading comdat_symbol_at) f.1 >>= λ s.
+    let o : Outcome ComdatParts = Ok (record { name = name.between.0; flags = f.0; symbols = s.0 }, s.1) in o) (comdat, q) name.other in
+    let list = in_steps (inner_section_at (after_reading comdat_symbol_at) flags.between.1)
+    (λ s. let o : Outcome ComdatParts = Ok (record { name = name.between.0; flags = flags.between.0; symbols = s.0 }, s.1) in o)
+    (comdat, q) flags.other in
     let symbols : Section = list.between.0 in
     let read : ComdatParts = record { name = name.between.0; flags = flags.between.0; symbols = symbols } in
     let same : read ≡ comdat = ap (λ (r : ComdatParts × Place). r.0) (read_as (read, list.between.1) (comdat, q) list.other) in
-    subst (λ (c : ComdatParts). Given c.symbols) same (announced (after_reading comdat_symbol_at) (own_passed comdat_symbol_at own_symbol) (λ (symbol : ComdatSymbol). symbol) comdat_symbol_at (after_follows comdat_symbol_at) flags.between.1 list.between.1 symbols list.one)
+    subst (λ (c : ComdatParts). Given c.symbols) same (announced (after_reading comdat_symbol_at) (own_passed comdat_symbol_at own_symbol)
+    (λ (symbol : ComdatSymbol). symbol) comdat_symbol_at (after_follows comdat_symbol_at) flags.between.1 list.between.1 symbols
+    list.one)

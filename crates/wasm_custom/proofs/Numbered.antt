@@ -1,17 +1,27 @@
 -- Relocation types and their numbers.
-use Rattle.std.proofs.Common.{◌≡◌, ℕ, zero, suc, ◌+◌, ◌<◌, List, [], ◌∷◌, slice_get, get_or, Option, Some, None, Result, Ok, Err, refl, sym, ap, arith, ◌∙◌}
+use Rattle.std.proofs.Common.{◌≡◌, ℕ, zero, suc, ◌+◌, ◌<◌, List, [], ◌∷◌, slice_get, get_or, Option, Some, None, Result, Ok, Err, refl, sym}
+use Rattle.std.proofs.Common.{ap, arith, ◌∙◌}
 use Rattle.std.proofs.lemmas.Option.{slice_get_within, slice_get-get_or}
 use Rattle.std.specs.Option.{ok_or}
-use Rattle.wasm_custom.specs.Relocations.{types, number_of, IsTypeOf}
-use Rattle.wasm_custom.specs.declared.relocations.RelocationType.{RelocationType}
-use Rattle.wasm_custom.specs.declared.relocations.RelocationType.TheVariants.{FunctionIndexLeb, TableIndexSleb, TableIndexI32, MemoryAddrLeb, MemoryAddrSleb, MemoryAddrI32, TypeIndexLeb, GlobalIndexLeb, FunctionOffsetI32, SectionOffsetI32, EventIndexLeb, MemoryAddrRelSleb, TableIndexRelSleb, GlobalIndexI32, MemoryAddrLeb64, MemoryAddrSleb64, MemoryAddrI64, MemoryAddrRelSleb64, TableIndexSleb64, TableIndexI64, TableNumberLeb, MemoryAddrTlsSleb, FunctionOffsetI64, MemoryAddrLocrelI32, TableIndexRelSleb64, MemoryAddrTlsSleb64, FunctionIndexI32}
+use Rattle.wasm_custom.specs.Reloc.{types, number_of, IsTypeOf}
+use Rattle.wasm_custom.specs.declared.reloc.RelocationType.{RelocationType}
+use Rattle.wasm_custom.specs.declared.reloc.RelocationType.TheVariants.{FunctionIndexLeb, TableIndexSleb, TableIndexI32, MemoryAddrLeb}
+use Rattle.wasm_custom.specs.declared.reloc.RelocationType.TheVariants.{MemoryAddrSleb, MemoryAddrI32, TypeIndexLeb, GlobalIndexLeb}
+use Rattle.wasm_custom.specs.declared.reloc.RelocationType.TheVariants.{FunctionOffsetI32, SectionOffsetI32, EventIndexLeb}
+use Rattle.wasm_custom.specs.declared.reloc.RelocationType.TheVariants.{MemoryAddrRelSleb, TableIndexRelSleb, GlobalIndexI32}
+use Rattle.wasm_custom.specs.declared.reloc.RelocationType.TheVariants.{MemoryAddrLeb64, MemoryAddrSleb64, MemoryAddrI64}
+use Rattle.wasm_custom.specs.declared.reloc.RelocationType.TheVariants.{MemoryAddrRelSleb64, TableIndexSleb64, TableIndexI64}
+use Rattle.wasm_custom.specs.declared.reloc.RelocationType.TheVariants.{TableNumberLeb, MemoryAddrTlsSleb, FunctionOffsetI64}
+use Rattle.wasm_custom.specs.declared.reloc.RelocationType.TheVariants.{MemoryAddrLocrelI32, TableIndexRelSleb64, MemoryAddrTlsSleb64}
+use Rattle.wasm_custom.specs.declared.reloc.RelocationType.TheVariants.{FunctionIndexI32}
 
 -- Types whose numbers count up from here.
 abbrev CountsFrom : ℕ → List RelocationType → Type 0
 CountsFrom n [] = Unit {0}
 CountsFrom n (ty ∷ tys) = (number_of ty ≡ n) × CountsFrom (suc n) tys
 
-counted : (n : ℕ) (tys : List RelocationType) → CountsFrom n tys → (i : ℕ) (ty : RelocationType) → slice_get tys i ≡ Some ty → number_of ty ≡ n + i
+counted : (n : ℕ) (tys : List RelocationType) → CountsFrom n tys → (i : ℕ) (ty : RelocationType) → slice_get tys i ≡ Some ty → number_of ty
+    ≡ n + i
 counted n [] c i ty e = cc
 counted n (x ∷ tys) c zero ty e = let z : x ≡ ty = cc in ap number_of (sym z) ∙ c.0 ∙ omega arith
 counted n (x ∷ tys) c (suc i) ty e = counted (suc n) tys c.1 i ty e ∙ omega arith
@@ -19,12 +29,69 @@ counted n (x ∷ tys) c (suc i) ty e = counted (suc n) tys c.1 i ty e ∙ omega 
 -- The type that a number has in the list has the number.
 pub type_has_number : (i : ℕ) (ty : RelocationType) → slice_get types i ≡ Some ty → number_of ty ≡ i
 type_has_number i ty e =
-    counted 0 types (refl, (refl, (refl, (refl, (refl, (refl, (refl, (refl, (refl, (refl, (refl, (refl, (refl, (refl, (refl, (refl, (refl, (refl, (refl, (refl, (refl, (refl, (refl, (refl, (refl, (refl, (refl, tt))))))))))))))))))))))))))) i ty e ∙ omega arith
+    counted 0 types (
+      refl,
+      (
+        refl,
+        (
+          refl,
+          (
+            refl,
+            (
+              refl,
+              (
+                refl,
+                (
+                  refl,
+                  (
+                    refl,
+                    (
+                      refl,
+                      (
+                        refl,
+                        (
+                          refl,
+                          (
+                            refl,
+                            (
+                              refl,
+                              (
+                                refl,
+                                (
+                                  refl,
+                                  (refl, (refl, (refl, (refl, (refl, (refl, (refl, (refl, (refl, (refl, (refl, (refl, tt)))))))))))),
+                                ),
+                              ),
+                            ),
+                          ),
+                        ),
+                      ),
+                    ),
+                  ),
+                ),
+              ),
+            ),
+          ),
+        ),
+      ),
+    ) i ty e
+    ∙ omega arith
 
 -- A number has a type where the list has one.
-pub numbered : (number : ℕ) (found : Option RelocationType) (result : Result RelocationType (Unit {0})) → found ≡ slice_get types number → result ≡ ok_or found tt → IsTypeOf number result
-numbered number (Some ty) result is e = rw e (((λ _. slice_get_within types number ty (sym is)), (λ _. refl)), type_has_number number ty (sym is))
-numbered number None result is e = rw e (((λ h. cc), (λ lt. let z : None ≡ Some (get_or types number FunctionIndexLeb) = is ∙ slice_get-get_or types number FunctionIndexLeb lt in absurd (cc))), tt)
+pub numbered : (number : ℕ) (found : Option RelocationType) (result : Result RelocationType (Unit {0})) → found ≡ slice_get types number
+    → result ≡ ok_or found tt → IsTypeOf number result
+numbered number (Some ty) result is e = rw e (
+  ((λ _. slice_get_within types number ty (sym is)), (λ _. refl)),
+  type_has_number number ty (sym is),
+)
+numbered number None result is e = rw e (
+  (
+    (λ h. cc),
+    (λ lt. let z : None ≡ Some (get_or types number FunctionIndexLeb) = is
+        ∙ slice_get-get_or types number FunctionIndexLeb lt in absurd (cc)),
+  ),
+  tt,
+)
 
 -- Each type is the one that its number has in the list.
 type_in_list : (ty : RelocationType) → slice_get types (number_of ty) ≡ Some ty
@@ -57,7 +124,8 @@ type_in_list MemoryAddrTlsSleb64 = refl
 type_in_list FunctionIndexI32 = refl
 
 -- A number's type, where it is the number of a type, is that type.
-pub type_of_its_number : (ty : RelocationType) (number : ℕ) (result : Result RelocationType (Unit {0})) → number ≡ number_of ty → IsTypeOf number result → result ≡ Ok ty
+pub type_of_its_number : (ty : RelocationType) (number : ℕ) (result : Result RelocationType (Unit {0})) → number ≡ number_of ty
+    → IsTypeOf number result → result ≡ Ok ty
 type_of_its_number ty number (Err e) is found =
     let lt : number_of ty < 27 = slice_get_within types (number_of ty) ty (type_in_list ty) in
     let some = found.0.1 (rw is lt) in

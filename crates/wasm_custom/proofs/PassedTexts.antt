@@ -30,7 +30,8 @@ skip_after before = skipped_name_at before.1
 
 module _ (q : Place) where
   module _ (parts : NamingParts) (le : length parts.name ≤ name_limit) where
-    name_step : (index : ℕ × Place) (o : Outcome (List ℕ)) → text_at None index.1 ≡ o → (o >>= with_index index) ≡ Ok (parts, q) → skipped_name_at index.1 ≡ Ok (tt, q)
+    name_step : (index : ℕ × Place) (o : Outcome (List ℕ)) → text_at None index.1 ≡ o → (o >>= with_index index) ≡ Ok (parts, q)
+        → skipped_name_at index.1 ≡ Ok (tt, q)
     name_step index (Err e) is h = cc
     name_step index (Ok name) is h =
         let z = ap (value_or (parts, q)) h in

@@ -1,6 +1,7 @@
--- Entries whose indices ascend: one whose index isn't above all that were given before is refused, and the next one follows.
--- Core specification, Appendix, Custom Sections, Name Section, Name Maps and Subsections.
-use Rattle.std.specs.Prelude.{◌≡◌, ℕ, ◌⊎◌, Bool, true, false, ◌&&◌, IsTrue, List, [], ◌∷◌, Option, Some, None, IfSome, Result, Ok, Err, map, nat_lt, if◌then◌else◌}
+-- Entries whose indices ascend: one whose index isn't above all that were given before is refused, and the next one
+-- follows. Core specification, Appendix, Custom Sections, Name Section, Name Maps and Subsections.
+use Rattle.std.specs.Prelude.{◌≡◌, ℕ, ◌⊎◌, Bool, true, false, ◌&&◌, IsTrue, List, [], ◌∷◌, Option, Some, None, IfSome}
+use Rattle.std.specs.Prelude.{Result, Ok, Err, map, nat_lt, if◌then◌else◌}
 use Rattle.std.specs.Iterator.{Drains}
 use Rattle.wasm_base.specs.FaultAt.{FaultAt, fault_at, at_offset}
 use Rattle.wasm_base.specs.Hints.{TakesNoMemory}
@@ -22,29 +23,40 @@ abbrev pub is_above : Option ℕ → ℕ → Bool
 is_above None index = true
 is_above (Some last) index = nat_lt last index
 
--- An entry that was read is given if its index is above the last one, and is the last one then; else it is this fault, at its
--- start, and the last one stays.
-abbrev pub InOrder : {T : Type 0} → Option ℕ → (index : ℕ) → Fault → (start : ℕ) → T → Result T Error → Option ℕ → Type 0
-InOrder last index fault start entry (Ok given) after = IsTrue (is_above last index) × (given ≡ entry) × (after ≡ Some index)
-InOrder last index fault start entry (Err e) after = (is_above last index ≡ false) × (fault_at e ≡ at_offset fault start) × (after ≡ last)
+-- An entry that was read is given if its index is above the last one, and is the last one then; else it is this fault,
+-- at its start, and the last one stays.
+abbrev pub InOrder : {T : Type 0} → Option ℕ → (index : ℕ) → Fault → (start : ℕ) → T → Result T Error → Option ℕ
+    → Type 0
+InOrder last index fault start entry (Ok given) after = IsTrue (is_above last index) × (given ≡ entry)
+    × (after ≡ Some index)
+InOrder last index fault start entry (Err e) after = (is_above last index ≡ false)
+    × (fault_at e ≡ at_offset fault start) × (after ≡ last)
 
 -- An entry that was read is refused for its index.
-abbrev pub Refuses : {S T : Type 0} → (S → Option (Result T Error) → S → Type 0) → (S → ℕ) → (T → ℕ) → Fault → Ascending S → FaultAt → S → Type 0
-Refuses {S} {T} next start index fault s refused after = (x : T) × next s.entries (Some (Ok x)) after × (is_above s.last (index x) ≡ false) × (refused ≡ at_offset fault (start s.entries))
+abbrev pub Refuses : {S T : Type 0} → (S → Option (Result T Error) → S → Type 0) → (S → ℕ) → (T → ℕ) → Fault
+    → Ascending S → FaultAt → S → Type 0
+Refuses {S} {T} next start index fault s refused after = (x : T) × next s.entries (Some (Ok x)) after
+    × (is_above s.last (index x) ≡ false) × (refused ≡ at_offset fault (start s.entries))
 
 -- what one call of `next` gives of the entries: an entry in order, its own fault, or the fault of the order
-abbrev pub NextInOrder : {S T : Type 0} → (S → Option (Result T Error) → S → Type 0) → (S → ℕ) → (T → ℕ) → Fault → Ascending S → Option (Result T Error) → Ascending S → Type 0
+abbrev pub NextInOrder : {S T : Type 0} → (S → Option (Result T Error) → S → Type 0) → (S → ℕ) → (T → ℕ) → Fault
+    → Ascending S → Option (Result T Error) → Ascending S → Type 0
 NextInOrder next start index fault s None t = next s.entries None t.entries × (t.last ≡ s.last)
-NextInOrder next start index fault s (Some (Ok x)) t = next s.entries (Some (Ok x)) t.entries × IsTrue (is_above s.last (index x)) × (t.last ≡ Some (index x))
-NextInOrder next start index fault s (Some (Err e)) t = (next s.entries (Some (Err e)) t.entries ⊎ Refuses next start index fault s (fault_at e) t.entries) × (t.last ≡ s.last)
+NextInOrder next start index fault s (Some (Ok x)) t = next s.entries (Some (Ok x)) t.entries
+    × IsTrue (is_above s.last (index x)) × (t.last ≡ Some (index x))
+NextInOrder next start index fault s (Some (Err e)) t =
+    (next s.entries (Some (Err e)) t.entries ⊎ Refuses next start index fault s (fault_at e) t.entries)
+    × (t.last ≡ s.last)
 
 -- one call of `next`, which takes no memory
-pub record NextAscending {S T : Type 0} (next : S → Option (Result T Error) → S → Type 0) (start : S → ℕ) (index : T → ℕ) (fault : Fault) (s : Ascending S) (given : Option (Result T Error)) (t : Ascending S) : Type 0 where
+pub record NextAscending {S T : Type 0} (next : S → Option (Result T Error) → S → Type 0) (start : S → ℕ)
+    (index : T → ℕ) (fault : Fault) (s : Ascending S) (given : Option (Result T Error)) (t : Ascending S) : Type 0 where
   pub order : NextInOrder next start index fault s given t
   pub memory : IfSome given TakesNoMemory
 
 -- one call of `next`, with the offset at which what it gives begins
-abbrev pub NextAt : {S T : Type 0} → (S → Option (Result T Error) → S → Type 0) → (S → ℕ) → S → Option (ℕ × Result T Error) → S → Type 0
+abbrev pub NextAt : {S T : Type 0} → (S → Option (Result T Error) → S → Type 0) → (S → ℕ) → S
+    → Option (ℕ × Result T Error) → S → Type 0
 NextAt next start s None t = next s None t
 NextAt next start s (Some given) t = next s (Some given.1) t × (given.0 ≡ start s)
 
@@ -53,10 +65,11 @@ abbrev pub is_above_all : List ℕ → ℕ → Bool
 is_above_all [] index = true
 is_above_all (earlier ∷ others) index = nat_lt earlier index && is_above_all others index
 
--- What entries come to, each with the offset at which it begins, after those with the earlier indices were given: one that
--- reads without a fault is given exactly if its index is above all of these, else the order fault is at its start; one with
--- a fault of its own gives that.
-abbrev pub in_order : {T : Type 0} → (T → ℕ) → Fault → (earlier : List ℕ) → List (ℕ × Result T Error) → List (Result T FaultAt)
+-- What entries come to, each with the offset at which it begins, after those with the earlier indices were given.
+-- One that reads without a fault is given exactly if its index is above all of these. Otherwise the fault of the order
+-- is at its start. One with a fault of its own gives that.
+abbrev pub in_order : {T : Type 0} → (T → ℕ) → Fault → (earlier : List ℕ) → List (ℕ × Result T Error)
+    → List (Result T FaultAt)
 in_order index fault earlier [] = []
 in_order index fault earlier ((offset, Ok x) ∷ more) =
     if is_above_all earlier (index x) then Ok x ∷ in_order index fault (index x ∷ earlier) more
@@ -69,9 +82,13 @@ AscendsFrom index last [] = Unit {0}
 AscendsFrom index last (Ok x ∷ given) = IsTrue (is_above last (index x)) × AscendsFrom index (Some (index x)) given
 AscendsFrom index last (Err e ∷ given) = AscendsFrom index last given
 
--- What calls of `next` give up to the first `None`, by a relation that each call meets: all that the entries come to, in order;
--- it ascends strictly; and nothing comes after that `None`.
-pub record GivesAscending {S T : Type 0} (next_entry : S → Option (Result T Error) → S → Type 0) (start : S → ℕ) (index : T → ℕ) (fault : Fault) (next : Ascending S → Option (Result T Error) → Ascending S → Type 0) : Type 0 where
-  pub entries : (s : S) (given : List (Result T Error)) → Drains next (none_given s) given → (all : List (ℕ × Result T Error)) × Drains (NextAt next_entry start) s all × (map item_or_fault given ≡ in_order index fault [] all)
-  pub ascends : (s : S) (given : List (Result T Error)) → Drains next (none_given s) given → AscendsFrom index None given
+-- What calls of `next` give up to the first `None`, by a relation that each call meets: all that the entries come to,
+-- in order; it ascends strictly; and nothing comes after that `None`.
+pub record GivesAscending {S T : Type 0} (next_entry : S → Option (Result T Error) → S → Type 0) (start : S → ℕ)
+    (index : T → ℕ) (fault : Fault) (next : Ascending S → Option (Result T Error) → Ascending S → Type 0) : Type 0 where
+  pub entries : (s : S) (given : List (Result T Error)) → Drains next (none_given s) given
+      → (all : List (ℕ × Result T Error)) × Drains (NextAt next_entry start) s all
+      × (map item_or_fault given ≡ in_order index fault [] all)
+  pub ascends : (s : S) (given : List (Result T Error)) → Drains next (none_given s) given
+      → AscendsFrom index None given
   pub after : (s t u : Ascending S) (given : Option (Result T Error)) → next s None t → next t given u → given ≡ None

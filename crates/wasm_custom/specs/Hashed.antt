@@ -1,12 +1,12 @@
 -- What is hashed of what linkers read: fields in turn, and of cases their number, from 0. This project.
 use Rattle.std.specs.Prelude.{◌++◌, pos}
 use Rattle.std.specs.Hash.{HashWrites, isize, u8, u32, i64}
-use Rattle.wasm_custom.specs.Relocations.{number_of}
+use Rattle.wasm_custom.specs.Reloc.{number_of}
 use Rattle.wasm_custom.specs.declared.linking.ComdatSymbolKind.{ComdatSymbolKind}
 use Rattle.wasm_custom.specs.declared.linking.ComdatSymbolKind.TheVariants as Kinds
-use Rattle.wasm_custom.specs.declared.relocations.RelocAddendKind.{RelocAddendKind}
-use Rattle.wasm_custom.specs.declared.relocations.RelocAddendKind.TheVariants as Addends
-use Rattle.wasm_custom.specs.declared.relocations.RelocationEntry.{RelocationEntry}
+use Rattle.wasm_custom.specs.declared.reloc.RelocAddendKind.{RelocAddendKind}
+use Rattle.wasm_custom.specs.declared.reloc.RelocAddendKind.TheVariants as Addends
+use Rattle.wasm_custom.specs.declared.reloc.RelocationEntry.{RelocationEntry}
 
 abbrev pub hash_of_symbol_kind : ComdatSymbolKind → HashWrites
 hash_of_symbol_kind Kinds.Data = isize (pos 0)

@@ -1,5 +1,5 @@
--- What the data of a custom section is, by the section's name. Core specification, Appendix, Custom Sections, and the tool
--- conventions; that data which can't be read is unknown is this project's profile.
+-- What the data of a custom section is, by the section's name. Core specification, Appendix, Custom Sections, and the
+-- tool conventions; that data which can't be read is unknown is this project's profile.
 use Rattle.std.specs.Prelude.{◌≡◌, ℕ, Bool, true, false, List, Result, Ok, Err, codes, bytes_eq, nat_eq, if◌then◌else◌}
 use Rattle.std.specs.List.{starts_with}
 use Rattle.wasm_base.specs.FaultAt.{FaultAt, fault_at}
@@ -8,15 +8,16 @@ use Rattle.wasm_base.specs.Section.{Section, section_in}
 use Rattle.wasm_base.specs.Window.{Window, place, whole_window}
 use Rattle.wasm_base.specs.declared.error.Error.{Error}
 use Rattle.wasm_custom.specs.Ascending.{Ascending, none_given}
-use Rattle.wasm_custom.specs.CoreDumps.{InstanceParts, StackParts, name_section_in, modules_parts, modules_in, instances_parts, instances_in, stack_parts, stack_in}
+use Rattle.wasm_custom.specs.Coredumps.{InstanceParts, StackParts, name_section_in, modules_parts, modules_in}
+use Rattle.wasm_custom.specs.Coredumps.{instances_parts, instances_in, stack_parts, stack_in}
 use Rattle.wasm_custom.specs.Custom.{Custom}
 use Rattle.wasm_custom.specs.Linking.{LinkingSection, linking_in}
-use Rattle.wasm_custom.specs.Relocations.{reloc_section_in}
+use Rattle.wasm_custom.specs.Reloc.{reloc_section_in}
 use Rattle.wasm_custom.specs.declared.known.KnownCustom.{KnownCustom}
 use Rattle.wasm_custom.specs.declared.known.KnownCustom.TheVariants as Knowns
 use Rattle.wasm_custom.specs.declared.known.SectionName.{SectionName}
 use Rattle.wasm_custom.specs.declared.known.SectionName.TheVariants as Sections
-use Rattle.wasm_custom.specs.declared.relocations.RelocSectionReader.{RelocSectionReader}
+use Rattle.wasm_custom.specs.declared.reloc.RelocSectionReader.{RelocSectionReader}
 
 -- what a section is, with the bytes of its texts
 pub data Known : Type 0 where

@@ -1,12 +1,12 @@
 pub mod Ascending
-pub mod BranchHints
-pub mod CoreDumps
+pub mod BranchHinting
+pub mod Coredumps
 pub mod Custom
-pub mod Dylink
+pub mod Dylink0
 pub mod Flags
 pub mod Hashed
 pub mod Known
 pub mod Linking
 pub mod Names
 pub mod Producers
-pub mod Relocations
+pub mod Reloc

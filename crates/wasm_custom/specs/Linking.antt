@@ -1,6 +1,7 @@
 -- What a linker reads. Tool conventions, Linking, Linking Metadata Section.
 use Rattle.std.specs.declared.ops.Range.{Range}
-use Rattle.std.specs.Prelude.{ℕ, ◌-◌, ◌==◌, ◌||◌, not, Bool, List, Option, Some, None, Result, Ok, Err, bit_and, if◌then◌else◌}
+use Rattle.std.specs.Prelude.{ℕ, ◌-◌, ◌==◌, ◌||◌, not, Bool, List, Option, Some, None, Result, Ok, Err, bit_and}
+use Rattle.std.specs.Prelude.{if◌then◌else◌}
 use Rattle.wasm_base.specs.FaultAt.{FaultAt}
 use Rattle.wasm_base.specs.Inner.{inner_section_at, after_reading}
 use Rattle.wasm_base.specs.Leading.{leading_byte}
@@ -32,7 +33,11 @@ pub record SegmentParts : Type 0 where
   pub flags : ℕ
 
 abbrev pub segment_parts : Segment → SegmentParts
-segment_parts segment = record { name = segment.name.now; alignment = segment.alignment; flags = segment_bits segment.flags }
+segment_parts segment = record {
+  name = segment.name.now;
+  alignment = segment.alignment;
+  flags = segment_bits segment.flags;
+}
 
 -- a segment: a name, an alignment as a power of two, and flags (Segment Info Subsection)
 unfoldable pub segment_at : Place → Outcome SegmentParts
@@ -141,9 +146,12 @@ pub data SymbolParts : Type 0 where
 
 abbrev pub symbol_parts : SymbolInfo → SymbolParts
 symbol_parts (Symbols.Func flags index name) = indexed 0 (symbol_bits flags) index (text_if_any name (λ text. text.now))
-symbol_parts (Symbols.Global flags index name) = indexed 2 (symbol_bits flags) index (text_if_any name (λ text. text.now))
-symbol_parts (Symbols.Event flags index name) = indexed 4 (symbol_bits flags) index (text_if_any name (λ text. text.now))
-symbol_parts (Symbols.Table flags index name) = indexed 5 (symbol_bits flags) index (text_if_any name (λ text. text.now))
+symbol_parts (Symbols.Global flags index name) = indexed 2 (symbol_bits flags) index
+    (text_if_any name (λ text. text.now))
+symbol_parts (Symbols.Event flags index name) = indexed 4 (symbol_bits flags) index
+    (text_if_any name (λ text. text.now))
+symbol_parts (Symbols.Table flags index name) = indexed 5 (symbol_bits flags) index
+    (text_if_any name (λ text. text.now))
 symbol_parts (Symbols.Data flags name symbol) = data_symbol (symbol_bits flags) name.now symbol
 symbol_parts (Symbols.Section flags section) = section_symbol (symbol_bits flags) section
 

@@ -1,5 +1,6 @@
--- Names. Core specification, Appendix, Custom Sections, Name Section; the subsections beyond those for functions and locals are of
--- the extended name section proposal.
+-- Names. Core specification, Appendix, Custom Sections, Name Section, which has the subsections of the module,
+-- functions, locals, types, fields and tags. Those of labels, tables, memories, globals, element and data segments are
+-- of the extended name section proposal; those of parameters are this project's profile.
 use Rattle.std.specs.declared.ops.Range.{Range}
 use Rattle.std.specs.Prelude.{ℕ, ◌≤◌, ◌==◌, List, length, Some, None, Result, Ok, Err, nat_lt, if◌then◌else◌}
 use Rattle.wasm_base.specs.FaultAt.{FaultAt, at_offset}
@@ -107,7 +108,8 @@ id_of name = id_of_parts (name_parts name)
 unfoldable pub module_name_in : Window → Result NameParts FaultAt
 module_name_in w = do
   name ← text_at (Some name_limit) (place w)
-  if nat_lt 0 (length name.1.rest) then Err (at_offset NameTrailing name.1.offset) else Ok (module_name name.0 (rest_range w))
+  if nat_lt 0 (length name.1.rest) then Err (at_offset NameTrailing name.1.offset) else
+      Ok (module_name name.0 (rest_range w))
 
 abbrev pub direct_in : (id : ℕ) → Window → Result NameParts FaultAt
 direct_in id w = do

@@ -13,7 +13,8 @@ use Rattle.wasm_custom.specs.declared.producers.ProducersFieldValue.{ProducersFi
 
 -- whether a field may have this name
 abbrev pub is_field_name : List ℕ → Bool
-is_field_name name = bytes_eq name (codes "language") || bytes_eq name (codes "sdk") || bytes_eq name (codes "processed-by")
+is_field_name name = bytes_eq name (codes "language") || bytes_eq name (codes "sdk")
+    || bytes_eq name (codes "processed-by")
 
 -- the name of a field: a text, which has to be one of three, else a fault where it begins
 unfoldable pub field_name_at : Place → Outcome (List ℕ)

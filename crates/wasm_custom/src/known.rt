@@ -7,16 +7,16 @@ ghost use Rattle.wasm_base.specs.Owned.{out_of_memory};
 ghost use Rattle.wasm_base.specs.Window.{place};
 ghost use Rattle.wasm_custom.specs.Known.{section_named, unknown, known_parts, known_of, owns_lists, branch_hints_in, producers_in, core_dump_in, core_modules_in, core_instances_in, core_stack_in, linking_section_in, relocations_in, KnowsUnlessMemory};
 
-use crate::branch_hints::BranchHintSectionReader;
-use crate::core_dumps::{
+use crate::branch_hinting::BranchHintSectionReader;
+use crate::coredumps::{
     CoreDumpInstancesSection, CoreDumpModulesSection, CoreDumpSection, CoreDumpStackSection,
 };
 use crate::custom::CustomSectionReader;
-use crate::dylink::Dylink0SectionReader;
+use crate::dylink0::Dylink0SectionReader;
 use crate::linking::LinkingSectionReader;
 use crate::names::NameSectionReader;
 use crate::producers::ProducersSectionReader;
-use crate::relocations::RelocSectionReader;
+use crate::reloc::RelocSectionReader;
 use std::alloc::{Allocator, Global};
 use wasm_base::{BinaryReader, Error, Fault, Result, SectionLimited, Subsections};
 
@@ -47,7 +47,7 @@ pub enum KnownCustom<'a, A: Allocator = Global> {
     Unknown,
 }
 
-// The names of sections that are known.
+// Which known section a name is that of.
 #[derive(Clone, Copy)]
 enum SectionName {
     Name,
@@ -174,7 +174,8 @@ fn core_stack<'a, A: Allocator + Copy>(
     }
 }
 
-// What a section is that answered this error: unknown, but where memory was refused.
+// What a section is whose reader answered this error: `Unknown` after a fault of the data. A want of memory is an error here
+// too, made anew, so that it has the offset 0 whatever the reader said.
 fn unknown_but_for_memory<'a, A: Allocator>(error: Error) -> Result<KnownCustom<'a, A>>
     ensures known { IfOk result (λ known. known_parts known ≡ unknown) }
     ensures other { is_want_of_memory (fault_at error).fault ≡ is_err result }
@@ -187,11 +188,11 @@ fn unknown_but_for_memory<'a, A: Allocator>(error: Error) -> Result<KnownCustom<
 }
 
 impl<'a> CustomSectionReader<'a> {
-    /// What the section's data is, by its name: the reader for that name, or `Unknown` for another name, or where that
-    /// reader's `new` refuses the data.
+    /// The reader of the section's data, which its name decides. It is `Unknown` for a name that isn't known, and for data of
+    /// which the reader's `new` answers a fault.
     ///
-    /// `OutOfMemory`, at offset 0, where a growth is refused, which only `coremodules`, `coreinstances` and `corestack`
-    /// ask for.
+    /// The only error is `OutOfMemory`, at offset 0, where a growth is refused. Only `coremodules`, `coreinstances` and
+    /// `corestack` make something grow.
     pub fn as_known(&self, alloc: Global) -> Result<KnownCustom<'a>>
         ensures known { IfOk result (λ known. known_parts known ≡ known_of self.now) }
         ensures refused { IfErr result (λ e. fault_at e ≡ out_of_memory) }
@@ -200,8 +201,8 @@ impl<'a> CustomSectionReader<'a> {
         self.as_known_in(alloc, alloc)
     }
 
-    /// The same as `as_known`, with the memory of core dumps from any allocator: `OutOfMemory`, at offset 0, where it refuses a
-    /// growth. What a section of subsections reads later takes its memory from `kept`.
+    /// The same as `as_known`, where the lists of core dumps grow by `alloc`. A reader of subsections keeps `kept`, by which
+    /// the lists in its subsections grow when they are read.
     pub fn as_known_in<A: Allocator + Copy>(
         &self,
         kept: Global,

@@ -15,12 +15,12 @@ ghost use Rattle.wasm_custom.specs.Flags.{segment_bits, symbol_bits};
 ghost use Rattle.wasm_custom.specs.Hashed.{hash_of_addend, hash_of_relocation, hash_of_symbol_kind};
 ghost use Rattle.wasm_custom.specs.Names.{IsShortNaming, id_of, index_of, index_of_indirect, offset_of_entry, offset_of_subsection};
 ghost use Rattle.wasm_custom.specs.Producers.{IsShortValue};
-ghost use Rattle.wasm_custom.specs.Relocations.{number_of};
+ghost use Rattle.wasm_custom.specs.Reloc.{number_of};
 
-use crate::branch_hints::{BranchHint, BranchHintFunction};
-use crate::core_dumps::{CoreDumpInstance, CoreDumpStackFrame, CoreDumpValue};
+use crate::branch_hinting::{BranchHint, BranchHintFunction};
+use crate::coredumps::{CoreDumpInstance, CoreDumpStackFrame, CoreDumpValue};
 use crate::custom::CustomSectionReader;
-use crate::dylink::{ExportInfo, ImportInfo, MemInfo};
+use crate::dylink0::{ExportInfo, ImportInfo, MemInfo};
 use crate::flags::{SegmentFlags, SymbolFlags};
 use crate::linking::{
     Comdat, ComdatSymbol, ComdatSymbolKind, DefinedDataSymbol, InitFunc, Linking, LinkingIntoIter,
@@ -28,10 +28,10 @@ use crate::linking::{
 };
 use crate::names::{IndirectNameMap, IndirectNaming, Name, NameMap, NameSectionReader, Naming};
 use crate::producers::{ProducersField, ProducersFieldValue};
-use crate::relocations::{RelocAddendKind, RelocSectionReader, RelocationEntry, RelocationType};
+use crate::reloc::{RelocAddendKind, RelocSectionReader, RelocationEntry, RelocationType};
 use std::hash::Hash;
 use wasm_base::{
-    FromReader, FromReaderIn, InnerItem, SectionLimitedIntoIter, Subsection, Subsections,
+    FromReader, FromReaderIn, SectionLimitedIntoIter, SkipItem, Subsection, Subsections,
 };
 
 /// Two relocations, types of relocations or kinds of addends are equal exactly if they are the same.
@@ -205,7 +205,7 @@ pub fn items_are_determined<'a>()
 {}
 
 /// Calls of `next` up to the first `None` give exactly the names, or the subsections of names, whose index or id is above every
-/// one that was given before; each other one is the fault of the order, at its start. One with a fault of its own is that
+/// one that was given before. Each other one is the fault of the order, at its start. One with a fault of its own is that
 /// fault. What they give ascends strictly, also across faults, and nothing comes after that `None`.
 pub fn names_ascend<'a>()
     ensures names { GivesAscending
@@ -246,21 +246,21 @@ fn cast(ty: RelocationType) -> u8
     ty as u8
 }
 
-/// Wherever an item of an inner list is read, passing over it takes the bytes that reading it takes; of an index with a name,
-/// and of a producer's value, this is so where each text has at most 100,000 bytes, the limit of what is passed over.
+/// Wherever an item of a list inside an item is read, passing over it takes the bytes that reading it takes. Of an index with
+/// a name, and of a producer's value, this is so where each text has at most 100,000 bytes, the limit of what is passed over.
 pub fn passing_over_takes_what_reading_takes<'a>()
     ensures hint { PassesAsRead
         ⟦<BranchHint as FromReader<'a>>⟧.meaning
-        ⟦<BranchHint as InnerItem<'a>>⟧.passed_at }
+        ⟦<BranchHint as SkipItem<'a>>⟧.passed_at }
     ensures comdat_symbol { PassesAsRead
         ⟦<ComdatSymbol as FromReader<'a>>⟧.meaning
-        ⟦<ComdatSymbol as InnerItem<'a>>⟧.passed_at }
+        ⟦<ComdatSymbol as SkipItem<'a>>⟧.passed_at }
     ensures naming { PassesIfSuch IsShortNaming
         ⟦<Naming<'a> as FromReader<'a>>⟧.meaning
-        ⟦<Naming<'a> as InnerItem<'a>>⟧.passed_at }
+        ⟦<Naming<'a> as SkipItem<'a>>⟧.passed_at }
     ensures value { PassesIfSuch IsShortValue
         ⟦<ProducersFieldValue<'a> as FromReader<'a>>⟧.meaning
-        ⟦<ProducersFieldValue<'a> as InnerItem<'a>>⟧.passed_at }
+        ⟦<ProducersFieldValue<'a> as SkipItem<'a>>⟧.passed_at }
 {}
 
 /// Names, what linkers and dynamic linkers read, and flags allow one outcome at each place too.

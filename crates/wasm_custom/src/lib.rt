@@ -2,25 +2,25 @@
 #![tactic(auto)]
 
 mod ascending;
-mod branch_hints;
-mod core_dumps;
+mod branch_hinting;
+mod coredumps;
 mod custom;
-mod dylink;
+mod dylink0;
 mod flags;
 mod known;
 pub mod laws;
 mod linking;
 mod names;
 mod producers;
-mod relocations;
+mod reloc;
 
-pub use branch_hints::{BranchHint, BranchHintFunction, BranchHintSectionReader};
-pub use core_dumps::{
+pub use branch_hinting::{BranchHint, BranchHintFunction, BranchHintSectionReader};
+pub use coredumps::{
     CoreDumpInstance, CoreDumpInstancesSection, CoreDumpModulesSection, CoreDumpSection,
     CoreDumpStackFrame, CoreDumpStackSection, CoreDumpValue,
 };
 pub use custom::CustomSectionReader;
-pub use dylink::{Dylink0SectionReader, Dylink0Subsection, ExportInfo, ImportInfo, MemInfo};
+pub use dylink0::{Dylink0SectionReader, Dylink0Subsection, ExportInfo, ImportInfo, MemInfo};
 pub use flags::{SegmentFlags, SymbolFlags};
 pub use known::KnownCustom;
 pub use linking::{
@@ -29,6 +29,6 @@ pub use linking::{
 };
 pub use names::{IndirectNameMap, IndirectNaming, Name, NameMap, NameSectionReader, Naming};
 pub use producers::{ProducersField, ProducersFieldValue, ProducersSectionReader};
-pub use relocations::{
+pub use reloc::{
     RelocAddendKind, RelocSectionReader, RelocationEntry, RelocationEntryReader, RelocationType,
 };

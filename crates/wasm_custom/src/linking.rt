@@ -16,7 +16,7 @@ use std::alloc::{AllocError, Global};
 use std::marker::Model;
 use std::ops::Range;
 use wasm_base::{
-    BinaryReader, Error, Fault, FromReader, InnerItem, Lead, NoMemory, Result, SectionLimited,
+    BinaryReader, Error, Fault, FromReader, Lead, NeverAllocates, Result, SectionLimited, SkipItem,
     Subsection, Subsections, leading_byte_error, read_inner,
 };
 
@@ -240,11 +240,11 @@ impl<'a> FromReader<'a> for ComdatSymbol {
 }
 
 /// As it is read.
-impl<'a> InnerItem<'a> for ComdatSymbol {
+impl<'a> SkipItem<'a> for ComdatSymbol {
     ghost passed_at = { after_reading comdat_symbol_at };
 
     #[tactic(auto, unfolding(wasm_base::specs::Inner::after_reading))]
-    fn pass_over(reader: &mut BinaryReader<'a>) -> Result<()> {
+    fn skip_item(reader: &mut BinaryReader<'a>) -> Result<()> {
         ComdatSymbol::from_reader(reader)?;
         Ok(())
     }
@@ -402,7 +402,7 @@ pub enum Linking<'a> {
 impl<'a> Subsection<'a> for Linking<'a> {
     ghost meaning = { ReadsWindowAs linking_parts linking_subsection_in };
 
-    type Memory = NoMemory;
+    type Allocation = NeverAllocates;
 
     #[tactic(auto, unfolding(crate::specs::Linking::linking_subsection_in))]
     fn from_reader(_alloc: Global, id: u8, mut reader: BinaryReader<'a>) -> Result<Self> {

@@ -15,8 +15,8 @@ use std::alloc::{AllocError, Global};
 use std::marker::Model;
 use std::ops::Range;
 use wasm_base::{
-    BinaryReader, Error, Fault, FromReader, InnerItem, NoMemory, Result, SectionLimited,
-    SectionLimitedIntoIter, Subsection, Subsections, read_inner,
+    BinaryReader, Error, Fault, FromReader, NeverAllocates, Result, SectionLimited,
+    SectionLimitedIntoIter, SkipItem, Subsection, Subsections, read_inner,
 };
 
 /// An index and its name (core specification, Appendix, Custom Sections, Name Section, Name Maps).
@@ -41,11 +41,11 @@ impl<'a> FromReader<'a> for Naming<'a> {
 }
 
 /// An index, and a name of at most 100,000 bytes, which need not be UTF-8.
-impl<'a> InnerItem<'a> for Naming<'a> {
+impl<'a> SkipItem<'a> for Naming<'a> {
     ghost passed_at = { passed_naming_at };
 
     #[tactic(auto, unfolding(crate::specs::Names::passed_naming_at))]
-    fn pass_over(reader: &mut BinaryReader<'a>) -> Result<()> {
+    fn skip_item(reader: &mut BinaryReader<'a>) -> Result<()> {
         reader.read_var_u32()?;
         reader.skip_string()
     }
@@ -226,8 +226,11 @@ impl<'a> Iterator for IndirectNameMap<'a> {
     }
 }
 
-/// A subsection of names (core specification, Appendix, Custom Sections, Name Section, Subsections; those beyond functions and
-/// locals are of the extended name section proposal).
+/// A subsection of names (core specification, Appendix, Custom Sections, Name Section, Subsections).
+///
+/// The core specification has those of the module, functions, locals, types, fields and tags. Those of labels, tables,
+/// memories, globals, element and data segments are of the extended name section proposal; those of parameters are read as
+/// `wasmparser` reads them.
 #[derive(Clone, Drop)]
 pub enum Name<'a> {
     /// The name of the module.
@@ -293,7 +296,7 @@ fn module_name<'a>(mut reader: BinaryReader<'a>) -> Result<Name<'a>>
 impl<'a> Subsection<'a> for Name<'a> {
     ghost meaning = { ReadsWindowAs name_parts name_in };
 
-    type Memory = NoMemory;
+    type Allocation = NeverAllocates;
 
     #[tactic(auto, unfolding(crate::specs::Names::name_in))]
     fn from_reader(_alloc: Global, id: u8, reader: BinaryReader<'a>) -> Result<Self> {

@@ -7,7 +7,7 @@ ghost use Rattle.wasm_base.specs.Window.{place, KeepsWindow};
 ghost use Rattle.wasm_custom.specs.Producers.{is_field_name, field_name_at, passed_value_at};
 
 use wasm_base::{
-    BinaryReader, Error, Fault, FromReader, InnerItem, Result, SectionLimited, read_inner,
+    BinaryReader, Error, Fault, FromReader, Result, SectionLimited, SkipItem, read_inner,
 };
 
 /// The section `producers`: its fields (tool conventions, Producers Section).
@@ -68,11 +68,11 @@ impl<'a> FromReader<'a> for ProducersFieldValue<'a> {
 }
 
 /// Two names of at most 100,000 bytes each, which need not be UTF-8.
-impl<'a> InnerItem<'a> for ProducersFieldValue<'a> {
+impl<'a> SkipItem<'a> for ProducersFieldValue<'a> {
     ghost passed_at = { passed_value_at };
 
     #[tactic(auto, unfolding(crate::specs::Producers::passed_value_at))]
-    fn pass_over(reader: &mut BinaryReader<'a>) -> Result<()> {
+    fn skip_item(reader: &mut BinaryReader<'a>) -> Result<()> {
         reader.skip_string()?;
         reader.skip_string()
     }

@@ -2,12 +2,13 @@
 use Rattle.std.proofs.Common.{List, ℕ, length, take, take_all, le_refl, Option, Result, Ok, Err, OnErr, subst, sym}
 use Rattle.std.specs.Io.KnownBytes.{Appends, Keeps}
 use Rattle.wasm_run.proofs.ForCallers.{appends_kept}
+use Rattle.wasm_feed.specs.Calls.{from_to}
 use Rattle.wasm_feed.specs.declared.listing.Ended.{Ended}
-use Rattle.wasm_feed.specs.declared.listing.ListError.{ListError}
-use Rattle.wasm_feed.specs.declared.listing.ListError.TheVariants.{Input, Output, Memory}
-use Rattle.wasm_text.specs.Dump.{WritesWhole, WritesSome, Writes, Dumps}
-use Rattle.wasm_text.specs.declared.only.Only.{Only}
-use Rattle.wasm_feed.specs.declared.source.Failed.{Failed}
+use Rattle.wasm_feed.specs.declared.devices.ListError.{ListError}
+use Rattle.wasm_feed.specs.declared.devices.ListError.TheVariants.{Input, Output, Memory}
+use Rattle.wasm_show.specs.Dump.{WritesWhole, WritesSome, Writes, Dumps}
+use Rattle.wasm_show.specs.declared.only.Only.{Only}
+use Rattle.wasm_feed.specs.declared.devices.Failed.{Failed}
 
 whole_kept : (a b c : Option (List ℕ)) (outline : List ℕ) → WritesWhole a b outline → Keeps b c → WritesWhole a c outline
 whole_kept a b c outline w k = record { text = w.text; outlined = w.outlined; wrote = appends_kept a b c w.text w.wrote k }
@@ -15,16 +16,28 @@ whole_kept a b c outline w k = record { text = w.text; outlined = w.outlined; wr
 some_kept : (a b c : Option (List ℕ)) (outline : List ℕ) → WritesSome a b outline → Keeps b c → WritesSome a c outline
 some_kept a b c outline w k = record { text = w.text; left = w.left; outlined = w.outlined; wrote = appends_kept a b c w.text w.wrote k }
 
-writes_kept : (how : Result Ended ListError) (a b c : Option (List ℕ)) (outline : List ℕ) → Writes how a b outline → Keeps b c → Writes how a c outline
+writes_kept : (how : Result Ended ListError) (a b c : Option (List ℕ)) (outline : List ℕ) → Writes how a b outline → Keeps b c
+    → Writes how a c outline
 writes_kept (Ok ended) a b c outline w k = whole_kept a b c outline w k
 writes_kept (Err Input) a b c outline w k = whole_kept a b c outline w k
 writes_kept (Err Output) a b c outline w k = some_kept a b c outline w k
 writes_kept (Err Memory) a b c outline w k = some_kept a b c outline w k
 
-pub dumps_kept : (only : Only) (left rest a b c : Option (List ℕ)) (how : Result Ended ListError) → Dumps only left rest a b how → Keeps b c → Dumps only left rest a c how
-dumps_kept only left rest a b c how d k = record { outline = d.outline; lists = d.lists; writes = writes_kept how a b c d.outline d.writes k }
+pub dumps_kept : (only : Only) (left rest a b c : Option (List ℕ)) (how : Result Ended ListError)
+    → Dumps only (from_to left rest) (from_to a b) how → Keeps b c
+    → Dumps only (from_to left rest) (from_to a c) how
+dumps_kept only left rest a b c how d k = record {
+  outline = d.outline;
+  lists = d.lists;
+  writes = writes_kept how a b c d.outline d.writes k;
+}
 
 -- all of a text was written, and then the output failed to hand it on
-pub not_handed_on : (r : Result (Unit {0}) Failed) (a b c : Option (List ℕ)) (text : List ℕ) → Appends a b text → Keeps b c → OnErr r ((n : ℕ) × Appends a c (take n text))
+pub not_handed_on : (r : Result (Unit {0}) Failed) (a b c : Option (List ℕ)) (text : List ℕ) → Appends a b text → Keeps b c
+    → OnErr r ((n : ℕ) × Appends a c (take n text))
 not_handed_on (Ok done) a b c text w k = tt
-not_handed_on (Err e) a b c text w k = (length text, subst (Appends a c) (sym (take_all (length text) text (le_refl (length text)))) (appends_kept a b c text w k))
+not_handed_on (Err e) a b c text w k = (
+  length text,
+  subst (Appends a c) (sym (take_all (length text) text (le_refl (length text))))
+      (appends_kept a b c text w k),
+)

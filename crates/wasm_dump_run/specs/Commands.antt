@@ -1,15 +1,18 @@
 -- What arguments ask for, and which sections a word chooses.
-use Rattle.std.specs.Prelude.{◌≡◌, ◌⊎◌, ℕ, ◌<◌, ◌^◌, List, [], ◌∷◌, codes, bytes_eq, drop, Option, Some, None, Result, Ok, Err, string_bytes, if◌then◌else◌}
+use Rattle.std.specs.Prelude.{◌≡◌, ◌⊎◌, ℕ, ◌<◌, ◌^◌, List, [], ◌∷◌, codes, bytes_eq, drop, Option, Some, None, Result}
+use Rattle.std.specs.Prelude.{Ok, Err, string_bytes, if◌then◌else◌}
 use Rattle.std.specs.IoError.{error_kind}
 use Rattle.std.specs.Str.Parse.{IsNumeral, digits_value, without_leading_plus}
 use Rattle.std.specs.declared.io.Error.{Error}
+use Rattle.wasm_grammar.specs.Ids.{id_named}
 use Rattle.wasm_run.specs.Arguments.{is_no_text}
-use Rattle.wasm_text.specs.declared.only.Only.{Only}
-use Rattle.wasm_text.specs.declared.only.Only.TheVariants as only
+use Rattle.wasm_show.specs.declared.only.Only.{Only}
+use Rattle.wasm_show.specs.declared.only.Only.TheVariants as only
 use Rattle.wasm_dump_run.specs.declared.command.Command.{Command}
 use Rattle.wasm_dump_run.specs.declared.command.Command.TheVariants.{All, Section, Help, Unknown}
 
--- what is asked for: to show all sections, or those that a word chooses; to say how the program is used; or it isn't known
+-- what is asked for: to show all sections, or those that a word chooses; to say how the program is used; or it isn't
+-- known
 pub data Asked : Type 0 where
   all : Asked
   sections : List ℕ → Asked
@@ -41,31 +44,14 @@ abbrev pub asked_if_any : {A : Type 0} → (A → List (List ℕ)) → Result A 
 asked_if_any words (Ok arguments) = Some (asked_by (drop 1 (words arguments)))
 asked_if_any words (Err e) = if is_no_text (error_kind e) then Some unknown else None
 
--- the id of the sections with this name. Core specification, Binary format, Modules, Sections.
-abbrev pub id_of : List ℕ → Option ℕ
-id_of word =
-    if bytes_eq word (codes "custom") then Some 0
-    else if bytes_eq word (codes "type") then Some 1
-    else if bytes_eq word (codes "import") then Some 2
-    else if bytes_eq word (codes "function") then Some 3
-    else if bytes_eq word (codes "table") then Some 4
-    else if bytes_eq word (codes "memory") then Some 5
-    else if bytes_eq word (codes "global") then Some 6
-    else if bytes_eq word (codes "export") then Some 7
-    else if bytes_eq word (codes "start") then Some 8
-    else if bytes_eq word (codes "element") then Some 9
-    else if bytes_eq word (codes "code") then Some 10
-    else if bytes_eq word (codes "data") then Some 11
-    else if bytes_eq word (codes "datacount") then Some 12
-    else if bytes_eq word (codes "tag") then Some 13
-    else None
-
 -- whether a word is the number of an id: decimal digits, before which a plus may stand, of less than 256
 abbrev pub IsNumber : List ℕ → Type 0
 IsNumber word = IsNumeral 10 (without_leading_plus word) × (digits_value 10 (without_leading_plus word) < 2 ^ 8)
 
--- These sections are those that a word chooses: by their id, else by their name in the standard, else custom sections by theirs.
+-- These sections are those that a word chooses: by their id, else by their name in the standard, else custom sections
+-- by theirs.
 abbrev pub Chooses : (word : List ℕ) → Only → Type 0
 Chooses word only.All = ⊥
-Chooses word (only.Id id) = (IsNumber word × (id ≡ digits_value 10 (without_leading_plus word))) ⊎ ((¬ IsNumber word) × (id_of word ≡ Some id))
-Chooses word (only.Name name) = (¬ IsNumber word) × (id_of word ≡ None) × (name.now ≡ word)
+Chooses word (only.Id id) = (IsNumber word × (id ≡ digits_value 10 (without_leading_plus word)))
+    ⊎ ((¬ IsNumber word) × (id_named word ≡ Some id))
+Chooses word (only.Name name) = (¬ IsNumber word) × (id_named word ≡ None) × (name.now ≡ word)

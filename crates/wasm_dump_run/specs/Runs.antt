@@ -1,26 +1,30 @@
 -- What a run of the program does.
 use Rattle.std.specs.Prelude.{◌≡◌, ◌⊎◌, ℕ, Bool, true, List, ◌++◌, codes, Option, Some, None, Result, Ok, Err}
-use Rattle.wasm_feed.specs.Calls.{Device}
+use Rattle.wasm_feed.specs.Calls.{Device, bytes_of}
 use Rattle.wasm_feed.specs.Lists.{input_failed, output_failed}
 use Rattle.wasm_feed.specs.declared.listing.Ended.{Ended}
-use Rattle.wasm_feed.specs.declared.listing.ListError.{ListError}
-use Rattle.wasm_feed.specs.declared.listing.ListError.TheVariants.{Output}
-use Rattle.wasm_text.specs.Dump.{Dumps}
-use Rattle.wasm_text.specs.declared.only.Only.{Only}
-use Rattle.wasm_text.specs.declared.only.Only.TheVariants.{All}
+use Rattle.wasm_feed.specs.declared.devices.ListError.{ListError}
+use Rattle.wasm_feed.specs.declared.devices.ListError.TheVariants.{Output}
+use Rattle.wasm_show.specs.Dump.{Dumps}
+use Rattle.wasm_show.specs.declared.only.Only.{Only}
+use Rattle.wasm_show.specs.declared.only.Only.TheVariants.{All}
 use Rattle.wasm_run.specs.Devices.{IsUntouched}
 use Rattle.wasm_run.specs.Endings.{status_of, Reports, RunsUsage, CannotBegin, WritesAll, WritesSome}
 use Rattle.wasm_dump_run.specs.Commands.{Asked, Chooses, all, sections, help, unknown}
 
 -- What was written was handed on, or the output failed to; after a dump that was given up nothing is done.
-abbrev pub HandsOn : (how : Result Ended ListError) (had_failed has_failed handed_on : Bool) → Result Ended ListError → Type 0
-HandsOn (Ok ended) had_failed has_failed handed_on result = ((result ≡ Ok ended) × (handed_on ≡ true) × (has_failed ≡ had_failed)) ⊎ ((result ≡ Err Output) × (has_failed ≡ true))
+abbrev pub HandsOn : (how : Result Ended ListError) (had_failed has_failed handed_on : Bool) → Result Ended ListError
+    → Type 0
+HandsOn (Ok ended) had_failed has_failed handed_on result =
+    ((result ≡ Ok ended) × (handed_on ≡ true) × (has_failed ≡ had_failed))
+    ⊎ ((result ≡ Err Output) × (has_failed ≡ true))
 HandsOn (Err why) had_failed has_failed handed_on result = (result ≡ Err why) × (has_failed ≡ had_failed)
 
 -- The input was dumped, and what was written handed on.
-pub record RunsDump (only : Only) (input output : Device) (handed_on : Bool) (result : Result Ended ListError) : Type 0 where
+pub record RunsDump (only : Only) (input output : Device) (handed_on : Bool) (result : Result Ended ListError) : Type
+    0 where
   pub how : Result Ended ListError
-  pub dumps : Dumps only input.before input.after output.before output.after how
+  pub dumps : Dumps only (bytes_of input) (bytes_of output) how
   pub source : input.has_failed ≡ input_failed how input.had_failed
   pub ends : HandsOn how (output_failed how output.had_failed) output.has_failed handed_on result
 
@@ -31,15 +35,16 @@ abbrev pub help_text : List ℕ
 help_text =
     codes "usage: wasm_dump [--section ID|NAME] < FILE\n" ++ (
     codes "\n" ++ (
-    codes "Shows what the WebAssembly module in FILE holds: a line for each section and body, and under it a line for each item, which begins\n" ++ (
-    codes "with the offset of its bytes in the file. A fault of an item is a line at its place. With --section only the sections with this id\n" ++ (
-    codes "or name are shown.\n" ++ (
+    codes "Shows what the WebAssembly module in FILE holds: a line for each section and\n" ++ (
+    codes "body, and under it a line for each item, which begins with the offset of its\n" ++ (
+    codes "bytes in the file. A fault of an item is a line at its place. With --section\n" ++ (
+    codes "only the sections with this id or name are shown.\n" ++ (
     codes "\n" ++ (
     codes "  wasm_dump < a.wasm                     all of it\n" ++ (
     codes "  wasm_dump --section import < a.wasm    its imports\n" ++ (
     codes "\n" ++ (
-    codes "The status is 0, or 1 where the file has a fault at which reading stops, 2 for other arguments, and 3 where the input, the output\n" ++ (
-    codes "or memory failed.\n"))))))))))
+    codes "The status is 0, or 1 where the file has a fault at which reading stops, 2 for\n" ++ (
+    codes "other arguments, and 3 where the input, the output or memory failed.\n")))))))))))
 
 -- These sections of the input were shown, and how that ended is answered.
 pub record Shows (only : Only) (handed_on : Bool) (input output errors : Device) (status : ℕ) : Type 0 where
@@ -56,7 +61,8 @@ pub record ShowsChosen (word : List ℕ) (handed_on : Bool) (input output errors
 
 -- how the program is used was written and handed on, or the output failed
 abbrev pub Helps : (handed_on : Bool) (output errors : Device) (status : ℕ) → Type 0
-Helps handed_on output errors status = (WritesAll help_text output errors status × (handed_on ≡ true)) ⊎ WritesSome help_text output errors status
+Helps handed_on output errors status =
+    (WritesAll help_text output errors status × (handed_on ≡ true)) ⊎ WritesSome help_text output errors status
 
 -- the same, and the input was left alone
 pub record RunsHelp (handed_on : Bool) (input output errors : Device) (status : ℕ) : Type 0 where

@@ -1,12 +1,13 @@
 // What the program is asked for.
 ghost use Rattle.std.specs.Prelude.{◌≡◌, option_map, drop, map, string_bytes};
 ghost use Rattle.std.specs.Vec.Iter.{into_iter_items};
-ghost use Rattle.wasm_dump_run.specs.Commands.{Chooses, asked_by, asked_if_any, asked_of, asked_by_one, asked_by_two, id_of as id_named};
+ghost use Rattle.wasm_dump_run.specs.Commands.{Chooses, asked_by, asked_if_any, asked_of, asked_by_one, asked_by_two};
 
 use std::env::Args;
 use std::io;
+use wasm_grammar::section_named;
 use wasm_run::is_no_text;
-use wasm_text::Only;
+use wasm_show::Only;
 
 /// What the program is to do.
 #[derive(Drop)]
@@ -79,36 +80,13 @@ pub(crate) fn command_asked(arguments: io::Result<Args>) -> Option<Command>
     }
 }
 
-// The id of the sections with this name (core specification, Binary format, Modules, Sections).
-fn id_of(word: &str) -> Option<u8>
-    ensures { result ≡ id_named word.now }
-{
-    match word {
-        "custom" => Some(0),
-        "type" => Some(1),
-        "import" => Some(2),
-        "function" => Some(3),
-        "table" => Some(4),
-        "memory" => Some(5),
-        "global" => Some(6),
-        "export" => Some(7),
-        "start" => Some(8),
-        "element" => Some(9),
-        "code" => Some(10),
-        "data" => Some(11),
-        "datacount" => Some(12),
-        "tag" => Some(13),
-        _ => None,
-    }
-}
-
 /// The sections that a word chooses: an id, a name of the standard, or the name of a custom section.
 pub(crate) fn sections_named(word: &str) -> Only<'_>
     ensures { Chooses word.now result }
 {
     match word.parse::<u8>() {
         Ok(id) => Only::Id(id),
-        Err(_) => match id_of(word) {
+        Err(_) => match section_named(word) {
             Some(id) => Only::Id(id),
             None => Only::Name(word),
         },

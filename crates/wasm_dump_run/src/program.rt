@@ -3,7 +3,7 @@ ghost use Rattle.std.specs.Prelude.{◌≡◌, map, string_bytes, OnOk, OnErr, �
 ghost use Rattle.std.specs.Io.KnownBytes.{Appends, Keeps};
 ghost use Rattle.std.specs.Process.{exit_status};
 ghost use Rattle.std.specs.Vec.Iter.{into_iter_items};
-ghost use Rattle.wasm_feed.specs.Calls.{device_of};
+ghost use Rattle.wasm_feed.specs.Calls.{device_of, writer_device};
 ghost use Rattle.wasm_run.specs.Endings.{Reports, status_of};
 ghost use Rattle.wasm_dump_run.specs.Commands.{asked_if_any, asked_of};
 ghost use Rattle.wasm_dump_run.specs.Runs.{HandsOn, Helps, Runs, RunsDump, RunsProgram, Shows, ShowsChosen, help_text};
@@ -15,20 +15,21 @@ use std::io::{self, Write};
 use std::process::ExitCode;
 use wasm_feed::{Ended, Failed, ListError, ReadSource, Sink, Source, WriteSink, write_all};
 use wasm_run::{PIECE, complain, give_up};
-use wasm_text::{Only, Tree, dump};
+use wasm_show::{Only, Tree, dump};
 
 /// What `--help` says.
 const HELP: &[u8] = b"usage: wasm_dump [--section ID|NAME] < FILE
 
-Shows what the WebAssembly module in FILE holds: a line for each section and body, and under it a line for each item, which begins
-with the offset of its bytes in the file. A fault of an item is a line at its place. With --section only the sections with this id
-or name are shown.
+Shows what the WebAssembly module in FILE holds: a line for each section and
+body, and under it a line for each item, which begins with the offset of its
+bytes in the file. A fault of an item is a line at its place. With --section
+only the sections with this id or name are shown.
 
   wasm_dump < a.wasm                     all of it
   wasm_dump --section import < a.wasm    its imports
 
-The status is 0, or 1 where the file has a fault at which reading stops, 2 for other arguments, and 3 where the input, the output
-or memory failed.
+The status is 0, or 1 where the file has a fault at which reading stops, 2 for
+other arguments, and 3 where the input, the output or memory failed.
 ";
 
 // The same, in the words of its clause.
@@ -60,8 +61,7 @@ pub fn run_program<R: Source, W: Write, E: Sink>(
     ensures { RunsProgram (asked_if_any (λ args. map string_bytes (into_iter_items args)) arguments)
         result.1.handed_on
         (device_of R.left R.has_failed input.old input.new)
-        (device_of ⟦<WriteSink<W> as Sink>⟧.taken ⟦<WriteSink<W> as Sink>⟧.has_failed
-        output result.1)
+        (writer_device W.contents output result.1)
         (device_of E.taken E.has_failed errors.old errors.new) (exit_status result.0) }
 {
     let Some(command) = command_asked(arguments) else {
@@ -71,8 +71,8 @@ pub fn run_program<R: Source, W: Write, E: Sink>(
     (ExitCode::from(status), output)
 }
 
-// Does what is asked for, and answers the status: 0 at the end of the stream and where help was asked for, 1 at a fault of the
-// stream, 2 where it isn't known what to do, and 3 where the input, the output or memory failed.
+// Does what is asked for, and answers the status. It is 0 at the end of the stream and where help was asked for, and 1 at a
+// fault of the stream. It is 2 where it isn't known what to do, and 3 where the input, the output or memory failed.
 fn run_command<R: Source, W: Write, E: Sink>(
     alloc: Global,
     command: Command,
@@ -82,8 +82,7 @@ fn run_command<R: Source, W: Write, E: Sink>(
 ) -> (u8, WriteSink<W>)
     ensures { Runs (asked_of command) result.1.handed_on
         (device_of R.left R.has_failed input.old input.new)
-        (device_of ⟦<WriteSink<W> as Sink>⟧.taken ⟦<WriteSink<W> as Sink>⟧.has_failed
-        output result.1)
+        (writer_device W.contents output result.1)
         (device_of E.taken E.has_failed errors.old errors.new) result.0 }
 {
     match command {
@@ -113,8 +112,7 @@ fn write_help<W: Write>(output: &mut WriteSink<W>) -> Result<(), Failed>
 // Says how the program is used, and answers the status.
 fn show_help<W: Write, E: Sink>(mut output: WriteSink<W>, errors: &mut E) -> (u8, WriteSink<W>)
     ensures { Helps result.1.handed_on
-        (device_of ⟦<WriteSink<W> as Sink>⟧.taken ⟦<WriteSink<W> as Sink>⟧.has_failed
-        output result.1)
+        (writer_device W.contents output result.1)
         (device_of E.taken E.has_failed errors.old errors.new) result.0 }
 {
     match write_help(&mut output) {
@@ -133,8 +131,7 @@ fn show_chosen<R: Source, W: Write, E: Sink>(
 ) -> (u8, WriteSink<W>)
     ensures { ShowsChosen word.now result.1.handed_on
         (device_of R.left R.has_failed input.old input.new)
-        (device_of ⟦<WriteSink<W> as Sink>⟧.taken ⟦<WriteSink<W> as Sink>⟧.has_failed
-        output result.1)
+        (writer_device W.contents output result.1)
         (device_of E.taken E.has_failed errors.old errors.new) result.0 }
 {
     let only = sections_named(word);
@@ -151,8 +148,7 @@ fn show_input<R: Source, W: Write, E: Sink>(
 ) -> (u8, WriteSink<W>)
     ensures { Shows only.now result.1.handed_on
         (device_of R.left R.has_failed input.old input.new)
-        (device_of ⟦<WriteSink<W> as Sink>⟧.taken ⟦<WriteSink<W> as Sink>⟧.has_failed
-        output result.1)
+        (writer_device W.contents output result.1)
         (device_of E.taken E.has_failed errors.old errors.new) result.0 }
 {
     let (how, output) = dump_input(alloc, only, input, output);
@@ -196,8 +192,7 @@ pub fn dump_input<R: Source, W: Write>(
     output: WriteSink<W>,
 ) -> (Result<Ended, ListError>, WriteSink<W>)
     ensures { RunsDump only.now (device_of R.left R.has_failed input.old input.new)
-        (device_of ⟦<WriteSink<W> as Sink>⟧.taken ⟦<WriteSink<W> as Sink>⟧.has_failed
-        output result.1) result.1.handed_on result.0 }
+        (writer_device W.contents output result.1) result.1.handed_on result.0 }
 {
     let mut tree = Tree::new(alloc, output);
     let how = dump(alloc, only, input, &mut tree, PIECE);

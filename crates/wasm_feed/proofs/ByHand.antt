@@ -13,7 +13,8 @@ pub use mir.Val.{Val, has_ty, WT}
 pub use contract.Monad.{fact, fact_i}
 pub use contract.Running.{tables}
 pub use types.Logic.{Logic, sem}
-pub use types.Kit.{‵, raw, ◌⊛◌, some, later, ◌$◌, ◌∵◌, !, qed, by, move, keep, drop, use0, use1, use2, split, join, pick, await, rewrite, fjoin, fsplit}
+pub use types.Kit.{‵, raw, ◌⊛◌, some, later, ◌$◌, ◌∵◌, !, qed, by, move, keep, drop, use0, use1, use2, split, join, pick, await, rewrite}
+pub use types.Kit.{fjoin, fsplit}
 pub use types.Run.{enter, addr, stop, no_more, and_then, returns}
 pub use types.ByLocal.{alloc_all, pass_all, free_all, look_at, get, through, sets, lands_as}
 pub use denote.RattleType.{RattleType}

@@ -1,22 +1,25 @@
 -- What is left of a stream, moved to the front of its bytes.
-use Rattle.std.proofs.Common.{◌≡◌, ℕ, Bool, ◌+◌, ◌-◌, ◌≤◌, List, ◌++◌, length, take, drop, refl, sym, ap, subst, ◌∙◌, arith, length-append, append_assoc}
+use Rattle.std.proofs.Common.{◌≡◌, ℕ, Bool, ◌+◌, ◌-◌, ◌≤◌, List, ◌++◌, length, take, drop, refl, sym, ap, subst, ◌∙◌, arith, length-append}
+use Rattle.std.proofs.Common.{append_assoc}
 use Rattle.std.specs.List.{copy_within}
 use Rattle.std.proofs.lemmas.List.{take_at, drop-drop, length-drop, take-append-drop}
 use Rattle.std.proofs.lemmas.List.Edits.{take-paste, drop-paste}
 use lib.Seq.{paste}
 use Rattle.wasm_parser.specs.Along.{Along}
 use Rattle.wasm_feed.specs.Cursors.{feed_of}
-use Rattle.wasm_feed.specs.Lists.{all_features}
 use Rattle.wasm_feed.specs.Strips.{HasLeft}
 use Rattle.wasm_feed.specs.declared.feeder.Cursor.{Cursor}
+use Rattle.wasm_base.specs.Features.{all_features}
 
 -- a part that is moved down, after what is at the front, changes nothing of what comes after it
-module _ (bytes part : List ℕ) (left start end : ℕ) (order : left ≤ start) (within : start ≤ length bytes) (size : end ≡ start + length part) (parts : drop start bytes ≡ part ++ drop end bytes) where
+module _ (bytes part : List ℕ) (left start end : ℕ) (order : left ≤ start) (within : start ≤ length bytes)
+    (size : end ≡ start + length part) (parts : drop start bytes ≡ part ++ drop end bytes) where
   abbrev moved : List ℕ
   moved = copy_within bytes start (start + length part) left
 
   fits : length part ≤ length (drop start bytes)
-  fits = let n : length (drop start bytes) ≡ length part + length (drop end bytes) = ap (λ (x : List ℕ). length x) parts ∙ length-append part (drop end bytes) in omega arith
+  fits = let n : length (drop start bytes) ≡ length part + length (drop end bytes) = ap (λ (x : List ℕ). length x) parts
+      ∙ length-append part (drop end bytes) in omega arith
 
   same_size : start + length part - start ≡ length part
   same_size = omega arith
@@ -34,7 +37,8 @@ module _ (bytes part : List ℕ) (left start end : ℕ) (order : left ≤ start)
   moved_rest =
       ap (λ (n : ℕ). drop end (paste bytes left (drop start bytes) n)) same_size
       ∙ (later (paste bytes left (drop start bytes) (length part))
-      ∙ (ap (drop (start - left)) (drop-paste bytes left (drop start bytes) (length part) (omega (arith, order, within)) fits) ∙ sym (later bytes)))
+      ∙ (ap (drop (start - left)) (drop-paste bytes left (drop start bytes) (length part) (omega (arith, order, within)) fits)
+      ∙ sym (later bytes)))
 
 -- bytes that are moved to where they are
 pub stays_there : (bytes : List ℕ) (start size to : ℕ) → to ≡ start → copy_within bytes start (start + size) to ≡ bytes
@@ -46,17 +50,25 @@ stays_there bytes start size to e =
     ∙ (ap (λ (x : List ℕ). take start bytes ++ x) (take-append-drop m (drop start bytes)) ∙ take-append-drop start bytes)))
 
 -- a part ends within the bytes
-pub mark_within : (bytes part : List ℕ) (old new : ℕ) → old ≤ length bytes → (new ≡ old + length part) × (drop old bytes ≡ part ++ drop new bytes) → new ≤ length bytes
+pub mark_within : (bytes part : List ℕ) (old new : ℕ) → old ≤ length bytes → (new ≡ old + length part)
+    × (drop old bytes ≡ part ++ drop new bytes) → new ≤ length bytes
 mark_within bytes part old new within (size, parts) =
-    let n : length (drop old bytes) ≡ length part + length (drop new bytes) = ap (λ (x : List ℕ). length x) parts ∙ length-append part (drop new bytes) in
+    let n : length (drop old bytes) ≡ length part + length (drop new bytes) = ap (λ (x : List ℕ). length x) parts
+    ∙ length-append part (drop new bytes) in
     omega (arith, within, size, n, length-drop old bytes)
 
 -- so what is left goes on with it
-pub moves_on : (keep : Bool) (stream bytes items part : List ℕ) (left start : ℕ) (old new : Cursor) → start ≡ old.mark → left ≤ old.mark → old.mark ≤ length bytes
-    → (new.mark ≡ old.mark + length part) × (drop old.mark bytes ≡ part ++ drop new.mark bytes) → items ≡ copy_within bytes start (start + length part) left
-    → HasLeft keep stream (feed_of bytes new) (take left bytes ++ part) → HasLeft keep stream (feed_of items new) (take (left + length part) items)
+pub moves_on : (keep : Bool) (stream bytes items part : List ℕ) (left start : ℕ) (old new : Cursor) → start ≡ old.mark → left ≤ old.mark
+    → old.mark ≤ length bytes
+    → (new.mark ≡ old.mark + length part) × (drop old.mark bytes ≡ part ++ drop new.mark bytes) → items
+    ≡ copy_within bytes start (start + length part) left
+    → HasLeft keep stream (feed_of bytes new) (take left bytes ++ part)
+    → HasLeft keep stream (feed_of items new) (take (left + length part) items)
 moves_on keep stream bytes items part left start old new e order within (size, parts) i (events, a, b) =
-    let m : items ≡ copy_within bytes old.mark (old.mark + length part) left = i ∙ ap (λ (n : ℕ). copy_within bytes n (n + length part) left) e in
-    let held : drop new.mark items ≡ drop new.mark bytes = ap (drop new.mark) m ∙ moved_rest bytes part left old.mark new.mark order within size parts in
-    let front : take (left + length part) items ≡ take left bytes ++ part = ap (take (left + length part)) m ∙ moved_front bytes part left old.mark new.mark order within size parts in
+    let m : items ≡ copy_within bytes old.mark (old.mark + length part) left = i
+    ∙ ap (λ (n : ℕ). copy_within bytes n (n + length part) left) e in
+    let held : drop new.mark items ≡ drop new.mark bytes = ap (drop new.mark) m
+    ∙ moved_rest bytes part left old.mark new.mark order within size parts in
+    let front : take (left + length part) items ≡ take left bytes ++ part = ap (take (left + length part)) m
+    ∙ moved_front bytes part left old.mark new.mark order within size parts in
     (events, subst (λ (x : List ℕ). Along 0 all_features stream new.parser x events) (sym held) a, front ∙ b)

@@ -1,23 +1,26 @@
 -- How far a listing has come, and what each turn does to it.
-use Rattle.std.proofs.Common.{◌≡◌, ℕ, ◌+◌, ◌-◌, ◌^◌, ◌<◌, ◌≤◌, Bool, true, false, if◌then◌else◌, List, [], ◌∷◌, ◌++◌, length, take, drop, Option, Some, None, IfSome, Result, Ok, Err, nat_lt, refl, sym, ap, subst, ◌∙◌, arith, append_assoc, append-nil, length-append, ltb-true, ltb-false, inl, inr}
+use Rattle.std.proofs.Common.{◌≡◌, ℕ, ◌+◌, ◌-◌, ◌^◌, ◌<◌, ◌≤◌, Bool, true, false, if◌then◌else◌, List, [], ◌∷◌, ◌++◌, length, take, drop}
+use Rattle.std.proofs.Common.{Option, Some, None, IfSome, Result, Ok, Err, nat_lt, refl, sym, ap, subst, ◌∙◌, arith, append_assoc}
+use Rattle.std.proofs.Common.{append-nil, length-append, ltb-true, ltb-false, inl, inr}
 use Rattle.std.proofs.lemmas.List.{take-append-drop}
 use Rattle.std.specs.Io.KnownBytes.{Consumes, Appends, IsAtEnd, Keeps}
 use Rattle.std.proofs.KnownBytes.{Consumes-nil, Consumes-trans, Consumes-kept, Appends-nil, Appends-trans}
 use Rattle.wasm_base.specs.FaultAt.{fault_at, at_offset}
 use Rattle.wasm_base.specs.declared.error.Error.{Error}
 use Rattle.wasm_base.specs.declared.fault.Fault.TheVariants.{OffsetRange}
-use Rattle.wasm_parser.specs.Content.{Ending, fault, ended}
-use Rattle.wasm_parser.specs.EventRanges.{consumed_by}
+use Rattle.wasm_grammar.specs.Content.{Ending, fault, ended}
+use Rattle.wasm_grammar.specs.EventRanges.{consumed_by}
 use Rattle.wasm_parser.specs.GivesNextEvent.{MayBe, IsUndecided}
 use Rattle.wasm_parser.specs.ParseAnswer.{report_of, is_end, ParseAnswer}
 use Rattle.wasm_parser.specs.ParserState.{ParserState}
-use Rattle.wasm_parser.specs.Reading.{Report, stream_end, Event, events_of, last_event, Reading}
+use Rattle.wasm_grammar.specs.Reading.{Report, stream_end, Event, events_of, last_event, Reading}
 use Rattle.wasm_parser.specs.declared.payload.Payload.{Payload}
 use Rattle.wasm_parser.specs.Along.{Along, ReadingBegins, BeginsEach, ReadsEach, Came}
 use Rattle.wasm_parser.proofs.ForCallers.{answers_go_along}
+use Rattle.wasm_feed.specs.Calls.{from_to}
 use Rattle.wasm_feed.specs.Feed.{Feed, new_feed, pushed, finished}
 use Rattle.wasm_feed.specs.Listing.{listing_by}
-use Rattle.wasm_feed.specs.Lists.{all_features, IsEndedBy, IsWhole, IsListed, Begins, Fills, Refills, ListsBy}
+use Rattle.wasm_feed.specs.Lists.{IsEndedBy, IsWhole, IsListed, Begins, Fills, Refills, ListsBy}
 use Rattle.wasm_feed.specs.Progress.{weight, Progress, Wants}
 use Rattle.wasm_feed.specs.Page.{IsCut, PutsLine}
 use Rattle.wasm_feed.specs.Cursors.{feed_of}
@@ -28,26 +31,36 @@ use Rattle.wasm_feed.specs.declared.feeder.Step.{Step}
 use Rattle.wasm_feed.specs.declared.feeder.Step.TheVariants.{NeedMoreData, Parsed}
 use Rattle.wasm_feed.specs.declared.listing.Ended.{Ended}
 use Rattle.wasm_feed.specs.declared.listing.Ended.TheVariants.{End, Fault}
-use Rattle.wasm_feed.specs.declared.listing.ListError.{ListError}
-use Rattle.wasm_feed.specs.declared.listing.ListError.TheVariants.{Input, Output, Memory}
+use Rattle.wasm_feed.specs.declared.devices.ListError.{ListError}
+use Rattle.wasm_feed.specs.declared.devices.ListError.TheVariants.{Input, Output, Memory}
 use Rattle.wasm_feed.specs.declared.listing.Turn.TheVariants as turn
 use Rattle.wasm_feed.proofs.Stepping.{stepped as step_along}
+use Rattle.wasm_base.specs.Features.{all_features}
 
 -- ---- what the feeder was given
 
 -- a reading that is told begins each of its streams
-whole_begins : (start features : ℕ) (eof : Bool) (given : List ℕ) (events : List Event) → ReadsEach start features eof given events → BeginsEach start features eof given events
-whole_begins start features eof given events r stream m = record { events = events; more = []; reading = r stream m; begins = sym (append-nil events) }
+whole_begins : (start features : ℕ) (eof : Bool) (given : List ℕ) (events : List Event) → ReadsEach start features eof given events
+    → BeginsEach start features eof given events
+whole_begins start features eof given events r stream m = record {
+  events = events;
+  more = [];
+  reading = r stream m;
+  begins = sym (append-nil events);
+}
 
 -- a source that kept its bytes
 kept : (left rest rest' : Option (List ℕ)) (given : List ℕ) → Consumes left rest given → Keeps rest rest' → Consumes left rest' given
 kept left rest rest' given g k = Consumes-kept left rest rest' given g k
 
 -- a step, by what the cursor says of it
-pub steps_by : (bytes items : List ℕ) (old new : Cursor) (x : Result Step Error) → bytes ≡ items → ParseAnswer old.parser old.is_finished (drop old.mark bytes) (answer_of x) new.parser → drop old.mark bytes ≡ shown x ++ drop new.mark bytes
+pub steps_by : (bytes items : List ℕ) (old new : Cursor) (x : Result Step Error) → bytes ≡ items
+    → ParseAnswer old.parser old.is_finished (drop old.mark bytes) (answer_of x) new.parser → drop old.mark bytes ≡ shown x
+    ++ drop new.mark bytes
     → new.is_finished ≡ old.is_finished → new.wants_more ≡ is_request x → Steps (feed_of items old) x (feed_of items new)
 steps_by bytes items old new x same parses shows finished wants =
-    subst (λ (l : List ℕ). Steps (feed_of l old) x (feed_of l new)) same (record { parses = parses; shows = shows; stored = refl; eof = finished; wants_more = wants })
+    subst (λ (l : List ℕ). Steps (feed_of l old) x (feed_of l new)) same
+    (record { parses = parses; shows = shows; stored = refl; eof = finished; wants_more = wants })
 
 -- ---- the last event
 
@@ -60,8 +73,10 @@ last_is : (d : Event) (es : List Event) (e : Event) → last_of d (es ++ e ∷ [
 last_is d [] e = refl
 last_is d (x ∷ es) e = last_is x es e
 
-reading_ends : (stream : List ℕ) (events : List Event) (e : Event) (r : Reading stream 0 all_features (events ++ e ∷ [])) → e ≡ last_event r.end
-reading_ends stream events e r = sym (last_is e events e) ∙ (ap (last_of e) r.listed ∙ last_is e (events_of 0 all_features r.tiles) (last_event r.end))
+reading_ends : (stream : List ℕ) (events : List Event) (e : Event) (r : Reading stream 0 all_features (events ++ e ∷ [])) → e
+    ≡ last_event r.end
+reading_ends stream events e r = sym (last_is e events e) ∙ (ap (last_of e) r.listed
+    ∙ last_is e (events_of 0 all_features r.tiles) (last_event r.end))
 
 ends_well : (end : Ending) (r : Report) → r ≡ stream_end end → is_end r ≡ true → IsEndedBy End end
 ends_well (ended o) r e t = tt
@@ -74,7 +89,7 @@ all_given false given = ([], sym (append-nil given))
 -- ---- what is listed: each event by the text of what it reports
 
 module _ (text_of : Report → List ℕ) where
-  pub begun : (left taken : Option (List ℕ)) → Progress text_of left left taken taken (new_feed 0 all_features) []
+  pub begun : (left taken : Option (List ℕ)) → Progress text_of (from_to left left) (from_to taken taken) (new_feed 0 all_features) []
   begun left taken = record {
     given = [];
     events = [];
@@ -90,23 +105,27 @@ module _ (text_of : Report → List ℕ) where
 
   listing-append : (es fs : List Event) → listing_by text_of (es ++ fs) ≡ listing_by text_of es ++ listing_by text_of fs
   listing-append [] fs = refl
-  listing-append (x ∷ es) fs = ap (λ (l : List ℕ). text_of x.report ++ l) (listing-append es fs) ∙ sym (append_assoc (text_of x.report) (listing_by text_of es) (listing_by text_of fs))
+  listing-append (x ∷ es) fs = ap (λ (l : List ℕ). text_of x.report ++ l) (listing-append es fs)
+      ∙ sym (append_assoc (text_of x.report) (listing_by text_of es) (listing_by text_of fs))
 
   one_more : (es : List Event) (e : Event) → listing_by text_of (es ++ e ∷ []) ≡ listing_by text_of es ++ text_of e.report
   one_more es e = listing-append es (e ∷ []) ∙ ap (λ (l : List ℕ). listing_by text_of es ++ l) (append-nil (text_of e.report))
 
   -- a beginning of the listing, of a stream whose reading begins with these events
-  begins_listing : (stream : List ℕ) (events : List Event) (lines more : List ℕ) → ReadingBegins 0 all_features stream events → listing_by text_of events ≡ lines ++ more → Begins text_of stream lines
+  begins_listing : (stream : List ℕ) (events : List Event) (lines more : List ℕ) → ReadingBegins 0 all_features stream events
+      → listing_by text_of events ≡ lines ++ more → Begins text_of stream lines
   begins_listing stream events lines more r e = record {
     events = r.events;
     reading = r.reading;
-    left = more ++ listing_by text_of r.more;
-    parts = ap (listing_by text_of) r.begins ∙ (listing-append events r.more ∙ (ap (λ (x : List ℕ). x ++ listing_by text_of r.more) e ∙ append_assoc lines more (listing_by text_of r.more)));
+    more = more ++ listing_by text_of r.more;
+    parts = ap (listing_by text_of) r.begins ∙ (listing-append events r.more
+        ∙ (ap (λ (x : List ℕ). x ++ listing_by text_of r.more) e ∙ append_assoc lines more (listing_by text_of r.more)));
   }
 
   -- a page of which so much was written
   cut_page : (lines page : List ℕ) (n : ℕ) → lines ++ page ≡ (lines ++ take n page) ++ drop n page
-  cut_page lines page n = ap (λ (x : List ℕ). lines ++ x) (sym (take-append-drop n page)) ∙ sym (append_assoc lines (take n page) (drop n page))
+  cut_page lines page n = ap (λ (x : List ℕ). lines ++ x) (sym (take-append-drop n page))
+      ∙ sym (append_assoc lines (take n page) (drop n page))
 
   -- a run that ends with this line, after these events
   record AtEnd (given : List ℕ) (events : List Event) (eof : Bool) (line : List ℕ) (how : Ended) : Type 0 where
@@ -118,21 +137,26 @@ module _ (text_of : Report → List ℕ) where
 
   -- ---- a turn
 
-  module _ (left rest taken written : Option (List ℕ)) (f : Feed) (page : List ℕ) (p : Progress text_of left rest taken written f page) where
+  module _ (left rest taken written : Option (List ℕ)) (f : Feed) (page : List ℕ)
+      (p : Progress text_of (from_to left rest) (from_to taken written) f page) where
     ends_at : f.state.offset + length f.held ≡ length p.given
-    ends_at = let o : f.state.offset + length f.held ≡ 0 + length p.given = answers_go_along.ends 0 all_features p.given f.state f.held p.events p.is_along in omega (arith, o)
+    ends_at = let o : f.state.offset + length f.held ≡ 0 + length p.given =
+        answers_go_along.ends 0 all_features p.given f.state f.held p.events p.is_along in omega (arith, o)
 
     -- the parser is where the events end
     passed : f.state.offset ≡ length (consumed_by p.events)
     passed =
-        let n : length p.given ≡ length (consumed_by p.events) + length f.held = ap (λ (x : List ℕ). length x) (answers_go_along.consumed 0 all_features p.given f.state f.held p.events p.is_along) ∙ length-append (consumed_by p.events) f.held in
+        let n : length p.given ≡ length (consumed_by p.events) + length f.held =
+        ap (λ (x : List ℕ). length x) (answers_go_along.consumed 0 all_features p.given f.state f.held p.events p.is_along)
+        ∙ length-append (consumed_by p.events) f.held in
         omega (arith, n, ends_at)
 
     begins_here : ReadingBegins 0 all_features p.given p.events
     begins_here = answers_go_along.first 0 all_features p.given f.state f.held p.events true p.is_along p.given refl
 
     -- all lines that waited are written
-    pub written_out : (written' : Option (List ℕ)) → Appends written written' page → Progress text_of left rest taken written' f []
+    pub written_out : (written' : Option (List ℕ)) → Appends written written' page
+        → Progress text_of (from_to left rest) (from_to taken written') f []
     written_out written' w = record {
       given = p.given;
       events = p.events;
@@ -145,7 +169,8 @@ module _ (text_of : Report → List ℕ) where
     }
 
     -- a beginning of those that waited is written
-    pub cut : (written' : Option (List ℕ)) (e : ListError) → IsCut written written' page e → ListsBy text_of left rest taken written' (Err e)
+    pub cut : (written' : Option (List ℕ)) (e : ListError) → IsCut written written' page e
+        → ListsBy text_of (from_to left rest) (from_to taken written') (Err e)
     cut written' Output (n, w) = record {
       given = p.given;
       shown = p.lines ++ take n page;
@@ -157,29 +182,35 @@ module _ (text_of : Report → List ℕ) where
     cut written' Memory w = absurd w
 
     -- no memory for what came
-    pub no_memory : (rest' : Option (List ℕ)) (piece : List ℕ) → Consumes rest rest' piece → ListsBy text_of left rest' taken written (Err Memory)
+    pub no_memory : (rest' : Option (List ℕ)) (piece : List ℕ) → Consumes rest rest' piece
+        → ListsBy text_of (from_to left rest') (from_to taken written) (Err Memory)
     no_memory rest' piece c = record {
       given = p.given ++ piece;
       shown = p.lines;
       gave = Consumes-trans left rest rest' p.given piece p.gave c;
       listed = p.listed;
-      begins = λ l. begins_listing (p.given ++ piece) p.events p.lines page (answers_go_along.first 0 all_features p.given f.state f.held p.events false p.is_along (p.given ++ piece) (piece, refl)) p.parts;
+      begins = λ l. begins_listing (p.given ++ piece) p.events p.lines page
+          (answers_go_along.first 0 all_features p.given f.state f.held p.events false p.is_along (p.given ++ piece) (piece, refl)) p.parts;
     }
 
     -- the line of an event was put after those that waited
-    put_line : (written' : Option (List ℕ)) (line page' : List ℕ) (e : Event) (w : PutsLine written written' page line page') → line ≡ text_of e.report
+    put_line : (written' : Option (List ℕ)) (line page' : List ℕ) (e : Event) (w : PutsLine written written' page line page') → line
+        ≡ text_of e.report
         → Appends taken written' (p.lines ++ w.lines) × (listing_by text_of (p.events ++ e ∷ []) ≡ (p.lines ++ w.lines) ++ page')
     put_line written' line page' e w same = (
       Appends-trans taken written written' p.lines w.lines p.listed w.writes,
-      one_more p.events e ∙ (ap (λ (x : List ℕ). x ++ text_of e.report) p.parts ∙ (append_assoc p.lines page (text_of e.report) ∙ (ap (λ (x : List ℕ). p.lines ++ (page ++ x)) (sym same) ∙ waits_after))),
+      one_more p.events e ∙ (ap (λ (x : List ℕ). x ++ text_of e.report) p.parts
+          ∙ (append_assoc p.lines page (text_of e.report) ∙ (ap (λ (x : List ℕ). p.lines ++ (page ++ x)) (sym same) ∙ waits_after))),
     )
       where
         waits_after : p.lines ++ (page ++ line) ≡ (p.lines ++ w.lines) ++ page'
         waits_after = ap (λ (x : List ℕ). p.lines ++ x) w.waits ∙ sym (append_assoc p.lines w.lines page')
 
     -- the listing of a reading that ends here, of which a part waits
-    last_line : (written' : Option (List ℕ)) (line page' : List ℕ) (end : Ending) (w : PutsLine written written' page line page') → line ≡ text_of (stream_end end)
-        → (written'' : Option (List ℕ)) → Appends written' written'' page' → Appends taken written'' (listing_by text_of (p.events ++ last_event end ∷ []))
+    last_line : (written' : Option (List ℕ)) (line page' : List ℕ) (end : Ending) (w : PutsLine written written' page line page') → line
+        ≡ text_of (stream_end end)
+        → (written'' : Option (List ℕ)) → Appends written' written'' page'
+        → Appends taken written'' (listing_by text_of (p.events ++ last_event end ∷ []))
     last_line written' line page' end w same written'' v =
         let (wrote, parts) = put_line written' line page' (last_event end) w same in
         subst (Appends taken written'') (sym parts) (Appends-trans taken written' written'' (p.lines ++ w.lines) page' wrote v)
@@ -188,7 +219,8 @@ module _ (text_of : Report → List ℕ) where
     whole_input : (events : List Event) → ReadsEach 0 all_features f.eof p.given events → IsWhole left p.given events
     whole_input events r = record { reading = r p.given (all_given f.eof p.given); all = of_input left rest p.gave f.eof r p.at_end }
       where
-        of_input : (left rest : Option (List ℕ)) → Consumes left rest p.given → (eof : Bool) → ReadsEach 0 all_features eof p.given events → (eof ≡ true → IsAtEnd rest) → IfSome left (λ input. Reading input 0 all_features events)
+        of_input : (left rest : Option (List ℕ)) → Consumes left rest p.given → (eof : Bool) → ReadsEach 0 all_features eof p.given events
+            → (eof ≡ true → IsAtEnd rest) → IfSome left (λ input. Reading input 0 all_features events)
         of_input None rest g eof r h = tt
         of_input (Some input) None g eof r h = absurd g
         of_input (Some input) (Some more) g true r h = r input (g ∙ (ap (λ (x : List ℕ). p.given ++ x) (h refl) ∙ append-nil p.given))
@@ -196,21 +228,27 @@ module _ (text_of : Report → List ℕ) where
 
     module _ (g : Feed) where
       -- what a step did, where what was given is below the top
-      stepped : (x : Result Step Error) → Steps f x g → length p.given < 2 ^ 64 → Stepped 0 all_features f.eof p.given p.events x g.state g.held
-      stepped x s l = step_along 0 all_features p.given f.state f.held p.events p.is_along f.eof x g.state g.held (omega (arith, l)) s.parses s.shows
+      stepped : (x : Result Step Error) → Steps f x g → length p.given < 2 ^ 64
+          → Stepped 0 all_features f.eof p.given p.events x g.state g.held
+      stepped x s l = step_along 0 all_features p.given f.state f.held p.events p.is_along f.eof x g.state g.held (omega (arith, l))
+          s.parses s.shows
 
       given_below : (step : Step) → Steps f (Ok step) g → length p.given < 2 ^ 64
       given_below step s = let o = answers_go_along.below f.state g.state f.eof f.held (chunk_of step) s.parses in omega (arith, o, ends_at)
 
       -- an event that isn't the last one
       went_on : (bytes : _) (payload : Payload) → (s : Steps f (Ok (Parsed bytes payload)) g) → is_end (report_of payload) ≡ false
-          → (written' : Option (List ℕ)) (page' : List ℕ) → PutsLine written written' page (text_of (report_of payload)) page' → Progress text_of left rest taken written' g page' × (weight g < weight f)
+          → (written' : Option (List ℕ)) (page' : List ℕ) → PutsLine written written' page (text_of (report_of payload)) page'
+          → Progress text_of (from_to left rest) (from_to taken written') g page' × (weight g < weight f)
       went_on bytes payload s n written' page' w =
-          let came : Came 0 all_features f.eof p.given p.events bytes.now payload g.state g.held = stepped (Ok (Parsed bytes payload)) s (given_below (Parsed bytes payload) s) in
+          let came : Came 0 all_features f.eof p.given p.events bytes.now payload g.state g.held =
+          stepped (Ok (Parsed bytes payload)) s (given_below (Parsed bytes payload) s) in
           let (after, some) = came.goes_on n in
           let (wrote, parts) = put_line written' (text_of (report_of payload)) page' came.event w (ap text_of came.is_payload.0) in
-          let o : g.state.offset + length g.held ≡ 0 + length p.given = answers_go_along.ends 0 all_features p.given g.state g.held (p.events ++ came.event ∷ []) after in
-          let n : length f.held ≡ length bytes.now + length g.held = ap (λ (z : List ℕ). length z) s.shows ∙ length-append bytes.now g.held in (
+          let o : g.state.offset + length g.held ≡ 0 + length p.given =
+          answers_go_along.ends 0 all_features p.given g.state g.held (p.events ++ came.event ∷ []) after in
+          let n : length f.held ≡ length bytes.now + length g.held = ap (λ (z : List ℕ). length z) s.shows
+          ∙ length-append bytes.now g.held in (
             record {
               given = p.given;
               events = p.events ++ came.event ∷ [];
@@ -226,37 +264,45 @@ module _ (text_of : Report → List ℕ) where
 
     -- ---- the turns
 
-    module _ (g : Feed) (x : Result Step Error) (s : Steps f x g) (written' : Option (List ℕ)) (page' : List ℕ) (w : PutsLine written written' page (text_after text_of x) page') where
+    module _ (g : Feed) (x : Result Step Error) (s : Steps f x g) (written' : Option (List ℕ)) (page' : List ℕ)
+        (w : PutsLine written written' page (text_after text_of x) page') where
       -- an event that isn't the last one: there is less to consume
-      pub advanced : turn.Advance ≡ turn_after x → Progress text_of left rest taken written' g page' × (weight g < weight f)
+      pub advanced : turn.Advance ≡ turn_after x → Progress text_of (from_to left rest) (from_to taken written') g page'
+          × (weight g < weight f)
       advanced t = by_answer x refl t
         where
-          by_end : (bytes : _) (payload : Payload) (b : Bool) → is_end (report_of payload) ≡ b → turn.Advance ≡ (if b then turn.End End else turn.Advance) → x ≡ Ok (Parsed bytes payload) → Progress text_of left rest taken written' g page' × (weight g < weight f)
+          by_end : (bytes : _) (payload : Payload) (b : Bool) → is_end (report_of payload) ≡ b → turn.Advance
+              ≡ (if b then turn.End End else turn.Advance) → x ≡ Ok (Parsed bytes payload)
+              → Progress text_of (from_to left rest) (from_to taken written') g page' × (weight g < weight f)
           by_end bytes payload true e t is = cc
           by_end bytes payload false e t is =
               let s' = subst (λ y. Steps f y g) is s in
               went_on g bytes payload s' e written' page' (subst (λ y. PutsLine written written' page (text_after text_of y) page') is w)
 
-          by_answer : (y : Result Step Error) → x ≡ y → turn.Advance ≡ turn_after y → Progress text_of left rest taken written' g page' × (weight g < weight f)
+          by_answer : (y : Result Step Error) → x ≡ y → turn.Advance ≡ turn_after y
+              → Progress text_of (from_to left rest) (from_to taken written') g page'
+              × (weight g < weight f)
           by_answer (Ok (NeedMoreData hint)) is t = cc
           by_answer (Ok (Parsed bytes payload)) is t = by_end bytes payload (is_end (report_of payload)) refl t is
           by_answer (Err e) is t = cc
 
       -- a request: the parser is undecided
-      pub asked : turn.Read ≡ turn_after x → Wants text_of left rest taken written' g page' × (weight g ≡ weight f)
+      pub asked : turn.Read ≡ turn_after x → Wants text_of (from_to left rest) (from_to taken written') g page' × (weight g ≡ weight f)
       asked t = by_answer x refl t
         where
           by_end : (b : Bool) → turn.Read ≡ (if b then turn.End End else turn.Advance) → ⊥
           by_end true t = cc
           by_end false t = cc
 
-          request : (hint : ℕ) → x ≡ Ok (NeedMoreData hint) → Wants text_of left rest taken written' g page' × (weight g ≡ weight f)
+          request : (hint : ℕ) → x ≡ Ok (NeedMoreData hint) → Wants text_of (from_to left rest) (from_to taken written') g page'
+              × (weight g ≡ weight f)
           request hint is =
               let s' = subst (λ y. Steps f y g) is s in
               let w' = subst (λ y. PutsLine written written' page (text_after text_of y) page') is w in
               let l = given_below g (NeedMoreData hint) s' in
               let (u, a) = stepped g (Ok (NeedMoreData hint)) s' l in
-              let stays : g.state ≡ f.state = answers_go_along.becomes f.state g.state f.eof f.held (answer_of (Ok (NeedMoreData hint))) s'.parses in (
+              let stays : g.state ≡ f.state = answers_go_along.becomes f.state g.state f.eof f.held (answer_of (Ok (NeedMoreData hint)))
+              s'.parses in (
                 record {
                   progress = record {
                     given = p.given;
@@ -266,7 +312,8 @@ module _ (text_of : Report → List ℕ) where
                     at_end = λ e. p.at_end (sym s.eof ∙ e);
                     lines = p.lines ++ w'.lines;
                     listed = Appends-trans taken written written' p.lines w'.lines p.listed w'.writes;
-                    parts = p.parts ∙ (ap (λ (z : List ℕ). p.lines ++ z) (sym (append-nil page) ∙ w'.waits) ∙ sym (append_assoc p.lines w'.lines page'));
+                    parts = p.parts ∙ (ap (λ (z : List ℕ). p.lines ++ z) (sym (append-nil page) ∙ w'.waits)
+                        ∙ sym (append_assoc p.lines w'.lines page'));
                   };
                   hint = hint;
                   undecided = subst (λ b. IsUndecided g.state b g.held hint) (sym s.eof) u;
@@ -275,7 +322,9 @@ module _ (text_of : Report → List ℕ) where
                 rw (stays, sym s'.shows, s.eof) refl,
               )
 
-          by_answer : (y : Result Step Error) → x ≡ y → turn.Read ≡ turn_after y → Wants text_of left rest taken written' g page' × (weight g ≡ weight f)
+          by_answer : (y : Result Step Error) → x ≡ y → turn.Read ≡ turn_after y
+              → Wants text_of (from_to left rest) (from_to taken written') g page'
+              × (weight g ≡ weight f)
           by_answer (Ok (NeedMoreData hint)) is t = request hint is
           by_answer (Ok (Parsed bytes payload)) is t = absurd (by_end (is_end (report_of payload)) t)
           by_answer (Err e) is t = cc
@@ -283,12 +332,15 @@ module _ (text_of : Report → List ℕ) where
       end_at : (how : Ended) → turn.End how ≡ turn_after x → AtEnd p.given p.events f.eof (text_after text_of x) how
       end_at how t = by_answer x refl t
         where
-          at_end : (bytes : _) (payload : Payload) (b : Bool) → is_end (report_of payload) ≡ b → turn.End how ≡ (if b then turn.End End else turn.Advance) → x ≡ Ok (Parsed bytes payload) → AtEnd p.given p.events f.eof (text_of (report_of payload)) how
+          at_end : (bytes : _) (payload : Payload) (b : Bool) → is_end (report_of payload) ≡ b → turn.End how
+              ≡ (if b then turn.End End else turn.Advance) → x ≡ Ok (Parsed bytes payload)
+              → AtEnd p.given p.events f.eof (text_of (report_of payload)) how
           at_end bytes payload false e t is = cc
           at_end bytes payload true e t is =
               let s' = subst (λ y. Steps f y g) is s in
               let l = given_below g (Parsed bytes payload) s' in
-              let came : Came 0 all_features f.eof p.given p.events bytes.now payload g.state g.held = stepped g (Ok (Parsed bytes payload)) s' l in
+              let came : Came 0 all_features f.eof p.given p.events bytes.now payload g.state g.held =
+              stepped g (Ok (Parsed bytes payload)) s' l in
               let each = came.ends e in
               let reading : Reading p.given 0 all_features (p.events ++ came.event ∷ []) = each p.given (all_given f.eof p.given) in
               let last : came.event ≡ last_event reading.end = reading_ends p.given p.events came.event reading in
@@ -302,7 +354,8 @@ module _ (text_of : Report → List ℕ) where
                 past_the_top = λ h. absurd (omega (arith, h, l));
               }
 
-          by_answer : (y : Result Step Error) → x ≡ y → turn.End how ≡ turn_after y → AtEnd p.given p.events f.eof (text_after text_of y) how
+          by_answer : (y : Result Step Error) → x ≡ y → turn.End how ≡ turn_after y
+              → AtEnd p.given p.events f.eof (text_after text_of y) how
           by_answer (Ok (NeedMoreData hint)) is t = cc
           by_answer (Ok (Parsed bytes payload)) is t = at_end bytes payload (is_end (report_of payload)) refl t is
           by_answer (Err e) is t =
@@ -313,11 +366,16 @@ module _ (text_of : Report → List ℕ) where
                 same = refl;
                 ends = subst (λ (h : Ended). IsEndedBy h (fault (fault_at e))) (sym is_it) refl;
                 within = λ l. (stepped g (Err e) s' l).0;
-                past_the_top = λ h. ap fault (s'.parses.past_the_top (omega (arith, h, ends_at))).0 ∙ ap (λ (o : ℕ). fault (at_offset OffsetRange o)) passed;
+                past_the_top = λ h.
+                    let z = answers_go_along.past_the_top f.state g.state f.eof f.held (answer_of (Err e)) s'.parses
+                    (omega (arith, h, ends_at)) in
+                    let y : fault_at e ≡ at_offset OffsetRange f.state.offset = cc in
+                    ap fault y ∙ ap (λ (o : ℕ). fault (at_offset OffsetRange o)) passed;
               }
 
       -- all is written, and the run ends
-      pub listed_all : (how : Ended) → turn.End how ≡ turn_after x → (written'' : Option (List ℕ)) → Appends written' written'' page' → IsListed text_of left rest taken written'' how
+      pub listed_all : (how : Ended) → turn.End how ≡ turn_after x → (written'' : Option (List ℕ)) → Appends written' written'' page'
+          → IsListed text_of (from_to left rest) (from_to taken written'') how
       listed_all how t written'' v =
           let a = end_at how t in
           record {
@@ -332,7 +390,8 @@ module _ (text_of : Report → List ℕ) where
           }
 
       -- the last lines were cut
-      pub end_cut : (how : Ended) → turn.End how ≡ turn_after x → (written'' : Option (List ℕ)) (e : ListError) → IsCut written' written'' page' e → ListsBy text_of left rest taken written'' (Err e)
+      pub end_cut : (how : Ended) → turn.End how ≡ turn_after x → (written'' : Option (List ℕ)) (e : ListError)
+          → IsCut written' written'' page' e → ListsBy text_of (from_to left rest) (from_to taken written'') (Err e)
       end_cut how t written'' Output (n, v) =
           let a = end_at how t in
           let (wrote, parts) = put_line written' (text_after text_of x) page' (last_event a.end) w a.same in
@@ -342,7 +401,9 @@ module _ (text_of : Report → List ℕ) where
             gave = p.gave;
             listed = Appends-trans taken written' written'' (p.lines ++ w.lines) (take n page') wrote v;
             begins = λ l. begins_listing p.given (p.events ++ last_event a.end ∷ []) ((p.lines ++ w.lines) ++ take n page') (drop n page')
-                (whole_begins 0 all_features true p.given (p.events ++ last_event a.end ∷ []) (λ stream m. subst (λ (y : List ℕ). Reading y 0 all_features (p.events ++ last_event a.end ∷ [])) (sym m) (a.within l p.given (all_given f.eof p.given))) p.given refl)
+                (whole_begins 0 all_features true p.given (p.events ++ last_event a.end ∷ [])
+                (λ stream m. subst (λ (y : List ℕ). Reading y 0 all_features (p.events ++ last_event a.end ∷ [])) (sym m)
+                (a.within l p.given (all_given f.eof p.given))) p.given refl)
                 (parts ∙ cut_page (p.lines ++ w.lines) page' n);
           }
       end_cut how t written'' Input v = absurd v
@@ -351,7 +412,9 @@ module _ (text_of : Report → List ℕ) where
   -- ---- a read
 
   -- the lines that waited are written
-  pub wants_written : (left rest taken written written' : Option (List ℕ)) (f : Feed) (page : List ℕ) → Wants text_of left rest taken written f page → Appends written written' page → Wants text_of left rest taken written' f []
+  pub wants_written : (left rest taken written written' : Option (List ℕ)) (f : Feed) (page : List ℕ)
+      → Wants text_of (from_to left rest) (from_to taken written) f page → Appends written written' page
+      → Wants text_of (from_to left rest) (from_to taken written') f []
   unfolding written_out
   wants_written left rest taken written written' f page p w = record {
     progress = written_out left rest taken written f page p.progress written' w;
@@ -360,14 +423,17 @@ module _ (text_of : Report → List ℕ) where
     below = p.below;
   }
 
-  module _ (left rest taken written : Option (List ℕ)) (f : Feed) (wants : Wants text_of left rest taken written f []) where
-    p : Progress text_of left rest taken written f []
+  module _ (left rest taken written : Option (List ℕ)) (f : Feed)
+      (wants : Wants text_of (from_to left rest) (from_to taken written) f []) where
+    p : Progress text_of (from_to left rest) (from_to taken written) f []
     p = wants.progress
 
     -- the source failed: the lines of all events but the last are written
-    pub input_fails : (rest' : Option (List ℕ)) → Keeps rest rest' → ListsBy text_of left rest' taken written (Err Input)
+    pub input_fails : (rest' : Option (List ℕ)) → Keeps rest rest'
+        → ListsBy text_of (from_to left rest') (from_to taken written) (Err Input)
     input_fails rest' k =
-        let (end, reading) = answers_go_along.cut_short 0 all_features p.given f.state f.held p.events f.eof wants.hint p.is_along wants.undecided in
+        let (end, reading) = answers_go_along.cut_short 0 all_features p.given f.state f.held p.events f.eof wants.hint p.is_along
+        wants.undecided in
         record {
           given = p.given;
           events = p.events;
@@ -378,33 +444,38 @@ module _ (text_of : Report → List ℕ) where
         }
 
     -- it gave something, or ended
-    pub filled : (rest' : Option (List ℕ)) (g : Feed) → Fills rest rest' f g → Progress text_of left rest' taken written g [] × (weight g < weight f)
-    filled rest' g (inl (none, at_end, is)) = subst (λ (h : Feed). Progress text_of left rest' taken written h [] × (weight h < weight f)) (sym is) (
-      record {
-        given = p.given;
-        events = p.events;
-        is_along = p.is_along;
-        gave = subst (Consumes left rest') (append-nil p.given) (Consumes-trans left rest rest' p.given [] p.gave none);
-        at_end = λ _. at_end;
-        lines = p.lines;
-        listed = p.listed;
-        parts = p.parts;
-      },
-      rw wants.undecided.0 (omega arith),
-    )
-    filled rest' g (inr (piece, gave, some, is)) = subst (λ (h : Feed). Progress text_of left rest' taken written h [] × (weight h < weight f)) (sym is) (
-      record {
-        given = p.given ++ piece;
-        events = p.events;
-        is_along = answers_go_along.more 0 all_features p.given f.state f.held p.events piece p.is_along;
-        gave = Consumes-trans left rest rest' p.given piece p.gave gave;
-        at_end = λ e. let no : true ≡ false = sym e ∙ wants.undecided.0 in cc;
-        lines = p.lines;
-        listed = p.listed;
-        parts = p.parts;
-      },
-      lighter,
-    )
+    pub filled : (rest' : Option (List ℕ)) (g : Feed) → Fills rest rest' f g
+        → Progress text_of (from_to left rest') (from_to taken written) g []
+        × (weight g < weight f)
+    filled rest' g (inl (none, at_end, is)) = subst (λ (h : Feed). Progress text_of (from_to left rest') (from_to taken written) h []
+        × (weight h < weight f))
+        (sym is) (
+          record {
+            given = p.given;
+            events = p.events;
+            is_along = p.is_along;
+            gave = subst (Consumes left rest') (append-nil p.given) (Consumes-trans left rest rest' p.given [] p.gave none);
+            at_end = λ _. at_end;
+            lines = p.lines;
+            listed = p.listed;
+            parts = p.parts;
+          },
+          rw wants.undecided.0 (omega arith),
+        )
+    filled rest' g (inr (piece, gave, some, is)) = subst (λ (h : Feed). Progress text_of (from_to left rest') (from_to taken written) h []
+        × (weight h < weight f)) (sym is) (
+          record {
+            given = p.given ++ piece;
+            events = p.events;
+            is_along = answers_go_along.more 0 all_features p.given f.state f.held p.events piece p.is_along;
+            gave = Consumes-trans left rest rest' p.given piece p.gave gave;
+            at_end = λ e. let no : true ≡ false = sym e ∙ wants.undecided.0 in cc;
+            lines = p.lines;
+            listed = p.listed;
+            parts = p.parts;
+          },
+          lighter,
+        )
       where
         lighter : weight (pushed f piece) < weight f
         lighter =
@@ -414,7 +485,8 @@ module _ (text_of : Report → List ℕ) where
             rw wants.undecided.0 (omega (arith, o, n, same, wants.below, some))
 
     -- a read that was given up
-    pub not_filled : (rest' : Option (List ℕ)) (g : Feed) (e : ListError) → Refills rest rest' f g (Err e) → ListsBy text_of left rest' taken written (Err e)
+    pub not_filled : (rest' : Option (List ℕ)) (g : Feed) (e : ListError) → Refills rest rest' f g (Err e)
+        → ListsBy text_of (from_to left rest') (from_to taken written) (Err e)
     not_filled rest' g Input k = input_fails rest' k
     not_filled rest' g Memory k = no_memory left rest taken written f [] p rest' k.0 k.1
     not_filled rest' g Output k = absurd k

@@ -1,24 +1,27 @@
 -- What is left of a stream is accepted, and is read as the stream is but for what was dropped.
-use Rattle.std.proofs.Common.{◌≡◌, ℕ, ◌+◌, ◌<◌, ◌≤◌, ◌^◌, ◌⊎◌, inl, inr, Bool, true, false, cond, List, [], ◌∷◌, ◌++◌, length, nat_eq, Result, Ok, Err, refl, sym, ap, subst, subst₂, ◌∙◌, arith, length-append, eqb-true}
+use Rattle.std.proofs.Common.{◌≡◌, ℕ, ◌+◌, ◌<◌, ◌≤◌, ◌^◌, ◌⊎◌, inl, inr, Bool, true, false, cond, List, [], ◌∷◌, ◌++◌, length, nat_eq}
+use Rattle.std.proofs.Common.{Result, Ok, Err, refl, sym, ap, subst, subst₂, ◌∙◌, arith, length-append, eqb-true}
 use Rattle.std.specs.List.{All, filter, flat_map}
 use Rattle.std.proofs.lemmas.List.Elements.{All-append, All-tail}
 use Rattle.wasm_base.specs.FaultAt.{fault_at}
 use Rattle.wasm_base.specs.Owned.{out_of_memory}
 use Rattle.wasm_base.specs.declared.error.Error.{Error}
-use Rattle.wasm_parser.specs.Accepted.{header_bytes, Frame, frame_bytes, frame_rank, IsFrame, IsAccepted}
-use Rattle.wasm_parser.specs.Content.{Ending, fault, ended, kind_of, rank_of}
-use Rattle.wasm_parser.specs.FrameEvents.{header_event, FramesEvents, TellsFrames}
-use Rattle.wasm_parser.specs.Grammar.{Tile}
-use Rattle.wasm_parser.specs.Reading.{stream_end, Event, last_event, events_of, Reads, Reading, Stream}
-use Rattle.wasm_parser.specs.Shifted.{shifted_event}
-use Rattle.wasm_parser.specs.declared.payload.Encoding.{Encoding}
-use Rattle.wasm_parser.specs.declared.payload.Encoding.TheVariants.{Module, Component}
+use Rattle.wasm_grammar.specs.Accepted.{header_bytes, SectionFrame, frame_bytes, frame_rank, IsFrame, IsAccepted}
+use Rattle.wasm_grammar.specs.Content.{Ending, fault, ended, kind_of, rank_of}
+use Rattle.wasm_grammar.specs.FrameEvents.{header_event, FramesEvents, TellsFrames}
+use Rattle.wasm_grammar.specs.Grammar.{Tile}
+use Rattle.wasm_grammar.specs.Reading.{stream_end, Event, last_event, events_of, Reads, Reading, Stream}
+use Rattle.wasm_grammar.specs.Shifted.{shifted_event}
+use Rattle.wasm_grammar.specs.declared.encoding.Encoding.{Encoding}
+use Rattle.wasm_grammar.specs.declared.encoding.Encoding.TheVariants.{Module, Component}
 use Rattle.wasm_parser.proofs.ForCallers.{reads_accepted, fault_ends, rankless_may_go, one_division, frames_give_events}
-use Rattle.wasm_parser.proofs.PlainLists.{all_prefix, Spares, filter_twice, each_of}
-use Rattle.wasm_feed.specs.Lists.{all_features}
-use Rattle.wasm_feed.specs.Stripped.{frame_stays, stripped, left_bytes, AreLeft, IsStripped, EndsWithFault, RefusesToStrip, LeavesStream, StripsInPlace, StrippingTwiceIsOnce}
+use Rattle.wasm_grammar.proofs.PlainLists.{all_prefix, Spares, filter_twice, each_of}
+use Rattle.wasm_feed.specs.Stripped.{frame_stays, stripped, left_bytes, AreLeft, IsStripped, EndsWithFault, RefusesToStrip, LeavesStream}
+use Rattle.wasm_feed.specs.Stripped.{StripsInPlace, StrippingTwiceIsOnce}
 use Rattle.wasm_feed.specs.Strips.{MovesLeft, ReadsLeft}
 use Rattle.wasm_feed.proofs.LeftFrames.{kept_bytes, LeftOf, LeftAfter, left_of}
+use Rattle.wasm_base.specs.Features.{all_features}
+use Rattle.wasm_grammar.specs.Ids.{custom_id}
 
 -- ---- how a reading ends
 
@@ -39,9 +42,11 @@ end_same : (a b : Ending) → last_event a ≡ last_event b → a ≡ b
 end_same a b e = let z : stream_end a ≡ stream_end b = ap (λ (x : Event). x.report) e in cc
 
 -- a reading that is told to end so does
-ends_so : (stream : List ℕ) (events : List Event) (end : Ending) → Reading stream 0 all_features (events ++ last_event end ∷ []) → (tiles : List Tile) × Reads stream 0 tiles end
+ends_so : (stream : List ℕ) (events : List Event) (end : Ending) → Reading stream 0 all_features (events ++ last_event end ∷ [])
+    → (tiles : List Tile) × Reads stream 0 tiles end
 ends_so stream events end r =
-    let q : ((events ≡ events_of 0 all_features r.tiles) × (last_event end ≡ last_event r.end)) = push_same events (events_of 0 all_features r.tiles) (last_event end) (last_event r.end) r.listed in
+    let q : ((events ≡ events_of 0 all_features r.tiles) × (last_event end ≡ last_event r.end)) =
+    push_same events (events_of 0 all_features r.tiles) (last_event end) (last_event r.end) r.listed in
     (r.tiles, subst (Reads stream 0 r.tiles) (sym (end_same end r.end q.1)) r.reads)
 
 -- a stream that is read up to its end is accepted
@@ -52,19 +57,23 @@ accepted_of keep stream left s r =
 
 -- one whose reading ends with a fault isn't
 not_accepted : (stream : List ℕ) (e : Error) → Stream stream 0 → EndsWithFault stream e → IsAccepted stream → ⊥
-not_accepted stream e s (events, r) = let (tiles, reads) = ends_so stream events (fault (fault_at e)) r in (fault_ends stream 0 s).1 (tiles, fault_at e, reads)
+not_accepted stream e s (events, r) = let (tiles, reads) = ends_so stream events (fault (fault_at e)) r in
+    (fault_ends stream 0 s).1 (tiles, fault_at e, reads)
 
 pub refused_fault : (stream : List ℕ) (e : Error) → Stream stream 0 → EndsWithFault stream e → RefusesToStrip stream e
 refused_fault stream e s h = record { memory = λ a. absurd (not_accepted stream e s h a); fault = λ n. h }
 
-pub refused_memory : (keep : Bool) (stream left : List ℕ) (e : Error) → Stream stream 0 → ReadsLeft keep stream left → fault_at e ≡ out_of_memory → RefusesToStrip stream e
+pub refused_memory : (keep : Bool) (stream left : List ℕ) (e : Error) → Stream stream 0 → ReadsLeft keep stream left → fault_at e
+    ≡ out_of_memory → RefusesToStrip stream e
 refused_memory keep stream left e s r m = record { memory = λ a. m; fault = λ n. absurd (n (accepted_of keep stream left s r)) }
 
-pub refused_copy : (keep : Bool) (stream left : List ℕ) (e : Error) → Stream stream 0 → ReadsLeft keep stream left → EndsWithFault stream e ⊎ (fault_at e ≡ out_of_memory) → RefusesToStrip stream e
+pub refused_copy : (keep : Bool) (stream left : List ℕ) (e : Error) → Stream stream 0 → ReadsLeft keep stream left → EndsWithFault stream e
+    ⊎ (fault_at e ≡ out_of_memory) → RefusesToStrip stream e
 refused_copy keep stream left e s r (inl h) = refused_fault stream e s h
 refused_copy keep stream left e s r (inr m) = refused_memory keep stream left e s r m
 
-pub left_as_it_was : (stream after : List ℕ) (e : Error) → Stream stream 0 → EndsWithFault stream e → after ≡ stream → LeavesStream stream e after
+pub left_as_it_was : (stream after : List ℕ) (e : Error) → Stream stream 0 → EndsWithFault stream e → after ≡ stream
+    → LeavesStream stream e after
 left_as_it_was stream after e s h u = record { refused = λ a. not_accepted stream e s h a; fault = h; unchanged = u }
 
 -- ---- what is left is accepted
@@ -73,19 +82,30 @@ all_rest : (P : ℕ → Type 0) (xs ys : List ℕ) → All P (xs ++ ys) → All 
 all_rest P [] ys a = a
 all_rest P (x ∷ xs) ys a = all_rest P xs ys (All-tail P x (xs ++ ys) a)
 
-kept_step : (P : ℕ → Type 0) (f : Frame) (xs ys : List Frame) → All P (frame_bytes f ++ flat_map frame_bytes xs) → All P (flat_map frame_bytes ys) → (b : Bool) → All P (flat_map frame_bytes (cond b (f ∷ ys) ys))
-kept_step P f xs ys a h true = All-append P (frame_bytes f) (flat_map frame_bytes ys) (all_prefix P (frame_bytes f) (flat_map frame_bytes xs) a) h
+kept_step : (P : ℕ → Type 0) (f : SectionFrame) (xs ys : List SectionFrame) → All P (frame_bytes f ++ flat_map frame_bytes xs)
+    → All P (flat_map frame_bytes ys) → (b : Bool) → All P (flat_map frame_bytes (cond b (f ∷ ys) ys))
+kept_step P f xs ys a h true = All-append P (frame_bytes f) (flat_map frame_bytes ys)
+    (all_prefix P (frame_bytes f) (flat_map frame_bytes xs) a) h
 kept_step P f xs ys a h false = h
 
-all_kept : (P : ℕ → Type 0) (q : Frame → Bool) (frames : List Frame) → All P (flat_map frame_bytes frames) → All P (flat_map frame_bytes (filter q frames))
+all_kept : (P : ℕ → Type 0) (q : SectionFrame → Bool) (frames : List SectionFrame) → All P (flat_map frame_bytes frames)
+    → All P (flat_map frame_bytes (filter q frames))
 all_kept P q [] a = a
-all_kept P q (f ∷ frames) a = kept_step P f frames (filter q frames) a (all_kept P q frames (all_rest P (frame_bytes f) (flat_map frame_bytes frames) a)) (q f)
+all_kept P q (f ∷ frames) a = kept_step P f frames (filter q frames) a
+    (all_kept P q frames (all_rest P (frame_bytes f) (flat_map frame_bytes frames) a)) (q f)
 
-length_step : (f : Frame) (xs ys : List Frame) → length (flat_map frame_bytes ys) ≤ length (flat_map frame_bytes xs) → (b : Bool) → length (flat_map frame_bytes (cond b (f ∷ ys) ys)) ≤ length (frame_bytes f ++ flat_map frame_bytes xs)
-length_step f xs ys h true = omega (arith, h, length-append (frame_bytes f) (flat_map frame_bytes ys), length-append (frame_bytes f) (flat_map frame_bytes xs))
+length_step : (f : SectionFrame) (xs ys : List SectionFrame) → length (flat_map frame_bytes ys) ≤ length (flat_map frame_bytes xs)
+    → (b : Bool) → length (flat_map frame_bytes (cond b (f ∷ ys) ys)) ≤ length (frame_bytes f ++ flat_map frame_bytes xs)
+length_step f xs ys h true = omega (
+  arith,
+  h,
+  length-append (frame_bytes f) (flat_map frame_bytes ys),
+  length-append (frame_bytes f) (flat_map frame_bytes xs),
+)
 length_step f xs ys h false = omega (arith, h, length-append (frame_bytes f) (flat_map frame_bytes xs))
 
-length_kept : (q : Frame → Bool) (frames : List Frame) → length (flat_map frame_bytes (filter q frames)) ≤ length (flat_map frame_bytes frames)
+length_kept : (q : SectionFrame → Bool) (frames : List SectionFrame)
+    → length (flat_map frame_bytes (filter q frames)) ≤ length (flat_map frame_bytes frames)
 length_kept q [] = omega arith
 length_kept q (f ∷ frames) = length_step f frames (filter q frames) (length_kept q frames) (q f)
 
@@ -94,7 +114,8 @@ stream_left : (keep : Bool) (stream : List ℕ) (a : IsAccepted stream) → Stre
 stream_left keep stream a s =
     let h : List ℕ = header_bytes a.encoding in
     let e : All (λ b. b < 256) (h ++ flat_map frame_bytes a.frames) = subst (All (λ b. b < 256)) a.whole s.each in
-    let n : length stream ≡ length h + length (flat_map frame_bytes a.frames) = ap (λ (x : List ℕ). length x) a.whole ∙ length-append h (flat_map frame_bytes a.frames) in
+    let n : length stream ≡ length h + length (flat_map frame_bytes a.frames) = ap (λ (x : List ℕ). length x) a.whole
+    ∙ length-append h (flat_map frame_bytes a.frames) in
     let f : 0 + length stream < 2 ^ 64 = s.fits in
     record {
       each = All-append (λ b. b < 256) h (kept_bytes keep a.frames) (all_prefix (λ b. b < 256) h (flat_map frame_bytes a.frames) e)
@@ -103,15 +124,15 @@ stream_left keep stream a s =
     }
 
 -- a custom section has no rank
-custom_rank : (encoding : Encoding) (f : Frame) → f.id ≡ 0 → frame_rank encoding f ≡ 0
+custom_rank : (encoding : Encoding) (f : SectionFrame) → f.id ≡ custom_id → frame_rank encoding f ≡ 0
 custom_rank Module f z = ap (λ (x : ℕ). rank_of (kind_of Module x) x) z
 custom_rank Component f z = ap (λ (x : ℕ). rank_of (kind_of Component x) x) z
 
 -- a section with a rank stays
-ranked_stays : (keep : Bool) (encoding : Encoding) (f : Frame) → 0 < frame_rank encoding f → frame_stays keep f ≡ true
-ranked_stays keep encoding f r = by_id (nat_eq f.id 0) refl
+ranked_stays : (keep : Bool) (encoding : Encoding) (f : SectionFrame) → 0 < frame_rank encoding f → frame_stays keep f ≡ true
+ranked_stays keep encoding f r = by_id (nat_eq f.id custom_id) refl
   where
-    by_id : (b : Bool) → nat_eq f.id 0 ≡ b → frame_stays keep f ≡ true
+    by_id : (b : Bool) → nat_eq f.id custom_id ≡ b → frame_stays keep f ≡ true
     by_id true e = let z : frame_rank encoding f ≡ 0 = custom_rank encoding f (eqb-true f.id 0 e) in absurd (omega (arith, r, z))
     by_id false e = rw e refl
 
@@ -119,7 +140,8 @@ ranked_stays keep encoding f r = by_id (nat_eq f.id 0) refl
 pub accepted_left : (keep : Bool) (stream : List ℕ) (a : IsAccepted stream)
     → (b : IsAccepted (stripped keep a.encoding a.frames)) × (b.encoding ≡ a.encoding) × (b.frames ≡ filter (frame_stays keep) a.frames)
 accepted_left keep stream a =
-    rankless_may_go stream a (frame_stays keep) (each_of (λ f. 0 < frame_rank a.encoding f → frame_stays keep f ≡ true) (λ f. ranked_stays keep a.encoding f) a.frames)
+    rankless_may_go stream a (frame_stays keep) (each_of (λ f. 0 < frame_rank a.encoding f → frame_stays keep f ≡ true)
+    (λ f. ranked_stays keep a.encoding f) a.frames)
 
 -- ---- how it is read
 
@@ -128,47 +150,65 @@ header_stays Module = refl
 header_stays Component = refl
 
 -- the end is moved back by all that was dropped
-end_left : (keep : Bool) (encoding : Encoding) (frames : List Frame)
-    → LeftAfter keep (0 + length (header_bytes encoding)) 0 frames (last_event (ended (0 + length (header_bytes encoding ++ flat_map frame_bytes frames))) ∷ []) (last_event (ended (0 + length (header_bytes encoding ++ kept_bytes keep frames))) ∷ [])
+end_left : (keep : Bool) (encoding : Encoding) (frames : List SectionFrame)
+    → LeftAfter keep (0 + length (header_bytes encoding)) 0 frames
+    (last_event (ended (0 + length (header_bytes encoding ++ flat_map frame_bytes frames))) ∷ [])
+    (last_event (ended (0 + length (header_bytes encoding ++ kept_bytes keep frames))) ∷ [])
 end_left keep encoding frames total e =
     let h : List ℕ = header_bytes encoding in
     let n : 0 + length (h ++ flat_map frame_bytes frames) ≡ 0 + length (h ++ kept_bytes keep frames) + total =
     omega (arith, e, length-append h (flat_map frame_bytes frames), length-append h (kept_bytes keep frames)) in
     (ap (λ (x : ℕ). last_event (ended x)) n, tt)
 
-left_here : (keep : Bool) (features : ℕ) (encoding : Encoding) (frames : List Frame) (events : List Event) → All (IsFrame encoding) frames → (t : TellsFrames 0 features encoding frames events)
-    → LeftOf keep features encoding (0 + length (header_bytes encoding)) 0 frames t.inner (last_event (ended (0 + length (header_bytes encoding ++ flat_map frame_bytes frames))) ∷ []) (last_event (ended (0 + length (header_bytes encoding ++ kept_bytes keep frames))) ∷ [])
+left_here : (keep : Bool) (features : ℕ) (encoding : Encoding) (frames : List SectionFrame) (events : List Event)
+    → All (IsFrame encoding) frames → (t : TellsFrames 0 features encoding frames events)
+    → LeftOf keep features encoding (0 + length (header_bytes encoding)) 0 frames t.inner
+    (last_event (ended (0 + length (header_bytes encoding ++ flat_map frame_bytes frames))) ∷ [])
+    (last_event (ended (0 + length (header_bytes encoding ++ kept_bytes keep frames))) ∷ [])
 left_here keep features encoding frames events a t =
     let z : 0 + length (header_bytes encoding) ≡ 0 + length (header_bytes encoding) + 0 = omega arith in
-    left_of keep features encoding (0 + length (header_bytes encoding)) 0 frames t.inner _ _ a (subst (λ (x : ℕ). FramesEvents features encoding x frames t.inner) z t.sections) (end_left keep encoding frames)
+    left_of keep features encoding (0 + length (header_bytes encoding)) 0 frames t.inner _ _ a
+    (subst (λ (x : ℕ). FramesEvents features encoding x frames t.inner) z t.sections) (end_left keep encoding frames)
 
 -- it is read as the stream, but for what was dropped
-read_left : (keep : Bool) (stream : List ℕ) (a : IsAccepted stream) → Stream stream 0 → (features : ℕ) (events : List Event) → Reading stream 0 features events
+read_left : (keep : Bool) (stream : List ℕ) (a : IsAccepted stream) → Stream stream 0 → (features : ℕ) (events : List Event)
+    → Reading stream 0 features events
     → (others : List Event) × Reading (stripped keep a.encoding a.frames) 0 features others × AreLeft keep events others
 read_left keep stream a s features events r =
     let t : TellsFrames 0 features a.encoding a.frames events = (frames_give_events stream 0 features events s a).0 r in
     let l = left_here keep features a.encoding a.frames events a.each t in
-    let others : List Event = header_event 0 a.encoding ∷ (l.others ++ last_event (ended (0 + length (header_bytes a.encoding ++ kept_bytes keep a.frames))) ∷ []) in
+    let others : List Event = header_event 0 a.encoding ∷ (l.others
+    ++ last_event (ended (0 + length (header_bytes a.encoding ++ kept_bytes keep a.frames))) ∷ []) in
     let (b, e, f) = accepted_left keep stream a in
-    let told : TellsFrames 0 features a.encoding (filter (frame_stays keep) a.frames) others = record { inner = l.others; sections = l.sections; whole = refl } in (
+    let told : TellsFrames 0 features a.encoding (filter (frame_stays keep) a.frames) others =
+    record { inner = l.others; sections = l.sections; whole = refl } in (
       others,
       (frames_give_events (stripped keep a.encoding a.frames) 0 features others (stream_left keep stream a s) b).1
-          (subst₂ (λ (x : Encoding) (y : List Frame). TellsFrames 0 features x y others) (sym e) (sym f) told),
+          (subst₂ (λ (x : Encoding) (y : List SectionFrame). TellsFrames 0 features x y others) (sym e) (sym f) told),
       subst (λ (x : List Event). AreLeft keep x others) (sym t.whole) (header_stays a.encoding, l.moved),
     )
 
 -- the stream is stripped
-is_stripped : (keep : Bool) (stream : List ℕ) (a : IsAccepted stream) → Stream stream 0 → IsStripped keep stream (stripped keep a.encoding a.frames)
-is_stripped keep stream a s = record { accepted = a; bytes = refl; still = (accepted_left keep stream a).0; reading = read_left keep stream a s }
+is_stripped : (keep : Bool) (stream : List ℕ) (a : IsAccepted stream) → Stream stream 0
+    → IsStripped keep stream (stripped keep a.encoding a.frames)
+is_stripped keep stream a s = record {
+  accepted = a;
+  bytes = refl;
+  still = (accepted_left keep stream a).0;
+  reading = read_left keep stream a s;
+}
 
 -- the bytes of the events that stay are those
-left_is : (keep : Bool) (stream left : List ℕ) (a : IsAccepted stream) → Stream stream 0 → ReadsLeft keep stream left → left ≡ stripped keep a.encoding a.frames
+left_is : (keep : Bool) (stream left : List ℕ) (a : IsAccepted stream) → Stream stream 0 → ReadsLeft keep stream left → left
+    ≡ stripped keep a.encoding a.frames
 left_is keep stream left a s r =
     let all : List Event = r.events ++ last_event (ended r.offset) ∷ [] in
     let t : TellsFrames 0 all_features a.encoding a.frames all = (frames_give_events stream 0 all_features all s a).0 r.reading in
     let l = left_here keep all_features a.encoding a.frames all a.each t in
-    let q : ((r.events ≡ header_event 0 a.encoding ∷ t.inner) × (last_event (ended r.offset) ≡ last_event (ended (0 + length (header_bytes a.encoding ++ flat_map frame_bytes a.frames))))) =
-    push_same r.events (header_event 0 a.encoding ∷ t.inner) (last_event (ended r.offset)) (last_event (ended (0 + length (header_bytes a.encoding ++ flat_map frame_bytes a.frames)))) t.whole in
+    let q : ((r.events ≡ header_event 0 a.encoding ∷ t.inner) × (last_event (ended r.offset)
+    ≡ last_event (ended (0 + length (header_bytes a.encoding ++ flat_map frame_bytes a.frames))))) =
+    push_same r.events (header_event 0 a.encoding ∷ t.inner) (last_event (ended r.offset))
+    (last_event (ended (0 + length (header_bytes a.encoding ++ flat_map frame_bytes a.frames)))) t.whole in
     r.bytes ∙ (ap (left_bytes keep) q.0 ∙ ap (λ (x : List ℕ). header_bytes a.encoding ++ x) l.bytes)
 
 pub strips_so : (keep : Bool) (stream left : List ℕ) → Stream stream 0 → ReadsLeft keep stream left → IsStripped keep stream left
@@ -177,7 +217,8 @@ strips_so keep stream left s r =
     subst (IsStripped keep stream) (sym (left_is keep stream left a s r)) (is_stripped keep stream a s)
 
 -- in place: what is left was moved to the front, which cannot end with a fault where the stream is accepted
-pub strips_in_place : (keep : Bool) (stream left after : List ℕ) (r : Result (Unit {0}) Error) → Stream stream 0 → ReadsLeft keep stream left → MovesLeft keep stream r after → StripsInPlace keep stream r after
+pub strips_in_place : (keep : Bool) (stream left after : List ℕ) (r : Result (Unit {0}) Error) → Stream stream 0
+    → ReadsLeft keep stream left → MovesLeft keep stream r after → StripsInPlace keep stream r after
 strips_in_place keep stream left after (Ok done) s reads m = strips_so keep stream after s m
 strips_in_place keep stream left after (Err e) s reads m = absurd (not_accepted stream e s m (accepted_of keep stream left s reads))
 
@@ -200,5 +241,7 @@ stripping_twice keep stream once twice o t =
     let x : t.accepted.encoding ≡ a.encoding = q.0 ∙ e in
     let y : t.accepted.frames ≡ filter (frame_stays keep) a.frames = q.1 ∙ f in
     let z : filter (frame_stays keep) (filter (frame_stays keep) a.frames) ≡ filter (frame_stays keep) a.frames =
-    filter_twice (frame_stays keep) (frame_stays keep) a.frames (each_of (Spares (frame_stays keep) (frame_stays keep)) (λ g p. p) a.frames) in
-    t.bytes ∙ ((λ i. stripped keep (x i) (y i)) ∙ (ap (λ (fs : List Frame). header_bytes a.encoding ++ flat_map frame_bytes fs) z ∙ sym o.bytes))
+    filter_twice (frame_stays keep) (frame_stays keep) a.frames (each_of (Spares (frame_stays keep) (frame_stays keep)) (λ g p. p) a.frames)
+    in
+    t.bytes ∙ ((λ i. stripped keep (x i) (y i)) ∙ (ap (λ (fs : List SectionFrame). header_bytes a.encoding ++ flat_map frame_bytes fs) z
+    ∙ sym o.bytes))

@@ -1,10 +1,11 @@
 -- That a feeder wants more only where its parser is undecided.
-use Rattle.std.proofs.Common.{◌≡◌, ℕ, ◌+◌, ◌^◌, ◌<◌, ◌≤◌, Bool, true, false, List, [], ◌++◌, length, Result, Ok, Err, refl, sym, ap, ◌∙◌, arith, length-append}
+use Rattle.std.proofs.Common.{◌≡◌, ℕ, ◌+◌, ◌^◌, ◌<◌, ◌≤◌, Bool, true, false, List, [], ◌++◌, length, Result, Ok, Err, refl, sym, ap, ◌∙◌}
+use Rattle.std.proofs.Common.{arith, length-append}
 use Rattle.wasm_base.specs.declared.error.Error.{Error}
 use Rattle.wasm_parser.specs.GivesNextEvent.{IsUndecided}
-use Rattle.wasm_parser.specs.Grammar.{header_grammar}
+use Rattle.wasm_grammar.specs.Grammar.{header_grammar}
 use Rattle.wasm_parser.specs.ParserState.{grammar_of}
-use Rattle.wasm_parser.specs.Waiting.{wants, waiting}
+use Rattle.wasm_grammar.specs.Waiting.{wants, waiting}
 use Rattle.wasm_parser.proofs.ForCallers.{answers_go_along}
 use Rattle.wasm_feed.specs.Feed.{Feed, new_feed, pushed, finished, end_of}
 use Rattle.wasm_feed.specs.FeedersLaws.{WaitsUndecided, FeedersWait}
@@ -19,7 +20,11 @@ unfolding header_grammar waiting
 nothing_decides offset = refl
 
 begins : (offset features : ℕ) → offset < 2 ^ 64 → WaitsUndecided (new_feed offset features)
-begins offset features l = record { stores = omega arith; below = λ e. omega (arith, l); undecided = λ e. (4, (refl, (4, nothing_decides offset))) }
+begins offset features l = record {
+  stores = omega arith;
+  below = λ e. omega (arith, l);
+  undecided = λ e. (4, (refl, (4, nothing_decides offset)));
+}
 
 pushes : (f : Feed) (piece : List ℕ) → WaitsUndecided f → WaitsUndecided (pushed f piece)
 pushes f piece w = record { stores = omega (arith, length-append f.held piece); below = λ e. cc; undecided = λ e. cc }
@@ -50,7 +55,8 @@ steps f g x w s = record { stores = stores; below = λ e. below x s e; undecided
     undecided (Err error) t e = let no : false ≡ true = sym t.wants_more ∙ e in cc
 
 -- what is stored after a push
-bounded : (f : Feed) (piece : List ℕ) (need hint : ℕ) → waiting (grammar_of f.state) f.held ≡ wants need hint → (pushed f piece).stored < need + length piece
+bounded : (f : Feed) (piece : List ℕ) (need hint : ℕ) → waiting (grammar_of f.state) f.held ≡ wants need hint
+    → (pushed f piece).stored < need + length piece
 bounded f piece need hint e = let l = answers_go_along.bounded f.state f.held need hint e in omega (arith, l)
 
 pub feeders_wait : FeedersWait

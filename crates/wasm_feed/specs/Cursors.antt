@@ -5,7 +5,13 @@ use Rattle.wasm_feed.specs.declared.feeder.Cursor.{Cursor}
 
 -- what a cursor in these bytes is
 abbrev pub feed_of : List ℕ → Cursor → Feed
-feed_of bytes c = record { state = c.parser; held = drop c.mark bytes; stored = length bytes; eof = c.is_finished; wants_more = c.wants_more }
+feed_of bytes c = record {
+  state = c.parser;
+  held = drop c.mark bytes;
+  stored = length bytes;
+  eof = c.is_finished;
+  wants_more = c.wants_more;
+}
 
 -- a cursor after the end was told
 abbrev pub finished_cursor : Cursor → Cursor

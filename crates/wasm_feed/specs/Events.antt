@@ -5,13 +5,15 @@ use Rattle.std.specs.declared.ops.Range.{Range}
 use Rattle.wasm_base.specs.FaultAt.{FaultAt, fault_at}
 use Rattle.wasm_base.specs.Window.{range_of}
 use Rattle.wasm_base.specs.declared.error.Error.{Error}
-use Rattle.wasm_parser.specs.Content.{fault, ended}
+use Rattle.wasm_grammar.specs.Content.{fault, ended}
 use Rattle.wasm_parser.specs.ParseAnswer.{report_of}
-use Rattle.wasm_parser.specs.Reading as reading
-use Rattle.wasm_parser.specs.Reading.{Report, version, counted, start_section, data_count_section, code_start, code_entry, custom_section, unknown_section, stream_end, last_event}
+use Rattle.wasm_grammar.specs.Reading as reading
+use Rattle.wasm_grammar.specs.Reading.{Report, version, counted, start_section, data_count_section, code_start}
+use Rattle.wasm_grammar.specs.Reading.{code_entry, custom_section, unknown_section, stream_end, last_event}
 use Rattle.wasm_feed.specs.declared.events.Event.{Event}
 use Rattle.wasm_feed.specs.declared.events.EventKind.{EventKind}
-use Rattle.wasm_feed.specs.declared.events.EventKind.TheVariants.{Version, Section, Start, DataCount, Code, Body, Custom, Unknown, End, Fault}
+use Rattle.wasm_feed.specs.declared.events.EventKind.TheVariants.{Version, Section, Start, DataCount, Code, Body}
+use Rattle.wasm_feed.specs.declared.events.EventKind.TheVariants.{Custom, Unknown, End, Fault}
 use Rattle.wasm_feed.specs.declared.feeder.Step.{Step}
 use Rattle.wasm_feed.specs.declared.feeder.Step.TheVariants.{NeedMoreData, Parsed}
 
@@ -68,6 +70,7 @@ is_last other = false
 -- what is made of a step: nothing of a request, and elsewhere its event
 abbrev pub IsEventOfStep : {A : Type 0} → Result Step Error → Option (Event A) → Type 0
 IsEventOfStep (Ok (NeedMoreData hint)) None = Unit {0}
-IsEventOfStep (Ok (Parsed bytes payload)) (Some value) = IsEvent (record { report = report_of payload; consumed = bytes.now }) value
+IsEventOfStep (Ok (Parsed bytes payload)) (Some value) =
+    IsEvent (record { report = report_of payload; consumed = bytes.now }) value
 IsEventOfStep (Err e) (Some value) = IsEvent (last_event (fault (fault_at e))) value
 IsEventOfStep other value = ⊥

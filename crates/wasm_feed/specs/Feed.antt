@@ -6,8 +6,8 @@ use Rattle.wasm_base.specs.declared.error.Error.{Error}
 use Rattle.wasm_base.specs.declared.fault.Fault.TheVariants.{OffsetRange}
 use Rattle.wasm_parser.specs.ParserState.{ParserState, initial_state}
 
--- where its parser is; the bytes that were pushed and not consumed; how many it stores; whether the end was told; and whether
--- it wants more
+-- where its parser is; the bytes that were pushed and not consumed; how many it stores; whether the end was told; and
+-- whether it wants more
 pub record Feed : Type 0 where
   pub state : ParserState
   pub held : List ℕ
@@ -24,7 +24,13 @@ new_feed offset features = empty_feed (initial_state offset features)
 
 -- the feeder after a push
 abbrev pub pushed : Feed → (piece : List ℕ) → Feed
-pushed f piece = record { state = f.state; held = f.held ++ piece; stored = length f.held + length piece; eof = f.eof; wants_more = false }
+pushed f piece = record {
+  state = f.state;
+  held = f.held ++ piece;
+  stored = length f.held + length piece;
+  eof = f.eof;
+  wants_more = false;
+}
 
 -- the feeder after the end was told
 abbrev pub finished : Feed → Feed

@@ -2,51 +2,59 @@
 use Rattle.std.specs.Prelude.{◌≡◌, ℕ, ◌+◌, ◌<◌, ◌≤◌, ◌^◌, true, false, List, [], ◌++◌, length, Result, Ok}
 use Rattle.std.specs.Borrow.{Bor}
 use Rattle.wasm_base.specs.declared.error.Error.{Error}
-use Rattle.wasm_parser.specs.Along.{Along, is_last, state_after_answer, SaysTheSame}
+use Rattle.wasm_parser.specs.Along.{Along, is_last, SaysTheSame}
 use Rattle.wasm_parser.specs.GivesNextEvent.{IsUndecided}
-use Rattle.wasm_parser.specs.ParseAnswer.{report_of, is_end}
+use Rattle.wasm_parser.specs.ParseAnswer.{report_of, is_end, state_after_answer}
 use Rattle.wasm_parser.specs.ParserState.{grammar_of}
-use Rattle.wasm_parser.specs.Reading.{Event}
-use Rattle.wasm_parser.specs.Waiting.{wants, waiting}
+use Rattle.wasm_grammar.specs.Reading.{Event}
+use Rattle.wasm_grammar.specs.Waiting.{wants, waiting}
 use Rattle.wasm_parser.specs.declared.payload.Payload.{Payload}
 use Rattle.wasm_feed.specs.Feed.{Feed, new_feed, pushed, finished, end_of}
 use Rattle.wasm_feed.specs.Step.{answer_of, Stepped, Steps}
 use Rattle.wasm_feed.specs.declared.feeder.Step.{Step}
 use Rattle.wasm_feed.specs.declared.feeder.Step.TheVariants.{NeedMoreData, Parsed}
 
--- The feeder was given these bytes of a stream: what its parser has passed of them is read as these events, and it holds the
--- others.
+-- The feeder was given these bytes of a stream: what its parser has passed of them is read as these events, and it
+-- holds the others.
 abbrev pub IsAlong : (start features : ℕ) (given : List ℕ) (f : Feed) (events : List Event) → Type 0
 IsAlong start features given f events = Along start features given f.state f.held events
 
 -- Where a feeder is along a stream, whatever calls are made of it, in any order.
 pub record FeedersGoAlong : Type 0 where
   pub begins : (start features : ℕ) → IsAlong start features [] (new_feed start features) []
-  pub pushes : (start features : ℕ) (given : List ℕ) (f : Feed) (events : List Event) (piece : List ℕ) → IsAlong start features given f events → IsAlong start features (given ++ piece) (pushed f piece) events
-  pub finishes : (start features : ℕ) (given : List ℕ) (f : Feed) (events : List Event) → IsAlong start features given f events → IsAlong start features given (finished f) events
+  pub pushes : (start features : ℕ) (given : List ℕ) (f : Feed) (events : List Event) (piece : List ℕ)
+      → IsAlong start features given f events → IsAlong start features (given ++ piece) (pushed f piece) events
+  pub finishes : (start features : ℕ) (given : List ℕ) (f : Feed) (events : List Event)
+      → IsAlong start features given f events → IsAlong start features given (finished f) events
   -- a step is the next event of every stream that goes on so, its last one, or undecided
-  pub steps : (start features : ℕ) (given : List ℕ) (f g : Feed) (events : List Event) (result : Result Step Error) → IsAlong start features given f events → start + length given < 2 ^ 64 → Steps f result g → Stepped start features f.eof given events result g.state g.held
+  pub steps : (start features : ℕ) (given : List ℕ) (f g : Feed) (events : List Event) (result : Result Step Error)
+      → IsAlong start features given f events → start + length given < 2 ^ 64 → Steps f result g
+      → Stepped start features f.eof given events result g.state g.held
   -- a payload but the end shows some bytes
-  pub shows_some : (f g : Feed) (bytes : Bor (List ℕ)) (payload : Payload) → Steps f (Ok (Parsed bytes payload)) g → is_end (report_of payload) ≡ false → 0 < length bytes.now
+  pub shows_some : (f g : Feed) (bytes : Bor (List ℕ)) (payload : Payload) → Steps f (Ok (Parsed bytes payload)) g
+      → is_end (report_of payload) ≡ false → 0 < length bytes.now
   -- a request is undecided
   pub asks : (f g : Feed) (hint : ℕ) → Steps f (Ok (NeedMoreData hint)) g → IsUndecided g.state g.eof g.held hint
   -- where the parser is after a step
-  pub becomes : (f g : Feed) (result : Result Step Error) → Steps f result g → g.state ≡ state_after_answer f.state (answer_of result)
+  pub becomes : (f g : Feed) (result : Result Step Error) → Steps f result g → g.state
+      ≡ state_after_answer f.state (answer_of result)
   -- after the end or a fault the next step answers the same
-  pub again : (f g h : Feed) (one two : Result Step Error) → is_last (answer_of one) ≡ true → Steps f one g → Steps g two h → SaysTheSame (answer_of one) (answer_of two)
+  pub again : (f g h : Feed) (one two : Result Step Error) → is_last (answer_of one) ≡ true → Steps f one g
+      → Steps g two h → SaysTheSame (answer_of one) (answer_of two)
 
--- A feeder stores what it holds, and wants more only where more may come and its parser is undecided on what it holds, which
--- is below the top of the offsets.
+-- A feeder stores what it holds, and wants more only where more may come and its parser is undecided on what it holds,
+-- which is below the top of the offsets.
 pub record WaitsUndecided (f : Feed) : Type 0 where
   pub stores : length f.held ≤ f.stored
   pub below : f.wants_more ≡ true → end_of f < 2 ^ 64
   pub undecided : f.wants_more ≡ true → (hint : ℕ) × IsUndecided f.state f.eof f.held hint
 
--- This holds of a new feeder and after each call, whatever bytes came. What is stored after bytes came is less than the bound of the
--- undecided ones, and the piece.
+-- This holds of a new feeder and after each call, whatever bytes came. What is stored after bytes came is less than the
+-- bound of the undecided ones, and the piece.
 pub record FeedersWait : Type 0 where
   pub begins : (offset features : ℕ) → offset < 2 ^ 64 → WaitsUndecided (new_feed offset features)
   pub pushes : (f : Feed) (piece : List ℕ) → WaitsUndecided f → WaitsUndecided (pushed f piece)
   pub finishes : (f : Feed) → WaitsUndecided f → WaitsUndecided (finished f)
   pub steps : (f g : Feed) (result : Result Step Error) → WaitsUndecided f → Steps f result g → WaitsUndecided g
-  pub bounded : (f : Feed) (piece : List ℕ) (need hint : ℕ) → waiting (grammar_of f.state) f.held ≡ wants need hint → (pushed f piece).stored < need + length piece
+  pub bounded : (f : Feed) (piece : List ℕ) (need hint : ℕ) → waiting (grammar_of f.state) f.held ≡ wants need hint
+      → (pushed f piece).stored < need + length piece

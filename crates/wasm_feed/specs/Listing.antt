@@ -3,10 +3,11 @@ use Rattle.std.specs.Prelude.{ℕ, ◌+◌, List, ◌++◌, length, codes, decim
 use Rattle.std.specs.List.{flat_map}
 use Rattle.wasm_base.specs.Message.{message_of}
 use Rattle.wasm_base.specs.Window.{Window}
-use Rattle.wasm_parser.specs.Content.{ended, fault}
-use Rattle.wasm_parser.specs.Reading.{Report, version, counted, start_section, data_count_section, code_start, code_entry, custom_section, unknown_section, stream_end, Event}
-use Rattle.wasm_parser.specs.declared.payload.Encoding.{Encoding}
-use Rattle.wasm_parser.specs.declared.payload.Encoding.TheVariants.{Module, Component}
+use Rattle.wasm_grammar.specs.Content.{ended, fault}
+use Rattle.wasm_grammar.specs.Reading.{Report, version, counted, start_section, data_count_section, code_start}
+use Rattle.wasm_grammar.specs.Reading.{code_entry, custom_section, unknown_section, stream_end, Event}
+use Rattle.wasm_grammar.specs.declared.encoding.Encoding.{Encoding}
+use Rattle.wasm_grammar.specs.declared.encoding.Encoding.TheVariants.{Module, Component}
 
 -- a blank and a number, before the rest of a line
 abbrev pub field : ℕ → List ℕ → List ℕ
@@ -27,15 +28,18 @@ fault_number (Some n) rest = codes ": " ++ (decimal n ++ rest)
 
 -- the line of what is reported, which ends with a line feed
 unfoldable pub line_of : Report → List ℕ
-line_of (version num encoding from to) = codes "version" ++ field from (field to (field num (codes " " ++ (encoding_name encoding ++ codes "\n"))))
+line_of (version num encoding from to) = codes "version"
+    ++ field from (field to (field num (codes " " ++ (encoding_name encoding ++ codes "\n"))))
 line_of (counted id count window) = codes "section" ++ field id (window_fields window (field count (codes "\n")))
 line_of (start_section func from to) = codes "start" ++ field from (field to (field func (codes "\n")))
 line_of (data_count_section count from to) = codes "datacount" ++ field from (field to (field count (codes "\n")))
 line_of (code_start count from to size) = codes "code" ++ field from (field to (field count (field size (codes "\n"))))
 line_of (code_entry window) = codes "body" ++ window_fields window (codes "\n")
-line_of (custom_section name data_offset window) = codes "custom" ++ window_fields window (field data_offset (codes "\n"))
+line_of (custom_section name data_offset window) = codes "custom"
+    ++ window_fields window (field data_offset (codes "\n"))
 line_of (unknown_section id contents from to) = codes "unknown" ++ field id (field from (field to (codes "\n")))
-line_of (stream_end (fault f)) = codes "fault" ++ field f.offset (codes " " ++ (message_of f.fault ++ fault_number f.number (codes "\n")))
+line_of (stream_end (fault f)) = codes "fault" ++ field f.offset
+    (codes " " ++ (message_of f.fault ++ fault_number f.number (codes "\n")))
 line_of (stream_end (ended offset)) = codes "end" ++ field offset (codes "\n")
 
 -- events by such lines: the text of each, by what it reports

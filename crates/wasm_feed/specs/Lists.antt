@@ -1,22 +1,21 @@
 -- What a listing has written.
-use Rattle.std.specs.Prelude.{◌≡◌, ◌⊎◌, ℕ, ◌<◌, ◌≤◌, ◌^◌, Bool, true, List, [], ◌∷◌, ◌++◌, length, Option, IfSome, Result, Ok, Err}
+use Rattle.std.specs.Prelude.{◌≡◌, ◌⊎◌, ℕ, ◌<◌, ◌≤◌, ◌^◌, Bool, true, List, [], ◌∷◌, ◌++◌, length, Option, IfSome}
+use Rattle.std.specs.Prelude.{Result, Ok, Err}
 use Rattle.std.specs.Io.KnownBytes.{Consumes, Appends, IsAtEnd, Keeps}
 use Rattle.wasm_base.specs.FaultAt.{fault_at, at_offset}
 use Rattle.wasm_base.specs.declared.fault.Fault.TheVariants.{OffsetRange}
-use Rattle.wasm_parser.specs.Content.{Ending, fault, ended}
-use Rattle.wasm_parser.specs.EventRanges.{consumed_by}
-use Rattle.wasm_parser.specs.Reading.{Report, Event, last_event, Reading}
+use Rattle.wasm_grammar.specs.Content.{Ending, fault, ended}
+use Rattle.wasm_grammar.specs.EventRanges.{consumed_by}
+use Rattle.wasm_grammar.specs.Reading.{Report, Event, last_event, Reading}
 use Rattle.wasm_parser.specs.Along.{ReadingBegins}
+use Rattle.wasm_feed.specs.Calls.{Change}
 use Rattle.wasm_feed.specs.Feed.{Feed, pushed, finished}
 use Rattle.wasm_feed.specs.Listing.{line_of, listing_by}
 use Rattle.wasm_feed.specs.declared.listing.Ended.{Ended}
 use Rattle.wasm_feed.specs.declared.listing.Ended.TheVariants.{End, Fault}
-use Rattle.wasm_feed.specs.declared.listing.ListError.{ListError}
-use Rattle.wasm_feed.specs.declared.listing.ListError.TheVariants.{Input, Output, Memory}
-
--- the bits of all features
-abbrev pub all_features : ℕ
-all_features = 3
+use Rattle.wasm_feed.specs.declared.devices.ListError.{ListError}
+use Rattle.wasm_feed.specs.declared.devices.ListError.TheVariants.{Input, Output, Memory}
+use Rattle.wasm_base.specs.Features.{all_features}
 
 -- the run ended as the stream does
 abbrev pub IsEndedBy : Ended → Ending → Type 0
@@ -30,62 +29,63 @@ pub record IsWhole (left : Option (List ℕ)) (given : List ℕ) (events : List 
   pub reading : Reading given 0 all_features events
   pub all : IfSome left (λ input. Reading input 0 all_features events)
 
--- The bytes that the source gave pass the top of the offsets, which is the fault after these events of theirs, at the offset where
--- these end: the parser's.
+-- The bytes that the source gave pass the top of the offsets, which is the fault after these events of theirs, at the
+-- offset where these end: the parser's.
 pub record PassesTop (given : List ℕ) (first : List Event) (end : Ending) : Type 0 where
   pub begins : ReadingBegins 0 all_features given first
   pub is_fault : end ≡ fault (at_offset OffsetRange (length (consumed_by first)))
 
 -- Written is the listing of all events of what the source gave, and the run ended as they do.
-pub record IsListed (text_of : Report → List ℕ) (left rest taken written : Option (List ℕ)) (how : Ended) : Type 0 where
+pub record IsListed (text_of : Report → List ℕ) (input output : Change) (how : Ended) : Type 0 where
   pub given : List ℕ
   pub first : List Event
   pub end : Ending
-  pub gave : Consumes left rest given
-  pub listed : Appends taken written (listing_by text_of (first ++ last_event end ∷ []))
+  pub gave : Consumes input.before input.after given
+  pub listed : Appends output.before output.after (listing_by text_of (first ++ last_event end ∷ []))
   pub ends : IsEndedBy how end
-  pub within : length given < 2 ^ 64 → IsWhole left given (first ++ last_event end ∷ [])
+  pub within : length given < 2 ^ 64 → IsWhole input.before given (first ++ last_event end ∷ [])
   pub past_the_top : 2 ^ 64 ≤ length given → PassesTop given first end
 
 -- Written are the lines of all events but the last, of what the source gave.
-pub record IsAllButLast (text_of : Report → List ℕ) (left rest taken written : Option (List ℕ)) : Type 0 where
+pub record IsAllButLast (text_of : Report → List ℕ) (input output : Change) : Type 0 where
   pub given : List ℕ
   pub events : List Event
   pub last : Event
-  pub gave : Consumes left rest given
-  pub listed : Appends taken written (listing_by text_of events)
+  pub gave : Consumes input.before input.after given
+  pub listed : Appends output.before output.after (listing_by text_of events)
   pub reading : Reading given 0 all_features (events ++ last ∷ [])
 
 -- a beginning of the listing of a stream
 pub record Begins (text_of : Report → List ℕ) (stream shown : List ℕ) : Type 0 where
   pub events : List Event
   pub reading : Reading stream 0 all_features events
-  pub left : List ℕ
-  pub parts : listing_by text_of events ≡ shown ++ left
+  pub more : List ℕ
+  pub parts : listing_by text_of events ≡ shown ++ more
 
 -- Written is a beginning of the listing of what the source gave.
-pub record IsBeginning (text_of : Report → List ℕ) (left rest taken written : Option (List ℕ)) : Type 0 where
+pub record IsBeginning (text_of : Report → List ℕ) (input output : Change) : Type 0 where
   pub given : List ℕ
   pub shown : List ℕ
-  pub gave : Consumes left rest given
-  pub listed : Appends taken written shown
+  pub gave : Consumes input.before input.after given
+  pub listed : Appends output.before output.after shown
   pub begins : length given < 2 ^ 64 → Begins text_of given shown
 
 -- what a listing of a source by such lines has written at each of its ends
-abbrev pub ListsBy : (text_of : Report → List ℕ) (left rest taken written : Option (List ℕ)) → Result Ended ListError → Type 0
-ListsBy text_of left rest taken written (Ok how) = IsListed text_of left rest taken written how
-ListsBy text_of left rest taken written (Err Input) = IsAllButLast text_of left rest taken written
-ListsBy text_of left rest taken written (Err Output) = IsBeginning text_of left rest taken written
-ListsBy text_of left rest taken written (Err Memory) = IsBeginning text_of left rest taken written
+abbrev pub ListsBy : (text_of : Report → List ℕ) (input output : Change) → Result Ended ListError → Type 0
+ListsBy text_of input output (Ok how) = IsListed text_of input output how
+ListsBy text_of input output (Err Input) = IsAllButLast text_of input output
+ListsBy text_of input output (Err Output) = IsBeginning text_of input output
+ListsBy text_of input output (Err Memory) = IsBeginning text_of input output
 
 -- what a listing of a source has written at each of its ends
-abbrev pub Lists : (left rest taken written : Option (List ℕ)) → Result Ended ListError → Type 0
-Lists left rest taken written how = ListsBy line_of left rest taken written how
+abbrev pub Lists : (input output : Change) → Result Ended ListError → Type 0
+Lists input output how = ListsBy line_of input output how
 
 -- The source was at its end, which the feeder was told; or it gave some bytes, which were pushed.
 abbrev pub Fills : (left rest : Option (List ℕ)) → (old new : Feed) → Type 0
 Fills left rest old new =
-    (Consumes left rest [] × IsAtEnd rest × (new ≡ finished old)) ⊎ ((piece : List ℕ) × Consumes left rest piece × (0 < length piece) × (new ≡ pushed old piece))
+    (Consumes left rest [] × IsAtEnd rest × (new ≡ finished old))
+    ⊎ ((piece : List ℕ) × Consumes left rest piece × (0 < length piece) × (new ≡ pushed old piece))
 
 -- what one read did to the source, and to a feeder
 abbrev pub Refills : (left rest : Option (List ℕ)) → (old new : Feed) → Result (Unit {0}) ListError → Type 0

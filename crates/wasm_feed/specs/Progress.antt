@@ -3,29 +3,30 @@ use Rattle.std.specs.Prelude.{◌≡◌, ℕ, ◌+◌, ◌-◌, ◌<◌, ◌^◌
 use Rattle.std.specs.Io.KnownBytes.{Consumes, Appends, IsAtEnd}
 use Rattle.wasm_parser.specs.Along.{Along}
 use Rattle.wasm_parser.specs.GivesNextEvent.{IsUndecided}
-use Rattle.wasm_parser.specs.Reading.{Report, Event}
+use Rattle.wasm_grammar.specs.Reading.{Report, Event}
+use Rattle.wasm_feed.specs.Calls.{Change}
 use Rattle.wasm_feed.specs.Feed.{Feed}
 use Rattle.wasm_feed.specs.Listing.{listing_by}
-use Rattle.wasm_feed.specs.Lists.{all_features}
+use Rattle.wasm_base.specs.Features.{all_features}
 
 -- how much there may be left: bytes to consume, bytes to come, and the end to be told
 abbrev pub weight : Feed → ℕ
 weight f = (2 ^ 64 - f.state.offset) + ((2 ^ 64 - (f.state.offset + length f.held)) + (if f.eof then 0 else 1))
 
 -- The lines of what the feeder has passed are written, or wait on the page.
-pub record Progress (text_of : Report → List ℕ) (left rest taken written : Option (List ℕ)) (f : Feed) (page : List ℕ) : Type 0 where
+pub record Progress (text_of : Report → List ℕ) (input output : Change) (f : Feed) (page : List ℕ) : Type 0 where
   pub given : List ℕ
   pub events : List Event
   pub is_along : Along 0 all_features given f.state f.held events
-  pub gave : Consumes left rest given
-  pub at_end : f.eof ≡ true → IsAtEnd rest
+  pub gave : Consumes input.before input.after given
+  pub at_end : f.eof ≡ true → IsAtEnd input.after
   pub lines : List ℕ
-  pub listed : Appends taken written lines
+  pub listed : Appends output.before output.after lines
   pub parts : listing_by text_of events ≡ lines ++ page
 
 -- More may come, the parser is undecided on what is held, and what was given is below the top.
-pub record Wants (text_of : Report → List ℕ) (left rest taken written : Option (List ℕ)) (f : Feed) (page : List ℕ) : Type 0 where
-  pub progress : Progress text_of left rest taken written f page
+pub record Wants (text_of : Report → List ℕ) (input output : Change) (f : Feed) (page : List ℕ) : Type 0 where
+  pub progress : Progress text_of input output f page
   pub hint : ℕ
   pub undecided : IsUndecided f.state f.eof f.held hint
   pub below : length progress.given < 2 ^ 64

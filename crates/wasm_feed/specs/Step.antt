@@ -1,10 +1,10 @@
 -- What a step of a feeder answers, and what the feeder then is.
 use Rattle.std.specs.Prelude.{◌≡◌, ℕ, Bool, true, false, List, [], ◌++◌, length, drop, Result, Ok, Err}
 use Rattle.wasm_base.specs.declared.error.Error.{Error}
-use Rattle.wasm_parser.specs.Along.{state_after_answer, GoesAlong}
-use Rattle.wasm_parser.specs.ParseAnswer.{ParseAnswer}
+use Rattle.wasm_parser.specs.Along.{GoesAlong}
+use Rattle.wasm_parser.specs.ParseAnswer.{ParseAnswer, state_after_answer}
 use Rattle.wasm_parser.specs.ParserState.{ParserState}
-use Rattle.wasm_parser.specs.Reading.{Event}
+use Rattle.wasm_grammar.specs.Reading.{Event}
 use Rattle.wasm_parser.specs.declared.payload.Chunk.{Chunk}
 use Rattle.wasm_parser.specs.declared.payload.Chunk.TheVariants as chunk
 use Rattle.wasm_feed.specs.Feed.{Feed}
@@ -37,8 +37,8 @@ pub record GivesStep (p : ParserState) (eof : Bool) (held : List ℕ) (result : 
   pub parses : ParseAnswer p eof held (answer_of result) (state_after_answer p (answer_of result))
   pub shows : held ≡ shown result ++ drop (length (shown result)) held
 
--- The feeder's parser answered this on the bytes that it held, and is after what it answered; the feeder holds what is after
--- the bytes that are shown, and wants more exactly if the answer is a request.
+-- The feeder's parser answered this on the bytes that it held, and is after what it answered; the feeder holds what is
+-- after the bytes that are shown, and wants more exactly if the answer is a request.
 pub record Steps (old : Feed) (result : Result Step Error) (new : Feed) : Type 0 where
   pub parses : ParseAnswer old.state old.eof old.held (answer_of result) new.state
   pub shows : old.held ≡ shown result ++ new.held
@@ -47,5 +47,7 @@ pub record Steps (old : Feed) (result : Result Step Error) (new : Feed) : Type 0
   pub wants_more : new.wants_more ≡ is_request result
 
 -- what a step says of every stream that goes on as what was given, of which these events were read before it
-abbrev pub Stepped : (start features : ℕ) (eof : Bool) (given : List ℕ) (events : List Event) → Result Step Error → (new : ParserState) (left : List ℕ) → Type 0
-Stepped start features eof given events result new left = GoesAlong start features eof given events (answer_of result) (shown result) new left
+abbrev pub Stepped : (start features : ℕ) (eof : Bool) (given : List ℕ) (events : List Event) → Result Step Error
+    → (new : ParserState) (left : List ℕ) → Type 0
+Stepped start features eof given events result new left =
+    GoesAlong start features eof given events (answer_of result) (shown result) new left

@@ -1,17 +1,19 @@
 -- A stream without its custom sections. Core specification, Binary format, Modules, Custom Section.
-use Rattle.std.specs.Prelude.{◌≡◌, ℕ, ◌+◌, Bool, true, false, ◌&&◌, ◌||◌, not, List, [], ◌∷◌, ◌++◌, length, filter, flat_map, codes, bytes_eq, nat_eq, Vec, Some, Result, Ok, Err, if◌then◌else◌}
+use Rattle.std.specs.Prelude.{◌≡◌, ℕ, ◌+◌, Bool, true, false, ◌&&◌, ◌||◌, not, List, [], ◌∷◌, ◌++◌, length, filter}
+use Rattle.std.specs.Prelude.{flat_map, codes, bytes_eq, nat_eq, Vec, Some, Result, Ok, Err, if◌then◌else◌}
 use Rattle.std.specs.List.{AllZip}
 use Rattle.wasm_base.specs.FaultAt.{fault_at}
 use Rattle.wasm_base.specs.Name.{Name, named, refused, name_limit, name}
 use Rattle.wasm_base.specs.Owned.{out_of_memory}
 use Rattle.wasm_base.specs.declared.error.Error.{Error}
-use Rattle.wasm_parser.specs.Accepted.{header_bytes, Frame, frame_bytes, IsAccepted}
-use Rattle.wasm_parser.specs.Content.{fault}
-use Rattle.wasm_parser.specs.EventRanges.{consumed_by}
-use Rattle.wasm_parser.specs.Reading.{Report, custom_section, Event, last_event, Reading}
-use Rattle.wasm_parser.specs.Shifted.{shifted_event}
-use Rattle.wasm_parser.specs.declared.payload.Encoding.{Encoding}
-use Rattle.wasm_feed.specs.Lists.{all_features}
+use Rattle.wasm_grammar.specs.Accepted.{header_bytes, SectionFrame, frame_bytes, IsAccepted}
+use Rattle.wasm_grammar.specs.Content.{fault}
+use Rattle.wasm_grammar.specs.EventRanges.{consumed_by}
+use Rattle.wasm_grammar.specs.Reading.{Report, custom_section, Event, last_event, Reading}
+use Rattle.wasm_grammar.specs.Shifted.{shifted_event}
+use Rattle.wasm_grammar.specs.declared.encoding.Encoding.{Encoding}
+use Rattle.wasm_base.specs.Features.{all_features}
+use Rattle.wasm_grammar.specs.Ids.{custom_id}
 
 -- whether a custom section with this name stays: the one with the names of functions does, if those are kept
 abbrev pub custom_stays : (keep : Bool) → (text : List ℕ) → Bool
@@ -22,11 +24,11 @@ name_stays keep (named text used) = custom_stays keep text
 name_stays keep (refused f place) = false
 
 -- whether a section stays: each does that isn't custom
-abbrev pub frame_stays : (keep : Bool) → Frame → Bool
-frame_stays keep f = not (nat_eq f.id 0) || name_stays keep (name (Some name_limit) f.sized.content)
+abbrev pub frame_stays : (keep : Bool) → SectionFrame → Bool
+frame_stays keep f = not (nat_eq f.id custom_id) || name_stays keep (name (Some name_limit) f.sized.content)
 
 -- what is left of a header and these sections: the header, and the sections that stay, each with all its bytes
-abbrev pub stripped : (keep : Bool) → Encoding → List Frame → List ℕ
+abbrev pub stripped : (keep : Bool) → Encoding → List SectionFrame → List ℕ
 stripped keep encoding frames = header_bytes encoding ++ flat_map frame_bytes (filter (frame_stays keep) frames)
 
 -- whether what is reported stays
@@ -41,22 +43,25 @@ event_stays keep e = report_stays keep e.report
 abbrev pub left_bytes : (keep : Bool) → List Event → List ℕ
 left_bytes keep events = consumed_by (filter (event_stays keep) events)
 
--- the events that stay, each with the number of bytes that were dropped before it, so many of them before the first event
+-- the events that stay, each with the number of bytes that were dropped before it, so many of them before the first
+-- event
 abbrev pub staying : (keep : Bool) (dropped : ℕ) → List Event → List (ℕ × Event)
 staying keep dropped [] = []
 staying keep dropped (e ∷ events) =
-    if event_stays keep e then (dropped, e) ∷ staying keep dropped events else staying keep (dropped + length e.consumed) events
+    if event_stays keep e then (dropped, e) ∷ staying keep dropped events else
+    staying keep (dropped + length e.consumed) events
 
 -- The second event is the first one, with the same numbers and bytes and at offsets that are less by these bytes.
 abbrev pub IsMovedBack : ℕ × Event → Event → Type 0
 IsMovedBack s e = s.1 ≡ shifted_event s.0 e
 
--- The events on the right are those on the left that stay, each at offsets that are less by the bytes dropped before it.
+-- The events on the right are those on the left that stay, each at offsets that are less by the bytes dropped before
+-- it.
 abbrev pub AreLeft : (keep : Bool) → List Event → List Event → Type 0
 AreLeft keep events left = AllZip IsMovedBack (staying keep 0 events) left
 
--- The stream is accepted, and these bytes are what is left of it: they are accepted too, and are read as the stream is, but
--- for the events that were dropped.
+-- The stream is accepted, and these bytes are what is left of it: they are accepted too, and are read as the stream is,
+-- but for the events that were dropped.
 pub record IsStripped (keep : Bool) (stream left : List ℕ) : Type 0 where
   pub accepted : IsAccepted stream
   pub bytes : left ≡ stripped keep accepted.encoding accepted.frames
@@ -66,7 +71,8 @@ pub record IsStripped (keep : Bool) (stream left : List ℕ) : Type 0 where
 
 -- The reading of the stream ends with this fault.
 abbrev pub EndsWithFault : (stream : List ℕ) → Error → Type 0
-EndsWithFault stream e = (events : List Event) × Reading stream 0 all_features (events ++ last_event (fault (fault_at e)) ∷ [])
+EndsWithFault stream e = (events : List Event) × Reading stream 0 all_features
+    (events ++ last_event (fault (fault_at e)) ∷ [])
 
 -- Of an accepted stream only memory was refused; the reading of another ends with this fault.
 pub record RefusesToStrip (stream : List ℕ) (e : Error) : Type 0 where
@@ -91,4 +97,5 @@ StripsInPlace keep stream (Err e) after = LeavesStream stream e after
 
 -- stripping a second time changes nothing
 abbrev pub StrippingTwiceIsOnce : Type 0
-StrippingTwiceIsOnce = (keep : Bool) (stream once twice : List ℕ) → IsStripped keep stream once → IsStripped keep once twice → twice ≡ once
+StrippingTwiceIsOnce =
+    (keep : Bool) (stream once twice : List ℕ) → IsStripped keep stream once → IsStripped keep once twice → twice ≡ once

@@ -1,18 +1,19 @@
 -- One pass over a stream that is stripped.
-use Rattle.std.specs.Prelude.{◌≡◌, ◌⊎◌, ℕ, ◌+◌, ◌<◌, ◌^◌, Bool, true, false, List, ◌∷◌, [], ◌++◌, length, drop, Result, Ok, Err, if◌then◌else◌}
+use Rattle.std.specs.Prelude.{◌≡◌, ◌⊎◌, ℕ, ◌+◌, ◌<◌, ◌^◌, Bool, true, false, List, ◌∷◌, [], ◌++◌, length, drop, Result}
+use Rattle.std.specs.Prelude.{Ok, Err, if◌then◌else◌}
 use Rattle.wasm_base.specs.FaultAt.{fault_at}
 use Rattle.wasm_base.specs.Owned.{out_of_memory}
 use Rattle.wasm_base.specs.declared.error.Error.{Error}
-use Rattle.wasm_parser.specs.Content.{ended}
+use Rattle.wasm_grammar.specs.Content.{ended}
 use Rattle.wasm_parser.specs.ParseAnswer.{is_end}
-use Rattle.wasm_parser.specs.Reading.{Report, Event, last_event, Reading}
+use Rattle.wasm_grammar.specs.Reading.{Report, Event, last_event, Reading}
 use Rattle.wasm_parser.specs.Along.{Along}
 use Rattle.wasm_feed.specs.Feed.{Feed}
-use Rattle.wasm_feed.specs.Lists.{all_features}
 use Rattle.wasm_feed.specs.Stripped.{event_stays, report_stays, left_bytes, EndsWithFault}
 use Rattle.wasm_feed.specs.declared.stripping.Fate.{Fate}
 use Rattle.wasm_feed.specs.declared.stripping.Fate.TheVariants.{Stays, Goes, End}
 use Rattle.wasm_feed.specs.declared.stripping.Part.{Part}
+use Rattle.wasm_base.specs.Features.{all_features}
 
 -- what becomes of a custom section that stays, or doesn't
 abbrev pub custom_fate : (stays : Bool) → Fate
@@ -26,13 +27,16 @@ IsFateOf keep report End = is_end report ≡ true
 
 -- An event came after these, and this is whether it stays.
 abbrev pub Comes : (keep : Bool) (stream : List ℕ) → List Event → (stays : Bool) → Event → Feed → Type 0
-Comes keep stream events stays e new = (event_stays keep e ≡ stays) × Along 0 all_features stream new.state new.held (events ++ e ∷ [])
+Comes keep stream events stays e new = (event_stays keep e ≡ stays)
+    × Along 0 all_features stream new.state new.held (events ++ e ∷ [])
 
--- What came next in a stream after these events: an event that stays, with these bytes; one that is dropped; or the end.
+-- What came next in a stream after these events: an event that stays, with these bytes; one that is dropped; or the
+-- end.
 abbrev pub FateComes : (keep : Bool) (stream : List ℕ) → List Event → (bytes : List ℕ) → Fate → Feed → Type 0
 FateComes keep stream events bytes Stays new = (e : Event) × Comes keep stream events true e new × (e.consumed ≡ bytes)
 FateComes keep stream events bytes Goes new = (e : Event) × Comes keep stream events false e new
-FateComes keep stream events bytes End new = (offset : ℕ) × Reading stream 0 all_features (events ++ last_event (ended offset) ∷ [])
+FateComes keep stream events bytes End new = (offset : ℕ)
+    × Reading stream 0 all_features (events ++ last_event (ended offset) ∷ [])
 
 -- the same, or a fault
 abbrev pub PartComes : (keep : Bool) (stream : List ℕ) → List Event → Result Part Error → Feed → Type 0
@@ -41,7 +45,8 @@ PartComes keep stream events (Err e) new = EndsWithFault stream e
 
 -- the same wherever the feeder was
 abbrev pub TakesPart : (keep : Bool) → (old : Feed) → Result Part Error → (new : Feed) → Type 0
-TakesPart keep old result new = (stream : List ℕ) (events : List Event) → Along 0 all_features stream old.state old.held events → length stream < 2 ^ 64
+TakesPart keep old result new = (stream : List ℕ) (events : List Event)
+    → Along 0 all_features stream old.state old.held events → length stream < 2 ^ 64
     → PartComes keep stream events result new
 
 -- whether fewer bytes are held after a part: not at the end
@@ -55,7 +60,8 @@ GoesOn old (Err e) new = Unit {0}
 
 -- A stream was read so far, and these are the bytes of the events that stay.
 abbrev pub HasLeft : (keep : Bool) (stream : List ℕ) → Feed → (left : List ℕ) → Type 0
-HasLeft keep stream feed left = (events : List Event) × Along 0 all_features stream feed.state feed.held events × (left ≡ left_bytes keep events)
+HasLeft keep stream feed left =
+    (events : List Event) × Along 0 all_features stream feed.state feed.held events × (left ≡ left_bytes keep events)
 
 -- The stream is read up to its end, and these are the bytes of its events that stay.
 pub record ReadsLeft (keep : Bool) (stream left : List ℕ) : Type 0 where
@@ -81,5 +87,6 @@ MovesLeft keep stream (Err e) after = EndsWithFault stream e
 
 -- a part is the bytes between two marks
 abbrev pub Passes : (bytes : List ℕ) (old : ℕ) → Result Part Error → (new : ℕ) → Type 0
-Passes bytes old (Ok part) new = (new ≡ old + length part.bytes.now) × (drop old bytes ≡ part.bytes.now ++ drop new bytes)
+Passes bytes old (Ok part) new = (new ≡ old + length part.bytes.now)
+    × (drop old bytes ≡ part.bytes.now ++ drop new bytes)
 Passes bytes old (Err e) new = Unit {0}

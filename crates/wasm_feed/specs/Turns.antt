@@ -2,15 +2,15 @@
 use Rattle.std.specs.Prelude.{◌≡◌, ℕ, List, [], Option, Result, Ok, Err, if◌then◌else◌}
 use Rattle.wasm_base.specs.FaultAt.{fault_at}
 use Rattle.wasm_base.specs.declared.error.Error.{Error}
-use Rattle.wasm_parser.specs.Content.{fault}
+use Rattle.wasm_grammar.specs.Content.{fault}
 use Rattle.wasm_parser.specs.ParseAnswer.{report_of, is_end}
-use Rattle.wasm_parser.specs.Reading.{Report, stream_end}
+use Rattle.wasm_grammar.specs.Reading.{Report, stream_end}
 use Rattle.wasm_feed.specs.Listing.{line_of}
 use Rattle.wasm_feed.specs.Page.{IsCut, PutsLine}
 use Rattle.wasm_feed.specs.declared.feeder.Step.{Step}
 use Rattle.wasm_feed.specs.declared.feeder.Step.TheVariants.{NeedMoreData, Parsed}
 use Rattle.wasm_feed.specs.declared.listing.Ended.TheVariants as how
-use Rattle.wasm_feed.specs.declared.listing.ListError.{ListError}
+use Rattle.wasm_feed.specs.declared.devices.ListError.{ListError}
 use Rattle.wasm_feed.specs.declared.listing.Turn.{Turn}
 use Rattle.wasm_feed.specs.declared.listing.Turn.TheVariants as turn
 
@@ -31,6 +31,8 @@ turn_after (Ok (Parsed bytes payload)) = if is_end (report_of payload) then turn
 turn_after (Err e) = turn.End (how.Fault e)
 
 -- The line of the answer was put after those that waited.
-abbrev pub TakesTurn : (taken written : Option (List ℕ)) (waiting new : List ℕ) → Result Step Error → Result Turn ListError → Type 0
-TakesTurn taken written waiting new answer (Ok next) = PutsLine taken written waiting (line_after answer) new × (next ≡ turn_after answer)
+abbrev pub TakesTurn : (taken written : Option (List ℕ)) (waiting new : List ℕ) → Result Step Error
+    → Result Turn ListError → Type 0
+TakesTurn taken written waiting new answer (Ok next) =
+    PutsLine taken written waiting (line_after answer) new × (next ≡ turn_after answer)
 TakesTurn taken written waiting new answer (Err e) = IsCut taken written waiting e

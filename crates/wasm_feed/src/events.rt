@@ -4,12 +4,16 @@ ghost use Rattle.wasm_base.specs.FaultAt.{fault_at};
 ghost use Rattle.wasm_base.specs.Owned.{out_of_memory};
 ghost use Rattle.wasm_base.specs.Window.{range_of};
 ghost use Rattle.wasm_parser.specs.ParseAnswer.{report_of};
-ghost use Rattle.wasm_parser.specs.Reading.{counted};
+ghost use Rattle.wasm_grammar.specs.Reading.{counted};
 ghost use Rattle.wasm_feed.specs.Events.{IsKindOf, offsets_of, is_last, IsEventOfStep};
 
 use crate::feeder::Step;
 use std::alloc::{Allocator, Global};
 use std::ops::Range;
+use wasm_grammar::{
+    DATA_SECTION, ELEMENT_SECTION, EXPORT_SECTION, FUNCTION_SECTION, GLOBAL_SECTION,
+    IMPORT_SECTION, MEMORY_SECTION, TABLE_SECTION, TAG_SECTION, TYPE_SECTION,
+};
 use wasm_parser::{Encoding, Error, Fault, Payload, Result, SectionLimited};
 
 /// What an event of a stream is, with the numbers that it announces (core specification, Binary format, Modules).
@@ -111,16 +115,16 @@ fn payload_kind(payload: &Payload) -> (EventKind, Range<u64>)
             },
             range.start..range.end,
         ),
-        Payload::TypeSection(section) => counted_kind(1, section),
-        Payload::ImportSection(section) => counted_kind(2, section),
-        Payload::FunctionSection(section) => counted_kind(3, section),
-        Payload::TableSection(section) => counted_kind(4, section),
-        Payload::MemorySection(section) => counted_kind(5, section),
-        Payload::TagSection(section) => counted_kind(13, section),
-        Payload::GlobalSection(section) => counted_kind(6, section),
-        Payload::ExportSection(section) => counted_kind(7, section),
-        Payload::ElementSection(section) => counted_kind(9, section),
-        Payload::DataSection(section) => counted_kind(11, section),
+        Payload::TypeSection(section) => counted_kind(TYPE_SECTION, section),
+        Payload::ImportSection(section) => counted_kind(IMPORT_SECTION, section),
+        Payload::FunctionSection(section) => counted_kind(FUNCTION_SECTION, section),
+        Payload::TableSection(section) => counted_kind(TABLE_SECTION, section),
+        Payload::MemorySection(section) => counted_kind(MEMORY_SECTION, section),
+        Payload::TagSection(section) => counted_kind(TAG_SECTION, section),
+        Payload::GlobalSection(section) => counted_kind(GLOBAL_SECTION, section),
+        Payload::ExportSection(section) => counted_kind(EXPORT_SECTION, section),
+        Payload::ElementSection(section) => counted_kind(ELEMENT_SECTION, section),
+        Payload::DataSection(section) => counted_kind(DATA_SECTION, section),
         Payload::StartSection { func, range } => (
             EventKind::Start { func: *func },
             range.start..range.end,

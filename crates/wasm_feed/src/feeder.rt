@@ -10,8 +10,7 @@ ghost use Rattle.wasm_feed.specs.Lists.{Refills, input_failed};
 ghost use Rattle.wasm_feed.specs.Step.{answer_of, shown, is_request, GivesStep};
 
 use crate::buffer::{after, append};
-use crate::listing::{ListError, read_more};
-use crate::source::Source;
+use crate::devices::{ListError, Source};
 use std::alloc::{Allocator, Global};
 use std::marker::Model;
 use wasm_parser::{Chunk, Error, Fault, Parser, Payload, Result, WasmFeatures, fits};
@@ -241,7 +240,7 @@ impl<A: Allocator> Feeder<A> {
         requires { F.IsAlwaysCallable look }
         ensures { (s : _) × F.post look s result × Steps self.old s self.new }
     {
-        look(advance(&mut self.cursor, &self.bytes))
+        look(parse_next(&mut self.cursor, &self.bytes))
     }
 }
 
@@ -262,7 +261,7 @@ impl<'c, 'a> Opened<'c, 'a> {
             (feed_of self.entry.bytes.now self.exit.0.now) }
     {
         let Opened { cursor, bytes } = self;
-        advance(cursor, bytes)
+        parse_next(cursor, bytes)
     }
 }
 
@@ -288,8 +287,35 @@ pub(crate) fn refill<A: Allocator>(
     Ok(())
 }
 
+/// Reads once, and stores what came, or that it was the end.
+pub(crate) fn read_more<A: Allocator, R: Source>(
+    cursor: &mut Cursor,
+    stored: &mut Vec<u8, A>,
+    input: &mut R,
+    room: &mut [u8],
+) -> Result<(), ListError>
+    requires { 0 < length room.old }
+    ensures refills { Refills (R.left input.old) (R.left input.new)
+        (feed_of stored.old.items cursor.old) (feed_of stored.new.items cursor.new) result }
+    ensures unchanged { OnErr result (feed_of stored.new.items cursor.new
+        ≡ feed_of stored.old.items cursor.old) }
+    ensures failed { R.has_failed input.new ≡ input_failed result (R.has_failed input.old) }
+{
+    match input.read(room) {
+        Ok(0) => {
+            cursor.finish();
+            Ok(())
+        }
+        Ok(count) => match refill(cursor, stored, &room[..count]) {
+            Ok(()) => Ok(()),
+            Err(_) => Err(ListError::Memory),
+        },
+        Err(_) => Err(ListError::Input),
+    }
+}
+
 /// One step in these bytes.
-pub(crate) fn advance<'a>(cursor: &mut Cursor, bytes: &'a [u8]) -> Result<Step<'a>>
+pub(crate) fn parse_next<'a>(cursor: &mut Cursor, bytes: &'a [u8]) -> Result<Step<'a>>
     ensures parses { ParseAnswer cursor.old.parser cursor.old.is_finished
         (drop cursor.old.mark bytes.now) (answer_of result) cursor.new.parser }
     ensures shows { drop cursor.old.mark bytes.now

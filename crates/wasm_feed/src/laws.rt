@@ -5,13 +5,13 @@ ghost use Rattle.wasm_feed.specs.Ends.{fault_at_end};
 ghost use Rattle.wasm_feed.specs.Stripped.{StrippingTwiceIsOnce};
 ghost use Rattle.wasm_feed.specs.FeedersLaws.{FeedersGoAlong, FeedersWait};
 
-use crate::listing::{Ended, ListError};
-use crate::source::Failed;
+use crate::devices::{Failed, ListError};
+use crate::listing::Ended;
 
-/// Where a feeder is along a stream: a new one is where nothing was given, a piece adds to what was given, and a step is the next
-/// event of every stream that goes on so, its last one, or undecided, whatever calls came before. A payload but the end shows some
-/// bytes, so a loop over steps ends; what the parser is afterwards follows from the step; and after the end or a fault the next
-/// step answers the same.
+/// Where a feeder is along a stream, whatever calls came before. A new one is where nothing was given, and a piece adds to what
+/// was given. A step is the next event of every stream that goes on so, its last one, or undecided. A payload but the end shows
+/// some bytes, so a loop over steps ends. What the parser is afterwards follows from the step, and after the end or a fault the
+/// next step answers the same.
 pub fn feeders_go_along()
     ensures { FeedersGoAlong }
 {}

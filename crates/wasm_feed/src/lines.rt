@@ -3,11 +3,15 @@ ghost use Rattle.std.specs.Prelude.{◌≡◌, ◌≤◌, ◌++◌, codes, lengt
 ghost use Rattle.wasm_base.specs.FaultAt.{fault_at};
 ghost use Rattle.wasm_parser.specs.ParseAnswer.{report_of};
 ghost use Rattle.wasm_feed.specs.Listing.{encoding_name as name_of, field, line_of};
-ghost use Rattle.wasm_parser.specs.Content.{fault};
-ghost use Rattle.wasm_parser.specs.Reading.{code_start, counted, stream_end};
+ghost use Rattle.wasm_grammar.specs.Content.{fault};
+ghost use Rattle.wasm_grammar.specs.Reading.{code_start, counted, stream_end};
 
 use crate::line::Line;
 use std::ops::Range;
+use wasm_grammar::{
+    DATA_SECTION, ELEMENT_SECTION, EXPORT_SECTION, FUNCTION_SECTION, GLOBAL_SECTION,
+    IMPORT_SECTION, MEMORY_SECTION, TABLE_SECTION, TAG_SECTION, TYPE_SECTION,
+};
 use wasm_parser::{Encoding, Error, Payload, SectionLimited};
 
 fn encoding_name(encoding: Encoding) -> &'static str
@@ -116,22 +120,22 @@ pub fn payload_line(line: &mut Line, payload: &Payload)
             encoding,
             range,
         } => version_line(line, *num, *encoding, range),
-        Payload::TypeSection(section) => counted_line(line, 1, section),
-        Payload::ImportSection(section) => counted_line(line, 2, section),
-        Payload::FunctionSection(section) => counted_line(line, 3, section),
-        Payload::TableSection(section) => counted_line(line, 4, section),
-        Payload::MemorySection(section) => counted_line(line, 5, section),
-        Payload::TagSection(section) => counted_line(line, 13, section),
-        Payload::GlobalSection(section) => counted_line(line, 6, section),
-        Payload::ExportSection(section) => counted_line(line, 7, section),
+        Payload::TypeSection(section) => counted_line(line, TYPE_SECTION, section),
+        Payload::ImportSection(section) => counted_line(line, IMPORT_SECTION, section),
+        Payload::FunctionSection(section) => counted_line(line, FUNCTION_SECTION, section),
+        Payload::TableSection(section) => counted_line(line, TABLE_SECTION, section),
+        Payload::MemorySection(section) => counted_line(line, MEMORY_SECTION, section),
+        Payload::TagSection(section) => counted_line(line, TAG_SECTION, section),
+        Payload::GlobalSection(section) => counted_line(line, GLOBAL_SECTION, section),
+        Payload::ExportSection(section) => counted_line(line, EXPORT_SECTION, section),
         Payload::StartSection { func, range } => {
             number_line(line, "start", range, u64::from(*func));
         }
-        Payload::ElementSection(section) => counted_line(line, 9, section),
+        Payload::ElementSection(section) => counted_line(line, ELEMENT_SECTION, section),
         Payload::DataCountSection { count, range } => {
             number_line(line, "datacount", range, u64::from(*count));
         }
-        Payload::DataSection(section) => counted_line(line, 11, section),
+        Payload::DataSection(section) => counted_line(line, DATA_SECTION, section),
         Payload::CodeSectionStart {
             count,
             unchecked_range,

@@ -1,16 +1,15 @@
 // The listing of a stream.
-ghost use Rattle.std.specs.Prelude.{◌≡◌, ◌≤◌, ◌<◌, length, OnErr};
-ghost use Rattle.wasm_feed.specs.Cursors.{feed_of};
-ghost use Rattle.wasm_feed.specs.Lists.{Lists, Refills, input_failed, output_failed};
+ghost use Rattle.std.specs.Prelude.{◌≡◌, ◌≤◌};
+ghost use Rattle.wasm_feed.specs.Calls.{change_of};
+ghost use Rattle.wasm_feed.specs.Lists.{Lists, input_failed, output_failed};
 ghost use Rattle.wasm_feed.specs.Turns.{TakesTurn};
 
-use crate::feeder::{Cursor, Step, advance, refill};
+use crate::devices::{ListError, Sink, Source};
+use crate::feeder::{Cursor, Step, parse_next, read_more};
 use crate::line::Line;
 use crate::lines::{fault_line, payload_line};
 use crate::page::Page;
-use crate::sink::Sink;
-use crate::source::Source;
-use std::alloc::{AllocError, Allocator, Global};
+use std::alloc::{Allocator, Global};
 use wasm_parser::{Error, Parser, Payload, Result as ParserResult};
 
 /// How a stream that was listed ended.
@@ -20,28 +19,6 @@ pub enum Ended {
     End,
     /// At its first fault, whose offset counts bytes from the stream's start.
     Fault(Error),
-}
-
-/// Why a listing was given up.
-#[derive(Clone, Copy, Debug, PartialEq, Eq)]
-pub enum ListError {
-    /// The source failed.
-    Input,
-    /// The sink failed.
-    Output,
-    /// No memory was left.
-    Memory,
-}
-
-impl From<AllocError> for ListError {
-    ghost use Rattle.std.specs.Prelude.{◌≡◌};
-    ghost use Rattle.wasm_feed.specs.declared.listing.ListError.TheVariants.{Memory};
-
-    ghost from_gives = { λ _ e. e ≡ Memory };
-
-    fn from(_refused: AllocError) -> ListError {
-        ListError::Memory
-    }
 }
 
 /// What is done after a step along a stream.
@@ -85,33 +62,6 @@ fn put_answer<A: Allocator, W: Sink>(
     }
 }
 
-/// Reads once, and stores what came, or that it was the end.
-pub(crate) fn read_more<A: Allocator, R: Source>(
-    cursor: &mut Cursor,
-    stored: &mut Vec<u8, A>,
-    input: &mut R,
-    room: &mut [u8],
-) -> Result<(), ListError>
-    requires { 0 < length room.old }
-    ensures refills { Refills (R.left input.old) (R.left input.new)
-        (feed_of stored.old.items cursor.old) (feed_of stored.new.items cursor.new) result }
-    ensures unchanged { OnErr result (feed_of stored.new.items cursor.new
-        ≡ feed_of stored.old.items cursor.old) }
-    ensures failed { R.has_failed input.new ≡ input_failed result (R.has_failed input.old) }
-{
-    match input.read(room) {
-        Ok(0) => {
-            cursor.finish();
-            Ok(())
-        }
-        Ok(count) => match refill(cursor, stored, &room[..count]) {
-            Ok(()) => Ok(()),
-            Err(_) => Err(ListError::Memory),
-        },
-        Err(_) => Err(ListError::Input),
-    }
-}
-
 /// The same as `list`, with memory from any allocator: `Memory` where it refuses a growth.
 pub fn list_in<A: Allocator + Copy, R: Source, W: Sink>(
     alloc: A,
@@ -120,8 +70,8 @@ pub fn list_in<A: Allocator + Copy, R: Source, W: Sink>(
     piece: usize,
 ) -> Result<Ended, ListError>
     requires { 1 ≤ piece }
-    ensures lists { Lists (R.left input.old) (R.left input.new)
-        (W.taken output.old) (W.taken output.new) result }
+    ensures lists { Lists (change_of R.left input.old input.new)
+        (change_of W.taken output.old output.new) result }
     ensures input { R.has_failed input.new ≡ input_failed result (R.has_failed input.old) }
     ensures output { W.has_failed output.new ≡ output_failed result (W.has_failed output.old) }
 {
@@ -131,7 +81,7 @@ pub fn list_in<A: Allocator + Copy, R: Source, W: Sink>(
     let mut stored = Vec::new(alloc);
     let mut cursor = Cursor::new(Parser::new(0));
     'events: loop {
-        let answer = advance(&mut cursor, &stored);
+        let answer = parse_next(&mut cursor, &stored);
         let turn = put_answer(&mut page, &mut line, output, &answer);
         drop(answer);
         match turn? {
@@ -149,12 +99,13 @@ pub fn list_in<A: Allocator + Copy, R: Source, W: Sink>(
 }
 
 /// Reads the input, at most `piece` bytes at once and at least one, and writes its listing: a line for each event of the
-/// reading of the stream, whose offsets count bytes from 0. The line of an event is written before more is read, and no
-/// more is held than what the parser has not decided and one piece.
+/// reading of the stream, whose offsets count bytes from 0. The lines of all events that are decided are written before more
+/// is read. It keeps what the parser has not decided, the piece that came last, the room that it was read into, and a page of
+/// lines; no clause says how much that is.
 ///
 /// A stream that passes the offset 2^64 - 1 ends with the fault `OffsetRange`. An error leaves a beginning of the listing
 /// written: `Input` where the source failed, all lines but the last of what it gave; `Output` where the sink did; `Memory`
-/// where a growth was refused. Neither device may have failed before.
+/// where a growth was refused. A device that had failed before the call is still known to have failed.
 pub fn list<R: Source, W: Sink>(
     alloc: Global,
     input: &mut R,
@@ -162,8 +113,8 @@ pub fn list<R: Source, W: Sink>(
     piece: usize,
 ) -> Result<Ended, ListError>
     requires { 1 ≤ piece }
-    ensures lists { Lists (R.left input.old) (R.left input.new)
-        (W.taken output.old) (W.taken output.new) result }
+    ensures lists { Lists (change_of R.left input.old input.new)
+        (change_of W.taken output.old output.new) result }
     ensures input { R.has_failed input.new ≡ input_failed result (R.has_failed input.old) }
     ensures output { W.has_failed output.new ≡ output_failed result (W.has_failed output.old) }
 {

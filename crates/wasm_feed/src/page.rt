@@ -3,8 +3,7 @@ ghost use Rattle.std.specs.Prelude.{◌≡◌, ◌≤◌, [], length, IfOk, vec_
 ghost use Rattle.wasm_feed.specs.Lists.{output_failed};
 ghost use Rattle.wasm_feed.specs.Page.{Puts, WritesOut};
 
-use crate::listing::ListError;
-use crate::sink::{Sink, room, write_all};
+use crate::devices::{ListError, Sink, room, write_all};
 use std::alloc::{AllocError, Allocator};
 
 /// How many bytes wait at most.

@@ -2,9 +2,10 @@
 ghost use Rattle.std.specs.Prelude.{◌≡◌, ◌+◌, ◌<◌, ◌^◌, ◌↔◌, IsTrue, length};
 ghost use Rattle.wasm_feed.specs.Cursors.{feed_of};
 ghost use Rattle.wasm_feed.specs.Pieces.{joined, ReadsHeld, ReadsUnlessMemory};
+ghost use Rattle.wasm_base.specs.Features.{all_features};
 
 use crate::events::{Event, event_of};
-use crate::feeder::{Cursor, advance, refill};
+use crate::feeder::{Cursor, parse_next, refill};
 use std::alloc::{Allocator, Global};
 use wasm_parser::{Parser, Result, fits};
 
@@ -34,7 +35,7 @@ fn read_held<A: Allocator + Copy>(
     ensures finished { cursor.new.is_finished ≡ cursor.old.is_finished }
 {
     'steps: loop {
-        match event_of(alloc, advance(cursor, bytes))? {
+        match event_of(alloc, parse_next(cursor, bytes))? {
             None => return Ok(false),
             Some(event) => {
                 let is_last = event.kind.is_last();
@@ -54,7 +55,7 @@ pub fn read_pieces_in<A: Allocator + Copy>(
     pieces: &[&[u8]],
 ) -> Result<Vec<Event<A>, A>>
     requires { offset + length (joined pieces.now) < 2 ^ 64 }
-    ensures { ReadsUnlessMemory (joined pieces.now) offset 3 result }
+    ensures { ReadsUnlessMemory (joined pieces.now) offset all_features result }
 {
     let mut cursor = Cursor::new(Parser::new(offset));
     let mut bytes = Vec::new(alloc);
@@ -76,7 +77,7 @@ pub fn read_pieces_in<A: Allocator + Copy>(
 /// `OutOfMemory`, at offset 0, where a growth was refused, and no other error: a fault of the stream is an event.
 pub fn read_pieces(alloc: Global, offset: u64, pieces: &[&[u8]]) -> Result<Vec<Event>>
     requires { offset + length (joined pieces.now) < 2 ^ 64 }
-    ensures { ReadsUnlessMemory (joined pieces.now) offset 3 result }
+    ensures { ReadsUnlessMemory (joined pieces.now) offset all_features result }
 {
     read_pieces_in(alloc, offset, pieces)
 }

@@ -5,10 +5,10 @@ ghost use Rattle.wasm_feed.specs.Cursors.{feed_of};
 ghost use Rattle.wasm_feed.specs.Stripped.{custom_stays, Strips, StripsInPlace};
 ghost use Rattle.wasm_feed.specs.Strips.{CountsLeft, CopiesLeft, custom_fate, GoesOn, IsFateOf, MovesLeft, Passes, TakesPart};
 ghost use Rattle.wasm_parser.specs.ParseAnswer.{report_of};
-ghost use Rattle.wasm_parser.specs.Reading.{Stream};
+ghost use Rattle.wasm_grammar.specs.Reading.{Stream};
 
-use crate::feeder::{Cursor, Step, advance};
-use crate::sink::room;
+use crate::devices::room;
+use crate::feeder::{Cursor, Step, parse_next};
 use std::alloc::{Allocator, Global};
 use wasm_parser::{Error, Fault, Parser, Payload, Result};
 
@@ -62,7 +62,7 @@ fn next_part<'a>(cursor: &mut Cursor, bytes: &'a [u8], keep_names: bool) -> Resu
     ensures finished { cursor.new.is_finished ≡ true }
     ensures passes { Passes bytes.now cursor.old.mark result cursor.new.mark }
 {
-    match advance(cursor, bytes)? {
+    match parse_next(cursor, bytes)? {
         Step::NeedMoreData(_) => unreachable!(),
         Step::Parsed { bytes, payload } => Ok(Part {
             bytes,

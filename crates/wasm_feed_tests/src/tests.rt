@@ -1,13 +1,17 @@
 // Worked examples, devices that fail or go short, and memory that runs out.
 mod bytewise;
 mod devices;
+mod dumps;
 mod endings;
+mod equal_events;
 mod feeding;
+mod golden;
 mod listings;
 mod modules;
 mod pieces;
 mod reads;
 mod refusals;
+mod steps;
 mod stripping;
 
 use std::alloc::Global;

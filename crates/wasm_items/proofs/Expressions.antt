@@ -1,5 +1,6 @@
 -- An expression is the end, or an instruction and then an expression: the bound on the number of instructions is no limit.
-use Rattle.std.proofs.Common.{◌≡◌, ℕ, zero, suc, ◌+◌, ◌-◌, ◌≤◌, Bool, true, false, cond, List, [], ◌∷◌, length, take, Option, Some, None, Ok, Err, nat_lt, nat_eq, ℤ, pos, negsuc, refl, sym, ◌==◌, if◌then◌else◌, arith, length-drop, ◌∙◌}
+use Rattle.std.proofs.Common.{◌≡◌, ℕ, zero, suc, ◌+◌, ◌-◌, ◌≤◌, Bool, true, false, cond, List, [], ◌∷◌, length, take, Option, Some, None}
+use Rattle.std.proofs.Common.{Ok, Err, nat_lt, nat_eq, ℤ, pos, negsuc, refl, sym, ◌==◌, if◌then◌else◌, arith, length-drop, ◌∙◌}
 use Rattle.wasm_base.specs.FaultAt.{at_offset}
 use Rattle.wasm_base.specs.Name.{bytes_at, byte_at, first_of, first_peeked}
 use Rattle.wasm_base.specs.Number.{Number, read, bad, short, number, in_window, unsigned_at}
@@ -10,7 +11,9 @@ use Rattle.wasm_base.specs.declared.fault.Fault.TheVariants.{UnexpectedEof}
 use Rattle.wasm_base.specs.declared.fault.NumberKind.{NumberKind}
 use Rattle.wasm_base.specs.declared.fault.NumberKind.TheVariants.{VarU32, VarS33}
 use Rattle.wasm_items.proofs.Instructions.{byte_passed}
-use Rattle.wasm_items.specs.Init.{Operand, signed, raw, u32_index, heap, operand_at, operands_at, constant_operands_at, numbered_operands_at, operands_of, aggregate_operands_of, vector_operands_of, after_opcode, instructions_at, end_of_expression, IsEndOrInstruction}
+use Rattle.wasm_items.specs.Init.{Operand, signed, raw, u32_index, heap, operand_at, operands_at, constant_operands_at}
+use Rattle.wasm_items.specs.Init.{numbered_operands_at, operands_of, aggregate_operands_of, vector_operands_of, after_opcode}
+use Rattle.wasm_items.specs.Init.{instructions_at, end_of_expression, IsEndOrInstruction}
 use Rattle.wasm_items.specs.Values.{heap_type_at, heap_type_from, abstract_heap_of, type_index}
 use Rattle.wasm_items.specs.declared.types.HeapType.{HeapType}
 
@@ -20,7 +23,8 @@ Within n (Ok x) = length x.1.rest ≤ n
 Within n (Err e) = Unit {0}
 
 -- one reading after the other
-then_within : {A B : Type 0} (n : ℕ) (r : Outcome A) (f : A × Place → Outcome B) → Within n r → ((x : A × Place) → length x.1.rest ≤ n → Within n (f x)) → Within n (r >>= f)
+then_within : {A B : Type 0} (n : ℕ) (r : Outcome A) (f : A × Place → Outcome B) → Within n r
+    → ((x : A × Place) → length x.1.rest ≤ n → Within n (f x)) → Within n (r >>= f)
 then_within n (Ok x) f h k = k x h
 then_within n (Err e) f h k = tt
 
@@ -39,7 +43,8 @@ unsigned_within kind n p le = less n (length p.rest) (in_window p (number kind p
 
 signed_within : (kind : NumberKind) (n : ℕ) (p : Place) → length p.rest ≤ n → Within n (signed_at kind p)
 unfolding signed_at
-signed_within kind n p le = then_within n (unsigned_at kind p) (λ sum. Ok (signed_value sum.0 (sum.1.offset - p.offset), sum.1)) (unsigned_within kind n p le) (λ x h. h)
+signed_within kind n p le = then_within n (unsigned_at kind p) (λ sum. Ok (signed_value sum.0 (sum.1.offset - p.offset), sum.1))
+    (unsigned_within kind n p le) (λ x h. h)
 
 pub bytes_within : (count n : ℕ) (p : Place) → length p.rest ≤ n → Within n (bytes_at count p)
 bytes_within count n p le = by_test (nat_lt (length p.rest) count)
@@ -54,9 +59,11 @@ index_within first start n (negsuc m) p le = tt
 
 heap_from_within : (first n : ℕ) (p : Place) (ty : Option HeapType) → length p.rest ≤ n → Within n (heap_type_from first p ty)
 heap_from_within first n p (Some ty) le = omega (arith, length-drop 1 p.rest)
-heap_from_within first n p None le = then_within n (signed_at VarS33 p) (λ value. type_index first p.offset value) (signed_within VarS33 n p le) (λ x h. index_within first p.offset n x.0 x.1 h)
+heap_from_within first n p None le = then_within n (signed_at VarS33 p) (λ value. type_index first p.offset value)
+    (signed_within VarS33 n p le) (λ x h. index_within first p.offset n x.0 x.1 h)
 
-peeked_within : (p : Place) (rest : List ℕ) (n : ℕ) → length p.rest ≤ n → Within n (first_peeked p rest >>= λ first. heap_type_from first.0 p (abstract_heap_of first.0))
+peeked_within : (p : Place) (rest : List ℕ) (n : ℕ) → length p.rest ≤ n
+    → Within n (first_peeked p rest >>= λ first. heap_type_from first.0 p (abstract_heap_of first.0))
 peeked_within p [] n le = tt
 peeked_within p (b ∷ rest) n le = heap_from_within b n p (abstract_heap_of b) le
 
@@ -72,50 +79,65 @@ operand_within heap n p le = then_within n (heap_type_at p) (λ x. Ok (tt, x.1))
 
 operands_within : (operands : List Operand) (n : ℕ) (p : Place) → length p.rest ≤ n → Within n (operands_at operands p)
 operands_within [] n p le = le
-operands_within (operand ∷ operands) n p le = then_within n (operand_at operand p) (λ first. operands_at operands first.1) (operand_within operand n p le) (λ x h. operands_within operands n x.1 h)
+operands_within (operand ∷ operands) n p le = then_within n (operand_at operand p) (λ first. operands_at operands first.1)
+    (operand_within operand n p le) (λ x h. operands_within operands n x.1 h)
 
-constant_within : (start : ℕ) (operands : Option (List Operand)) (n : ℕ) (p : Place) → length p.rest ≤ n → Within n (constant_operands_at start operands p)
+constant_within : (start : ℕ) (operands : Option (List Operand)) (n : ℕ) (p : Place) → length p.rest ≤ n
+    → Within n (constant_operands_at start operands p)
 constant_within start (Some operands) n p le = operands_within operands n p le
 constant_within start None n p le = tt
 
-numbered_within : (start : ℕ) (table : ℕ → Option (List Operand)) (n : ℕ) (p : Place) → length p.rest ≤ n → Within n (numbered_operands_at start table p)
-numbered_within start table n p le = then_within n (unsigned_at VarU32 p) (λ number. constant_operands_at start (table number.0) number.1) (unsigned_within VarU32 n p le) (λ x h. constant_within start (table x.0) n x.1 h)
+numbered_within : (start : ℕ) (table : ℕ → Option (List Operand)) (n : ℕ) (p : Place) → length p.rest ≤ n
+    → Within n (numbered_operands_at start table p)
+numbered_within start table n p le = then_within n (unsigned_at VarU32 p) (λ number. constant_operands_at start (table number.0) number.1)
+    (unsigned_within VarU32 n p le) (λ x h. constant_within start (table x.0) n x.1 h)
 
 -- After an instruction no more bytes are to come than before it.
 after_within : (start opcode n : ℕ) (p : Place) → length p.rest ≤ n → Within n (after_opcode start opcode p)
 unfolding after_opcode
 after_within start opcode n p le = by_test (nat_eq opcode 0xFB) (nat_eq opcode 0xFD)
   where
-    by_test : (s t : Bool) → Within n (cond s (numbered_operands_at start aggregate_operands_of p) (cond t (numbered_operands_at start vector_operands_of p) (constant_operands_at start (operands_of opcode) p)))
+    by_test : (s t : Bool) → Within n (cond s (numbered_operands_at start aggregate_operands_of p)
+        (cond t (numbered_operands_at start vector_operands_of p) (constant_operands_at start (operands_of opcode) p)))
     by_test true t = numbered_within start aggregate_operands_of n p le
     by_test false true = numbered_within start vector_operands_of n p le
     by_test false false = constant_within start (operands_of opcode) n p le
 
 -- the end, or an instruction and then what goes on so
 abbrev first_and_more : (Place → Outcome (Unit {0})) → Place → Outcome (Unit {0})
-first_and_more more p = byte_at p >>= λ opcode. if opcode.0 == 0x0B then Ok (tt, opcode.1) else (after_opcode p.offset opcode.0 opcode.1 >>= λ instruction. more instruction.1)
+first_and_more more p = byte_at p >>= λ opcode. if opcode.0 == 0x0B then Ok (tt, opcode.1) else
+    (after_opcode p.offset opcode.0 opcode.1 >>= λ instruction. more instruction.1)
 
-agree_after : (f g : Place → Outcome (Unit {0})) (n : ℕ) (r : Outcome (Unit {0})) → Within n r → ((q : Place) → length q.rest ≤ n → f q ≡ g q) → (r >>= λ instruction. f instruction.1) ≡ (r >>= λ instruction. g instruction.1)
+agree_after : (f g : Place → Outcome (Unit {0})) (n : ℕ) (r : Outcome (Unit {0})) → Within n r
+    → ((q : Place) → length q.rest ≤ n → f q ≡ g q) → (r >>= λ instruction. f instruction.1) ≡ (r >>= λ instruction. g instruction.1)
 agree_after f g n (Ok x) h same = same x.1 h
 agree_after f g n (Err e) h same = refl
 
-agree_by : (f g : Place → Outcome (Unit {0})) (t : Bool) (n : ℕ) (q : Place) (r : Outcome (Unit {0})) → Within n r → ((q : Place) → length q.rest ≤ n → f q ≡ g q)
+agree_by : (f g : Place → Outcome (Unit {0})) (t : Bool) (n : ℕ) (q : Place) (r : Outcome (Unit {0})) → Within n r
+    → ((q : Place) → length q.rest ≤ n → f q ≡ g q)
     → cond t (Ok (tt, q)) (r >>= λ instruction. f instruction.1) ≡ cond t (Ok (tt, q)) (r >>= λ instruction. g instruction.1)
 agree_by f g true n q r h same = refl
 agree_by f g false n q r h same = agree_after f g n r h same
 
-agree_from : (f g : Place → Outcome (Unit {0})) (p : Place) (r : Outcome ℕ) → byte_at p ≡ r → ((q : Place) → length q.rest + 1 ≤ length p.rest → f q ≡ g q)
-    → (r >>= λ opcode. if opcode.0 == 0x0B then Ok (tt, opcode.1) else (after_opcode p.offset opcode.0 opcode.1 >>= λ instruction. f instruction.1)) ≡ (r >>= λ opcode. if opcode.0 == 0x0B then Ok (tt, opcode.1) else (after_opcode p.offset opcode.0 opcode.1 >>= λ instruction. g instruction.1))
+agree_from : (f g : Place → Outcome (Unit {0})) (p : Place) (r : Outcome ℕ) → byte_at p ≡ r
+    → ((q : Place) → length q.rest + 1 ≤ length p.rest → f q ≡ g q)
+    → (r >>= λ opcode. if opcode.0 == 0x0B then Ok (tt, opcode.1) else
+    (after_opcode p.offset opcode.0 opcode.1 >>= λ instruction. f instruction.1))
+    ≡ (r >>= λ opcode. if opcode.0 == 0x0B then Ok (tt, opcode.1) else
+    (after_opcode p.offset opcode.0 opcode.1 >>= λ instruction. g instruction.1))
 agree_from f g p (Err e) b same = refl
 agree_from f g p (Ok x) b same =
     let one : length x.1.rest + 1 ≡ length p.rest = byte_passed p x.0 x.1 b in
-    agree_by f g (nat_eq x.0 0x0B) (length x.1.rest) x.1 (after_opcode p.offset x.0 x.1) (after_within p.offset x.0 (length x.1.rest) x.1 (omega arith)) (λ q le. same q (omega (arith, one)))
+    agree_by f g (nat_eq x.0 0x0B) (length x.1.rest) x.1 (after_opcode p.offset x.0 x.1)
+    (after_within p.offset x.0 (length x.1.rest) x.1 (omega arith)) (λ q le. same q (omega (arith, one)))
 
-agree : (f g : Place → Outcome (Unit {0})) (p : Place) → ((q : Place) → length q.rest + 1 ≤ length p.rest → f q ≡ g q) → first_and_more f p ≡ first_and_more g p
+agree : (f g : Place → Outcome (Unit {0})) (p : Place) → ((q : Place) → length q.rest + 1 ≤ length p.rest → f q ≡ g q) → first_and_more f p
+    ≡ first_and_more g p
 agree f g p same = agree_from f g p (byte_at p) refl same
 
 none_of : (f : Place → Outcome (Unit {0})) (p : Place) (rest : List ℕ) → length rest ≤ 0
-    → (first_of p rest >>= λ opcode. if opcode.0 == 0x0B then Ok (tt, opcode.1) else (after_opcode p.offset opcode.0 opcode.1 >>= λ instruction. f instruction.1)) ≡ Err (at_offset UnexpectedEof p.offset)
+    → (first_of p rest >>= λ opcode. if opcode.0 == 0x0B then Ok (tt, opcode.1) else
+    (after_opcode p.offset opcode.0 opcode.1 >>= λ instruction. f instruction.1)) ≡ Err (at_offset UnexpectedEof p.offset)
 none_of f p [] le = refl
 none_of f p (b ∷ rest) le = absurd (omega arith)
 
@@ -124,10 +146,13 @@ same_bound : (m n : ℕ) (p : Place) → length p.rest ≤ m → length p.rest �
 same_bound zero zero p lm ln = refl
 same_bound zero (suc n) p lm ln = sym (none_of (λ q. instructions_at n q) p p.rest lm)
 same_bound (suc m) zero p lm ln = none_of (λ q. instructions_at m q) p p.rest ln
-same_bound (suc m) (suc n) p lm ln = agree (λ q. instructions_at m q) (λ q. instructions_at n q) p (λ q le. same_bound m n q (omega (arith, le)) (omega (arith, le)))
+same_bound (suc m) (suc n) p lm ln = agree (λ q. instructions_at m q) (λ q. instructions_at n q) p
+    (λ q le. same_bound m n q (omega (arith, le)) (omega (arith, le)))
 
 pub end_or_instruction : (p : Place) → IsEndOrInstruction p
 unfolding end_of_expression
 end_or_instruction p =
-    let more : instructions_at (length p.rest) p ≡ instructions_at (suc (length p.rest)) p = same_bound (length p.rest) (suc (length p.rest)) p (omega arith) (omega arith) in
-    more ∙ agree (λ q. instructions_at (length p.rest) q) (λ q. instructions_at (length q.rest) q) p (λ q le. same_bound (length p.rest) (length q.rest) q (omega (arith, le)) (omega arith))
+    let more : instructions_at (length p.rest) p ≡ instructions_at (suc (length p.rest)) p =
+    same_bound (length p.rest) (suc (length p.rest)) p (omega arith) (omega arith) in
+    more ∙ agree (λ q. instructions_at (length p.rest) q) (λ q. instructions_at (length q.rest) q) p
+    (λ q le. same_bound (length p.rest) (length q.rest) q (omega (arith, le)) (omega arith))

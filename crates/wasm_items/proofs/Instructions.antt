@@ -5,7 +5,8 @@ use Rattle.wasm_base.specs.Outcome.{Outcome}
 use Rattle.wasm_base.specs.Window.{Window, Place, place, advanced, KeepsWindow}
 use Rattle.wasm_items.specs.Init.{after_opcode, instructions_at}
 
-first_passed : (p : Place) (rest : List ℕ) (b : ℕ) (q : Place) → p.rest ≡ rest → first_of p rest ≡ Ok (b, q) → length q.rest + 1 ≡ length p.rest
+first_passed : (p : Place) (rest : List ℕ) (b : ℕ) (q : Place) → p.rest ≡ rest → first_of p rest ≡ Ok (b, q) → length q.rest + 1
+    ≡ length p.rest
 first_passed p [] b q r e = cc
 first_passed p (x ∷ rest) b q r e =
     let here : ℕ × Place = (x, advanced 1 p) in
@@ -30,8 +31,10 @@ pub record Left (p : Place) (whole : Outcome (Unit {0})) : Type 0 where
   pub fewer : length p.rest ≤ most
   pub so_far : instructions_at most p ≡ whole
 
-pub next_instruction : (most : ℕ) (p : Place) (whole : Outcome (Unit {0})) (opcode : ℕ) (after next : Place) → length p.rest ≤ most → instructions_at most p ≡ whole
-    → byte_at p ≡ Ok (opcode, after) → nat_eq opcode 0x0B ≡ false → after_opcode p.offset opcode after ≡ Ok (tt, next) → length next.rest ≤ length after.rest → Left next whole
+pub next_instruction : (most : ℕ) (p : Place) (whole : Outcome (Unit {0})) (opcode : ℕ) (after next : Place) → length p.rest ≤ most
+    → instructions_at most p ≡ whole
+    → byte_at p ≡ Ok (opcode, after) → nat_eq opcode 0x0B ≡ false → after_opcode p.offset opcode after ≡ Ok (tt, next)
+    → length next.rest ≤ length after.rest → Left next whole
 next_instruction zero p whole opcode after next le e byte other operands fewer =
     absurd (omega (arith, byte_passed p opcode after byte))
 next_instruction (suc most) p whole opcode after next le e byte other operands fewer = record {

@@ -31,7 +31,8 @@ module _ (q : Place) (parts : ItemParts) where
       let after : ty.1 ≡ q = ap (λ (o : ItemParts × Place). o.1) z in
       rw after refl
 
-  name_step : (p : Place) (o : Outcome (List ℕ)) → text_at (Some name_limit) p ≡ o → (o >>= after_name) ≡ Ok (parts, q) → (skipped_name_at p >>= type_after) ≡ Ok (tt, q)
+  name_step : (p : Place) (o : Outcome (List ℕ)) → text_at (Some name_limit) p ≡ o → (o >>= after_name) ≡ Ok (parts, q)
+      → (skipped_name_at p >>= type_after) ≡ Ok (tt, q)
   name_step p (Err e) is h = cc
   name_step p (Ok name) is h = rw (name_passed p name.1 name.0 is) (type_step name (type_ref_at name.1) h)
 

@@ -82,10 +82,18 @@ table_same one other h =
     let p1 = both_of p0.1 in
     let p2 = both_of p1.1 in
     let p3 = both_of p2.1 in
-    λ i. record { element_type = reference.same one.element_type other.element_type p0.0 i; table64 = truth.same one.table64 other.table64 p1.0 i; initial = number.same one.initial other.initial p2.0 i; maximum = (option number).same one.maximum other.maximum p3.0 i; shared = truth.same one.shared other.shared p3.1 i }
+    λ i. record {
+      element_type = reference.same one.element_type other.element_type p0.0 i;
+      table64 = truth.same one.table64 other.table64 p1.0 i;
+      initial = number.same one.initial other.initial p2.0 i;
+      maximum = (option number).same one.maximum other.maximum p3.0 i;
+      shared = truth.same one.shared other.shared p3.1 i;
+    }
 
 table_itself : (one : TableType) → (TableTypeCompared.ghosts).eq one one ≡ true
-table_itself one = both_true (reference.itself one.element_type) (both_true (truth.itself one.table64) (both_true (number.itself one.initial) (both_true ((option number).itself one.maximum) (truth.itself one.shared))))
+table_itself one = both_true (reference.itself one.element_type)
+    (both_true (truth.itself one.table64) (both_true (number.itself one.initial)
+    (both_true ((option number).itself one.maximum) (truth.itself one.shared))))
 
 pub table : Decides (TableTypeCompared.ghosts).eq
 table = record { same = table_same; itself = table_itself }
@@ -96,10 +104,17 @@ memory_same one other h =
     let p1 = both_of p0.1 in
     let p2 = both_of p1.1 in
     let p3 = both_of p2.1 in
-    λ i. record { memory64 = truth.same one.memory64 other.memory64 p0.0 i; shared = truth.same one.shared other.shared p1.0 i; initial = number.same one.initial other.initial p2.0 i; maximum = (option number).same one.maximum other.maximum p3.0 i; page_size_log2 = (option number).same one.page_size_log2 other.page_size_log2 p3.1 i }
+    λ i. record {
+      memory64 = truth.same one.memory64 other.memory64 p0.0 i;
+      shared = truth.same one.shared other.shared p1.0 i;
+      initial = number.same one.initial other.initial p2.0 i;
+      maximum = (option number).same one.maximum other.maximum p3.0 i;
+      page_size_log2 = (option number).same one.page_size_log2 other.page_size_log2 p3.1 i;
+    }
 
 memory_itself : (one : MemoryType) → (MemoryTypeCompared.ghosts).eq one one ≡ true
-memory_itself one = both_true (truth.itself one.memory64) (both_true (truth.itself one.shared) (both_true (number.itself one.initial) (both_true ((option number).itself one.maximum) ((option number).itself one.page_size_log2))))
+memory_itself one = both_true (truth.itself one.memory64) (both_true (truth.itself one.shared)
+    (both_true (number.itself one.initial) (both_true ((option number).itself one.maximum) ((option number).itself one.page_size_log2))))
 
 pub memory : Decides (MemoryTypeCompared.ghosts).eq
 memory = record { same = memory_same; itself = memory_itself }
@@ -108,7 +123,11 @@ global_same : (one other : GlobalType) → (GlobalTypeCompared.ghosts).eq one ot
 global_same one other h =
     let p0 = both_of h in
     let p1 = both_of p0.1 in
-    λ i. record { content_type = value.same one.content_type other.content_type p0.0 i; mutable = truth.same one.mutable other.mutable p1.0 i; shared = truth.same one.shared other.shared p1.1 i }
+    λ i. record {
+      content_type = value.same one.content_type other.content_type p0.0 i;
+      mutable = truth.same one.mutable other.mutable p1.0 i;
+      shared = truth.same one.shared other.shared p1.1 i;
+    }
 
 global_itself : (one : GlobalType) → (GlobalTypeCompared.ghosts).eq one one ≡ true
 global_itself one = both_true (value.itself one.content_type) (both_true (truth.itself one.mutable) (truth.itself one.shared))
@@ -159,7 +178,11 @@ import_same : (one other : Import) → (ImportCompared.ghosts).eq one other ≡ 
 import_same one other h =
     let p0 = both_of h in
     let p1 = both_of p0.1 in
-    record { from = text_same one.module.now other.module.now p0.0; name = text_same one.name.now other.name.now p1.0; ty = external.same one.ty other.ty p1.1 }
+    record {
+      from = text_same one.module.now other.module.now p0.0;
+      name = text_same one.name.now other.name.now p1.0;
+      ty = external.same one.ty other.ty p1.1;
+    }
 
 import_back : (one other : Import) → IsSameImport one other → (ImportCompared.ghosts).eq one other ≡ true
 import_back one other is = both_true (text_back is.from) (both_true (text_back is.name) (back external is.ty))
@@ -182,7 +205,11 @@ export_same : (one other : Export) → (ExportCompared.ghosts).eq one other ≡ 
 export_same one other h =
     let p0 = both_of h in
     let p1 = both_of p0.1 in
-    record { name = text_same one.name.now other.name.now p0.0; kind = exported.same one.kind other.kind p1.0; index = number.same one.index other.index p1.1 }
+    record {
+      name = text_same one.name.now other.name.now p0.0;
+      kind = exported.same one.kind other.kind p1.0;
+      index = number.same one.index other.index p1.1;
+    }
 
 export_back : (one other : Export) → IsSameExport one other → (ExportCompared.ghosts).eq one other ≡ true
 export_back one other is = both_true (text_back is.name) (both_true (back exported is.kind) (back number is.index))

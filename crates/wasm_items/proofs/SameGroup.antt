@@ -32,14 +32,16 @@ list : {A : Type 0} {compare : A → A → Bool} → Decides compare → Decides
 list t = record { same = list_same t; itself = list_itself t }
 
 -- lists whose items are compared one by one
-each_so : {A : Type 0} {same : A → A → Type 0} {compare : A → A → Bool} → DecidesWhether same compare → (xs ys : List A) → pointwise compare xs ys ≡ true → AllZip same xs ys
+each_so : {A : Type 0} {same : A → A → Type 0} {compare : A → A → Bool} → DecidesWhether same compare → (xs ys : List A)
+    → pointwise compare xs ys ≡ true → AllZip same xs ys
 each_so t [] [] h = tt
 each_so t (x ∷ xs) (y ∷ ys) h =
     let p = both_of h in
     ((t x y).0 p.0, each_so t xs ys p.1)
 each_so t xs ys h = cc
 
-each_back : {A : Type 0} {same : A → A → Type 0} {compare : A → A → Bool} → DecidesWhether same compare → (xs ys : List A) → AllZip same xs ys → pointwise compare xs ys ≡ true
+each_back : {A : Type 0} {same : A → A → Type 0} {compare : A → A → Bool} → DecidesWhether same compare → (xs ys : List A)
+    → AllZip same xs ys → pointwise compare xs ys ≡ true
 each_back t [] [] h = refl
 each_back t (x ∷ xs) (y ∷ ys) h = both_true ((t x y).1 h.0) (each_back t xs ys h.1)
 each_back t xs ys h = absurd h
@@ -85,7 +87,8 @@ subtype_same one other h =
 
 subtype_back : (one other : SubType) → IsSameSubtype one other → (SubTypeCompared.ghosts).eq one other ≡ true
 subtype_back one other is =
-    both_true (back truth is.final) (both_true (back (option number) is.supertype) (composite_back one.composite other.composite is.composite))
+    both_true (back truth is.final) (both_true (back (option number) is.supertype)
+    (composite_back one.composite other.composite is.composite))
 
 pub subtype : DecidesWhether IsSameSubtype (SubTypeCompared.ghosts).eq
 subtype one other = (subtype_same one other, subtype_back one other)

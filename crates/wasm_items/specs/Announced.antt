@@ -7,6 +7,7 @@ use Rattle.wasm_items.specs.declared.elements.ElementItems.{ElementItems}
 use Rattle.wasm_items.specs.declared.elements.ElementItems.TheVariants.{Functions, Expressions}
 
 -- An iterator over either list of elements gives the announced ones.
-abbrev pub ElementsAreGiven : {T U : Type 0} → (Items → Option (Result T Error) → Items → Type 0) → (Items → Option (Result U Error) → Items → Type 0) → ElementItems → Type 0
+abbrev pub ElementsAreGiven : {T U : Type 0} → (Items → Option (Result T Error) → Items → Type 0)
+    → (Items → Option (Result U Error) → Items → Type 0) → ElementItems → Type 0
 ElementsAreGiven next_index next_expression (Functions indices) = GivesAnnounced next_index indices
 ElementsAreGiven next_index next_expression (Expressions ty expressions) = GivesAnnounced next_expression expressions

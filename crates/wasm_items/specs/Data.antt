@@ -20,7 +20,12 @@ pub record DataParts : Type 0 where
   pub end : ℕ
 
 abbrev pub data_parts : Data → DataParts
-data_parts segment = record { kind = segment.kind; bytes = segment.bytes.now; start = segment.range.start; end = segment.range.end }
+data_parts segment = record {
+  kind = segment.kind;
+  bytes = segment.bytes.now;
+  start = segment.range.start;
+  end = segment.range.end;
+}
 
 -- an active segment of this memory: the expression of its offset
 abbrev pub active_data_at : (memory : ℕ) → Place → Outcome DataKind

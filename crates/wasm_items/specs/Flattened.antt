@@ -1,6 +1,7 @@
--- The imports of an import section one by one, without their groups. Core specification, Binary format, Modules, Import Section; the groups
--- are of the proposal for compact imports.
-use Rattle.std.specs.Prelude.{◌≡◌, ℕ, zero, suc, List, [], ◌∷◌, ◌++◌, map, Option, Some, None, IfSome, Result, Ok, Err, if◌then◌else◌}
+-- The imports of an import section one by one, without their groups. Core specification, Binary format, Modules, Import
+-- Section; the groups are of the proposal for compact imports.
+use Rattle.std.specs.Prelude.{◌≡◌, ℕ, zero, suc, List, [], ◌∷◌, ◌++◌, map, Option, Some, None, IfSome, Result, Ok, Err}
+use Rattle.std.specs.Prelude.{if◌then◌else◌}
 use Rattle.std.specs.Iterator.{Drains}
 use Rattle.wasm_base.specs.FaultAt.{FaultAt, fault_at}
 use Rattle.wasm_base.specs.Hints.{TakesNoMemory}
@@ -9,7 +10,8 @@ use Rattle.wasm_base.specs.Outcome.{Outcome}
 use Rattle.wasm_base.specs.Section.{Items, at_the_end}
 use Rattle.wasm_base.specs.Window.{Place, place}
 use Rattle.wasm_base.specs.declared.error.Error.{Error}
-use Rattle.wasm_items.specs.Imports.{ImportParts, import_parts, ItemParts, item_at, Group, single, of_module, of_type, group_at}
+use Rattle.wasm_items.specs.Imports.{ImportParts, import_parts, ItemParts, item_at, Group, single, of_module, of_type}
+use Rattle.wasm_items.specs.Imports.{group_at}
 use Rattle.wasm_items.specs.declared.imports.Import.{Import}
 use Rattle.wasm_items.specs.declared.imports.TypeRef.{TypeRef}
 
@@ -22,14 +24,17 @@ abbrev pub import_of_name : (from : List ℕ) → TypeRef → (name : List ℕ) 
 import_of_name from ty name = record { from = from; name = name; ty = ty }
 
 -- an import with its offset and what comes after it, or its fault, after which nothing of the group comes
-abbrev pub one_and_more : {A : Type 0} → (A → ImportParts) → (offset : ℕ) → (Place → List (Result (ℕ × ImportParts) FaultAt)) → Outcome A → List (Result (ℕ × ImportParts) FaultAt)
+abbrev pub one_and_more : {A : Type 0} → (A → ImportParts) → (offset : ℕ)
+    → (Place → List (Result (ℕ × ImportParts) FaultAt)) → Outcome A → List (Result (ℕ × ImportParts) FaultAt)
 one_and_more import_of offset more (Ok x) = Ok (offset, import_of x.0) ∷ more x.1
 one_and_more import_of offset more (Err e) = Err e ∷ []
 
 -- so many imports of a group from a place on, each with the offset at which it begins
-abbrev pub imports_from : {A : Type 0} → (Place → Outcome A) → (A → ImportParts) → (left : ℕ) → Place → List (Result (ℕ × ImportParts) FaultAt)
+abbrev pub imports_from : {A : Type 0} → (Place → Outcome A) → (A → ImportParts) → (left : ℕ) → Place
+    → List (Result (ℕ × ImportParts) FaultAt)
 imports_from reading import_of zero p = at_the_end p
-imports_from reading import_of (suc left) p = one_and_more import_of p.offset (λ q. imports_from reading import_of left q) (reading p)
+imports_from reading import_of (suc left) p = one_and_more import_of p.offset
+    (λ q. imports_from reading import_of left q) (reading p)
 
 -- what is left of a group's items
 abbrev pub imports_of_items : (from : List ℕ) → Items → List (Result (ℕ × ImportParts) FaultAt)
@@ -37,16 +42,19 @@ imports_of_items from s = if s.ended then [] else imports_from item_at (import_o
 
 -- what is left of a group's names
 abbrev pub imports_of_names : (from : List ℕ) → TypeRef → Items → List (Result (ℕ × ImportParts) FaultAt)
-imports_of_names from ty s = if s.ended then [] else imports_from (text_at (Some name_limit)) (import_of_name from ty) s.left (place s.reader)
+imports_of_names from ty s = if s.ended then [] else imports_from (text_at (Some name_limit)) (import_of_name from ty)
+    s.left (place s.reader)
 
 -- the imports of an item of an import section: the one that it is, or those of its group
 abbrev pub group_imports : Group → List (Result (ℕ × ImportParts) FaultAt)
 group_imports (single offset one) = Ok (offset, one) ∷ []
 group_imports (of_module from items) = imports_from item_at (import_of_item from) items.count (place items.reader)
-group_imports (of_type from ty names) = imports_from (text_at (Some name_limit)) (import_of_name from ty) names.count (place names.reader)
+group_imports (of_type from ty names) = imports_from (text_at (Some name_limit)) (import_of_name from ty) names.count
+    (place names.reader)
 
 -- the imports of a group and what comes after it, or its fault, after which nothing comes
-abbrev pub group_and_more : (Place → List (Result (ℕ × ImportParts) FaultAt)) → Outcome Group → List (Result (ℕ × ImportParts) FaultAt)
+abbrev pub group_and_more : (Place → List (Result (ℕ × ImportParts) FaultAt)) → Outcome Group
+    → List (Result (ℕ × ImportParts) FaultAt)
 group_and_more more (Ok x) = group_imports x.0 ++ more x.1
 group_and_more more (Err e) = Err e ∷ []
 

@@ -1,5 +1,5 @@
--- Globals. Core specification, Binary format, Types, Global Types, and Modules, Global Section. That a global may be shared is of the
--- proposal for shared-everything threads.
+-- Globals. Core specification, Binary format, Types, Global Types, and Modules, Global Section. That a global may be
+-- shared is of the proposal for shared-everything threads.
 use Rattle.std.specs.Prelude.{Ok, Err, nat_lt, if◌then◌else◌}
 use Rattle.wasm_base.specs.FaultAt.{at_offset}
 use Rattle.wasm_base.specs.Name.{byte_at}
@@ -17,7 +17,8 @@ unfoldable pub global_type_at : Place → Outcome GlobalType
 global_type_at p = do
   content ← val_type_at p
   flags ← byte_at content.1
-  if nat_lt 3 flags.0 then Err (at_offset GlobalFlags content.1.offset) else Ok (record { content_type = content.0; mutable = has_flag flags.0 1; shared = has_flag flags.0 2 }, flags.1)
+  if nat_lt 3 flags.0 then Err (at_offset GlobalFlags content.1.offset) else
+      Ok (record { content_type = content.0; mutable = has_flag flags.0 1; shared = has_flag flags.0 2 }, flags.1)
 
 -- a global: its type, and the expression of its first value
 unfoldable pub global_at : Place → Outcome Global

@@ -1,5 +1,5 @@
--- What is hashed of types: of those with fields each field in turn, of those by cases the number of the case, from 0, and what it
--- holds. This project.
+-- What is hashed of types: of those with fields each field in turn, of those by cases the number of the case, from 0,
+-- and what it holds. This project.
 use Rattle.std.specs.Hash.{HashWrites, bool, u32, u64, isize, option}
 use Rattle.std.specs.Prelude.{◌++◌, [], pos}
 use Rattle.wasm_items.specs.declared.types.FieldType.{FieldType}
@@ -52,10 +52,12 @@ abbrev pub hash_of_field : FieldType → HashWrites
 hash_of_field ty = hash_of_storage ty.storage ++ bool ty.mutable
 
 abbrev pub hash_of_table : TableType → HashWrites
-hash_of_table ty = hash_of_reference ty.element_type ++ bool ty.table64 ++ u64 ty.initial ++ option u64 ty.maximum ++ bool ty.shared
+hash_of_table ty = hash_of_reference ty.element_type ++ bool ty.table64 ++ u64 ty.initial ++ option u64 ty.maximum
+    ++ bool ty.shared
 
 abbrev pub hash_of_memory : MemoryType → HashWrites
-hash_of_memory ty = bool ty.memory64 ++ bool ty.shared ++ u64 ty.initial ++ option u64 ty.maximum ++ option u32 ty.page_size_log2
+hash_of_memory ty = bool ty.memory64 ++ bool ty.shared ++ u64 ty.initial ++ option u64 ty.maximum
+    ++ option u32 ty.page_size_log2
 
 abbrev pub hash_of_global : GlobalType → HashWrites
 hash_of_global ty = hash_of_value ty.content_type ++ bool ty.mutable ++ bool ty.shared

@@ -1,5 +1,5 @@
--- Imports. Core specification, Binary format, Modules, Import Section, and Types, External Types; the groups are of the proposal for compact
--- imports.
+-- Imports. Core specification, Binary format, Modules, Import Section, and Types, External Types; the groups are of the
+-- proposal for compact imports.
 use Rattle.std.specs.Prelude.{ℕ, ◌==◌, Bool, List, [], ◌∷◌, Some, Ok, Err, if◌then◌else◌}
 use Rattle.std.specs.Int.RustNames.{bit_and}
 use Rattle.wasm_base.specs.FaultAt.{at_offset}

@@ -1,6 +1,7 @@
--- Constant expressions. Core specification, Binary format, Instructions, Expressions, with the instructions of Validation,
--- Instructions, Constant Expressions.
-use Rattle.std.specs.Prelude.{◌≡◌, ℕ, zero, suc, ◌==◌, List, [], ◌∷◌, length, Option, Some, None, Ok, Err, if◌then◌else◌}
+-- Constant expressions. Core specification, Binary format, Instructions, Expressions, with the instructions of
+-- Validation, Instructions, Constant Expressions.
+use Rattle.std.specs.Prelude.{◌≡◌, ℕ, zero, suc, ◌==◌, List, [], ◌∷◌, length, Option, Some, None, Ok, Err}
+use Rattle.std.specs.Prelude.{if◌then◌else◌}
 use Rattle.wasm_base.specs.FaultAt.{at_offset}
 use Rattle.wasm_base.specs.Name.{bytes_at, byte_at}
 use Rattle.wasm_base.specs.Number.{unsigned_at}
@@ -104,7 +105,8 @@ abbrev pub instructions_at : (most : ℕ) → Place → Outcome (Unit {0})
 instructions_at zero p = Err (at_offset UnexpectedEof p.offset)
 instructions_at (suc most) p = do
   opcode ← byte_at p
-  if opcode.0 == 0x0B then Ok (tt, opcode.1) else (after_opcode p.offset opcode.0 opcode.1 >>= λ instruction. instructions_at most instruction.1)
+  if opcode.0 == 0x0B then Ok (tt, opcode.1) else (after_opcode p.offset opcode.0 opcode.1 >>= λ instruction.
+      instructions_at most instruction.1)
 
 -- the place after an expression: an instruction takes a byte at least, so there are no more of them than bytes
 unfoldable pub end_of_expression : Place → Outcome (Unit {0})
@@ -118,4 +120,6 @@ expression_at p = do
 
 -- An expression is the end, or an instruction and then an expression.
 abbrev pub IsEndOrInstruction : Place → Type 0
-IsEndOrInstruction p = end_of_expression p ≡ (byte_at p >>= λ opcode. if opcode.0 == 0x0B then Ok (tt, opcode.1) else (after_opcode p.offset opcode.0 opcode.1 >>= λ instruction. end_of_expression instruction.1))
+IsEndOrInstruction p = end_of_expression p ≡ (byte_at p >>= λ opcode.
+    if opcode.0 == 0x0B then Ok (tt, opcode.1) else (after_opcode p.offset opcode.0 opcode.1 >>= λ instruction.
+    end_of_expression instruction.1))

@@ -5,7 +5,7 @@ pub mod Exports
 pub mod Externals
 pub mod Flattened
 pub mod Globals
-pub mod Groups
+pub mod RecGroups
 pub mod Hashed
 pub mod Imports
 pub mod Init

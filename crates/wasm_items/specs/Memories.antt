@@ -1,5 +1,5 @@
--- Memories. Core specification, Binary format, Types, Memory Types, and Modules, Memory Section; the size of a page is of
--- the proposal for custom page sizes.
+-- Memories. Core specification, Binary format, Types, Memory Types, and Modules, Memory Section; the size of a page is
+-- of the proposal for custom page sizes.
 use Rattle.std.specs.Prelude.{ℕ, Option, Some, None, Ok, Err, nat_lt, if◌then◌else◌}
 use Rattle.wasm_base.specs.FaultAt.{at_offset}
 use Rattle.wasm_base.specs.Name.{byte_at}
@@ -24,7 +24,16 @@ unfoldable pub memory_after_flags : (start flags : ℕ) → Place → Outcome Me
 memory_after_flags start flags p = do
   limits ← limits_at flags p
   page ← page_size_at start flags limits.1
-  Ok (record { memory64 = has_flag flags 4; shared = has_flag flags 2; initial = limits.0.initial; maximum = limits.0.maximum; page_size_log2 = page.0 }, page.1)
+  Ok (
+    record {
+      memory64 = has_flag flags 4;
+      shared = has_flag flags 2;
+      initial = limits.0.initial;
+      maximum = limits.0.maximum;
+      page_size_log2 = page.0;
+    },
+    page.1,
+  )
 
 -- a memory type: flags below 16, limits, the size of a page
 unfoldable pub memory_type_at : Place → Outcome MemoryType

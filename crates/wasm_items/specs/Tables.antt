@@ -1,5 +1,5 @@
--- Tables. Core specification, Binary format, Types, Table Types, and Modules, Table Section. That a table may be shared is of the
--- proposal for shared-everything threads.
+-- Tables. Core specification, Binary format, Types, Table Types, and Modules, Table Section. That a table may be shared
+-- is of the proposal for shared-everything threads.
 use Rattle.std.specs.Prelude.{ℕ, ◌==◌, Ok, Err, nat_lt, if◌then◌else◌}
 use Rattle.wasm_base.specs.FaultAt.{at_offset}
 use Rattle.wasm_base.specs.Name.{byte_at, peeked_byte_at}
@@ -18,7 +18,16 @@ use Rattle.wasm_items.specs.declared.types.TableType.{TableType}
 unfoldable pub table_after_flags : RefType → (flags : ℕ) → Place → Outcome TableType
 table_after_flags element flags p = do
   limits ← limits_at flags p
-  Ok (record { element_type = element; table64 = has_flag flags 4; initial = limits.0.initial; maximum = limits.0.maximum; shared = has_flag flags 2 }, limits.1)
+  Ok (
+    record {
+      element_type = element;
+      table64 = has_flag flags 4;
+      initial = limits.0.initial;
+      maximum = limits.0.maximum;
+      shared = has_flag flags 2;
+    },
+    limits.1,
+  )
 
 -- a table type: the type of its elements, flags below 8, limits
 unfoldable pub table_type_at : Place → Outcome TableType

@@ -10,7 +10,7 @@ use crate::exports::ExternalKind;
 use crate::types::{GlobalType, MemoryType, TableType, TagType};
 use bitflags::Flags;
 use wasm_base::{
-    BinaryReader, Error, Fault, FromReader, InnerItem, Result, SectionLimited, WasmFeatures,
+    BinaryReader, Error, Fault, FromReader, Result, SectionLimited, SkipItem, WasmFeatures,
     read_inner,
 };
 
@@ -129,13 +129,13 @@ impl<'a> FromReader<'a> for ImportItemCompact<'a> {
 }
 
 /// Its name is passed over whether or not it is UTF-8, which is seen when it is read.
-impl<'a> InnerItem<'a> for ImportItemCompact<'a> {
+impl<'a> SkipItem<'a> for ImportItemCompact<'a> {
     ghost use Rattle.wasm_items.specs.Imports.{passed_item_at};
 
     ghost passed_at = { passed_item_at };
 
     #[tactic(auto, unfolding(crate::specs::Imports::passed_item_at))]
-    fn pass_over(reader: &mut BinaryReader<'a>) -> Result<()> {
+    fn skip_item(reader: &mut BinaryReader<'a>) -> Result<()> {
         reader.skip_string()?;
         TypeRef::from_reader(reader)?;
         Ok(())

@@ -8,7 +8,7 @@ ghost use Rattle.wasm_items.specs.Init.{after_opcode, aggregate_operands_of, vec
 
 use crate::types::HeapType;
 use std::ops::Range;
-use wasm_base::{BinaryReader, Error, Fault, FromReader, InnerItem, Result, passed_since};
+use wasm_base::{BinaryReader, Error, Fault, FromReader, Result, SkipItem, passed_since};
 
 /// The window of a constant expression, its end instruction included (core specification, Binary format, Instructions,
 /// Expressions).
@@ -142,10 +142,10 @@ impl<'a> FromReader<'a> for ConstExpr<'a> {
     }
 }
 
-impl<'a> InnerItem<'a> for ConstExpr<'a> {
+impl<'a> SkipItem<'a> for ConstExpr<'a> {
     ghost passed_at = { end_of_expression };
 
-    fn pass_over(reader: &mut BinaryReader<'a>) -> Result<()> {
+    fn skip_item(reader: &mut BinaryReader<'a>) -> Result<()> {
         pass_expression(reader)
     }
 }

@@ -24,7 +24,7 @@ use crate::types::{
     StorageType, SubType, TableType, TagKind, TagType, ValType,
 };
 use std::hash::Hash;
-use wasm_base::{FromReader, FromReaderIn, InnerItem, SectionLimitedIntoIter};
+use wasm_base::{FromReader, FromReaderIn, SectionLimitedIntoIter, SkipItem};
 
 /// Two types, kinds or externals, which own no list, are equal exactly if they are the same.
 pub fn equal_types_are_the_same()
@@ -139,10 +139,10 @@ pub fn all_imports_come<'a>()
 pub fn passing_over_takes_what_reading_takes<'a>()
     ensures item { PassesAsRead
         ⟦<ImportItemCompact<'a> as FromReader<'a>>⟧.meaning
-        ⟦<ImportItemCompact<'a> as InnerItem<'a>>⟧.passed_at }
+        ⟦<ImportItemCompact<'a> as SkipItem<'a>>⟧.passed_at }
     ensures expression { PassesAsRead
         ⟦<ConstExpr<'a> as FromReader<'a>>⟧.meaning
-        ⟦<ConstExpr<'a> as InnerItem<'a>>⟧.passed_at }
+        ⟦<ConstExpr<'a> as SkipItem<'a>>⟧.passed_at }
 {}
 
 /// Each of these items allows one outcome at each place, so the iterators over a section of them, and clones of these,

@@ -1,8 +1,9 @@
 -- A run of the program, and then its end.
-use Rattle.std.proofs.Common.{◌≡◌, ◌⊎◌, ℕ, ◌<◌, Bool, List, Option, Some, None, Result, Ok, Err, refl, sym, ◌∙◌, take, subst, arith, inl, inr}
+use Rattle.std.proofs.Common.{◌≡◌, ◌⊎◌, ℕ, ◌<◌, Bool, List, Option, Some, None, Result, Ok, Err, refl, sym, ◌∙◌, take, subst, arith, inl}
+use Rattle.std.proofs.Common.{inr}
 use Rattle.std.specs.Io.KnownBytes.{Appends, Keeps}
 use Rattle.wasm_feed.specs.Lists.{Lists}
-use Rattle.wasm_feed.specs.Calls.{Device}
+use Rattle.wasm_feed.specs.Calls.{Device, from_to}
 use Rattle.wasm_run.proofs.ForCallers.{appends_kept}
 use Rattle.wasm_run.specs.Devices.{over, Follows, IsUntouched, Says}
 use Rattle.wasm_run.specs.Endings.{RunsUsage, HandsOn, FailsToHandOn, LeavesAlone, Finishes, status_of}
@@ -10,9 +11,11 @@ use Rattle.wasm_list_run.specs.Runs.{RunsListingAs, Runs, EndsAs, ListsAll, Runs
 use Rattle.wasm_list_run.specs.declared.command.Command.{Command}
 use Rattle.wasm_feed.specs.declared.listing.Ended.{Ended}
 use Rattle.wasm_feed.specs.declared.listing.Ended.TheVariants.{End, Fault}
-use Rattle.wasm_feed.specs.declared.listing.ListError.{ListError}
+use Rattle.wasm_feed.specs.declared.devices.ListError.{ListError}
 
-lists_kept : (left rest taken written kept : Option (List ℕ)) (how : Ended) → Lists left rest taken written (Ok how) → Keeps written kept → Lists left rest taken kept (Ok how)
+lists_kept : (left rest taken written kept : Option (List ℕ)) (how : Ended) → Lists (from_to left rest) (from_to taken written) (Ok how)
+    → Keeps written kept
+    → Lists (from_to left rest) (from_to taken kept) (Ok how)
 lists_kept left rest taken written kept how h k = record {
   given = h.given;
   first = h.first;
@@ -32,7 +35,8 @@ below_two End = omega arith
 below_two (Fault e) = omega arith
 
 -- nothing was said, and then this
-said : (first second : Device) (message : List ℕ) → Follows first second → IsUntouched first → Says second message → Says (over first second) message
+said : (first second : Device) (message : List ℕ) → Follows first second → IsUntouched first → Says second message
+    → Says (over first second) message
 said first second message f u s =
     let same : second.before ≡ first.before = f.bytes ∙ u.bytes in
     record {
@@ -41,7 +45,8 @@ said first second message f u s =
     }
 
 -- this was said, and then nothing
-said_before : (first second : Device) (message : List ℕ) → Follows first second → Says first message → IsUntouched second → Says (over first second) message
+said_before : (first second : Device) (message : List ℕ) → Follows first second → Says first message → IsUntouched second
+    → Says (over first second) message
 said_before first second message f s u =
     let same : first.after ≡ second.after = sym (u.bytes ∙ f.bytes) in
     let kept : second.has_failed ≡ first.has_failed = u.failed ∙ f.failed in
@@ -54,7 +59,8 @@ untouched_twice : (first second : Device) → Follows first second → IsUntouch
 untouched_twice first second f u v = record { bytes = v.bytes ∙ (f.bytes ∙ u.bytes); failed = v.failed ∙ (f.failed ∙ u.failed) }
 
 -- the listing ended, and the output then handed on what it had taken, or failed
-handed : (first second first_errors second_errors : Device) (how : Ended) (handed_on : Bool) (status result : ℕ) → Follows first second → Follows first_errors second_errors
+handed : (first second first_errors second_errors : Device) (how : Ended) (handed_on : Bool) (status result : ℕ) → Follows first second
+    → Follows first_errors second_errors
     → first.has_failed ≡ first.had_failed → IsUntouched first_errors → status ≡ status_of (Ok how)
     → HandsOn status handed_on second second_errors result ⊎ FailsToHandOn second second_errors result
     → EndsAs (Ok how) handed_on (over first second) (over first_errors second_errors) result
@@ -71,8 +77,10 @@ handed first second first_errors second_errors how handed_on status result f fe 
 })
 
 -- a run that listed its input, and then its end
-listed_all : (input first second first_errors second_errors : Device) (handed_on : Bool) (status result : ℕ) → Follows first second → Follows first_errors second_errors
-    → (how : Result Ended ListError) → RunsListingAs how input first first_errors status → Finishes status handed_on second second_errors result
+listed_all : (input first second first_errors second_errors : Device) (handed_on : Bool) (status result : ℕ) → Follows first second
+    → Follows first_errors second_errors
+    → (how : Result Ended ListError) → RunsListingAs how input first first_errors status
+    → Finishes status handed_on second second_errors result
     → ListsAll handed_on input (over first second) (over first_errors second_errors) result
 listed_all input first second first_errors second_errors handed_on status result f fe (Ok how) r finish = record {
   how = Ok how;
@@ -86,7 +94,8 @@ listed_all input first second first_errors second_errors handed_on status result
     let kept : second.after ≡ first.after = alone.sink.bytes ∙ f.bytes in
     record {
       how = Err why;
-      lists = subst (λ (a : Option (List ℕ)). Lists input.before input.after first.before a (Err why)) (sym kept) r.lists;
+      lists = subst (λ (a : Option (List ℕ)). Lists (from_to input.before input.after) (from_to first.before a) (Err why)) (sym kept)
+          r.lists;
       source = r.source;
       ends = record {
         answers = alone.answers ∙ r.answers;
@@ -96,7 +105,8 @@ listed_all input first second first_errors second_errors handed_on status result
     }
 
 -- a run that refused its arguments, and then its end
-refused_all : (input first second first_errors second_errors : Device) (handed_on : Bool) (status result : ℕ) → Follows first second → Follows first_errors second_errors
+refused_all : (input first second first_errors second_errors : Device) (handed_on : Bool) (status result : ℕ) → Follows first second
+    → Follows first_errors second_errors
     → RunsUsage usage input first first_errors status → Finishes status handed_on second second_errors result
     → RunsUsage usage input (over first second) (over first_errors second_errors) result
 refused_all input first second first_errors second_errors handed_on status result f fe r finish =
@@ -108,11 +118,13 @@ refused_all input first second first_errors second_errors handed_on status resul
       says = said_before first_errors second_errors _ fe r.says alone.silent;
     }
 
-pub program : (command : Command) (input first second first_errors second_errors : Device) (handed_on : Bool) (status result : ℕ) → Follows first second → Follows first_errors second_errors
+pub program : (command : Command) (input first second first_errors second_errors : Device) (handed_on : Bool) (status result : ℕ)
+    → Follows first second → Follows first_errors second_errors
     → Runs command input first first_errors status → Finishes status handed_on second second_errors result
     → RunsProgram (Some command) handed_on input (over first second) (over first_errors second_errors) result
 program command input first second first_errors second_errors handed_on status result f fe runs finish = record {
-  lists = λ c. let r = runs.lists (some_is c) in listed_all input first second first_errors second_errors handed_on status result f fe r.how r.runs finish;
+  lists = λ c. let r = runs.lists (some_is c) in listed_all input first second first_errors second_errors handed_on status result f fe r.how
+      r.runs finish;
   strips = λ c. record {
     written = first;
     handed = second;

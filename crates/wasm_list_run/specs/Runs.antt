@@ -2,10 +2,10 @@
 use Rattle.std.specs.Prelude.{◌≡◌, ◌⊎◌, ℕ, Bool, List, drop, codes, Option, Some, None, Result, Ok, Err, if◌then◌else◌}
 use Rattle.std.specs.IoError.{error_kind}
 use Rattle.std.specs.declared.io.Error.{Error}
-use Rattle.wasm_feed.specs.Calls.{Device}
+use Rattle.wasm_feed.specs.Calls.{Device, bytes_of}
 use Rattle.wasm_feed.specs.Lists.{Lists, input_failed, output_failed}
 use Rattle.wasm_feed.specs.declared.listing.Ended.{Ended}
-use Rattle.wasm_feed.specs.declared.listing.ListError.{ListError}
+use Rattle.wasm_feed.specs.declared.devices.ListError.{ListError}
 use Rattle.wasm_run.specs.Arguments.{is_no_text}
 use Rattle.wasm_run.specs.Devices.{over, Follows, Says, complaint_of}
 use Rattle.wasm_run.specs.Endings.{status_of, Reports, RunsUsage, CannotBegin, HandsOn, FailsToHandOn, Finishes}
@@ -19,7 +19,7 @@ usage = codes "usage: wasm_list [strip]\n"
 
 -- a run whose listing ended so
 pub record RunsListingAs (how : Result Ended ListError) (input output errors : Device) (status : ℕ) : Type 0 where
-  pub lists : Lists input.before input.after output.before output.after how
+  pub lists : Lists (bytes_of input) (bytes_of output) how
   pub answers : status ≡ status_of how
   pub source : input.has_failed ≡ input_failed how input.had_failed
   pub sink : output.has_failed ≡ output_failed how output.had_failed
@@ -44,13 +44,14 @@ pub record GivesUp (why : ListError) (output errors : Device) (status : ℕ) : T
 
 -- How a listing that ended so is answered: what was listed is handed on before the status is 0 or 1.
 abbrev pub EndsAs : Result Ended ListError → (handed_on : Bool) (output errors : Device) (status : ℕ) → Type 0
-EndsAs (Ok how) handed_on output errors status = HandsOn (status_of (Ok how)) handed_on output errors status ⊎ FailsToHandOn output errors status
+EndsAs (Ok how) handed_on output errors status =
+    HandsOn (status_of (Ok how)) handed_on output errors status ⊎ FailsToHandOn output errors status
 EndsAs (Err why) handed_on output errors status = GivesUp why output errors status
 
 -- the whole program, where it lists its input
 pub record ListsAll (handed_on : Bool) (input output errors : Device) (status : ℕ) : Type 0 where
   pub how : Result Ended ListError
-  pub lists : Lists input.before input.after output.before output.after how
+  pub lists : Lists (bytes_of input) (bytes_of output) how
   pub source : input.has_failed ≡ input_failed how input.had_failed
   pub ends : EndsAs how handed_on output errors status
 
@@ -66,13 +67,15 @@ pub record StripsAll (handed_on : Bool) (input output errors : Device) (status :
   pub strips : RunsStripping input written said first
   pub ends : Finishes first handed_on handed said_last status
 
--- what is asked for, if the arguments could be had: the first one is the program's own name. One that is no text is another argument.
+-- what is asked for, if the arguments could be had: the first one is the program's own name. One that is no text is
+-- another argument.
 abbrev pub command_after_name : {A : Type 0} → (A → List (List ℕ)) → Result A Error → Option Command
 command_after_name words (Ok arguments) = Some (command_of (drop 1 (words arguments)))
 command_after_name words (Err e) = if is_no_text (error_kind e) then Some Unknown else None
 
 -- The whole program, which was asked for this if the arguments could be had, or one was no text.
-pub record RunsProgram (command : Option Command) (handed_on : Bool) (input output errors : Device) (status : ℕ) : Type 0 where
+pub record RunsProgram (command : Option Command) (handed_on : Bool) (input output errors : Device) (status : ℕ) : Type
+    0 where
   pub lists : command ≡ Some Listing → ListsAll handed_on input output errors status
   pub strips : command ≡ Some Stripping → StripsAll handed_on input output errors status
   pub refuses : command ≡ Some Unknown → RunsUsage usage input output errors status

@@ -1,21 +1,24 @@
 -- What a run that strips its input does.
-use Rattle.std.specs.Prelude.{◌≡◌, ◌≢◌, ◌⊎◌, ℕ, ◌<◌, Bool, true, false, List, [], ◌++◌, length, take, codes, Option, Vec, Result, Ok, Err}
+use Rattle.std.specs.Prelude.{◌≡◌, ◌≢◌, ◌⊎◌, ℕ, ◌<◌, Bool, true, false, List, [], ◌++◌, length, take, codes, Option}
+use Rattle.std.specs.Prelude.{Vec, Result, Ok, Err}
 use Rattle.std.specs.Io.KnownBytes.{Appends, Consumes, IsAtEnd, Keeps}
 use Rattle.wasm_base.specs.FaultAt.{FaultAt, fault_at}
 use Rattle.wasm_base.specs.Message.{error_text}
 use Rattle.wasm_base.specs.declared.error.Error.{Error}
-use Rattle.wasm_parser.specs.Accepted.{IsAccepted}
+use Rattle.wasm_grammar.specs.Accepted.{IsAccepted}
 use Rattle.wasm_feed.specs.Lists.{input_failed}
 use Rattle.wasm_feed.specs.Stripped.{IsStripped, EndsWithFault}
-use Rattle.wasm_feed.specs.declared.listing.ListError.{ListError}
-use Rattle.wasm_feed.specs.declared.listing.ListError.TheVariants.{Input, Output, Memory}
+use Rattle.wasm_feed.specs.declared.devices.ListError.{ListError}
+use Rattle.wasm_feed.specs.declared.devices.ListError.TheVariants.{Input, Output, Memory}
 use Rattle.wasm_feed.specs.Calls.{Device}
 use Rattle.wasm_run.specs.Devices.{IsUntouched, Says}
 use Rattle.wasm_run.specs.Endings.{GivesUpAs, WritesAll, WritesSome}
 
 -- what one read gave, which was put after the bytes before; nothing at the end of the source
-abbrev pub ReadsPiece : (left rest : Option (List ℕ)) (before : List ℕ) → Result Bool ListError → (after : List ℕ) → Type 0
-ReadsPiece left rest before (Ok true) after = (piece : List ℕ) × Consumes left rest piece × (0 < length piece) × (after ≡ before ++ piece)
+abbrev pub ReadsPiece : (left rest : Option (List ℕ)) (before : List ℕ) → Result Bool ListError → (after : List ℕ)
+    → Type 0
+ReadsPiece left rest before (Ok true) after =
+    (piece : List ℕ) × Consumes left rest piece × (0 < length piece) × (after ≡ before ++ piece)
 ReadsPiece left rest before (Ok false) after = Consumes left rest [] × IsAtEnd rest × (after ≡ before)
 ReadsPiece left rest before (Err Input) after = Keeps left rest
 ReadsPiece left rest before (Err Memory) after = (piece : List ℕ) × Consumes left rest piece
@@ -47,7 +50,8 @@ pub record WritesNothing (stream : List ℕ) (e : Error) (output errors : Device
 -- What is left of the stream was written, as far as the output took it; or it was refused.
 abbrev pub WritesStripped : (stream : List ℕ) (output errors : Device) (status : ℕ) → Type 0
 WritesStripped stream output errors status =
-    ((left : List ℕ) × IsStripped false stream left × (WritesAll left output errors status ⊎ WritesSome left output errors status))
+    ((left : List ℕ) × IsStripped false stream left × (WritesAll left output errors status
+    ⊎ WritesSome left output errors status))
     ⊎ ((e : Error) × WritesNothing stream e output errors status)
 
 -- The source gave all that it had left, which was stripped.
@@ -70,4 +74,5 @@ pub record CannotRead (input output errors : Device) (status : ℕ) : Type 0 whe
 
 -- a run that strips its input
 abbrev pub RunsStripping : (input output errors : Device) (status : ℕ) → Type 0
-RunsStripping input output errors status = StripsInput input output errors status ⊎ CannotRead input output errors status
+RunsStripping input output errors status =
+    StripsInput input output errors status ⊎ CannotRead input output errors status

@@ -2,7 +2,7 @@
 ghost use Rattle.std.specs.Prelude.{◌≡◌, map, string_bytes};
 ghost use Rattle.std.specs.Process.{exit_status};
 ghost use Rattle.std.specs.Vec.Iter.{into_iter_items};
-ghost use Rattle.wasm_feed.specs.Calls.{device_of};
+ghost use Rattle.wasm_feed.specs.Calls.{device_of, writer_device};
 ghost use Rattle.wasm_list_run.specs.Commands.{command_of as command_by};
 ghost use Rattle.wasm_list_run.specs.Runs.{Runs, RunsListing, RunsProgram, command_after_name as command_if_any};
 
@@ -44,8 +44,7 @@ pub fn run_program<R: Source, W: Write, E: Sink>(
         (command_if_any (λ args. map string_bytes (into_iter_items args)) arguments)
         output.new.handed_on
         (device_of R.left R.has_failed input.old input.new)
-        (device_of ⟦<WriteSink<W> as Sink>⟧.taken ⟦<WriteSink<W> as Sink>⟧.has_failed
-        output.old output.new)
+        (writer_device W.contents output.old output.new)
         (device_of E.taken E.has_failed errors.old errors.new) (exit_status result) }
 {
     let Some(command) = command_asked(arguments) else {

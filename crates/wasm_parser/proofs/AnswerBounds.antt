@@ -1,27 +1,30 @@
 -- How far a call of the parser, and a walk over a whole stream, go.
-use Rattle.std.proofs.Common.{◌≡◌, ℕ, ◌+◌, ◌-◌, ◌<◌, ◌≤◌, ◌^◌, Bool, true, false, cond, List, ◌++◌, length, Some, Result, Ok, Err, nat_eq, nat_lt, ltb-true, ltb-false, refl, sym, ap, subst, ◌∙◌, arith, length-append, inl, inr}
+use Rattle.std.proofs.Common.{◌≡◌, ℕ, ◌+◌, ◌-◌, ◌<◌, ◌≤◌, ◌^◌, Bool, true, false, cond, List, ◌++◌, length, Some, Result, Ok, Err, nat_eq}
+use Rattle.std.proofs.Common.{nat_lt, ltb-true, ltb-false, refl, sym, ap, subst, ◌∙◌, arith, length-append, inl, inr}
 use Rattle.std.proofs.lemmas.Bool.Decides.{nat_tests}
 use Rattle.std.specs.Prelude.{◌⊎◌}
 use Rattle.wasm_base.specs.FaultAt.{FaultAt, at_offset}
 use Rattle.wasm_base.specs.declared.error.Error.{Error}
 use Rattle.wasm_base.specs.declared.fault.Fault.TheVariants.{OffsetRange}
-use Rattle.wasm_parser.specs.ParseAnswer.{report_of, is_end, Consumes, Answers, AsksFor, AsksForSome, AnswersOn, IsRequest, IsFaultAlone, ParseAnswer, FaultsWithin, IsUnchanged, ItemsBegin}
-use Rattle.wasm_parser.specs.Waiting.{Waiting, enough, wants, waiting}
-use Rattle.wasm_parser.specs.Content.{custom, items, index, data_count, unknown, fault, ended}
-use Rattle.wasm_parser.specs.Grammar.{Shape, version, section, code_start, code_entry, Tile, Verdict, tile, final, header_grammar, verdict}
-use Rattle.wasm_parser.specs.Reading.{tile_report, custom_report}
+use Rattle.wasm_parser.specs.ParseAnswer.{report_of, is_end, Consumes, AsksForSome, IsRequest}
+use Rattle.wasm_parser.proofs.AnswerTables.{Answers, AsksFor, AnswersOn, IsFaultAlone, as_table, goes_on}
+use Rattle.wasm_parser.specs.ParseAnswer.{ParseAnswer, FaultsWithin, IsUnchanged, ItemsBegin}
+use Rattle.wasm_grammar.specs.Waiting.{Waiting, enough, wants, waiting}
+use Rattle.wasm_grammar.specs.Content.{custom, items, index, data_count, unknown, fault, ended}
+use Rattle.wasm_grammar.specs.Grammar.{Shape, version, section, code_start, code_entry, Tile, Verdict, tile, final, header_grammar, verdict}
+use Rattle.wasm_grammar.specs.Reading.{tile_report, custom_report}
 use Rattle.wasm_parser.specs.ParserState.{ParserState, known_context, grammar_of}
-use Rattle.wasm_parser.specs.Tiling.{inside}
+use Rattle.wasm_grammar.specs.Tiling.{inside}
 use Rattle.wasm_parser.specs.declared.payload.Payload.{Payload}
 use Rattle.wasm_parser.specs.declared.payload.Chunk.{Chunk}
 use Rattle.wasm_parser.specs.declared.payload.Chunk.TheVariants.{NeedMoreData, Parsed}
 use Rattle.wasm_base.specs.Name.{Name, named, refused, name_limit, name}
 use Rattle.wasm_parser.proofs.Bounds.{parser_fault_lies}
-use Rattle.wasm_parser.proofs.GrammarLaws.{Cut, verdict-cut, verdict-more}
-use Rattle.wasm_parser.proofs.WaitingLaws.{Asks, waiting-asks, waiting-more}
+use Rattle.wasm_grammar.proofs.parts.Verdicts.{Cut, verdict-cut, verdict-more}
+use Rattle.wasm_grammar.proofs.endings.Waiting.{Asks, waiting-asks, waiting-more}
 use Rattle.wasm_parser.proofs.Parsing.{answered}
-use Rattle.wasm_parser.specs.Laws.{AnswersLast}
-use Rattle.wasm_parser.proofs.TileLaws.{Guarded-header, Guarded-inside_at, least_header, least_inside}
+use Rattle.wasm_parser.specs.ParserLaws.{AnswersLast}
+use Rattle.wasm_grammar.proofs.parts.Guarded.{Guarded-header, Guarded-inside_at, least_header, least_inside}
 
 -- ---- tiles
 
@@ -31,33 +34,24 @@ pub record Takes (xs : List ℕ) (t : Tile) : Type 0 where
   pub rest : List ℕ
   pub split : xs ≡ t.bytes ++ rest
 
-takes_at : (h : Bool) (p : ParserState) (xs : List ℕ) (t : Tile) → verdict (cond h (header_grammar p.offset) (inside (known_context p) p.bodies p.left p.offset)) xs ≡ tile t → Takes xs t
+takes_at : (h : Bool) (p : ParserState) (xs : List ℕ) (t : Tile)
+    → verdict (cond h (header_grammar p.offset) (inside (known_context p) p.bodies p.left p.offset)) xs ≡ tile t → Takes xs t
 takes_at true p xs t e =
     let c : Cut (header_grammar p.offset) xs t = verdict-cut (header_grammar p.offset) (Guarded-header p.offset) xs t e in
     record { some = least_header p.offset xs t e; rest = c.rest; split = c.split }
 takes_at false p xs t e =
     let b : Bool = nat_eq (p.bodies + p.left) 0 in
-    let c : Cut (inside (known_context p) p.bodies p.left p.offset) xs t = verdict-cut (inside (known_context p) p.bodies p.left p.offset) (Guarded-inside_at (nat_eq (p.bodies + p.left) 0) (known_context p) p.bodies p.left p.offset) xs t e in
-    record { some = least_inside (nat_eq (p.bodies + p.left) 0) (known_context p) p.bodies p.left p.offset xs t e; rest = c.rest; split = c.split }
+    let c : Cut (inside (known_context p) p.bodies p.left p.offset) xs t =
+    verdict-cut (inside (known_context p) p.bodies p.left p.offset)
+    (Guarded-inside_at (nat_eq (p.bodies + p.left) 0) (known_context p) p.bodies p.left p.offset) xs t e in
+    record {
+      some = least_inside (nat_eq (p.bodies + p.left) 0) (known_context p) p.bodies p.left p.offset xs t e;
+      rest = c.rest;
+      split = c.split;
+    }
 
 pub tile_takes : (p : ParserState) (xs : List ℕ) (t : Tile) → verdict (grammar_of p) xs ≡ tile t → Takes xs t
 tile_takes p xs t e = takes_at p.expects_header p xs t e
-
--- ---- what is reported of a tile is no end
-
-custom_goes_on : (features from to : ℕ) (content : List ℕ) (n : Name) → is_end (custom_report features from to content n) ≡ false
-custom_goes_on features from to content (named text used) = refl
-custom_goes_on features from to content (refused f place) = refl
-
-pub goes_on : (features from to : ℕ) (shape : Shape) → is_end (tile_report features from to shape) ≡ false
-goes_on features from to (version num encoding) = refl
-goes_on features from to (section items id content) = refl
-goes_on features from to (section index id content) = refl
-goes_on features from to (section data_count id content) = refl
-goes_on features from to (section custom id content) = custom_goes_on features (to - length content) to content (name (Some name_limit) content)
-goes_on features from to (section unknown id content) = refl
-goes_on features from to (code_start count width size) = refl
-goes_on features from to (code_entry content) = refl
 
 not_zero : (n : ℕ) → 0 < n → nat_eq n 0 ≡ false
 not_zero n l = grind (arith, nat_tests)
@@ -67,31 +61,38 @@ not_zero n l = grind (arith, nat_tests)
 -- bytes that decide are answered, and others are asked for
 abbrev pub IsOn : ParserState → (eof : Bool) (rest : List ℕ) → Result Chunk Error → ParserState → Type 0
 IsOn p eof rest r new =
-    Answers p (verdict (grammar_of p) rest) r new ⊎ ((need : ℕ) × (hint : ℕ) × (waiting (grammar_of p) rest ≡ wants need hint) × AsksFor hint p r new)
+    Answers p (verdict (grammar_of p) rest) r new ⊎ ((need : ℕ) × (hint : ℕ) × (waiting (grammar_of p) rest ≡ wants need hint)
+    × AsksFor hint p r new)
 
-on_at : (p new : ParserState) (eof : Bool) (rest : List ℕ) (r : Result Chunk Error) (w : Waiting) → waiting (grammar_of p) rest ≡ w → AnswersOn eof w p (verdict (grammar_of p) rest) r new → IsOn p eof rest r new
+on_at : (p new : ParserState) (eof : Bool) (rest : List ℕ) (r : Result Chunk Error) (w : Waiting) → waiting (grammar_of p) rest ≡ w
+    → AnswersOn eof w p (verdict (grammar_of p) rest) r new → IsOn p eof rest r new
 on_at p new true rest r w e a = inl a
 on_at p new false rest r enough e a = inl a
 on_at p new false rest r (wants need hint) e a = inr (need, hint, e, a)
 
-pub is_on : (p new : ParserState) (eof : Bool) (rest : List ℕ) (r : Result Chunk Error) → AnswersOn eof (waiting (grammar_of p) rest) p (verdict (grammar_of p) rest) r new → IsOn p eof rest r new
+pub is_on : (p new : ParserState) (eof : Bool) (rest : List ℕ) (r : Result Chunk Error)
+    → AnswersOn eof (waiting (grammar_of p) rest) p (verdict (grammar_of p) rest) r new → IsOn p eof rest r new
 is_on p new eof rest r a = on_at p new eof rest r (waiting (grammar_of p) rest) refl a
 
 -- ---- what a call consumes
 
-consumes_at : (p new : ParserState) (rest : List ℕ) (consumed : ℕ) (payload : Payload) (v : Verdict) → verdict (grammar_of p) rest ≡ v → Answers p v (Ok (Parsed consumed payload)) new
+consumes_at : (p new : ParserState) (rest : List ℕ) (consumed : ℕ) (payload : Payload) (v : Verdict) → verdict (grammar_of p) rest ≡ v
+    → Answers p v (Ok (Parsed consumed payload)) new
     → (consumed ≤ length rest) × (nat_eq consumed 0 ≡ is_end (report_of payload))
 consumes_at p new rest consumed payload (tile t) e a =
     let k : Takes rest t = tile_takes p rest t e in
     let n : length rest ≡ length t.bytes + length k.rest = ap (λ (x : List ℕ). length x) k.split ∙ length-append t.bytes k.rest in (
       omega (arith, a.0, n),
-      not_zero consumed (omega (arith, a.0, k.some)) ∙ sym (ap is_end a.1.0 ∙ goes_on p.features p.offset (p.offset + length t.bytes) t.shape),
+      not_zero consumed (omega (arith, a.0, k.some)) ∙ sym (ap is_end a.1.0
+          ∙ goes_on p.features p.offset (p.offset + length t.bytes) t.shape),
     )
 consumes_at p new rest consumed payload (final (fault f)) e a = absurd a
-consumes_at p new rest consumed payload (final (ended o)) e a = let z : consumed ≡ 0 = a.0 in (omega (arith, z), ap (λ (n : ℕ). nat_eq n 0) z ∙ sym (ap is_end a.1.0))
+consumes_at p new rest consumed payload (final (ended o)) e a = let z : consumed
+    ≡ 0 = a.0 in (omega (arith, z), ap (λ (n : ℕ). nat_eq n 0) z ∙ sym (ap is_end a.1.0))
 
 -- what the answers of a parser consume
-consumes_any : (p new : ParserState) (rest : List ℕ) (r : Result Chunk Error) → Answers p (verdict (grammar_of p) rest) r new → Consumes rest r
+consumes_any : (p new : ParserState) (rest : List ℕ) (r : Result Chunk Error) → Answers p (verdict (grammar_of p) rest) r new
+    → Consumes rest r
 consumes_any p new rest (Ok (Parsed consumed payload)) a = consumes_at p new rest consumed payload (verdict (grammar_of p) rest) refl a
 consumes_any p new rest (Ok (NeedMoreData hint)) a = tt
 consumes_any p new rest (Err e) a = tt
@@ -109,16 +110,20 @@ consumes_on : (p new : ParserState) (eof : Bool) (rest : List ℕ) (r : Result C
 consumes_on p new eof rest r (inl a) = consumes_any p new rest r a
 consumes_on p new eof rest r (inr a) = asking_consumes a.1 p new rest r a.3
 
-consumes_by : (b : Bool) (p new : ParserState) (eof : Bool) (rest : List ℕ) (r : Result Chunk Error) → nat_lt (p.offset + length rest) (2 ^ 64) ≡ b → ParseAnswer p eof rest r new → Consumes rest r
-consumes_by true p new eof rest r t h = consumes_on p new eof rest r (is_on p new eof rest r (h.within (ltb-true _ _ t)))
-consumes_by false p new eof rest r t h = alone_consumes (at_offset OffsetRange p.offset) p new rest r (h.past_the_top (ltb-false _ _ t))
+consumes_by : (b : Bool) (p new : ParserState) (eof : Bool) (rest : List ℕ) (r : Result Chunk Error)
+    → nat_lt (p.offset + length rest) (2 ^ 64) ≡ b → ParseAnswer p eof rest r new → Consumes rest r
+consumes_by true p new eof rest r t h = consumes_on p new eof rest r
+    (is_on p new eof rest r ((as_table p new eof rest r h).within (ltb-true _ _ t)))
+consumes_by false p new eof rest r t h = alone_consumes (at_offset OffsetRange p.offset) p new rest r
+    ((as_table p new eof rest r h).past_the_top (ltb-false _ _ t))
 
 pub consumes : (p new : ParserState) (eof : Bool) (rest : List ℕ) (r : Result Chunk Error) → ParseAnswer p eof rest r new → Consumes rest r
 consumes p new eof rest r h = consumes_by (nat_lt (p.offset + length rest) (2 ^ 64)) p new eof rest r refl h
 
 -- ---- where its faults are
 
-faults_at : (p new : ParserState) (rest : List ℕ) (e : Error) (v : Verdict) → verdict (grammar_of p) rest ≡ v → Answers p v (Err e) new → FaultsWithin p rest (Err e)
+faults_at : (p new : ParserState) (rest : List ℕ) (e : Error) (v : Verdict) → verdict (grammar_of p) rest ≡ v → Answers p v (Err e) new
+    → FaultsWithin p rest (Err e)
 faults_at p new rest e (tile t) q a = absurd a
 faults_at p new rest e (final (fault f)) q a =
     let (l, m) = parser_fault_lies p rest f q in
@@ -130,43 +135,32 @@ faults_on : (p new : ParserState) (eof : Bool) (rest : List ℕ) (e : Error) →
 faults_on p new eof rest e (inl a) = faults_at p new rest e (verdict (grammar_of p) rest) refl a
 faults_on p new eof rest e (inr a) = absurd a.3
 
-faults_by : (b : Bool) (p new : ParserState) (eof : Bool) (rest : List ℕ) (r : Result Chunk Error) → nat_lt (p.offset + length rest) (2 ^ 64) ≡ b → ParseAnswer p eof rest r new → FaultsWithin p rest r
+faults_by : (b : Bool) (p new : ParserState) (eof : Bool) (rest : List ℕ) (r : Result Chunk Error)
+    → nat_lt (p.offset + length rest) (2 ^ 64) ≡ b → ParseAnswer p eof rest r new → FaultsWithin p rest r
 faults_by b p new eof rest (Ok chunk) t h = tt
-faults_by true p new eof rest (Err e) t h = faults_on p new eof rest e (is_on p new eof rest (Err e) (h.within (ltb-true _ _ t)))
+faults_by true p new eof rest (Err e) t h = faults_on p new eof rest e
+    (is_on p new eof rest (Err e) ((as_table p new eof rest (Err e) h).within (ltb-true _ _ t)))
 faults_by false p new eof rest (Err e) t h =
-    let a = h.past_the_top (ltb-false _ _ t) in
+    let a = (as_table p new eof rest (Err e) h).past_the_top (ltb-false _ _ t) in
     let z = ap (λ (x : FaultAt). x.offset) a.0 in
     (omega (arith, z), omega (arith, z))
 
-pub faults_within : (p new : ParserState) (eof : Bool) (rest : List ℕ) (r : Result Chunk Error) → ParseAnswer p eof rest r new → FaultsWithin p rest r
+pub faults_within : (p new : ParserState) (eof : Bool) (rest : List ℕ) (r : Result Chunk Error) → ParseAnswer p eof rest r new
+    → FaultsWithin p rest r
 faults_within p new eof rest r h = faults_by (nat_lt (p.offset + length rest) (2 ^ 64)) p new eof rest r refl h
 
 -- ---- what a fault or a request leaves
-
-unchanged_at : (p new : ParserState) (e : Error) (v : Verdict) → Answers p v (Err e) new → new ≡ p
-unchanged_at p new e (tile t) a = absurd a
-unchanged_at p new e (final (fault f)) a = a.1
-unchanged_at p new e (final (ended o)) a = absurd a
 
 pub asks_never : (p new : ParserState) (hint : ℕ) (v : Verdict) → Answers p v (Ok (NeedMoreData hint)) new → ⊥
 asks_never p new hint (tile t) a = a
 asks_never p new hint (final (fault f)) a = a
 asks_never p new hint (final (ended o)) a = a
 
-unchanged_on : (p new : ParserState) (eof : Bool) (rest : List ℕ) (r : Result Chunk Error) → IsOn p eof rest r new → IsUnchanged p r new
-unchanged_on p new eof rest (Ok (Parsed consumed payload)) a = tt
-unchanged_on p new eof rest (Ok (NeedMoreData hint)) (inl a) = absurd (asks_never p new hint (verdict (grammar_of p) rest) a)
-unchanged_on p new eof rest (Ok (NeedMoreData hint)) (inr a) = a.3.1
-unchanged_on p new eof rest (Err e) (inl a) = unchanged_at p new e (verdict (grammar_of p) rest) a
-unchanged_on p new eof rest (Err e) (inr a) = absurd a.3
-
-unchanged_by : (b : Bool) (p new : ParserState) (eof : Bool) (rest : List ℕ) (r : Result Chunk Error) → nat_lt (p.offset + length rest) (2 ^ 64) ≡ b → ParseAnswer p eof rest r new → IsUnchanged p r new
-unchanged_by true p new eof rest r t h = unchanged_on p new eof rest r (is_on p new eof rest r (h.within (ltb-true _ _ t)))
-unchanged_by false p new eof rest (Ok chunk) t h = absurd (h.past_the_top (ltb-false _ _ t))
-unchanged_by false p new eof rest (Err e) t h = (h.past_the_top (ltb-false _ _ t)).1
-
-pub unchanged : (p new : ParserState) (eof : Bool) (rest : List ℕ) (r : Result Chunk Error) → ParseAnswer p eof rest r new → IsUnchanged p r new
-unchanged p new eof rest r h = unchanged_by (nat_lt (p.offset + length rest) (2 ^ 64)) p new eof rest r refl h
+pub unchanged : (p new : ParserState) (eof : Bool) (rest : List ℕ) (r : Result Chunk Error) → ParseAnswer p eof rest r new
+    → IsUnchanged p r new
+unchanged p new eof rest (Ok (Parsed consumed payload)) h = tt
+unchanged p new eof rest (Ok (NeedMoreData hint)) h = h.state
+unchanged p new eof rest (Err e) h = h.state
 
 -- ---- what a request asks for
 
@@ -180,34 +174,25 @@ asks_on p new eof rest (Ok (NeedMoreData hint)) (inr a) =
     omega (arith, s, z)
 asks_on p new eof rest (Err e) a = tt
 
-asks_by : (b : Bool) (p new : ParserState) (eof : Bool) (rest : List ℕ) (r : Result Chunk Error) → nat_lt (p.offset + length rest) (2 ^ 64) ≡ b → ParseAnswer p eof rest r new → AsksForSome r
-asks_by true p new eof rest r t h = asks_on p new eof rest r (is_on p new eof rest r (h.within (ltb-true _ _ t)))
-asks_by false p new eof rest (Ok chunk) t h = absurd (h.past_the_top (ltb-false _ _ t))
+asks_by : (b : Bool) (p new : ParserState) (eof : Bool) (rest : List ℕ) (r : Result Chunk Error) → nat_lt (p.offset + length rest) (2 ^ 64)
+    ≡ b → ParseAnswer p eof rest r new → AsksForSome r
+asks_by true p new eof rest r t h = asks_on p new eof rest r (is_on p new eof rest r
+    ((as_table p new eof rest r h).within (ltb-true _ _ t)))
+asks_by false p new eof rest (Ok chunk) t h = absurd ((as_table p new eof rest (Ok chunk) h).past_the_top (ltb-false _ _ t))
 asks_by false p new eof rest (Err e) t h = tt
 
-pub asks_for_some : (p new : ParserState) (eof : Bool) (rest : List ℕ) (r : Result Chunk Error) → ParseAnswer p eof rest r new → AsksForSome r
+pub asks_for_some : (p new : ParserState) (eof : Bool) (rest : List ℕ) (r : Result Chunk Error) → ParseAnswer p eof rest r new
+    → AsksForSome r
 asks_for_some p new eof rest r h = asks_by (nat_lt (p.offset + length rest) (2 ^ 64)) p new eof rest r refl h
-
--- ---- what its payloads hold
-
-pub holds_at : (p new : ParserState) (consumed : ℕ) (payload : Payload) (v : Verdict) → Answers p v (Ok (Parsed consumed payload)) new → ItemsBegin payload
-holds_at p new consumed payload (tile t) a = a.1.1
-holds_at p new consumed payload (final (fault f)) a = absurd a
-holds_at p new consumed payload (final (ended o)) a = a.1.1
-
-holds_by : (b : Bool) (p new : ParserState) (rest : List ℕ) (consumed : ℕ) (payload : Payload) → nat_lt (p.offset + length rest) (2 ^ 64) ≡ b → ParseAnswer p true rest (Ok (Parsed consumed payload)) new → ItemsBegin payload
-holds_by true p new rest consumed payload t h = holds_at p new consumed payload (verdict (grammar_of p) rest) (h.within (ltb-true _ _ t))
-holds_by false p new rest consumed payload t h = absurd (h.past_the_top (ltb-false _ _ t))
-
-pub holds_items : (p new : ParserState) (rest : List ℕ) (consumed : ℕ) (payload : Payload) → ParseAnswer p true rest (Ok (Parsed consumed payload)) new → ItemsBegin payload
-holds_items p new rest consumed payload h = holds_by (nat_lt (p.offset + length rest) (2 ^ 64)) p new rest consumed payload refl h
 
 -- ---- what more bytes change
 
 -- a request is none that is answered
-on_last : (p new : ParserState) (bytes more : List ℕ) (r : Result Chunk Error) (w : Waiting) → waiting (grammar_of p) bytes ≡ w → AnswersOn false w p (verdict (grammar_of p) bytes) r new → ¬ IsRequest r → p.offset + length (bytes ++ more) < 2 ^ 64
+on_last : (p new : ParserState) (bytes more : List ℕ) (r : Result Chunk Error) (w : Waiting) → waiting (grammar_of p) bytes ≡ w
+    → AnswersOn false w p (verdict (grammar_of p) bytes) r new → ¬ IsRequest r → p.offset + length (bytes ++ more) < 2 ^ 64
     → (eof : Bool) → ParseAnswer p eof (bytes ++ more) r new
-on_last p new bytes more r enough e a n l eof = answered p eof (bytes ++ more) r new l (waiting-more (grammar_of p) bytes more e) (subst (λ (v : Verdict). Answers p v r new) (sym (verdict-more (grammar_of p) bytes more e)) a)
+on_last p new bytes more r enough e a n l eof = answered p eof (bytes ++ more) r new l (waiting-more (grammar_of p) bytes more e)
+    (subst (λ (v : Verdict). Answers p v r new) (sym (verdict-more (grammar_of p) bytes more e)) a)
 on_last p new bytes more (Ok (NeedMoreData asked)) (wants need hint) e a n l eof = absurd (n tt)
 on_last p new bytes more (Ok (Parsed consumed payload)) (wants need hint) e a n l eof = absurd a
 on_last p new bytes more (Err x) (wants need hint) e a n l eof = absurd a
@@ -215,4 +200,4 @@ on_last p new bytes more (Err x) (wants need hint) e a n l eof = absurd a
 pub answers_last : AnswersLast
 answers_last p new bytes more r h n l eof =
     let m = length-append bytes more in
-    on_last p new bytes more r (waiting (grammar_of p) bytes) refl (h.within (omega (arith, l, m))) n l eof
+    on_last p new bytes more r (waiting (grammar_of p) bytes) refl ((as_table p new false bytes r h).within (omega (arith, l, m))) n l eof

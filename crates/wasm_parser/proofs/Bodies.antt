@@ -1,5 +1,6 @@
 -- What is in a code section: its head and its bodies.
-use Rattle.std.proofs.Common.{◌≡◌, ℕ, zero, suc, ◌+◌, ◌-◌, ◌<◌, ◌≤◌, Bool, true, false, not, ◌&&◌, ◌||◌, length, take, drop, option_to_list, Some, None, Result, Ok, Err, nat_lt, nat_eq, refl, sym, ap, subst, ◌∙◌, arith, lt-ltb, le-ltb}
+use Rattle.std.proofs.Common.{◌≡◌, ℕ, zero, suc, ◌+◌, ◌-◌, ◌<◌, ◌≤◌, Bool, true, false, not, ◌&&◌, ◌||◌, length, take, drop, option_to_list}
+use Rattle.std.proofs.Common.{Some, None, Result, Ok, Err, nat_lt, nat_eq, refl, sym, ap, subst, ◌∙◌, arith, lt-ltb, le-ltb}
 use Rattle.std.proofs.lemmas.List.{length-take-le}
 use Rattle.std.specs.List.{list_all, list_any}
 use Rattle.wasm_base.specs.FaultAt.{FaultAt, fault_at, hint_of, at_offset}
@@ -10,14 +11,16 @@ use Rattle.wasm_base.specs.declared.error.Error.{Error}
 use Rattle.wasm_base.specs.declared.fault.Fault.TheVariants.{UnexpectedEof, FunctionCodeDiffer, CodeWithoutFunction, TrailingCode}
 use Rattle.wasm_base.specs.declared.fault.NumberKind.TheVariants.{VarU32}
 use Rattle.wasm_parser.specs.ParseAnswer.{IsPayload, MatchesGrammar, ReadsByGrammar}
-use Rattle.wasm_parser.specs.Content.{when}
+use Rattle.wasm_grammar.specs.Content.{when}
 use Rattle.wasm_parser.specs.ReadsPart.{content_at}
-use Rattle.wasm_parser.specs.Grammar
-use Rattle.wasm_parser.specs.Grammar.{SectionContext, Grammar, accept, check, u32_field, bytes, wrong_count, code_grammar, body_of, body_grammar}
-use Rattle.wasm_parser.specs.Reading.{code_start, code_entry}
+use Rattle.wasm_grammar.specs.Grammar
+use Rattle.wasm_grammar.specs.Grammar.{SectionContext, Grammar, accept, check, u32_field, bytes, wrong_count, code_grammar, body_of}
+use Rattle.wasm_grammar.specs.Grammar.{body_grammar}
+use Rattle.wasm_grammar.specs.Reading.{code_start, code_entry}
 use Rattle.wasm_parser.specs.declared.payload.Payload.{Payload}
 use Rattle.wasm_parser.proofs.Framed.{HasContent, has_content, too_few}
-use Rattle.wasm_parser.proofs.ReadingFields.{report_bytes, report_missing, report_number, report_no_number, report_wrong, report_right, report_whole, report_stops, ReadNumber, read_number}
+use Rattle.wasm_parser.proofs.ReadingFields.{report_bytes, report_missing, report_number, report_no_number, report_wrong, report_right}
+use Rattle.wasm_parser.proofs.ReadingFields.{report_whole, report_stops, ReadNumber, read_number}
 
 -- ---- the head of a code section
 
@@ -29,35 +32,46 @@ counted_grammar context offset size count width =
     accept (Grammar.code_start count width (size - width))))
 
 -- a count that is not read
-pub code_no_count : (context : SectionContext) (size : ℕ) (p : Place) (e : Error) (a : Place) → unsigned_at VarU32 p ≡ Err (fault_at e) → hint_of e ≡ hint_at 1 (fault_at e).fault → ReadsByGrammar (code_grammar context p.offset size) p (Err e) a
+pub code_no_count : (context : SectionContext) (size : ℕ) (p : Place) (e : Error) (a : Place) → unsigned_at VarU32 p ≡ Err (fault_at e)
+    → hint_of e ≡ hint_at 1 (fault_at e).fault → ReadsByGrammar (code_grammar context p.offset size) p (Err e) a
 code_no_count context size p e a h hint = λ s. report_no_number s p (counted_grammar context p.offset size) e a h hint
 
 -- a count that passes the section's end
-pub code_short : (context : SectionContext) (size : ℕ) (p q : Place) (count : ℕ) (e : Error) (a : Place) → unsigned_at VarU32 p ≡ Ok (count, q) → p.offset + size < q.offset → fault_at e ≡ at_offset UnexpectedEof p.offset
+pub code_short : (context : SectionContext) (size : ℕ) (p q : Place) (count : ℕ) (e : Error) (a : Place) → unsigned_at VarU32 p
+    ≡ Ok (count, q) → p.offset + size < q.offset → fault_at e ≡ at_offset UnexpectedEof p.offset
     → hint_of e ≡ None → ReadsByGrammar (code_grammar context p.offset size) p (Err e) a
 code_short context size p q count e a h l f hint =
     let m : ReadNumber p count q = read_number p count q h in
     let o : q.offset ≡ p.offset + m.used = ap (λ (x : Place). x.offset) m.after in
-    let w : when (nat_lt size m.used) (at_offset UnexpectedEof p.offset) ≡ Some (fault_at e) = rw (lt-ltb size m.used (omega arith)) (ap Some (sym f)) in
-    λ s. report_number s p p.offset (counted_grammar context p.offset size) (Err e) a count m.used m.reads (report_wrong s (advanced m.used p) (when (nat_lt size m.used) (at_offset UnexpectedEof p.offset)) _ e a w hint)
+    let w : when (nat_lt size m.used) (at_offset UnexpectedEof p.offset)
+    ≡ Some (fault_at e) = rw (lt-ltb size m.used (omega arith)) (ap Some (sym f)) in
+    λ s. report_number s p p.offset (counted_grammar context p.offset size) (Err e) a count m.used m.reads
+    (report_wrong s (advanced m.used p) (when (nat_lt size m.used) (at_offset UnexpectedEof p.offset)) _ e a w hint)
 
 -- a count that lies in the section, and that of the functions
-counted_right : (context : SectionContext) (size : ℕ) (p q : Place) (count : ℕ) (r : Result Payload Error) (a : Place) (m : ReadNumber p count q) → q.offset ≤ p.offset + size
-    → ((s : ℕ) → MatchesGrammar s (advanced m.used p) (check (wrong_count context p.offset count) (accept (Grammar.code_start count m.used (size - m.used)))) r a) → ReadsByGrammar (code_grammar context p.offset size) p r a
+counted_right : (context : SectionContext) (size : ℕ) (p q : Place) (count : ℕ) (r : Result Payload Error) (a : Place)
+    (m : ReadNumber p count q) → q.offset ≤ p.offset + size
+    → ((s : ℕ) → MatchesGrammar s (advanced m.used p) (check (wrong_count context p.offset count)
+    (accept (Grammar.code_start count m.used (size - m.used)))) r a) → ReadsByGrammar (code_grammar context p.offset size) p r a
 counted_right context size p q count r a m l next =
     let o : q.offset ≡ p.offset + m.used = ap (λ (x : Place). x.offset) m.after in
     let w : when (nat_lt size m.used) (at_offset UnexpectedEof p.offset) ≡ None = rw (le-ltb size m.used (omega arith)) refl in
-    λ s. report_number s p p.offset (counted_grammar context p.offset size) r a count m.used m.reads (report_right s (advanced m.used p) (when (nat_lt size m.used) (at_offset UnexpectedEof p.offset)) _ r a w (next s))
+    λ s. report_number s p p.offset (counted_grammar context p.offset size) r a count m.used m.reads
+    (report_right s (advanced m.used p) (when (nat_lt size m.used) (at_offset UnexpectedEof p.offset)) _ r a w (next s))
 
-pub code_wrong : (context : SectionContext) (size : ℕ) (p q : Place) (count : ℕ) (e : Error) (a : Place) → unsigned_at VarU32 p ≡ Ok (count, q) → q.offset ≤ p.offset + size → wrong_count context p.offset count ≡ Some (fault_at e)
+pub code_wrong : (context : SectionContext) (size : ℕ) (p q : Place) (count : ℕ) (e : Error) (a : Place) → unsigned_at VarU32 p
+    ≡ Ok (count, q) → q.offset ≤ p.offset + size → wrong_count context p.offset count ≡ Some (fault_at e)
     → hint_of e ≡ None → ReadsByGrammar (code_grammar context p.offset size) p (Err e) a
 code_wrong context size p q count e a h l w hint =
     let m : ReadNumber p count q = read_number p count q h in
-    counted_right context size p q count (Err e) a m l (λ s. report_wrong s (advanced m.used p) (wrong_count context p.offset count) _ e a w hint)
+    counted_right context size p q count (Err e) a m l (λ s. report_wrong s (advanced m.used p) (wrong_count context p.offset count) _ e a w
+    hint)
 
 -- a head
-pub code_read : (context : SectionContext) (size : ℕ) (p q : Place) (count : ℕ) (payload : Payload) → unsigned_at VarU32 p ≡ Ok (count, q) → q.offset ≤ p.offset + size → wrong_count context p.offset count ≡ None
-    → IsPayload (code_start count p.offset (p.offset + size) (p.offset + size - q.offset)) payload → ReadsByGrammar (code_grammar context p.offset size) p (Ok payload) q
+pub code_read : (context : SectionContext) (size : ℕ) (p q : Place) (count : ℕ) (payload : Payload) → unsigned_at VarU32 p ≡ Ok (count, q)
+    → q.offset ≤ p.offset + size → wrong_count context p.offset count ≡ None
+    → IsPayload (code_start count p.offset (p.offset + size) (p.offset + size - q.offset)) payload
+    → ReadsByGrammar (code_grammar context p.offset size) p (Ok payload) q
 code_read context size p q count payload h l w report =
     let m : ReadNumber p count q = read_number p count q h in
     let o : q.offset ≡ p.offset + m.used = ap (λ (x : Place). x.offset) m.after in
@@ -66,10 +80,13 @@ code_read context size p q count payload h l w report =
     let left : p.offset + size - q.offset ≡ size - m.used = omega arith in
     let said : IsPayload (code_start count (p.offset + m.used - m.used) (p.offset + m.used + (size - m.used)) (size - m.used)) payload =
     (report.0 ∙ (λ i. code_start count (from i) (to i) (left i)), report.1) in
-    counted_right context size p q count (Ok payload) q m l (λ s. report_right s (advanced m.used p) (wrong_count context p.offset count) _ (Ok payload) q w (report_whole s (advanced m.used p) (Grammar.code_start count m.used (size - m.used)) payload q m.after said))
+    counted_right context size p q count (Ok payload) q m l (λ s.
+    report_right s (advanced m.used p) (wrong_count context p.offset count) _ (Ok payload) q w
+    (report_whole s (advanced m.used p) (Grammar.code_start count m.used (size - m.used)) payload q m.after said))
 
 -- what is wrong with a count, by two tests
-pub counts_differ : (context : SectionContext) (offset count : ℕ) (f : FaultAt) → true ≡ not (list_all (nat_eq count) context.functions) → f ≡ at_offset FunctionCodeDiffer offset → wrong_count context offset count ≡ Some f
+pub counts_differ : (context : SectionContext) (offset count : ℕ) (f : FaultAt) → true ≡ not (list_all (nat_eq count) context.functions) → f
+    ≡ at_offset FunctionCodeDiffer offset → wrong_count context offset count ≡ Some f
 counts_differ context offset count f d e = rw (← d) (ap Some (sym e))
 
 -- one count that is above 0
@@ -77,81 +94,105 @@ any_one : (b : Bool) → (b || false) ≡ b
 any_one true = refl
 any_one false = refl
 
-lacks_one : (context : SectionContext) (count : ℕ) (b : Bool) → b ≡ (list_any (nat_lt 0) (option_to_list (Some count)) && nat_eq (length context.functions) 0) → b ≡ (nat_lt 0 count && nat_eq (length context.functions) 0)
+lacks_one : (context : SectionContext) (count : ℕ) (b : Bool) → b
+    ≡ (list_any (nat_lt 0) (option_to_list (Some count)) && nat_eq (length context.functions) 0) → b
+    ≡ (nat_lt 0 count && nat_eq (length context.functions) 0)
 lacks_one context count b e = e ∙ ap (λ (x : Bool). x && nat_eq (length context.functions) 0) (any_one (nat_lt 0 count))
 
-pub no_function : (context : SectionContext) (offset count : ℕ) (f : FaultAt) → false ≡ not (list_all (nat_eq count) context.functions) → true ≡ (list_any (nat_lt 0) (option_to_list (Some count)) && nat_eq (length context.functions) 0)
+pub no_function : (context : SectionContext) (offset count : ℕ) (f : FaultAt) → false ≡ not (list_all (nat_eq count) context.functions)
+    → true ≡ (list_any (nat_lt 0) (option_to_list (Some count)) && nat_eq (length context.functions) 0)
     → f ≡ at_offset CodeWithoutFunction offset → wrong_count context offset count ≡ Some f
 no_function context offset count f d n e = rw (← d, ← lacks_one context count true n) (ap Some (sym e))
 
-pub right_count : (context : SectionContext) (offset count : ℕ) → false ≡ not (list_all (nat_eq count) context.functions) → false ≡ (list_any (nat_lt 0) (option_to_list (Some count)) && nat_eq (length context.functions) 0) → wrong_count context offset count ≡ None
+pub right_count : (context : SectionContext) (offset count : ℕ) → false ≡ not (list_all (nat_eq count) context.functions) → false
+    ≡ (list_any (nat_lt 0) (option_to_list (Some count)) && nat_eq (length context.functions) 0) → wrong_count context offset count ≡ None
 right_count context offset count d n = rw (← d, ← lacks_one context count false n) refl
 
 -- ---- a body
 
 -- where a body is left
-a_body : (bodies left offset : ℕ) → 0 < bodies → body_grammar bodies left offset ≡ u32_field offset (λ size width. body_of offset left size width)
+a_body : (bodies left offset : ℕ) → 0 < bodies → body_grammar bodies left offset
+    ≡ u32_field offset (λ size width. body_of offset left size width)
 unfolding body_grammar
 a_body zero left offset l = absurd (omega arith)
 a_body (suc n) left offset l = refl
 
-body_there : (bodies left : ℕ) (p : Place) (r : Result Payload Error) (a : Place) → 0 < bodies → ReadsByGrammar (u32_field p.offset (λ size width. body_of p.offset left size width)) p r a → ReadsByGrammar (body_grammar bodies left p.offset) p r a
+body_there : (bodies left : ℕ) (p : Place) (r : Result Payload Error) (a : Place) → 0 < bodies
+    → ReadsByGrammar (u32_field p.offset (λ size width. body_of p.offset left size width)) p r a
+    → ReadsByGrammar (body_grammar bodies left p.offset) p r a
 body_there bodies left p r a l h = subst (λ (g : Grammar). ReadsByGrammar g p r a) (sym (a_body bodies left p.offset l)) h
 
 -- none is left
-pub no_body_left : (bodies left : ℕ) (p : Place) (e : Error) (a : Place) → bodies ≡ 0 → fault_at e ≡ at_offset TrailingCode p.offset → hint_of e ≡ None → ReadsByGrammar (body_grammar bodies left p.offset) p (Err e) a
+pub no_body_left : (bodies left : ℕ) (p : Place) (e : Error) (a : Place) → bodies ≡ 0 → fault_at e ≡ at_offset TrailingCode p.offset
+    → hint_of e ≡ None → ReadsByGrammar (body_grammar bodies left p.offset) p (Err e) a
 unfolding body_grammar
 no_body_left zero left p e a z f hint = λ s. report_stops s p (at_offset TrailingCode p.offset) e a f hint
 no_body_left (suc n) left p e a z f hint = absurd (omega arith)
 
 -- a size that is not read
-pub body_no_size : (bodies left : ℕ) (p : Place) (e : Error) (a : Place) → 0 < bodies → unsigned_at VarU32 p ≡ Err (fault_at e) → hint_of e ≡ hint_at 1 (fault_at e).fault → ReadsByGrammar (body_grammar bodies left p.offset) p (Err e) a
-body_no_size bodies left p e a l h hint = body_there bodies left p (Err e) a l (λ s. report_no_number s p (λ size width. body_of p.offset left size width) e a h hint)
+pub body_no_size : (bodies left : ℕ) (p : Place) (e : Error) (a : Place) → 0 < bodies → unsigned_at VarU32 p ≡ Err (fault_at e) → hint_of e
+    ≡ hint_at 1 (fault_at e).fault → ReadsByGrammar (body_grammar bodies left p.offset) p (Err e) a
+body_no_size bodies left p e a l h hint = body_there bodies left p (Err e) a l
+    (λ s. report_no_number s p (λ size width. body_of p.offset left size width) e a h hint)
 
 -- after a size, by whether the body passes its section
-body_sized : (bodies left : ℕ) (p q : Place) (size : ℕ) (past : Bool) (r : Result Payload Error) (a : Place) (m : ReadNumber p size q) → 0 < bodies → nat_lt left (q.offset - p.offset + size) ≡ past
-    → ((s : ℕ) → MatchesGrammar s (advanced m.used p) (check (when past (at_offset UnexpectedEof p.offset)) (bytes size (p.offset + m.used) (λ content. accept (Grammar.code_entry content)))) r a)
+body_sized : (bodies left : ℕ) (p q : Place) (size : ℕ) (past : Bool) (r : Result Payload Error) (a : Place) (m : ReadNumber p size q)
+    → 0 < bodies → nat_lt left (q.offset - p.offset + size) ≡ past
+    → ((s : ℕ) → MatchesGrammar s (advanced m.used p) (check (when past (at_offset UnexpectedEof p.offset))
+    (bytes size (p.offset + m.used) (λ content. accept (Grammar.code_entry content)))) r a)
     → ReadsByGrammar (body_grammar bodies left p.offset) p r a
 body_sized bodies left p q size past r a m l h next =
     let o : q.offset ≡ p.offset + m.used = ap (λ (x : Place). x.offset) m.after in
     let n : q.offset - p.offset + size ≡ m.used + size = omega arith in
     let w : nat_lt left (m.used + size) ≡ past = subst (λ (x : ℕ). nat_lt left x ≡ past) n h in
-    body_there bodies left p r a l (λ s. report_number s p p.offset (λ size width. body_of p.offset left size width) r a size m.used m.reads (rw w (next s)))
+    body_there bodies left p r a l (λ s. report_number s p p.offset (λ size width. body_of p.offset left size width) r a size m.used m.reads
+    (rw w (next s)))
 
 -- whether a body passes its section, by the same numbers
-pub past_same : {l left b q a p : ℕ} {found past : Bool} (size : ℕ) → l ≡ left → b ≡ q → a ≡ p → found ≡ nat_lt l (b - a + size) → found ≡ past → nat_lt left (q - p + size) ≡ past
+pub past_same : {l left b q a p : ℕ} {found past : Bool} (size : ℕ) → l ≡ left → b ≡ q → a ≡ p → found ≡ nat_lt l (b - a + size) → found
+    ≡ past → nat_lt left (q - p + size) ≡ past
 past_same size x y z e f = (λ i. nat_lt (sym x i) (sym y i - sym z i + size)) ∙ (sym e ∙ f)
 
 -- a body that passes its section
-pub body_past : (bodies left : ℕ) (p q : Place) (size : ℕ) (e : Error) (a : Place) → 0 < bodies → unsigned_at VarU32 p ≡ Ok (size, q) → nat_lt left (q.offset - p.offset + size) ≡ true
+pub body_past : (bodies left : ℕ) (p q : Place) (size : ℕ) (e : Error) (a : Place) → 0 < bodies → unsigned_at VarU32 p ≡ Ok (size, q)
+    → nat_lt left (q.offset - p.offset + size) ≡ true
     → fault_at e ≡ at_offset UnexpectedEof p.offset → hint_of e ≡ None → ReadsByGrammar (body_grammar bodies left p.offset) p (Err e) a
 body_past bodies left p q size e a l h past f hint =
     let m : ReadNumber p size q = read_number p size q h in
-    body_sized bodies left p q size true (Err e) a m l past (λ s. report_wrong s (advanced m.used p) (Some (at_offset UnexpectedEof p.offset)) _ e a (ap Some (sym f)) hint)
+    body_sized bodies left p q size true (Err e) a m l past (λ s.
+    report_wrong s (advanced m.used p) (Some (at_offset UnexpectedEof p.offset)) _ e a (ap Some (sym f)) hint)
 
 -- bytes that are missing of a body that lies in its section
-pub body_missing : (bodies left : ℕ) (p q : Place) (size : ℕ) (e : Error) (a : Place) → 0 < bodies → unsigned_at VarU32 p ≡ Ok (size, q) → nat_lt left (q.offset - p.offset + size) ≡ false
-    → content_at size q ≡ Err (fault_at e) → hint_of e ≡ hint_at (missing_at size q) (fault_at e).fault → ReadsByGrammar (body_grammar bodies left p.offset) p (Err e) a
+pub body_missing : (bodies left : ℕ) (p q : Place) (size : ℕ) (e : Error) (a : Place) → 0 < bodies → unsigned_at VarU32 p ≡ Ok (size, q)
+    → nat_lt left (q.offset - p.offset + size) ≡ false
+    → content_at size q ≡ Err (fault_at e) → hint_of e ≡ hint_at (missing_at size q) (fault_at e).fault
+    → ReadsByGrammar (body_grammar bodies left p.offset) p (Err e) a
 body_missing bodies left p q size e a l h past c hint =
     let m : ReadNumber p size q = read_number p size q h in
     let t = too_few size (advanced m.used p) (fault_at e) (subst (λ (x : Place). content_at size x ≡ Err (fault_at e)) m.after c) in
     body_sized bodies left p q size false (Err e) a m l past (λ s. report_right s (advanced m.used p) None _ (Err e) a refl (
-    report_missing s (advanced m.used p) size (p.offset + m.used) _ e a t.0 t.1 (subst (λ (x : Place). hint_of e ≡ hint_at (missing_at size x) (fault_at e).fault) m.after hint)))
+    report_missing s (advanced m.used p) size (p.offset + m.used) _ e a t.0 t.1
+    (subst (λ (x : Place). hint_of e ≡ hint_at (missing_at size x) (fault_at e).fault) m.after hint)))
 
 -- the bytes after its size, and where they end
-body_content : (p q : Place) (size : ℕ) (w : Window) (b : Place) (m : ReadNumber p size q) → content_at size q ≡ Ok (w, b) → HasContent size (advanced m.used p) w b
+body_content : (p q : Place) (size : ℕ) (w : Window) (b : Place) (m : ReadNumber p size q) → content_at size q ≡ Ok (w, b)
+    → HasContent size (advanced m.used p) w b
 body_content p q size w b m h = has_content size (advanced m.used p) w b (subst (λ (x : Place). content_at size x ≡ Ok (w, b)) m.after h)
 
 -- a body
-pub body_read : (bodies left : ℕ) (p q : Place) (size : ℕ) (w : Window) (b : Place) (payload : Payload) → 0 < bodies → unsigned_at VarU32 p ≡ Ok (size, q) → nat_lt left (q.offset - p.offset + size) ≡ false
+pub body_read : (bodies left : ℕ) (p q : Place) (size : ℕ) (w : Window) (b : Place) (payload : Payload) → 0 < bodies → unsigned_at VarU32 p
+    ≡ Ok (size, q) → nat_lt left (q.offset - p.offset + size) ≡ false
     → content_at size q ≡ Ok (w, b) → IsPayload (code_entry w) payload → ReadsByGrammar (body_grammar bodies left p.offset) p (Ok payload) b
 body_read bodies left p q size w b payload l h past k report =
     let m : ReadNumber p size q = read_number p size q h in
     let c : HasContent size (advanced m.used p) w b = body_content p q size w b m k in
     let n : length (take size (drop m.used p.rest)) ≡ size = length-take-le size (drop m.used p.rest) c.there in
     let from : p.offset + m.used ≡ p.offset + m.used + size - length (take size (drop m.used p.rest)) = omega arith in
-    let said : IsPayload (code_entry (window_over p.features (p.offset + m.used + size - length (take size (drop m.used p.rest))) (take size (drop m.used p.rest)))) payload =
-    (report.0 ∙ (ap code_entry c.window ∙ ap (λ (x : ℕ). code_entry (window_over p.features x (take size (drop m.used p.rest)))) from), report.1) in
+    let said : IsPayload (code_entry (window_over p.features (p.offset + m.used + size - length (take size (drop m.used p.rest)))
+    (take size (drop m.used p.rest)))) payload = (
+      report.0 ∙ (ap code_entry c.window ∙ ap (λ (x : ℕ). code_entry (window_over p.features x (take size (drop m.used p.rest)))) from),
+      report.1,
+    ) in
     body_sized bodies left p q size false (Ok payload) b m l past (λ s. report_right s (advanced m.used p) None _ (Ok payload) b refl (
     report_bytes s (advanced m.used p) size (p.offset + m.used) _ (Ok payload) b c.there (
     report_whole s (advanced size (advanced m.used p)) (Grammar.code_entry (take size (drop m.used p.rest))) payload b c.after said)))

@@ -1,16 +1,19 @@
 -- A code section that is begun ends below the top of the offsets.
-use Rattle.std.proofs.Common.{◌≡◌, ℕ, zero, suc, ◌+◌, ◌-◌, ◌^◌, ◌<◌, ◌≤◌, Bool, true, false, cond, List, [], ◌∷◌, ◌++◌, length, take, drop, Option, Some, None, nat_lt, nat_le, refl, sym, subst, arith, length-append, ltb-false, leb-true}
+use Rattle.std.proofs.Common.{◌≡◌, ℕ, zero, suc, ◌+◌, ◌-◌, ◌^◌, ◌<◌, ◌≤◌, Bool, true, false, cond, List, [], ◌∷◌, ◌++◌, length, take, drop}
+use Rattle.std.proofs.Common.{Option, Some, None, nat_lt, nat_le, refl, sym, subst, arith, length-append, ltb-false, leb-true}
 use Rattle.std.proofs.lemmas.List.{length-take-le}
 use Rattle.wasm_base.specs.FaultAt.{FaultAt}
 use Rattle.wasm_base.specs.Number.{Number, read, bad, short, number}
 use Rattle.wasm_base.specs.declared.fault.NumberKind.TheVariants.{VarU32}
 use Rattle.wasm_base.proofs.NumberLaws.{Used, number-used}
-use Rattle.wasm_parser.specs.Content.{Kind, code, kind_of, whole, Ending, when}
-use Rattle.wasm_parser.specs.Grammar.{Shape, version, section, code_start, code_entry, Tile, Verdict, tile, final, Grammar, accept, reject, check, u32_field, bytes, section_start, after, after_number, verdict, SectionContext, header_of, header_grammar, content_grammar, section_grammar, body_grammar}
+use Rattle.wasm_grammar.specs.Content.{Kind, code, kind_of, whole, Ending, when}
+use Rattle.wasm_grammar.specs.Grammar.{Shape, version, section, code_start, code_entry, Tile, Verdict, tile, final, Grammar, accept, reject}
+use Rattle.wasm_grammar.specs.Grammar.{check, u32_field, bytes, section_start, after, after_number, verdict, SectionContext, header_of}
+use Rattle.wasm_grammar.specs.Grammar.{header_grammar, content_grammar, section_grammar, body_grammar}
 use Rattle.wasm_parser.specs.ParserState.{ParserState, known_context, grammar_of}
-use Rattle.wasm_parser.specs.Tiling.{inside}
-use Rattle.wasm_parser.specs.declared.payload.Encoding.{Encoding}
-use Rattle.wasm_parser.proofs.GrammarLaws.{after-tile}
+use Rattle.wasm_grammar.specs.Tiling.{inside}
+use Rattle.wasm_grammar.specs.declared.encoding.Encoding.{Encoding}
+use Rattle.wasm_grammar.proofs.parts.Verdicts.{after-tile}
 
 -- The section that a tile begins and that goes on here ends below the top.
 abbrev pub Fits : (here : ℕ) → Shape → Type 0
@@ -28,13 +31,15 @@ AllFit here (u32_field o next) = (v k : ℕ) → AllFit (here + k) (next v k)
 AllFit here (bytes count o next) = (b : List ℕ) → AllFit (here + count) (next b)
 AllFit here (section_start o e next) = (id : ℕ) → AllFit (here + 1) (next id)
 
-fits_after : (here k : ℕ) (f : List ℕ) (v : Verdict) (t : Tile) → length f ≡ k → ((s : Tile) → v ≡ tile s → Fits (here + k + length s.bytes) s.shape) → after f v ≡ tile t → Fits (here + length t.bytes) t.shape
+fits_after : (here k : ℕ) (f : List ℕ) (v : Verdict) (t : Tile) → length f ≡ k
+    → ((s : Tile) → v ≡ tile s → Fits (here + k + length s.bytes) s.shape) → after f v ≡ tile t → Fits (here + length t.bytes) t.shape
 fits_after here k f v t l h e =
     let (s, r, q) = after-tile f v t e in
     let n : here + k + length s.bytes ≡ here + length (f ++ s.bytes) = omega (arith, l, length-append f s.bytes) in
     subst (λ (x : Tile). Fits (here + length x.bytes) x.shape) (sym q) (subst (λ (x : ℕ). Fits x s.shape) n (h s r))
 
-fits_number : (here o : ℕ) (xs : List ℕ) (next : ℕ → ℕ → Verdict) (t : Tile) → ((v k : ℕ) (s : Tile) → next v k ≡ tile s → Fits (here + k + length s.bytes) s.shape)
+fits_number : (here o : ℕ) (xs : List ℕ) (next : ℕ → ℕ → Verdict) (t : Tile)
+    → ((v k : ℕ) (s : Tile) → next v k ≡ tile s → Fits (here + k + length s.bytes) s.shape)
     → (n : Number) → number VarU32 xs ≡ n → after_number o xs n next ≡ tile t → Fits (here + length t.bytes) t.shape
 fits_number here o xs next t h (read v k) e w =
     let u : Used VarU32 xs v k = number-used VarU32 xs v k e in
@@ -42,7 +47,8 @@ fits_number here o xs next t h (read v k) e w =
 fits_number here o xs next t h (bad f p) e w = cc
 fits_number here o xs next t h short e w = cc
 
-fits_bytes : (here count : ℕ) (xs : List ℕ) (v : Verdict) (e : Ending) (t : Tile) → ((s : Tile) → v ≡ tile s → Fits (here + count + length s.bytes) s.shape)
+fits_bytes : (here count : ℕ) (xs : List ℕ) (v : Verdict) (e : Ending) (t : Tile)
+    → ((s : Tile) → v ≡ tile s → Fits (here + count + length s.bytes) s.shape)
     → (b : Bool) → nat_le count (length xs) ≡ b → cond b (after (take count xs) v) (final e) ≡ tile t → Fits (here + length t.bytes) t.shape
 fits_bytes here count xs v e t h true l w = fits_after here count (take count xs) v t (length-take-le count xs (leb-true _ _ l)) h w
 fits_bytes here count xs v e t h false l w = cc
@@ -52,7 +58,8 @@ fits_start : (here id : ℕ) (v : Verdict) (e : Ending) (t : Tile) → ((s : Til
 fits_start here id v e t h true w = cc
 fits_start here id v e t h false w = fits_after here 1 (id ∷ []) v t refl h w
 
-fits_here : (here : ℕ) (s : Shape) (t : Tile) → Fits here s → tile (record { shape = s; bytes = [] }) ≡ tile t → Fits (here + length t.bytes) t.shape
+fits_here : (here : ℕ) (s : Shape) (t : Tile) → Fits here s → tile (record { shape = s; bytes = [] }) ≡ tile t
+    → Fits (here + length t.bytes) t.shape
 fits_here here s t h e =
     let z : record { shape = s; bytes = [] } ≡ t = cc in
     let n : here ≡ here + 0 = omega arith in
@@ -64,10 +71,13 @@ all_fit here (accept s) h xs t e = fits_here here s t h e
 all_fit here (reject x) h xs t e = cc
 all_fit here (check (Some x) next) h xs t e = cc
 all_fit here (check None next) h xs t e = all_fit here next (h refl) xs t e
-all_fit here (u32_field o next) h xs t e = fits_number here o xs (λ v k. verdict (next v k) (drop k xs)) t (λ v k s. all_fit (here + k) (next v k) (h v k) (drop k xs) s) (number VarU32 xs) refl e
-all_fit here (bytes count o next) h xs t e = fits_bytes here count xs (verdict (next (take count xs)) (drop count xs)) _ t (λ s. all_fit (here + count) (next (take count xs)) (h (take count xs)) (drop count xs) s) (nat_le count (length xs)) refl e
+all_fit here (u32_field o next) h xs t e = fits_number here o xs (λ v k. verdict (next v k) (drop k xs)) t
+    (λ v k s. all_fit (here + k) (next v k) (h v k) (drop k xs) s) (number VarU32 xs) refl e
+all_fit here (bytes count o next) h xs t e = fits_bytes here count xs (verdict (next (take count xs)) (drop count xs)) _ t
+    (λ s. all_fit (here + count) (next (take count xs)) (h (take count xs)) (drop count xs) s) (nat_le count (length xs)) refl e
 all_fit here (section_start o x next) h [] t e = cc
-all_fit here (section_start o x next) h (id ∷ xs) t e = fits_start here id (verdict (next id) xs) _ t (λ s. all_fit (here + 1) (next id) (h id) xs s) _ e
+all_fit here (section_start o x next) h (id ∷ xs) t e = fits_start here id (verdict (next id) xs) _ t
+    (λ s. all_fit (here + 1) (next id) (h id) xs s) _ e
 
 no_fault : (b : Bool) (f : FaultAt) → when b f ≡ None → b ≡ false
 no_fault true f e = cc
@@ -81,7 +91,8 @@ content_fits p code id o n l = λ v k x y.
 
 section_fits : (p : SectionContext) (o : ℕ) → AllFit o (section_grammar p o)
 unfolding section_grammar
-section_fits p o = λ id x n k y z. content_fits p (kind_of p.encoding id) id (o + 1 + k) n (ltb-false (2 ^ 64 - 1) (o + 1 + k + n) (no_fault (nat_lt (2 ^ 64 - 1) (o + 1 + k + n)) _ y))
+section_fits p o = λ id x n k y z. content_fits p (kind_of p.encoding id) id (o + 1 + k) n
+    (ltb-false (2 ^ 64 - 1) (o + 1 + k + n) (no_fault (nat_lt (2 ^ 64 - 1) (o + 1 + k + n)) _ y))
 
 header_of_fits : (here o bits : ℕ) (e : Option Encoding) → AllFit here (header_of o bits e)
 header_of_fits here o bits (Some encoding) = tt
@@ -100,7 +111,8 @@ inside_fits : (b : Bool) (p : SectionContext) (m l o : ℕ) → AllFit o (cond b
 inside_fits true p m l o = section_fits p o
 inside_fits false p m l o = body_fits m l o
 
-parser_fits : (h : Bool) (p : ParserState) → AllFit p.offset (cond h (header_grammar p.offset) (inside (known_context p) p.bodies p.left p.offset))
+parser_fits : (h : Bool) (p : ParserState) → AllFit p.offset (cond h (header_grammar p.offset)
+    (inside (known_context p) p.bodies p.left p.offset))
 parser_fits true p = header_fits p.offset
 parser_fits false p = inside_fits _ (known_context p) p.bodies p.left p.offset
 

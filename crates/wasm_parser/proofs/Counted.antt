@@ -1,5 +1,6 @@
 -- Contents that are one number, or begin with a count.
-use Rattle.std.proofs.Common.{◌≡◌, ℕ, ◌+◌, ◌<◌, Bool, true, false, List, length, take, drop, Option, Some, None, IfSome, Result, Ok, Err, nat_lt, nat_eq, refl, sym, ap, subst, ◌∙◌, arith, add-zero, lt-ltb, le-ltb, length-drop}
+use Rattle.std.proofs.Common.{◌≡◌, ℕ, ◌+◌, ◌<◌, Bool, true, false, List, length, take, drop, Option, Some, None, IfSome, Result, Ok, Err}
+use Rattle.std.proofs.Common.{nat_lt, nat_eq, refl, sym, ap, subst, ◌∙◌, arith, add-zero, lt-ltb, le-ltb, length-drop}
 use Rattle.std.proofs.lemmas.Bool.Decides.{nat_tests}
 use Rattle.std.proofs.lemmas.List.{length-take-le}
 use Rattle.wasm_base.specs.FaultAt.{FaultAt, fault_at, hint_of, at_offset}
@@ -11,13 +12,18 @@ use Rattle.wasm_base.specs.declared.fault.Fault.{Fault}
 use Rattle.wasm_base.specs.declared.fault.Fault.TheVariants.{UnexpectedEof, StartContent, DataCountContent, DataCountDiffer}
 use Rattle.wasm_base.specs.declared.fault.NumberKind.TheVariants.{VarU32}
 use Rattle.wasm_parser.specs.ParseAnswer.{unread, counted_by, report_of, BeginsAfterCount, items_in, ItemsBegin, IsPayload, ReadsByGrammar}
-use Rattle.wasm_parser.specs.Content.{items, index, data_count, wrong_number, wrong_single, when, wrong_content, value_of, count_of, Form}
+use Rattle.wasm_grammar.specs.Content.{items, index, data_count, wrong_number, wrong_single, when, wrong_content, value_of, count_of, Form}
 use Rattle.wasm_parser.specs.ReadsPart.{content_at, ReadsSingleNumber, IsCounted, IsCountedAs, ReadsCounted, is_miscounted_by}
-use Rattle.wasm_parser.specs.Grammar.{SectionContext, whole_grammar, wrong_data}
-use Rattle.wasm_parser.specs.Reading.{Report, counted, start_section, data_count_section, section_report}
+use Rattle.wasm_grammar.specs.Grammar.{SectionContext, whole_grammar, wrong_data}
+use Rattle.wasm_grammar.specs.Reading.{Report, counted, start_section, data_count_section, section_report}
 use Rattle.wasm_parser.specs.declared.payload.Payload.{Payload}
-use Rattle.wasm_parser.specs.declared.payload.Payload.TheVariants.{Version, TypeSection, ImportSection, FunctionSection, TableSection, MemorySection, TagSection, GlobalSection, ExportSection, StartSection, ElementSection, DataCountSection, DataSection, CodeSectionStart, CodeSectionEntry, CustomSection, UnknownSection, End}
+use Rattle.wasm_parser.specs.declared.payload.Payload.TheVariants.{Version, TypeSection, ImportSection, FunctionSection, TableSection}
+use Rattle.wasm_parser.specs.declared.payload.Payload.TheVariants.{MemorySection, TagSection, GlobalSection, ExportSection, StartSection}
+use Rattle.wasm_parser.specs.declared.payload.Payload.TheVariants.{ElementSection, DataCountSection, DataSection, CodeSectionStart}
+use Rattle.wasm_parser.specs.declared.payload.Payload.TheVariants.{CodeSectionEntry, CustomSection, UnknownSection, End}
 use Rattle.wasm_parser.proofs.Framed.{HasContent, has_content, whole_good, whole_bad, whole_miscounted}
+use Rattle.wasm_grammar.specs.Ids.{data_id, element_id, export_id, function_id, global_id, import_id, memory_id}
+use Rattle.wasm_grammar.specs.Ids.{table_id, tag_id, type_id}
 
 -- ---- numbers
 
@@ -30,7 +36,8 @@ number_refused p f (read v k) h = cc
 number_refused p f (bad g i) h = ap Some (refused_as (at_offset g (p.offset + i)) f h)
 number_refused p f short h = ap Some (refused_as (at_offset UnexpectedEof (p.offset + length p.rest)) f h)
 
-number_good : (p : Place) (v : ℕ) (q : Place) (n : Number) → in_window p n ≡ Ok (v, q) → (wrong_number p.offset p.rest n ≡ None) × (value_of n ≡ v)
+number_good : (p : Place) (v : ℕ) (q : Place) (n : Number) → in_window p n ≡ Ok (v, q) → (wrong_number p.offset p.rest n ≡ None)
+    × (value_of n ≡ v)
 number_good p v q (read w k) h =
     let z : (w, advanced k p) ≡ (v, q) = cc in
     (refl, ap (λ (x : ℕ × Place). x.0) z)
@@ -42,7 +49,8 @@ single_unread left p f (read v k) h = cc
 single_unread left p f (bad g i) h = ap Some (refused_as (at_offset g (p.offset + i)) f h)
 single_unread left p f short h = ap Some (refused_as (at_offset UnexpectedEof (p.offset + length p.rest)) f h)
 
-single_good : (left : Fault) (p : Place) (v : ℕ) (q : Place) (n : Number) → in_window p n ≡ Ok (v, q) → length q.rest ≡ 0 → (wrong_single left p.offset p.rest n ≡ None) × (value_of n ≡ v)
+single_good : (left : Fault) (p : Place) (v : ℕ) (q : Place) (n : Number) → in_window p n ≡ Ok (v, q) → length q.rest ≡ 0
+    → (wrong_single left p.offset p.rest n ≡ None) × (value_of n ≡ v)
 single_good left p v q (read w k) h l =
     let a : ℕ × Place = (w, advanced k p) in
     let z : a ≡ (v, q) = cc in
@@ -52,7 +60,8 @@ single_good left p v q (read w k) h l =
 single_good left p v q (bad f i) h l = cc
 single_good left p v q short h l = cc
 
-single_more : (left : Fault) (p : Place) (v : ℕ) (q : Place) (f : FaultAt) (n : Number) → in_window p n ≡ Ok (v, q) → 0 < length q.rest → f ≡ at_offset left q.offset → wrong_single left p.offset p.rest n ≡ Some f
+single_more : (left : Fault) (p : Place) (v : ℕ) (q : Place) (f : FaultAt) (n : Number) → in_window p n ≡ Ok (v, q) → 0 < length q.rest → f
+    ≡ at_offset left q.offset → wrong_single left p.offset p.rest n ≡ Some f
 single_more left p v q f (read w k) h l e =
     let a : ℕ × Place = (w, advanced k p) in
     let z : a ≡ (v, q) = cc in
@@ -65,18 +74,21 @@ single_more left p v q f short h l e = cc
 
 -- ---- what a call that wants one number answers
 
-pub single_refused : (left : Fault) (p : Place) (f : FaultAt) → unsigned_at VarU32 p ≡ Err f → wrong_single left p.offset p.rest (number VarU32 p.rest) ≡ Some f
+pub single_refused : (left : Fault) (p : Place) (f : FaultAt) → unsigned_at VarU32 p ≡ Err f
+    → wrong_single left p.offset p.rest (number VarU32 p.rest) ≡ Some f
 unfolding unsigned_at
 single_refused left p f h = single_unread left p f (number VarU32 p.rest) h
 
 not_zero : (n : ℕ) → false ≡ nat_eq n 0 → 0 < n
 not_zero n e = grind (arith, nat_tests)
 
-pub single_left : (left : Fault) (p : Place) (v : ℕ) (q : Place) (e : Error) → unsigned_at VarU32 p ≡ Ok (v, q) → false ≡ nat_eq (length q.rest) 0 → fault_at e ≡ at_offset left q.offset → ReadsSingleNumber left p (Err e)
+pub single_left : (left : Fault) (p : Place) (v : ℕ) (q : Place) (e : Error) → unsigned_at VarU32 p ≡ Ok (v, q) → false
+    ≡ nat_eq (length q.rest) 0 → fault_at e ≡ at_offset left q.offset → ReadsSingleNumber left p (Err e)
 unfolding unsigned_at
 single_left left p v q e h l f = single_more left p v q (fault_at e) (number VarU32 p.rest) h (not_zero (length q.rest) l) f
 
-pub single_read : (left : Fault) (p : Place) (v : ℕ) (q : Place) → unsigned_at VarU32 p ≡ Ok (v, q) → length q.rest ≡ 0 → ReadsSingleNumber left p (Ok v)
+pub single_read : (left : Fault) (p : Place) (v : ℕ) (q : Place) → unsigned_at VarU32 p ≡ Ok (v, q) → length q.rest ≡ 0
+    → ReadsSingleNumber left p (Ok v)
 unfolding unsigned_at
 single_read left p v q h l = single_good left p v q (number VarU32 p.rest) h l
 
@@ -89,16 +101,19 @@ content_place size p = record { features = p.features; offset = p.offset; rest =
 at_content : (size : ℕ) (p : Place) (w : Window) → w ≡ window_over p.features p.offset (take size p.rest) → place w ≡ content_place size p
 at_content size p w e =
     let o : p.offset + 0 ≡ p.offset = add-zero p.offset in
-    let z : place (window_over p.features p.offset (take size p.rest)) ≡ content_place size p = λ i. record { features = p.features; offset = o i; rest = take size p.rest } in
+    let z : place (window_over p.features p.offset (take size p.rest))
+    ≡ content_place size p = λ i. record { features = p.features; offset = o i; rest = take size p.rest } in
     ap place e ∙ z
 
 -- a number that was read of the whole window
-count_read : (size : ℕ) (p : Place) (w : Window) (q : Place) (v : ℕ) (after : Place) → content_at size p ≡ Ok (w, q) → unsigned_at VarU32 (place w) ≡ Ok (v, after)
+count_read : (size : ℕ) (p : Place) (w : Window) (q : Place) (v : ℕ) (after : Place) → content_at size p ≡ Ok (w, q)
+    → unsigned_at VarU32 (place w) ≡ Ok (v, after)
     → (wrong_content items p.offset (take size p.rest) ≡ None) × (count_of (take size p.rest) ≡ v)
 unfolding unsigned_at wrong_content
 count_read size p w q v after h n =
     let k : HasContent size p w q = has_content size p w q h in
-    number_good (content_place size p) v after (number VarU32 (take size p.rest)) (subst (λ (x : Place). in_window x (number VarU32 x.rest) ≡ Ok (v, after)) (at_content size p w k.window) n)
+    number_good (content_place size p) v after (number VarU32 (take size p.rest))
+    (subst (λ (x : Place). in_window x (number VarU32 x.rest) ≡ Ok (v, after)) (at_content size p w k.window) n)
 
 -- what is reported of a section with this id that was made of the window
 report_counted : (id size : ℕ) (p : Place) (w : Window) (q : Place) (s : Section) → content_at size p ≡ Ok (w, q) → IsCounted w s
@@ -121,16 +136,16 @@ same_items id s x e =
 
 -- what a payload reports that holds this section
 given_reports : (payload : Payload) (x : ℕ × Section) → items_in payload ≡ Some x → report_of payload ≡ counted_by x.0 x.1
-given_reports (TypeSection s) x e = same_items 1 s x e
-given_reports (ImportSection s) x e = same_items 2 s x e
-given_reports (FunctionSection s) x e = same_items 3 s x e
-given_reports (TableSection s) x e = same_items 4 s x e
-given_reports (MemorySection s) x e = same_items 5 s x e
-given_reports (TagSection s) x e = same_items 13 s x e
-given_reports (GlobalSection s) x e = same_items 6 s x e
-given_reports (ExportSection s) x e = same_items 7 s x e
-given_reports (ElementSection s) x e = same_items 9 s x e
-given_reports (DataSection s) x e = same_items 11 s x e
+given_reports (TypeSection s) x e = same_items type_id s x e
+given_reports (ImportSection s) x e = same_items import_id s x e
+given_reports (FunctionSection s) x e = same_items function_id s x e
+given_reports (TableSection s) x e = same_items table_id s x e
+given_reports (MemorySection s) x e = same_items memory_id s x e
+given_reports (TagSection s) x e = same_items tag_id s x e
+given_reports (GlobalSection s) x e = same_items global_id s x e
+given_reports (ExportSection s) x e = same_items export_id s x e
+given_reports (ElementSection s) x e = same_items element_id s x e
+given_reports (DataSection s) x e = same_items data_id s x e
 given_reports (Version num encoding range) x e = cc
 given_reports (StartSection func range) x e = cc
 given_reports (DataCountSection count range) x e = cc
@@ -147,7 +162,8 @@ pub record HoldsItems (id : ℕ) (w : Window) (payload : Payload) : Type 0 where
   pub report : report_of payload ≡ counted_by id s
   pub begins : BeginsAfterCount s → ItemsBegin payload
 
-holds_at : (id : ℕ) (w : Window) (payload : Payload) (o : Option (ℕ × Section)) → items_in payload ≡ o → IsCountedAs id w o → HoldsItems id w payload
+holds_at : (id : ℕ) (w : Window) (payload : Payload) (o : Option (ℕ × Section)) → items_in payload ≡ o → IsCountedAs id w o
+    → HoldsItems id w payload
 holds_at id w payload None e c = absurd c
 holds_at id w payload (Some x) e c = record {
   s = x.1;
@@ -160,24 +176,30 @@ holds_items : (id : ℕ) (w : Window) (payload : Payload) → ReadsCounted id w 
 holds_items id w payload c = holds_at id w payload (items_in payload) refl c
 
 -- the data that was announced
-data_wrong : (context : SectionContext) (id end : ℕ) (content : List ℕ) (s : Section) (report : Report) (b : Bool) → report ≡ counted_by id s → count_of content ≡ s.count → b ≡ is_miscounted_by context.data_counts report
+data_wrong : (context : SectionContext) (id end : ℕ) (content : List ℕ) (s : Section) (report : Report) (b : Bool) → report
+    ≡ counted_by id s → count_of content ≡ s.count → b ≡ is_miscounted_by context.data_counts report
     → wrong_data context items id end content ≡ when b (at_offset DataCountDiffer end)
 data_wrong context id end content s report b t c m =
     let x : b ≡ is_miscounted_by context.data_counts (counted_by id s) = m ∙ ap (is_miscounted_by context.data_counts) t in
     rw (x, c) refl
 
 -- a section of items whose count was read
-pub items_read : (context : SectionContext) (id size : ℕ) (p : Place) (w : Window) (q : Place) (payload : Payload) → content_at size p ≡ Ok (w, q) → ReadsCounted id w (Ok payload) → false ≡ is_miscounted_by context.data_counts (report_of payload)
+pub items_read : (context : SectionContext) (id size : ℕ) (p : Place) (w : Window) (q : Place) (payload : Payload) → content_at size p
+    ≡ Ok (w, q) → ReadsCounted id w (Ok payload) → false ≡ is_miscounted_by context.data_counts (report_of payload)
     → ReadsByGrammar (whole_grammar context items id p.offset size) p (Ok payload) q
 items_read context id size p w q payload h n m =
     let i : HoldsItems id w payload = holds_items id w payload n in
     let g = count_read size p w q i.s.count (place i.s.reader) h i.counted.gives in
     let t = report_counted id size p w q i.s h i.counted in
-    whole_good context items id size p w q payload h g.0 (data_wrong context id (p.offset + size) (take size p.rest) i.s (report_of payload) false i.report g.1 m) (i.report ∙ t.0, i.begins t.1)
+    whole_good context items id size p w q payload h g.0 (data_wrong context id (p.offset + size) (take size p.rest) i.s (report_of payload)
+    false i.report g.1 m) (i.report ∙ t.0, i.begins t.1)
 
 -- one whose count is not the one that was announced
-pub items_miscounted : (context : SectionContext) (id size : ℕ) (p : Place) (w : Window) (q : Place) (payload : Payload) (e : Error) (a : Place) → content_at size p ≡ Ok (w, q) → ReadsCounted id w (Ok payload) → true ≡ is_miscounted_by context.data_counts (report_of payload)
-    → fault_at e ≡ at_offset DataCountDiffer q.offset → hint_of e ≡ None → ReadsByGrammar (whole_grammar context items id p.offset size) p (Err e) a
+pub items_miscounted : (context : SectionContext) (id size : ℕ) (p : Place) (w : Window) (q : Place) (payload : Payload) (e : Error)
+    (a : Place) → content_at size p ≡ Ok (w, q) → ReadsCounted id w (Ok payload) → true
+    ≡ is_miscounted_by context.data_counts (report_of payload)
+    → fault_at e ≡ at_offset DataCountDiffer q.offset → hint_of e ≡ None
+    → ReadsByGrammar (whole_grammar context items id p.offset size) p (Err e) a
 items_miscounted context id size p w q payload e a h n m f hint =
     let i : HoldsItems id w payload = holds_items id w payload n in
     let k : HasContent size p w q = has_content size p w q h in
@@ -187,41 +209,62 @@ items_miscounted context id size p w q payload e a h n m f hint =
     whole_miscounted context items id size p w q e a h g.0 (d ∙ ap Some (sym (f ∙ ap (at_offset DataCountDiffer) o))) hint
 
 -- one whose count was refused
-pub items_refused : (context : SectionContext) (id size : ℕ) (p : Place) (w : Window) (q : Place) (e : Error) (a : Place) → content_at size p ≡ Ok (w, q) → unsigned_at VarU32 (place w) ≡ Err (fault_at e)
+pub items_refused : (context : SectionContext) (id size : ℕ) (p : Place) (w : Window) (q : Place) (e : Error) (a : Place)
+    → content_at size p ≡ Ok (w, q) → unsigned_at VarU32 (place w) ≡ Err (fault_at e)
     → hint_of e ≡ None → ReadsByGrammar (whole_grammar context items id p.offset size) p (Err e) a
 unfolding unsigned_at wrong_content
 items_refused context id size p w q e a h n hint =
     let k : HasContent size p w q = has_content size p w q h in
     let at : place w ≡ content_place size p = at_content size p w k.window in
-    whole_bad context items id size p w q e a h (number_refused (content_place size p) (fault_at e) (number VarU32 (take size p.rest)) (subst (λ (x : Place). in_window x (number VarU32 x.rest) ≡ Err (fault_at e)) at n)) hint
+    whole_bad context items id size p w q e a h (number_refused (content_place size p) (fault_at e) (number VarU32 (take size p.rest))
+    (subst (λ (x : Place). in_window x (number VarU32 x.rest) ≡ Err (fault_at e)) at n)) hint
 
 -- a form whose content is one number: what is wrong with it, and what is reported of it
 pub record IsSingle (left : Fault) (form : Form) (says : (value from to : ℕ) → Report) : Type 0 where
   pub wrong : (offset : ℕ) (content : List ℕ) → wrong_content form offset content ≡ wrong_single left offset content (number VarU32 content)
   pub counts : (context : SectionContext) (id offset : ℕ) (content : List ℕ) → wrong_data context form id offset content ≡ None
-  pub report : (features from to id : ℕ) (content : List ℕ) → section_report features from to form id content ≡ says (count_of content) from to
+  pub report : (features from to id : ℕ) (content : List ℕ) → section_report features from to form id content
+      ≡ says (count_of content) from to
 
 pub start_single : IsSingle StartContent index start_section
 unfolding wrong_content
-start_single = record { wrong = λ offset content. refl; counts = λ context id offset content. refl; report = λ features from to id content. refl }
+start_single = record {
+  wrong = λ offset content. refl;
+  counts = λ context id offset content. refl;
+  report = λ features from to id content. refl;
+}
 
 pub data_count_single : IsSingle DataCountContent data_count data_count_section
 unfolding wrong_content
-data_count_single = record { wrong = λ offset content. refl; counts = λ context id offset content. refl; report = λ features from to id content. refl }
+data_count_single = record {
+  wrong = λ offset content. refl;
+  counts = λ context id offset content. refl;
+  report = λ features from to id content. refl;
+}
 
 module _ (left : Fault) (form : Form) (says : (value from to : ℕ) → Report) (f : IsSingle left form says) where
-  pub single_section : (context : SectionContext) (id size : ℕ) (p : Place) (w : Window) (q : Place) (v : ℕ) (payload : Payload) → content_at size p ≡ Ok (w, q) → ReadsSingleNumber left (place w) (Ok v)
-      → IsPayload (says v w.start (w.start + length w.bytes)) payload → ReadsByGrammar (whole_grammar context form id p.offset size) p (Ok payload) q
+  pub single_section : (context : SectionContext) (id size : ℕ) (p : Place) (w : Window) (q : Place) (v : ℕ) (payload : Payload)
+      → content_at size p ≡ Ok (w, q) → ReadsSingleNumber left (place w) (Ok v)
+      → IsPayload (says v w.start (w.start + length w.bytes)) payload
+      → ReadsByGrammar (whole_grammar context form id p.offset size) p (Ok payload) q
   single_section context id size p w q v payload h n report =
       let k : HasContent size p w q = has_content size p w q h in
       let l : length (take size p.rest) ≡ size = length-take-le size p.rest k.there in
-      let g : ReadsSingleNumber left (content_place size p) (Ok v) = subst (λ (x : Place). ReadsSingleNumber left x (Ok v)) (at_content size p w k.window) n in
-      let at_w : IsPayload (says v p.offset (p.offset + length (take size p.rest))) payload = subst (λ (x : Window). IsPayload (says v x.start (x.start + length x.bytes)) payload) k.window report in
-      whole_good context form id size p w q payload h (f.wrong p.offset (take size p.rest) ∙ g.0) (f.counts context id (p.offset + size) (take size p.rest))
-      (at_w.0 ∙ ((λ i. says (sym g.1 i) p.offset (p.offset + l i)) ∙ sym (f.report p.features p.offset (p.offset + size) id (take size p.rest))), at_w.1)
+      let g : ReadsSingleNumber left (content_place size p) (Ok v) =
+      subst (λ (x : Place). ReadsSingleNumber left x (Ok v)) (at_content size p w k.window) n in
+      let at_w : IsPayload (says v p.offset (p.offset + length (take size p.rest))) payload =
+      subst (λ (x : Window). IsPayload (says v x.start (x.start + length x.bytes)) payload) k.window report in
+      whole_good context form id size p w q payload h (f.wrong p.offset (take size p.rest) ∙ g.0)
+      (f.counts context id (p.offset + size) (take size p.rest)) (
+        at_w.0 ∙ ((λ i. says (sym g.1 i) p.offset (p.offset + l i))
+            ∙ sym (f.report p.features p.offset (p.offset + size) id (take size p.rest))),
+        at_w.1,
+      )
 
-  pub single_section_refused : (context : SectionContext) (id size : ℕ) (p : Place) (w : Window) (q : Place) (e : Error) (a : Place) → content_at size p ≡ Ok (w, q) → ReadsSingleNumber left (place w) (Err e)
+  pub single_section_refused : (context : SectionContext) (id size : ℕ) (p : Place) (w : Window) (q : Place) (e : Error) (a : Place)
+      → content_at size p ≡ Ok (w, q) → ReadsSingleNumber left (place w) (Err e)
       → hint_of e ≡ None → ReadsByGrammar (whole_grammar context form id p.offset size) p (Err e) a
   single_section_refused context id size p w q e a h n hint =
       let k : HasContent size p w q = has_content size p w q h in
-      whole_bad context form id size p w q e a h (f.wrong p.offset (take size p.rest) ∙ subst (λ (x : Place). ReadsSingleNumber left x (Err e)) (at_content size p w k.window) n) hint
+      whole_bad context form id size p w q e a h (f.wrong p.offset (take size p.rest)
+      ∙ subst (λ (x : Place). ReadsSingleNumber left x (Err e)) (at_content size p w k.window) n) hint

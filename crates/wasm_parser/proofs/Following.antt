@@ -1,131 +1,49 @@
 -- What a call of a parser says of the reading of a stream.
-use Rattle.std.proofs.Common.{◌≡◌, ℕ, ◌+◌, ◌<◌, ◌≤◌, Bool, true, false, cond, nat_eq, List, [], ◌∷◌, ◌++◌, length, take, Result, Ok, Err, refl, sym, ap, subst, subst₂, ◌∙◌, arith, length-append, append_assoc, append-nil, inl, inr}
+use Rattle.std.proofs.Common.{◌≡◌, ℕ, ◌+◌, ◌<◌, ◌≤◌, Bool, true, false, cond, nat_eq, List, [], ◌∷◌, ◌++◌, length, take, Result, Ok, Err}
+use Rattle.std.proofs.Common.{refl, sym, ap, subst, subst₂, ◌∙◌, arith, length-append, append-nil, inl, inr}
 use Rattle.std.proofs.lemmas.Bool.{eqb-true}
-use Rattle.std.proofs.lemmas.List.{append_cancel_left, take_at}
+use Rattle.std.proofs.lemmas.List.{take_at}
 use Rattle.std.specs.Prelude.{◌⊎◌}
 use Rattle.wasm_base.specs.declared.error.Error.{Error}
 use Rattle.wasm_base.specs.FaultAt.{FaultAt}
-use Rattle.wasm_parser.specs.ParseAnswer.{IsPayload, Answers, AsksFor, AnswersOn, ParseAnswer}
-use Rattle.wasm_parser.specs.Content.{Ending, fault, ended}
-use Rattle.wasm_parser.specs.Grammar.{Tile, Verdict, tile, final, Grammar, verdict, header_grammar, section_grammar, body_grammar}
-use Rattle.wasm_parser.specs.Reading.{Event, stream_end, tile_report, event_of, events_of, last_event, Reads, Reading}
-use Rattle.wasm_parser.specs.EventRanges.{consumed_by}
+use Rattle.wasm_parser.specs.ParseAnswer.{IsPayload, ParseAnswer}
+use Rattle.wasm_parser.proofs.AnswerTables.{Answers, AsksFor, AnswersOn, as_table}
+use Rattle.wasm_grammar.specs.Content.{Ending, fault, ended}
+use Rattle.wasm_grammar.specs.Grammar.{Tile, Verdict, tile, final, Grammar, verdict, header_grammar, section_grammar, body_grammar}
+use Rattle.wasm_grammar.specs.Reading.{Event, stream_end, tile_report, event_of, last_event, Reading}
+use Rattle.wasm_grammar.specs.EventRanges.{consumed_by}
 use Rattle.wasm_parser.specs.ParserState.{ParserState, IsStateAfter, known_context, grammar_of, ended_state}
-use Rattle.wasm_parser.specs.Laws.{SomeNextEvent}
-use Rattle.wasm_parser.specs.GivesNextEvent.{NextEvent, MayBe, GivesEvent, GivesNextEvent}
-use Rattle.wasm_parser.specs.Tiling.{bytes_of, grammar, Faultless}
-use Rattle.wasm_parser.specs.Waiting.{Waiting, enough, wants, waiting}
+use Rattle.wasm_parser.specs.ParserLaws.{SomeNextEvent}
+use Rattle.wasm_grammar.specs.NextEvent.{NextEvent}
+use Rattle.wasm_parser.specs.GivesNextEvent.{MayBe, GivesEvent, GivesNextEvent}
+use Rattle.wasm_grammar.specs.Tiling.{bytes_of, grammar}
+use Rattle.wasm_grammar.specs.Waiting.{Waiting, enough, wants, waiting}
 use Rattle.wasm_parser.specs.declared.payload.Chunk.{Chunk}
 use Rattle.wasm_parser.specs.declared.payload.Chunk.TheVariants.{NeedMoreData, Parsed}
-use Rattle.wasm_parser.proofs.Ends.{tiles_consume}
-use Rattle.wasm_parser.proofs.Endings.{header_end, inside_end}
-use Rattle.wasm_parser.proofs.GrammarLaws.{verdict-more}
-use Rattle.wasm_parser.proofs.Longest.{longest}
-use Rattle.wasm_parser.proofs.ReadingLaws.{Grown, grows, reads_same}
+use Rattle.wasm_grammar.proofs.readings.Endings.{header_end, inside_end}
+use Rattle.wasm_grammar.proofs.parts.Verdicts.{verdict-more}
+use Rattle.wasm_grammar.proofs.readings.Readings.{Grown, grows}
 use Rattle.wasm_parser.proofs.StateLaws.{grammar_same, state_goes_on}
-use Rattle.wasm_parser.proofs.TileLaws.{tile_least}
-
--- ---- events by what they consumed
-
--- Each of these events consumed some bytes.
-abbrev pub EachConsumes : List Event → Type 0
-EachConsumes [] = Unit {0}
-EachConsumes (e ∷ events) = (0 < length e.consumed) × EachConsumes events
-
-each_more : (xs : List Event) (e : Event) → EachConsumes xs → 0 < length e.consumed → EachConsumes (xs ++ e ∷ [])
-each_more [] e h l = (l, tt)
-each_more (x ∷ xs) e h l = (h.0, each_more xs e h.1 l)
-
-pub tiles_each : (start features : ℕ) (ts : List Tile) → Faultless start ts → EachConsumes (events_of start features ts)
-tiles_each start features [] f = tt
-tiles_each start features (t ∷ ts) f = each_more (events_of start features ts) (event_of features (start + length (bytes_of ts)) t) (tiles_each start features ts f.0) (tile_least start ts t.bytes t f.1)
-
-same_head : (x y : Event) (xs ys : List Event) → x ∷ xs ≡ y ∷ ys → (x ≡ y) × (xs ≡ ys)
-same_head x y xs ys e = (cc, cc)
-
--- Two events of one list, after events that consumed the same bytes, are one; the second consumed some itself, or is
--- the last.
-same_place : (xs before : List Event) (x e : Event) (after later : List Event) → EachConsumes xs → (0 < length x.consumed) ⊎ (after ≡ []) → before ++ e ∷ later ≡ xs ++ x ∷ after → consumed_by before ≡ consumed_by xs → e ≡ x
-same_place [] [] x e after later h l w c = (same_head e x later after w).0
-same_place [] (b ∷ before) x e after later h (inl l) w c =
-    let s = same_head b x (before ++ e ∷ later) after w in
-    let n : length (b.consumed ++ consumed_by before) ≡ 0 = ap (λ (y : List ℕ). length y) c in
-    let z : length b.consumed ≡ length x.consumed = ap (λ (y : Event). length y.consumed) s.0 in
-    absurd (omega (arith, length-append b.consumed (consumed_by before)))
-same_place [] (b ∷ before) x e after later h (inr l) w c =
-    let s = same_head b x (before ++ e ∷ later) after w in
-    let n : length (before ++ e ∷ later) ≡ 0 = ap (λ (y : List Event). length y) (s.1 ∙ l) in
-    absurd (omega (arith, length-append before (e ∷ later)))
-same_place (y ∷ xs) [] x e after later h l w c =
-    let n : 0 ≡ length (y.consumed ++ consumed_by xs) = ap (λ (z : List ℕ). length z) c in
-    let some : 0 < length y.consumed = h.0 in
-    absurd (omega (arith, length-append y.consumed (consumed_by xs)))
-same_place (y ∷ xs) (b ∷ before) x e after later h l w c =
-    let s = same_head b y (before ++ e ∷ later) (xs ++ x ∷ after) w in
-    let z : b.consumed ≡ y.consumed = ap (λ (v : Event). v.consumed) s.0 in
-    let d : consumed_by before ≡ consumed_by xs = append_cancel_left y.consumed (consumed_by before) (consumed_by xs) (ap (λ (v : List ℕ). v ++ consumed_by before) (sym z) ∙ c) in
-    same_place xs before x e after later h.1 l s.1 d
-
--- ---- the events of longer tilings
-
-pub record MoreEvents (first all : List Event) : Type 0 where
-  pub more : List Event
-  pub parts : all ≡ first ++ more
-
-pub events_later : (start features : ℕ) (later ts : List Tile) → MoreEvents (events_of start features ts) (events_of start features (later ++ ts))
-events_later start features [] ts = record { more = []; parts = sym (append-nil (events_of start features ts)) }
-events_later start features (t ∷ later) ts =
-    let m : MoreEvents (events_of start features ts) (events_of start features (later ++ ts)) = events_later start features later ts in
-    let e : Event = event_of features (start + length (bytes_of (later ++ ts))) t in
-    record { more = m.more ++ event_of features (start + length (bytes_of (later ++ ts))) t ∷ []; parts = ap (λ (x : List Event). x ++ event_of features (start + length (bytes_of (later ++ ts))) t ∷ []) m.parts ∙ append_assoc (events_of start features ts) m.more (event_of features (start + length (bytes_of (later ++ ts))) t ∷ []) }
-
--- ---- the next event
-
--- what comes after these tiles, by what is there
-abbrev pub event_at : (start features : ℕ) → List Tile → Verdict → Event
-event_at start features ts (tile t) = event_of features (start + length (bytes_of ts)) t
-event_at start features ts (final end) = last_event end
-
--- a tile
-tile_comes : (start features : ℕ) (ts : List Tile) (rest : List ℕ) (t : Tile) → Faultless start ts → verdict (grammar start ts) rest ≡ tile t → (before later : List Event) (e : Event) → Reading (bytes_of ts ++ rest) start features (before ++ e ∷ later)
-    → consumed_by before ≡ bytes_of ts → e ≡ event_of features (start + length (bytes_of ts)) t
-tile_comes start features ts rest t f v before later e r c =
-    let g : Grown start ts rest t = grows start ts rest t f v in
-    let w : bytes_of ts ++ rest ≡ bytes_of (t ∷ ts) ++ g.rest = ap (λ (x : List ℕ). bytes_of ts ++ x) g.split ∙ sym (append_assoc (bytes_of ts) t.bytes g.rest) in
-    let l = longest (bytes_of ts ++ rest) start r.tiles (t ∷ ts) r.end g.rest r.reads g.faultless w in
-    let m : MoreEvents (events_of start features (t ∷ ts)) (events_of start features (l.0 ++ t ∷ ts)) = events_later start features l.0 (t ∷ ts) in
-    let all : before ++ e ∷ later ≡ events_of start features ts ++ event_of features (start + length (bytes_of ts)) t ∷ (m.more ++ last_event r.end ∷ []) =
-    r.listed ∙ (ap (λ (y : List Tile). events_of start features y ++ last_event r.end ∷ []) l.1 ∙ (ap (λ (y : List Event). y ++ last_event r.end ∷ []) m.parts
-    ∙ (append_assoc (events_of start features (t ∷ ts)) m.more (last_event r.end ∷ []) ∙ append_assoc (events_of start features ts) (event_of features (start + length (bytes_of ts)) t ∷ []) (m.more ++ last_event r.end ∷ [])))) in
-    same_place (events_of start features ts) before (event_of features (start + length (bytes_of ts)) t) e (m.more ++ last_event r.end ∷ []) later (tiles_each start features ts f) (inl g.some) all (c ∙ sym (tiles_consume start features ts))
-
--- the last event
-end_comes : (start features : ℕ) (ts : List Tile) (rest : List ℕ) (end : Ending) → Faultless start ts → verdict (grammar start ts) rest ≡ final end → (before later : List Event) (e : Event) → Reading (bytes_of ts ++ rest) start features (before ++ e ∷ later)
-    → consumed_by before ≡ bytes_of ts → e ≡ last_event end
-end_comes start features ts rest end f v before later e r c =
-    let here : Reads (bytes_of ts ++ rest) start ts end = record { rest = rest; whole = refl; faultless = f; stops = v } in
-    let z = reads_same (bytes_of ts ++ rest) start r.tiles ts r.end end r.reads here in
-    let all : before ++ e ∷ later ≡ events_of start features ts ++ last_event end ∷ [] = r.listed ∙ (λ i. events_of start features (z.0 i) ++ last_event (z.1 i) ∷ []) in
-    same_place (events_of start features ts) before (last_event end) e [] later (tiles_each start features ts f) (inr refl) all (c ∙ sym (tiles_consume start features ts))
-
-pub comes_next : (start features : ℕ) (ts : List Tile) (rest : List ℕ) (v : Verdict) → Faultless start ts → verdict (grammar start ts) rest ≡ v → (before later : List Event) (e : Event) → Reading (bytes_of ts ++ rest) start features (before ++ e ∷ later)
-    → consumed_by before ≡ bytes_of ts → e ≡ event_at start features ts v
-comes_next start features ts rest (tile t) f v before later e r c = tile_comes start features ts rest t f v before later e r c
-comes_next start features ts rest (final end) f v before later e r c = end_comes start features ts rest end f v before later e r c
+use Rattle.wasm_grammar.proofs.readings.NextEvents.{event_at, comes_next, next_there}
 
 -- the same by a parser that is there
-next_is : (p : ParserState) (start : ℕ) (prefix rest : List ℕ) (s : IsStateAfter p start prefix) (v : Verdict) → verdict (grammar_of p) rest ≡ v → (before later : List Event) (e : Event) → Reading (prefix ++ rest) start p.features (before ++ e ∷ later)
+next_is : (p : ParserState) (start : ℕ) (prefix rest : List ℕ) (s : IsStateAfter p start prefix) (v : Verdict) → verdict (grammar_of p) rest
+    ≡ v → (before later : List Event) (e : Event) → Reading (prefix ++ rest) start p.features (before ++ e ∷ later)
     → consumed_by before ≡ prefix → e ≡ event_at start p.features s.tiles v
 next_is p start prefix rest s v q before later e r c =
-    comes_next start p.features s.tiles rest v s.faultless (subst (λ (g : Grammar). verdict g rest ≡ v) (grammar_same p start prefix s) q) before later e
+    comes_next start p.features s.tiles rest v s.faultless (subst (λ (g : Grammar). verdict g rest ≡ v) (grammar_same p start prefix s) q)
+    before later e
     (subst (λ (x : List ℕ). Reading (x ++ rest) start p.features (before ++ e ∷ later)) (sym s.is_prefix) r) (c ∙ sym s.is_prefix)
 
 -- what was answered says it
-gives_tile : (p new : ParserState) (eof : Bool) (start : ℕ) (prefix bytes : List ℕ) (s : IsStateAfter p start prefix) (t : Tile) → verdict (grammar_of p) bytes ≡ tile t → (r : Result Chunk Error) → Answers p (tile t) r new → GivesEvent (event_of p.features (start + length (bytes_of s.tiles)) t) p eof start prefix bytes r new
+gives_tile : (p new : ParserState) (eof : Bool) (start : ℕ) (prefix bytes : List ℕ) (s : IsStateAfter p start prefix) (t : Tile)
+    → verdict (grammar_of p) bytes ≡ tile t → (r : Result Chunk Error) → Answers p (tile t) r new
+    → GivesEvent (event_of p.features (start + length (bytes_of s.tiles)) t) p eof start prefix bytes r new
 gives_tile p new eof start prefix bytes s t v (Ok (NeedMoreData hint)) a = absurd a
 gives_tile p new eof start prefix bytes s t v (Ok (Parsed consumed payload)) a =
     let o : p.offset ≡ start + length (bytes_of s.tiles) = s.offset ∙ ap (λ (x : List ℕ). start + length x) (sym s.is_prefix) in
-    let v' : verdict (grammar start s.tiles) bytes ≡ tile t = subst (λ (g : Grammar). verdict g bytes ≡ tile t) (grammar_same p start prefix s) v in
+    let v' : verdict (grammar start s.tiles) bytes ≡ tile t = subst (λ (g : Grammar). verdict g bytes ≡ tile t)
+    (grammar_same p start prefix s) v in
     let g : Grown start s.tiles bytes t = grows start s.tiles bytes t s.faultless v' in (
       subst (λ (o : ℕ). IsPayload (tile_report p.features o (o + length t.bytes) t.shape) payload) o a.1,
       a.0,
@@ -136,7 +54,9 @@ gives_tile p new eof start prefix bytes s t v (Ok (Parsed consumed payload)) a =
 gives_tile p new eof start prefix bytes s t v (Err e) a = absurd a
 
 -- where a stream ends nothing of a code section is left
-ended_at : (h b : Bool) (p : ParserState) (bytes : List ℕ) (o : ℕ) → nat_eq (p.bodies + p.left) 0 ≡ b → verdict (cond h (header_grammar p.offset) (cond b (section_grammar (known_context p) p.offset) (body_grammar p.bodies p.left p.offset))) bytes ≡ final (ended o) → p.bodies + p.left ≡ 0
+ended_at : (h b : Bool) (p : ParserState) (bytes : List ℕ) (o : ℕ) → nat_eq (p.bodies + p.left) 0 ≡ b
+    → verdict (cond h (header_grammar p.offset) (cond b (section_grammar (known_context p) p.offset)
+    (body_grammar p.bodies p.left p.offset))) bytes ≡ final (ended o) → p.bodies + p.left ≡ 0
 ended_at true b p bytes o n v = absurd (header_end p.offset bytes o v)
 ended_at false b p bytes o n v = eqb-true _ _ (n ∙ (inside_end b (known_context p) p.bodies p.left p.offset bytes o v).0)
 
@@ -144,7 +64,8 @@ ended_code : (p : ParserState) (bytes : List ℕ) (o : ℕ) → verdict (grammar
 ended_code p bytes o v = ended_at p.expects_header (nat_eq (p.bodies + p.left) 0) p bytes o refl v
 
 -- a parser that reported the end is where it was
-at_the_end : (p : ParserState) (start : ℕ) (prefix : List ℕ) → IsStateAfter p start prefix → p.bodies + p.left ≡ 0 → IsStateAfter (ended_state p) start prefix
+at_the_end : (p : ParserState) (start : ℕ) (prefix : List ℕ) → IsStateAfter p start prefix → p.bodies + p.left ≡ 0
+    → IsStateAfter (ended_state p) start prefix
 at_the_end p start prefix s z = record {
   tiles = s.tiles;
   faultless = s.faultless;
@@ -163,7 +84,9 @@ at_the_end p start prefix s z = record {
   open_code = λ l. let a = s.bodies in let b = s.left in absurd (omega (arith, a, b, z, l));
 }
 
-gives_last : (p new : ParserState) (eof : Bool) (start : ℕ) (prefix bytes : List ℕ) → IsStateAfter p start prefix → (end : Ending) → verdict (grammar_of p) bytes ≡ final end → (r : Result Chunk Error) → Answers p (final end) r new → GivesEvent (last_event end) p eof start prefix bytes r new
+gives_last : (p new : ParserState) (eof : Bool) (start : ℕ) (prefix bytes : List ℕ) → IsStateAfter p start prefix → (end : Ending)
+    → verdict (grammar_of p) bytes ≡ final end → (r : Result Chunk Error) → Answers p (final end) r new
+    → GivesEvent (last_event end) p eof start prefix bytes r new
 gives_last p new eof start prefix bytes s (fault f) v (Ok (NeedMoreData hint)) a = absurd a
 gives_last p new eof start prefix bytes s (ended o) v (Ok (NeedMoreData hint)) a = absurd a
 gives_last p new eof start prefix bytes s (fault f) v (Ok (Parsed consumed payload)) a = absurd a
@@ -171,19 +94,24 @@ gives_last p new eof start prefix bytes s (ended o) v (Ok (Parsed consumed paylo
   a.1,
   a.0,
   subst (λ (n : ℕ). take n bytes ≡ []) (sym a.0) refl,
-  subst₂ (λ (q : ParserState) (x : List ℕ). IsStateAfter q start x) (sym a.2) (sym (append-nil prefix)) (at_the_end p start prefix s (ended_code p bytes o v)),
+  subst₂ (λ (q : ParserState) (x : List ℕ). IsStateAfter q start x) (sym a.2) (sym (append-nil prefix))
+      (at_the_end p start prefix s (ended_code p bytes o v)),
   ap (λ (q : ParserState). q.features) a.2,
 )
 gives_last p new eof start prefix bytes s (fault f) v (Err e) a = (ap (λ (x : FaultAt). stream_end (fault x)) (sym a.0), refl, a.1)
 gives_last p new eof start prefix bytes s (ended o) v (Err e) a = absurd a
 
 -- on all the rest of a stream
-gives_at : (p new : ParserState) (eof : Bool) (start : ℕ) (prefix bytes rest : List ℕ) (s : IsStateAfter p start prefix) (r : Result Chunk Error) (v : Verdict) → verdict (grammar_of p) bytes ≡ v → verdict (grammar_of p) rest ≡ v → Answers p v r new
-    → (before later : List Event) (e : Event) → Reading (prefix ++ rest) start p.features (before ++ e ∷ later) → consumed_by before ≡ prefix → GivesEvent e p eof start prefix bytes r new
+gives_at : (p new : ParserState) (eof : Bool) (start : ℕ) (prefix bytes rest : List ℕ) (s : IsStateAfter p start prefix)
+    (r : Result Chunk Error) (v : Verdict) → verdict (grammar_of p) bytes ≡ v → verdict (grammar_of p) rest ≡ v → Answers p v r new
+    → (before later : List Event) (e : Event) → Reading (prefix ++ rest) start p.features (before ++ e ∷ later) → consumed_by before
+    ≡ prefix → GivesEvent e p eof start prefix bytes r new
 gives_at p new eof start prefix bytes rest s r (tile t) u q a before later e reading c =
-    subst (λ (x : Event). GivesEvent x p eof start prefix bytes r new) (sym (next_is p start prefix rest s (tile t) q before later e reading c)) (gives_tile p new eof start prefix bytes s t u r a)
+    subst (λ (x : Event). GivesEvent x p eof start prefix bytes r new)
+    (sym (next_is p start prefix rest s (tile t) q before later e reading c)) (gives_tile p new eof start prefix bytes s t u r a)
 gives_at p new eof start prefix bytes rest s r (final end) u q a before later e reading c =
-    subst (λ (x : Event). GivesEvent x p eof start prefix bytes r new) (sym (next_is p start prefix rest s (final end) q before later e reading c)) (gives_last p new eof start prefix bytes s end u r a)
+    subst (λ (x : Event). GivesEvent x p eof start prefix bytes r new)
+    (sym (next_is p start prefix rest s (final end) q before later e reading c)) (gives_last p new eof start prefix bytes s end u r a)
 
 -- the event that comes next in every stream that these bytes may be the first of
 record IsNext (p : ParserState) (eof : Bool) (start : ℕ) (prefix bytes rest : List ℕ) (e : Event) : Type 0 where
@@ -195,21 +123,28 @@ record IsNext (p : ParserState) (eof : Bool) (start : ℕ) (prefix bytes rest : 
   consumed : consumed_by before ≡ prefix
 
 -- what bytes decide is what it is in the whole
-decides_rest : (p : ParserState) (eof : Bool) (bytes rest : List ℕ) → MayBe eof bytes rest → (eof ≡ true) ⊎ (waiting (grammar_of p) bytes ≡ enough) → verdict (grammar_of p) rest ≡ verdict (grammar_of p) bytes
+decides_rest : (p : ParserState) (eof : Bool) (bytes rest : List ℕ) → MayBe eof bytes rest → (eof ≡ true)
+    ⊎ (waiting (grammar_of p) bytes ≡ enough) → verdict (grammar_of p) rest ≡ verdict (grammar_of p) bytes
 decides_rest p true bytes rest m d = ap (verdict (grammar_of p)) m
 decides_rest p false bytes rest m (inl e) = cc
 decides_rest p false bytes rest m (inr w) = ap (verdict (grammar_of p)) m.1 ∙ verdict-more (grammar_of p) bytes m.0 w
 
-gives_decided : (p new : ParserState) (eof : Bool) (start : ℕ) (prefix bytes rest : List ℕ) (e : Event) (n : IsNext p eof start prefix bytes rest e) (r : Result Chunk Error) → (eof ≡ true) ⊎ (waiting (grammar_of p) bytes ≡ enough) → Answers p (verdict (grammar_of p) bytes) r new → GivesEvent e p eof start prefix bytes r new
+gives_decided : (p new : ParserState) (eof : Bool) (start : ℕ) (prefix bytes rest : List ℕ) (e : Event)
+    (n : IsNext p eof start prefix bytes rest e) (r : Result Chunk Error) → (eof ≡ true) ⊎ (waiting (grammar_of p) bytes ≡ enough)
+    → Answers p (verdict (grammar_of p) bytes) r new → GivesEvent e p eof start prefix bytes r new
 gives_decided p new eof start prefix bytes rest e n r d a =
-    gives_at p new eof start prefix bytes rest n.s r (verdict (grammar_of p) bytes) refl (decides_rest p eof bytes rest n.may_be d) a n.before n.later e n.reading n.consumed
+    gives_at p new eof start prefix bytes rest n.s r (verdict (grammar_of p) bytes) refl (decides_rest p eof bytes rest n.may_be d) a
+    n.before n.later e n.reading n.consumed
 
-gives_asked : (p new : ParserState) (start : ℕ) (prefix bytes : List ℕ) (e : Event) (need hint : ℕ) → waiting (grammar_of p) bytes ≡ wants need hint → (r : Result Chunk Error) → AsksFor hint p r new → GivesEvent e p false start prefix bytes r new
+gives_asked : (p new : ParserState) (start : ℕ) (prefix bytes : List ℕ) (e : Event) (need hint : ℕ) → waiting (grammar_of p) bytes
+    ≡ wants need hint → (r : Result Chunk Error) → AsksFor hint p r new → GivesEvent e p false start prefix bytes r new
 gives_asked p new start prefix bytes e need hint w (Ok (NeedMoreData asked)) a = ((refl, (need, w ∙ ap (wants need) (sym a.0))), a.1)
 gives_asked p new start prefix bytes e need hint w (Ok (Parsed consumed payload)) a = absurd a
 gives_asked p new start prefix bytes e need hint w (Err f) a = absurd a
 
-gives_on : (p new : ParserState) (eof : Bool) (start : ℕ) (prefix bytes rest : List ℕ) (e : Event) (n : IsNext p eof start prefix bytes rest e) (r : Result Chunk Error) (w : Waiting) → waiting (grammar_of p) bytes ≡ w → AnswersOn eof w p (verdict (grammar_of p) bytes) r new
+gives_on : (p new : ParserState) (eof : Bool) (start : ℕ) (prefix bytes rest : List ℕ) (e : Event)
+    (n : IsNext p eof start prefix bytes rest e) (r : Result Chunk Error) (w : Waiting) → waiting (grammar_of p) bytes ≡ w
+    → AnswersOn eof w p (verdict (grammar_of p) bytes) r new
     → GivesEvent e p eof start prefix bytes r new
 gives_on p new true start prefix bytes rest e n r w q a = gives_decided p new true start prefix bytes rest e n r (inl refl) a
 gives_on p new false start prefix bytes rest e n r enough q a = gives_decided p new false start prefix bytes rest e n r (inr q) a
@@ -222,26 +157,25 @@ may_fit false bytes rest m =
     let n : length rest ≡ length bytes + length m.0 = ap (λ (x : List ℕ). length x) m.1 ∙ length-append bytes m.0 in
     omega arith
 
-pub gives_next : (p new : ParserState) (eof : Bool) (bytes : List ℕ) (r : Result Chunk Error) → ParseAnswer p eof bytes r new → GivesNextEvent p eof bytes r new
-gives_next p new eof bytes r h start prefix rest m s l events reading next =
-    let o : p.offset ≡ start + length prefix = s.offset in
-    let k : length bytes ≤ length rest = may_fit eof bytes rest m in
-    let read : Reading (prefix ++ rest) start p.features (next.before ++ next.event ∷ next.later) = subst (Reading (prefix ++ rest) start p.features) next.whole reading in
-    gives_on p new eof start prefix bytes rest next.event (record { s = s; may_be = m; before = next.before; later = next.later; reading = read; consumed = next.consumed }) r (waiting (grammar_of p) bytes) refl (h.within (omega arith))
-
--- ---- there is a next event
-
-pub next_there : (start features : ℕ) (ts : List Tile) (rest : List ℕ) (events : List Event) → Faultless start ts → Reading (bytes_of ts ++ rest) start features events → NextEvent events (bytes_of ts)
-next_there start features ts rest events f r =
-    let l = longest (bytes_of ts ++ rest) start r.tiles ts r.end rest r.reads f refl in
-    let m : MoreEvents (events_of start features ts) (events_of start features (l.0 ++ ts)) = events_later start features l.0 ts in
-    at m.more (r.listed ∙ (ap (λ (y : List Tile). events_of start features y ++ last_event r.end ∷ []) l.1 ∙ (ap (λ (y : List Event). y ++ last_event r.end ∷ []) m.parts
-    ∙ append_assoc (events_of start features ts) m.more (last_event r.end ∷ []))))
-  where
-    at : (more : List Event) → events ≡ events_of start features ts ++ (more ++ last_event r.end ∷ []) → NextEvent events (bytes_of ts)
-    at [] e = record { before = events_of start features ts; event = last_event r.end; later = []; whole = e; consumed = tiles_consume start features ts }
-    at (x ∷ more) e = record { before = events_of start features ts; event = x; later = more ++ last_event r.end ∷ []; whole = e; consumed = tiles_consume start features ts }
+pub gives_next : (p new : ParserState) (eof : Bool) (bytes : List ℕ) (r : Result Chunk Error) → ParseAnswer p eof bytes r new
+    → GivesNextEvent p eof bytes r new
+gives_next p new eof bytes r h s next =
+    let o : p.offset ≡ s.start + length s.prefix = s.is_after.offset in
+    let k : length bytes ≤ length s.rest = may_fit eof bytes s.rest s.may_be in
+    let l = s.below in
+    let read : Reading (s.prefix ++ s.rest) s.start p.features (next.before ++ next.event ∷ next.later) =
+    subst (Reading (s.prefix ++ s.rest) s.start p.features) next.whole s.reading in
+    gives_on p new eof s.start s.prefix bytes s.rest next.event (record {
+      s = s.is_after;
+      may_be = s.may_be;
+      before = next.before;
+      later = next.later;
+      reading = read;
+      consumed = next.consumed;
+    }) r (waiting (grammar_of p) bytes) refl
+    ((as_table p new eof bytes r h).within (omega (arith, o, k, l)))
 
 pub some_next_event : SomeNextEvent
 some_next_event p start features prefix rest events s r =
-    subst (NextEvent events) s.is_prefix (next_there start features s.tiles rest events s.faultless (subst (λ (x : List ℕ). Reading (x ++ rest) start features events) (sym s.is_prefix) r))
+    subst (NextEvent events) s.is_prefix (next_there start features s.tiles rest events s.faultless
+    (subst (λ (x : List ℕ). Reading (x ++ rest) start features events) (sym s.is_prefix) r))

@@ -1,9 +1,9 @@
 -- What the crates above may cite of the proofs below them: the statements of laws, each in the words of specs/.
 pub use Rattle.wasm_base.proofs.SameFaults.{error as equal_errors}
 pub use Rattle.wasm_base.proofs.Walks.{gives, gives_owned, item_came, fault_came, after_item, at_a_fault}
-pub use Rattle.wasm_parser.proofs.AcceptedFrames.{reads_accepted}
-pub use Rattle.wasm_parser.proofs.Accepting.{fault_ends}
+pub use Rattle.wasm_grammar.proofs.accepted.Frames.{reads_accepted}
+pub use Rattle.wasm_grammar.proofs.accepted.Accepting.{fault_ends}
 pub use Rattle.wasm_parser.proofs.Along.{answers_go_along}
-pub use Rattle.wasm_parser.proofs.FramesKept.{frames_read_the_same, rankless_may_go}
-pub use Rattle.wasm_parser.proofs.KindIds.{custom_id}
-pub use Rattle.wasm_parser.proofs.FramesTold.{frames_give_events, one_division}
+pub use Rattle.wasm_grammar.proofs.frames.Kept.{frames_read_the_same, rankless_may_go}
+pub use Rattle.wasm_grammar.proofs.accepted.KindIds.{custom_has_its_id}
+pub use Rattle.wasm_grammar.proofs.frames.Told.{frames_give_events, one_division}

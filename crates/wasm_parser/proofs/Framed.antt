@@ -1,5 +1,7 @@
 -- What is at the start of a section, and what is read there.
-use Rattle.std.proofs.Common.{◌≡◌, ℕ, nat_eq, ◌+◌, ◌-◌, ◌^◌, ◌<◌, ◌≤◌, Bool, true, false, cond, not, ◌&&◌, List, [], ◌∷◌, length, take, drop, Some, None, Result, Ok, Err, nat_le, nat_lt, refl, sym, ap, subst, subst₂, ◌∙◌, arith, le-leb, add-zero, ltb-true, ltb-false, lt-ltb, le-ltb}
+use Rattle.std.proofs.Common.{◌≡◌, ℕ, nat_eq, ◌+◌, ◌-◌, ◌^◌, ◌<◌, ◌≤◌, Bool, true, false, cond, not, ◌&&◌, List, [], ◌∷◌, length, take}
+use Rattle.std.proofs.Common.{drop, Some, None, Result, Ok, Err, nat_le, nat_lt, refl, sym, ap, subst, subst₂, ◌∙◌, arith, le-leb, add-zero}
+use Rattle.std.proofs.Common.{ltb-true, ltb-false, lt-ltb, le-ltb}
 use Prim.Native.Nat.compare
 use lib.Dec.{is_le}
 use Rattle.std.specs.List.{starts_with}
@@ -17,18 +19,21 @@ use Rattle.wasm_base.specs.declared.fault.Fault.TheVariants.{UnexpectedEof, Magi
 use Rattle.wasm_base.specs.declared.fault.NumberKind.TheVariants.{VarU32}
 use Rattle.wasm_parser.specs.ParseAnswer.{IsPayload, MatchesVerdict, HintsAs, MatchesGrammar, ReadsByGrammar}
 use Rattle.wasm_parser.specs.ParserState.{ParserState, known_context}
-use Rattle.wasm_parser.specs.Waiting.{enough, asked, waiting}
-use Rattle.wasm_parser.specs.Content.{Kind, custom, unknown, kind_of, rank_of, when, wrong_content, wrong_name, Form}
+use Rattle.wasm_grammar.specs.Waiting.{enough, asked, waiting}
+use Rattle.wasm_grammar.specs.Content.{Kind, custom, unknown, kind_of, rank_of, when, wrong_content, wrong_name, Form}
 use Rattle.wasm_parser.specs.ReadsPart.{content_at, ReadsNextSection}
 use Rattle.wasm_custom.specs.Custom.{Custom, IsCustom}
-use Rattle.wasm_parser.specs.Grammar.{section, SectionContext, Grammar, check, u32_field, verdict, whole_grammar, wrong_data, content_grammar, after_length, after_id, section_grammar}
-use Rattle.wasm_parser.specs.Reading.{section_report, custom_report, custom_section, unknown_section}
+use Rattle.wasm_grammar.specs.Grammar.{section, SectionContext, Grammar, check, u32_field, verdict, whole_grammar, wrong_data}
+use Rattle.wasm_grammar.specs.Grammar.{content_grammar, after_length, after_id, section_grammar}
+use Rattle.wasm_grammar.specs.Reading.{section_report, custom_report, custom_section, unknown_section}
 use Rattle.wasm_parser.specs.declared.payload.Payload.{Payload}
 use Rattle.wasm_parser.specs.declared.payload.Payload.TheVariants.{CustomSection}
-use Rattle.wasm_parser.proofs.ReadingFields.{later_asked, report_at, report_bytes, report_missing, report_number, report_no_number, report_wrong, report_right, report_whole, ReadNumber, read_number}
+use Rattle.wasm_parser.proofs.ReadingFields.{later_asked, report_at, report_bytes, report_missing, report_number, report_no_number}
+use Rattle.wasm_parser.proofs.ReadingFields.{report_wrong, report_right, report_whole, ReadNumber, read_number}
 
 -- after an id of 128 or more
-pub framed_bad : (context : SectionContext) (start id : ℕ) (p : Place) (e : Error) (a : Place) → 128 ≤ id → fault_at e ≡ at_offset MalformedSectionId start → hint_of e ≡ None → ReadsByGrammar (after_id context start id) p (Err e) a
+pub framed_bad : (context : SectionContext) (start id : ℕ) (p : Place) (e : Error) (a : Place) → 128 ≤ id → fault_at e
+    ≡ at_offset MalformedSectionId start → hint_of e ≡ None → ReadsByGrammar (after_id context start id) p (Err e) a
 framed_bad context start id p e a h f hint =
     let t : nat_le 128 id ≡ true = le-leb 128 id h in
     let w : when (nat_le 128 id) (at_offset MalformedSectionId start) ≡ Some (fault_at e) = rw t (ap Some (sym f)) in
@@ -38,25 +43,35 @@ good_id : (start id : ℕ) → id < 128 → when (nat_le 128 id) (at_offset Malf
 good_id start id h = rw (lt-leb 128 id h) refl
 
 -- after a good id, where no length is read
-pub framed_no_size : (context : SectionContext) (start id : ℕ) (p : Place) (e : Error) (a : Place) → id < 128 → start + 1 ≡ p.offset → unsigned_at VarU32 p ≡ Err (fault_at e) → hint_of e ≡ hint_at 1 (fault_at e).fault → ReadsByGrammar (after_id context start id) p (Err e) a
+pub framed_no_size : (context : SectionContext) (start id : ℕ) (p : Place) (e : Error) (a : Place) → id < 128 → start + 1 ≡ p.offset
+    → unsigned_at VarU32 p ≡ Err (fault_at e) → hint_of e ≡ hint_at 1 (fault_at e).fault
+    → ReadsByGrammar (after_id context start id) p (Err e) a
 framed_no_size context start id p e a h o n hint =
     let next : ℕ → ℕ → ℕ → Grammar = λ x size width. after_length context (kind_of context.encoding id) id x (x + width) size in
-    let r : (s : ℕ) → MatchesGrammar s p (u32_field (start + 1) (next (start + 1))) (Err e) a = λ s. subst (λ (x : ℕ). MatchesGrammar s p (u32_field x (next x)) (Err e) a) (sym o) (report_no_number s p (next p.offset) e a n hint) in
+    let r : (s : ℕ) → MatchesGrammar s p (u32_field (start + 1) (next (start + 1))) (Err e) a = λ s.
+    subst (λ (x : ℕ). MatchesGrammar s p (u32_field x (next x)) (Err e) a) (sym o) (report_no_number s p (next p.offset) e a n hint) in
     λ s. report_right s p (when (nat_le 128 id) (at_offset MalformedSectionId start)) _ (Err e) a (good_id start id h) (r s)
 
 -- after a good id and a length
-pub framed_sized : (context : SectionContext) (start id : ℕ) (p q : Place) (v : ℕ) (r : Result Payload Error) (a : Place) → id < 128 → start + 1 ≡ p.offset → unsigned_at VarU32 p ≡ Ok (v, q)
-    → ReadsByGrammar (after_length context (kind_of context.encoding id) id p.offset q.offset v) q r a → ReadsByGrammar (after_id context start id) p r a
+pub framed_sized : (context : SectionContext) (start id : ℕ) (p q : Place) (v : ℕ) (r : Result Payload Error) (a : Place) → id < 128
+    → start + 1 ≡ p.offset → unsigned_at VarU32 p ≡ Ok (v, q)
+    → ReadsByGrammar (after_length context (kind_of context.encoding id) id p.offset q.offset v) q r a
+    → ReadsByGrammar (after_id context start id) p r a
 framed_sized context start id p q v r a h o n next =
     let m : ReadNumber p v q = read_number p v q n in
-    let at_q : (s : ℕ) → MatchesGrammar s (advanced m.used p) (after_length context (kind_of context.encoding id) id p.offset (p.offset + m.used) v) r a =
-    λ s. subst (λ (x : Place). MatchesGrammar s x (after_length context (kind_of context.encoding id) id p.offset x.offset v) r a) m.after (next s) in
+    let at_q : (s : ℕ) → MatchesGrammar s (advanced m.used p) (after_length context (kind_of context.encoding id) id p.offset
+    (p.offset + m.used) v) r a =
+    λ s. subst (λ (x : Place). MatchesGrammar s x (after_length context (kind_of context.encoding id) id p.offset x.offset v) r a) m.after
+    (next s) in
     λ s. report_right s p (when (nat_le 128 id) (at_offset MalformedSectionId start)) _ r a (good_id start id h) (
-    subst (λ (y : ℕ). MatchesGrammar s p (u32_field y (λ size width. after_length context (kind_of context.encoding id) id y (y + width) size)) r a) (sym o)
-    (report_number s p p.offset (λ size width. after_length context (kind_of context.encoding id) id p.offset (p.offset + width) size) r a v m.used m.reads (at_q s)))
+    subst (λ (y : ℕ). MatchesGrammar s p (u32_field y (λ size width.
+    after_length context (kind_of context.encoding id) id y (y + width) size)) r a) (sym o)
+    (report_number s p p.offset (λ size width. after_length context (kind_of context.encoding id) id p.offset (p.offset + width) size) r a v
+    m.used m.reads (at_q s)))
 
 -- a content that would end past the top of the offsets
-pub sized_large : (context : SectionContext) (kind : Kind) (id field size : ℕ) (p : Place) (e : Error) (a : Place) → 2 ^ 64 - 1 < p.offset + size → fault_at e ≡ record { fault = SectionTooLarge; offset = field; number = Some size }
+pub sized_large : (context : SectionContext) (kind : Kind) (id field size : ℕ) (p : Place) (e : Error) (a : Place)
+    → 2 ^ 64 - 1 < p.offset + size → fault_at e ≡ record { fault = SectionTooLarge; offset = field; number = Some size }
     → hint_of e ≡ None → ReadsByGrammar (after_length context kind id field p.offset size) p (Err e) a
 sized_large context kind id field size p e a h f hint =
     let t : nat_lt (2 ^ 64 - 1) (p.offset + size) ≡ true = lt-ltb (2 ^ 64 - 1) (p.offset + size) h in
@@ -69,15 +84,18 @@ abbrev pub is_disordered : SectionContext → Kind → ℕ → Bool
 is_disordered context kind id = nat_lt 0 (rank_of kind id) && not (context.may_follow (rank_of kind id))
 
 -- what is after a length that fits
-fitting : (context : SectionContext) (kind : Kind) (id field size : ℕ) (p : Place) (r : Result Payload Error) (a : Place) → p.offset + size ≤ 2 ^ 64 - 1
-    → ReadsByGrammar (check (when (is_disordered context kind id) (at_offset OutOfOrder p.offset)) (content_grammar context kind id p.offset size)) p r a → ReadsByGrammar (after_length context kind id field p.offset size) p r a
+fitting : (context : SectionContext) (kind : Kind) (id field size : ℕ) (p : Place) (r : Result Payload Error) (a : Place)
+    → p.offset + size ≤ 2 ^ 64 - 1
+    → ReadsByGrammar (check (when (is_disordered context kind id) (at_offset OutOfOrder p.offset))
+    (content_grammar context kind id p.offset size)) p r a → ReadsByGrammar (after_length context kind id field p.offset size) p r a
 fitting context kind id field size p r a h next =
     let x : FaultAt = record { fault = SectionTooLarge; offset = field; number = Some size } in
     let fits : when (nat_lt (2 ^ 64 - 1) (p.offset + size)) x ≡ None = rw (le-ltb (2 ^ 64 - 1) (p.offset + size) h) refl in
     λ s. report_right s p (when (nat_lt (2 ^ 64 - 1) (p.offset + size)) x) _ r a fits (next s)
 
 -- one that ranks no higher than one before it
-pub sized_disordered : (context : SectionContext) (kind : Kind) (id field size : ℕ) (p : Place) (e : Error) (a : Place) → p.offset + size ≤ 2 ^ 64 - 1 → is_disordered context kind id ≡ true → fault_at e ≡ at_offset OutOfOrder p.offset
+pub sized_disordered : (context : SectionContext) (kind : Kind) (id field size : ℕ) (p : Place) (e : Error) (a : Place)
+    → p.offset + size ≤ 2 ^ 64 - 1 → is_disordered context kind id ≡ true → fault_at e ≡ at_offset OutOfOrder p.offset
     → hint_of e ≡ None → ReadsByGrammar (after_length context kind id field p.offset size) p (Err e) a
 sized_disordered context kind id field size p e a h k f hint =
     let y : FaultAt = at_offset OutOfOrder p.offset in
@@ -85,39 +103,49 @@ sized_disordered context kind id field size p e a h k f hint =
     fitting context kind id field size p (Err e) a h (λ s. report_wrong s p (when (is_disordered context kind id) y) _ e a ranks hint)
 
 -- one that is in its place
-pub sized_ordered : (context : SectionContext) (kind : Kind) (id field size : ℕ) (p : Place) (r : Result Payload Error) (a : Place) → p.offset + size ≤ 2 ^ 64 - 1 → is_disordered context kind id ≡ false
-    → ReadsByGrammar (content_grammar context kind id p.offset size) p r a → ReadsByGrammar (after_length context kind id field p.offset size) p r a
+pub sized_ordered : (context : SectionContext) (kind : Kind) (id field size : ℕ) (p : Place) (r : Result Payload Error) (a : Place)
+    → p.offset + size ≤ 2 ^ 64 - 1 → is_disordered context kind id ≡ false
+    → ReadsByGrammar (content_grammar context kind id p.offset size) p r a
+    → ReadsByGrammar (after_length context kind id field p.offset size) p r a
 sized_ordered context kind id field size p r a h k next =
     let y : FaultAt = at_offset OutOfOrder p.offset in
     let ranks : when (is_disordered context kind id) y ≡ None = rw k refl in
     fitting context kind id field size p r a h (λ s. report_right s p (when (is_disordered context kind id) y) _ r a ranks (next s))
 
 -- the same for the kind that was found
-pub sized_as : (context : SectionContext) (found kind : Kind) (id field size : ℕ) (p : Place) (r : Result Payload Error) (a : Place) → found ≡ kind
-    → ReadsByGrammar (after_length context found id field p.offset size) p r a → ReadsByGrammar (after_length context kind id field p.offset size) p r a
-sized_as context found kind id field size p r a same next = subst (λ (k : Kind). ReadsByGrammar (after_length context k id field p.offset size) p r a) same next
+pub sized_as : (context : SectionContext) (found kind : Kind) (id field size : ℕ) (p : Place) (r : Result Payload Error) (a : Place) → found
+    ≡ kind
+    → ReadsByGrammar (after_length context found id field p.offset size) p r a
+    → ReadsByGrammar (after_length context kind id field p.offset size) p r a
+sized_as context found kind id field size p r a same next = subst
+    (λ (k : Kind). ReadsByGrammar (after_length context k id field p.offset size) p r a) same next
 
 content_steps : (b : Bool) (size : ℕ) (p : Place)
-    → (let x : Result (List ℕ × Place) FaultAt = cond b (Err (at_offset UnexpectedEof p.offset)) (Ok (take size p.rest, advanced size p)) in x >>= (λ bytes. let y : Result (Window × Place) FaultAt = Ok (window_over p.features p.offset bytes.0, bytes.1) in y))
+    → (let x : Result (List ℕ × Place) FaultAt = cond b (Err (at_offset UnexpectedEof p.offset)) (Ok (take size p.rest, advanced size p)) in
+    x >>= (λ bytes. let y : Result (Window × Place) FaultAt = Ok (window_over p.features p.offset bytes.0, bytes.1) in y))
     ≡ cond b (Err (at_offset UnexpectedEof p.offset)) (Ok (window_over p.features p.offset (take size p.rest), advanced size p))
 content_steps true size p = refl
 content_steps false size p = refl
 
 -- fewer bytes than are wanted
 too_few_at : (b : Bool) (size : ℕ) (p : Place) (f : FaultAt) → nat_lt (length p.rest) size ≡ b
-    → (let x : Result (Window × Place) FaultAt = cond b (Err (at_offset UnexpectedEof p.offset)) (Ok (window_over p.features p.offset (take size p.rest), advanced size p)) in x) ≡ Err f
+    → (let x : Result (Window × Place) FaultAt = cond b (Err (at_offset UnexpectedEof p.offset))
+    (Ok (window_over p.features p.offset (take size p.rest), advanced size p)) in x) ≡ Err f
     → (length p.rest < size) × (f ≡ at_offset UnexpectedEof p.offset)
 too_few_at true size p f t h =
     let z : at_offset UnexpectedEof p.offset ≡ f = cc in
     (ltb-true _ _ t, sym z)
 too_few_at false size p f t h = cc
 
-pub too_few : (size : ℕ) (p : Place) (f : FaultAt) → content_at size p ≡ Err f → (length p.rest < size) × (f ≡ at_offset UnexpectedEof p.offset)
+pub too_few : (size : ℕ) (p : Place) (f : FaultAt) → content_at size p ≡ Err f → (length p.rest < size)
+    × (f ≡ at_offset UnexpectedEof p.offset)
 unfolding content_at
 too_few size p f h = too_few_at (nat_lt (length p.rest) size) size p f refl (sym (content_steps (nat_lt (length p.rest) size) size p) ∙ h)
 
 -- content that isn't all there
-pub whole_missing : (context : SectionContext) (kind : Form) (id size : ℕ) (p : Place) (e : Error) (a : Place) → content_at size p ≡ Err (fault_at e) → hint_of e ≡ hint_at (missing_at size p) (fault_at e).fault → ReadsByGrammar (whole_grammar context kind id p.offset size) p (Err e) a
+pub whole_missing : (context : SectionContext) (kind : Form) (id size : ℕ) (p : Place) (e : Error) (a : Place) → content_at size p
+    ≡ Err (fault_at e) → hint_of e ≡ hint_at (missing_at size p) (fault_at e).fault
+    → ReadsByGrammar (whole_grammar context kind id p.offset size) p (Err e) a
 whole_missing context kind id size p e a h hint =
     let t = too_few size p (fault_at e) h in
     λ s. report_missing s p size p.offset _ e a t.0 t.1 hint
@@ -129,7 +157,8 @@ pub record HasContent (size : ℕ) (p : Place) (w : Window) (q : Place) : Type 0
   pub after : q ≡ advanced size p
 
 content_there : (b : Bool) (size : ℕ) (p : Place) (w : Window) (q : Place) → nat_lt (length p.rest) size ≡ b
-    → (let x : Result (Window × Place) FaultAt = cond b (Err (at_offset UnexpectedEof p.offset)) (Ok (window_over p.features p.offset (take size p.rest), advanced size p)) in x) ≡ Ok (w, q)
+    → (let x : Result (Window × Place) FaultAt = cond b (Err (at_offset UnexpectedEof p.offset))
+    (Ok (window_over p.features p.offset (take size p.rest), advanced size p)) in x) ≡ Ok (w, q)
     → HasContent size p w q
 content_there true size p w q t h = cc
 content_there false size p w q t h =
@@ -138,33 +167,41 @@ content_there false size p w q t h =
 
 pub has_content : (size : ℕ) (p : Place) (w : Window) (q : Place) → content_at size p ≡ Ok (w, q) → HasContent size p w q
 unfolding content_at
-has_content size p w q h = content_there (nat_lt (length p.rest) size) size p w q refl (sym (content_steps (nat_lt (length p.rest) size) size p) ∙ h)
+has_content size p w q h = content_there (nat_lt (length p.rest) size) size p w q refl
+    (sym (content_steps (nat_lt (length p.rest) size) size p) ∙ h)
 
 -- good content, reported by a payload
-pub whole_good : (context : SectionContext) (kind : Form) (id size : ℕ) (p : Place) (w : Window) (q : Place) (payload : Payload) → content_at size p ≡ Ok (w, q) → wrong_content kind p.offset (take size p.rest) ≡ None
-    → wrong_data context kind id (p.offset + size) (take size p.rest) ≡ None → IsPayload (section_report p.features p.offset (p.offset + size) kind id (take size p.rest)) payload
+pub whole_good : (context : SectionContext) (kind : Form) (id size : ℕ) (p : Place) (w : Window) (q : Place) (payload : Payload)
+    → content_at size p ≡ Ok (w, q) → wrong_content kind p.offset (take size p.rest) ≡ None
+    → wrong_data context kind id (p.offset + size) (take size p.rest) ≡ None
+    → IsPayload (section_report p.features p.offset (p.offset + size) kind id (take size p.rest)) payload
     → ReadsByGrammar (whole_grammar context kind id p.offset size) p (Ok payload) q
 whole_good context kind id size p w q payload h good counts report =
     let c : HasContent size p w q = has_content size p w q h in
     let content : List ℕ = take size p.rest in
     let l : length (take size p.rest) ≡ size = length-take-le size p.rest c.there in
     let from : p.offset + size - length (take size p.rest) ≡ p.offset = omega arith in
-    let said : IsPayload (section_report p.features (p.offset + size - length (take size p.rest)) (p.offset + size) kind id (take size p.rest)) payload = rw from report in
+    let said : IsPayload (section_report p.features (p.offset + size - length (take size p.rest)) (p.offset + size) kind id
+    (take size p.rest)) payload = rw from report in
     λ s. report_bytes s p size p.offset _ (Ok payload) q c.there (
     report_right s (advanced size p) (wrong_content kind p.offset (take size p.rest)) _ (Ok payload) q good (
     report_right s (advanced size p) (wrong_data context kind id (p.offset + size) (take size p.rest)) _ (Ok payload) q counts (
     report_whole s (advanced size p) (section kind id (take size p.rest)) payload q c.after said)))
 
 -- bad content
-pub whole_bad : (context : SectionContext) (kind : Form) (id size : ℕ) (p : Place) (w : Window) (q : Place) (e : Error) (a : Place) → content_at size p ≡ Ok (w, q) → wrong_content kind p.offset (take size p.rest) ≡ Some (fault_at e)
+pub whole_bad : (context : SectionContext) (kind : Form) (id size : ℕ) (p : Place) (w : Window) (q : Place) (e : Error) (a : Place)
+    → content_at size p ≡ Ok (w, q) → wrong_content kind p.offset (take size p.rest) ≡ Some (fault_at e)
     → hint_of e ≡ None → ReadsByGrammar (whole_grammar context kind id p.offset size) p (Err e) a
 whole_bad context kind id size p w q e a h wrong hint =
     let c : HasContent size p w q = has_content size p w q h in
-    λ s. report_bytes s p size p.offset _ (Err e) a c.there (report_wrong s (advanced size p) (wrong_content kind p.offset (take size p.rest)) _ e a wrong hint)
+    λ s. report_bytes s p size p.offset _ (Err e) a c.there (report_wrong s (advanced size p)
+    (wrong_content kind p.offset (take size p.rest)) _ e a wrong hint)
 
 -- good content whose count differs from the one that was announced
-pub whole_miscounted : (context : SectionContext) (kind : Form) (id size : ℕ) (p : Place) (w : Window) (q : Place) (e : Error) (a : Place) → content_at size p ≡ Ok (w, q) → wrong_content kind p.offset (take size p.rest) ≡ None
-    → wrong_data context kind id (p.offset + size) (take size p.rest) ≡ Some (fault_at e) → hint_of e ≡ None → ReadsByGrammar (whole_grammar context kind id p.offset size) p (Err e) a
+pub whole_miscounted : (context : SectionContext) (kind : Form) (id size : ℕ) (p : Place) (w : Window) (q : Place) (e : Error) (a : Place)
+    → content_at size p ≡ Ok (w, q) → wrong_content kind p.offset (take size p.rest) ≡ None
+    → wrong_data context kind id (p.offset + size) (take size p.rest) ≡ Some (fault_at e) → hint_of e ≡ None
+    → ReadsByGrammar (whole_grammar context kind id p.offset size) p (Err e) a
 whole_miscounted context kind id size p w q e a h good wrong hint =
     let c : HasContent size p w q = has_content size p w q h in
     λ s. report_bytes s p size p.offset _ (Err e) a c.there (
@@ -174,35 +211,43 @@ whole_miscounted context kind id size p w q e a h good wrong hint =
 -- what a custom section's reader says of its content
 pub record GoodCustom (features offset to : ℕ) (content : List ℕ) (c : Custom) : Type 0 where
   pub good : wrong_content custom offset content ≡ None
-  pub report : section_report features offset to custom 0 content ≡ custom_section c.name (place c.reader).offset (record c.reader { position = 0 })
+  pub report : section_report features offset to custom 0 content
+      ≡ custom_section c.name (place c.reader).offset (record c.reader { position = 0 })
 
-custom_at : (features offset to : ℕ) (content : List ℕ) (c : Custom) (n : Name) → KeepsWindow (window_over features offset content) c.reader → name_in_window (place (window_over features offset content)) n ≡ Ok (c.name, place c.reader)
-    → (wrong_name offset n ≡ None) × (custom_report features offset to content n ≡ custom_section c.name (place c.reader).offset (record c.reader { position = 0 }))
+custom_at : (features offset to : ℕ) (content : List ℕ) (c : Custom) (n : Name) → KeepsWindow (window_over features offset content) c.reader
+    → name_in_window (place (window_over features offset content)) n ≡ Ok (c.name, place c.reader)
+    → (wrong_name offset n ≡ None) × (custom_report features offset to content n
+    ≡ custom_section c.name (place c.reader).offset (record c.reader { position = 0 }))
 custom_at features offset to content c (named text used) k h =
     let z : (text, advanced used (place (window_over features offset content))) ≡ (c.name, place c.reader) = cc in
     let t : text ≡ c.name = ap (λ (x : List ℕ × Place). x.0) z in
-    let o : offset + used ≡ (place c.reader).offset = ap (λ (n : ℕ). n + used) (sym (add-zero offset)) ∙ ap (λ (x : List ℕ × Place). x.1.offset) z in
+    let o : offset + used ≡ (place c.reader).offset = ap (λ (n : ℕ). n + used) (sym (add-zero offset))
+    ∙ ap (λ (x : List ℕ × Place). x.1.offset) z in
     let f : features ≡ c.reader.features = sym k.features in
     let s : offset ≡ c.reader.start = sym k.start in
     let b : content ≡ c.reader.bytes = sym k.bytes in
-    let w : window_over features offset content ≡ record c.reader { position = 0 } = λ i. record { features = f i; start = s i; bytes = b i; position = 0 } in
+    let w : window_over features offset content ≡ record c.reader { position = 0 } = λ i.
+    record { features = f i; start = s i; bytes = b i; position = 0 } in
     (refl, λ i. custom_section (t i) (o i) (w i))
 custom_at features offset to content c (refused f i) k h = cc
 
-pub good_custom : (features offset to : ℕ) (content : List ℕ) (c : Custom) → IsCustom (window_over features offset content) c → GoodCustom features offset to content c
+pub good_custom : (features offset to : ℕ) (content : List ℕ) (c : Custom) → IsCustom (window_over features offset content) c
+    → GoodCustom features offset to content c
 unfolding wrong_content text_at
 good_custom features offset to content c is =
     let h = custom_at features offset to content c (name (Some name_limit) content) is.keeps is.named in
     record { good = h.0; report = h.1 }
 
-bad_at : (features offset : ℕ) (content : List ℕ) (f : FaultAt) (n : Name) → name_in_window (place (window_over features offset content)) n ≡ Err f → wrong_name offset n ≡ Some f
+bad_at : (features offset : ℕ) (content : List ℕ) (f : FaultAt) (n : Name) → name_in_window (place (window_over features offset content)) n
+    ≡ Err f → wrong_name offset n ≡ Some f
 bad_at features offset content f (named text used) h = cc
 bad_at features offset content f (refused g i) h =
     let z : at_offset g (offset + 0 + i) ≡ f = cc in
     let o : offset + i ≡ offset + 0 + i = omega arith in
     ap Some (ap (at_offset g) o ∙ z)
 
-pub bad_custom : (features offset : ℕ) (content : List ℕ) (f : FaultAt) → text_at (Some name_limit) (place (window_over features offset content)) ≡ Err f → wrong_content custom offset content ≡ Some f
+pub bad_custom : (features offset : ℕ) (content : List ℕ) (f : FaultAt)
+    → text_at (Some name_limit) (place (window_over features offset content)) ≡ Err f → wrong_content custom offset content ≡ Some f
 unfolding wrong_content text_at
 bad_custom features offset content f h = bad_at features offset content f (name (Some name_limit) content) h
 
@@ -212,43 +257,52 @@ unfolding wrong_content
 good_unknown offset content = refl
 
 -- a custom section that was read, and one whose name was refused
-pub custom_read : (context : SectionContext) (id size : ℕ) (p : Place) (w : Window) (q : Place) (c : Custom) → content_at size p ≡ Ok (w, q) → IsCustom w c
+pub custom_read : (context : SectionContext) (id size : ℕ) (p : Place) (w : Window) (q : Place) (c : Custom) → content_at size p ≡ Ok (w, q)
+    → IsCustom w c
     → ReadsByGrammar (whole_grammar context custom id p.offset size) p (Ok (CustomSection c)) q
 custom_read context id size p w q c h is =
     let k : HasContent size p w q = has_content size p w q h in
-    let g : GoodCustom p.features p.offset (p.offset + size) (take size p.rest) c = good_custom p.features p.offset (p.offset + size) (take size p.rest) c (subst (λ (x : Window). IsCustom x c) k.window is) in
+    let g : GoodCustom p.features p.offset (p.offset + size) (take size p.rest) c =
+    good_custom p.features p.offset (p.offset + size) (take size p.rest) c (subst (λ (x : Window). IsCustom x c) k.window is) in
     whole_good context custom id size p w q (CustomSection c) h g.good refl (sym g.report, tt)
 
-pub custom_refused : (context : SectionContext) (id size : ℕ) (p : Place) (w : Window) (q : Place) (e : Error) (a : Place) → content_at size p ≡ Ok (w, q) → text_at (Some name_limit) (place w) ≡ Err (fault_at e)
+pub custom_refused : (context : SectionContext) (id size : ℕ) (p : Place) (w : Window) (q : Place) (e : Error) (a : Place)
+    → content_at size p ≡ Ok (w, q) → text_at (Some name_limit) (place w) ≡ Err (fault_at e)
     → hint_of e ≡ None → ReadsByGrammar (whole_grammar context custom id p.offset size) p (Err e) a
 custom_refused context id size p w q e a h wrong hint =
     let k : HasContent size p w q = has_content size p w q h in
-    whole_bad context custom id size p w q e a h (bad_custom p.features p.offset (take size p.rest) (fault_at e) (subst (λ (x : Window). text_at (Some name_limit) (place x) ≡ Err (fault_at e)) k.window wrong)) hint
+    whole_bad context custom id size p w q e a h (bad_custom p.features p.offset (take size p.rest) (fault_at e)
+    (subst (λ (x : Window). text_at (Some name_limit) (place x) ≡ Err (fault_at e)) k.window wrong)) hint
 
 -- an unknown section
-pub unknown_read : (context : SectionContext) (id size : ℕ) (p : Place) (w : Window) (q : Place) (payload : Payload) → content_at size p ≡ Ok (w, q)
+pub unknown_read : (context : SectionContext) (id size : ℕ) (p : Place) (w : Window) (q : Place) (payload : Payload) → content_at size p
+    ≡ Ok (w, q)
     → IsPayload (unknown_section id (place w).rest w.start (w.start + length w.bytes)) payload
     → ReadsByGrammar (whole_grammar context unknown id p.offset size) p (Ok payload) q
 unknown_read context id size p w q payload h report =
     let k : HasContent size p w q = has_content size p w q h in
     let l : length (take size p.rest) ≡ size = length-take-le size p.rest k.there in
-    let at_w : IsPayload (unknown_section id (take size p.rest) p.offset (p.offset + length (take size p.rest))) payload = subst (λ (x : Window). IsPayload (unknown_section id (place x).rest x.start (x.start + length x.bytes)) payload) k.window report in
+    let at_w : IsPayload (unknown_section id (take size p.rest) p.offset (p.offset + length (take size p.rest))) payload =
+    subst (λ (x : Window). IsPayload (unknown_section id (place x).rest x.start (x.start + length x.bytes)) payload) k.window report in
     whole_good context unknown id size p w q payload h (good_unknown p.offset (take size p.rest)) refl (rw l at at_w)
 
 -- a magic where a section may start
-magic_at : (xs : List ℕ) (context : SectionContext) (p : Place) (e : Error) (a : Place) → true ≡ (agree xs magic && nat_le 4 (length xs)) → 0 < length xs → fault_at e ≡ at_offset MagicAtSection p.offset
+magic_at : (xs : List ℕ) (context : SectionContext) (p : Place) (e : Error) (a : Place) → true ≡ (agree xs magic && nat_le 4 (length xs))
+    → 0 < length xs → fault_at e ≡ at_offset MagicAtSection p.offset
     → (s : ℕ) → MatchesVerdict s p (verdict (section_grammar context p.offset) xs) (Err e) a
 unfolding section_grammar verdict
 magic_at [] context p e a m l f s = absurd (omega arith)
 magic_at (id ∷ xs) context p e a m l f s = rw (← m) f
 
-magic_decides : (xs : List ℕ) (context : SectionContext) (o : ℕ) (b : Bool) → agree xs magic ≡ b → true ≡ (b && nat_le 4 (length xs)) → 0 < length xs → waiting (section_grammar context o) xs ≡ enough
+magic_decides : (xs : List ℕ) (context : SectionContext) (o : ℕ) (b : Bool) → agree xs magic ≡ b → true ≡ (b && nat_le 4 (length xs))
+    → 0 < length xs → waiting (section_grammar context o) xs ≡ enough
 unfolding section_grammar waiting
 magic_decides [] context o b g m l = absurd (omega arith)
 magic_decides (id ∷ xs) context o true g m l = rw (g, ← m) refl
 magic_decides (id ∷ xs) context o false g m l = cc
 
-pub section_magic : (p : ParserState) (here : Place) (e : Error) (a : Place) → true ≡ (agree here.rest magic && nat_le 4 (length here.rest)) → 0 < length here.rest → fault_at e ≡ at_offset MagicAtSection here.offset → hint_of e ≡ None
+pub section_magic : (p : ParserState) (here : Place) (e : Error) (a : Place) → true ≡ (agree here.rest magic && nat_le 4 (length here.rest))
+    → 0 < length here.rest → fault_at e ≡ at_offset MagicAtSection here.offset → hint_of e ≡ None
     → ReadsNextSection p here (Err e) a
 section_magic p here e a m l f hint = (
   magic_at here.rest (known_context p) here e a m l f,
@@ -256,7 +310,8 @@ section_magic p here e a m l f hint = (
 )
 
 -- a section after its id
-framed_at : (xs : List ℕ) (context : SectionContext) (p q : Place) (id : ℕ) (r : Result Payload Error) (a : Place) → p.rest ≡ xs → false ≡ (agree xs magic && nat_le 4 (length xs)) → first_of p xs ≡ Ok (id, q)
+framed_at : (xs : List ℕ) (context : SectionContext) (p q : Place) (id : ℕ) (r : Result Payload Error) (a : Place) → p.rest ≡ xs → false
+    ≡ (agree xs magic && nat_le 4 (length xs)) → first_of p xs ≡ Ok (id, q)
     → ReadsByGrammar (after_id context p.offset id) q r a → (s : ℕ) → MatchesVerdict s p (verdict (section_grammar context p.offset) xs) r a
 unfolding section_grammar verdict
 framed_at [] context p q id r a z m b next s = cc
@@ -267,7 +322,8 @@ framed_at (x ∷ xs) context p q id r a z m b next s =
     let k : drop 1 p.rest ≡ xs = ap (drop 1) z in
     let here : MatchesVerdict s (advanced 1 p) (verdict (after_id context p.offset x) (drop 1 p.rest)) r a =
     subst₂ (λ (w : ℕ) (v : Place). MatchesVerdict s v (verdict (after_id context p.offset w) v.rest) r a) (sym i) (sym j) (next s).0 in
-    let there : MatchesVerdict s (advanced 1 p) (verdict (after_id context p.offset x) xs) r a = subst (λ (w : List ℕ). MatchesVerdict s (advanced 1 p) (verdict (after_id context p.offset x) w) r a) k here in
+    let there : MatchesVerdict s (advanced 1 p) (verdict (after_id context p.offset x) xs) r a =
+    subst (λ (w : List ℕ). MatchesVerdict s (advanced 1 p) (verdict (after_id context p.offset x) w) r a) k here in
     rw (← m) (report_at s p 1 (x ∷ []) (verdict (after_id context p.offset x) xs) r a refl there)
 
 -- bytes that begin no header
@@ -280,7 +336,8 @@ not_begun true false m n t f g = g' (nat_lt n m) refl g
     g' true u v = v
     g' false u v = absurd (omega (arith, ltb-false n m u, leb-false m n t))
 
-framed_hints : (xs : List ℕ) (context : SectionContext) (p q : Place) (id : ℕ) (r : Result Payload Error) → p.rest ≡ xs → agree xs magic ≡ false → first_of p xs ≡ Ok (id, q)
+framed_hints : (xs : List ℕ) (context : SectionContext) (p q : Place) (id : ℕ) (r : Result Payload Error) → p.rest ≡ xs → agree xs magic
+    ≡ false → first_of p xs ≡ Ok (id, q)
     → HintsAs (waiting (after_id context p.offset id) q.rest) r → HintsAs (waiting (section_grammar context p.offset) xs) r
 unfolding section_grammar waiting
 framed_hints [] context p q id r z m b next = cc
@@ -289,13 +346,16 @@ framed_hints (x ∷ xs) context p q id r z m b next =
     let i : x ≡ id = ap (λ (w : ℕ × Place). w.0) y in
     let j : drop 1 p.rest ≡ q.rest = ap (λ (w : ℕ × Place). w.1.rest) y in
     let k : drop 1 p.rest ≡ xs = ap (drop 1) z in
-    rw m (later_asked 1 (waiting (after_id context p.offset x) xs) r (subst₂ (λ (w : ℕ) (v : List ℕ). HintsAs (waiting (after_id context p.offset w) v) r) (sym i) (sym j ∙ k) next))
+    rw m (later_asked 1 (waiting (after_id context p.offset x) xs) r
+    (subst₂ (λ (w : ℕ) (v : List ℕ). HintsAs (waiting (after_id context p.offset w) v) r) (sym i) (sym j ∙ k) next))
 
-pub section_framed : (p : ParserState) (here q : Place) (id : ℕ) (r : Result Payload Error) (a : Place) → false ≡ (agree here.rest magic && nat_le 4 (length here.rest)) → byte_at here ≡ Ok (id, q)
+pub section_framed : (p : ParserState) (here q : Place) (id : ℕ) (r : Result Payload Error) (a : Place) → false
+    ≡ (agree here.rest magic && nat_le 4 (length here.rest)) → byte_at here ≡ Ok (id, q)
     → ReadsByGrammar (after_id (known_context p) here.offset id) q r a → ReadsNextSection p here r a
 section_framed p here q id r a m b next = (
   framed_at here.rest (known_context p) here q id r a refl m b next,
-  λ begun. framed_hints here.rest (known_context p) here q id r refl (not_begun (agree here.rest magic) (nat_le 4 (length here.rest)) 4 (length here.rest) refl m begun) b (next 0).1,
+  λ begun. framed_hints here.rest (known_context p) here q id r refl
+      (not_begun (agree here.rest magic) (nat_le 4 (length here.rest)) 4 (length here.rest) refl m begun) b (next 0).1,
 )
 
 -- bytes begin with others exactly if they agree with them, and are as many
@@ -313,7 +373,8 @@ begins_with : (first bytes : List ℕ) → starts_with nat_eq bytes first ≡ (a
 begins_with [] [] = refl
 begins_with [] (x ∷ bytes) = sym (le-leb 0 (length (x ∷ bytes)) (omega arith))
 begins_with (m ∷ first) [] = sym (lt-leb (length (m ∷ first)) 0 (omega arith))
-begins_with (m ∷ first) (x ∷ bytes) = begins_at (nat_eq m x) (nat_eq x m) (turned m x _ _ refl refl) _ _ _ (begins_with first bytes) ∙ ap (λ o. (nat_eq x m && agree bytes first) && is_le o) (sym (compare.suc-suc (length first) (length bytes)))
+begins_with (m ∷ first) (x ∷ bytes) = begins_at (nat_eq m x) (nat_eq x m) (turned m x _ _ refl refl) _ _ _ (begins_with first bytes)
+    ∙ ap (λ o. (nat_eq x m && agree bytes first) && is_le o) (sym (compare.suc-suc (length first) (length bytes)))
 
 pub begins_with_magic : (bytes : List ℕ) → starts_with nat_eq bytes magic ≡ (agree bytes magic && nat_le 4 (length bytes))
 begins_with_magic bytes = begins_with magic bytes

@@ -1,5 +1,6 @@
 -- What is read of a header.
-use Rattle.std.proofs.Common.{◌≡◌, ℕ, ◌+◌, ◌/◌, ◌%◌, ◌≤◌, Bool, true, false, cond, not, List, length, take, drop, Some, None, Result, Ok, Err, nat_lt, refl, sym, ap, subst, ◌∙◌, ltb-true, ltb-false}
+use Rattle.std.proofs.Common.{◌≡◌, ℕ, ◌+◌, ◌/◌, ◌%◌, ◌≤◌, Bool, true, false, cond, not, List, length, take, drop, Some, None, Result, Ok}
+use Rattle.std.proofs.Common.{Err, nat_lt, refl, sym, ap, subst, ◌∙◌, ltb-true, ltb-false}
 use Rattle.wasm_base.specs.FaultAt.{FaultAt, fault_at, hint_of, at_offset}
 use Rattle.wasm_base.specs.Hints.{hint_at, missing_at, missing_of_header}
 use Rattle.wasm_base.specs.Header.{magic, agree, header_version_at}
@@ -9,10 +10,10 @@ use Rattle.wasm_base.specs.Window.{Place, advanced}
 use Rattle.wasm_base.specs.declared.error.Error.{Error}
 use Rattle.wasm_base.specs.declared.fault.Fault.TheVariants.{UnexpectedEof, BadMagic, UnknownVersion}
 use Rattle.wasm_parser.specs.ParseAnswer.{IsPayload, MatchesGrammar}
-use Rattle.wasm_parser.specs.Content.{when}
-use Rattle.wasm_parser.specs.Grammar.{version, encoding_named, version_of, header_grammar}
-use Rattle.wasm_parser.specs.Reading.{tile_report}
-use Rattle.wasm_parser.specs.declared.payload.Encoding.{Encoding}
+use Rattle.wasm_grammar.specs.Content.{when}
+use Rattle.wasm_grammar.specs.Grammar.{version, encoding_named, version_of, header_grammar}
+use Rattle.wasm_grammar.specs.Reading.{tile_report}
+use Rattle.wasm_grammar.specs.declared.encoding.Encoding.{Encoding}
 use Rattle.wasm_parser.specs.declared.payload.Payload.{Payload}
 use Rattle.wasm_parser.proofs.ReadingFields.{report_bytes, report_missing, report_wrong, report_right, report_whole, report_stops}
 
@@ -38,11 +39,13 @@ unfolding header_version_at u32_at
 steps_at true p e = rw e refl
 steps_at false p e = rw e (by_magic (agree (take 4 p.rest) magic))
   where
-    by_magic : (b : Bool) → (let x : Bits = cond b (bits_at (nat_lt (length (drop 4 p.rest)) 4) (advanced 4 p)) (Err (at_offset BadMagic p.offset)) in x) ≡ version_steps false b (nat_lt (length (drop 4 p.rest)) 4) p
+    by_magic : (b : Bool) → (let x : Bits = cond b (bits_at (nat_lt (length (drop 4 p.rest)) 4) (advanced 4 p))
+        (Err (at_offset BadMagic p.offset)) in x) ≡ version_steps false b (nat_lt (length (drop 4 p.rest)) 4) p
     by_magic true = refl
     by_magic false = refl
 
-steps : (p : Place) → header_version_at p ≡ version_steps (nat_lt (length p.rest) 4) (agree (take 4 p.rest) magic) (nat_lt (length (drop 4 p.rest)) 4) p
+steps : (p : Place) → header_version_at p ≡ version_steps (nat_lt (length p.rest) 4) (agree (take 4 p.rest) magic)
+    (nat_lt (length (drop 4 p.rest)) 4) p
 steps p = steps_at (nat_lt (length p.rest) 4) p refl
 
 -- a header that was read
@@ -53,40 +56,57 @@ pub record ReadHeader (p : Place) (bits : ℕ) (q : Place) : Type 0 where
   pub four : of_four (take 4 (drop 4 p.rest)) ≡ bits
   pub place : q ≡ advanced 4 (advanced 4 p)
 
-read_at : (few other fewer : Bool) (p : Place) (bits : ℕ) (q : Place) → nat_lt (length p.rest) 4 ≡ few → agree (take 4 p.rest) magic ≡ other → nat_lt (length (drop 4 p.rest)) 4 ≡ fewer
+read_at : (few other fewer : Bool) (p : Place) (bits : ℕ) (q : Place) → nat_lt (length p.rest) 4 ≡ few → agree (take 4 p.rest) magic ≡ other
+    → nat_lt (length (drop 4 p.rest)) 4 ≡ fewer
     → version_steps few other fewer p ≡ Ok (bits, q) → ReadHeader p bits q
 read_at true other fewer p bits q a b c h = cc
 read_at false false fewer p bits q a b c h = cc
 read_at false true true p bits q a b c h = cc
 read_at false true false p bits q a b c h =
     let z : (of_four (take 4 (drop 4 p.rest)), advanced 4 (advanced 4 p)) ≡ (bits, q) = cc in
-    record { there = ltb-false _ _ a; begins = b; after = ltb-false _ _ c; four = ap (λ (x : ℕ × Place). x.0) z; place = sym (ap (λ (x : ℕ × Place). x.1) z) }
+    record {
+      there = ltb-false _ _ a;
+      begins = b;
+      after = ltb-false _ _ c;
+      four = ap (λ (x : ℕ × Place). x.0) z;
+      place = sym (ap (λ (x : ℕ × Place). x.1) z);
+    }
 
 pub header_read : (p : Place) (bits : ℕ) (q : Place) → header_version_at p ≡ Ok (bits, q) → ReadHeader p bits q
-header_read p bits q h = read_at (nat_lt (length p.rest) 4) (agree (take 4 p.rest) magic) (nat_lt (length (drop 4 p.rest)) 4) p bits q refl refl refl (sym (steps p) ∙ h)
+header_read p bits q h = read_at (nat_lt (length p.rest) 4) (agree (take 4 p.rest) magic) (nat_lt (length (drop 4 p.rest)) 4) p bits q refl
+    refl refl (sym (steps p) ∙ h)
 
 -- what is after the eight bytes
-report_eight : (s : ℕ) (p : Place) (bits : ℕ) (q : Place) (r : Result Payload Error) (a : Place) → ReadHeader p bits q → MatchesGrammar s q (version_of p.offset bits) r a → MatchesGrammar s p (header_grammar p.offset) r a
+report_eight : (s : ℕ) (p : Place) (bits : ℕ) (q : Place) (r : Result Payload Error) (a : Place) → ReadHeader p bits q
+    → MatchesGrammar s q (version_of p.offset bits) r a → MatchesGrammar s p (header_grammar p.offset) r a
 unfolding header_grammar
 report_eight s p bits q r a h t =
     let m : when (not (agree (take 4 p.rest) magic)) (at_offset BadMagic p.offset) ≡ None = rw h.begins refl in
-    let v : MatchesGrammar s (advanced 4 (advanced 4 p)) (version_of p.offset bits) r a = subst (λ (x : Place). MatchesGrammar s x (version_of p.offset bits) r a) h.place t in
-    let w : MatchesGrammar s (advanced 4 (advanced 4 p)) (version_of p.offset (of_four (take 4 (drop 4 p.rest)))) r a = subst (λ (x : ℕ). MatchesGrammar s (advanced 4 (advanced 4 p)) (version_of p.offset x) r a) (sym h.four) v in
+    let v : MatchesGrammar s (advanced 4 (advanced 4 p)) (version_of p.offset bits) r a =
+    subst (λ (x : Place). MatchesGrammar s x (version_of p.offset bits) r a) h.place t in
+    let w : MatchesGrammar s (advanced 4 (advanced 4 p)) (version_of p.offset (of_four (take 4 (drop 4 p.rest)))) r a =
+    subst (λ (x : ℕ). MatchesGrammar s (advanced 4 (advanced 4 p)) (version_of p.offset x) r a) (sym h.four) v in
     report_bytes s p 4 p.offset _ r a h.there (
     report_right s (advanced 4 p) (when (not (agree (take 4 p.rest) magic)) (at_offset BadMagic p.offset)) _ r a m (
     report_bytes s (advanced 4 p) 4 (p.offset + 4) (λ four. version_of p.offset (of_four four)) r a h.after w))
 
 -- a header of a known version
-pub header_report : (p : Place) (bits : ℕ) (q : Place) (e : Encoding) (payload : Payload) → header_version_at p ≡ Ok (bits, q) → Some e ≡ encoding_named (bits % 65536) (bits / 65536)
-    → IsPayload (tile_report q.features p.offset q.offset (version (bits % 65536) e)) payload → MatchesGrammar p.offset p (header_grammar p.offset) (Ok payload) q
+pub header_report : (p : Place) (bits : ℕ) (q : Place) (e : Encoding) (payload : Payload) → header_version_at p ≡ Ok (bits, q) → Some e
+    ≡ encoding_named (bits % 65536) (bits / 65536)
+    → IsPayload (tile_report q.features p.offset q.offset (version (bits % 65536) e)) payload
+    → MatchesGrammar p.offset p (header_grammar p.offset) (Ok payload) q
 header_report p bits q e payload h n t =
-    report_eight p.offset p bits q (Ok payload) q (header_read p bits q h) (rw (← n) (report_whole p.offset q (version (bits % 65536) e) payload q refl t))
+    report_eight p.offset p bits q (Ok payload) q (header_read p bits q h)
+    (rw (← n) (report_whole p.offset q (version (bits % 65536) e) payload q refl t))
 
 -- one of an unknown version
-pub header_unnamed : (p : Place) (bits : ℕ) (q : Place) (e : Error) → header_version_at p ≡ Ok (bits, q) → None ≡ encoding_named (bits % 65536) (bits / 65536)
-    → fault_at e ≡ record { fault = UnknownVersion; offset = p.offset + 4; number = Some bits } → hint_of e ≡ None → MatchesGrammar p.offset p (header_grammar p.offset) (Err e) q
+pub header_unnamed : (p : Place) (bits : ℕ) (q : Place) (e : Error) → header_version_at p ≡ Ok (bits, q) → None
+    ≡ encoding_named (bits % 65536) (bits / 65536)
+    → fault_at e ≡ record { fault = UnknownVersion; offset = p.offset + 4; number = Some bits } → hint_of e ≡ None
+    → MatchesGrammar p.offset p (header_grammar p.offset) (Err e) q
 header_unnamed p bits q e h n f hint =
-    report_eight p.offset p bits q (Err e) q (header_read p bits q h) (rw (← n) (report_stops p.offset q (record { fault = UnknownVersion; offset = p.offset + 4; number = Some bits }) e q f hint))
+    report_eight p.offset p bits q (Err e) q (header_read p bits q h)
+    (rw (← n) (report_stops p.offset q (record { fault = UnknownVersion; offset = p.offset + 4; number = Some bits }) e q f hint))
 
 -- none
 
@@ -95,12 +115,15 @@ abbrev steps_missing : (few other : Bool) → Place → ℕ
 steps_missing true other p = missing_at 4 p
 steps_missing false other p = missing_at 4 (advanced 4 p)
 
-missing_by_steps : (few : Bool) (p : Place) → nat_lt (length p.rest) 4 ≡ few → missing_of_header p ≡ steps_missing few (agree (take 4 p.rest) magic) p
+missing_by_steps : (few : Bool) (p : Place) → nat_lt (length p.rest) 4 ≡ few → missing_of_header p
+    ≡ steps_missing few (agree (take 4 p.rest) magic) p
 missing_by_steps true p e = rw e refl
 missing_by_steps false p e = rw e refl
 
-refused_at : (few other fewer : Bool) (p : Place) (e : Error) (a : Place) → nat_lt (length p.rest) 4 ≡ few → agree (take 4 p.rest) magic ≡ other → nat_lt (length (drop 4 p.rest)) 4 ≡ fewer
-    → version_steps few other fewer p ≡ Err (fault_at e) → hint_of e ≡ hint_at (steps_missing few other p) (fault_at e).fault → MatchesGrammar p.offset p (header_grammar p.offset) (Err e) a
+refused_at : (few other fewer : Bool) (p : Place) (e : Error) (a : Place) → nat_lt (length p.rest) 4 ≡ few → agree (take 4 p.rest) magic
+    ≡ other → nat_lt (length (drop 4 p.rest)) 4 ≡ fewer
+    → version_steps few other fewer p ≡ Err (fault_at e) → hint_of e ≡ hint_at (steps_missing few other p) (fault_at e).fault
+    → MatchesGrammar p.offset p (header_grammar p.offset) (Err e) a
 unfolding header_grammar
 refused_at true other fewer p e a x y z h hint =
     let f : at_offset UnexpectedEof p.offset ≡ fault_at e = cc in
@@ -108,7 +131,9 @@ refused_at true other fewer p e a x y z h hint =
 refused_at false false fewer p e a x y z h hint =
     let f : at_offset BadMagic p.offset ≡ fault_at e = cc in
     let m : when (not (agree (take 4 p.rest) magic)) (at_offset BadMagic p.offset) ≡ Some (fault_at e) = rw y (ap Some f) in
-    report_bytes p.offset p 4 p.offset _ (Err e) a (ltb-false _ _ x) (report_wrong p.offset (advanced 4 p) (when (not (agree (take 4 p.rest) magic)) (at_offset BadMagic p.offset)) _ e a m (hint ∙ ap (λ (x : FaultAt). hint_at (steps_missing false false p) x.fault) (sym f)))
+    report_bytes p.offset p 4 p.offset _ (Err e) a (ltb-false _ _ x)
+    (report_wrong p.offset (advanced 4 p) (when (not (agree (take 4 p.rest) magic)) (at_offset BadMagic p.offset)) _ e a m
+    (hint ∙ ap (λ (x : FaultAt). hint_at (steps_missing false false p) x.fault) (sym f)))
 refused_at false true true p e a x y z h hint =
     let f : at_offset UnexpectedEof (p.offset + 4) ≡ fault_at e = cc in
     let m : when (not (agree (take 4 p.rest) magic)) (at_offset BadMagic p.offset) ≡ None = rw y refl in
@@ -117,5 +142,7 @@ refused_at false true true p e a x y z h hint =
     report_missing p.offset (advanced 4 p) 4 (p.offset + 4) _ e a (ltb-true _ _ z) (sym f) hint))
 refused_at false true false p e a x y z h hint = cc
 
-pub header_refused : (p : Place) (e : Error) (a : Place) → header_version_at p ≡ Err (fault_at e) → hint_of e ≡ hint_at (missing_of_header p) (fault_at e).fault → MatchesGrammar p.offset p (header_grammar p.offset) (Err e) a
-header_refused p e a h hint = refused_at (nat_lt (length p.rest) 4) (agree (take 4 p.rest) magic) (nat_lt (length (drop 4 p.rest)) 4) p e a refl refl refl (sym (steps p) ∙ h) (hint ∙ ap (λ n. hint_at n (fault_at e).fault) (missing_by_steps (nat_lt (length p.rest) 4) p refl))
+pub header_refused : (p : Place) (e : Error) (a : Place) → header_version_at p ≡ Err (fault_at e) → hint_of e
+    ≡ hint_at (missing_of_header p) (fault_at e).fault → MatchesGrammar p.offset p (header_grammar p.offset) (Err e) a
+header_refused p e a h hint = refused_at (nat_lt (length p.rest) 4) (agree (take 4 p.rest) magic) (nat_lt (length (drop 4 p.rest)) 4) p e a
+    refl refl refl (sym (steps p) ∙ h) (hint ∙ ap (λ n. hint_at n (fault_at e).fault) (missing_by_steps (nat_lt (length p.rest) 4) p refl))

@@ -1,17 +1,19 @@
 -- What is read where a parser is, and what it answers then.
-use Rattle.std.proofs.Common.{◌≡◌, ℕ, ◌+◌, ◌-◌, ◌^◌, ◌<◌, Bool, true, false, not, List, length, Some, Result, Ok, Err, nat_eq, refl, sym, ap, subst, subst₂, ◌∙◌, arith, add-zero}
+use Rattle.std.proofs.Common.{◌≡◌, ℕ, ◌+◌, ◌-◌, ◌^◌, ◌<◌, Bool, true, false, not, List, length, Some, Result, Ok, Err, nat_eq, refl, sym}
+use Rattle.std.proofs.Common.{ap, subst, subst₂, ◌∙◌, arith, add-zero}
 use Rattle.wasm_base.specs.Name.{Name, named, refused, name_limit, name}
 use Rattle.wasm_base.specs.Window.{Window, Place, place, window_over}
 use Rattle.wasm_base.specs.declared.error.Error.{Error}
-use Rattle.wasm_parser.specs.Content.{custom, items, index, data_count, unknown, fault, ended}
-use Rattle.wasm_parser.specs.Grammar.{Shape, version, section, code_start, code_entry, Tile, Verdict, tile, final, Grammar, header_grammar, section_grammar, body_grammar, verdict}
+use Rattle.wasm_grammar.specs.Content.{custom, items, index, data_count, unknown, fault, ended}
+use Rattle.wasm_grammar.specs.Grammar.{Shape, version, section, code_start, code_entry, Tile, Verdict, tile, final, Grammar, header_grammar}
+use Rattle.wasm_grammar.specs.Grammar.{section_grammar, body_grammar, verdict}
 use Rattle.wasm_parser.specs.ParseAnswer.{IsPayload, MatchesVerdict, HintsAs, MatchesGrammar, Advances, ParseAnswer, report_of}
 use Rattle.wasm_parser.specs.ParserState.{ParserState, known_context, grammar_of, is_at_section}
 use Rattle.wasm_parser.specs.ReadsPart.{IsBegun, Refuses, ReadsHeader, ReadsBody, ReadsNextSection, ReadsNext}
-use Rattle.wasm_parser.specs.Reading.{custom_report, tile_report}
+use Rattle.wasm_grammar.specs.Reading.{custom_report, tile_report}
 use Rattle.wasm_parser.specs.StateAfter.{missing_bytes, state_after_tile}
-use Rattle.wasm_parser.specs.Tiling.{bytes_after}
-use Rattle.wasm_parser.specs.Waiting.{waiting}
+use Rattle.wasm_grammar.specs.Tiling.{bytes_after}
+use Rattle.wasm_grammar.specs.Waiting.{waiting}
 use Rattle.wasm_parser.specs.declared.payload.Chunk.{Chunk}
 use Rattle.wasm_parser.specs.declared.payload.Chunk.TheVariants.{Parsed}
 use Rattle.wasm_parser.specs.declared.payload.Payload.{Payload}
@@ -29,21 +31,28 @@ pub not_false : (b : Bool) → false ≡ not b → b ≡ true
 not_false true e = refl
 not_false false e = cc
 
-matches : (p : ParserState) (here after : Place) (r : Result Payload Error) (g : Grammar) → grammar_of p ≡ g → MatchesGrammar p.offset here g r after → ReadsNext p here r after
+matches : (p : ParserState) (here after : Place) (r : Result Payload Error) (g : Grammar) → grammar_of p ≡ g
+    → MatchesGrammar p.offset here g r after → ReadsNext p here r after
 matches p here after r g e m = (
   subst (λ (x : Grammar). MatchesVerdict p.offset here (verdict x here.rest) r after) (sym e) m.0,
   λ b. subst (λ (x : Grammar). HintsAs (waiting x here.rest) r) (sym e) m.1,
 )
 
-pub next_header : (p : ParserState) (here after : Place) (r : Result Payload Error) → p.expects_header ≡ true → here.offset ≡ p.offset → ReadsHeader here r after → ReadsNext p here r after
-next_header p here after r h o m = matches p here after r (header_grammar p.offset) (rw h refl) (subst (λ (x : ℕ). MatchesGrammar x here (header_grammar x) r after) o m)
+pub next_header : (p : ParserState) (here after : Place) (r : Result Payload Error) → p.expects_header ≡ true → here.offset ≡ p.offset
+    → ReadsHeader here r after → ReadsNext p here r after
+next_header p here after r h o m = matches p here after r (header_grammar p.offset) (rw h refl)
+    (subst (λ (x : ℕ). MatchesGrammar x here (header_grammar x) r after) o m)
 
-pub next_body : (p : ParserState) (here after : Place) (r : Result Payload Error) → p.expects_header ≡ false → nat_eq (p.bodies + p.left) 0 ≡ false → here.offset ≡ p.offset → ReadsBody p here r after → ReadsNext p here r after
-next_body p here after r h c o m = matches p here after r (body_grammar p.bodies p.left p.offset) (rw (h, c) refl) (subst (λ (x : ℕ). MatchesGrammar p.offset here (body_grammar p.bodies p.left x) r after) o (m p.offset))
+pub next_body : (p : ParserState) (here after : Place) (r : Result Payload Error) → p.expects_header ≡ false → nat_eq (p.bodies + p.left) 0
+    ≡ false → here.offset ≡ p.offset → ReadsBody p here r after → ReadsNext p here r after
+next_body p here after r h c o m = matches p here after r (body_grammar p.bodies p.left p.offset) (rw (h, c) refl)
+    (subst (λ (x : ℕ). MatchesGrammar p.offset here (body_grammar p.bodies p.left x) r after) o (m p.offset))
 
-pub next_section : (p : ParserState) (here after : Place) (r : Result Payload Error) → p.expects_header ≡ false → nat_eq (p.bodies + p.left) 0 ≡ true → here.offset ≡ p.offset → ReadsNextSection p here r after → ReadsNext p here r after
+pub next_section : (p : ParserState) (here after : Place) (r : Result Payload Error) → p.expects_header ≡ false
+    → nat_eq (p.bodies + p.left) 0 ≡ true → here.offset ≡ p.offset → ReadsNextSection p here r after → ReadsNext p here r after
 next_section p here after r h c o m =
-    let e : section_grammar (known_context p) here.offset ≡ grammar_of p = ap (section_grammar (known_context p)) o ∙ sym (rw (h, c) refl) in
+    let e : section_grammar (known_context p) here.offset ≡ grammar_of p = ap (section_grammar (known_context p)) o
+    ∙ sym (rw (h, c) refl) in
     let s : is_at_section p ≡ true = rw (h, c) refl in (
       subst (λ (x : Grammar). MatchesVerdict p.offset here (verdict x here.rest) r after) e (m.0 p.offset),
       λ b. subst (λ (x : Grammar). HintsAs (waiting x here.rest) r) e (m.1 (b s)),
@@ -52,7 +61,8 @@ next_section p here after r h c o m =
 -- ---- a tile
 
 -- what is left of a code section after a tile ends below the top
-left_fits : (p : ParserState) (xs : List ℕ) (t : Tile) (shape : Shape) → Fits (p.offset + length t.bytes) shape → p.offset + length t.bytes < 2 ^ 64 → p.offset + p.left < 2 ^ 64 → p.offset + length t.bytes + bytes_after t shape p.left < 2 ^ 64
+left_fits : (p : ParserState) (xs : List ℕ) (t : Tile) (shape : Shape) → Fits (p.offset + length t.bytes) shape
+    → p.offset + length t.bytes < 2 ^ 64 → p.offset + p.left < 2 ^ 64 → p.offset + length t.bytes + bytes_after t shape p.left < 2 ^ 64
 left_fits p xs t (version num encoding) f l m = omega arith
 left_fits p xs t (section form id content) f l m = omega arith
 left_fits p xs t (code_start count width size) f l m = f
@@ -63,9 +73,12 @@ custom_misses : (f from to a : ℕ) (content : List ℕ) (n : Name) (b : ℕ) �
 custom_misses f from to a content (named text used) b = refl
 custom_misses f from to a content (refused x place) b = refl
 
-missing_same : (f g s from to : ℕ) (shape : Shape) (taken left : ℕ) → missing_bytes (tile_report f s from shape) taken left ≡ missing_bytes (tile_report g s to shape) taken left
+missing_same : (f g s from to : ℕ) (shape : Shape) (taken left : ℕ) → missing_bytes (tile_report f s from shape) taken left
+    ≡ missing_bytes (tile_report g s to shape) taken left
 missing_same f g s from to (version num encoding) taken left = refl
-missing_same f g s from to (section custom id content) taken left = custom_misses f (from - length content) from taken content (name (Some name_limit) content) left ∙ sym (custom_misses g (to - length content) to taken content (name (Some name_limit) content) left)
+missing_same f g s from to (section custom id content) taken left =
+    custom_misses f (from - length content) from taken content (name (Some name_limit) content) left
+    ∙ sym (custom_misses g (to - length content) to taken content (name (Some name_limit) content) left)
 missing_same f g s from to (section items id content) taken left = refl
 missing_same f g s from to (section index id content) taken left = refl
 missing_same f g s from to (section data_count id content) taken left = refl
@@ -73,56 +86,81 @@ missing_same f g s from to (section unknown id content) taken left = refl
 missing_same f g s from to (code_start count width size) taken left = refl
 missing_same f g s from to (code_entry content) taken left = refl
 
-fits_at : (p : ParserState) (here after : Place) (payload : Payload) (end : ℕ) (v : Verdict) → verdict (grammar_of p) here.rest ≡ v → MatchesVerdict p.offset here v (Ok payload) after → here.offset ≡ p.offset → end ≡ after.offset → end < 2 ^ 64 → p.offset + p.left < 2 ^ 64
+fits_at : (p : ParserState) (here after : Place) (payload : Payload) (end : ℕ) (v : Verdict) → verdict (grammar_of p) here.rest ≡ v
+    → MatchesVerdict p.offset here v (Ok payload) after → here.offset ≡ p.offset → end ≡ after.offset → end < 2 ^ 64
+    → p.offset + p.left < 2 ^ 64
     → end + missing_bytes (report_of payload) (end - p.offset) p.left < 2 ^ 64
 fits_at p here after payload end (tile t) e m o at l k =
     let a : after.offset ≡ here.offset + length t.bytes = ap (λ (x : Place). x.offset) m.0 in
     let to : end ≡ p.offset + length t.bytes = at ∙ (a ∙ ap (λ (x : ℕ). x + length t.bytes) o) in
     let r : report_of payload ≡ tile_report here.features p.offset (here.offset + length t.bytes) t.shape = m.1.0 in
-    let s : missing_bytes (tile_report p.features p.offset (p.offset + length t.bytes) t.shape) (p.offset + length t.bytes - p.offset) p.left ≡ bytes_after t t.shape p.left = ap (λ (x : ParserState). x.left) (state_same p here.rest t e) in
+    let s : missing_bytes (tile_report p.features p.offset (p.offset + length t.bytes) t.shape) (p.offset + length t.bytes - p.offset)
+    p.left ≡ bytes_after t t.shape p.left = ap (λ (x : ParserState). x.left) (state_same p here.rest t e) in
     let fits = left_fits p here.rest t t.shape (tile_fits p here.rest t e) (omega arith) k in
-    let same : missing_bytes (report_of payload) (end - p.offset) p.left ≡ missing_bytes (tile_report p.features p.offset (p.offset + length t.bytes) t.shape) (p.offset + length t.bytes - p.offset) p.left =
-    ap (λ x. missing_bytes x (end - p.offset) p.left) r ∙ (missing_same here.features p.features p.offset (here.offset + length t.bytes) (p.offset + length t.bytes) t.shape (end - p.offset) p.left ∙ ap (λ (x : ℕ). missing_bytes (tile_report p.features p.offset (p.offset + length t.bytes) t.shape) (x - p.offset) p.left) to) in
+    let same : missing_bytes (report_of payload) (end - p.offset) p.left
+    ≡ missing_bytes (tile_report p.features p.offset (p.offset + length t.bytes) t.shape) (p.offset + length t.bytes - p.offset)
+    p.left =
+    ap (λ x. missing_bytes x (end - p.offset) p.left) r ∙ (missing_same here.features p.features p.offset (here.offset + length t.bytes)
+    (p.offset + length t.bytes) t.shape (end - p.offset) p.left
+    ∙ ap (λ (x : ℕ). missing_bytes (tile_report p.features p.offset (p.offset + length t.bytes) t.shape) (x - p.offset) p.left) to) in
     let both = same ∙ s in
     omega (arith, fits, both, to)
 fits_at p here after payload end (final (fault f)) e m o at l k = absurd m
 fits_at p here after payload end (final (ended x)) e m o at l k = absurd m
 
-pub advance_fits : (p : ParserState) (here after : Place) (payload : Payload) (end : ℕ) → ReadsNext p here (Ok payload) after → here.offset ≡ p.offset → end ≡ after.offset → end < 2 ^ 64 → p.offset + p.left < 2 ^ 64
+pub advance_fits : (p : ParserState) (here after : Place) (payload : Payload) (end : ℕ) → ReadsNext p here (Ok payload) after → here.offset
+    ≡ p.offset → end ≡ after.offset → end < 2 ^ 64 → p.offset + p.left < 2 ^ 64
     → end + missing_bytes (report_of payload) (end - p.offset) p.left < 2 ^ 64
 advance_fits p here after payload end m o at l k = fits_at p here after payload end (verdict (grammar_of p) here.rest) refl m.0 o at l k
 
-answers_at : (p q : ParserState) (eof : Bool) (here after : Place) (payload : Payload) (end : ℕ) (v : Verdict) → verdict (grammar_of p) here.rest ≡ v → MatchesVerdict p.offset here v (Ok payload) after → p.offset + length here.rest < 2 ^ 64
-    → here.offset ≡ p.offset → here.features ≡ p.features → end ≡ after.offset → Advances p payload end q → ParseAnswer p eof here.rest (Ok (Parsed (end - p.offset) payload)) q
+answers_at : (p q : ParserState) (eof : Bool) (here after : Place) (payload : Payload) (end : ℕ) (v : Verdict)
+    → verdict (grammar_of p) here.rest ≡ v → MatchesVerdict p.offset here v (Ok payload) after → p.offset + length here.rest < 2 ^ 64
+    → here.offset ≡ p.offset → here.features ≡ p.features → end ≡ after.offset → Advances p payload end q
+    → ParseAnswer p eof here.rest (Ok (Parsed (end - p.offset) payload)) q
 answers_at p q eof here after payload end (tile t) e m l o f at a =
     let x : after.offset ≡ here.offset + length t.bytes = ap (λ (x : Place). x.offset) m.0 in
     let to : end ≡ p.offset + length t.bytes = at ∙ (x ∙ ap (λ (x : ℕ). x + length t.bytes) o) in
-    let says : IsPayload (tile_report p.features p.offset (p.offset + length t.bytes) t.shape) payload = subst₂ (λ (x y : ℕ). IsPayload (tile_report x p.offset (y + length t.bytes) t.shape) payload) f o m.1 in
-    let moves : q ≡ state_after_tile p t = a here.rest t e to (subst (λ (x : ℕ). IsPayload (tile_report p.features p.offset x t.shape) payload) (sym to) says) in
+    let says : IsPayload (tile_report p.features p.offset (p.offset + length t.bytes) t.shape) payload =
+    subst₂ (λ (x y : ℕ). IsPayload (tile_report x p.offset (y + length t.bytes) t.shape) payload) f o m.1 in
+    let moves : q ≡ state_after_tile p t = a here.rest t e to (subst
+    (λ (x : ℕ). IsPayload (tile_report p.features p.offset x t.shape) payload) (sym to) says) in
     answers_tile p q eof here.rest (Ok (Parsed (end - p.offset) payload)) t l e (omega arith, says, moves)
 answers_at p q eof here after payload end (final (fault x)) e m l o f at a = absurd m
 answers_at p q eof here after payload end (final (ended x)) e m l o f at a = absurd m
 
-pub answers_read : (p q : ParserState) (eof : Bool) (here after : Place) (payload : Payload) (end : ℕ) → ReadsNext p here (Ok payload) after → p.offset + length here.rest < 2 ^ 64 → here.offset ≡ p.offset → here.features ≡ p.features → end ≡ after.offset → Advances p payload end q
+pub answers_read : (p q : ParserState) (eof : Bool) (here after : Place) (payload : Payload) (end : ℕ) → ReadsNext p here (Ok payload) after
+    → p.offset + length here.rest < 2 ^ 64 → here.offset ≡ p.offset → here.features ≡ p.features → end ≡ after.offset
+    → Advances p payload end q
     → ParseAnswer p eof here.rest (Ok (Parsed (end - p.offset) payload)) q
-answers_read p q eof here after payload end m l o f at a = answers_at p q eof here after payload end (verdict (grammar_of p) here.rest) refl m.0 l o f at a
+answers_read p q eof here after payload end m l o f at a = answers_at p q eof here after payload end (verdict (grammar_of p) here.rest) refl
+    m.0 l o f at a
 
 -- ---- what is read of bytes that begin where the parser is
 
-at_window : (p : ParserState) (w : Window) (bytes : List ℕ) (r : Result Payload Error) (after : Place) → w ≡ window_over p.features p.offset bytes → ReadsNext p (place w) r after → ReadsNext p (place (window_over p.features p.offset bytes)) r after
+at_window : (p : ParserState) (w : Window) (bytes : List ℕ) (r : Result Payload Error) (after : Place) → w
+    ≡ window_over p.features p.offset bytes → ReadsNext p (place w) r after
+    → ReadsNext p (place (window_over p.features p.offset bytes)) r after
 at_window p w bytes r after e m = subst (λ (x : Window). ReadsNext p (place x) r after) e m
 
-pub window_fits : (p : ParserState) (w : Window) (bytes : List ℕ) (after : Place) (payload : Payload) (end : ℕ) → w ≡ window_over p.features p.offset bytes → ReadsNext p (place w) (Ok payload) after → end ≡ after.offset → end < 2 ^ 64 → p.offset + p.left < 2 ^ 64
+pub window_fits : (p : ParserState) (w : Window) (bytes : List ℕ) (after : Place) (payload : Payload) (end : ℕ) → w
+    ≡ window_over p.features p.offset bytes → ReadsNext p (place w) (Ok payload) after → end ≡ after.offset → end < 2 ^ 64
+    → p.offset + p.left < 2 ^ 64
     → end + missing_bytes (report_of payload) (end - p.offset) p.left < 2 ^ 64
 window_fits p w bytes after payload end e m at l k =
-    advance_fits p (place (window_over p.features p.offset bytes)) after payload end (at_window p w bytes (Ok payload) after e m) (add-zero p.offset) at l k
+    advance_fits p (place (window_over p.features p.offset bytes)) after payload end (at_window p w bytes (Ok payload) after e m)
+    (add-zero p.offset) at l k
 
-pub window_answered : (p q : ParserState) (eof : Bool) (w : Window) (bytes : List ℕ) (after : Place) (payload : Payload) (start end : ℕ) → w ≡ window_over p.features p.offset bytes → start ≡ p.offset → ReadsNext p (place w) (Ok payload) after → p.offset + length bytes < 2 ^ 64
+pub window_answered : (p q : ParserState) (eof : Bool) (w : Window) (bytes : List ℕ) (after : Place) (payload : Payload) (start end : ℕ) → w
+    ≡ window_over p.features p.offset bytes → start ≡ p.offset → ReadsNext p (place w) (Ok payload) after → p.offset + length bytes < 2 ^ 64
     → end ≡ after.offset → Advances p payload end q → ParseAnswer p eof bytes (Ok (Parsed (end - start) payload)) q
 window_answered p q eof w bytes after payload start end e s m l at a =
     subst (λ (x : ℕ). ParseAnswer p eof bytes (Ok (Parsed (end - x) payload)) q) (sym s)
-    (answers_read p q eof (place (window_over p.features p.offset bytes)) after payload end (at_window p w bytes (Ok payload) after e m) l (add-zero p.offset) refl at a)
+    (answers_read p q eof (place (window_over p.features p.offset bytes)) after payload end (at_window p w bytes (Ok payload) after e m) l
+    (add-zero p.offset) refl at a)
 
-pub window_refused : (p : ParserState) (eof : Bool) (w : Window) (bytes : List ℕ) (after : Place) (e : Error) (r : Result Chunk Error) → w ≡ window_over p.features p.offset bytes → ReadsNext p (place w) (Err e) after → p.offset + length bytes < 2 ^ 64 → IsBegun p eof bytes → Refuses eof e r
+pub window_refused : (p : ParserState) (eof : Bool) (w : Window) (bytes : List ℕ) (after : Place) (e : Error) (r : Result Chunk Error) → w
+    ≡ window_over p.features p.offset bytes → ReadsNext p (place w) (Err e) after → p.offset + length bytes < 2 ^ 64 → IsBegun p eof bytes
+    → Refuses eof e r
     → ParseAnswer p eof bytes r p
-window_refused p eof w bytes after e r same m l b f = answers_refused p p eof (place (window_over p.features p.offset bytes)) after e r l b (at_window p w bytes (Err e) after same m) f refl
+window_refused p eof w bytes after e r same m l b f = answers_refused p p eof (place (window_over p.features p.offset bytes)) after e r l b
+    (at_window p w bytes (Err e) after same m) f refl

@@ -1,26 +1,29 @@
 -- How what is at a place is reported, field by field.
-use Rattle.std.proofs.Common.{◌≡◌, ℕ, suc, ◌+◌, ◌-◌, ◌<◌, ◌≤◌, Bool, true, false, cond, List, ◌++◌, length, take, drop, slice_index, Option, Some, None, Result, Ok, Err, nat_lt, refl, sym, ap, subst, ◌∙◌, arith, length-append, le-leb, add-zero}
+use Rattle.std.proofs.Common.{◌≡◌, ℕ, ◌+◌, ◌-◌, ◌<◌, ◌≤◌, List, ◌++◌, length, take, drop, Option, Some, None, Result, Ok, Err, refl, sym}
+use Rattle.std.proofs.Common.{ap, subst, ◌∙◌, arith, length-append, le-leb, add-zero}
 use Rattle.std.proofs.lemmas.Bool.{lt-leb}
 use Rattle.std.proofs.lemmas.List.{length-take-le}
 use Rattle.wasm_base.specs.FaultAt.{FaultAt, fault_at, hint_of, at_offset}
 use Rattle.wasm_base.specs.Hints.{hint_at, missing_at}
-use Rattle.wasm_base.specs.Number.{Number, read, bad, short, number, ends_at, last_place, groups, is_unused_right, in_window, unsigned_at}
+use Rattle.wasm_base.specs.Number.{Number, read, bad, short, number, in_window, unsigned_at}
 use Rattle.wasm_base.specs.Window.{Place, advanced}
 use Rattle.wasm_base.specs.declared.error.Error.{Error}
-use Rattle.wasm_base.specs.declared.fault.Fault.{Fault}
-use Rattle.wasm_base.specs.declared.fault.Fault.TheVariants.{UnexpectedEof, NumberTooLong, NumberTooLarge}
+use Rattle.wasm_base.specs.declared.fault.Fault.TheVariants.{UnexpectedEof}
 use Rattle.wasm_base.specs.declared.fault.NumberKind.TheVariants.{VarU32}
 use Rattle.wasm_base.proofs.NumberLaws.{Used, number-used}
 use Rattle.wasm_base.proofs.Texts.{advanced_twice}
 use Rattle.wasm_parser.specs.ParseAnswer.{IsPayload, MatchesVerdict, HintsAs, MatchesGrammar}
-use Rattle.wasm_parser.specs.Content.{fault, ended}
-use Rattle.wasm_parser.specs.Grammar.{Shape, Verdict, tile, final, after, after_number, Grammar, accept, reject, check, u32_field, bytes, verdict}
-use Rattle.wasm_parser.specs.Reading.{tile_report}
-use Rattle.wasm_parser.specs.Waiting.{Waiting, enough, wants, later, later_number, waiting}
+use Rattle.wasm_grammar.specs.Content.{fault, ended}
+use Rattle.wasm_grammar.specs.Grammar.{Shape, Verdict, tile, final, after, after_number, Grammar, accept, reject, check, u32_field, bytes}
+use Rattle.wasm_grammar.specs.Grammar.{verdict}
+use Rattle.wasm_grammar.specs.Reading.{tile_report}
+use Rattle.wasm_grammar.specs.Waiting.{Waiting, enough, wants, later, later_number, waiting}
 use Rattle.wasm_parser.specs.declared.payload.Payload.{Payload}
+use Rattle.wasm_grammar.proofs.endings.BadNumbers.{bad_hint}
 
 -- a tile that begins with these bytes
-pub report_after : (s : ℕ) (p : Place) (f : List ℕ) (v : Verdict) (r : Result Payload Error) (a : Place) → MatchesVerdict s (advanced (length f) p) v r a → MatchesVerdict s p (after f v) r a
+pub report_after : (s : ℕ) (p : Place) (f : List ℕ) (v : Verdict) (r : Result Payload Error) (a : Place)
+    → MatchesVerdict s (advanced (length f) p) v r a → MatchesVerdict s p (after f v) r a
 report_after s p f (tile t) (Ok payload) a h =
     let n : length f + length t.bytes ≡ length (f ++ t.bytes) = sym (length-append f t.bytes) in
     let to : p.offset + length f + length t.bytes ≡ p.offset + length (f ++ t.bytes) = omega arith in (
@@ -33,7 +36,8 @@ report_after s p f (final (ended o)) (Ok payload) a h = h
 report_after s p f (final (fault x)) (Err e) a h = h
 report_after s p f (final (ended o)) (Err e) a h = h
 
-pub report_at : (s : ℕ) (p : Place) (k : ℕ) (f : List ℕ) (v : Verdict) (r : Result Payload Error) (a : Place) → length f ≡ k → MatchesVerdict s (advanced k p) v r a → MatchesVerdict s p (after f v) r a
+pub report_at : (s : ℕ) (p : Place) (k : ℕ) (f : List ℕ) (v : Verdict) (r : Result Payload Error) (a : Place) → length f ≡ k
+    → MatchesVerdict s (advanced k p) v r a → MatchesVerdict s p (after f v) r a
 report_at s p k f v r a l h = report_after s p f v r a (subst (λ (n : ℕ). MatchesVerdict s (advanced n p) v r a) (sym l) h)
 
 -- ---- hints
@@ -45,7 +49,8 @@ later_asked k enough (Err e) h = h
 later_asked k (wants need hint) (Err e) h = h
 
 -- the hint of missing bytes
-hints_missing : (n : ℕ) (p : Place) (e : Error) (o : ℕ) → fault_at e ≡ at_offset UnexpectedEof o → hint_of e ≡ hint_at (missing_at n p) (fault_at e).fault → hint_of e ≡ Some (n - length p.rest)
+hints_missing : (n : ℕ) (p : Place) (e : Error) (o : ℕ) → fault_at e ≡ at_offset UnexpectedEof o → hint_of e
+    ≡ hint_at (missing_at n p) (fault_at e).fault → hint_of e ≡ Some (n - length p.rest)
 hints_missing n p e o f h = h ∙ ap (λ (x : FaultAt). hint_at (n - length p.rest) x.fault) f
 
 -- enough bytes
@@ -58,78 +63,74 @@ report_bytes s p n o next r a l h = rw (le-leb n (length p.rest) l) (
 )
 
 -- too few
-pub report_missing : (s : ℕ) (p : Place) (n o : ℕ) (next : List ℕ → Grammar) (e : Error) (a : Place) → length p.rest < n → fault_at e ≡ at_offset UnexpectedEof o
+pub report_missing : (s : ℕ) (p : Place) (n o : ℕ) (next : List ℕ → Grammar) (e : Error) (a : Place) → length p.rest < n → fault_at e
+    ≡ at_offset UnexpectedEof o
     → hint_of e ≡ hint_at (missing_at n p) (fault_at e).fault → MatchesGrammar s p (bytes n o next) (Err e) a
 unfolding verdict waiting
 report_missing s p n o next e a l f h = rw (lt-leb n (length p.rest) l) (f, hints_missing n p e o f h)
 
 -- a number, that is read or not
-pub report_number : (s : ℕ) (p : Place) (o : ℕ) (next : ℕ → ℕ → Grammar) (r : Result Payload Error) (a : Place) (v k : ℕ) → number VarU32 p.rest ≡ read v k
+pub report_number : (s : ℕ) (p : Place) (o : ℕ) (next : ℕ → ℕ → Grammar) (r : Result Payload Error) (a : Place) (v k : ℕ)
+    → number VarU32 p.rest ≡ read v k
     → MatchesGrammar s (advanced k p) (next v k) r a → MatchesGrammar s p (u32_field o next) r a
 unfolding verdict waiting
 report_number s p o next r a v k e h =
     let u : Used VarU32 p.rest v k = number-used VarU32 p.rest v k e in
-    rw e (report_at s p k (take k p.rest) (verdict (next v k) (drop k p.rest)) r a (length-take-le k p.rest u.there) h.0, later_asked k (waiting (next v k) (drop k p.rest)) r h.1)
+    rw e (
+      report_at s p k (take k p.rest) (verdict (next v k) (drop k p.rest)) r a (length-take-le k p.rest u.there) h.0,
+      later_asked k (waiting (next v k) (drop k p.rest)) r h.1,
+    )
 
-not_ok : (f : FaultAt) (x : FaultAt) → let a : Result (ℕ × Place) FaultAt = Err f in let b : Result (ℕ × Place) FaultAt = Err x in a ≡ b → f ≡ x
+not_ok : (f : FaultAt) (x : FaultAt) → let a : Result (ℕ × Place) FaultAt = Err f in let b : Result (ℕ × Place) FaultAt = Err x in a ≡ b → f
+    ≡ x
 not_ok f x e = cc
 
--- a number that is wrong is no missing byte
-bad_ends : (xs : List ℕ) (i : Option ℕ) (f : Fault) (o : ℕ) → ends_at VarU32 xs i ≡ bad f o → hint_at 1 f ≡ None
-bad_ends xs None f o e = at (nat_lt (length xs) 5) e
-  where
-    at : (b : Bool) → cond b short (bad (NumberTooLong VarU32) 4) ≡ bad f o → hint_at 1 f ≡ None
-    at true e = cc
-    at false e = let z : NumberTooLong VarU32 ≡ f = cc in ap (hint_at 1) (sym z)
-bad_ends xs (Some i) f o e = at (nat_lt (suc i) 5) (nat_lt 5 (suc i)) (is_unused_right VarU32 (slice_index xs i)) e
-  where
-    at : (a b c : Bool) → cond a (read (groups (take (suc i) xs)) (suc i)) (cond b (bad (NumberTooLong VarU32) 4) (cond c (read (groups (take (suc i) xs)) (suc i)) (bad (NumberTooLarge VarU32) i))) ≡ bad f o → hint_at 1 f ≡ None
-    at true b c e = cc
-    at false true c e = let z : NumberTooLong VarU32 ≡ f = cc in ap (hint_at 1) (sym z)
-    at false false true e = cc
-    at false false false e = let z : NumberTooLarge VarU32 ≡ f = cc in ap (hint_at 1) (sym z)
-
-pub bad_hint : (xs : List ℕ) (f : Fault) (o : ℕ) → number VarU32 xs ≡ bad f o → hint_at 1 f ≡ None
-unfolding number
-bad_hint xs f o e = bad_ends xs (last_place xs) f o e
-
-no_number : (s : ℕ) (p : Place) (next : ℕ → ℕ → Verdict) (later : ℕ → ℕ → Waiting) (e : Error) (a : Place) (n : Number) → number VarU32 p.rest ≡ n → in_window p n ≡ Err (fault_at e) → hint_of e ≡ hint_at 1 (fault_at e).fault
-    → MatchesVerdict s p (after_number p.offset p.rest n next) (Err e) a × HintsAs (later_number n later) (let r : Result Payload Error = Err e in r)
+no_number : (s : ℕ) (p : Place) (next : ℕ → ℕ → Verdict) (later : ℕ → ℕ → Waiting) (e : Error) (a : Place) (n : Number)
+    → number VarU32 p.rest ≡ n → in_window p n ≡ Err (fault_at e) → hint_of e ≡ hint_at 1 (fault_at e).fault
+    → MatchesVerdict s p (after_number p.offset p.rest n next) (Err e) a
+    × HintsAs (later_number n later) (let r : Result Payload Error = Err e in r)
 no_number s p next later e a (read v k) t f h = cc
 no_number s p next later e a (bad x i) t f h =
     let z : at_offset x (p.offset + i) ≡ fault_at e = not_ok (at_offset x (p.offset + i)) (fault_at e) f in
     (sym z, h ∙ (ap (λ (y : FaultAt). hint_at 1 y.fault) (sym z) ∙ bad_hint p.rest x i t))
 no_number s p next later e a short t f h =
-    let z : at_offset UnexpectedEof (p.offset + length p.rest) ≡ fault_at e = not_ok (at_offset UnexpectedEof (p.offset + length p.rest)) (fault_at e) f in
+    let z : at_offset UnexpectedEof (p.offset + length p.rest) ≡ fault_at e =
+    not_ok (at_offset UnexpectedEof (p.offset + length p.rest)) (fault_at e) f in
     (sym z, h ∙ ap (λ (y : FaultAt). hint_at 1 y.fault) (sym z))
 
-pub report_no_number : (s : ℕ) (p : Place) (next : ℕ → ℕ → Grammar) (e : Error) (a : Place) → unsigned_at VarU32 p ≡ Err (fault_at e) → hint_of e ≡ hint_at 1 (fault_at e).fault
+pub report_no_number : (s : ℕ) (p : Place) (next : ℕ → ℕ → Grammar) (e : Error) (a : Place) → unsigned_at VarU32 p ≡ Err (fault_at e)
+    → hint_of e ≡ hint_at 1 (fault_at e).fault
     → MatchesGrammar s p (u32_field p.offset next) (Err e) a
 unfolding verdict waiting unsigned_at
-report_no_number s p next e a f h = no_number s p (λ v k. verdict (next v k) (drop k p.rest)) (λ v k. waiting (next v k) (drop k p.rest)) e a (number VarU32 p.rest) refl f h
+report_no_number s p next e a f h = no_number s p (λ v k. verdict (next v k) (drop k p.rest)) (λ v k. waiting (next v k) (drop k p.rest)) e
+    a (number VarU32 p.rest) refl f h
 
 -- something wrong, or nothing
-pub report_wrong : (s : ℕ) (p : Place) (f : Option FaultAt) (next : Grammar) (e : Error) (a : Place) → f ≡ Some (fault_at e) → hint_of e ≡ None → MatchesGrammar s p (check f next) (Err e) a
+pub report_wrong : (s : ℕ) (p : Place) (f : Option FaultAt) (next : Grammar) (e : Error) (a : Place) → f ≡ Some (fault_at e) → hint_of e
+    ≡ None → MatchesGrammar s p (check f next) (Err e) a
 unfolding verdict waiting
 report_wrong s p None next e a f h = cc
 report_wrong s p (Some x) next e a f h =
     let z : x ≡ fault_at e = cc in
     (sym z, h)
 
-pub report_right : (s : ℕ) (p : Place) (f : Option FaultAt) (next : Grammar) (r : Result Payload Error) (a : Place) → f ≡ None → MatchesGrammar s p next r a → MatchesGrammar s p (check f next) r a
+pub report_right : (s : ℕ) (p : Place) (f : Option FaultAt) (next : Grammar) (r : Result Payload Error) (a : Place) → f ≡ None
+    → MatchesGrammar s p next r a → MatchesGrammar s p (check f next) r a
 unfolding verdict waiting
 report_right s p None next r a h k = k
 report_right s p (Some x) next r a h k = cc
 
 -- the tile is whole
-pub report_whole : (s : ℕ) (p : Place) (shape : Shape) (payload : Payload) (a : Place) → a ≡ p → IsPayload (tile_report p.features s p.offset shape) payload → MatchesGrammar s p (accept shape) (Ok payload) a
+pub report_whole : (s : ℕ) (p : Place) (shape : Shape) (payload : Payload) (a : Place) → a ≡ p
+    → IsPayload (tile_report p.features s p.offset shape) payload → MatchesGrammar s p (accept shape) (Ok payload) a
 unfolding verdict
 report_whole s p shape payload a e h =
     let o : p.offset ≡ p.offset + 0 = sym (add-zero p.offset) in
     let z : p ≡ advanced 0 p = λ i. record { features = p.features; offset = o i; rest = p.rest } in
     ((e ∙ z, subst (λ (k : ℕ). IsPayload (tile_report p.features s k shape) payload) o h), tt)
 
-pub report_stops : (s : ℕ) (p : Place) (f : FaultAt) (e : Error) (a : Place) → fault_at e ≡ f → hint_of e ≡ None → MatchesGrammar s p (reject f) (Err e) a
+pub report_stops : (s : ℕ) (p : Place) (f : FaultAt) (e : Error) (a : Place) → fault_at e ≡ f → hint_of e ≡ None
+    → MatchesGrammar s p (reject f) (Err e) a
 unfolding verdict waiting
 report_stops s p f e a x h = (x, h)
 

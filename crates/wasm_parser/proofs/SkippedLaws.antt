@@ -1,5 +1,6 @@
 -- What is after the rest of a code section that a parser passes.
-use Rattle.std.proofs.Common.{◌≡◌, ℕ, ◌+◌, ◌<◌, ◌≤◌, Bool, true, false, cond, max, List, [], ◌∷◌, ◌++◌, length, Option, Some, None, is_some, nat_eq, refl, sym, ap, subst, ◌∙◌, arith, length-append, append-nil, append_assoc}
+use Rattle.std.proofs.Common.{◌≡◌, ℕ, ◌+◌, ◌<◌, ◌≤◌, Bool, true, false, cond, max, List, [], ◌∷◌, ◌++◌, length, Option, Some, None, is_some}
+use Rattle.std.proofs.Common.{nat_eq, refl, sym, ap, subst, ◌∙◌, arith, length-append, append-nil, append_assoc}
 use Rattle.std.proofs.lemmas.Bool.{eqb-true}
 use Rattle.std.proofs.lemmas.Grind.{flat_map-append}
 use Rattle.std.proofs.lemmas.List.{append_cancel_left}
@@ -7,29 +8,34 @@ use Rattle.std.proofs.lemmas.List.Elements.{All-nil, All-cons, All-append}
 use Rattle.std.specs.Prelude.{All, IsSome}
 use Rattle.wasm_base.specs.Window.{Window}
 use Rattle.wasm_parser.specs.Along.{Along}
-use Rattle.wasm_parser.specs.EventRanges.{consumed_by}
-use Rattle.wasm_parser.specs.Grammar.{Shape, version, section, code_start, code_entry, Tile, tile, SectionContext, verdict, section_grammar, body_grammar}
-use Rattle.wasm_parser.specs.ParserState.{ParserState, IsStateAfter, greatest, is_start, ends_in_code, skippable_of, skipped_state}
-use Rattle.wasm_parser.specs.Reading as reading
-use Rattle.wasm_parser.specs.Reading.{Event, tile_report, event_of, events_of}
-use Rattle.wasm_parser.specs.Sections.{ReportsBody}
+use Rattle.wasm_grammar.specs.EventRanges.{consumed_by}
+use Rattle.wasm_grammar.specs.Grammar.{Shape, version, section, code_start, code_entry, Tile, tile, SectionContext, verdict}
+use Rattle.wasm_grammar.specs.Grammar.{section_grammar, body_grammar}
+use Rattle.wasm_parser.specs.ParserState.{ParserState, IsStateAfter, greatest, ends_in_code, skippable_of, skipped_state}
+use Rattle.wasm_grammar.specs.Tiling.{is_start, bytes_of, encoding_of, counts, bodies_left, bytes_left, context_of, grammar, Faultless}
+use Rattle.wasm_grammar.specs.Reading as reading
+use Rattle.wasm_grammar.specs.Reading.{Event, tile_report, event_of, events_of}
+use Rattle.wasm_grammar.specs.Sections.{ReportsBody}
 use Rattle.wasm_parser.specs.Skipped.{CompletesCode, SkipsSection, LeavesOut, SkippingLeavesOutBodies}
-use Rattle.wasm_parser.specs.Tiling.{bytes_of, encoding_of, counts, bodies_left, bytes_left, context_of, grammar, Faultless}
-use Rattle.wasm_parser.proofs.Ends.{tiles_consume}
-use Rattle.wasm_parser.proofs.Longest.{longest}
-use Rattle.wasm_parser.proofs.ReadingLaws.{stops_at}
-use Rattle.wasm_parser.proofs.StateLaws.{IsBody, bodied}
-use Rattle.wasm_parser.proofs.TileLaws.{tile_least}
+use Rattle.wasm_grammar.proofs.readings.EndToEnd.{tiles_consume}
+use Rattle.wasm_grammar.proofs.readings.Longest.{longest}
+use Rattle.wasm_grammar.proofs.readings.Readings.{stops_at}
+use Rattle.wasm_grammar.proofs.parts.Placed.{IsBody, bodied}
+use Rattle.wasm_grammar.proofs.parts.Guarded.{tile_least}
+use Rattle.wasm_grammar.specs.Ids.{code_id, data_count_id, data_id, function_id}
 
 -- where bytes of a code section are left, a body comes
-body_at : (b : Bool) (context : SectionContext) (bodies left offset : ℕ) (d : List ℕ) (t : Tile) → nat_eq (bodies + left) 0 ≡ b → 0 < left → verdict (cond b (section_grammar context offset) (body_grammar bodies left offset)) d ≡ tile t → IsBody t.shape
+body_at : (b : Bool) (context : SectionContext) (bodies left offset : ℕ) (d : List ℕ) (t : Tile) → nat_eq (bodies + left) 0 ≡ b → 0 < left
+    → verdict (cond b (section_grammar context offset) (body_grammar bodies left offset)) d ≡ tile t → IsBody t.shape
 body_at true context bodies left offset d t e l v = let z : bodies + left ≡ 0 = eqb-true _ _ e in absurd (omega (arith, z, l))
 body_at false context bodies left offset d t e l v = bodied bodies left offset d t v
 
-body_next : (start : ℕ) (ts : List Tile) (d : List ℕ) (t : Tile) → 0 < bytes_left ts → verdict (grammar start ts) d ≡ tile t → IsBody t.shape
+body_next : (start : ℕ) (ts : List Tile) (d : List ℕ) (t : Tile) → 0 < bytes_left ts → verdict (grammar start ts) d ≡ tile t
+    → IsBody t.shape
 body_next start [] d t l v = absurd (omega (arith, l))
 body_next start (u ∷ us) d t l v =
-    body_at (nat_eq (bodies_left (u ∷ us) + bytes_left (u ∷ us)) 0) (context_of (u ∷ us)) (bodies_left (u ∷ us)) (bytes_left (u ∷ us)) (start + length (bytes_of (u ∷ us))) d t refl l v
+    body_at (nat_eq (bodies_left (u ∷ us) + bytes_left (u ∷ us)) 0) (context_of (u ∷ us)) (bodies_left (u ∷ us)) (bytes_left (u ∷ us))
+    (start + length (bytes_of (u ∷ us))) d t refl l v
 
 -- tiles after which a parser knows the same as after others but for what is left of a code section
 record KnowsSame (ts us : List Tile) : Type 0 where
@@ -41,7 +47,8 @@ record KnowsSame (ts us : List Tile) : Type 0 where
   left : bytes_left ts + length (bytes_of ts) ≡ bytes_left us + length (bytes_of us)
 
 -- one more body
-after_body : (ts us : List Tile) (shape : Shape) (bytes : List ℕ) → IsBody shape → length bytes ≤ bytes_left ts → is_start us ≡ false → KnowsSame ts us → KnowsSame (record { shape = shape; bytes = bytes } ∷ ts) us
+after_body : (ts us : List Tile) (shape : Shape) (bytes : List ℕ) → IsBody shape → length bytes ≤ bytes_left ts → is_start us ≡ false
+    → KnowsSame ts us → KnowsSame (record { shape = shape; bytes = bytes } ∷ ts) us
 after_body ts us (code_entry content) bytes b l s k = record {
   encoding = k.encoding;
   rank = (let z : max 0 (greatest ts) ≡ greatest ts = omega arith in z) ∙ k.rank;
@@ -55,8 +62,16 @@ after_body ts us (section form id content) bytes b l s k = absurd b
 after_body ts us (code_start count width size) bytes b l s k = absurd b
 
 -- tiles that take no more than what is left of a code section are its bodies
-only_bodies : (start : ℕ) (us later : List Tile) → ends_in_code us ≡ true → is_start us ≡ false → Faultless start (later ++ us) → length (bytes_of (later ++ us)) ≤ length (bytes_of us) + bytes_left us → KnowsSame (later ++ us) us
-only_bodies start us [] c s f l = record { encoding = refl; rank = refl; same_counts = λ n. refl; in_code = c; not_start = refl; left = refl }
+only_bodies : (start : ℕ) (us later : List Tile) → ends_in_code us ≡ true → is_start us ≡ false → Faultless start (later ++ us)
+    → length (bytes_of (later ++ us)) ≤ length (bytes_of us) + bytes_left us → KnowsSame (later ++ us) us
+only_bodies start us [] c s f l = record {
+  encoding = refl;
+  rank = refl;
+  same_counts = λ n. refl;
+  in_code = c;
+  not_start = refl;
+  left = refl;
+}
 only_bodies start us (t ∷ later) c s f l =
     let n = length-append (bytes_of (later ++ us)) t.bytes in
     let k : KnowsSame (later ++ us) us = only_bodies start us later c s f.0 (omega (arith, l, n)) in
@@ -70,7 +85,9 @@ some_tile : (ts : List Tile) → ends_in_code ts ≡ true → is_start ts ≡ fa
 some_tile [] c = cc
 some_tile (t ∷ ts) c = refl
 
-skipped_at : (p : ParserState) (start : ℕ) (prefix bodies : List ℕ) (s : IsStateAfter p start prefix) (k : CompletesCode start prefix bodies) → p.in_code ≡ true → length bodies ≡ p.left → KnowsSame k.tiles s.tiles → IsStateAfter (skipped_state p) start (prefix ++ bodies)
+skipped_at : (p : ParserState) (start : ℕ) (prefix bodies : List ℕ) (s : IsStateAfter p start prefix)
+    (k : CompletesCode start prefix bodies) → p.in_code ≡ true → length bodies ≡ p.left → KnowsSame k.tiles s.tiles
+    → IsStateAfter (skipped_state p) start (prefix ++ bodies)
 skipped_at p start prefix bodies s k c l same =
     let n = length-append prefix bodies in
     let o = s.offset in
@@ -86,10 +103,10 @@ skipped_at p start prefix bodies s k c l same =
       expects_header = s.expects_header ∙ sym same.not_start;
       encoding = s.encoding ∙ sym same.encoding;
       rank = s.rank ∙ sym same.rank;
-      functions = s.functions ∙ sym (same.same_counts 3);
-      codes = s.codes ∙ sym (same.same_counts 10);
-      datas = s.datas ∙ sym (same.same_counts 11);
-      data_counts = s.data_counts ∙ sym (same.same_counts 12);
+      functions = s.functions ∙ sym (same.same_counts function_id);
+      codes = s.codes ∙ sym (same.same_counts code_id);
+      datas = s.datas ∙ sym (same.same_counts data_id);
+      data_counts = s.data_counts ∙ sym (same.same_counts data_count_id);
       bodies = sym k.no_body_left;
       left = omega (arith, n, left, a, b, d, l);
       in_code = λ e. same.in_code;
@@ -99,12 +116,16 @@ skipped_at p start prefix bodies s k c l same =
 pub skips_section : (p q : ParserState) → p.in_code ≡ true → q ≡ skipped_state p → SkipsSection p q
 skips_section p q c e start prefix bodies s l k =
     let w : bytes_of k.tiles ≡ bytes_of s.tiles ++ bodies = k.whole ∙ ap (λ (x : List ℕ). x ++ bodies) (sym s.is_prefix) in
-    let (later, z) = longest (bytes_of k.tiles) start k.tiles s.tiles _ bodies (stops_at start k.tiles k.faultless (verdict (grammar start k.tiles) []) refl) s.faultless w in
-    let n : length (bytes_of (later ++ s.tiles)) ≡ length (bytes_of s.tiles) + length bodies = ap (λ (x : List Tile). length (bytes_of x)) (sym z) ∙ (ap (λ (x : List ℕ). length x) w ∙ length-append (bytes_of s.tiles) bodies) in
+    let (later, z) = longest (bytes_of k.tiles) start k.tiles s.tiles _ bodies
+    (stops_at start k.tiles k.faultless (verdict (grammar start k.tiles) []) refl) s.faultless w in
+    let n : length (bytes_of (later ++ s.tiles)) ≡ length (bytes_of s.tiles) + length bodies =
+    ap (λ (x : List Tile). length (bytes_of x)) (sym z) ∙ (ap (λ (x : List ℕ). length x) w ∙ length-append (bytes_of s.tiles) bodies) in
     let a = s.left in
     let ends : ends_in_code s.tiles ≡ true = s.in_code c in
-    let same : KnowsSame (later ++ s.tiles) s.tiles = only_bodies start s.tiles later ends (some_tile s.tiles ends) (subst (Faultless start) z k.faultless) (omega (arith, n, a, l)) in
-    subst (λ (x : ParserState). IsStateAfter x start (prefix ++ bodies)) (sym e) (skipped_at p start prefix bodies s k c l (subst (λ (x : List Tile). KnowsSame x s.tiles) (sym z) same))
+    let same : KnowsSame (later ++ s.tiles) s.tiles = only_bodies start s.tiles later ends (some_tile s.tiles ends)
+    (subst (Faultless start) z k.faultless) (omega (arith, n, a, l)) in
+    subst (λ (x : ParserState). IsStateAfter x start (prefix ++ bodies)) (sym e)
+    (skipped_at p start prefix bodies s k c l (subst (λ (x : List Tile). KnowsSame x s.tiles) (sym z) same))
 
 pub in_code_where_skippable : (b : Bool) (left : ℕ) → is_some (cond b (Some left) None) ≡ true → b ≡ true
 in_code_where_skippable true left e = refl
@@ -112,11 +133,14 @@ in_code_where_skippable false left e = cc
 
 -- ---- the reading without the bodies that are passed
 
-skipped_at-tiles : (p : ParserState) (start : ℕ) (prefix bodies : List ℕ) (s : IsStateAfter p start prefix) (k : CompletesCode start prefix bodies) (c : p.in_code ≡ true) (l : length bodies ≡ p.left) (same : KnowsSame k.tiles s.tiles) → (skipped_at p start prefix bodies s k c l same).tiles ≡ k.tiles
+skipped_at-tiles : (p : ParserState) (start : ℕ) (prefix bodies : List ℕ) (s : IsStateAfter p start prefix)
+    (k : CompletesCode start prefix bodies) (c : p.in_code ≡ true) (l : length bodies ≡ p.left) (same : KnowsSame k.tiles s.tiles)
+    → (skipped_at p start prefix bodies s k c l same).tiles ≡ k.tiles
 unfolding skipped_at
 skipped_at-tiles p start prefix bodies s k c l same = refl
 
-reports_body : (features from to : ℕ) (shape : Shape) → IsBody shape → (window : Window) × (tile_report features from to shape ≡ reading.code_entry window)
+reports_body : (features from to : ℕ) (shape : Shape) → IsBody shape → (window : Window)
+    × (tile_report features from to shape ≡ reading.code_entry window)
 reports_body features from to (code_entry content) b = (_, refl)
 reports_body features from to (version num encoding) b = absurd b
 reports_body features from to (section form id content) b = absurd b
@@ -128,8 +152,13 @@ record Bodies (start features : ℕ) (us later : List Tile) : Type 0 where
   each : All ReportsBody events
   parts : events_of start features (later ++ us) ≡ events_of start features us ++ events
 
-bodies_later : (start features : ℕ) (us later : List Tile) → ends_in_code us ≡ true → is_start us ≡ false → Faultless start (later ++ us) → length (bytes_of (later ++ us)) ≤ length (bytes_of us) + bytes_left us → Bodies start features us later
-bodies_later start features us [] c s f l = record { events = []; each = All-nil ReportsBody; parts = sym (append-nil (events_of start features us)) }
+bodies_later : (start features : ℕ) (us later : List Tile) → ends_in_code us ≡ true → is_start us ≡ false → Faultless start (later ++ us)
+    → length (bytes_of (later ++ us)) ≤ length (bytes_of us) + bytes_left us → Bodies start features us later
+bodies_later start features us [] c s f l = record {
+  events = [];
+  each = All-nil ReportsBody;
+  parts = sym (append-nil (events_of start features us));
+}
 bodies_later start features us (t ∷ later) c s f l =
     let n = length-append (bytes_of (later ++ us)) t.bytes in
     let k : KnowsSame (later ++ us) us = only_bodies start us later c s f.0 (omega (arith, l, n)) in
@@ -140,11 +169,14 @@ bodies_later start features us (t ∷ later) c s f l =
     let x : Event = event_of features (start + length (bytes_of (later ++ us))) t in
     record {
       events = r.events ++ x ∷ [];
-      each = All-append ReportsBody r.events (x ∷ []) r.each (All-cons ReportsBody x [] (reports_body features (start + length (bytes_of (later ++ us))) (start + length (bytes_of (later ++ us)) + length t.bytes) t.shape b) (All-nil ReportsBody));
+      each = All-append ReportsBody r.events (x ∷ []) r.each (All-cons ReportsBody x []
+          (reports_body features (start + length (bytes_of (later ++ us))) (start + length (bytes_of (later ++ us)) + length t.bytes)
+          t.shape b) (All-nil ReportsBody));
       parts = ap (λ (y : List Event). y ++ x ∷ []) r.parts ∙ append_assoc (events_of start features us) r.events (x ∷ []);
     }
 
-module _ (start features : ℕ) (prefix bodies : List ℕ) (p : ParserState) (events : List Event) (a : Along start features prefix p [] events) (c : p.in_code ≡ true) (l : length bodies ≡ p.left) (k : CompletesCode start a.prefix bodies) where
+module _ (start features : ℕ) (prefix bodies : List ℕ) (p : ParserState) (events : List Event) (a : Along start features prefix p [] events)
+    (c : p.in_code ≡ true) (l : length bodies ≡ p.left) (k : CompletesCode start a.prefix bodies) where
   us : List Tile
   us = a.is_after.tiles
 
@@ -153,16 +185,21 @@ module _ (start features : ℕ) (prefix bodies : List ℕ) (p : ParserState) (ev
 
   left_out_by : (later : List Tile) → k.tiles ≡ later ++ a.is_after.tiles → LeavesOut start features prefix bodies events (skipped_state p)
   left_out_by later z =
-      let n : length (bytes_of (later ++ a.is_after.tiles)) ≡ length (bytes_of a.is_after.tiles) + length bodies = ap (λ (x : List Tile). length (bytes_of x)) (sym z) ∙ (ap (λ (x : List ℕ). length x) w ∙ length-append (bytes_of a.is_after.tiles) bodies) in
+      let n : length (bytes_of (later ++ a.is_after.tiles)) ≡ length (bytes_of a.is_after.tiles) + length bodies =
+      ap (λ (x : List Tile). length (bytes_of x)) (sym z) ∙ (ap (λ (x : List ℕ). length x) w
+      ∙ length-append (bytes_of a.is_after.tiles) bodies) in
       let at = a.is_after.left in
       let ends : ends_in_code a.is_after.tiles ≡ true = a.is_after.in_code c in
       let begun = some_tile a.is_after.tiles ends in
       let f : Faultless start (later ++ a.is_after.tiles) = subst (Faultless start) z k.faultless in
-      let fits : length (bytes_of (later ++ a.is_after.tiles)) ≤ length (bytes_of a.is_after.tiles) + bytes_left a.is_after.tiles = omega (arith, n, at, l) in
-      let same : KnowsSame k.tiles a.is_after.tiles = subst (λ (x : List Tile). KnowsSame x a.is_after.tiles) (sym z) (only_bodies start a.is_after.tiles later ends begun f fits) in
+      let fits : length (bytes_of (later ++ a.is_after.tiles)) ≤ length (bytes_of a.is_after.tiles) + bytes_left a.is_after.tiles =
+      omega (arith, n, at, l) in
+      let same : KnowsSame k.tiles a.is_after.tiles = subst (λ (x : List Tile). KnowsSame x a.is_after.tiles) (sym z)
+      (only_bodies start a.is_after.tiles later ends begun f fits) in
       let r : Bodies start features a.is_after.tiles later = bodies_later start features a.is_after.tiles later ends begun f fits in
       let is_after : IsStateAfter (skipped_state p) start (a.prefix ++ bodies) = skipped_at p start a.prefix bodies a.is_after k c l same in
-      let all : events_of start features k.tiles ≡ events_of start features a.is_after.tiles ++ r.events = ap (events_of start features) z ∙ r.parts in
+      let all : events_of start features k.tiles ≡ events_of start features a.is_after.tiles ++ r.events = ap (events_of start features) z
+      ∙ r.parts in
       let consumed : bytes_of a.is_after.tiles ++ consumed_by r.events ≡ bytes_of a.is_after.tiles ++ bodies =
       ap (λ (x : List ℕ). x ++ consumed_by r.events) (sym (tiles_consume start features a.is_after.tiles))
       ∙ (sym (flat_map-append (λ (x : Event). x.consumed) (events_of start features a.is_after.tiles) r.events)
@@ -176,15 +213,18 @@ module _ (start features : ℕ) (prefix bodies : List ℕ) (p : ParserState) (ev
           is_after = is_after;
           whole = ap (λ (x : List ℕ). x ++ bodies) (a.whole ∙ append-nil a.prefix) ∙ sym (append-nil (a.prefix ++ bodies));
           has_features = a.has_features;
-          listed = ap (λ (x : List Event). x ++ r.events) a.listed ∙ (sym all ∙ ap (events_of start features) (sym (skipped_at-tiles p start a.prefix bodies a.is_after k c l same)));
+          listed = ap (λ (x : List Event). x ++ r.events) a.listed
+              ∙ (sym all ∙ ap (events_of start features) (sym (skipped_at-tiles p start a.prefix bodies a.is_after k c l same)));
         };
       }
 
   left_out : LeavesOut start features prefix bodies events (skipped_state p)
   left_out =
-      let (later, z) = longest (bytes_of k.tiles) start k.tiles a.is_after.tiles _ bodies (stops_at start k.tiles k.faultless (verdict (grammar start k.tiles) []) refl) a.is_after.faultless w in
+      let (later, z) = longest (bytes_of k.tiles) start k.tiles a.is_after.tiles _ bodies
+      (stops_at start k.tiles k.faultless (verdict (grammar start k.tiles) []) refl) a.is_after.faultless w in
       left_out_by later z
 
 pub skipping_leaves_out_bodies : SkippingLeavesOutBodies
 skipping_leaves_out_bodies start features prefix bodies p events a some l k =
-    left_out start features prefix bodies p events a (in_code_where_skippable p.in_code p.left some) l (subst (λ (x : List ℕ). CompletesCode start x bodies) (a.whole ∙ append-nil a.prefix) k)
+    left_out start features prefix bodies p events a (in_code_where_skippable p.in_code p.left some) l
+    (subst (λ (x : List ℕ). CompletesCode start x bodies) (a.whole ∙ append-nil a.prefix) k)

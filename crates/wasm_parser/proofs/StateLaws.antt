@@ -1,23 +1,26 @@
 -- What a parser knows is what the tiles before it say.
-use Rattle.std.proofs.Common.{◌≡◌, ℕ, zero, suc, ◌+◌, ◌-◌, ◌<◌, max, Bool, true, false, cond, not, ◌&&◌, List, [], ◌∷◌, ◌++◌, length, option_to_list, Option, Some, None, nat_lt, nat_eq, refl, sym, ap, subst, ◌∙◌, arith, length-append, add-zero, lit<, nat_le, take, drop, ltb-true, eqb-true, lt-ltb, slice_index}
+use Rattle.std.proofs.Common.{◌≡◌, ℕ, zero, suc, ◌+◌, ◌-◌, ◌<◌, max, Bool, true, false, cond, ◌&&◌, List, [], ◌∷◌, ◌++◌, length}
+use Rattle.std.proofs.Common.{option_to_list, Option, Some, nat_lt, nat_eq, refl, sym, ap, subst, ◌∙◌, arith, length-append, add-zero, lit<}
+use Rattle.std.proofs.Common.{ltb-true, eqb-true, slice_index}
 use Rattle.std.specs.List.{list_all}
 use Rattle.std.proofs.lemmas.Bool.{and_parts}
 use Rattle.std.proofs.lemmas.Bool.Decides.{nat_tests}
 use mathlib.Core.Path.{fun_ext}
-use Rattle.wasm_parser.specs.declared.payload.Encoding.{Encoding}
-use Rattle.wasm_base.specs.FaultAt.{FaultAt}
 use Rattle.wasm_base.specs.Name.{Name, named, refused, name_limit, name}
-use Rattle.wasm_base.specs.Number.{Number, read, bad, short, number}
-use Rattle.wasm_parser.specs.Content.{Kind, items, data_count, custom, index, code, unknown, rank_of, ranks, count_of, kind_of, Ending, when, whole}
-use Rattle.wasm_parser.specs.Grammar.{Shape, version, section, code_start, code_entry, Tile, Verdict, tile, final, after, after_number, SectionContext, Grammar, accept, reject, check, u32_field, bytes, section_start, verdict, header_grammar, section_grammar, body_grammar, content_grammar, header_of}
-use Rattle.wasm_parser.specs.Tiling.{bytes_of, grammar, context_of, inside, encoding_of, encoding_in, tile_rank, count_in, counts, bodies_left, bytes_left, bodies_after, bytes_after}
-use Rattle.wasm_parser.specs.Reading.{custom_report}
+use Rattle.wasm_grammar.specs.Content.{Kind, items, data_count, custom, index, code, unknown, count_of, kind_of, whole}
+use Rattle.wasm_grammar.specs.Grammar.{Shape, version, section, code_start, code_entry, Tile, tile, SectionContext, Grammar, bytes, verdict}
+use Rattle.wasm_grammar.specs.Grammar.{header_grammar, section_grammar, body_grammar, content_grammar}
+use Rattle.wasm_grammar.specs.Tiling.{bytes_of, grammar, context_of, inside, encoding_of, encoding_in, tile_rank, count_in, counts}
+use Rattle.wasm_grammar.specs.Tiling.{bodies_left, bytes_left, bodies_after, bytes_after, is_start}
+use Rattle.wasm_grammar.specs.Reading.{custom_report}
 use Rattle.wasm_parser.specs.StateAfter.{known_rank, state_after, state_after_tile}
-use Rattle.wasm_parser.specs.ParserState.{ParserState, initial_state, greatest, is_start, is_of_code, IsStateAfter, known_context, grammar_of}
-use Rattle.wasm_base.specs.declared.fault.NumberKind.TheVariants.{VarU32}
-use Rattle.wasm_parser.proofs.GrammarLaws.{after-tile}
-use Rattle.wasm_parser.proofs.KindIds.{IdOf, id_of_kind}
-use Rattle.wasm_parser.proofs.ReadingLaws.{Grown, grows}
+use Rattle.wasm_parser.specs.ParserState.{ParserState, initial_state, greatest, is_of_code, IsStateAfter, known_context, grammar_of}
+use Rattle.wasm_grammar.proofs.accepted.KindIds.{IdOf, id_of_kind}
+use Rattle.wasm_grammar.proofs.readings.Readings.{Grown, grows}
+use Rattle.wasm_grammar.proofs.parts.Placed.{Each, each_tile, IsBody, bodied, IsHeader, headed, Fresh, fresh}
+use Rattle.wasm_grammar.specs.Ids.{place_of}
+use Rattle.wasm_grammar.specs.Ids.{code_id, data_count_id, data_id, function_id}
+use Rattle.wasm_grammar.specs.Ids.{start_id}
 
 max_lt : (a g r : ℕ) → nat_lt (max a g) r ≡ (nat_lt a r && nat_lt g r)
 max_lt a g r = grind (arith, nat_tests)
@@ -26,11 +29,14 @@ one_lt : (a r : ℕ) → nat_lt (max a 0) r ≡ (nat_lt a r && true)
 one_lt a r = grind (arith, nat_tests)
 
 -- above the greatest rank is above each
-pub may_same : (t : Tile) (ts : List Tile) (r : ℕ) → nat_lt (greatest (t ∷ ts)) r ≡ list_all (λ (u : Tile). nat_lt (tile_rank u.shape) r) (t ∷ ts)
+pub may_same : (t : Tile) (ts : List Tile) (r : ℕ) → nat_lt (greatest (t ∷ ts)) r
+    ≡ list_all (λ (u : Tile). nat_lt (tile_rank u.shape) r) (t ∷ ts)
 may_same t [] r = one_lt (tile_rank t.shape) r
-may_same t (u ∷ ts) r = max_lt (tile_rank t.shape) (greatest (u ∷ ts)) r ∙ ap (λ (b : Bool). nat_lt (tile_rank t.shape) r && b) (may_same u ts r)
+may_same t (u ∷ ts) r = max_lt (tile_rank t.shape) (greatest (u ∷ ts)) r
+    ∙ ap (λ (b : Bool). nat_lt (tile_rank t.shape) r && b) (may_same u ts r)
 
-context_same : (p : ParserState) (start : ℕ) (prefix : List ℕ) (s : IsStateAfter p start prefix) (t : Tile) (ts : List Tile) → s.tiles ≡ t ∷ ts → known_context p ≡ context_of (t ∷ ts)
+context_same : (p : ParserState) (start : ℕ) (prefix : List ℕ) (s : IsStateAfter p start prefix) (t : Tile) (ts : List Tile) → s.tiles ≡ t
+    ∷ ts → known_context p ≡ context_of (t ∷ ts)
 context_same p start prefix s t ts z =
     let f : (λ (r : ℕ). nat_lt p.rank r) ≡ (λ (r : ℕ). list_all (λ (u : Tile). nat_lt (tile_rank u.shape) r) (t ∷ ts)) =
     fun_ext (λ (r : ℕ). ap (λ (x : ℕ). nat_lt x r) (s.rank ∙ ap greatest z) ∙ may_same t ts r) in
@@ -41,7 +47,8 @@ context_same p start prefix s t ts z =
     let d : option_to_list p.data_counts ≡ counts 12 (t ∷ ts) = s.data_counts ∙ ap (counts 12) z in
     λ i. record { encoding = e i; may_follow = f i; functions = a i; codes = b i; datas = c i; data_counts = d i }
 
-grammar_at : (p : ParserState) (start : ℕ) (prefix : List ℕ) (s : IsStateAfter p start prefix) (ts : List Tile) → s.tiles ≡ ts → grammar_of p ≡ grammar start ts
+grammar_at : (p : ParserState) (start : ℕ) (prefix : List ℕ) (s : IsStateAfter p start prefix) (ts : List Tile) → s.tiles ≡ ts
+    → grammar_of p ≡ grammar start ts
 grammar_at p start prefix s [] z =
     let h : p.expects_header ≡ true = s.expects_header ∙ ap is_start z in
     let c : prefix ≡ [] = sym s.is_prefix ∙ ap bytes_of z in
@@ -49,7 +56,8 @@ grammar_at p start prefix s [] z =
     rw h (ap header_grammar o)
 grammar_at p start prefix s (t ∷ ts) z =
     let h : p.expects_header ≡ false = s.expects_header ∙ ap is_start z in
-    let o : p.offset ≡ start + length (bytes_of (t ∷ ts)) = s.offset ∙ ap (λ (x : List ℕ). start + length x) (sym s.is_prefix ∙ ap bytes_of z) in
+    let o : p.offset ≡ start + length (bytes_of (t ∷ ts)) = s.offset
+    ∙ ap (λ (x : List ℕ). start + length x) (sym s.is_prefix ∙ ap bytes_of z) in
     let m : p.bodies ≡ bodies_left (t ∷ ts) = s.bodies ∙ ap bodies_left z in
     let l : p.left ≡ bytes_left (t ∷ ts) = s.left ∙ ap bytes_left z in
     let q : known_context p ≡ context_of (t ∷ ts) = context_same p start prefix s t ts z in
@@ -58,133 +66,6 @@ grammar_at p start prefix s (t ∷ ts) z =
 -- what may come after a prefix is what the parser that is there expects
 pub grammar_same : (p : ParserState) (start : ℕ) (prefix : List ℕ) (s : IsStateAfter p start prefix) → grammar_of p ≡ grammar start s.tiles
 grammar_same p start prefix s = grammar_at p start prefix s s.tiles refl
-
--- what each tile of a grammar is known to be
-abbrev pub Each : (Shape → Type 0) → Grammar → Type 0
-Each P (accept s) = P s
-Each P (reject e) = Unit {0}
-Each P (check e next) = e ≡ None → Each P next
-Each P (u32_field offset next) = (v k : ℕ) → Each P (next v k)
-Each P (bytes count offset next) = (b : List ℕ) → Each P (next b)
-Each P (section_start offset e next) = (id : ℕ) → Each P (next id)
-
-each_after : (P : Shape → Type 0) (f : List ℕ) (v : Verdict) (t : Tile) → ((s : Tile) → v ≡ tile s → P s.shape) → after f v ≡ tile t → P t.shape
-each_after P f v t h e = let (s, r, q) = after-tile f v t e in subst (λ (x : Tile). P x.shape) (sym q) (h s r)
-
-each_number : (P : Shape → Type 0) (o : ℕ) (xs : List ℕ) (n : Number) (next : ℕ → ℕ → Verdict) (t : Tile) → ((v k : ℕ) (s : Tile) → next v k ≡ tile s → P s.shape) → after_number o xs n next ≡ tile t → P t.shape
-each_number P o xs (read v k) next t h e = each_after P _ (next v k) t (h v k) e
-each_number P o xs (bad f p) next t h e = cc
-each_number P o xs short next t h e = cc
-
-each_test : (P : Shape → Type 0) (b : Bool) (v : Verdict) (e : Ending) (t : Tile) → (v ≡ tile t → P t.shape) → cond b v (final e) ≡ tile t → P t.shape
-each_test P true v e t h w = h w
-each_test P false v e t h w = cc
-
-each_test' : (P : Shape → Type 0) (b : Bool) (v : Verdict) (e : Ending) (t : Tile) → (v ≡ tile t → P t.shape) → cond b (final e) v ≡ tile t → P t.shape
-each_test' P true v e t h w = cc
-each_test' P false v e t h w = h w
-
-pub each_tile : (P : Shape → Type 0) (g : Grammar) → Each P g → (xs : List ℕ) (t : Tile) → verdict g xs ≡ tile t → P t.shape
-unfolding verdict
-each_tile P (accept s) h xs t e = let z : s ≡ t.shape = shape_is s t e in subst P z h
-  where
-    shape_is : (s : Shape) (t : Tile) → tile (record { shape = s; bytes = [] }) ≡ tile t → s ≡ t.shape
-    shape_is s t e = let z : record { shape = s; bytes = [] } ≡ t = cc in ap (λ (x : Tile). x.shape) z
-each_tile P (reject e) h xs t w = cc
-each_tile P (check (Some e) next) h xs t w = cc
-each_tile P (check None next) h xs t w = each_tile P next (h refl) xs t w
-each_tile P (u32_field o next) h xs t w = each_number P o xs (number VarU32 xs) (λ v k. verdict (next v k) (drop k xs)) t (λ v k. each_tile P (next v k) (h v k) (drop k xs)) w
-each_tile P (bytes n o next) h xs t w = each_test P (nat_le n (length xs)) _ _ t (each_after P (take n xs) (verdict (next (take n xs)) (drop n xs)) t (each_tile P (next (take n xs)) (h (take n xs)) (drop n xs))) w
-each_tile P (section_start o z next) h [] t w = cc
-each_tile P (section_start o z next) h (id ∷ xs) t w = each_test' P _ _ _ t (each_after P (id ∷ []) (verdict (next id) xs) t (each_tile P (next id) (h id) xs)) w
-
--- a section of this rank may follow
-abbrev pub Follows : SectionContext → ℕ → Type 0
-Follows p r = (nat_lt 0 r && not (p.may_follow r)) ≡ false
-
--- the tile is a section that may follow, or its head
-abbrev pub Placed : SectionContext → Shape → Type 0
-Placed p (section kind id content) = Follows p (rank_of (whole kind) id)
-Placed p (code_start count width size) = Follows p (rank_of code 10)
-Placed p (version num encoding) = ⊥
-Placed p (code_entry content) = ⊥
-
--- a test that finds nothing wrong fails
-pub none_when : (b : Bool) (e : FaultAt) → when b e ≡ None → b ≡ false
-none_when true e h = cc
-none_when false e h = refl
-
-placed_content : (p : SectionContext) (kind : Kind) (id o n : ℕ) → Follows p (rank_of kind id) → Each (Placed p) (content_grammar p kind id o n)
-placed_content p (whole custom) id o n f = λ b x y. f
-placed_content p (whole items) id o n f = λ b x y. f
-placed_content p (whole index) id o n f = λ b x y. f
-placed_content p (whole data_count) id o n f = λ b x y. f
-placed_content p (whole unknown) id o n f = λ b x y. f
-placed_content p code id o n f = λ v k x y. f
-
-pub placed : (p : SectionContext) (o : ℕ) (xs : List ℕ) (t : Tile) → verdict (section_grammar p o) xs ≡ tile t → Placed p t.shape
-unfolding section_grammar
-placed p o xs t e = each_tile (Placed p) (section_grammar p o)
-    (λ id x n k y z. placed_content p (kind_of p.encoding id) id (o + 1 + k) n (none_when _ _ z)) xs t e
-
--- the tile is a body
-abbrev pub IsBody : Shape → Type 0
-IsBody (code_entry content) = Unit {0}
-IsBody (section kind id content) = ⊥
-IsBody (code_start count width size) = ⊥
-IsBody (version num encoding) = ⊥
-
-pub bodied : (m l o : ℕ) (xs : List ℕ) (t : Tile) → verdict (body_grammar m l o) xs ≡ tile t → IsBody t.shape
-unfolding body_grammar
-bodied zero l o xs t e = each_tile IsBody (body_grammar zero l o) tt xs t e
-bodied (suc m) l o xs t e = each_tile IsBody (body_grammar (suc m) l o) (λ v k b x. tt) xs t e
-
--- the tile is a header
-abbrev pub IsHeader : Shape → Type 0
-IsHeader (version num encoding) = Unit {0}
-IsHeader (section kind id content) = ⊥
-IsHeader (code_start count width size) = ⊥
-IsHeader (code_entry content) = ⊥
-
-header_each : (o bits : ℕ) (e : Option Encoding) → Each IsHeader (header_of o bits e)
-header_each o bits (Some e) = tt
-header_each o bits None = tt
-
-pub headed : (o : ℕ) (xs : List ℕ) (t : Tile) → verdict (header_grammar o) xs ≡ tile t → IsHeader t.shape
-unfolding header_grammar
-headed o xs t e = each_tile IsHeader (header_grammar o) (λ a x b. header_each o _ _) xs t e
-
--- where this holds of a tile's rank, it ranks above each tile before it
-abbrev pub Fresh : List Tile → Shape → Type 0
-Fresh ts s = 0 < tile_rank s → list_all (λ (u : Tile). nat_lt (tile_rank u.shape) (tile_rank s)) ts ≡ true
-
--- where a section of a rank may follow, each tile ranks below it
-pub follows_all : (r : ℕ) (b : Bool) → (nat_lt 0 r && not b) ≡ false → 0 < r → b ≡ true
-follows_all r true e h = refl
-follows_all r false e h = let z : nat_lt 0 r ≡ true = lt-ltb 0 r h in absurd (true_false (rw z at e))
-  where
-    true_false : (true && not false) ≡ false → ⊥
-    true_false e = cc
-
-fresh_placed : (ts : List Tile) (s : Shape) → Placed (context_of ts) s → Fresh ts s
-fresh_placed ts (section kind id content) f h = follows_all (rank_of (whole kind) id) _ f h
-fresh_placed ts (code_start count width size) f h = follows_all (rank_of code 10) _ f h
-fresh_placed ts (version num encoding) f h = absurd f
-fresh_placed ts (code_entry content) f h = absurd f
-
-fresh_body : (ts : List Tile) (s : Shape) → IsBody s → Fresh ts s
-fresh_body ts (code_entry content) f h = absurd (omega arith)
-fresh_body ts (section kind id content) f h = absurd f
-fresh_body ts (code_start count width size) f h = absurd f
-fresh_body ts (version num encoding) f h = absurd f
-
-fresh_at : (b : Bool) (ts : List Tile) (m l o : ℕ) (d : List ℕ) (t : Tile) → verdict (cond b (section_grammar (context_of ts) o) (body_grammar m l o)) d ≡ tile t → Fresh ts t.shape
-fresh_at true ts m l o d t e = fresh_placed ts t.shape (placed (context_of ts) o d t e)
-fresh_at false ts m l o d t e = fresh_body ts t.shape (bodied m l o d t e)
-
-pub fresh : (start : ℕ) (ts : List Tile) (d : List ℕ) (t : Tile) → verdict (grammar start ts) d ≡ tile t → Fresh ts t.shape
-fresh start [] d t e = λ h. refl
-fresh start (u ∷ ts) d t e = fresh_at (nat_eq (bodies_left (u ∷ ts) + bytes_left (u ∷ ts)) 0) (u ∷ ts) (bodies_left (u ∷ ts)) (bytes_left (u ∷ ts)) (start + length (bytes_of (u ∷ ts))) d t e
 
 below_self : (r s : ℕ) → nat_lt s r ≡ true → s ≡ r → ⊥
 below_self r s e z = let l : s < r = ltb-true s r e in omega arith
@@ -198,31 +79,37 @@ not_true true h = absurd (h refl)
 not_true false h = refl
 
 -- below the rank of a section there is none of them
-none_in : (n : ℕ) (s : Shape) (xs : List ℕ) → nat_lt (tile_rank s) (slice_index ranks n) ≡ true → xs ≡ [] → count_in n s xs ≡ []
-none_in n (section items id content) xs e f = none_cons (nat_eq id n) _ xs (not_true _ (λ z. below_self (slice_index ranks n) (slice_index ranks id) e (ap (slice_index ranks) (eqb-true id n z)))) f
-none_in n (section data_count id content) xs e f = none_cons (nat_eq id n) _ xs (not_true _ (λ z. below_self (slice_index ranks n) (slice_index ranks id) e (ap (slice_index ranks) (eqb-true id n z)))) f
+none_in : (n : ℕ) (s : Shape) (xs : List ℕ) → nat_lt (tile_rank s) (place_of n) ≡ true → xs ≡ [] → count_in n s xs ≡ []
+none_in n (section items id content) xs e f = none_cons (nat_eq id n) _ xs
+    (not_true _ (λ z. below_self (place_of n) (place_of id) e (ap place_of (eqb-true id n z)))) f
+none_in n (section data_count id content) xs e f = none_cons (nat_eq id n) _ xs
+    (not_true _ (λ z. below_self (place_of n) (place_of id) e (ap place_of (eqb-true id n z)))) f
 none_in n (section custom id content) xs e f = f
 none_in n (section index id content) xs e f = f
 none_in n (section unknown id content) xs e f = f
-none_in n (code_start count width size) xs e f = none_cons (nat_eq 10 n) _ xs (not_true _ (λ z. below_self (slice_index ranks n) (slice_index ranks 10) e (ap (slice_index ranks) (eqb-true 10 n z)))) f
+none_in n (code_start count width size) xs e f = none_cons (nat_eq 10 n) _ xs
+    (not_true _ (λ z. below_self (place_of n) (place_of 10) e (ap place_of (eqb-true 10 n z)))) f
 none_in n (version num encoding) xs e f = f
 none_in n (code_entry content) xs e f = f
 
-pub counts_none : (n : ℕ) (ts : List Tile) → list_all (λ (u : Tile). nat_lt (tile_rank u.shape) (slice_index ranks n)) ts ≡ true → counts n ts ≡ []
+pub counts_none : (n : ℕ) (ts : List Tile) → list_all (λ (u : Tile). nat_lt (tile_rank u.shape) (place_of n)) ts ≡ true → counts n ts ≡ []
 counts_none n [] e = refl
 counts_none n (t ∷ ts) e =
-    let q : ((nat_lt (tile_rank t.shape) (slice_index ranks n) ≡ true) × (list_all (λ (u : Tile). nat_lt (tile_rank u.shape) (slice_index ranks n)) ts ≡ true)) = and_parts _ _ e in
+    let q : ((nat_lt (tile_rank t.shape) (place_of n) ≡ true) × (list_all (λ (u : Tile). nat_lt (tile_rank u.shape) (place_of n)) ts
+    ≡ true)) = and_parts _ _ e in
     none_in n t.shape (counts n ts) q.0 (counts_none n ts q.1)
 
-one_count : (b : Bool) (c : ℕ) (old : Option ℕ) (xs : List ℕ) → option_to_list old ≡ xs → (b ≡ true → xs ≡ []) → option_to_list (cond b (Some c) old) ≡ cond b (c ∷ xs) xs
+one_count : (b : Bool) (c : ℕ) (old : Option ℕ) (xs : List ℕ) → option_to_list old ≡ xs → (b ≡ true → xs ≡ [])
+    → option_to_list (cond b (Some c) old) ≡ cond b (c ∷ xs) xs
 one_count true c old xs e f = ap (λ (x : List ℕ). c ∷ x) (sym (f refl))
 one_count false c old xs e f = e
 
-none_of_rank : (n id : ℕ) (ts : List Tile) → 0 < slice_index ranks n → (0 < slice_index ranks id → list_all (λ (u : Tile). nat_lt (tile_rank u.shape) (slice_index ranks id)) ts ≡ true) → nat_eq id n ≡ true → counts n ts ≡ []
+none_of_rank : (n id : ℕ) (ts : List Tile) → 0 < place_of n → (0 < place_of id
+    → list_all (λ (u : Tile). nat_lt (tile_rank u.shape) (place_of id)) ts ≡ true) → nat_eq id n ≡ true → counts n ts ≡ []
 none_of_rank n id ts h f z =
     let q : id ≡ n = eqb-true id n z in
-    let r : 0 < slice_index ranks id = rw q h in
-    counts_none n ts (subst (λ (x : ℕ). list_all (λ (u : Tile). nat_lt (tile_rank u.shape) (slice_index ranks x)) ts ≡ true) q (f r))
+    let r : 0 < place_of id = rw q h in
+    counts_none n ts (subst (λ (x : ℕ). list_all (λ (u : Tile). nat_lt (tile_rank u.shape) (place_of x)) ts ≡ true) q (f r))
 
 -- the count that is known of the section with this id, after one more tile
 abbrev count_after : ℕ → Shape → Option ℕ → Option ℕ
@@ -232,9 +119,12 @@ count_after n (code_start count width size) old = cond (nat_eq 10 n) (Some count
 count_after n other old = old
 
 -- a parser keeps the one count that there is
-count_same : (n : ℕ) (s : Shape) (old : Option ℕ) (ts : List Tile) → 0 < slice_index ranks n → option_to_list old ≡ counts n ts → Fresh ts s → option_to_list (count_after n s old) ≡ count_in n s (counts n ts)
-count_same n (section items id content) old ts h e f = one_count (nat_eq id n) (count_of content) old (counts n ts) e (none_of_rank n id ts h f)
-count_same n (section data_count id content) old ts h e f = one_count (nat_eq id n) (count_of content) old (counts n ts) e (none_of_rank n id ts h f)
+count_same : (n : ℕ) (s : Shape) (old : Option ℕ) (ts : List Tile) → 0 < place_of n → option_to_list old ≡ counts n ts → Fresh ts s
+    → option_to_list (count_after n s old) ≡ count_in n s (counts n ts)
+count_same n (section items id content) old ts h e f = one_count (nat_eq id n) (count_of content) old (counts n ts) e
+    (none_of_rank n id ts h f)
+count_same n (section data_count id content) old ts h e f = one_count (nat_eq id n) (count_of content) old (counts n ts) e
+    (none_of_rank n id ts h f)
 count_same n (section custom id content) old ts h e f = e
 count_same n (section index id content) old ts h e f = e
 count_same n (section unknown id content) old ts h e f = e
@@ -262,10 +152,10 @@ after_shape p t = record {
   expects_header = false;
   encoding = encoding_in t.shape p.encoding;
   rank = known_rank (tile_rank t.shape) p.rank;
-  functions = count_after 3 t.shape p.functions;
-  codes = count_after 10 t.shape p.codes;
-  datas = count_after 11 t.shape p.datas;
-  data_counts = count_after 12 t.shape p.data_counts;
+  functions = count_after function_id t.shape p.functions;
+  codes = count_after code_id t.shape p.codes;
+  datas = count_after data_id t.shape p.datas;
+  data_counts = count_after data_count_id t.shape p.data_counts;
   bodies = bodies_after t.shape p.bodies;
   left = bytes_after t t.shape p.left;
   in_code = is_of_code t.shape;
@@ -275,8 +165,8 @@ after_shape p t = record {
 
 -- the id of a tile is that of its form
 abbrev HasItsId : Shape → Type 0
-HasItsId (section index id content) = id ≡ 8
-HasItsId (section data_count id content) = id ≡ 12
+HasItsId (section index id content) = id ≡ start_id
+HasItsId (section data_count id content) = id ≡ data_count_id
 HasItsId (section items id content) = Unit {0}
 HasItsId (section custom id content) = Unit {0}
 HasItsId (section unknown id content) = Unit {0}
@@ -294,7 +184,8 @@ content_id p code id o n h = λ v k x y. tt
 
 section_id : (p : SectionContext) (o : ℕ) (xs : List ℕ) (t : Tile) → verdict (section_grammar p o) xs ≡ tile t → HasItsId t.shape
 unfolding section_grammar
-section_id p o xs t e = each_tile HasItsId (section_grammar p o) (λ id x n k y z. content_id p (kind_of p.encoding id) id (o + 1 + k) n (id_of_kind p.encoding id)) xs t e
+section_id p o xs t e = each_tile HasItsId (section_grammar p o)
+    (λ id x n k y z. content_id p (kind_of p.encoding id) id (o + 1 + k) n (id_of_kind p.encoding id)) xs t e
 
 header_id : (s : Shape) → IsHeader s → HasItsId s
 header_id (version num encoding) h = tt
@@ -308,11 +199,13 @@ body_id (section kind id content) h = absurd h
 body_id (code_start count width size) h = absurd h
 body_id (version num encoding) h = absurd h
 
-inside_id : (b : Bool) (p : SectionContext) (m l o : ℕ) (xs : List ℕ) (t : Tile) → verdict (cond b (section_grammar p o) (body_grammar m l o)) xs ≡ tile t → HasItsId t.shape
+inside_id : (b : Bool) (p : SectionContext) (m l o : ℕ) (xs : List ℕ) (t : Tile)
+    → verdict (cond b (section_grammar p o) (body_grammar m l o)) xs ≡ tile t → HasItsId t.shape
 inside_id true p m l o xs t e = section_id p o xs t e
 inside_id false p m l o xs t e = body_id t.shape (bodied m l o xs t e)
 
-tile_id : (h : Bool) (p : ParserState) (xs : List ℕ) (t : Tile) → verdict (cond h (header_grammar p.offset) (inside (known_context p) p.bodies p.left p.offset)) xs ≡ tile t → HasItsId t.shape
+tile_id : (h : Bool) (p : ParserState) (xs : List ℕ) (t : Tile)
+    → verdict (cond h (header_grammar p.offset) (inside (known_context p) p.bodies p.left p.offset)) xs ≡ tile t → HasItsId t.shape
 tile_id true p xs t e = header_id t.shape (headed p.offset xs t e)
 tile_id false p xs t e = inside_id (nat_eq (p.bodies + p.left) 0) (known_context p) p.bodies p.left p.offset xs t e
 
@@ -322,16 +215,19 @@ tile_id false p xs t e = inside_id (nat_eq (p.bodies + p.left) 0) (known_context
 abbrev tile_of : Shape → List ℕ → Tile
 tile_of shape b = record { shape = shape; bytes = b }
 
-after_custom : (p : ParserState) (from to : ℕ) (content : List ℕ) (n : Name) → state_after p to (custom_report p.features from to content n) ≡ record p { offset = to; expects_header = false; bodies = 0; left = 0; in_code = false }
+after_custom : (p : ParserState) (from to : ℕ) (content : List ℕ) (n : Name) → state_after p to (custom_report p.features from to content n)
+    ≡ record p { offset = to; expects_header = false; bodies = 0; left = 0; in_code = false }
 after_custom p from to content (named text used) = refl
 after_custom p from to content (refused f place) = refl
 
-after_at : (p : ParserState) (shape : Shape) (b : List ℕ) → HasItsId shape → state_after_tile p (tile_of shape b) ≡ after_shape p (tile_of shape b)
+after_at : (p : ParserState) (shape : Shape) (b : List ℕ) → HasItsId shape → state_after_tile p (tile_of shape b)
+    ≡ after_shape p (tile_of shape b)
 after_at p (version num encoding) b h = refl
 after_at p (section items id content) b h = refl
 after_at p (section index id content) b h = ap (λ (i : ℕ). after_shape p (tile_of (section index i content) b)) (sym h)
 after_at p (section data_count id content) b h = ap (λ (i : ℕ). after_shape p (tile_of (section data_count i content) b)) (sym h)
-after_at p (section custom id content) b h = after_custom p (p.offset + length b - length content) (p.offset + length b) content (name (Some name_limit) content)
+after_at p (section custom id content) b h = after_custom p (p.offset + length b - length content) (p.offset + length b) content
+    (name (Some name_limit) content)
 after_at p (section unknown id content) b h = refl
 after_at p (code_start count width size) b h = refl
 after_at p (code_entry content) b h =
@@ -344,17 +240,35 @@ state_same p d t e = after_at p t.shape t.bytes (tile_id p.expects_header p d t 
 
 -- a parser that has passed nothing
 abbrev pub nothing_passed : (start features : ℕ) → IsStateAfter (initial_state start features) start []
-nothing_passed start features = record { tiles = []; faultless = tt; is_prefix = refl; offset = omega arith; expects_header = refl; encoding = refl; rank = refl; functions = refl; codes = refl; datas = refl; data_counts = refl; bodies = refl; left = refl; in_code = λ e. e; open_code = λ l. absurd (omega (arith, l)) }
+nothing_passed start features = record {
+  tiles = [];
+  faultless = tt;
+  is_prefix = refl;
+  offset = omega arith;
+  expects_header = refl;
+  encoding = refl;
+  rank = refl;
+  functions = refl;
+  codes = refl;
+  datas = refl;
+  data_counts = refl;
+  bodies = refl;
+  left = refl;
+  in_code = λ e. e;
+  open_code = λ l. absurd (omega (arith, l));
+}
 
 -- bodies or bytes of a code section are left only after its start, or a body
-code_is_left : (t : Tile) (bodies left : ℕ) (shape : Shape) → 0 < bodies_after shape bodies + bytes_after t shape left → is_of_code shape ≡ true
+code_is_left : (t : Tile) (bodies left : ℕ) (shape : Shape) → 0 < bodies_after shape bodies + bytes_after t shape left → is_of_code shape
+    ≡ true
 code_is_left t bodies left (code_start count width size) l = refl
 code_is_left t bodies left (code_entry content) l = refl
 code_is_left t bodies left (version num encoding) l = absurd (omega (arith, l))
 code_is_left t bodies left (section form id content) l = absurd (omega (arith, l))
 
 -- a parser whose state is that after the tile that comes next knows what the tiles say, with that one
-pub state_goes_on : (p : ParserState) (start : ℕ) (prefix : List ℕ) (s : IsStateAfter p start prefix) (d : List ℕ) (t : Tile) → verdict (grammar_of p) d ≡ tile t → IsStateAfter (state_after_tile p t) start (prefix ++ t.bytes)
+pub state_goes_on : (p : ParserState) (start : ℕ) (prefix : List ℕ) (s : IsStateAfter p start prefix) (d : List ℕ) (t : Tile)
+    → verdict (grammar_of p) d ≡ tile t → IsStateAfter (state_after_tile p t) start (prefix ++ t.bytes)
 state_goes_on p start prefix s d t e =
     let v : verdict (grammar start s.tiles) d ≡ tile t = subst (λ (g : Grammar). verdict g d ≡ tile t) (grammar_same p start prefix s) e in
     let g : Grown start s.tiles d t = grows start s.tiles d t s.faultless v in
@@ -368,11 +282,14 @@ state_goes_on p start prefix s d t e =
       offset = omega (arith, length-append prefix t.bytes);
       expects_header = refl;
       encoding = ap (λ (x : ParserState). x.encoding) q ∙ ap (encoding_in t.shape) s.encoding;
-      rank = ap (λ (x : ParserState). x.rank) q ∙ rank_grows (tile_rank t.shape) p.rank (greatest s.tiles) s.rank (λ h. greatest_lt (tile_rank t.shape) s.tiles h (f h));
-      functions = ap (λ (x : ParserState). option_to_list x.functions) q ∙ count_same 3 t.shape p.functions s.tiles (lit< tt) s.functions f;
-      codes = ap (λ (x : ParserState). option_to_list x.codes) q ∙ count_same 10 t.shape p.codes s.tiles (lit< tt) s.codes f;
-      datas = ap (λ (x : ParserState). option_to_list x.datas) q ∙ count_same 11 t.shape p.datas s.tiles (lit< tt) s.datas f;
-      data_counts = ap (λ (x : ParserState). option_to_list x.data_counts) q ∙ count_same 12 t.shape p.data_counts s.tiles (lit< tt) s.data_counts f;
+      rank = ap (λ (x : ParserState). x.rank) q ∙ rank_grows (tile_rank t.shape) p.rank (greatest s.tiles) s.rank
+          (λ h. greatest_lt (tile_rank t.shape) s.tiles h (f h));
+      functions = ap (λ (x : ParserState). option_to_list x.functions) q
+          ∙ count_same function_id t.shape p.functions s.tiles (lit< tt) s.functions f;
+      codes = ap (λ (x : ParserState). option_to_list x.codes) q ∙ count_same code_id t.shape p.codes s.tiles (lit< tt) s.codes f;
+      datas = ap (λ (x : ParserState). option_to_list x.datas) q ∙ count_same data_id t.shape p.datas s.tiles (lit< tt) s.datas f;
+      data_counts = ap (λ (x : ParserState). option_to_list x.data_counts) q
+          ∙ count_same data_count_id t.shape p.data_counts s.tiles (lit< tt) s.data_counts f;
       bodies = ap (λ (x : ParserState). x.bodies) q ∙ ap (bodies_after t.shape) s.bodies;
       left = ap (λ (x : ParserState). x.left) q ∙ ap (bytes_after t t.shape) s.left;
       in_code = λ h. sym (ap (λ (x : ParserState). x.in_code) q) ∙ h;
@@ -380,6 +297,7 @@ state_goes_on p start prefix s d t e =
     }
 
 -- its tiles are one more
-pub state_goes_on-tiles : (p : ParserState) (start : ℕ) (prefix : List ℕ) (s : IsStateAfter p start prefix) (d : List ℕ) (t : Tile) (e : verdict (grammar_of p) d ≡ tile t) → (state_goes_on p start prefix s d t e).tiles ≡ t ∷ s.tiles
+pub state_goes_on-tiles : (p : ParserState) (start : ℕ) (prefix : List ℕ) (s : IsStateAfter p start prefix) (d : List ℕ) (t : Tile)
+    (e : verdict (grammar_of p) d ≡ tile t) → (state_goes_on p start prefix s d t e).tiles ≡ t ∷ s.tiles
 unfolding state_goes_on
 state_goes_on-tiles p start prefix s d t e = refl

@@ -1,5 +1,6 @@
 -- What a walk over a whole stream gives.
-use Rattle.std.proofs.Common.{◌≡◌, ℕ, ◌+◌, ◌<◌, ◌^◌, Bool, true, false, List, [], ◌∷◌, ◌++◌, length, drop, Option, Some, None, Result, Ok, Err, refl, sym, ap, subst, ◌∙◌, arith, length-append, append_assoc}
+use Rattle.std.proofs.Common.{◌≡◌, ℕ, ◌+◌, ◌<◌, ◌^◌, Bool, true, false, List, [], ◌∷◌, ◌++◌, length, drop, Option, Some, None, Result, Ok}
+use Rattle.std.proofs.Common.{Err, refl, sym, ap, subst, ◌∙◌, arith, length-append, append_assoc}
 use Rattle.std.proofs.lemmas.List.{drop_at}
 use Rattle.std.proofs.lemmas.List.Elements.{All-nil, All-cons}
 use Rattle.std.specs.declared.ops.Range.{Range}
@@ -8,22 +9,23 @@ use Rattle.std.specs.Prelude.{◌↔◌, map, filter_map, All}
 use Rattle.std.specs.Iterator.{Yields, Drains}
 use Rattle.wasm_base.specs.FaultAt.{FaultAt, fault_at}
 use Rattle.wasm_base.specs.declared.error.Error.{Error}
-use Rattle.wasm_parser.specs.ParseAnswer.{report_of, is_end, Answers}
-use Rattle.wasm_parser.specs.Content.{Ending, fault, ended}
-use Rattle.wasm_parser.specs.Grammar.{Tile, Verdict, tile, final, Grammar, verdict}
-use Rattle.wasm_parser.specs.Reading.{Report, stream_end, tile_report, Event, event_of, events_of, last_event, Reads, Reading, Stream}
-use Rattle.wasm_parser.specs.Sections.{section_of, sections_of, TiledBySections}
+use Rattle.wasm_parser.specs.ParseAnswer.{report_of, is_end}
+use Rattle.wasm_grammar.specs.Content.{Ending, fault, ended}
+use Rattle.wasm_grammar.specs.Grammar.{Tile, Verdict, tile, final, Grammar, verdict}
+use Rattle.wasm_grammar.specs.Reading.{Report, stream_end, tile_report, Event, event_of, events_of, last_event, Reads, Reading, Stream}
+use Rattle.wasm_grammar.specs.Sections.{section_of, sections_of, TiledBySections}
 use Rattle.wasm_parser.specs.ParserState.{ParserState, IsStateAfter, initial_state, grammar_of}
 use Rattle.wasm_parser.specs.StateAfter.{state_after_tile}
-use Rattle.wasm_parser.specs.Tiling.{bytes_of, grammar, Faultless}
-use Rattle.wasm_parser.specs.ParseAll.{HoldsItems, Walk, walk_over, consumed_between, GivesAnswer, NextPayload, sections_given, given_report, event_report, EndsAt, GivesReading, WalksWhole}
+use Rattle.wasm_grammar.specs.Tiling.{bytes_of, grammar, Faultless}
+use Rattle.wasm_parser.specs.ParseAll.{HoldsItems, Walk, walk_over, consumed_between, GivesAnswer, NextPayload, sections_given}
+use Rattle.wasm_parser.specs.ParseAll.{given_report, event_report, EndsAt, GivesReading, WalksWhole}
 use Rattle.wasm_parser.specs.declared.payload.Chunk.TheVariants.{Parsed}
 use Rattle.wasm_parser.specs.declared.payload.Payload.{Payload}
-use Rattle.wasm_parser.proofs.Accepting.{accepted_ends}
-use Rattle.wasm_parser.proofs.ReadingLaws.{Grown, grows, reads_same, reading_same}
-use Rattle.wasm_parser.proofs.SectionPlaces.{sections_tile}
+use Rattle.wasm_grammar.proofs.accepted.Accepting.{accepted_ends}
+use Rattle.wasm_grammar.proofs.readings.Readings.{Grown, grows, reads_same, reading_same}
+use Rattle.wasm_grammar.proofs.frames.SectionPlaces.{sections_tile}
 use Rattle.wasm_parser.proofs.StateLaws.{grammar_same, nothing_passed, state_goes_on, state_goes_on-tiles}
-use Rattle.wasm_parser.proofs.AnswerBounds.{goes_on, holds_items}
+use Rattle.wasm_parser.proofs.AnswerTables.{Answers, goes_on, as_table}
 
 -- ---- one step
 
@@ -48,21 +50,26 @@ record Walked (start features : ℕ) (stream : List ℕ) (s : Walk) (tiles : Lis
   fits : start + length stream < 2 ^ 64
 
 -- what comes next there
-here : (start features : ℕ) (stream : List ℕ) (s : Walk) (tiles : List Tile) → Walked start features stream s tiles → verdict (grammar_of s.state) s.bytes ≡ verdict (grammar start tiles) s.bytes
-here start features stream s tiles w = ap (λ (g : Grammar). verdict g s.bytes) (grammar_same s.state start w.prefix w.is_after ∙ ap (grammar start) w.same)
+here : (start features : ℕ) (stream : List ℕ) (s : Walk) (tiles : List Tile) → Walked start features stream s tiles
+    → verdict (grammar_of s.state) s.bytes ≡ verdict (grammar start tiles) s.bytes
+here start features stream s tiles w = ap (λ (g : Grammar). verdict g s.bytes)
+    (grammar_same s.state start w.prefix w.is_after ∙ ap (grammar start) w.same)
 
-within : (start features : ℕ) (stream : List ℕ) (s : Walk) (tiles : List Tile) → Walked start features stream s tiles → s.state.offset + length s.bytes < 2 ^ 64
+within : (start features : ℕ) (stream : List ℕ) (s : Walk) (tiles : List Tile) → Walked start features stream s tiles
+    → s.state.offset + length s.bytes < 2 ^ 64
 within start features stream s tiles w =
     let o : s.state.offset ≡ start + length w.prefix = w.is_after.offset in
     let n : length stream ≡ length w.prefix + length s.bytes = ap (λ (x : List ℕ). length x) w.whole ∙ length-append w.prefix s.bytes in
     let f : start + length stream < 2 ^ 64 = w.fits in
     omega arith
 
-is_prefix : (start features : ℕ) (stream : List ℕ) (s : Walk) (tiles : List Tile) (w : Walked start features stream s tiles) → bytes_of tiles ≡ w.prefix
+is_prefix : (start features : ℕ) (stream : List ℕ) (s : Walk) (tiles : List Tile) (w : Walked start features stream s tiles)
+    → bytes_of tiles ≡ w.prefix
 is_prefix start features stream s tiles w = ap bytes_of (sym w.same) ∙ w.is_after.is_prefix
 
 -- a reading that stops here
-stops_here : (start features : ℕ) (stream : List ℕ) (s : Walk) (tiles : List Tile) (w : Walked start features stream s tiles) (end : Ending) (x : Report) → verdict (grammar_of s.state) s.bytes ≡ final end → x ≡ stream_end end → ReadsOn start features stream tiles (x ∷ [])
+stops_here : (start features : ℕ) (stream : List ℕ) (s : Walk) (tiles : List Tile) (w : Walked start features stream s tiles) (end : Ending)
+    (x : Report) → verdict (grammar_of s.state) s.bytes ≡ final end → x ≡ stream_end end → ReadsOn start features stream tiles (x ∷ [])
 stops_here start features stream s tiles w end x v t = record {
   events = last_event end ∷ [];
   reading = record {
@@ -80,22 +87,28 @@ stops_here start features stream s tiles w end x v t = record {
 }
 
 -- a tile more
-goes_further : (start features : ℕ) (stream : List ℕ) (tiles : List Tile) (t : Tile) (x : Report) (others : List Report) → x ≡ event_report (event_of features (start + length (bytes_of tiles)) t) → ReadsOn start features stream (t ∷ tiles) others
+goes_further : (start features : ℕ) (stream : List ℕ) (tiles : List Tile) (t : Tile) (x : Report) (others : List Report) → x
+    ≡ event_report (event_of features (start + length (bytes_of tiles)) t) → ReadsOn start features stream (t ∷ tiles) others
     → ReadsOn start features stream tiles (x ∷ others)
 goes_further start features stream tiles t x others e r = record {
   events = event_of features (start + length (bytes_of tiles)) t ∷ r.events;
-  reading = subst (Reading stream start features) (append_assoc (events_of start features tiles) (event_of features (start + length (bytes_of tiles)) t ∷ []) r.events) r.reading;
+  reading = subst (Reading stream start features) (append_assoc (events_of start features tiles)
+      (event_of features (start + length (bytes_of tiles)) t ∷ []) r.events) r.reading;
   gives = (λ i. e i ∷ r.gives i);
 }
 
 -- the walk after a tile
-steps_on : (start features : ℕ) (stream : List ℕ) (s m : Walk) (tiles : List Tile) (w : Walked start features stream s tiles) (t : Tile) (consumed : ℕ) → verdict (grammar_of s.state) s.bytes ≡ tile t → consumed ≡ length t.bytes
+steps_on : (start features : ℕ) (stream : List ℕ) (s m : Walk) (tiles : List Tile) (w : Walked start features stream s tiles) (t : Tile)
+    (consumed : ℕ) → verdict (grammar_of s.state) s.bytes ≡ tile t → consumed ≡ length t.bytes
     → m.state ≡ state_after_tile s.state t → m.bytes ≡ drop consumed s.bytes → Walked start features stream m (t ∷ tiles)
 steps_on start features stream s m tiles w t consumed v n p b =
-    let v' : verdict (grammar start w.is_after.tiles) s.bytes ≡ tile t = subst (λ (g : Grammar). verdict g s.bytes ≡ tile t) (grammar_same s.state start w.prefix w.is_after) v in
+    let v' : verdict (grammar start w.is_after.tiles) s.bytes ≡ tile t =
+    subst (λ (g : Grammar). verdict g s.bytes ≡ tile t) (grammar_same s.state start w.prefix w.is_after) v in
     let g : Grown start w.is_after.tiles s.bytes t = grows start w.is_after.tiles s.bytes t w.is_after.faultless v' in
-    let d : m.bytes ≡ g.rest = b ∙ (ap (λ (k : ℕ). drop k s.bytes) n ∙ (ap (drop (length t.bytes)) g.split ∙ drop_at t.bytes g.rest (length t.bytes) refl)) in
-    let on : Walked start features stream (record { state = state_after_tile s.state t; bytes = g.rest; ended = m.ended }) (t ∷ tiles) = record {
+    let d : m.bytes ≡ g.rest = b ∙ (ap (λ (k : ℕ). drop k s.bytes) n
+    ∙ (ap (drop (length t.bytes)) g.split ∙ drop_at t.bytes g.rest (length t.bytes) refl)) in
+    let on : Walked start features stream (record { state = state_after_tile s.state t; bytes = g.rest; ended = m.ended }) (t ∷ tiles) =
+    record {
       prefix = w.prefix ++ t.bytes;
       is_after = state_goes_on s.state start w.prefix w.is_after s.bytes t v;
       same = state_goes_on-tiles s.state start w.prefix w.is_after s.bytes t v ∙ ap (λ (y : List Tile). t ∷ y) w.same;
@@ -106,45 +119,64 @@ steps_on start features stream s m tiles w t consumed v n p b =
     subst (λ (y : Walk). Walked start features stream y (t ∷ tiles)) (λ i. record { state = sym p i; bytes = sym d i; ended = m.ended }) on
 
 -- what a payload reports of a tile there
-report_there : (start features : ℕ) (stream : List ℕ) (s : Walk) (tiles : List Tile) (w : Walked start features stream s tiles) (t : Tile) (x : Report) → x ≡ tile_report s.state.features s.state.offset (s.state.offset + length t.bytes) t.shape
+report_there : (start features : ℕ) (stream : List ℕ) (s : Walk) (tiles : List Tile) (w : Walked start features stream s tiles) (t : Tile)
+    (x : Report) → x ≡ tile_report s.state.features s.state.offset (s.state.offset + length t.bytes) t.shape
     → x ≡ event_report (event_of features (start + length (bytes_of tiles)) t)
 report_there start features stream s tiles w t x e =
-    let o : s.state.offset ≡ start + length (bytes_of tiles) = w.is_after.offset ∙ ap (λ (y : List ℕ). start + length y) (sym (is_prefix start features stream s tiles w)) in
+    let o : s.state.offset ≡ start + length (bytes_of tiles) = w.is_after.offset
+    ∙ ap (λ (y : List ℕ). start + length y) (sym (is_prefix start features stream s tiles w)) in
     e ∙ (λ i. tile_report (w.takes i) (o i) (o i + length t.bytes) t.shape)
 
 -- ---- the whole walk
 
 -- what a walk gives that goes on
-walks : (start features : ℕ) (stream : List ℕ) (given : List (Result Payload Error)) (s t u : Walk) (tiles : List Tile) → Walked start features stream s tiles → s.ended ≡ false → Yields NextPayload s given t → NextPayload t None u
+walks : (start features : ℕ) (stream : List ℕ) (given : List (Result Payload Error)) (s t u : Walk) (tiles : List Tile)
+    → Walked start features stream s tiles → s.ended ≡ false → Yields NextPayload s given t → NextPayload t None u
     → ReadsOn start features stream tiles (map given_report given)
-walks start features stream [] s t u tiles w going run end = absurd (subst (λ (y : Walk). y.ended ≡ false → GivesAnswer y None u) (sym run) end.going going)
+walks start features stream [] s t u tiles w going run end = absurd
+    (subst (λ (y : Walk). y.ended ≡ false → GivesAnswer y None u) (sym run) end.going going)
 walks start features stream (Err e ∷ given) s t u tiles w going run end =
     let step = run.1.going going in
     let none : given ≡ [] = over_gives_nothing run.0 t given step.2 run.2 in
-    let r : ReadsOn start features stream tiles (stream_end (fault (fault_at e)) ∷ []) = refused (verdict (grammar_of s.state) s.bytes) refl (step.0.within (within start features stream s tiles w)) in
-    subst (λ (y : List (Result Payload Error)). ReadsOn start features stream tiles (stream_end (fault (fault_at e)) ∷ map given_report y)) (sym none) r
+    let r : ReadsOn start features stream tiles (stream_end (fault (fault_at e)) ∷ []) =
+    refused (verdict (grammar_of s.state) s.bytes) refl
+    ((as_table s.state run.0.state true s.bytes (Err e) step.0).within (within start features stream s tiles w)) in
+    subst (λ (y : List (Result Payload Error)). ReadsOn start features stream tiles (stream_end (fault (fault_at e)) ∷ map given_report y))
+    (sym none) r
   where
-    refused : (v : Verdict) → verdict (grammar_of s.state) s.bytes ≡ v → Answers s.state v (Err e) run.0.state → ReadsOn start features stream tiles (stream_end (fault (fault_at e)) ∷ [])
+    refused : (v : Verdict) → verdict (grammar_of s.state) s.bytes ≡ v → Answers s.state v (Err e) run.0.state
+        → ReadsOn start features stream tiles (stream_end (fault (fault_at e)) ∷ [])
     refused (tile x) q a = absurd a
-    refused (final (fault f)) q a = stops_here start features stream s tiles w (fault f) (stream_end (fault (fault_at e))) q (ap (λ (x : FaultAt). stream_end (fault x)) a.0)
+    refused (final (fault f)) q a = stops_here start features stream s tiles w (fault f) (stream_end (fault (fault_at e))) q
+        (ap (λ (x : FaultAt). stream_end (fault x)) a.0)
     refused (final (ended o)) q a = absurd a
 walks start features stream (Ok payload ∷ given) s t u tiles w going run end =
     let step = run.1.going going in
-    answered (λ ts on still. walks start features stream given run.0 t u ts on still run.2 end) (verdict (grammar_of s.state) s.bytes) refl (step.0.within (within start features stream s tiles w))
+    answered (λ ts on still. walks start features stream given run.0 t u ts on still run.2 end) (verdict (grammar_of s.state) s.bytes) refl
+    ((as_table s.state run.0.state true s.bytes (Ok (Parsed (consumed_between s run.0) payload)) step.0).within
+    (within start features stream s tiles w))
   where
-    answered : ((ts : List Tile) → Walked start features stream run.0 ts → run.0.ended ≡ false → ReadsOn start features stream ts (map given_report given)) → (v : Verdict) → verdict (grammar_of s.state) s.bytes ≡ v → Answers s.state v (Ok (Parsed (consumed_between s run.0) payload)) run.0.state → ReadsOn start features stream tiles (report_of payload ∷ map given_report given)
+    answered : ((ts : List Tile) → Walked start features stream run.0 ts → run.0.ended ≡ false
+        → ReadsOn start features stream ts (map given_report given)) → (v : Verdict) → verdict (grammar_of s.state) s.bytes ≡ v
+        → Answers s.state v (Ok (Parsed (consumed_between s run.0) payload)) run.0.state
+        → ReadsOn start features stream tiles (report_of payload ∷ map given_report given)
     answered next (tile x) q a =
-        let on : Walked start features stream run.0 (x ∷ tiles) = steps_on start features stream s run.0 tiles w x (consumed_between s run.0) q a.0 a.2 (run.1.going going).1 in
-        let still : run.0.ended ≡ false = (run.1.going going).2 ∙ (ap is_end a.1.0 ∙ goes_on s.state.features s.state.offset (s.state.offset + length x.bytes) x.shape) in
-        goes_further start features stream tiles x (report_of payload) (map given_report given) (report_there start features stream s tiles w x (report_of payload) a.1.0) (next (x ∷ tiles) on still)
+        let on : Walked start features stream run.0 (x ∷ tiles) =
+        steps_on start features stream s run.0 tiles w x (consumed_between s run.0) q a.0 a.2 (run.1.going going).1 in
+        let still : run.0.ended ≡ false = (run.1.going going).2
+        ∙ (ap is_end a.1.0 ∙ goes_on s.state.features s.state.offset (s.state.offset + length x.bytes) x.shape) in
+        goes_further start features stream tiles x (report_of payload) (map given_report given)
+        (report_there start features stream s tiles w x (report_of payload) a.1.0) (next (x ∷ tiles) on still)
     answered next (final (fault f)) q a = absurd a
     answered next (final (ended o)) q a =
         let over : run.0.ended ≡ true = (run.1.going going).2 ∙ ap is_end a.1.0 in
         let none : given ≡ [] = over_gives_nothing run.0 t given over run.2 in
-        subst (λ (y : List (Result Payload Error)). ReadsOn start features stream tiles (report_of payload ∷ map given_report y)) (sym none) (stops_here start features stream s tiles w (ended o) (report_of payload) q a.1.0)
+        subst (λ (y : List (Result Payload Error)). ReadsOn start features stream tiles (report_of payload ∷ map given_report y)) (sym none)
+        (stops_here start features stream s tiles w (ended o) (report_of payload) q a.1.0)
 
 -- a walk that has not begun
-begins : (start features : ℕ) (bytes : List ℕ) → start + length bytes < 2 ^ 64 → Walked start features bytes (walk_over (initial_state start features) bytes) []
+begins : (start features : ℕ) (bytes : List ℕ) → start + length bytes < 2 ^ 64
+    → Walked start features bytes (walk_over (initial_state start features) bytes) []
 begins start features bytes l = record {
   prefix = [];
   is_after = nothing_passed start features;
@@ -154,8 +186,10 @@ begins start features bytes l = record {
   fits = l;
 }
 
-walk_reads : (start features : ℕ) (bytes : List ℕ) → start + length bytes < 2 ^ 64 → (given : List (Result Payload Error)) → Drains NextPayload (walk_over (initial_state start features) bytes) given → ReadsOn start features bytes [] (map given_report given)
-walk_reads start features bytes l given run = walks start features bytes given (walk_over (initial_state start features) bytes) run.1.0 run.0 [] (begins start features bytes l) refl run.1.1 run.1.2
+walk_reads : (start features : ℕ) (bytes : List ℕ) → start + length bytes < 2 ^ 64 → (given : List (Result Payload Error))
+    → Drains NextPayload (walk_over (initial_state start features) bytes) given → ReadsOn start features bytes [] (map given_report given)
+walk_reads start features bytes l given run = walks start features bytes given (walk_over (initial_state start features) bytes) run.1.0
+    run.0 [] (begins start features bytes l) refl run.1.1 run.1.2
 
 -- ---- how it ends
 
@@ -179,20 +213,23 @@ mapped f h [] = refl
 mapped f h (x ∷ xs) = ap (cons_option (h (f x))) (mapped f h xs)
 
 -- sections by what is reported of them
-same_sections : (given : List (Result Payload Error)) (events : List Event) → map given_report given ≡ map event_report events → sections_of events ≡ sections_given given
-same_sections given events e = mapped event_report section_of events ∙ (ap (filter_map section_of) (sym e) ∙ sym (mapped given_report section_of given))
+same_sections : (given : List (Result Payload Error)) (events : List Event) → map given_report given ≡ map event_report events
+    → sections_of events ≡ sections_given given
+same_sections given events e = mapped event_report section_of events
+    ∙ (ap (filter_map section_of) (sym e) ∙ sym (mapped given_report section_of given))
 
 -- each payload that a walk gives holds its items
 holds_one : (b : Bool) (s t : Walk) (x : Result Payload Error) → s.ended ≡ b → NextPayload s (Some x) t → HoldsItems x
 holds_one true s t x e n = absurd (let z = (n.over e).0 in cc)
-holds_one false s t (Ok payload) e n = holds_items s.state t.state s.bytes (consumed_between s t) payload (n.going e).0
+holds_one false s t (Ok payload) e n = (n.going e).0.items
 holds_one false s t (Err f) e n = tt
 
 holds_all : (given : List (Result Payload Error)) (s t : Walk) → Yields NextPayload s given t → All HoldsItems given
 holds_all [] s t run = All-nil HoldsItems
 holds_all (x ∷ given) s t run = All-cons HoldsItems x given (holds_one s.ended s run.0 x refl run.1) (holds_all given run.0 t run.2)
 
-gives_reading : (start features : ℕ) (bytes : List ℕ) → Stream bytes start → GivesReading start features bytes (walk_over (initial_state start features) bytes)
+gives_reading : (start features : ℕ) (bytes : List ℕ) → Stream bytes start
+    → GivesReading start features bytes (walk_over (initial_state start features) bytes)
 gives_reading start features bytes stream = record {
   reading = λ given run events r.
       let w : ReadsOn start features bytes [] (map given_report given) = walk_reads start features bytes stream.fits given run in
@@ -202,22 +239,29 @@ gives_reading start features bytes stream = record {
       let w : ReadsOn start features bytes [] (map given_report given) = walk_reads start features bytes stream.fits given run in
       let a = accepted_ends bytes start stream in
       let l : map given_report given ≡ map event_report (events_of start features w.reading.tiles) ++ stream_end w.reading.end ∷ [] =
-      w.gives ∙ (ap (map event_report) w.reading.listed ∙ map_append (events_of start features w.reading.tiles) (last_event w.reading.end ∷ [])) in
-      let e = ends_append (start + length bytes) (map event_report (events_of start features w.reading.tiles)) (stream_end w.reading.end) in (
+      w.gives ∙ (ap (map event_report) w.reading.listed ∙ map_append (events_of start features w.reading.tiles)
+      (last_event w.reading.end ∷ [])) in
+      let told = map event_report (events_of start features w.reading.tiles) in
+      let e = ends_append (start + length bytes) told (stream_end w.reading.end) in (
         λ h.
             let (ts, reads) = a.0 h in
-            let same : w.reading.end ≡ ended (start + length bytes) = (reads_same bytes start w.reading.tiles ts w.reading.end (ended (start + length bytes)) w.reading.reads reads).1 in
+            let same : w.reading.end ≡ ended (start + length bytes) =
+            (reads_same bytes start w.reading.tiles ts w.reading.end (ended (start + length bytes)) w.reading.reads reads).1 in
             subst (EndsAt (start + length bytes)) (sym l) (e.1 (ap stream_end same)),
         λ h.
-            let same : w.reading.end ≡ ended (start + length bytes) = report_end (start + length bytes) w.reading.end (e.0 (subst (EndsAt (start + length bytes)) l h)) in
+            let same : w.reading.end ≡ ended (start + length bytes) =
+            report_end (start + length bytes) w.reading.end (e.0 (subst (EndsAt (start + length bytes)) l h)) in
             a.1 (w.reading.tiles, subst (Reads bytes start w.reading.tiles) same w.reading.reads),
       );
   sections = λ given run a.
       let w : ReadsOn start features bytes [] (map given_report given) = walk_reads start features bytes stream.fits given run in
-      subst (λ (y : List (ℕ × Range ℕ)). TiledBySections bytes start y a.encoding a.frames) (same_sections given w.events w.gives) (sections_tile bytes start features w.events stream a w.reading);
+      subst (λ (y : List (ℕ × Range ℕ)). TiledBySections bytes start y a.encoding a.frames) (same_sections given w.events w.gives)
+      (sections_tile bytes start features w.events stream a w.reading);
 }
 
 -- the walk of a parser that has passed nothing
-pub walks_whole : (p : ParserState) (bytes : List ℕ) (walk : Walk) → All (λ b. b < 256) bytes → walk ≡ walk_over p bytes → WalksWhole p bytes walk
+pub walks_whole : (p : ParserState) (bytes : List ℕ) (walk : Walk) → All (λ b. b < 256) bytes → walk ≡ walk_over p bytes
+    → WalksWhole p bytes walk
 walks_whole p bytes walk each w start features same fits =
-    subst (GivesReading start features bytes) (sym (w ∙ ap (λ (q : ParserState). walk_over q bytes) same)) (gives_reading start features bytes (record { each = each; fits = fits }))
+    subst (GivesReading start features bytes) (sym (w ∙ ap (λ (q : ParserState). walk_over q bytes) same))
+    (gives_reading start features bytes (record { each = each; fits = fits }))

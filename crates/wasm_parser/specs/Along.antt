@@ -1,21 +1,27 @@
--- Where a caller is along a stream that it gives bit by bit, and what an answer then says of every stream that goes on so.
-use Rattle.std.specs.Prelude.{◌≡◌, ℕ, ◌+◌, ◌<◌, ◌^◌, Bool, true, false, List, [], ◌∷◌, ◌++◌, length, Result, Ok, Err, if◌then◌else◌}
-use Rattle.wasm_base.specs.FaultAt.{fault_at}
+-- Where a caller is along a stream that it gives bit by bit, and what an answer then says of every stream that goes on
+-- so.
+use Rattle.std.specs.Prelude.{◌≡◌, ℕ, ◌+◌, ◌<◌, ◌≤◌, ◌^◌, Bool, true, false, List, [], ◌∷◌, ◌++◌, length, Result, Ok}
+use Rattle.std.specs.Prelude.{Err}
+use Rattle.wasm_base.specs.FaultAt.{fault_at, at_offset}
+use Rattle.wasm_base.specs.declared.fault.Fault.TheVariants.{OffsetRange}
 use Rattle.wasm_base.specs.declared.error.Error.{Error}
-use Rattle.wasm_parser.specs.Content.{Ending, fault, ended}
-use Rattle.wasm_parser.specs.EventRanges.{consumed_by}
+use Rattle.wasm_grammar.specs.Content.{Ending, fault, ended}
+use Rattle.wasm_grammar.specs.EventRanges.{consumed_by}
 use Rattle.wasm_parser.specs.GivesNextEvent.{MayBe, IsUndecided}
-use Rattle.wasm_parser.specs.ParseAnswer.{IsPayload, ItemsBegin, report_of, is_end, Consumes, ParseAnswer}
-use Rattle.wasm_parser.specs.ParserState.{ParserState, IsStateAfter, initial_state, ended_state, grammar_of}
-use Rattle.wasm_parser.specs.Reading.{Event, events_of, last_event, Reading}
-use Rattle.wasm_parser.specs.StateAfter.{state_after}
-use Rattle.wasm_parser.specs.Waiting.{wants, waiting}
+use Rattle.wasm_parser.specs.ParseAnswer.{IsPayload, ItemsBegin, report_of, is_end, said, refuses, state_after_answer}
+use Rattle.wasm_parser.specs.ParseAnswer.{Consumes}
+use Rattle.wasm_parser.specs.ParseAnswer.{ParseAnswer}
+use Rattle.wasm_parser.specs.ParserState.{ParserState, IsStateAfter, initial_state, grammar_of}
+use Rattle.wasm_grammar.specs.Reading.{Event, events_of, last_event, Reading}
+use Rattle.wasm_grammar.specs.Waiting.{wants, waiting}
 use Rattle.wasm_parser.specs.declared.payload.Chunk.{Chunk}
 use Rattle.wasm_parser.specs.declared.payload.Chunk.TheVariants.{NeedMoreData, Parsed}
 use Rattle.wasm_parser.specs.declared.payload.Payload.{Payload}
 
--- The bytes that were given are those that the parser has passed, which are read as these events, and those that are held.
-pub record Along (start features : ℕ) (given : List ℕ) (p : ParserState) (held : List ℕ) (events : List Event) : Type 0 where
+-- The bytes that were given are those that the parser has passed, which are read as these events, and those that are
+-- held.
+pub record Along (start features : ℕ) (given : List ℕ) (p : ParserState) (held : List ℕ) (events : List Event) : Type
+    0 where
   pub prefix : List ℕ
   pub is_after : IsStateAfter p start prefix
   pub whole : given ≡ prefix ++ held
@@ -31,41 +37,43 @@ pub record ReadingBegins (start features : ℕ) (stream : List ℕ) (first : Lis
 
 -- The reading of each stream that these bytes may be the first of, or all, begins with these events.
 abbrev pub BeginsEach : (start features : ℕ) (eof : Bool) (given : List ℕ) (first : List Event) → Type 0
-BeginsEach start features eof given first = (stream : List ℕ) → MayBe eof given stream → ReadingBegins start features stream first
+BeginsEach start features eof given first =
+    (stream : List ℕ) → MayBe eof given stream → ReadingBegins start features stream first
 
 -- It is these events.
 abbrev pub ReadsEach : (start features : ℕ) (eof : Bool) (given : List ℕ) (events : List Event) → Type 0
-ReadsEach start features eof given events = (stream : List ℕ) → MayBe eof given stream → Reading stream start features events
+ReadsEach start features eof given events =
+    (stream : List ℕ) → MayBe eof given stream → Reading stream start features events
 
 -- An event came next, by this payload that consumed these bytes: the parser is after it, or it is the last one.
-pub record Came (start features : ℕ) (eof : Bool) (given : List ℕ) (events : List Event) (bytes : List ℕ) (payload : Payload) (new : ParserState) (left : List ℕ) : Type 0 where
+pub record Came (start features : ℕ) (eof : Bool) (given : List ℕ) (events : List Event) (bytes : List ℕ)
+    (payload : Payload) (new : ParserState) (left : List ℕ) : Type 0 where
   pub event : Event
   pub is_payload : IsPayload event.report payload
   pub consumed : event.consumed ≡ bytes
   pub begins : BeginsEach start features eof given (events ++ event ∷ [])
-  pub goes_on : is_end (report_of payload) ≡ false → Along start features given new left (events ++ event ∷ []) × (0 < length bytes)
+  pub goes_on : is_end (report_of payload) ≡ false → Along start features given new left (events ++ event ∷ [])
+      × (0 < length bytes)
   pub ends : is_end (report_of payload) ≡ true → ReadsEach start features eof given (events ++ event ∷ [])
   pub last : is_end (report_of payload) ≡ true → (offset : ℕ) × (event ≡ last_event (ended offset))
 
--- what an answer that consumed these bytes says of each of those streams: more is asked for, the next event came, or the fault
--- is the last one
-abbrev pub GoesAlong : (start features : ℕ) (eof : Bool) (given : List ℕ) (events : List Event) → Result Chunk Error → (bytes : List ℕ) (new : ParserState) (left : List ℕ) → Type 0
-GoesAlong start features eof given events (Ok (NeedMoreData hint)) bytes new left = IsUndecided new eof left hint × Along start features given new left events
-GoesAlong start features eof given events (Ok (Parsed consumed payload)) bytes new left = Came start features eof given events bytes payload new left
-GoesAlong start features eof given events (Err e) bytes new left = ReadsEach start features eof given (events ++ last_event (fault (fault_at e)) ∷ []) × Along start features given new left events
+-- what an answer that consumed these bytes says of each of those streams: more is asked for, the next event came, or
+-- the fault is the last one
+abbrev pub GoesAlong : (start features : ℕ) (eof : Bool) (given : List ℕ) (events : List Event) → Result Chunk Error
+    → (bytes : List ℕ) (new : ParserState) (left : List ℕ) → Type 0
+GoesAlong start features eof given events (Ok (NeedMoreData hint)) bytes new left =
+    IsUndecided new eof left hint × Along start features given new left events
+GoesAlong start features eof given events (Ok (Parsed consumed payload)) bytes new left =
+    Came start features eof given events bytes payload new left
+GoesAlong start features eof given events (Err e) bytes new left =
+    ReadsEach start features eof given (events ++ last_event (fault (fault_at e)) ∷ [])
+    × Along start features given new left events
 
 -- how many bytes an answer consumes
 abbrev pub taken_by : Result Chunk Error → ℕ
 taken_by (Ok (NeedMoreData hint)) = 0
 taken_by (Ok (Parsed consumed payload)) = consumed
 taken_by (Err e) = 0
-
--- the parser after an answer: what was reported is passed, and nothing else changes it
-abbrev pub state_after_answer : ParserState → Result Chunk Error → ParserState
-state_after_answer p (Ok (NeedMoreData hint)) = p
-state_after_answer p (Ok (Parsed consumed payload)) =
-    if is_end (report_of payload) then ended_state p else state_after p (p.offset + consumed) (report_of payload)
-state_after_answer p (Err e) = p
 
 -- whether an answer is the last: the end, or a fault
 abbrev pub is_last : Result Chunk Error → Bool
@@ -75,42 +83,62 @@ is_last (Err e) = true
 
 -- two answers say the same: as many bytes, and the same of them
 abbrev pub SaysTheSame : Result Chunk Error → Result Chunk Error → Type 0
-SaysTheSame (Ok (NeedMoreData hint)) (Ok (NeedMoreData other)) = hint ≡ other
-SaysTheSame (Ok (Parsed consumed payload)) (Ok (Parsed taken other)) = (consumed ≡ taken) × (report_of payload ≡ report_of other)
-SaysTheSame (Err e) (Err f) = fault_at e ≡ fault_at f
-SaysTheSame one other = ⊥
+SaysTheSame one other = said one ≡ said other
 
--- What a caller leans on that gives a stream bit by bit, hands in again what was not consumed, and has it read from this offset
--- and with these features.
+-- What a caller leans on that gives a stream bit by bit, hands in again what was not consumed, and has it read from
+-- this offset and with these features.
 pub record AnswersGoAlong : Type 0 where
   -- a new parser is where nothing was given
   pub begins : (start features : ℕ) → Along start features [] (initial_state start features) [] []
   -- more bytes come
-  pub more : (start features : ℕ) (given : List ℕ) (p : ParserState) (held : List ℕ) (events : List Event) (piece : List ℕ) → Along start features given p held events → Along start features (given ++ piece) p (held ++ piece) events
+  pub more : (start features : ℕ) (given : List ℕ) (p : ParserState) (held : List ℕ) (events : List Event)
+      (piece : List ℕ) → Along start features given p held events
+      → Along start features (given ++ piece) p (held ++ piece) events
   -- what is held ends where what was given does
-  pub ends : (start features : ℕ) (given : List ℕ) (p : ParserState) (held : List ℕ) (events : List Event) → Along start features given p held events → p.offset + length held ≡ start + length given
+  pub ends : (start features : ℕ) (given : List ℕ) (p : ParserState) (held : List ℕ) (events : List Event)
+      → Along start features given p held events → p.offset + length held ≡ start + length given
   -- the events that came are the first of each stream that goes on so
-  pub first : (start features : ℕ) (given : List ℕ) (p : ParserState) (held : List ℕ) (events : List Event) (eof : Bool) → Along start features given p held events → BeginsEach start features eof given events
+  pub first : (start features : ℕ) (given : List ℕ) (p : ParserState) (held : List ℕ) (events : List Event) (eof : Bool)
+      → Along start features given p held events → BeginsEach start features eof given events
   -- an answer is the next one of each of them
-  pub answers : (start features : ℕ) (given : List ℕ) (p : ParserState) (held : List ℕ) (events : List Event) (eof : Bool) (answer : Result Chunk Error) (bytes : List ℕ) (new : ParserState) (left : List ℕ) → Along start features given p held events → start + length given < 2 ^ 64
-      → ParseAnswer p eof held answer new → held ≡ bytes ++ left → length bytes ≡ taken_by answer → GoesAlong start features eof given events answer bytes new left
+  pub answers : (start features : ℕ) (given : List ℕ) (p : ParserState) (held : List ℕ) (events : List Event)
+      (eof : Bool) (answer : Result Chunk Error) (bytes : List ℕ) (new : ParserState) (left : List ℕ)
+      → Along start features given p held events → start + length given < 2 ^ 64
+      → ParseAnswer p eof held answer new → held ≡ bytes ++ left → length bytes ≡ taken_by answer
+      → GoesAlong start features eof given events answer bytes new left
   -- a stream that ends where more is asked for has one event more
-  pub cut_short : (start features : ℕ) (given : List ℕ) (p : ParserState) (held : List ℕ) (events : List Event) (eof : Bool) (hint : ℕ) → Along start features given p held events → IsUndecided p eof held hint → (end : Ending) × Reading given start features (events ++ last_event end ∷ [])
+  pub cut_short : (start features : ℕ) (given : List ℕ) (p : ParserState) (held : List ℕ) (events : List Event)
+      (eof : Bool) (hint : ℕ) → Along start features given p held events → IsUndecided p eof held hint → (end : Ending)
+      × Reading given start features (events ++ last_event end ∷ [])
   -- what came is what the events consumed, and what is held
-  pub consumed : (start features : ℕ) (given : List ℕ) (p : ParserState) (held : List ℕ) (events : List Event) → Along start features given p held events → given ≡ consumed_by events ++ held
+  pub consumed : (start features : ℕ) (given : List ℕ) (p : ParserState) (held : List ℕ) (events : List Event)
+      → Along start features given p held events → given ≡ consumed_by events ++ held
   -- bytes that are there are consumed, and by a payload but the end some
-  pub consumes : (p new : ParserState) (eof : Bool) (held : List ℕ) (answer : Result Chunk Error) → ParseAnswer p eof held answer new → Consumes held answer
-  pub takes_some : (p new : ParserState) (eof : Bool) (held : List ℕ) (consumed : ℕ) (payload : Payload) → ParseAnswer p eof held (Ok (Parsed consumed payload)) new → is_end (report_of payload) ≡ false → 0 < consumed
+  pub consumes : (p new : ParserState) (eof : Bool) (held : List ℕ) (answer : Result Chunk Error)
+      → ParseAnswer p eof held answer new → Consumes held answer
+  pub takes_some : (p new : ParserState) (eof : Bool) (held : List ℕ) (consumed : ℕ) (payload : Payload)
+      → ParseAnswer p eof held (Ok (Parsed consumed payload)) new → is_end (report_of payload) ≡ false → 0 < consumed
   -- what is answered without a fault is below the top of the offsets, and a request is undecided
-  pub below : (p new : ParserState) (eof : Bool) (held : List ℕ) (chunk : Chunk) → ParseAnswer p eof held (Ok chunk) new → p.offset + length held < 2 ^ 64
-  pub asks : (p new : ParserState) (eof : Bool) (held : List ℕ) (hint : ℕ) → ParseAnswer p eof held (Ok (NeedMoreData hint)) new → IsUndecided p eof held hint
+  pub below : (p new : ParserState) (eof : Bool) (held : List ℕ) (chunk : Chunk) → ParseAnswer p eof held (Ok chunk) new
+      → p.offset + length held < 2 ^ 64
+  pub asks : (p new : ParserState) (eof : Bool) (held : List ℕ) (hint : ℕ)
+      → ParseAnswer p eof held (Ok (NeedMoreData hint)) new → IsUndecided p eof held hint
   -- undecided bytes are fewer than their bound
-  pub bounded : (p : ParserState) (held : List ℕ) (need hint : ℕ) → waiting (grammar_of p) held ≡ wants need hint → length held < need
+  pub bounded : (p : ParserState) (held : List ℕ) (need hint : ℕ) → waiting (grammar_of p) held ≡ wants need hint
+      → length held < need
   -- the items of a payload begin where its reader is
-  pub holds_items : (p new : ParserState) (eof : Bool) (held : List ℕ) (consumed : ℕ) (payload : Payload) → ParseAnswer p eof held (Ok (Parsed consumed payload)) new → ItemsBegin payload
+  pub holds_items : (p new : ParserState) (eof : Bool) (held : List ℕ) (consumed : ℕ) (payload : Payload)
+      → ParseAnswer p eof held (Ok (Parsed consumed payload)) new → ItemsBegin payload
+  -- bytes that pass the top of the offsets are that fault
+  pub past_the_top : (p new : ParserState) (eof : Bool) (held : List ℕ) (answer : Result Chunk Error)
+      → ParseAnswer p eof held answer new → 2 ^ 64 ≤ p.offset + length held
+      → said answer ≡ refuses (at_offset OffsetRange p.offset)
   -- what the parser is afterwards
-  pub becomes : (p new : ParserState) (eof : Bool) (held : List ℕ) (answer : Result Chunk Error) → ParseAnswer p eof held answer new → new ≡ state_after_answer p answer
+  pub becomes : (p new : ParserState) (eof : Bool) (held : List ℕ) (answer : Result Chunk Error)
+      → ParseAnswer p eof held answer new → new ≡ state_after_answer p answer
   -- on the same bytes the same is answered
-  pub once : (p new other : ParserState) (eof : Bool) (held : List ℕ) (one two : Result Chunk Error) → ParseAnswer p eof held one new → ParseAnswer p eof held two other → SaysTheSame one two
+  pub once : (p new other : ParserState) (eof : Bool) (held : List ℕ) (one two : Result Chunk Error)
+      → ParseAnswer p eof held one new → ParseAnswer p eof held two other → SaysTheSame one two
   -- after the last answer it is answered again
-  pub again : (p new other : ParserState) (eof : Bool) (held : List ℕ) (one two : Result Chunk Error) → is_last one ≡ true → ParseAnswer p eof held one new → ParseAnswer new eof held two other → SaysTheSame one two
+  pub again : (p new other : ParserState) (eof : Bool) (held : List ℕ) (one two : Result Chunk Error) → is_last one
+      ≡ true → ParseAnswer p eof held one new → ParseAnswer new eof held two other → SaysTheSame one two

@@ -1,14 +1,15 @@
 -- A walk over the payloads of a whole stream.
-use Rattle.std.specs.Prelude.{◌≡◌, ◌↔◌, ℕ, ◌+◌, ◌-◌, ◌<◌, ◌^◌, Bool, true, false, List, [], ◌∷◌, length, drop, map, filter_map, All, Option, Some, None, Result, Ok, Err, if◌then◌else◌}
+use Rattle.std.specs.Prelude.{◌≡◌, ◌↔◌, ℕ, ◌+◌, ◌-◌, ◌<◌, ◌^◌, Bool, true, false, List, [], ◌∷◌, length, drop, map}
+use Rattle.std.specs.Prelude.{filter_map, All, Option, Some, None, Result, Ok, Err, if◌then◌else◌}
 use Rattle.std.specs.declared.ops.Range.{Range}
 use Rattle.std.specs.Iterator.{Drains}
 use Rattle.wasm_base.specs.FaultAt.{fault_at}
 use Rattle.wasm_base.specs.declared.error.Error.{Error}
-use Rattle.wasm_parser.specs.Accepted.{IsAccepted}
+use Rattle.wasm_grammar.specs.Accepted.{IsAccepted}
 use Rattle.wasm_parser.specs.ParseAnswer.{report_of, is_end, ItemsBegin, ParseAnswer}
-use Rattle.wasm_parser.specs.Content.{ended, fault}
-use Rattle.wasm_parser.specs.Reading.{Report, stream_end, Event, Reading}
-use Rattle.wasm_parser.specs.Sections.{section_of, TiledBySections}
+use Rattle.wasm_grammar.specs.Content.{ended, fault}
+use Rattle.wasm_grammar.specs.Reading.{Report, stream_end, Event, Reading}
+use Rattle.wasm_grammar.specs.Sections.{section_of, TiledBySections}
 use Rattle.wasm_parser.specs.ParserState.{ParserState, initial_state}
 use Rattle.wasm_parser.specs.declared.payload.Chunk.TheVariants.{Parsed}
 use Rattle.wasm_parser.specs.declared.payload.Payload.{Payload}
@@ -35,8 +36,10 @@ consumed_between s t = length s.bytes - length t.bytes
 abbrev pub GivesAnswer : Walk → Option (Result Payload Error) → Walk → Type 0
 GivesAnswer s None t = ⊥
 GivesAnswer s (Some (Ok payload)) t =
-    ParseAnswer s.state true s.bytes (Ok (Parsed (consumed_between s t) payload)) t.state × (t.bytes ≡ drop (consumed_between s t) s.bytes) × (t.ended ≡ is_end (report_of payload))
-GivesAnswer s (Some (Err e)) t = ParseAnswer s.state true s.bytes (Err e) t.state × (t.bytes ≡ s.bytes) × (t.ended ≡ true)
+    ParseAnswer s.state true s.bytes (Ok (Parsed (consumed_between s t) payload)) t.state
+    × (t.bytes ≡ drop (consumed_between s t) s.bytes) × (t.ended ≡ is_end (report_of payload))
+GivesAnswer s (Some (Err e)) t =
+    ParseAnswer s.state true s.bytes (Err e) t.state × (t.bytes ≡ s.bytes) × (t.ended ≡ true)
 
 -- one call of `next`
 pub record NextPayload (s : Walk) (given : Option (Result Payload Error)) (t : Walk) : Type 0 where
@@ -66,14 +69,18 @@ abbrev pub HoldsItems : Result Payload Error → Type 0
 HoldsItems (Ok payload) = ItemsBegin payload
 HoldsItems (Err e) = Unit {0}
 
--- What a walk gives up to its first `None` is the reading of this stream, which starts at this offset; its last is the end
--- exactly if the stream is accepted, which then is a header and the sections that the payloads are.
+-- What a walk gives up to its first `None` is the reading of this stream, which starts at this offset. Its last is the
+-- end exactly if the stream is accepted, which then is a header and the sections that the payloads are.
 pub record GivesReading (start features : ℕ) (bytes : List ℕ) (walk : Walk) : Type 0 where
-  pub reading : (given : List (Result Payload Error)) → Drains NextPayload walk given → (events : List Event) → Reading bytes start features events → map given_report given ≡ map event_report events
+  pub reading : (given : List (Result Payload Error)) → Drains NextPayload walk given → (events : List Event)
+      → Reading bytes start features events → map given_report given ≡ map event_report events
   pub items : (given : List (Result Payload Error)) → Drains NextPayload walk given → All HoldsItems given
-  pub accepted : (given : List (Result Payload Error)) → Drains NextPayload walk given → IsAccepted bytes ↔ EndsAt (start + length bytes) (map given_report given)
-  pub sections : (given : List (Result Payload Error)) → Drains NextPayload walk given → (a : IsAccepted bytes) → TiledBySections bytes start (sections_given given) a.encoding a.frames
+  pub accepted : (given : List (Result Payload Error)) → Drains NextPayload walk given → IsAccepted bytes
+      ↔ EndsAt (start + length bytes) (map given_report given)
+  pub sections : (given : List (Result Payload Error)) → Drains NextPayload walk given → (a : IsAccepted bytes)
+      → TiledBySections bytes start (sections_given given) a.encoding a.frames
 
 -- The same of the walk of a parser that has passed nothing, wherever its stream starts and whatever its features are.
 abbrev pub WalksWhole : ParserState → List ℕ → Walk → Type 0
-WalksWhole p bytes walk = (start features : ℕ) → p ≡ initial_state start features → start + length bytes < 2 ^ 64 → GivesReading start features bytes walk
+WalksWhole p bytes walk = (start features : ℕ) → p ≡ initial_state start features → start + length bytes < 2 ^ 64
+    → GivesReading start features bytes walk

@@ -1,19 +1,17 @@
 -- Where a parser is in a stream.
-use Rattle.std.specs.Prelude.{◌≡◌, ℕ, ◌+◌, ◌<◌, max, Bool, true, false, List, [], ◌∷◌, length, option_to_list, Option, Some, None, not, ◌&&◌, nat_lt, nat_eq, if◌then◌else◌}
-use Rattle.wasm_parser.specs.declared.payload.Encoding.{Encoding}
-use Rattle.wasm_parser.specs.declared.payload.Encoding.TheVariants.{Module}
-use Rattle.wasm_parser.specs.Grammar.{Shape, code_start, code_entry, Tile, SectionContext, Grammar, header_grammar}
-use Rattle.wasm_parser.specs.Tiling.{bytes_of, Faultless, inside, encoding_of, tile_rank, counts, bodies_left, bytes_left}
+use Rattle.std.specs.Prelude.{◌≡◌, ℕ, ◌+◌, ◌<◌, max, Bool, true, false, List, [], ◌∷◌, length, option_to_list, Option}
+use Rattle.std.specs.Prelude.{Some, None, not, ◌&&◌, nat_lt, nat_eq, if◌then◌else◌}
+use Rattle.wasm_grammar.specs.declared.encoding.Encoding.{Encoding}
+use Rattle.wasm_grammar.specs.declared.encoding.Encoding.TheVariants.{Module}
+use Rattle.wasm_grammar.specs.Grammar.{Shape, code_start, code_entry, Tile, SectionContext, Grammar, header_grammar}
+use Rattle.wasm_grammar.specs.Tiling.{bytes_of, Faultless, inside, encoding_of, tile_rank, counts, bodies_left}
+use Rattle.wasm_grammar.specs.Tiling.{bytes_left, is_start}
+use Rattle.wasm_grammar.specs.Ids.{function_id, code_id, data_id, data_count_id}
 
 -- the greatest rank of these tiles
 abbrev pub greatest : List Tile → ℕ
 greatest [] = 0
 greatest (t ∷ earlier) = max (tile_rank t.shape) (greatest earlier)
-
--- whether there are none
-abbrev pub is_start : List Tile → Bool
-is_start [] = true
-is_start (t ∷ earlier) = false
 
 -- whether a tile is the start of a code section, or a body
 abbrev pub is_of_code : Shape → Bool
@@ -47,7 +45,20 @@ pub record ParserState : Type 0 where
 
 -- a parser that has passed nothing of a stream
 abbrev pub initial_state : (offset features : ℕ) → ParserState
-initial_state offset features = record { offset = offset; features = features; expects_header = true; encoding = Module; rank = 0; functions = None; codes = None; datas = None; data_counts = None; bodies = 0; left = 0; in_code = false }
+initial_state offset features = record {
+  offset = offset;
+  features = features;
+  expects_header = true;
+  encoding = Module;
+  rank = 0;
+  functions = None;
+  codes = None;
+  datas = None;
+  data_counts = None;
+  bodies = 0;
+  left = 0;
+  in_code = false;
+}
 
 -- The parser is after this prefix of a stream that starts at this offset.
 pub record IsStateAfter (p : ParserState) (start : ℕ) (prefix : List ℕ) : Type 0 where
@@ -58,10 +69,10 @@ pub record IsStateAfter (p : ParserState) (start : ℕ) (prefix : List ℕ) : Ty
   pub expects_header : p.expects_header ≡ is_start tiles
   pub encoding : p.encoding ≡ encoding_of tiles
   pub rank : p.rank ≡ greatest tiles
-  pub functions : option_to_list p.functions ≡ counts 3 tiles
-  pub codes : option_to_list p.codes ≡ counts 10 tiles
-  pub datas : option_to_list p.datas ≡ counts 11 tiles
-  pub data_counts : option_to_list p.data_counts ≡ counts 12 tiles
+  pub functions : option_to_list p.functions ≡ counts function_id tiles
+  pub codes : option_to_list p.codes ≡ counts code_id tiles
+  pub datas : option_to_list p.datas ≡ counts data_id tiles
+  pub data_counts : option_to_list p.data_counts ≡ counts data_count_id tiles
   pub bodies : p.bodies ≡ bodies_left tiles
   pub left : p.left ≡ bytes_left tiles
   -- it knows where a code section is not at its end; it may have forgotten one that is

@@ -1,18 +1,20 @@
 -- What each part of a stream is read as, by what a parser knows before it.
-use Rattle.std.specs.Prelude.{nat_lt, nat_le, ◌≡◌, ℕ, ◌+◌, ◌<◌, false, true, length, Option, option_to_list, nat_eq, Result, Ok, Some, None, Err, Bool, ◌&&◌, not, List, ◌==◌}
+use Rattle.std.specs.Prelude.{nat_lt, nat_le, ◌≡◌, ℕ, ◌+◌, ◌<◌, false, true, length, Option, option_to_list, nat_eq}
+use Rattle.std.specs.Prelude.{Result, Ok, Some, None, Err, Bool, ◌&&◌, not, List, ◌==◌}
 use Rattle.wasm_base.specs.Window.{Place, Window, place, KeepsWindow, window_over}
 use Rattle.wasm_base.specs.declared.error.Error.{Error}
-use Rattle.wasm_parser.specs.Content.{Kind, items, kind_of, wrong_single, value_of, Form}
-use Rattle.wasm_parser.specs.Grammar.{SectionContext, verdict, header_grammar, section_grammar, after_id, after_length, content_grammar, whole_grammar, code_grammar, body_grammar}
+use Rattle.wasm_grammar.specs.Content.{Kind, items, kind_of, wrong_single, value_of, Form}
+use Rattle.wasm_grammar.specs.Grammar.{SectionContext, verdict, header_grammar, section_grammar, after_id, after_length}
+use Rattle.wasm_grammar.specs.Grammar.{content_grammar, whole_grammar, code_grammar, body_grammar}
 use Rattle.wasm_parser.specs.ParseAnswer.{MatchesVerdict, HintsAs, MatchesGrammar, ReadsByGrammar, items_in}
 use Rattle.wasm_parser.specs.ParserState.{ParserState, known_context, grammar_of, is_at_section}
-use Rattle.wasm_parser.specs.Waiting.{waiting, is_magic_begun}
+use Rattle.wasm_grammar.specs.Waiting.{waiting, is_magic_begun}
 use Rattle.wasm_parser.specs.declared.payload.Chunk.{Chunk}
 use Rattle.wasm_parser.specs.declared.payload.Chunk.TheVariants.{NeedMoreData}
 use Rattle.wasm_parser.specs.declared.payload.Payload.{Payload}
 use Rattle.wasm_base.specs.Name.{bytes_at}
 use Rattle.wasm_base.specs.Outcome.{Outcome, ◌>>=◌}
-use Rattle.wasm_parser.specs.Reading.{Report, counted}
+use Rattle.wasm_grammar.specs.Reading.{Report, counted}
 use Rattle.wasm_base.specs.Header.{magic, agree}
 use Rattle.wasm_base.specs.FaultAt.{fault_at, hint_of}
 use Rattle.wasm_base.specs.Number.{number, unsigned_at}
@@ -20,7 +22,8 @@ use Rattle.wasm_base.specs.declared.fault.Fault.{Fault}
 use Rattle.wasm_base.specs.declared.fault.NumberKind.TheVariants.{VarU32}
 use Rattle.std.specs.List.{list_all, list_any}
 use Rattle.wasm_base.specs.Section.{Section}
-use Rattle.wasm_parser.specs.declared.payload.Encoding.TheVariants.{Module}
+use Rattle.wasm_grammar.specs.declared.encoding.Encoding.TheVariants.{Module}
+use Rattle.wasm_grammar.specs.Ids.{data_id}
 
 -- Where a section may start, a header may be begun: then hints say nothing.
 abbrev pub HintsUnlessBegun : ParserState → (before : Place) → Result Payload Error → Type 0
@@ -61,20 +64,26 @@ is_magic_next p = agree p.rest magic && nat_le 4 (length p.rest)
 -- a section
 abbrev pub ReadsNextSection : ParserState → (before : Place) → Result Payload Error → (after : Place) → Type 0
 ReadsNextSection p before result after =
-    ((start : ℕ) → MatchesVerdict start before (verdict (section_grammar (known_context p) before.offset) before.rest) result after)
-    × (is_magic_begun before.rest ≡ false → HintsAs (waiting (section_grammar (known_context p) before.offset) before.rest) result)
+    ((start : ℕ) → MatchesVerdict start before (verdict (section_grammar (known_context p) before.offset) before.rest)
+    result after)
+    × (is_magic_begun before.rest ≡ false → HintsAs (waiting (section_grammar (known_context p) before.offset)
+    before.rest) result)
 
 -- what comes after the id of a section, which is at this offset
-abbrev pub ReadsAfterId : ParserState → (start id : ℕ) → (before : Place) → Result Payload Error → (after : Place) → Type 0
+abbrev pub ReadsAfterId : ParserState → (start id : ℕ) → (before : Place) → Result Payload Error → (after : Place)
+    → Type 0
 ReadsAfterId p start id before result after = ReadsByGrammar (after_id (known_context p) start id) before result after
 
 -- what comes after the length of a section, whose field is at this offset
-abbrev pub ReadsAfterLength : ParserState → (id field size : ℕ) → (before : Place) → Result Payload Error → (after : Place) → Type 0
+abbrev pub ReadsAfterLength : ParserState → (id field size : ℕ) → (before : Place) → Result Payload Error
+    → (after : Place) → Type 0
 ReadsAfterLength p id field size before result after =
-    ReadsByGrammar (after_length (known_context p) (kind_of p.encoding id) id field before.offset size) before result after
+    ReadsByGrammar (after_length (known_context p) (kind_of p.encoding id) id field before.offset size) before result
+    after
 
 -- the content of a section of this kind
-abbrev pub ReadsContent : ParserState → Kind → (id size : ℕ) → (before : Place) → Result Payload Error → (after : Place) → Type 0
+abbrev pub ReadsContent : ParserState → Kind → (id size : ℕ) → (before : Place) → Result Payload Error → (after : Place)
+    → Type 0
 ReadsContent p kind id size before result after =
     ReadsByGrammar (content_grammar (known_context p) kind id before.offset size) before result after
 
@@ -85,12 +94,14 @@ ReadsAnywhere form id size before result after = (context : SectionContext) →
 
 -- the content of a section of items, after a data count section with this count, or none
 abbrev pub ReadsItems : Option ℕ → (id size : ℕ) → (before : Place) → Result Payload Error → (after : Place) → Type 0
-ReadsItems announced id size before result after = (context : SectionContext) → context.data_counts ≡ option_to_list announced →
+ReadsItems announced id size before result after = (context : SectionContext) → context.data_counts
+    ≡ option_to_list announced →
     ReadsByGrammar (whole_grammar context items id before.offset size) before result after
 
 -- a code section up to its count, after a function section with this count, or none
 abbrev pub ReadsCodeStart : Option ℕ → (size : ℕ) → (before : Place) → Result Payload Error → (after : Place) → Type 0
-ReadsCodeStart functions size before result after = (context : SectionContext) → context.functions ≡ option_to_list functions →
+ReadsCodeStart functions size before result after = (context : SectionContext) → context.functions
+    ≡ option_to_list functions →
     ReadsByGrammar (code_grammar context before.offset size) before result after
 
 -- one body
@@ -106,7 +117,8 @@ content_at size p = do
 -- From here to the window's end there is nothing but the number, or this is wrong with it; a byte after it is the
 -- given fault.
 abbrev pub ReadsSingleNumber : Fault → Place → Result ℕ Error → Type 0
-ReadsSingleNumber left p (Ok value) = (wrong_single left p.offset p.rest (number VarU32 p.rest) ≡ None) × (value_of (number VarU32 p.rest) ≡ value)
+ReadsSingleNumber left p (Ok value) =
+    (wrong_single left p.offset p.rest (number VarU32 p.rest) ≡ None) × (value_of (number VarU32 p.rest) ≡ value)
 ReadsSingleNumber left p (Err e) = wrong_single left p.offset p.rest (number VarU32 p.rest) ≡ Some (fault_at e)
 
 -- the kind of a module's section with this id
@@ -130,7 +142,7 @@ ReadsCounted id w (Err e) = unsigned_at VarU32 (place w) ≡ Err (fault_at e)
 
 -- A data section has another count than these.
 abbrev pub is_miscounted_by : List ℕ → Report → Bool
-is_miscounted_by counts (counted id count window) = id == 11 && not (list_all (nat_eq count) counts)
+is_miscounted_by counts (counted id count window) = id == data_id && not (list_all (nat_eq count) counts)
 is_miscounted_by counts other = false
 
 -- There is a count, and it is not this one.

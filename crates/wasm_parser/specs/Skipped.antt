@@ -1,12 +1,12 @@
 -- What passing the rest of a code section says.
 use Rattle.std.specs.Prelude.{◌≡◌, ℕ, List, [], ◌++◌, length, IsSome, All}
 use Rattle.wasm_parser.specs.Along.{Along}
-use Rattle.wasm_parser.specs.EventRanges.{consumed_by}
-use Rattle.wasm_parser.specs.Grammar.{Tile}
+use Rattle.wasm_grammar.specs.EventRanges.{consumed_by}
+use Rattle.wasm_grammar.specs.Grammar.{Tile}
 use Rattle.wasm_parser.specs.ParserState.{ParserState, IsStateAfter, skippable_of, skipped_state}
-use Rattle.wasm_parser.specs.Reading.{Event}
-use Rattle.wasm_parser.specs.Sections.{ReportsBody}
-use Rattle.wasm_parser.specs.Tiling.{bytes_of, bodies_left, Faultless}
+use Rattle.wasm_grammar.specs.Reading.{Event}
+use Rattle.wasm_grammar.specs.Sections.{ReportsBody}
+use Rattle.wasm_grammar.specs.Tiling.{bytes_of, bodies_left, Faultless}
 
 -- These bytes are the rest of a code section that is then at its end, with all its bodies.
 pub record CompletesCode (start : ℕ) (prefix bodies : List ℕ) : Type 0 where
@@ -15,15 +15,17 @@ pub record CompletesCode (start : ℕ) (prefix bodies : List ℕ) : Type 0 where
   pub whole : bytes_of tiles ≡ prefix ++ bodies
   pub no_body_left : bodies_left tiles ≡ 0
 
--- Wherever the parser is in a code section, it is then after as many bytes as the section has left, whatever they are, as
--- long as some such bytes complete it.
+-- Wherever the parser is in a code section, it is then after as many bytes as the section has left, whatever they are,
+-- as long as some such bytes complete it.
 abbrev pub SkipsSection : ParserState → ParserState → Type 0
-SkipsSection old new = (start : ℕ) (prefix bodies : List ℕ) → IsStateAfter old start prefix → length bodies ≡ old.left → CompletesCode start prefix bodies
+SkipsSection old new = (start : ℕ) (prefix bodies : List ℕ) → IsStateAfter old start prefix → length bodies ≡ old.left
+    → CompletesCode start prefix bodies
     → IsStateAfter new start (prefix ++ bodies)
 
--- The events of these bodies are those that come after the ones that a caller had, and the caller is after them without having
--- read them.
-pub record LeavesOut (start features : ℕ) (prefix bodies : List ℕ) (events : List Event) (p : ParserState) : Type 0 where
+-- The events of these bodies are those that come after the ones that a caller had, and the caller is after them without
+-- having read them.
+pub record LeavesOut (start features : ℕ) (prefix bodies : List ℕ) (events : List Event) (p : ParserState) : Type
+    0 where
   pub passed : List Event
   pub each : All ReportsBody passed
   pub consumed : consumed_by passed ≡ bodies
@@ -31,5 +33,7 @@ pub record LeavesOut (start features : ℕ) (prefix bodies : List ℕ) (events :
 
 -- A caller that passes the rest of a code section, whatever its bytes are, goes on with the reading without its bodies.
 abbrev pub SkippingLeavesOutBodies : Type 0
-SkippingLeavesOutBodies = (start features : ℕ) (prefix bodies : List ℕ) (p : ParserState) (events : List Event) → Along start features prefix p [] events → IsSome (skippable_of p) → length bodies ≡ p.left → CompletesCode start prefix bodies
+SkippingLeavesOutBodies = (start features : ℕ) (prefix bodies : List ℕ) (p : ParserState) (events : List Event)
+    → Along start features prefix p [] events → IsSome (skippable_of p) → length bodies ≡ p.left
+    → CompletesCode start prefix bodies
     → LeavesOut start features prefix bodies events (skipped_state p)

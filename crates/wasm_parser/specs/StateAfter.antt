@@ -1,11 +1,13 @@
 -- What a parser knows after what it reported.
-use Rattle.std.specs.Prelude.{ℕ, zero, suc, ◌+◌, ◌-◌, Bool, true, false, length, Option, Some, None, nat_eq, slice_index, if◌then◌else◌}
-use Rattle.wasm_parser.specs.Content.{ranks}
-use Rattle.wasm_parser.specs.Grammar.{Tile}
-use Rattle.wasm_parser.specs.Reading.{Report, version, counted, start_section, data_count_section, code_start, code_entry, tile_report}
-use Rattle.wasm_parser.specs.Sections.{count_report}
+use Rattle.std.specs.Prelude.{ℕ, zero, suc, ◌+◌, ◌-◌, Bool, true, false, length, Option, Some, None, nat_eq}
+use Rattle.std.specs.Prelude.{slice_index, if◌then◌else◌}
+use Rattle.wasm_grammar.specs.Grammar.{Tile}
+use Rattle.wasm_grammar.specs.Reading.{Report, version, counted, start_section, data_count_section, code_start}
+use Rattle.wasm_grammar.specs.Reading.{code_entry, tile_report}
+use Rattle.wasm_grammar.specs.Sections.{count_report}
 use Rattle.wasm_parser.specs.ParserState.{ParserState}
-use Rattle.wasm_parser.specs.declared.payload.Encoding.{Encoding}
+use Rattle.wasm_grammar.specs.declared.encoding.Encoding.{Encoding}
+use Rattle.wasm_grammar.specs.Ids.{function_id, start_id, code_id, data_id, data_count_id, place_of}
 
 -- the encoding that a header names, or the one that was known
 abbrev pub known_encoding : Report → Encoding → Encoding
@@ -14,10 +16,10 @@ known_encoding other known = known
 
 -- the rank of a section, or 0
 abbrev pub rank_report : Report → ℕ
-rank_report (counted id count window) = slice_index ranks id
-rank_report (start_section func from to) = slice_index ranks 8
-rank_report (data_count_section count from to) = slice_index ranks 12
-rank_report (code_start count from to size) = slice_index ranks 10
+rank_report (counted id count window) = place_of id
+rank_report (start_section func from to) = place_of start_id
+rank_report (data_count_section count from to) = place_of data_count_id
+rank_report (code_start count from to size) = place_of code_id
 rank_report other = 0
 
 -- the greatest rank of a section, this one's or the one that was known
@@ -53,10 +55,10 @@ abbrev pub knowing : ParserState → Report → ParserState
 knowing p report = record p {
   encoding = known_encoding report p.encoding;
   rank = known_rank (rank_report report) p.rank;
-  functions = known_count 3 (count_report report) p.functions;
-  codes = known_count 10 (count_report report) p.codes;
-  datas = known_count 11 (count_report report) p.datas;
-  data_counts = known_count 12 (count_report report) p.data_counts;
+  functions = known_count function_id (count_report report) p.functions;
+  codes = known_count code_id (count_report report) p.codes;
+  datas = known_count data_id (count_report report) p.datas;
+  data_counts = known_count data_count_id (count_report report) p.data_counts;
 }
 
 -- the state of a parser after it reported this, which ends at this offset
@@ -71,4 +73,5 @@ state_after p to report = record (knowing p report) {
 
 -- the same after one more tile
 abbrev pub state_after_tile : ParserState → Tile → ParserState
-state_after_tile p t = let to = p.offset + length t.bytes in state_after p to (tile_report p.features p.offset to t.shape)
+state_after_tile p t = let to = p.offset + length t.bytes in
+    state_after p to (tile_report p.features p.offset to t.shape)

@@ -3,17 +3,17 @@ ghost use Rattle.std.specs.Prelude.{◌≡◌, ◌+◌, ◌<◌, ◌^◌, option
 ghost use Rattle.wasm_base.specs.Hints.{Hints, HintsNothing, missing_at};
 ghost use Rattle.wasm_base.specs.Outcome.{GivesBy};
 ghost use Rattle.wasm_base.specs.Window.{place, KeepsWindow};
-ghost use Rattle.wasm_parser.specs.Content.{custom, items, index, data_count, unknown, whole};
+ghost use Rattle.wasm_grammar.specs.Content.{custom, items, index, data_count, unknown, whole};
 ghost use Rattle.wasm_parser.specs.ParseAnswer.{report_of};
 ghost use Rattle.wasm_parser.specs.ReadsPart.{content_at, is_lacking, is_miscounted_by, is_other, kind_of_module, ReadsAnywhere, ReadsCodeStart, ReadsCounted, ReadsItems, ReadsSingleNumber};
 
 use crate::payload::Payload;
-use crate::sections::{
+use wasm_base::{BinaryReader, Error, Fault, Result, SectionLimited};
+use wasm_custom::CustomSectionReader;
+use wasm_grammar::{
     DATA_SECTION, ELEMENT_SECTION, EXPORT_SECTION, FUNCTION_SECTION, GLOBAL_SECTION,
     IMPORT_SECTION, MEMORY_SECTION, TABLE_SECTION, TAG_SECTION, TYPE_SECTION,
 };
-use wasm_base::{BinaryReader, Error, Fault, Result, SectionLimited};
-use wasm_custom::CustomSectionReader;
 
 /// The content of a custom section.
 pub(crate) fn custom<'a>(id: u8, size: u32, reader: &mut BinaryReader<'a>) -> Result<Payload<'a>>
@@ -32,7 +32,7 @@ pub(crate) fn start<'a>(id: u8, size: u32, reader: &mut BinaryReader<'a>) -> Res
 {
     let window = window(size, reader)?;
     let range = window.range();
-    let func = single(window, Fault::StartContent)?;
+    let func = only_u32(window, Fault::StartContent)?;
     Ok(Payload::StartSection { func, range })
 }
 
@@ -46,7 +46,7 @@ pub(crate) fn data_count<'a>(
 {
     let window = window(size, reader)?;
     let range = window.range();
-    let count = single(window, Fault::DataCountContent)?;
+    let count = only_u32(window, Fault::DataCountContent)?;
     Ok(Payload::DataCountSection { count, range })
 }
 
@@ -94,7 +94,8 @@ pub(crate) fn counted<'a>(id: u8, window: BinaryReader<'a>) -> Result<Payload<'a
     })
 }
 
-/// The content of a section that is a count, and so many items. The data section has as many as were announced.
+/// The content of a section that is a count, and so many items. That of a data section is the count that a data count
+/// section announced, if there was one.
 pub(crate) fn items<'a>(
     announced: Option<u32>,
     id: u8,
@@ -125,7 +126,7 @@ fn is_miscounted(announced: Option<u32>, payload: &Payload) -> bool
     }
 }
 
-/// The start of a code section: a count of bodies, each of which has its function.
+/// The start of a code section: a count of bodies, which is that of the function section. Without a function section it is 0.
 pub(crate) fn code<'a>(
     functions: Option<u32>,
     size: u32,
@@ -154,9 +155,9 @@ pub(crate) fn code<'a>(
     })
 }
 
-// The one number that the rest of a window is. A byte after the number is this fault.
-fn single(mut window: BinaryReader, left: Fault) -> Result<u32>
-    ensures reads { ReadsSingleNumber left (place window.entry) result }
+// Reads content that is one number and nothing else. Bytes after the number are this fault, at the first of them.
+fn only_u32(mut window: BinaryReader, trailing: Fault) -> Result<u32>
+    ensures reads { ReadsSingleNumber trailing (place window.entry) result }
     ensures hints { HintsNothing result }
 {
     let number = match window.read_var_u32() {
@@ -164,12 +165,12 @@ fn single(mut window: BinaryReader, left: Fault) -> Result<u32>
         Err(error) => return Err(error.without_needed_hint()),
     };
     if !window.eof() {
-        return Err(Error::new(left, window.original_position()));
+        return Err(Error::new(trailing, window.original_position()));
     }
     Ok(number)
 }
 
-// Whether a count is known, and is not this one.
+// Whether a count was told before that is another one than this. Where none was told, it doesn't differ.
 fn differs(known: Option<u32>, count: u32) -> bool
     ensures { result ≡ is_other known count }
 {
@@ -179,7 +180,8 @@ fn differs(known: Option<u32>, count: u32) -> bool
     }
 }
 
-/// Whether there is a count above 0, and not the other one that it wants.
+/// Whether a section counts something, and the section that has to come with it is missing: its count is there and above 0,
+/// and the other section's count isn't there.
 pub(crate) fn lacks(count: Option<u32>, other: Option<u32>) -> bool
     ensures { result ≡ is_lacking count other }
 {

@@ -1,15 +1,13 @@
 // Headers.
 ghost use Rattle.std.specs.Prelude.{◌≡◌};
 ghost use Rattle.wasm_base.specs.Window.{place};
-ghost use Rattle.wasm_parser.specs.Grammar.{encoding_named as named};
+ghost use Rattle.wasm_grammar.specs.Grammar.{encoding_named as named};
 ghost use Rattle.wasm_parser.specs.ReadsPart.{is_magic_next, ReadsHeader};
-ghost use Rattle.wasm_parser.specs.Waiting.{asked_at_section};
+ghost use Rattle.wasm_grammar.specs.Waiting.{asked_at_section};
 
-use crate::payload::{Encoding, Payload};
+use crate::payload::Payload;
 use wasm_base::{BinaryReader, Error, Fault, Result};
-
-// The four bytes that begin a header.
-const MAGIC: [u8; 4] = *b"\0asm";
+use wasm_grammar::{Encoding, MAGIC};
 
 // The encoding that a header's version and kind name.
 fn encoding_named(version: u16, kind: u16) -> Option<Encoding>

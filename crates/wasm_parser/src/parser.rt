@@ -1,10 +1,11 @@
 // The parser of a stream.
 ghost use Rattle.std.specs.Prelude.{⊤, ◌≡◌, ◌+◌, ◌<◌, ◌^◌, ◌&&◌, ◌-◌, not, true, [], length, nat_lt, nat_eq};
 ghost use Rattle.std.specs.Option.{IsSome};
-ghost use Rattle.wasm_base.specs.Features.{feature_bits};
+ghost use Rattle.wasm_base.specs.Features.{feature_bits, all_features};
 ghost use Rattle.wasm_base.specs.Window.{place, window_over};
-ghost use Rattle.wasm_parser.specs.Accepted.{begins_with_header};
-ghost use Rattle.wasm_parser.specs.Content.{kind_of as form_of, kind_is};
+ghost use Rattle.wasm_grammar.specs.Accepted.{begins_with_header};
+ghost use Rattle.wasm_grammar.specs.Content.{kind_of};
+ghost use Rattle.wasm_grammar.specs.KindInCode.{kind_is};
 ghost use Rattle.wasm_parser.specs.GivesNextEvent.{GivesNextEvent};
 ghost use Rattle.wasm_parser.specs.ParseAll.{walk_over, WalksWhole};
 ghost use Rattle.wasm_parser.specs.ParseAnswer.{Advances, AsksForSome, Consumes, ParseAnswer, FaultsWithin, IsUnchanged, report_of};
@@ -12,16 +13,13 @@ ghost use Rattle.wasm_parser.specs.ParserState.{initial_state, is_at_section as 
 ghost use Rattle.wasm_parser.specs.ReadsPart.{HasSection, IsBegun, ReadsAfterId, ReadsAfterLength, ReadsBody, ReadsContent, ReadsNext, ReadsNextSection, Refuses};
 ghost use Rattle.wasm_parser.specs.Skipped.{SkipsSection};
 ghost use Rattle.wasm_parser.specs.StateAfter.{knowing, missing_bytes};
-ghost use Rattle.wasm_parser.specs.Undecided.{AsksWhereOpen};
-ghost use Rattle.wasm_parser.specs.declared.payload.Encoding.TheVariants.{Module, Component};
+ghost use Rattle.wasm_parser.specs.AsksWhereOpen.{AsksWhereOpen};
+ghost use Rattle.wasm_grammar.specs.declared.encoding.Encoding.TheVariants.{Module, Component};
 
 use crate::contents::{code, custom, data_count, items, lacks, start, unknown, window};
 use crate::header::{magic_follows, missing_at_section, read_header};
 use crate::parse_all::ParseAll;
-use crate::payload::{Chunk, Encoding, Payload};
-use crate::sections::{
-    CODE_SECTION, DATA_COUNT_SECTION, DATA_SECTION, FUNCTION_SECTION, Kind, kind_of, rank_of,
-};
+use crate::payload::{Chunk, Payload};
 use crate::state::{
     id_and_count, is_of_code, known_count, known_encoding, known_rank, missing_bodies,
     missing_bytes,
@@ -30,6 +28,10 @@ use bitflags::Flags;
 use std::alloc::AllocError;
 use std::marker::Model;
 use wasm_base::{BinaryReader, Error, Fault, Result, WasmFeatures, fits};
+use wasm_grammar::{
+    CODE_SECTION, COMPONENT_HEADER, CORE_HEADER, DATA_COUNT_SECTION, DATA_SECTION, Encoding,
+    FUNCTION_SECTION, SectionKind, section_kind, section_rank,
+};
 use wasm_items::FunctionBody;
 
 /// Reads a module, or the header of a component, part by part (core specification, Binary format, Modules).
@@ -55,6 +57,151 @@ pub struct Parser {
     left: u32,
     // Whether the start of a code section came last, or a body.
     in_code: bool,
+}
+
+impl Parser {
+    /// A parser of a stream that begins at this offset, with all features.
+    pub fn new(offset: u64) -> Self
+        ensures { result ≡ initial_state offset all_features }
+    {
+        Parser {
+            offset,
+            features: WasmFeatures::all(),
+            expects_header: true,
+            encoding: Encoding::Module,
+            rank: 0,
+            functions: None,
+            codes: None,
+            datas: None,
+            data_counts: None,
+            bodies: 0,
+            left: 0,
+            in_code: false,
+        }
+    }
+
+    /// Reads what comes next in the stream of which these bytes are the rest, or the beginning of the rest.
+    ///
+    /// `eof` says that no bytes come after these, so that missing bytes are a fault. Without it, `NeedMoreData` is answered
+    /// while these bytes don't decide what comes next, and leaves the parser unchanged: the caller hands in the same bytes
+    /// again with more after them. Whatever is answered otherwise would be answered with more bytes too; and no parser could
+    /// answer sooner, since more is asked for exactly where two streams that begin so have different next events.
+    ///
+    /// The parser is then after what it read, `consumed` bytes further; a caller hands in the bytes after those:
+    ///
+    /// ```text
+    /// loop {
+    ///     match parser.parse(rest, true) {
+    ///         Ok(Chunk::Parsed { consumed, payload }) => {
+    ///             if let Payload::End(_) = payload {
+    ///                 return Ok(());
+    ///             }
+    ///             look_at(&payload);
+    ///             drop(payload);
+    ///             rest = rest.split_at(consumed).1;
+    ///         }
+    ///         Ok(Chunk::NeedMoreData(_)) => unreachable!(),
+    ///         Err(error) => return Err(error),
+    ///     }
+    /// }
+    /// ```
+    ///
+    /// A fault is reported at its offset in the whole stream, and leaves the parser unchanged: the faults of a header, of a
+    /// section's id, length, order and first fields, of a body's size, and of counts that don't match. A body that passes its
+    /// section is refused as soon as its size has been read, with `UnexpectedEof` at the body's start. `OffsetRange` at
+    /// the parser's offset, where the bytes pass the offsets of a stream.
+    pub fn parse<'a>(&mut self, bytes: &'a [u8], eof: bool) -> Result<Chunk<'a>>
+        ensures answers { ParseAnswer self.old eof bytes.now result self.new }
+        ensures gives { GivesNextEvent self.old eof bytes.now result self.new }
+        ensures consumes { Consumes bytes.now result }
+        ensures asks { AsksForSome result }
+        ensures waits { AsksWhereOpen self.old eof bytes.now result }
+        ensures faults { FaultsWithin self.old bytes.now result }
+        ensures unchanged { IsUnchanged self.old result self.new }
+    {
+        self.answer(bytes, eof)
+    }
+
+    /// The payloads of the stream that these bytes are, up to its end or its first fault.
+    ///
+    /// ```text
+    /// for payload in Parser::new(0).parse_all(bytes) {
+    ///     match payload? {
+    ///         Payload::CustomSection(section) => ..,
+    ///         _ => {}
+    ///     }
+    /// }
+    /// ```
+    pub fn parse_all<'a>(self, bytes: &'a [u8]) -> ParseAll<'a>
+        ensures walks { result ≡ walk_over self bytes.now }
+        ensures reading { WalksWhole self bytes.now result }
+    {
+        ParseAll::over(self, bytes)
+    }
+
+    /// How many bytes of a code section `skip_section` would pass: those left of it, from `CodeSectionStart` until a
+    /// payload that is no body. `None` elsewhere.
+    pub fn skippable(&self) -> Option<u32>
+        ensures { result ≡ skippable_of self.now }
+    {
+        if self.in_code { Some(self.left) } else { None }
+    }
+
+    /// Passes what is left of a code section, as many bytes as `skippable` says: the caller hands in the bytes after
+    /// those next. The parser must be in a code section, so that `skippable` is `Some`.
+    pub fn skip_section(&mut self)
+        requires { IsSome (skippable_of self.old) }
+        ensures state { self.new ≡ skipped_state self.old }
+        ensures skips { SkipsSection self.old self.new }
+    {
+        self.offset += u64::from(self.left);
+        self.bodies = 0;
+        self.left = 0;
+    }
+
+    /// The stream offset of what comes next.
+    pub fn offset(&self) -> u64
+        ensures { result ≡ self.now.offset }
+    {
+        self.offset
+    }
+
+    /// The features of the windows of every payload.
+    pub fn features(&self) -> WasmFeatures
+        ensures { feature_bits result ≡ self.now.features }
+    {
+        self.features
+    }
+
+    /// Gives the windows of the payloads to come these features.
+    pub fn set_features(&mut self, features: WasmFeatures)
+        ensures { self.new ≡ record self.old { features = feature_bits features } }
+    {
+        self.features = features;
+    }
+
+    /// A reader of these bytes, which begin at this offset of the whole stream, with the parser's features. The offset and
+    /// the length together must not pass 2^64 - 1, as `fits` says.
+    pub fn binary_reader<'a>(&self, bytes: &'a [u8], offset: u64) -> BinaryReader<'a>
+        requires { offset + length bytes.now < 2 ^ 64 }
+        ensures { result ≡ window_over self.now.features offset bytes.now }
+    {
+        BinaryReader::new_features(bytes, offset, self.features)
+    }
+
+    /// Whether these bytes begin as a core module does: with the eight bytes of its header.
+    pub fn is_core_wasm(bytes: &[u8]) -> bool
+        ensures { result ≡ begins_with_header Module bytes.now }
+    {
+        bytes.starts_with(CORE_HEADER.as_slice())
+    }
+
+    /// Whether these bytes begin as a component does: with the eight bytes of its header.
+    pub fn is_component(bytes: &[u8]) -> bool
+        ensures { result ≡ begins_with_header Component bytes.now }
+    {
+        bytes.starts_with(COMPONENT_HEADER.as_slice())
+    }
 }
 
 impl Model for Parser {
@@ -107,101 +254,14 @@ impl Clone for Parser {
 
 /// A parser of a stream that begins at offset 0.
 impl Default for Parser {
-    ghost is_default = { λ parser. parser ≡ initial_state 0 3 };
+    ghost is_default = { λ parser. parser ≡ initial_state 0 all_features };
 
     fn default() -> Self {
         Parser::new(0)
     }
 }
 
-// The eight bytes that begin a core module.
-const CORE_HEADER: [u8; 8] = *b"\0asm\x01\0\0\0";
-
-// The eight bytes that begin a component.
-const COMPONENT_HEADER: [u8; 8] = *b"\0asm\x0d\0\x01\0";
-
 impl Parser {
-    /// A parser of a stream that begins at this offset, with all features.
-    pub fn new(offset: u64) -> Self
-        ensures { result ≡ initial_state offset 3 }
-    {
-        Parser {
-            offset,
-            features: WasmFeatures::all(),
-            expects_header: true,
-            encoding: Encoding::Module,
-            rank: 0,
-            functions: None,
-            codes: None,
-            datas: None,
-            data_counts: None,
-            bodies: 0,
-            left: 0,
-            in_code: false,
-        }
-    }
-
-    /// The stream offset of what comes next.
-    pub fn offset(&self) -> u64
-        ensures { result ≡ self.now.offset }
-    {
-        self.offset
-    }
-
-    /// The features of the windows of every payload.
-    pub fn features(&self) -> WasmFeatures
-        ensures { feature_bits result ≡ self.now.features }
-    {
-        self.features
-    }
-
-    /// Gives the windows of the payloads to come these features.
-    pub fn set_features(&mut self, features: WasmFeatures)
-        ensures { self.new ≡ record self.old { features = feature_bits features } }
-    {
-        self.features = features;
-    }
-
-    /// A reader of these bytes, which begin at this offset of the whole stream, with the parser's features. The offset and
-    /// the length together must not pass 2^64 - 1, as `fits` says.
-    pub fn binary_reader<'a>(&self, bytes: &'a [u8], offset: u64) -> BinaryReader<'a>
-        requires { offset + length bytes.now < 2 ^ 64 }
-        ensures { result ≡ window_over self.now.features offset bytes.now }
-    {
-        BinaryReader::new_features(bytes, offset, self.features)
-    }
-
-    /// Whether these bytes begin as a core module does: with the eight bytes of its header.
-    pub fn is_core_wasm(bytes: &[u8]) -> bool
-        ensures { result ≡ begins_with_header Module bytes.now }
-    {
-        bytes.starts_with(CORE_HEADER.as_slice())
-    }
-
-    /// Whether these bytes begin as a component does: with the eight bytes of its header.
-    pub fn is_component(bytes: &[u8]) -> bool
-        ensures { result ≡ begins_with_header Component bytes.now }
-    {
-        bytes.starts_with(COMPONENT_HEADER.as_slice())
-    }
-
-    /// The payloads of the stream that these bytes are, up to its end or its first fault.
-    ///
-    /// ```text
-    /// for payload in Parser::new(0).parse_all(bytes) {
-    ///     match payload? {
-    ///         Payload::CustomSection(section) => ..,
-    ///         _ => {}
-    ///     }
-    /// }
-    /// ```
-    pub fn parse_all<'a>(self, bytes: &'a [u8]) -> ParseAll<'a>
-        ensures walks { result ≡ walk_over self bytes.now }
-        ensures reading { WalksWhole self bytes.now result }
-    {
-        ParseAll::over(self, bytes)
-    }
-
     fn encoding(&self) -> Encoding
         ensures { result ≡ self.now.encoding }
     {
@@ -283,8 +343,8 @@ impl Parser {
         if u64::from(size) > u64::MAX - reader.original_position() {
             return Err(Error::new(Fault::SectionTooLarge, field).with_number(u64::from(size)));
         }
-        let kind = kind_of(self.encoding(), id);
-        if self.is_out_of_order(rank_of(kind, id)) {
+        let kind = section_kind(self.encoding(), id);
+        if self.is_out_of_order(section_rank(kind, id)) {
             return Err(Error::new(Fault::OutOfOrder, reader.original_position()));
         }
         self.content(kind, id, size, reader)
@@ -293,23 +353,23 @@ impl Parser {
     // The content of a section of this kind.
     fn content<'a>(
         &self,
-        kind: Kind,
+        kind: SectionKind,
         id: u8,
         size: u32,
         reader: &mut BinaryReader<'a>,
     ) -> Result<Payload<'a>>
-        requires known { kind_is kind ≡ form_of self.now.encoding id }
+        requires known { kind_is kind ≡ kind_of self.now.encoding id }
         requires fits { (place reader.old).offset + size < 2 ^ 64 }
         ensures { ReadsContent self.now (kind_is kind) id size
             (place reader.old) result (place reader.new) }
     {
         match kind {
-            Kind::Custom => custom(id, size, reader),
-            Kind::Items => items(self.data_counts, id, size, reader),
-            Kind::Index => start(id, size, reader),
-            Kind::DataCount => data_count(id, size, reader),
-            Kind::Code => code(self.functions, size, reader),
-            Kind::Unknown => unknown(id, size, reader),
+            SectionKind::Custom => custom(id, size, reader),
+            SectionKind::Items => items(self.data_counts, id, size, reader),
+            SectionKind::Index => start(id, size, reader),
+            SectionKind::DataCount => data_count(id, size, reader),
+            SectionKind::Code => code(self.functions, size, reader),
+            SectionKind::Unknown => unknown(id, size, reader),
         }
     }
 
@@ -383,68 +443,6 @@ impl Parser {
         self.codes = known_count(counted, CODE_SECTION, self.codes);
         self.datas = known_count(counted, DATA_SECTION, self.datas);
         self.data_counts = known_count(counted, DATA_COUNT_SECTION, self.data_counts);
-    }
-
-    /// Reads what comes next in the stream of which these bytes are the rest, or the beginning of the rest.
-    ///
-    /// `eof` says that no bytes come after these, so that missing bytes are a fault. Without it, `NeedMoreData` is answered
-    /// while these bytes don't decide what comes next, and leaves the parser unchanged: the caller hands in the same bytes
-    /// again with more after them. Whatever is answered otherwise would be answered with more bytes too; and no parser could
-    /// answer sooner, since more is asked for exactly where two streams that begin so have different next events.
-    ///
-    /// The parser is then after what it read, `consumed` bytes further; a caller hands in the bytes after those:
-    ///
-    /// ```text
-    /// loop {
-    ///     match parser.parse(rest, true) {
-    ///         Ok(Chunk::Parsed { consumed, payload }) => {
-    ///             if let Payload::End(_) = payload {
-    ///                 return Ok(());
-    ///             }
-    ///             look_at(&payload);
-    ///             drop(payload);
-    ///             rest = rest.split_at(consumed).1;
-    ///         }
-    ///         Ok(Chunk::NeedMoreData(_)) => unreachable!(),
-    ///         Err(error) => return Err(error),
-    ///     }
-    /// }
-    /// ```
-    ///
-    /// A fault is reported at its offset in the whole stream, and leaves the parser unchanged: the faults of a header, of a
-    /// section's id, length, order and first fields, of a body's size, and of counts that don't match. A body that passes its
-    /// section is refused as soon as its size has been read, with `UnexpectedEof` at the body's start. `OffsetRange` at
-    /// the parser's offset, where the bytes pass the offsets of a stream.
-    pub fn parse<'a>(&mut self, bytes: &'a [u8], eof: bool) -> Result<Chunk<'a>>
-        ensures answers { ParseAnswer self.old eof bytes.now result self.new }
-        ensures gives { GivesNextEvent self.old eof bytes.now result self.new }
-        ensures consumes { Consumes bytes.now result }
-        ensures asks { AsksForSome result }
-        ensures waits { AsksWhereOpen self.old eof bytes.now result }
-        ensures faults { FaultsWithin self.old bytes.now result }
-        ensures unchanged { IsUnchanged self.old result self.new }
-    {
-        self.answer(bytes, eof)
-    }
-
-    /// How many bytes of a code section `skip_section` would pass: those left of it, from `CodeSectionStart` until a
-    /// payload that is no body. `None` elsewhere.
-    pub fn skippable(&self) -> Option<u32>
-        ensures { result ≡ skippable_of self.now }
-    {
-        if self.in_code { Some(self.left) } else { None }
-    }
-
-    /// Passes what is left of a code section, as many bytes as `skippable` says: the caller hands in the bytes after
-    /// those next. The parser must be in a code section, so that `skippable` is `Some`.
-    pub fn skip_section(&mut self)
-        requires { IsSome (skippable_of self.old) }
-        ensures state { self.new ≡ skipped_state self.old }
-        ensures skips { SkipsSection self.old self.new }
-    {
-        self.offset += u64::from(self.left);
-        self.bodies = 0;
-        self.left = 0;
     }
 
     // What comes next in the stream of which these bytes are the rest, or its beginning, and is then passed.

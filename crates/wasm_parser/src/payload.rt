@@ -1,33 +1,23 @@
 // What a parser says of a stream.
 ghost use Rattle.std.specs.Prelude.{◌≡◌};
 ghost use Rattle.wasm_parser.specs.ParseAnswer.{report_of};
-ghost use Rattle.wasm_parser.specs.Reading.{counted};
-ghost use Rattle.wasm_parser.specs.Sections.{parts_of, section_of};
+ghost use Rattle.wasm_grammar.specs.Reading.{counted};
+ghost use Rattle.wasm_grammar.specs.Sections.{parts_of, section_of};
 
-use crate::sections::{
-    CODE_SECTION, CUSTOM_SECTION, DATA_COUNT_SECTION, DATA_SECTION, ELEMENT_SECTION,
-    EXPORT_SECTION, FUNCTION_SECTION, GLOBAL_SECTION, IMPORT_SECTION, MEMORY_SECTION,
-    START_SECTION, TABLE_SECTION, TAG_SECTION, TYPE_SECTION,
-};
 use std::fmt;
 use std::ops::Range;
 use wasm_base::SectionLimited;
 use wasm_custom::CustomSectionReader;
+use wasm_grammar::{
+    CODE_SECTION, CUSTOM_SECTION, DATA_COUNT_SECTION, DATA_SECTION, ELEMENT_SECTION,
+    EXPORT_SECTION, Encoding, FUNCTION_SECTION, GLOBAL_SECTION, IMPORT_SECTION, MEMORY_SECTION,
+    START_SECTION, TABLE_SECTION, TAG_SECTION, TYPE_SECTION,
+};
 use wasm_items::{
     DataSectionReader, ElementSectionReader, ExportSectionReader, FunctionBody,
     FunctionSectionReader, GlobalSectionReader, ImportSectionReader, MemorySectionReader,
     TableSectionReader, TagSectionReader, TypeSectionReader,
 };
-
-/// What a header announces (core specification, Binary format, Modules; the component's header is the component
-/// model's).
-#[derive(Clone, Copy, Debug, PartialEq, Eq)]
-pub enum Encoding {
-    /// A core module.
-    Module,
-    /// A component.
-    Component,
-}
 
 /// One part of a stream (core specification, Binary format, Modules).
 ///
@@ -120,7 +110,7 @@ pub enum Chunk<'a> {
 }
 
 /// The id of the section that a payload is, the offsets of its content in the whole stream, and its count, if it has one.
-pub(crate) type SectionParts = (u8, Range<u64>, Option<u32>);
+pub type SectionParts = (u8, Range<u64>, Option<u32>);
 
 // The same of a section with this id that begins with a count of items.
 fn counted_parts<T>(id: u8, section: &SectionLimited<'_, T>) -> Option<SectionParts>
@@ -141,8 +131,8 @@ impl<'a> Payload<'a> {
         }
     }
 
-    /// The same with the section's count.
-    pub(crate) fn section_parts(&self) -> Option<SectionParts>
+    /// The same with the section's count, if it has one.
+    pub fn section_parts(&self) -> Option<SectionParts>
         ensures { result ≡ parts_of (report_of self.now) }
     {
         match self {

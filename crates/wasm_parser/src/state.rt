@@ -2,10 +2,10 @@
 ghost use Rattle.std.specs.Prelude.{◌≡◌};
 ghost use Rattle.wasm_parser.specs.ParseAnswer.{report_of};
 ghost use Rattle.wasm_parser.specs.StateAfter.{known_encoding, rank_report, known_rank, known_count, missing_bodies, missing_bytes, reports_code};
-ghost use Rattle.wasm_parser.specs.Sections.{count_report};
+ghost use Rattle.wasm_grammar.specs.Sections.{count_report};
 
-use crate::payload::{Encoding, Payload};
-use crate::sections::{START_SECTION, place_of};
+use crate::payload::Payload;
+use wasm_grammar::{Encoding, START_SECTION, section_place};
 
 /// The encoding that a header names, or the one that was known.
 pub(crate) fn known_encoding(payload: &Payload, known: Encoding) -> Encoding
@@ -32,9 +32,9 @@ fn rank_in(payload: &Payload, counted: Option<(u8, u32)>) -> u8
     ensures { result ≡ rank_report (report_of payload.now) }
 {
     match payload {
-        Payload::StartSection { .. } => place_of(START_SECTION),
+        Payload::StartSection { .. } => section_place(START_SECTION),
         _ => match counted {
-            Some((id, _)) => place_of(id),
+            Some((id, _)) => section_place(id),
             None => 0,
         },
     }

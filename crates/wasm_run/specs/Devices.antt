@@ -2,8 +2,8 @@
 use Rattle.std.specs.Prelude.{◌≡◌, ℕ, false, List, take, codes}
 use Rattle.std.specs.Io.KnownBytes.{Appends}
 use Rattle.wasm_feed.specs.Calls.{Device}
-use Rattle.wasm_feed.specs.declared.listing.ListError.{ListError}
-use Rattle.wasm_feed.specs.declared.listing.ListError.TheVariants.{Input, Output, Memory}
+use Rattle.wasm_feed.specs.declared.devices.ListError.{ListError}
+use Rattle.wasm_feed.specs.declared.devices.ListError.TheVariants.{Input, Output, Memory}
 
 -- what is said of a run that was given up
 abbrev pub complaint_of : ListError → List ℕ
@@ -23,7 +23,12 @@ pub record Says (device : Device) (message : List ℕ) : Type 0 where
 
 -- a device over two calls, one after the other
 abbrev pub over : Device → Device → Device
-over first second = record { before = first.before; after = second.after; had_failed = first.had_failed; has_failed = second.has_failed }
+over first second = record {
+  before = first.before;
+  after = second.after;
+  had_failed = first.had_failed;
+  has_failed = second.has_failed;
+}
 
 -- the second call begins where the first one ended
 pub record Follows (first second : Device) : Type 0 where

@@ -14,10 +14,12 @@ use Rattle.wasm_uses.specs.Imported.{memory_in, or_memory}
 pub none_left : (s t : List (Result ImportParts FaultAt)) → NextImport {X = Import} found s None t → memory_in s ≡ Ok false
 none_left s t h = ap memory_in h.0.0
 
-pub fault_came : (s t : List (Result ImportParts FaultAt)) (e : Error) → NextImport {X = Import} found s (Some (Err e)) t → memory_in s ≡ Err (fault_at e)
+pub fault_came : (s t : List (Result ImportParts FaultAt)) (e : Error) → NextImport {X = Import} found s (Some (Err e)) t → memory_in s
+    ≡ Err (fault_at e)
 fault_came s t e h = ap memory_in h.0
 
-pub memory_came : (s t : List (Result ImportParts FaultAt)) (x : Import) (ty : MemoryType) → NextImport {X = Import} found s (Some (Ok x)) t → x.ty ≡ Memory ty → memory_in s ≡ Ok true
+pub memory_came : (s t : List (Result ImportParts FaultAt)) (x : Import) (ty : MemoryType) → NextImport {X = Import} found s (Some (Ok x)) t
+    → x.ty ≡ Memory ty → memory_in s ≡ Ok true
 memory_came s t x ty h e = ap memory_in h.0 ∙ ap (λ (r : TypeRef). or_memory r (memory_in t)) e
 
 other_type : (r : TypeRef) (later : Result Bool FaultAt) → ((ty : MemoryType) → r ≡ Memory ty → ⊥) → or_memory r later ≡ later
@@ -28,5 +30,6 @@ other_type (Global ty) later o = refl
 other_type (Tag ty) later o = refl
 other_type (FuncExact index) later o = refl
 
-pub other_came : (s t : List (Result ImportParts FaultAt)) (x : Import) → NextImport {X = Import} found s (Some (Ok x)) t → ((ty : MemoryType) → x.ty ≡ Memory ty → ⊥) → memory_in s ≡ memory_in t
+pub other_came : (s t : List (Result ImportParts FaultAt)) (x : Import) → NextImport {X = Import} found s (Some (Ok x)) t
+    → ((ty : MemoryType) → x.ty ≡ Memory ty → ⊥) → memory_in s ≡ memory_in t
 other_came s t x h o = ap memory_in h.0 ∙ other_type x.ty (memory_in t) o

@@ -3,6 +3,7 @@ pub mod Each
 pub mod Ending
 pub mod Folding
 pub mod Importing
+pub mod Lines
 pub mod Loading
 pub mod Naming
 pub mod Payloads

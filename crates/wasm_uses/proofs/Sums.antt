@@ -22,7 +22,8 @@ abbrev pub numbers : Place → Outcome ℕ → Type 0
 numbers = ReadsAs (λ n. n) (unsigned_at VarU32)
 
 -- a step that gave a number
-pub after_number : (all : Result ℕ FaultAt) (s t : Items) (total x : ℕ) → all ≡ plus total (total_at s.left (place s.reader)) → s.ended ≡ false → NextItem numbers s (Some (Ok x)) t
+pub after_number : (all : Result ℕ FaultAt) (s t : Items) (total x : ℕ) → all ≡ plus total (total_at s.left (place s.reader)) → s.ended
+    ≡ false → NextItem numbers s (Some (Ok x)) t
     → (t.ended ≡ false) × (t.left + 1 ≡ s.left) × (all ≡ plus (total + x) (total_at t.left (place t.reader)))
 after_number all s t total x so_far going next =
     let item = item_came numbers s t x going (gives next) in
@@ -34,11 +35,14 @@ after_number all s t total x so_far going next =
 fault_total : (left : ℕ) (p : Place) (f : FaultAt) → ItemsOf numbers left p (Err f ∷ []) → total_at left p ≡ Err f
 fault_total zero p f h = by_rest (nat_lt 0 (length p.rest)) h
   where
-    by_rest : (b : Bool) → (let x : Result ℕ FaultAt = Err f in x ∷ []) ≡ cond b (Err (at_offset SizeMismatch p.offset) ∷ []) [] → (let x : Result ℕ FaultAt = cond b (Err (at_offset SizeMismatch p.offset)) (Ok 0) in x) ≡ Err f
+    by_rest : (b : Bool) → (let x : Result ℕ FaultAt = Err f in x ∷ []) ≡ cond b (Err (at_offset SizeMismatch p.offset) ∷ []) []
+        → (let x : Result ℕ FaultAt = cond b (Err (at_offset SizeMismatch p.offset)) (Ok 0) in x) ≡ Err f
     by_rest true e = cc
     by_rest false e = cc
 fault_total (suc left) p f h = rw h.0 refl
 
 -- the step that gave a fault
-pub at_a_fault : (all : Result ℕ FaultAt) (s t : Items) (total : ℕ) (e : Error) → all ≡ plus total (total_at s.left (place s.reader)) → s.ended ≡ false → NextItem numbers s (Some (Err e)) t → all ≡ Err (fault_at e)
-at_a_fault all s t total e so_far going next = rw (fault_total s.left (place s.reader) (fault_at e) (fault_came numbers s t e going (gives next))) at so_far
+pub at_a_fault : (all : Result ℕ FaultAt) (s t : Items) (total : ℕ) (e : Error) → all ≡ plus total (total_at s.left (place s.reader))
+    → s.ended ≡ false → NextItem numbers s (Some (Err e)) t → all ≡ Err (fault_at e)
+at_a_fault all s t total e so_far going next = rw (fault_total s.left (place s.reader) (fault_at e)
+    (fault_came numbers s t e going (gives next))) at so_far

@@ -5,8 +5,8 @@ use Rattle.wasm_base.specs.FaultAt.{fault_at}
 use Rattle.wasm_base.specs.Owned.{out_of_memory}
 use Rattle.wasm_base.specs.Window.{Window, Place, place, advanced}
 use Rattle.wasm_base.specs.declared.error.Error.{Error}
-use Rattle.wasm_parser.specs.Content.{ended, fault}
-use Rattle.wasm_parser.specs.Reading.{Report, custom_section, Event}
+use Rattle.wasm_grammar.specs.Content.{ended, fault}
+use Rattle.wasm_grammar.specs.Reading.{Report, custom_section, Event}
 use Rattle.wasm_feed.specs.Pieces.{joined}
 use Rattle.wasm_uses.specs.Collecting.{Collects}
 use Rattle.wasm_uses.specs.declared.customs.CustomSize.{CustomSize}
@@ -28,8 +28,11 @@ customs_of e = map (λ name. (name, length e.consumed)) (names_in e.report)
 abbrev pub sizes_in : {A : Type 0} → Vec CustomSize A → List (List ℕ × ℕ)
 sizes_in list = map (λ c. (string_bytes c.name, c.size)) list.items
 
--- The list has the custom sections of the stream that these pieces are, in order, wherever it is cut; or the stream stops at this
--- fault; or memory was refused.
-abbrev pub ListsCustoms : {A : Type 0} (pieces : List (Bor (List ℕ))) (features : ℕ) → Result (Vec CustomSize A) Error → Type 0
-ListsCustoms pieces features (Ok list) = (offset : ℕ) × Collects customs_of (joined pieces) features [] (ended offset) (sizes_in list)
-ListsCustoms pieces features (Err e) = (fault_at e ≡ out_of_memory) ⊎ ((before : List (List ℕ × ℕ)) × Collects customs_of (joined pieces) features [] (fault (fault_at e)) before)
+-- The list has the custom sections of the stream that these pieces are, in order, wherever it is cut; or the stream
+-- stops at this fault; or memory was refused.
+abbrev pub ListsCustoms : {A : Type 0} (pieces : List (Bor (List ℕ))) (features : ℕ) → Result (Vec CustomSize A) Error
+    → Type 0
+ListsCustoms pieces features (Ok list) =
+    (offset : ℕ) × Collects customs_of (joined pieces) features [] (ended offset) (sizes_in list)
+ListsCustoms pieces features (Err e) = (fault_at e ≡ out_of_memory)
+    ⊎ ((before : List (List ℕ × ℕ)) × Collects customs_of (joined pieces) features [] (fault (fault_at e)) before)

@@ -4,7 +4,8 @@ use Rattle.wasm_base.specs.FaultAt.{FaultAt, fault_at}
 use Rattle.wasm_base.specs.Owned.{out_of_memory}
 use Rattle.wasm_base.specs.declared.error.Error.{Error}
 use Rattle.wasm_parser.specs.ParseAll.{event_report}
-use Rattle.wasm_parser.specs.Reading.{Report, Event, Reading}
+use Rattle.wasm_grammar.specs.Reading.{Report, Event, Reading}
+use Rattle.wasm_base.specs.Features.{all_features}
 
 -- what comes of this, unless it is refused
 abbrev pub unless_refused : {A S R : Type 0} → Result A R → (A → Result S R) → Result S R
@@ -18,7 +19,8 @@ after_all step s (r ∷ later) = unless_refused (step s r) (λ t. after_all step
 
 -- This is what the parts of a stream make of a beginning, by its reading with all features from offset 0.
 abbrev pub ReadsTo : {S R : Type 0} → (S → Report → Result S R) → S → List ℕ → Result S R → Type 0
-ReadsTo step begin stream end = (events : List Event) × Reading stream 0 3 events × (after_all step begin (map event_report events) ≡ end)
+ReadsTo step begin stream end = (events : List Event) × Reading stream 0 all_features events
+    × (after_all step begin (map event_report events) ≡ end)
 
 -- This came of it, or memory was refused.
 abbrev pub Gives : {S : Type 0} → Result S FaultAt → Result (Unit {0}) Error → (after : S) → Type 0

@@ -4,6 +4,7 @@ pub mod Compiling
 pub mod Customs
 pub mod Folding
 pub mod Imported
+pub mod ImportsText
 pub mod Linking
 pub mod Outside
 pub mod Printing

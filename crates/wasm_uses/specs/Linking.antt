@@ -1,7 +1,10 @@
--- What a linker fills in: the relocations of a module, with what they name and where they are. Tool conventions, Linking.
+-- What a linker fills in: the relocations of a module, with what they name and where they are. Tool conventions,
+-- Linking.
 use Rattle.std.specs.declared.ops.Range.{Range}
 use Rattle.std.specs.List.{starts_with}
-use Rattle.std.specs.Prelude.{◌≡◌, ◌⊎◌, ℕ, zero, suc, ◌+◌, List, [], ◌∷◌, ◌++◌, length, map, option_map, slice_get, nat_lt, nat_le, nat_eq, codes, bytes_eq, Option, Some, None, Result, Ok, Err, if◌then◌else◌}
+use Rattle.std.specs.Prelude.{◌≡◌, ◌⊎◌, ℕ, zero, suc, ◌+◌, List, [], ◌∷◌, ◌++◌, length, map, option_map, slice_get}
+use Rattle.std.specs.Prelude.{nat_lt, nat_le, nat_eq, codes, bytes_eq, Option, Some, None, Result, Ok, Err}
+use Rattle.std.specs.Prelude.{if◌then◌else◌}
 use Rattle.wasm_base.specs.FaultAt.{FaultAt, fault_at, at_offset}
 use Rattle.wasm_base.specs.Outcome.{Outcome, ◌>>=◌}
 use Rattle.wasm_base.specs.Owned.{out_of_memory}
@@ -10,13 +13,14 @@ use Rattle.wasm_base.specs.Subsections.{subsection_at}
 use Rattle.wasm_base.specs.Window.{Window, Place, place, whole_window}
 use Rattle.wasm_base.specs.declared.error.Error.{Error}
 use Rattle.wasm_base.specs.declared.fault.Fault.TheVariants.{SizeMismatch}
-use Rattle.wasm_custom.specs.Linking.{SymbolParts, symbol_parts, symbol_at, LinkingParts, listed, LinkingSection, linking_subsection_in, linking_in}
-use Rattle.wasm_custom.specs.Relocations.{number_of, relocated_range, relocation_at, reloc_section_in}
-use Rattle.wasm_custom.specs.declared.relocations.RelocationEntry.{RelocationEntry}
-use Rattle.wasm_custom.specs.declared.relocations.RelocSectionReader.{RelocSectionReader}
-use Rattle.wasm_parser.specs.Content.{fault}
-use Rattle.wasm_parser.specs.Reading.{Report, custom_section, stream_end}
-use Rattle.wasm_parser.specs.Sections.{section_of}
+use Rattle.wasm_custom.specs.Linking.{SymbolParts, symbol_parts, symbol_at, LinkingParts, listed, LinkingSection}
+use Rattle.wasm_custom.specs.Linking.{linking_subsection_in, linking_in}
+use Rattle.wasm_custom.specs.Reloc.{number_of, relocated_range, relocation_at, reloc_section_in}
+use Rattle.wasm_custom.specs.declared.reloc.RelocationEntry.{RelocationEntry}
+use Rattle.wasm_custom.specs.declared.reloc.RelocSectionReader.{RelocSectionReader}
+use Rattle.wasm_grammar.specs.Content.{fault}
+use Rattle.wasm_grammar.specs.Reading.{Report, custom_section, stream_end}
+use Rattle.wasm_grammar.specs.Sections.{section_of}
 use Rattle.wasm_uses.specs.Customs.{data_place}
 use Rattle.wasm_uses.specs.Folding.{ReadsTo}
 use Rattle.wasm_uses.specs.declared.linking.Fixup.{Fixup}
@@ -40,7 +44,11 @@ pub record LinkedParts : Type 0 where
   pub fixups : List FixupParts
 
 abbrev pub linked_parts : Linked → LinkedParts
-linked_parts m = record { sections = m.sections.items; symbols = map symbol_parts m.symbols.items; fixups = map fixup_parts m.fixups.items }
+linked_parts m = record {
+  sections = m.sections.items;
+  symbols = map symbol_parts m.symbols.items;
+  fixups = map fixup_parts m.fixups.items;
+}
 
 -- nothing
 abbrev pub no_parts : LinkedParts
@@ -56,7 +64,10 @@ symbol_of symbols entry = if nat_eq (number_of entry.ty) 6 then None else slice_
 abbrev pub filled_in : Range ℕ → RelocationEntry → Option (Range ℕ)
 filled_in section entry =
     if nat_le (section.start + (relocated_range entry).end) section.end
-    then Some (record { start = section.start + (relocated_range entry).start; end = section.start + (relocated_range entry).end })
+    then Some (record {
+      start = section.start + (relocated_range entry).start;
+      end = section.start + (relocated_range entry).end;
+    })
     else None
 
 -- the same of a section that may be missing
@@ -66,7 +77,11 @@ filled_if_there None entry = None
 
 -- with what it names and fills in, of what came before it
 abbrev pub fixup_of : LinkedParts → (section : ℕ) → RelocationEntry → FixupParts
-fixup_of m section entry = record { entry = entry; symbol = symbol_of m.symbols entry; range = filled_if_there (slice_get m.sections section) entry }
+fixup_of m section entry = record {
+  entry = entry;
+  symbol = symbol_of m.symbols entry;
+  range = filled_if_there (slice_get m.sections section) entry;
+}
 
 -- ---- one part more
 
@@ -93,7 +108,8 @@ with_window m id window = linking_subsection_in id window >>= (λ subsection. wi
 -- the subsections from a place on, at most so many
 abbrev pub with_subsections : LinkedParts → (most : ℕ) → Place → Result LinkedParts FaultAt
 with_subsections m zero p = Ok m
-with_subsections m (suc most) p = if nat_eq (length p.rest) 0 then Ok m else subsection_at p >>= (λ head. with_window m head.0.0 head.0.1 >>= (λ n. with_subsections n most head.1))
+with_subsections m (suc most) p = if nat_eq (length p.rest) 0 then Ok m else
+    subsection_at p >>= (λ head. with_window m head.0.0 head.0.1 >>= (λ n. with_subsections n most head.1))
 
 -- the section for linkers. A subsection takes a byte at least, so there are no more of them than bytes.
 abbrev pub with_linking : LinkedParts → LinkingSection → Result LinkedParts FaultAt
@@ -120,7 +136,8 @@ with_section m None = m
 
 -- what a part of the module has for linkers, if it is a custom section; the stream's fault ends all
 abbrev pub with_if_custom : LinkedParts → Report → Result LinkedParts FaultAt
-with_if_custom m (custom_section name data_offset window) = with_custom m name (whole_window (data_place window data_offset))
+with_if_custom m (custom_section name data_offset window) =
+    with_custom m name (whole_window (data_place window data_offset))
 with_if_custom m (stream_end (fault f)) = Err f
 with_if_custom m other = Ok m
 
@@ -130,8 +147,8 @@ linked m report = with_if_custom (with_section m (section_of report)) report
 
 -- ---- what calls answer
 
--- This is what a linker fills in of the module that the stream is, by its reading with all features from offset 0; or the module
--- has this fault; or memory was refused.
+-- This is what a linker fills in of the module that the stream is, by its reading with all features from offset 0; or
+-- the module has this fault; or memory was refused.
 abbrev pub IsLinked : List ℕ → Result Linked Error → Type 0
 IsLinked stream (Ok m) = ReadsTo linked no_parts stream (Ok (linked_parts m))
 IsLinked stream (Err e) = (fault_at e ≡ out_of_memory) ⊎ ReadsTo linked no_parts stream (Err (fault_at e))

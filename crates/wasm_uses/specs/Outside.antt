@@ -1,5 +1,6 @@
 -- What a module needs of its outside and gives to it, as a loader wants it.
-use Rattle.std.specs.Prelude.{◌≡◌, ◌⊎◌, ℕ, zero, suc, ◌+◌, ◌-◌, ◌^◌, min, List, [], ◌∷◌, ◌++◌, length, map, nat_lt, nat_eq, Result, Ok, Err, if◌then◌else◌}
+use Rattle.std.specs.Prelude.{◌≡◌, ◌⊎◌, ℕ, zero, suc, ◌+◌, ◌-◌, ◌^◌, min, List, [], ◌∷◌, ◌++◌, length, map, nat_lt}
+use Rattle.std.specs.Prelude.{nat_eq, Result, Ok, Err, if◌then◌else◌}
 use Rattle.wasm_base.specs.FaultAt.{FaultAt, fault_at, at_offset}
 use Rattle.wasm_base.specs.Number.{unsigned_at}
 use Rattle.wasm_base.specs.Outcome.{Outcome}
@@ -14,13 +15,14 @@ use Rattle.wasm_items.specs.declared.exports.ExternalKind.{ExternalKind}
 use Rattle.wasm_items.specs.declared.exports.ExternalKind.TheVariants as kinds
 use Rattle.wasm_items.specs.declared.imports.TypeRef.{TypeRef}
 use Rattle.wasm_items.specs.declared.imports.TypeRef.TheVariants as types
-use Rattle.wasm_parser.specs.Content.{fault}
-use Rattle.wasm_parser.specs.Reading.{Report, counted, stream_end}
+use Rattle.wasm_grammar.specs.Content.{fault}
+use Rattle.wasm_grammar.specs.Reading.{Report, counted, stream_end}
 use Rattle.wasm_uses.specs.Folding.{unless_refused, ReadsTo}
 use Rattle.wasm_uses.specs.declared.outside.Misfit.{Misfit}
 use Rattle.wasm_uses.specs.declared.outside.Misfit.TheVariants as misfits
 use Rattle.wasm_uses.specs.declared.outside.Outside.{Outside}
 use Rattle.wasm_uses.specs.declared.outside.Spans.{Spans}
+use Rattle.wasm_grammar.specs.Ids.{export_id, function_id, global_id, import_id, memory_id, table_id, tag_id}
 
 -- ---- index spaces
 
@@ -63,11 +65,16 @@ pub record OutsideParts : Type 0 where
   pub exports : List ExportParts
 
 abbrev pub outside_parts : Outside → OutsideParts
-outside_parts o = record { spans = o.spans; imports = map import_parts o.imports.items; exports = map export_parts o.exports.items }
+outside_parts o =
+    record { spans = o.spans; imports = map import_parts o.imports.items; exports = map export_parts o.exports.items }
 
 -- nothing
 abbrev pub no_parts : OutsideParts
-no_parts = record { spans = record { functions = 0; tables = 0; memories = 0; globals = 0; tags = 0 }; imports = []; exports = [] }
+no_parts = record {
+  spans = record { functions = 0; tables = 0; memories = 0; globals = 0; tags = 0 };
+  imports = [];
+  exports = [];
+}
 
 -- why a module has no outside: a fault, or the export of this place, which names what is not there
 pub data Refused : Type 0 where
@@ -87,7 +94,8 @@ imported o (Err f ∷ later) = Err (at_fault f)
 
 -- an export of what is there
 abbrev pub with_export : OutsideParts → ExportParts → Result OutsideParts Refused
-with_export o e = if nat_lt e.index (span_of o.spans e.kind) then Ok (record o { exports = o.exports ++ e ∷ [] }) else Err (no_such (length o.exports))
+with_export o e = if nat_lt e.index (span_of o.spans e.kind) then Ok (record o { exports = o.exports ++ e ∷ [] }) else
+    Err (no_such (length o.exports))
 
 -- an outcome, whose fault ends all
 abbrev pub unless_fault : {A : Type 0} → Outcome A → Result (A × Place) Refused
@@ -97,7 +105,8 @@ unless_fault (Err f) = Err (at_fault f)
 -- so many exports from a place on, and nothing after them
 abbrev pub exported : OutsideParts → (left : ℕ) → Place → Result OutsideParts Refused
 exported o zero p = if nat_lt 0 (length p.rest) then Err (at_fault (at_offset SizeMismatch p.offset)) else Ok o
-exported o (suc left) p = unless_refused (unless_fault (export_at p)) (λ x. unless_refused (with_export o x.0) (λ q. exported q left x.1))
+exported o (suc left) p = unless_refused (unless_fault (export_at p))
+    (λ x. unless_refused (with_export o x.0) (λ q. exported q left x.1))
 
 -- where the items of a section begin: after its count
 abbrev pub after_number : Outcome ℕ → Place → Place
@@ -114,13 +123,13 @@ with_section o kind count = Ok (record o { spans = with_more o.spans kind count 
 -- what a part of the module adds: imports, functions, tables, memories, globals, exports and tags
 abbrev pub told : OutsideParts → Report → Result OutsideParts Refused
 told o (counted id count window) =
-    if nat_eq id 2 then imported o (map import_alone (flattened count (items_place window)))
-    else if nat_eq id 3 then with_section o kinds.Func count
-    else if nat_eq id 4 then with_section o kinds.Table count
-    else if nat_eq id 5 then with_section o kinds.Memory count
-    else if nat_eq id 6 then with_section o kinds.Global count
-    else if nat_eq id 7 then exported o count (items_place window)
-    else if nat_eq id 13 then with_section o kinds.Tag count
+    if nat_eq id import_id then imported o (map import_alone (flattened count (items_place window)))
+    else if nat_eq id function_id then with_section o kinds.Func count
+    else if nat_eq id table_id then with_section o kinds.Table count
+    else if nat_eq id memory_id then with_section o kinds.Memory count
+    else if nat_eq id global_id then with_section o kinds.Global count
+    else if nat_eq id export_id then exported o count (items_place window)
+    else if nat_eq id tag_id then with_section o kinds.Tag count
     else Ok o
 told o (stream_end (fault f)) = Err (at_fault f)
 told o other = Ok o
@@ -138,9 +147,10 @@ abbrev pub IsMemory : Misfit → Type 0
 IsMemory (misfits.Stream e) = fault_at e ≡ out_of_memory
 IsMemory (misfits.NoSuch place) = ⊥
 
--- This is the outside of the module that the stream is, by its reading with all features from offset 0; or it has none, for this
--- reason; or memory was refused.
+-- This is the outside of the module that the stream is, by its reading with all features from offset 0; or it has none,
+-- for this reason; or memory was refused.
 abbrev pub IsOutside : List ℕ → Result Outside Misfit → Type 0
 IsOutside stream (Ok o) = ReadsTo told no_parts stream (Ok (outside_parts o))
-IsOutside stream (Err (misfits.Stream e)) = (fault_at e ≡ out_of_memory) ⊎ ReadsTo told no_parts stream (Err (at_fault (fault_at e)))
+IsOutside stream (Err (misfits.Stream e)) = (fault_at e ≡ out_of_memory)
+    ⊎ ReadsTo told no_parts stream (Err (at_fault (fault_at e)))
 IsOutside stream (Err (misfits.NoSuch place)) = ReadsTo told no_parts stream (Err (no_such place))

@@ -2,9 +2,12 @@
 use Rattle.std.specs.Prelude.{◌≡◌, ℕ, List, [], ◌∷◌, ◌++◌, map, Option, Some, None, Result, Ok, Err, MatchResult}
 use Rattle.wasm_base.specs.FaultAt.{FaultAt, fault_at}
 use Rattle.wasm_base.specs.declared.error.Error.{Error}
-use Rattle.wasm_parser.specs.Content.{Ending, fault, ended}
-use Rattle.wasm_parser.specs.Reading.{Report, version, counted, start_section, data_count_section, code_start, code_entry, custom_section, unknown_section, stream_end, Event, last_event, Reading}
+use Rattle.wasm_grammar.specs.Content.{Ending, fault, ended}
+use Rattle.wasm_grammar.specs.Reading.{Report, version, counted, start_section, data_count_section, code_start}
+use Rattle.wasm_grammar.specs.Reading.{code_entry, custom_section, unknown_section, stream_end, Event, last_event}
+use Rattle.wasm_grammar.specs.Reading.{Reading}
 use Rattle.wasm_parser.specs.ParseAll.{event_report}
+use Rattle.wasm_base.specs.Features.{all_features}
 
 -- how a walk over all parts ends: at an offset, or at a fault
 abbrev pub ending_of : Result ℕ Error → Ending
@@ -13,7 +16,8 @@ ending_of (Err e) = fault (fault_at e)
 
 -- The stream's reading ends at this offset, with no fault; or at this fault.
 abbrev pub IsEndOf : List ℕ → Result ℕ Error → Type 0
-IsEndOf stream result = (before : List Event) × Reading stream 0 3 (before ++ last_event (ending_of result) ∷ [])
+IsEndOf stream result = (before : List Event) × Reading stream 0 all_features
+    (before ++ last_event (ending_of result) ∷ [])
 
 -- the function that a part starts
 abbrev pub started_by : Report → Option ℕ
@@ -53,5 +57,6 @@ start_from known (x ∷ later) = unless_stopped x (start_from (latest known (sta
 
 -- The stream's reading names this function as the start, or stops at this fault.
 abbrev pub IsStartOf : List ℕ → Result (Option ℕ) Error → Type 0
-IsStartOf stream result = (events : List Event) → Reading stream 0 3 events
-    → MatchResult result (λ start. start_from None (map event_report events) ≡ Ok start) (λ e. start_from None (map event_report events) ≡ Err (fault_at e))
+IsStartOf stream result = (events : List Event) → Reading stream 0 all_features events
+    → MatchResult result (λ start. start_from None (map event_report events) ≡ Ok start)
+    (λ e. start_from None (map event_report events) ≡ Err (fault_at e))

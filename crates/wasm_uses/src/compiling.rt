@@ -51,8 +51,9 @@ fn body_of(payload: Payload<'_>) -> Option<FunctionBody<'_>>
 }
 
 /// Hands a compiler the bodies of a stream that is cut into these pieces, each as soon as its last byte came, and answers how
-/// many bytes were stored at most; or the fault at which the stream stops, after the bodies before it were handed on; or
-/// `OutOfMemory`.
+/// many bytes were stored at most.
+///
+/// The fault at which the stream stops, after the bodies before it were handed on; or `OutOfMemory`.
 pub fn compile_pieces<C: Compiler>(
     alloc: Global,
     features: WasmFeatures,

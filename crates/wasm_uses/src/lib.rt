@@ -4,6 +4,7 @@
 mod careless;
 mod compiling;
 mod customs;
+mod imports;
 mod linking;
 mod outside;
 mod printing;
@@ -16,6 +17,7 @@ mod walks;
 pub use careless::{AnyByte, Nothing};
 pub use compiling::{Compiler, Compiling, compile_pieces};
 pub use customs::{CustomSize, custom_sizes};
+pub use imports::imports_text;
 pub use linking::{Fixup, Linked, linked_of};
 pub use outside::{Misfit, Outside, Spans, outside_of};
 pub use printing::function_names;

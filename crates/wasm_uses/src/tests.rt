@@ -1,11 +1,10 @@
 // Worked examples.
 mod ended;
-mod events;
 mod hostile;
+mod imports;
 mod linking;
 mod outside;
 mod printing;
-mod steps;
 mod streams;
 mod visits;
 

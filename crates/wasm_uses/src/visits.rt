@@ -4,7 +4,7 @@ ghost use Rattle.wasm_base.specs.FaultAt.{fault_at};
 ghost use Rattle.wasm_base.specs.Features.{feature_bits};
 ghost use Rattle.wasm_base.specs.Owned.{out_of_memory};
 ghost use Rattle.wasm_feed.specs.Pieces.{joined};
-ghost use Rattle.wasm_parser.specs.Reading.{Event};
+ghost use Rattle.wasm_grammar.specs.Reading.{Event};
 ghost use Rattle.wasm_uses.specs.Visits.{part, Tells, VisitsHeld, VisitsNext, VisitsStream};
 
 use std::alloc::Global;

@@ -6,7 +6,7 @@ use std::alloc::Global;
 use std::process::Abort;
 use std::test::Fail;
 use wasm_base::{
-    BinaryReader, Error, Fault, NoMemory, NumberKind, Result, Subsection, Subsections, fits,
+    BinaryReader, Error, Fault, NeverAllocates, NumberKind, Result, Subsection, Subsections, fits,
 };
 
 // An id, a number that the window begins with, and the offset after it.
@@ -16,7 +16,7 @@ struct Numbered(u8, u32, u64);
 impl<'a> Subsection<'a> for Numbered {
     ghost meaning = { λ id window outcome. ⊤ };
 
-    type Memory = NoMemory;
+    type Allocation = NeverAllocates;
 
     fn from_reader(alloc: Global, id: u8, mut reader: BinaryReader<'a>) -> Result<Self> {
         let number = reader.read_var_u32()?;

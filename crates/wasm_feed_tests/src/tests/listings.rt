@@ -100,7 +100,12 @@ const LISTINGS: [(&[u8], &[u8]); 32] = [
 ];
 
 // A stream has this listing, whatever the size of its pieces.
-fn lists_as(rt: &impl Abort, alloc: Global, stream: &[u8], listing: &[u8]) -> Result<(), Fail> {
+pub(super) fn lists_as(
+    rt: &impl Abort,
+    alloc: Global,
+    stream: &[u8],
+    listing: &[u8],
+) -> Result<(), Fail> {
     for piece in [1, 5, 65_536] {
         let mut output = BoundedSink::new(alloc, 400)?;
         let ended = lists(alloc, stream, &mut output, piece);

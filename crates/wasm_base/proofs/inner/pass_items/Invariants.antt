@@ -6,6 +6,7 @@ use Rattle.wasm_base.proofs.inner.pass_items.Given as goal
 -- passing over those that are left comes to what passing over all of them does
 abbrev pub invariant-items : goal.invariant-items
 invariant-items g l = record {
-  so_far : all_passed_at g.T.InnerItem.passed_at (l.count - l.counter) (place l.reader) ≡ all_passed_at g.T.InnerItem.passed_at l.count (place l.fn.reader);
+  so_far : all_passed_at g.T.SkipItem.passed_at (l.count - l.counter) (place l.reader)
+      ≡ all_passed_at g.T.SkipItem.passed_at l.count (place l.fn.reader);
   keeps : KeepsWindow l.fn.reader l.reader;
 }

@@ -1,6 +1,6 @@
 use Rattle.std.proofs.Common.{refl}
 use Rattle.wasm_custom.specs.declared.linking.ComdatSymbolKind.TheVariants as Kinds
-use Rattle.wasm_custom.specs.declared.relocations.RelocAddendKind.TheVariants as Addends
+use Rattle.wasm_custom.specs.declared.reloc.RelocAddendKind.TheVariants as Addends
 use Rattle.wasm_custom.proofs.laws.flags_are_hashed_as_their_bits.Goals as goal
 
 pub returns-clause-comdat_kind : goal.returns-clause-comdat_kind

@@ -1,5 +1,13 @@
 use Rattle.std.proofs.Common.{refl}
-use Rattle.wasm_custom.specs.declared.relocations.RelocationType.TheVariants.{FunctionIndexLeb, TableIndexSleb, TableIndexI32, MemoryAddrLeb, MemoryAddrSleb, MemoryAddrI32, TypeIndexLeb, GlobalIndexLeb, FunctionOffsetI32, SectionOffsetI32, EventIndexLeb, MemoryAddrRelSleb, TableIndexRelSleb, GlobalIndexI32, MemoryAddrLeb64, MemoryAddrSleb64, MemoryAddrI64, MemoryAddrRelSleb64, TableIndexSleb64, TableIndexI64, TableNumberLeb, MemoryAddrTlsSleb, FunctionOffsetI64, MemoryAddrLocrelI32, TableIndexRelSleb64, MemoryAddrTlsSleb64, FunctionIndexI32}
+use Rattle.wasm_custom.specs.declared.reloc.RelocationType.TheVariants.{FunctionIndexLeb, TableIndexSleb, TableIndexI32, MemoryAddrLeb}
+use Rattle.wasm_custom.specs.declared.reloc.RelocationType.TheVariants.{MemoryAddrSleb, MemoryAddrI32, TypeIndexLeb, GlobalIndexLeb}
+use Rattle.wasm_custom.specs.declared.reloc.RelocationType.TheVariants.{FunctionOffsetI32, SectionOffsetI32, EventIndexLeb}
+use Rattle.wasm_custom.specs.declared.reloc.RelocationType.TheVariants.{MemoryAddrRelSleb, TableIndexRelSleb, GlobalIndexI32}
+use Rattle.wasm_custom.specs.declared.reloc.RelocationType.TheVariants.{MemoryAddrLeb64, MemoryAddrSleb64, MemoryAddrI64}
+use Rattle.wasm_custom.specs.declared.reloc.RelocationType.TheVariants.{MemoryAddrRelSleb64, TableIndexSleb64, TableIndexI64}
+use Rattle.wasm_custom.specs.declared.reloc.RelocationType.TheVariants.{TableNumberLeb, MemoryAddrTlsSleb, FunctionOffsetI64}
+use Rattle.wasm_custom.specs.declared.reloc.RelocationType.TheVariants.{MemoryAddrLocrelI32, TableIndexRelSleb64, MemoryAddrTlsSleb64}
+use Rattle.wasm_custom.specs.declared.reloc.RelocationType.TheVariants.{FunctionIndexI32}
 use Rattle.wasm_custom.proofs.laws.relocations_are_hashed_as_their_fields.Goals as goal
 
 pub returns-clause-relocation_type : goal.returns-clause-relocation_type

@@ -4,7 +4,8 @@ use Rattle.std.proofs.lemmas.Result.{err_from_is_err_and}
 use Rattle.std.proofs.KnownBytes.{Consumes-nil}
 use Rattle.wasm_feed.specs.Cursors.{feed_of}
 use Rattle.wasm_feed.specs.Listing.{line_of}
-use Rattle.wasm_feed.proofs.Progress.{begun, no_memory, cut, wants_written, steps_by, advanced, asked, listed_all, end_cut, filled, not_filled}
+use Rattle.wasm_feed.proofs.Progress.{begun, no_memory, cut, wants_written, steps_by, advanced, asked, listed_all, end_cut, filled}
+use Rattle.wasm_feed.proofs.Progress.{not_filled}
 use Rattle.wasm_feed.proofs.listing.list_in.Goals as goal
 
 pub returns-in_err-room-clause-lists : goal.returns-in_err-room-clause-lists
@@ -18,7 +19,13 @@ returns-in_err-page-clause-lists g c =
     rw (e.1, e.2) (no_memory line_of _ _ _ _ _ _ (begun line_of _ _) _ _ (Consumes-nil _))
 
 pub events-init : goal.events-init
-events-init g c = record { progress = rw (c.new-stored.ensures.items, c.new-cursor.ensures, c.new-2.ensures, c.in_ok-page.ensures) (begun line_of _ _); input = refl; output = refl; room = grind (arith, common_steps) }
+events-init g c = record {
+  progress = rw (c.new-stored.ensures.items, c.new-cursor.ensures, c.new-2.ensures, c.in_ok-page.ensures)
+      (begun line_of _ _);
+  input = refl;
+  output = refl;
+  room = grind (arith, common_steps);
+}
 
 pub returns-in_err-turn-clause-lists : goal.returns-in_err-turn-clause-lists
 returns-in_err-turn-clause-lists g c =
@@ -27,14 +34,14 @@ returns-in_err-turn-clause-lists g c =
 
 pub events-smaller-in-Advance : goal.events-smaller-in-Advance
 events-smaller-in-Advance g c =
-    let a = c.advance-answer.ensures in
+    let a = c.parse_next-answer.ensures in
     let s = steps_by _ c.events.stored.items _ _ _ c.deref.ensures.value a.parses a.shows a.finished a.wants in
     let t = c.in_ok-turn.ensures.takes in
     (advanced line_of _ _ _ _ _ _ c.events.invariant.progress _ _ s _ _ t.0 (sym c.in-Advance.is ∙ t.1)).1
 
 pub events-preserved-in-Advance : goal.events-preserved-in-Advance
 events-preserved-in-Advance g c =
-    let a = c.advance-answer.ensures in
+    let a = c.parse_next-answer.ensures in
     let s = steps_by _ c.events.stored.items _ _ _ c.deref.ensures.value a.parses a.shows a.finished a.wants in
     let t = c.in_ok-turn.ensures.takes in
     record {
@@ -46,7 +53,7 @@ events-preserved-in-Advance g c =
 
 pub returns-in_err-write_out-in-Read-clause-lists : goal.returns-in_err-write_out-in-Read-clause-lists
 returns-in_err-write_out-in-Read-clause-lists g c =
-    let a = c.advance-answer.ensures in
+    let a = c.parse_next-answer.ensures in
     let s = steps_by _ c.events.stored.items _ _ _ c.deref.ensures.value a.parses a.shows a.finished a.wants in
     let t = c.in_ok-turn.ensures.takes in
     let asks = (asked line_of _ _ _ _ _ _ c.events.invariant.progress _ _ s _ _ t.0 (sym c.in-Read.is ∙ t.1)).0 in
@@ -55,17 +62,18 @@ returns-in_err-write_out-in-Read-clause-lists g c =
 
 pub returns-in_err-read_more-in-Read-clause-lists : goal.returns-in_err-read_more-in-Read-clause-lists
 returns-in_err-read_more-in-Read-clause-lists g c =
-    let a = c.advance-answer.ensures in
+    let a = c.parse_next-answer.ensures in
     let s = steps_by _ c.events.stored.items _ _ _ c.deref.ensures.value a.parses a.shows a.finished a.wants in
     let t = c.in_ok-turn.ensures.takes in
     let asks = (asked line_of _ _ _ _ _ _ c.events.invariant.progress _ _ s _ _ t.0 (sym c.in-Read.is ∙ t.1)).0 in
     let written = wants_written line_of _ _ _ _ _ _ _ asks c.in_ok-write_out-in-Read.ensures.writes.0 in
     let e = err_from_is_err_and c.from_residual-in_err-read_more-in-Read.result c.from_residual-in_err-read_more-in-Read.ensures.1 in
-    rw (e.1, e.2) (not_filled line_of _ _ _ _ _ written _ (feed_of c.read_more.new.stored.items c.read_more.new.cursor) _ c.in_err-read_more-in-Read.ensures.refills)
+    rw (e.1, e.2) (not_filled line_of _ _ _ _ _ written _ (feed_of c.read_more.new.stored.items c.read_more.new.cursor) _
+    c.in_err-read_more-in-Read.ensures.refills)
 
 pub events-smaller : goal.events-smaller
 events-smaller g c =
-    let a = c.advance-answer.ensures in
+    let a = c.parse_next-answer.ensures in
     let s = steps_by _ c.events.stored.items _ _ _ c.deref.ensures.value a.parses a.shows a.finished a.wants in
     let t = c.in_ok-turn.ensures.takes in
     let (asks, same) = asked line_of _ _ _ _ _ _ c.events.invariant.progress _ _ s _ _ t.0 (sym c.in-Read.is ∙ t.1) in
@@ -75,12 +83,13 @@ events-smaller g c =
 
 pub events-preserved : goal.events-preserved
 events-preserved g c =
-    let a = c.advance-answer.ensures in
+    let a = c.parse_next-answer.ensures in
     let s = steps_by _ c.events.stored.items _ _ _ c.deref.ensures.value a.parses a.shows a.finished a.wants in
     let t = c.in_ok-turn.ensures.takes in
     let asks = (asked line_of _ _ _ _ _ _ c.events.invariant.progress _ _ s _ _ t.0 (sym c.in-Read.is ∙ t.1)).0 in
     let (written, none) = c.in_ok-write_out-in-Read.ensures.writes in
-    let after = (filled line_of _ _ _ _ _ (wants_written line_of _ _ _ _ _ _ _ asks written) _ _ c.in_ok-read_more-in-Read.ensures.refills).0 in
+    let after = (filled line_of _ _ _ _ _ (wants_written line_of _ _ _ _ _ _ _ asks written) _ _
+    c.in_ok-read_more-in-Read.ensures.refills).0 in
     record {
       progress = rw none after;
       input = grind (arith, common_steps);
@@ -90,15 +99,17 @@ events-preserved g c =
 
 pub returns-in_err-write_out-in-End-clause-lists : goal.returns-in_err-write_out-in-End-clause-lists
 returns-in_err-write_out-in-End-clause-lists g c =
-    let a = c.advance-answer.ensures in
+    let a = c.parse_next-answer.ensures in
     let s = steps_by _ c.events.stored.items _ _ _ c.deref.ensures.value a.parses a.shows a.finished a.wants in
     let t = c.in_ok-turn.ensures.takes in
     let e = err_from_is_err_and c.from_residual-in_err-write_out-in-End.result c.from_residual-in_err-write_out-in-End.ensures.1 in
-    rw (e.1, e.2) (end_cut line_of _ _ _ _ _ _ c.events.invariant.progress _ _ s _ _ t.0 _ (sym c.in-End.is ∙ t.1) _ _ c.in_err-write_out-in-End.ensures.writes)
+    rw (e.1, e.2) (end_cut line_of _ _ _ _ _ _ c.events.invariant.progress _ _ s _ _ t.0 _ (sym c.in-End.is ∙ t.1) _ _
+    c.in_err-write_out-in-End.ensures.writes)
 
 pub returns-in-End-clause-lists : goal.returns-in-End-clause-lists
 returns-in-End-clause-lists g c =
-    let a = c.advance-answer.ensures in
+    let a = c.parse_next-answer.ensures in
     let s = steps_by _ c.events.stored.items _ _ _ c.deref.ensures.value a.parses a.shows a.finished a.wants in
     let t = c.in_ok-turn.ensures.takes in
-    listed_all line_of _ _ _ _ _ _ c.events.invariant.progress _ _ s _ _ t.0 _ (sym c.in-End.is ∙ t.1) _ c.in_ok-write_out-in-End.ensures.writes.0
+    listed_all line_of _ _ _ _ _ _ c.events.invariant.progress _ _ s _ _ t.0 _ (sym c.in-End.is ∙ t.1) _
+    c.in_ok-write_out-in-End.ensures.writes.0

@@ -1,4 +1,5 @@
 use Rattle.std.proofs.Common.{◌≡◌, ◌<◌, vec_len}
+use Rattle.wasm_feed.specs.Calls.{from_to}
 use Rattle.wasm_feed.specs.Cursors.{feed_of}
 use Rattle.wasm_feed.specs.Listing.{line_of}
 use Rattle.wasm_feed.specs.Progress.{Progress, weight}
@@ -10,7 +11,9 @@ invariant-events g l =
     let source = g.R.Source in
     let sink = g.W.Sink in
     record {
-      progress : Progress line_of (source.left l.initial.input) (source.left l.input) (sink.taken l.initial.output) (sink.taken l.output) (feed_of l.stored.items l.cursor) l.page.bytes.items;
+      progress : Progress line_of (from_to (source.left l.initial.input) (source.left l.input))
+          (from_to (sink.taken l.initial.output) (sink.taken l.output))
+          (feed_of l.stored.items l.cursor) l.page.bytes.items;
       input : source.has_failed l.input ≡ source.has_failed l.initial.input;
       output : sink.has_failed l.output ≡ sink.has_failed l.initial.output;
       room : 0 < vec_len l.room;

@@ -16,7 +16,8 @@ returns-then-not-fits c =
 pub pieces-preserved : goal.pieces-preserved
 pieces-preserved c =
     let more = ap length (joined_more c.args.pieces.now c.pieces.piece-index none c.pieces-test.true) in
-    let parts = length-append (joined (take c.pieces.piece-index c.args.pieces.now)) (slice_index_or c.args.pieces.now c.pieces.piece-index none).now in
+    let parts = length-append (joined (take c.pieces.piece-index c.args.pieces.now))
+    (slice_index_or c.args.pieces.now c.pieces.piece-index none).now in
     let end = c.pieces.invariant.end in
     record {
       end = omega (arith, more, parts, end);

@@ -7,36 +7,48 @@ use Rattle.wasm_feed.proofs.Adding.{asks, adds, ends, fewer, steps_in}
 use Rattle.wasm_feed.proofs.pieces.read_held.Goals as goal
 
 pub returns-in-None-clause-reads : goal.returns-in-None-clause-reads
-returns-in-None-clause-reads g c start features given h l =
+returns-in-None-clause-reads g c s =
     let bytes = c.args.bytes.now in
-    let s = steps_in bytes c.steps.cursor c.advance.new.cursor c.advance.result c.advance.ensures.parses c.advance.ensures.shows c.advance.ensures.finished c.advance.ensures.wants in
-    let none = subst (IsEventOfStep c.advance.result) c.in-None.is c.in_ok-event_of.ensures.is in
-    let r = asks start features given (feed_of bytes c.steps.cursor) (feed_of bytes c.advance.new.cursor) c.steps.events.items (c.steps.invariant.comes start features given h l) l c.advance.result s none in
+    let by = steps_in bytes c.steps.cursor c.parse_next.new.cursor c.parse_next.result c.parse_next.ensures.parses
+    c.parse_next.ensures.shows
+    c.parse_next.ensures.finished c.parse_next.ensures.wants in
+    let none = subst (IsEventOfStep c.parse_next.result) c.in-None.is c.in_ok-event_of.ensures.is in
+    let r = asks s.start s.features s.given (feed_of bytes c.steps.cursor) (feed_of bytes c.parse_next.new.cursor) c.steps.events.items
+    (c.steps.invariant.comes s.start s.features s.given s.has_come s.below) s.below c.parse_next.result by none in
     (r.0, sym c.steps.invariant.eof ∙ r.1)
 
 pub returns-then-is_last-clause-reads : goal.returns-then-is_last-clause-reads
-returns-then-is_last-clause-reads g c start features given h l =
+returns-then-is_last-clause-reads g c s =
     let bytes = c.args.bytes.now in
-    let s = steps_in bytes c.steps.cursor c.advance.new.cursor c.advance.result c.advance.ensures.parses c.advance.ensures.shows c.advance.ensures.finished c.advance.ensures.wants in
-    let some = subst (IsEventOfStep c.advance.result) c.in-Some.is c.in_ok-event_of.ensures.is in
-    let r = ends start features given (feed_of bytes c.steps.cursor) (feed_of bytes c.advance.new.cursor) c.steps.events.items (c.steps.invariant.comes start features given h l) l c.advance.result c.in-Some.event s some (sym c.if-is_last.ensures) in
-    subst₂ (λ (eof : Bool) (values : List (Event g.row.A.Denot)). HasEnded start features eof given values) c.steps.invariant.eof (sym c.in_ok-push-in-Some.ensures.items) r
+    let by = steps_in bytes c.steps.cursor c.parse_next.new.cursor c.parse_next.result c.parse_next.ensures.parses
+    c.parse_next.ensures.shows
+    c.parse_next.ensures.finished c.parse_next.ensures.wants in
+    let some = subst (IsEventOfStep c.parse_next.result) c.in-Some.is c.in_ok-event_of.ensures.is in
+    let r = ends s.start s.features s.given (feed_of bytes c.steps.cursor) (feed_of bytes c.parse_next.new.cursor) c.steps.events.items
+    (c.steps.invariant.comes s.start s.features s.given s.has_come s.below) s.below c.parse_next.result c.in-Some.event by
+    some (sym c.if-is_last.ensures) in
+    subst₂ (λ (eof : Bool) (values : List (Event g.row.A.Denot)). HasEnded s.start s.features eof s.given values) c.steps.invariant.eof
+    (sym c.in_ok-push-in-Some.ensures.items) r
 
 pub steps-smaller : goal.steps-smaller
 steps-smaller g c =
     let bytes = c.args.bytes.now in
-    let s = steps_in bytes c.steps.cursor c.advance.new.cursor c.advance.result c.advance.ensures.parses c.advance.ensures.shows c.advance.ensures.finished c.advance.ensures.wants in
-    let some = subst (IsEventOfStep c.advance.result) c.in-Some.is c.in_ok-event_of.ensures.is in
-    fewer (feed_of bytes c.steps.cursor) (feed_of bytes c.advance.new.cursor) c.advance.result c.in-Some.event s some (sym c.if-is_last.ensures)
+    let s = steps_in bytes c.steps.cursor c.parse_next.new.cursor c.parse_next.result c.parse_next.ensures.parses c.parse_next.ensures.shows
+    c.parse_next.ensures.finished c.parse_next.ensures.wants in
+    let some = subst (IsEventOfStep c.parse_next.result) c.in-Some.is c.in_ok-event_of.ensures.is in
+    fewer (feed_of bytes c.steps.cursor) (feed_of bytes c.parse_next.new.cursor) c.parse_next.result c.in-Some.event s some
+    (sym c.if-is_last.ensures)
 
 pub steps-preserved : goal.steps-preserved
 steps-preserved g c =
     let bytes = c.args.bytes.now in
-    let s = steps_in bytes c.steps.cursor c.advance.new.cursor c.advance.result c.advance.ensures.parses c.advance.ensures.shows c.advance.ensures.finished c.advance.ensures.wants in
-    let some = subst (IsEventOfStep c.advance.result) c.in-Some.is c.in_ok-event_of.ensures.is in
+    let s = steps_in bytes c.steps.cursor c.parse_next.new.cursor c.parse_next.result c.parse_next.ensures.parses c.parse_next.ensures.shows
+    c.parse_next.ensures.finished c.parse_next.ensures.wants in
+    let some = subst (IsEventOfStep c.parse_next.result) c.in-Some.is c.in_ok-event_of.ensures.is in
     record {
       comes = λ start features given h l.
-          subst (HasCome start features given (feed_of bytes c.advance.new.cursor)) (sym c.in_ok-push-in-Some.ensures.items)
-          (adds start features given (feed_of bytes c.steps.cursor) (feed_of bytes c.advance.new.cursor) c.steps.events.items (c.steps.invariant.comes start features given h l) l c.advance.result c.in-Some.event s some (sym c.if-is_last.ensures));
-      eof = c.advance.ensures.finished ∙ c.steps.invariant.eof;
+          subst (HasCome start features given (feed_of bytes c.parse_next.new.cursor)) (sym c.in_ok-push-in-Some.ensures.items)
+          (adds start features given (feed_of bytes c.steps.cursor) (feed_of bytes c.parse_next.new.cursor) c.steps.events.items
+          (c.steps.invariant.comes start features given h l) l c.parse_next.result c.in-Some.event s some (sym c.if-is_last.ensures));
+      eof = c.parse_next.ensures.finished ∙ c.steps.invariant.eof;
     }

@@ -9,7 +9,8 @@ invariant-steps g l =
     let old = feed_of l.fn.bytes l.initial.cursor in
     let new = feed_of l.fn.bytes l.cursor in
     record {
-      comes : (start features : ℕ) (given : List ℕ) → HasCome start features given old l.initial.events.items → start + length given < 2 ^ 64 → HasCome start features given new l.events.items;
+      comes : (start features : ℕ) (given : List ℕ) → HasCome start features given old l.initial.events.items
+          → start + length given < 2 ^ 64 → HasCome start features given new l.events.items;
       eof : new.eof ≡ old.eof;
     }
 

@@ -6,18 +6,20 @@ use Rattle.wasm_feed.specs.Pieces.{joined, HasCome, ReadsHeld}
 use Rattle.wasm_feed.specs.declared.events.Event.{Event}
 use Rattle.wasm_feed.proofs.Adding.{come_begins, come_finished, next_piece, last_piece, ended_last}
 use Rattle.wasm_feed.proofs.pieces.read_pieces_in.Goals as goal
+use Rattle.wasm_base.specs.Features.{all_features}
 
 abbrev none : Bor (List ℕ)
 none = record { ref_ptr = (0, 0); now = [] }
 
 pub pieces-init : goal.pieces-init
 pieces-init g c =
-    let same : feed_of c.new-bytes.result.items c.new-cursor.result ≡ new_feed c.args.offset 3 =
+    let same : feed_of c.new-bytes.result.items c.new-cursor.result ≡ new_feed c.args.offset all_features =
     ap (λ (x : List ℕ). feed_of x c.new-cursor.result) c.new-bytes.ensures.items ∙ (c.new-cursor.ensures ∙ ap empty_feed c.new.ensures) in
     record {
       comes =
-          subst₂ (λ (x : Feed) (y : List (Event g.row.A.Denot)). HasCome c.args.offset 3 [] x y) (sym same) (sym c.new-events.ensures.items)
-          (come_begins c.args.offset 3);
+          subst₂ (λ (x : Feed) (y : List (Event g.row.A.Denot)). HasCome c.args.offset all_features [] x y) (sym same)
+          (sym c.new-events.ensures.items)
+          (come_begins c.args.offset all_features);
       goes_on = ap (λ (f : Feed). f.eof) same;
     }
 
@@ -26,9 +28,13 @@ returns-then-branch g c =
     let f = feed_of c.pieces.bytes.items c.pieces.cursor in
     let mid = feed_of c.deref.result.now c.refill.new.cursor in
     let new = feed_of c.deref.result.now c.read_held.new.cursor in
-    let e : mid ≡ pushed f (slice_index_or c.args.pieces.now c.pieces.piece-index none).now = ap (λ (x : List ℕ). feed_of x c.refill.new.cursor) c.deref.ensures.value ∙ c.in_ok-refill.ensures.ok in
-    let r = subst (λ (over : Bool). ReadsHeld mid c.pieces.events.items (Ok over) new c.read_held.new.events.items) c.if-branch.true c.in_ok-read_held.ensures.reads in
-    last_piece c.args.offset 3 c.args.pieces.now c.pieces.piece-index none f mid new c.pieces.events.items c.read_held.new.events.items c.pieces-test.true c.requires c.pieces.invariant.comes e
+    let e : mid ≡ pushed f (slice_index_or c.args.pieces.now c.pieces.piece-index none).now =
+    ap (λ (x : List ℕ). feed_of x c.refill.new.cursor) c.deref.ensures.value ∙ c.in_ok-refill.ensures.ok in
+    let r = subst (λ (over : Bool). ReadsHeld mid c.pieces.events.items (Ok over) new c.read_held.new.events.items) c.if-branch.true
+    c.in_ok-read_held.ensures.reads in
+    last_piece c.args.offset all_features c.args.pieces.now c.pieces.piece-index none f mid new c.pieces.events.items
+    c.read_held.new.events.items
+    c.pieces-test.true c.requires c.pieces.invariant.comes e
     (ap (λ (x : Feed). x.eof) e ∙ c.pieces.invariant.goes_on) r
 
 pub pieces-preserved : goal.pieces-preserved
@@ -36,11 +42,15 @@ pieces-preserved g c =
     let f = feed_of c.pieces.bytes.items c.pieces.cursor in
     let mid = feed_of c.deref.result.now c.refill.new.cursor in
     let new = feed_of c.deref.result.now c.read_held.new.cursor in
-    let e : mid ≡ pushed f (slice_index_or c.args.pieces.now c.pieces.piece-index none).now = ap (λ (x : List ℕ). feed_of x c.refill.new.cursor) c.deref.ensures.value ∙ c.in_ok-refill.ensures.ok in
-    let r = subst (λ (over : Bool). ReadsHeld mid c.pieces.events.items (Ok over) new c.read_held.new.events.items) c.if-branch.false c.in_ok-read_held.ensures.reads in
-    let came = next_piece c.args.offset 3 c.args.pieces.now c.pieces.piece-index none f mid new c.pieces.events.items c.read_held.new.events.items c.pieces-test.true c.requires c.pieces.invariant.comes e r in
+    let e : mid ≡ pushed f (slice_index_or c.args.pieces.now c.pieces.piece-index none).now =
+    ap (λ (x : List ℕ). feed_of x c.refill.new.cursor) c.deref.ensures.value ∙ c.in_ok-refill.ensures.ok in
+    let r = subst (λ (over : Bool). ReadsHeld mid c.pieces.events.items (Ok over) new c.read_held.new.events.items) c.if-branch.false
+    c.in_ok-read_held.ensures.reads in
+    let came = next_piece c.args.offset all_features c.args.pieces.now c.pieces.piece-index none f mid new c.pieces.events.items
+    c.read_held.new.events.items c.pieces-test.true c.requires c.pieces.invariant.comes e r in
     record {
-      comes = subst (λ (x : List ℕ). HasCome c.args.offset 3 (joined (take (c.pieces.piece-index + 1) c.args.pieces.now)) (feed_of x c.read_held.new.cursor) c.read_held.new.events.items) c.deref.ensures.value came;
+      comes = subst (λ (x : List ℕ). HasCome c.args.offset all_features (joined (take (c.pieces.piece-index + 1) c.args.pieces.now))
+          (feed_of x c.read_held.new.cursor) c.read_held.new.events.items) c.deref.ensures.value came;
       goes_on = c.read_held.ensures.finished ∙ (ap (λ (x : Feed). x.eof) e ∙ c.pieces.invariant.goes_on);
     }
 
@@ -49,7 +59,10 @@ returns g c =
     let f = feed_of c.pieces.bytes.items c.pieces.cursor in
     let old = feed_of c.deref-2.result.now c.finish.new.self in
     let new = feed_of c.deref-2.result.now c.read_held-2.new.cursor in
-    let e : old ≡ finished f = ap (λ (x : List ℕ). feed_of x c.finish.new.self) c.deref-2.ensures.value ∙ ap (feed_of c.pieces.bytes.items) c.finish.ensures in
+    let e : old ≡ finished f = ap (λ (x : List ℕ). feed_of x c.finish.new.self) c.deref-2.ensures.value
+    ∙ ap (feed_of c.pieces.bytes.items) c.finish.ensures in
     let all = ap joined (take_all c.pieces.piece-index c.args.pieces.now c.pieces-test.false) in
-    let came = come_finished c.args.offset 3 (joined c.args.pieces.now) f old c.pieces.events.items e (subst (λ (x : List ℕ). HasCome c.args.offset 3 x f c.pieces.events.items) all c.pieces.invariant.comes) in
-    ended_last c.args.offset 3 (joined c.args.pieces.now) old new c.pieces.events.items c.read_held-2.new.events.items c.in_ok-read_held-2.field-0 came c.requires (ap (λ (x : Feed). x.eof) e) c.in_ok-read_held-2.ensures.reads
+    let came = come_finished c.args.offset all_features (joined c.args.pieces.now) f old c.pieces.events.items e
+    (subst (λ (x : List ℕ). HasCome c.args.offset all_features x f c.pieces.events.items) all c.pieces.invariant.comes) in
+    ended_last c.args.offset all_features (joined c.args.pieces.now) old new c.pieces.events.items c.read_held-2.new.events.items
+    c.in_ok-read_held-2.field-0 came c.requires (ap (λ (x : Feed). x.eof) e) c.in_ok-read_held-2.ensures.reads

@@ -12,7 +12,12 @@ parts-init g c =
     let bytes = c.args.bytes.now in
     let cursor = c.over_all-cursor.result in
     record {
-      comes = ([], nothing_left c.args.keep_names bytes (feed_of bytes cursor) (c.over_all-cursor.ensures.parser ∙ c.new.ensures) (ap (λ (n : ℕ). drop n bytes) c.over_all-cursor.ensures.mark), sym (append-nil c.args.left.now.items));
+      comes = (
+        [],
+        nothing_left c.args.keep_names bytes (feed_of bytes cursor) (c.over_all-cursor.ensures.parser ∙ c.new.ensures)
+            (ap (λ (n : ℕ). drop n bytes) c.over_all-cursor.ensures.mark),
+        sym (append-nil c.args.left.now.items),
+      );
       finished = c.over_all-cursor.ensures.finished;
     }
 
@@ -29,10 +34,16 @@ parts-preserved-else-is_err g c =
     let new = feed_of bytes c.next_part.new.cursor in
     let (more, h, all) = c.parts.invariant.comes in
     let part = c.in_ok-part.part.bytes.now in
-    let came = subst (λ (x : Fate). FateComes c.args.keep_names bytes h.0 part x new) c.in-Stays.is (c.in_ok-part.ensures.takes bytes h.0 h.1 c.requires) in
+    let came = subst (λ (x : Fate). FateComes c.args.keep_names bytes h.0 part x new) c.in-Stays.is
+    (c.in_ok-part.ensures.takes bytes h.0 h.1 c.requires) in
     let put : c.extend_from_slice.new.self.items ≡ c.parts.left.items ++ part = grind (arith, common_steps) in
     record {
-      comes = (more ++ part, stays_left c.args.keep_names bytes more old new h part came, put ∙ (ap (λ (x : List ℕ). x ++ part) all ∙ append_assoc c.args.left.now.items more part));
+      comes = (
+        more ++ part,
+        stays_left c.args.keep_names bytes more old new h part came,
+        put
+            ∙ (ap (λ (x : List ℕ). x ++ part) all ∙ append_assoc c.args.left.now.items more part),
+      );
       finished = c.in_ok-part.ensures.finished;
     }
 
@@ -43,7 +54,8 @@ parts-preserved g c =
     let new = feed_of bytes c.next_part.new.cursor in
     let (more, h, all) = c.parts.invariant.comes in
     let part = c.in_ok-part.part.bytes.now in
-    let came = subst (λ (x : Fate). FateComes c.args.keep_names bytes h.0 part x new) c.in-Goes.is (c.in_ok-part.ensures.takes bytes h.0 h.1 c.requires) in
+    let came = subst (λ (x : Fate). FateComes c.args.keep_names bytes h.0 part x new) c.in-Goes.is
+    (c.in_ok-part.ensures.takes bytes h.0 h.1 c.requires) in
     record { comes = (more, goes_left c.args.keep_names bytes more old new h part came, all); finished = c.in_ok-part.ensures.finished }
 
 pub returns-in-End : goal.returns-in-End
@@ -53,5 +65,6 @@ returns-in-End g c =
     let new = feed_of bytes c.next_part.new.cursor in
     let (more, h, all) = c.parts.invariant.comes in
     let part = c.in_ok-part.part.bytes.now in
-    let came = subst (λ (x : Fate). FateComes c.args.keep_names bytes h.0 part x new) c.in-End.is (c.in_ok-part.ensures.takes bytes h.0 h.1 c.requires) in
+    let came = subst (λ (x : Fate). FateComes c.args.keep_names bytes h.0 part x new) c.in-End.is
+    (c.in_ok-part.ensures.takes bytes h.0 h.1 c.requires) in
     (more, all_left c.args.keep_names bytes more old new h part came, all)

@@ -6,7 +6,8 @@ use Rattle.wasm_feed.proofs.stripping.copy_left.Given as goal
 -- what is left of the parts that came was put after the bytes
 abbrev pub invariant-parts : goal.invariant-parts
 invariant-parts g l = record {
-  comes : (more : List ℕ) × HasLeft l.fn.keep_names l.fn.bytes (feed_of l.fn.bytes l.cursor) more × (l.left.items ≡ l.fn.left.items ++ more);
+  comes : (more : List ℕ) × HasLeft l.fn.keep_names l.fn.bytes (feed_of l.fn.bytes l.cursor) more
+      × (l.left.items ≡ l.fn.left.items ++ more);
   finished : l.cursor.is_finished ≡ true;
 }
 

@@ -1,7 +1,7 @@
 use Rattle.std.proofs.Common.{ℕ, [], ◌++◌, ◌∙◌, ◌<◌, ◌^◌, List, length, get_or, drop, refl, ap, subst, arith, length-append}
 use Rattle.std.proofs.lemmas.List.Elements.{All-from_get_or}
 use Rattle.std.proofs.lemmas.Result.{err_from_is_err_and}
-use Rattle.wasm_parser.specs.Reading.{Stream}
+use Rattle.wasm_grammar.specs.Reading.{Stream}
 use Rattle.wasm_feed.specs.Cursors.{feed_of}
 use Rattle.wasm_feed.specs.Strips.{FateComes}
 use Rattle.wasm_feed.specs.declared.stripping.Fate.{Fate}
@@ -13,7 +13,12 @@ parts-init c =
     let bytes = c.args.bytes.now in
     let cursor = c.over_all-cursor.result in
     record {
-      comes = ([], nothing_left c.args.keep_names bytes (feed_of bytes cursor) (c.over_all-cursor.ensures.parser ∙ c.new.ensures) (ap (λ (n : ℕ). drop n bytes) c.over_all-cursor.ensures.mark), refl);
+      comes = (
+        [],
+        nothing_left c.args.keep_names bytes (feed_of bytes cursor) (c.over_all-cursor.ensures.parser ∙ c.new.ensures)
+            (ap (λ (n : ℕ). drop n bytes) c.over_all-cursor.ensures.mark),
+        refl,
+      );
       finished = c.over_all-cursor.ensures.finished;
     }
 
@@ -40,7 +45,8 @@ overflow_add-count c =
     let new = feed_of bytes c.next_part.new.cursor in
     let (left, h, n) = c.parts.invariant.comes in
     let part = c.in_ok-part.part.bytes.now in
-    let came = subst (λ (x : Fate). FateComes c.args.keep_names bytes h.0 part x new) c.in-Stays.is (c.in_ok-part.ensures.takes bytes h.0 h.1 c.requires) in
+    let came = subst (λ (x : Fate). FateComes c.args.keep_names bytes h.0 part x new) c.in-Stays.is
+    (c.in_ok-part.ensures.takes bytes h.0 h.1 c.requires) in
     let within = no_longer c.args.keep_names bytes new (left ++ part) (stays_left c.args.keep_names bytes left old new h part came) in
     omega (arith, within, n, c.requires, length-append left part)
 
@@ -51,8 +57,12 @@ parts-preserved-in-Stays c =
     let new = feed_of bytes c.next_part.new.cursor in
     let (left, h, n) = c.parts.invariant.comes in
     let part = c.in_ok-part.part.bytes.now in
-    let came = subst (λ (x : Fate). FateComes c.args.keep_names bytes h.0 part x new) c.in-Stays.is (c.in_ok-part.ensures.takes bytes h.0 h.1 c.requires) in
-    record { comes = (left ++ part, stays_left c.args.keep_names bytes left old new h part came, omega (arith, n, length-append left part)); finished = c.in_ok-part.ensures.finished }
+    let came = subst (λ (x : Fate). FateComes c.args.keep_names bytes h.0 part x new) c.in-Stays.is
+    (c.in_ok-part.ensures.takes bytes h.0 h.1 c.requires) in
+    record {
+      comes = (left ++ part, stays_left c.args.keep_names bytes left old new h part came, omega (arith, n, length-append left part));
+      finished = c.in_ok-part.ensures.finished;
+    }
 
 pub parts-preserved : goal.parts-preserved
 parts-preserved c =
@@ -61,7 +71,8 @@ parts-preserved c =
     let new = feed_of bytes c.next_part.new.cursor in
     let (left, h, n) = c.parts.invariant.comes in
     let part = c.in_ok-part.part.bytes.now in
-    let came = subst (λ (x : Fate). FateComes c.args.keep_names bytes h.0 part x new) c.in-Goes.is (c.in_ok-part.ensures.takes bytes h.0 h.1 c.requires) in
+    let came = subst (λ (x : Fate). FateComes c.args.keep_names bytes h.0 part x new) c.in-Goes.is
+    (c.in_ok-part.ensures.takes bytes h.0 h.1 c.requires) in
     record { comes = (left, goes_left c.args.keep_names bytes left old new h part came, n); finished = c.in_ok-part.ensures.finished }
 
 pub returns-in-End-clause-counts : goal.returns-in-End-clause-counts
@@ -71,5 +82,6 @@ returns-in-End-clause-counts c =
     let new = feed_of bytes c.next_part.new.cursor in
     let (left, h, n) = c.parts.invariant.comes in
     let part = c.in_ok-part.part.bytes.now in
-    let came = subst (λ (x : Fate). FateComes c.args.keep_names bytes h.0 part x new) c.in-End.is (c.in_ok-part.ensures.takes bytes h.0 h.1 c.requires) in
+    let came = subst (λ (x : Fate). FateComes c.args.keep_names bytes h.0 part x new) c.in-End.is
+    (c.in_ok-part.ensures.takes bytes h.0 h.1 c.requires) in
     (left, all_left c.args.keep_names bytes left old new h part came, n)

@@ -7,26 +7,34 @@ use Rattle.wasm_feed.proofs.Adding.{steps_in}
 use Rattle.wasm_feed.proofs.LeftParts.{fault_comes, part_comes, part_goes_on}
 use Rattle.wasm_feed.proofs.stripping.next_part.Goals as goal
 
-pub returns-in_err-advance-clause-takes : goal.returns-in_err-advance-clause-takes
-returns-in_err-advance-clause-takes c stream events a l =
+pub returns-in_err-parse_next-clause-takes : goal.returns-in_err-parse_next-clause-takes
+returns-in_err-parse_next-clause-takes c stream events a l =
     let bytes = c.args.bytes.now in
-    let made = c.in_err-advance.ensures in
-    let s = steps_in bytes c.args.cursor.now c.advance.new.cursor (Err c.in_err-advance.field-0.0) made.parses made.shows made.finished made.wants in
+    let made = c.in_err-parse_next.ensures in
+    let s = steps_in bytes c.args.cursor.now c.parse_next.new.cursor (Err c.in_err-parse_next.field-0.0) made.parses made.shows
+    made.finished made.wants in
     let e = err_from_is_err_and c.from_residual.result c.from_residual.ensures.1 in
-    rw (e.1, e.2) (fault_comes c.args.keep_names stream events (feed_of bytes c.args.cursor.now) (feed_of bytes c.advance.new.cursor) a l c.requires c.in_err-advance.field-0.0 s)
+    rw (e.1, e.2) (fault_comes c.args.keep_names stream events (feed_of bytes c.args.cursor.now) (feed_of bytes c.parse_next.new.cursor) a l
+    c.requires c.in_err-parse_next.field-0.0 s)
 
 pub returns-clause-takes : goal.returns-clause-takes
 returns-clause-takes c stream events a l =
     let bytes = c.args.bytes.now in
-    let made = c.in_ok-advance.ensures in
-    let s = steps_in bytes c.args.cursor.now c.advance.new.cursor (Ok c.in_ok-advance.field-0) made.parses made.shows made.finished made.wants in
-    let parsed = subst (λ (x : Step). Steps (feed_of bytes c.args.cursor.now) (Ok x) (feed_of bytes c.advance.new.cursor)) c.in-Parsed.is s in
-    part_comes c.args.keep_names stream events (feed_of bytes c.args.cursor.now) (feed_of bytes c.advance.new.cursor) a l c.requires c.in-Parsed.bytes c.in-Parsed.payload c.fate_of.result parsed c.fate_of.ensures
+    let made = c.in_ok-parse_next.ensures in
+    let s = steps_in bytes c.args.cursor.now c.parse_next.new.cursor (Ok c.in_ok-parse_next.field-0) made.parses made.shows made.finished
+    made.wants in
+    let parsed = subst (λ (x : Step). Steps (feed_of bytes c.args.cursor.now) (Ok x) (feed_of bytes c.parse_next.new.cursor)) c.in-Parsed.is
+    s in
+    part_comes c.args.keep_names stream events (feed_of bytes c.args.cursor.now) (feed_of bytes c.parse_next.new.cursor) a l c.requires
+    c.in-Parsed.bytes c.in-Parsed.payload c.fate_of.result parsed c.fate_of.ensures
 
 pub returns-clause-goes_on : goal.returns-clause-goes_on
 returns-clause-goes_on c =
     let bytes = c.args.bytes.now in
-    let made = c.in_ok-advance.ensures in
-    let s = steps_in bytes c.args.cursor.now c.advance.new.cursor (Ok c.in_ok-advance.field-0) made.parses made.shows made.finished made.wants in
-    let parsed = subst (λ (x : Step). Steps (feed_of bytes c.args.cursor.now) (Ok x) (feed_of bytes c.advance.new.cursor)) c.in-Parsed.is s in
-    part_goes_on c.args.keep_names (feed_of bytes c.args.cursor.now) (feed_of bytes c.advance.new.cursor) c.in-Parsed.bytes c.in-Parsed.payload c.fate_of.result parsed c.fate_of.ensures
+    let made = c.in_ok-parse_next.ensures in
+    let s = steps_in bytes c.args.cursor.now c.parse_next.new.cursor (Ok c.in_ok-parse_next.field-0) made.parses made.shows made.finished
+    made.wants in
+    let parsed = subst (λ (x : Step). Steps (feed_of bytes c.args.cursor.now) (Ok x) (feed_of bytes c.parse_next.new.cursor)) c.in-Parsed.is
+    s in
+    part_goes_on c.args.keep_names (feed_of bytes c.args.cursor.now) (feed_of bytes c.parse_next.new.cursor) c.in-Parsed.bytes
+    c.in-Parsed.payload c.fate_of.result parsed c.fate_of.ensures

@@ -21,10 +21,12 @@ returns-in_err-copy_left g c =
     let counted = c.in_ok-count.ensures in
     let (left, reads, count) = counted.counts in
     let e = err_from_is_err_and c.from_residual-in_err-copy_left.result c.from_residual-in_err-copy_left.ensures.1 in
-    rw (e.1, e.2) (refused_copy c.args.keep_names c.args.bytes.now left c.in_err-copy_left.field-0.0 counted.stream reads c.in_err-copy_left.ensures)
+    rw (e.1, e.2) (refused_copy c.args.keep_names c.args.bytes.now left c.in_err-copy_left.field-0.0 counted.stream reads
+    c.in_err-copy_left.ensures)
 
 pub returns : goal.returns
 returns g c =
     let (left, reads, all) = c.in_ok-copy_left.ensures in
     let same : c.copy_left.new.left.items ≡ left = all ∙ ap (λ (x : List ℕ). x ++ left) c.in-Ok.ensures.empty in
-    strips_so c.args.keep_names c.args.bytes.now c.copy_left.new.left.items c.in_ok-count.ensures.stream (subst (ReadsLeft c.args.keep_names c.args.bytes.now) (sym same) reads)
+    strips_so c.args.keep_names c.args.bytes.now c.copy_left.new.left.items c.in_ok-count.ensures.stream
+    (subst (ReadsLeft c.args.keep_names c.args.bytes.now) (sym same) reads)

@@ -1,6 +1,6 @@
 use Rattle.std.proofs.Common.{ℕ, List, refl, subst}
 use Rattle.std.proofs.lemmas.Result.{err_from_is_err_and}
-use Rattle.wasm_parser.specs.Reading.{Stream}
+use Rattle.wasm_grammar.specs.Reading.{Stream}
 use Rattle.wasm_feed.specs.Stripped.{EndsWithFault}
 use Rattle.wasm_feed.specs.Strips.{ReadsLeft}
 use Rattle.wasm_feed.proofs.StripLaws.{left_as_it_was, strips_in_place}

@@ -13,6 +13,9 @@ instructions-init c = record {
 
 pub instructions-preserved : goal.instructions-preserved
 instructions-preserved c = record {
-  left = next_instruction c.instructions.invariant.left.most (place c.instructions.reader) _ c.in_ok-opcode.opcode (place c.read_u8.new.self) (place c.pass_operands.new.reader) c.instructions.invariant.left.fewer c.instructions.invariant.left.so_far (search rules) (search rules) (search rules) (fewer_to_come c.read_u8.new.self c.pass_operands.new.reader c.pass_operands.ensures.keeps);
+  left = next_instruction c.instructions.invariant.left.most (place c.instructions.reader) _ c.in_ok-opcode.opcode
+      (place c.read_u8.new.self) (place c.pass_operands.new.reader) c.instructions.invariant.left.fewer c.instructions.invariant.left.so_far
+      (search rules) (search rules) (search rules) (fewer_to_come c.read_u8.new.self c.pass_operands.new.reader
+      c.pass_operands.ensures.keeps);
   keeps = search rules;
 }

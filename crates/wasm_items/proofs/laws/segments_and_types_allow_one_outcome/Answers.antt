@@ -1,7 +1,8 @@
 use Rattle.wasm_base.proofs.OneOutcome.{reads_as_one, reads_determine}
 use Rattle.wasm_items.specs.Data.{data_parts, data_at}
 use Rattle.wasm_items.specs.Elements.{element_at}
-use Rattle.wasm_items.specs.Groups.{storage_type_at, field_type_at, function_parts, func_type_at, composite_parts, composite_type_at, subtype_parts, subtype_at, rec_group_parts, rec_group_at}
+use Rattle.wasm_items.specs.RecGroups.{storage_type_at, field_type_at, function_parts, func_type_at, composite_parts, composite_type_at}
+use Rattle.wasm_items.specs.RecGroups.{subtype_parts, subtype_at, rec_group_parts, rec_group_at}
 use Rattle.wasm_items.proofs.laws.segments_and_types_allow_one_outcome.Goals as goal
 
 pub returns-clause-element : goal.returns-clause-element

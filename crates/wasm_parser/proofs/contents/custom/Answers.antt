@@ -1,19 +1,22 @@
 use Rattle.std.proofs.Common.{Err, sym, ap, ◌∙◌}
 use Rattle.std.proofs.lemmas.Result.{err_from_is_err_and}
 use Rattle.wasm_base.specs.Window.{place}
-use Rattle.wasm_parser.specs.Content.{custom}
+use Rattle.wasm_grammar.specs.Content.{custom}
 use Rattle.wasm_parser.proofs.Framed.{whole_missing, custom_read, custom_refused}
 use Rattle.wasm_parser.proofs.contents.custom.Goals as goal
 
 pub returns-in_err-window : goal.returns-in_err-window
 returns-in_err-window c =
     let e = err_from_is_err_and c.from_residual.result c.from_residual.ensures.1 in
-    λ context. rw (e.1, e.2) (whole_missing context custom c.args.id c.args.size (place c.args.reader.now) _ _ c.in_err-window.ensures.gives c.in_err-window.ensures.hints)
+    λ context. rw (e.1, e.2) (whole_missing context custom c.args.id c.args.size (place c.args.reader.now) _ _ c.in_err-window.ensures.gives
+    c.in_err-window.ensures.hints)
 
 pub returns-in-Err : goal.returns-in-Err
 returns-in-Err c =
     let same = c.without_needed_hint.ensures.report in
-    λ context. custom_refused context c.args.id c.args.size (place c.args.reader.now) c.in_ok-window.window _ _ _ c.in_ok-window.ensures.gives (c.in-Err.ensures.reads ∙ ap Err (sym same)) c.without_needed_hint.ensures.hint
+    λ context. custom_refused context c.args.id c.args.size (place c.args.reader.now) c.in_ok-window.window _ _ _
+    c.in_ok-window.ensures.gives (c.in-Err.ensures.reads ∙ ap Err (sym same)) c.without_needed_hint.ensures.hint
 
 pub returns-in-Ok : goal.returns-in-Ok
-returns-in-Ok c = λ context. custom_read context c.args.id c.args.size (place c.args.reader.now) c.in_ok-window.window _ c.in-Ok.section c.in_ok-window.ensures.gives c.in-Ok.ensures.reads
+returns-in-Ok c = λ context. custom_read context c.args.id c.args.size (place c.args.reader.now) c.in_ok-window.window _ c.in-Ok.section
+    c.in_ok-window.ensures.gives c.in-Ok.ensures.reads

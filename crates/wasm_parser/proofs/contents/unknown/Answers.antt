@@ -1,14 +1,16 @@
 use Rattle.std.proofs.Common.{refl}
 use Rattle.std.proofs.lemmas.Result.{err_from_is_err_and}
 use Rattle.wasm_base.specs.Window.{place}
-use Rattle.wasm_parser.specs.Content.{unknown}
+use Rattle.wasm_grammar.specs.Content.{unknown}
 use Rattle.wasm_parser.proofs.Framed.{whole_missing, unknown_read}
 use Rattle.wasm_parser.proofs.contents.unknown.Goals as goal
 
 pub returns-in_err-window : goal.returns-in_err-window
 returns-in_err-window c =
     let e = err_from_is_err_and c.from_residual.result c.from_residual.ensures.1 in
-    λ context. rw (e.1, e.2) (whole_missing context unknown c.args.id c.args.size (place c.args.reader.now) _ _ c.in_err-window.ensures.gives c.in_err-window.ensures.hints)
+    λ context. rw (e.1, e.2) (whole_missing context unknown c.args.id c.args.size (place c.args.reader.now) _ _
+    c.in_err-window.ensures.gives c.in_err-window.ensures.hints)
 
 pub returns : goal.returns
-returns c = λ context. unknown_read context c.args.id c.args.size (place c.args.reader.now) c.in_ok-window.window _ _ c.in_ok-window.ensures.gives (rw (c.remaining_buffer.ensures, c.range.ensures) (refl, tt))
+returns c = λ context. unknown_read context c.args.id c.args.size (place c.args.reader.now) c.in_ok-window.window _ _
+    c.in_ok-window.ensures.gives (rw (c.remaining_buffer.ensures, c.range.ensures) (refl, tt))

@@ -13,12 +13,20 @@ returns-in_err-bits c =
 
 pub overflow_add-start : goal.overflow_add-start
 overflow_add-start c =
-    let h : ReadHeader (place c.args.reader.now) c.in_ok-bits.bits _ = header_read (place c.args.reader.now) c.in_ok-bits.bits _ c.in_ok-bits.ensures.gives in
+    let h : ReadHeader (place c.args.reader.now) c.in_ok-bits.bits _ =
+    header_read (place c.args.reader.now) c.in_ok-bits.bits _ c.in_ok-bits.ensures.gives in
     omega (arith, h.there, c.original_position-start.ensures.fits)
 
 pub returns-in-Some : goal.returns-in-Some
-returns-in-Some c = header_report (place c.args.reader.now) c.in_ok-bits.bits (place c.read_header_version.new.self) c.in-Some.encoding _ c.in_ok-bits.ensures.gives c.in-Some.ensures (rw (c.original_position-start.ensures.offset, c.original_position.ensures.offset) (refl, tt))
+returns-in-Some c = header_report (place c.args.reader.now) c.in_ok-bits.bits (place c.read_header_version.new.self) c.in-Some.encoding _
+    c.in_ok-bits.ensures.gives c.in-Some.ensures (rw (c.original_position-start.ensures.offset, c.original_position.ensures.offset)
+    (refl, tt))
 
 pub returns-in-None : goal.returns-in-None
-returns-in-None c = header_unnamed (place c.args.reader.now) c.in_ok-bits.bits (place c.read_header_version.new.self) c.with_number.result c.in_ok-bits.ensures.gives c.in-None.ensures
-    (c.with_number.ensures.report ∙ (λ i. record { fault = (c.new.ensures.report i).fault; offset = ((c.new.ensures.report ∙ ap (λ o. at_offset UnknownVersion (o + 4)) c.original_position-start.ensures.offset) i).offset; number = Some (c.from.ensures i) })) (c.with_number.ensures.hint ∙ c.new.ensures.hint)
+returns-in-None c = header_unnamed (place c.args.reader.now) c.in_ok-bits.bits (place c.read_header_version.new.self) c.with_number.result
+    c.in_ok-bits.ensures.gives c.in-None.ensures
+    (c.with_number.ensures.report ∙ (λ i. record {
+      fault = (c.new.ensures.report i).fault;
+      offset = ((c.new.ensures.report ∙ ap (λ o. at_offset UnknownVersion (o + 4)) c.original_position-start.ensures.offset) i).offset;
+      number = Some (c.from.ensures i);
+    })) (c.with_number.ensures.hint ∙ c.new.ensures.hint)

@@ -1,4 +1,4 @@
-use Rattle.wasm_parser.proofs.Undecided.{one_comes, enough_is_decided, short_is_undecided}
+use Rattle.wasm_grammar.proofs.endings.Undecided.{one_comes, enough_is_decided, short_is_undecided}
 use Rattle.wasm_parser.proofs.laws.short_is_undecided.Goals as goal
 
 pub returns-clause-next : goal.returns-clause-next

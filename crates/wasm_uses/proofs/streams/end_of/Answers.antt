@@ -13,19 +13,23 @@ returns-in-End c =
 pub split_at-requires : goal.split_at-requires
 split_at-requires c =
     let small : length c.args.bytes.now < 2 ^ 64 = omega arith in
-    (moved c.args.bytes.now _ _ _ c.parts.invariant small _ _ (rw c.in-Ok-Parsed.field-0-is at c.in-Ok-Parsed.ensures.answers) c.in_default.not-End).there
+    (moved c.args.bytes.now _ _ _ c.parts.invariant small _ _ (rw c.in-Ok-Parsed.field-0-is at c.in-Ok-Parsed.ensures.answers)
+    c.in_default.not-End).there
 
 pub parts-smaller : goal.parts-smaller
 parts-smaller c =
     let small : length c.args.bytes.now < 2 ^ 64 = omega arith in
-    let next = moved c.args.bytes.now _ _ _ c.parts.invariant small _ _ (rw c.in-Ok-Parsed.field-0-is at c.in-Ok-Parsed.ensures.answers) c.in_default.not-End in
-    let goal_is : length c.split_at.result.1.now < length c.parts.rest.now = rw c.split_at.ensures.back (omega (arith, next.there, next.some, length-drop c.in-Ok-Parsed.consumed c.parts.rest.now)) in
+    let next = moved c.args.bytes.now _ _ _ c.parts.invariant small _ _ (rw c.in-Ok-Parsed.field-0-is at c.in-Ok-Parsed.ensures.answers)
+    c.in_default.not-End in
+    let goal_is : length c.split_at.result.1.now < length c.parts.rest.now =
+    rw c.split_at.ensures.back (omega (arith, next.there, next.some, length-drop c.in-Ok-Parsed.consumed c.parts.rest.now)) in
     goal_is
 
 pub parts-preserved : goal.parts-preserved
 parts-preserved c =
     let small : length c.args.bytes.now < 2 ^ 64 = omega arith in
-    let next = moved c.args.bytes.now _ _ _ c.parts.invariant small _ _ (rw c.in-Ok-Parsed.field-0-is at c.in-Ok-Parsed.ensures.answers) c.in_default.not-End in
+    let next = moved c.args.bytes.now _ _ _ c.parts.invariant small _ _ (rw c.in-Ok-Parsed.field-0-is at c.in-Ok-Parsed.ensures.answers)
+    c.in_default.not-End in
     rw c.split_at.ensures.back next.passed
 
 pub returns-in-Err : goal.returns-in-Err

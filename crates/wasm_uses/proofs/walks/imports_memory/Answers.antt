@@ -5,7 +5,12 @@ use Rattle.wasm_uses.proofs.Importing.{none_left, fault_came, memory_came, other
 use Rattle.wasm_uses.proofs.walks.imports_memory.Goals as goal
 
 pub loop-import-init : goal.loop-import-init
-loop-import-init c = record { can = tt; finite = tt; left = ap memory_in (sym (c.into_iter-import-iterator.ensures.into_iter_gives ∙ c.into_imports-import-items.ensures)) }
+loop-import-init c = record {
+  can = tt;
+  finite = tt;
+  left = ap memory_in
+      (sym (c.into_iter-import-iterator.ensures.into_iter_gives ∙ c.into_imports-import-items.ensures));
+}
 
 pub returns-in_err-import : goal.returns-in_err-import
 returns-in_err-import c =
@@ -21,7 +26,12 @@ returns-in-Memory c =
 pub loop-import-preserved : goal.loop-import-preserved
 loop-import-preserved c =
     let next = rw c.in_ok-import.was at c.in-Some.ensures.steps in
-    record { can = tt; finite = tt; left = c.loop-import.invariant.left ∙ other_came c.loop-import.import-iterator c.next.new.self c.in_ok-import.field-0 next c.in_default.not-Memory }
+    record {
+      can = tt;
+      finite = tt;
+      left = c.loop-import.invariant.left
+          ∙ other_came c.loop-import.import-iterator c.next.new.self c.in_ok-import.field-0 next c.in_default.not-Memory;
+    }
 
 pub returns : goal.returns
 returns c = c.loop-import.invariant.left ∙ none_left c.loop-import.import-iterator c.next.new.self c.in-None.ensures.steps

@@ -7,12 +7,14 @@ pub returns-in_err-number : goal.returns-in_err-number
 returns-in_err-number c =
     let next = rw c.in_err-number.was at c.in-Some.ensures.steps in
     let p = err_from_is_err_and c.from_residual.result c.from_residual.ensures.1 in
-    rw (p.1, p.2) (at_a_fault _ c.loop-number.number-iterator c.next.new.self c.loop-number.total _ c.loop-number.invariant.so_far c.loop-number.invariant.going next)
+    rw (p.1, p.2) (at_a_fault _ c.loop-number.number-iterator c.next.new.self c.loop-number.total _ c.loop-number.invariant.so_far
+    c.loop-number.invariant.going next)
 
 pub loop-number-preserved : goal.loop-number-preserved
 loop-number-preserved c =
     let next = rw c.in_ok-number.was at c.in-Some.ensures.steps in
-    let step = after_number _ c.loop-number.number-iterator c.next.new.self c.loop-number.total c.in_ok-number.field-0 c.loop-number.invariant.so_far c.loop-number.invariant.going next in
+    let step = after_number _ c.loop-number.number-iterator c.next.new.self c.loop-number.total c.in_ok-number.field-0
+    c.loop-number.invariant.so_far c.loop-number.invariant.going next in
     record {
       can = tt;
       finite = tt;

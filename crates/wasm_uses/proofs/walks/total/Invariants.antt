@@ -9,5 +9,6 @@ invariant-loop-number l = record {
   finite : goal.iterator-loop-number.is_finite l.number-iterator;
   going : l.number-iterator.ended ≡ false;
   room : l.total + l.number-iterator.left * 2 ^ 32 ≤ 2 ^ 64 - 2 ^ 32;
-  so_far : total_at l.fn.numbers.count (place l.fn.numbers.reader) ≡ plus l.total (total_at l.number-iterator.left (place l.number-iterator.reader));
+  so_far : total_at l.fn.numbers.count (place l.fn.numbers.reader)
+      ≡ plus l.total (total_at l.number-iterator.left (place l.number-iterator.reader));
 }

@@ -1,4 +1,9 @@
-use Rattle.wasm_feed.proofs.ByHand.{[], ◌∷◌, List, Val, refl, ap, subst, proved, leaves, id⊢, ftrue, flft, fres, named, fact, fact_i, emp, tables, ‵, raw, ◌⊛◌, some, later, ◌$◌, ◌∵◌, !, qed, by, move, keep, drop, use0, use1, use2, split, join, pick, await, rewrite, fjoin, fsplit, enter, addr, stop, no_more, and_then, returns, alloc_all, pass_all, free_all, look_at, get, through, sets, lands_as, shows, Is, mut_vals, mut_Tells, no, plain, named_lft, mut_ref_to, nothing, heard, peeks, only, calls_at, Lasts, lasts, triple_of, Stays, stay_dropped, Goes-spent_ref, framed, left, right, followed, ◌≡◌}
+use Rattle.wasm_feed.proofs.ByHand.{[], ◌∷◌, List, Val, refl, ap, subst, proved, leaves, id⊢, ftrue, flft, fres, named, fact, fact_i, emp}
+use Rattle.wasm_feed.proofs.ByHand.{tables, ‵, raw, ◌⊛◌, some, later, ◌$◌, ◌∵◌, !, qed, by, move, keep, drop, use0, use1, use2, split, join}
+use Rattle.wasm_feed.proofs.ByHand.{pick, await, rewrite, fjoin, fsplit, enter, addr, stop, no_more, and_then, returns, alloc_all, pass_all}
+use Rattle.wasm_feed.proofs.ByHand.{free_all, look_at, get, through, sets, lands_as, shows, Is, mut_vals, mut_Tells, no, plain, named_lft}
+use Rattle.wasm_feed.proofs.ByHand.{mut_ref_to, nothing, heard, peeks, only, calls_at, Lasts, lasts, triple_of, Stays, stay_dropped}
+use Rattle.wasm_feed.proofs.ByHand.{Goes-spent_ref, framed, left, right, followed, ◌≡◌}
 use Rattle.wasm_feed.proofs.Stepping.{gives, steps_from}
 use Rattle.wasm_feed.proofs.Resting.{rests_close}
 use Rattle.std.specs.Prelude.{Result}
@@ -46,23 +51,30 @@ step_spec 𝓤 𝓛 𝓜 𝓡 wired =
     qed 𝓛 (raw (G.pre z) ∷ []) ∵ enter ! _ _ _ _ _ $
     alloc_all ! (λ l. pass_all ! refl ((tt, tt), tt) $
     sets ! (addr ! (through ! refl (stop !))) refl (tt, tt) $
-    calls_at ! fm G (open_met 𝓤 𝓛 𝓜 𝓡 (code.calls-wasm_feed::feeder::Feeder::open 𝓡.env wired)) z (and_then ! (get ! refl) (no_more !)) (λ v.
+    calls_at ! fm G (open_met 𝓤 𝓛 𝓜 𝓡 (code.calls-wasm_feed::feeder::Feeder::open 𝓡.env wired)) z (and_then ! (get ! refl) (no_more !))
+    (λ v.
     use1 𝓛 (later (some (λ (t : Opened). (tokens ⊛ ‵ (Tr.own_val t (v ∷ []))) ⊛
-    some (λ (ws : Lasts g.ended κs a). ‵ (lasts g.ended κs a ws) ⊛ ‵ (LendsCursor a.0 t) ⊛ raw (fact 𝓤 (feed_of t.bytes.now t.cursor.now ≡ old)))))) (id⊢ 𝓤 _) $
-    await ! tt $ pick ! (λ t. split ! $ split ! $ move ! (2 ∷ []) $ pick ! (λ ws. split ! $ drop ! $ split ! $ move ! (1 ∷ []) $ heard ! _ (λ opens.
+    some (λ (ws : Lasts g.ended κs a). ‵ (lasts g.ended κs a ws) ⊛ ‵ (LendsCursor a.0 t) ⊛ raw
+    (fact 𝓤 (feed_of t.bytes.now t.cursor.now ≡ old)))))) (id⊢ 𝓤 _) $
+    await ! tt $ pick ! (λ t. split ! $ split ! $ move ! (2 ∷ []) $ pick !
+    (λ ws. split ! $ drop ! $ split ! $ move ! (1 ∷ []) $ heard ! _ (λ opens.
     -- [the lent cursor; the tokens; what is opened]
     move ! (2 ∷ []) $ peeks ! Tr _ (shows 𝓛 Tr) t (v ∷ []) (λ is.
     let word = (opened-laws.lowers ℓ ℓ).lowered t in let e = (opened-laws.lowers ℓ ℓ).val_is t (v ∷ []) is in
     let y : K.Ghost = (((κ, (κ, tt)), (ql, (qr, tt)), tt, (t, tt), (word ∷ [], tt)), tt) in
     rewrite ! 0 (λ (ws' : List Val). ‵ (Tr.own_val t ws')) e refl $
-    lands_as ! (ap only e) refl (((opened-laws.the_row_laws ℓ ℓ).lawful 𝓛).typed t (word ∷ []) (subst (λ (ws' : List Val). Is Tr t ws') e is)).0 $
+    lands_as ! (ap only e) refl (((opened-laws.the_row_laws ℓ ℓ).lawful 𝓛).typed t (word ∷ [])
+    (subst (λ (ws' : List Val). Is Tr t ws') e is)).0 $
     -- [what is opened; the lent cursor; the tokens]
-    nothing ! $ move ! (1 ∷ 0 ∷ []) $ join ! $ move ! (2 ∷ []) $ split ! $ use1 𝓛 (‵ (flft κ ql) ⊛ ‵ (flft κ qr)) (𝓛.lfts.lft_split κ q) $ split ! $
+    nothing ! $ move ! (1 ∷ 0 ∷ []) $ join ! $ move ! (2 ∷ []) $ split ! $ use1 𝓛 (‵ (flft κ ql) ⊛ ‵ (flft κ qr)) (𝓛.lfts.lft_split κ q) $
+    split ! $
     move ! (1 ∷ 2 ∷ []) $ join ! $ move ! (1 ∷ 0 ∷ []) $ join ! $ join ! $
     nothing ! $ move ! (1 ∷ 0 ∷ []) $ use2 𝓛 (raw (K.pre y)) (id⊢ 𝓤 _) $
-    calls_at ! fm K (step_met 𝓤 𝓛 𝓜 𝓡 (code.calls-wasm_feed::feeder::Opened::step 𝓡.env wired)) y (and_then ! (get ! refl) (no_more !)) (λ u.
+    calls_at ! fm K (step_met 𝓤 𝓛 𝓜 𝓡 (code.calls-wasm_feed::feeder::Opened::step 𝓡.env wired)) y (and_then ! (get ! refl) (no_more !))
+    (λ u.
     use1 𝓛 (later (some (λ (x : Result Step Error). ((‵ (flft κ ql) ⊛ ‵ (flft κ qr) ⊛ ‵ ftrue) ⊛ ‵ (Rr.own_val x (u ∷ []))) ⊛
-    some (λ (ws' : Lasts h.ended y.0.0 (t, tt)). ‵ (lasts h.ended y.0.0 (t, tt) ws') ⊛ raw (fact 𝓤 (Steps (feed_of t.bytes.now t.cursor.now) x (feed_of t.bytes.now ws'.0.0))))))) (id⊢ 𝓤 _) $
+    some (λ (ws' : Lasts h.ended y.0.0 (t, tt)). ‵ (lasts h.ended y.0.0 (t, tt) ws') ⊛ raw
+    (fact 𝓤 (Steps (feed_of t.bytes.now t.cursor.now) x (feed_of t.bytes.now ws'.0.0))))))) (id⊢ 𝓤 _) $
     await ! tt $ pick ! (λ x. split ! $ split ! $ move ! (2 ∷ []) $ pick ! (λ ws'. split ! $
     fsplit ! $ fsplit ! $ fsplit ! $
     -- [the cursor's last value; its borrow; nothing; nothing; the step; the tokens; the answer; the lent cursor]
@@ -72,9 +84,11 @@ step_spec 𝓤 𝓛 𝓜 𝓡 wired =
     move ! (4 ∷ []) $ split ! $ move ! (1 ∷ []) $ split ! $ move ! (2 ∷ 0 ∷ []) $ use2 𝓛 (‵ (flft κ q)) (𝓛.lfts.lft_join κ q) $ join ! $
     -- [the tokens; the feeder's last value; the borrow; nothing; nothing; the answer]
     move ! (5 ∷ 0 ∷ 1 ∷ []) $ peeks ! Rr _ (shows 𝓛 Rr) x (u ∷ []) (λ is'.
-    lands_as ! refl refl (((result-laws.the_row_laws (step-row.the_row ℓ) error-row.the_row (step-laws.the_row_laws ℓ) error-laws.the_row_laws).lawful 𝓛).typed x (u ∷ []) is').0 $
+    lands_as ! refl refl (((result-laws.the_row_laws (step-row.the_row ℓ) error-row.the_row (step-laws.the_row_laws ℓ)
+    error-laws.the_row_laws).lawful 𝓛).typed x (u ∷ []) is').0 $
     returns ! (look_at ! 0 refl) $ free_all ! refl $
     move ! (2 ∷ []) $ use1 𝓛 (‵ (Rests R a.0 (Steps old x))) (rests_close 𝓛 R a.0 (Steps old x) last made) $
-    use0 𝓛 (raw (fact 𝓤 (GivesStep old.state old.eof old.held x))) (fact_i 𝓤 _ (emp 𝓤) (gives old x last made)) $ move ! (1 ∷ 0 ∷ []) $ join ! $
+    use0 𝓛 (raw (fact 𝓤 (GivesStep old.state old.eof old.held x))) (fact_i 𝓤 _ (emp 𝓤) (gives old x last made)) $ move ! (1 ∷ 0 ∷ []) $ join
+    ! $
     nothing ! $ nothing ! $ fjoin ! $ keep ! (3 ∷ 0 ∷ 2 ∷ 1 ∷ []) $
     by ! (leaves 𝓛 f.ended stayed c ((κs, qs, bounds, a, (vs, tt)), tt) u x (tt, tt) (tt, tt))))))))))))))

@@ -7,7 +7,8 @@ returns-in-Custom c = rw c.in-Custom.is (c.custom.ensures (known_context c.args.
 
 pub returns-in-Items : goal.returns-in-Items
 returns-in-Items c =
-    rw c.in-Items.is (c.items.ensures (known_context c.args.self.now) (ap (λ (s : ParserState). option_to_list s.data_counts) (sym c.self.view_is)))
+    rw c.in-Items.is (c.items.ensures (known_context c.args.self.now)
+    (ap (λ (s : ParserState). option_to_list s.data_counts) (sym c.self.view_is)))
 
 pub returns-in-Index : goal.returns-in-Index
 returns-in-Index c = rw c.in-Index.is (c.start.ensures (known_context c.args.self.now))
@@ -17,7 +18,8 @@ returns-in-DataCount c = rw c.in-DataCount.is (c.data_count.ensures (known_conte
 
 pub returns-in-Code : goal.returns-in-Code
 returns-in-Code c =
-    rw c.in-Code.is (c.code.ensures (known_context c.args.self.now) (ap (λ (s : ParserState). option_to_list s.functions) (sym c.self.view_is)))
+    rw c.in-Code.is (c.code.ensures (known_context c.args.self.now)
+    (ap (λ (s : ParserState). option_to_list s.functions) (sym c.self.view_is)))
 
 pub returns-in-Unknown : goal.returns-in-Unknown
 returns-in-Unknown c = rw c.in-Unknown.is (c.unknown.ensures (known_context c.args.self.now))

@@ -1,6 +1,6 @@
 use Rattle.wasm_parser.proofs.Following.{gives_next}
 use Rattle.wasm_parser.proofs.AnswerBounds.{consumes, asks_for_some, faults_within, unchanged}
-use Rattle.wasm_parser.proofs.Undecided.{asks_where_open}
+use Rattle.wasm_parser.proofs.AsksWhereOpen.{asks_where_open}
 use Rattle.wasm_parser.proofs.parser.Parser.parse.Goals as goal
 
 pub returns-clause-consumes : goal.returns-clause-consumes

@@ -6,8 +6,10 @@ use Rattle.wasm_parser.proofs.parser.Parser.read.Goals as goal
 
 pub returns-then-self : goal.returns-then-self
 returns-then-self c =
-    next_header c.args.self.now (place c.args.reader.now) _ _ (sym (ap (λ (s : ParserState). s.expects_header) c.self.view_is) ∙ c.if-self.true) c.requires.starts c.read_header.ensures
+    next_header c.args.self.now (place c.args.reader.now) _ _ (sym (ap (λ (s : ParserState). s.expects_header) c.self.view_is)
+    ∙ c.if-self.true) c.requires.starts c.read_header.ensures
 
 pub returns-then-is_code_left : goal.returns-then-is_code_left
 returns-then-is_code_left c =
-    next_body c.args.self.now (place c.args.reader.now) _ _ (sym (ap (λ (s : ParserState). s.expects_header) c.self.view_is) ∙ c.if-self.false) (not_true _ c.if-is_code_left.ensures) c.requires.starts c.body.ensures
+    next_body c.args.self.now (place c.args.reader.now) _ _ (sym (ap (λ (s : ParserState). s.expects_header) c.self.view_is)
+    ∙ c.if-self.false) (not_true _ c.if-is_code_left.ensures) c.requires.starts c.body.ensures

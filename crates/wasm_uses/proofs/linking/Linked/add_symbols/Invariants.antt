@@ -9,5 +9,6 @@ invariant-loop-symbol l = record {
   can : goal.iterator-loop-symbol.can_next l.symbol-iterator;
   finite : goal.iterator-loop-symbol.is_finite l.symbol-iterator;
   going : l.symbol-iterator.ended ≡ false;
-  left : with_symbols (linked_parts l.initial.self) l.fn.symbols ≡ each_from with_symbol symbol_at (linked_parts l.self) l.symbol-iterator.left (place l.symbol-iterator.reader);
+  left : with_symbols (linked_parts l.initial.self) l.fn.symbols
+      ≡ each_from with_symbol symbol_at (linked_parts l.self) l.symbol-iterator.left (place l.symbol-iterator.reader);
 }

@@ -8,5 +8,6 @@ invariant-loop-export l = record {
   can : goal.iterator-loop-export.can_next l.export-iterator;
   finite : goal.iterator-loop-export.is_finite l.export-iterator;
   going : l.export-iterator.ended ≡ false;
-  left : exported (outside_parts l.initial.self) l.fn.section.count (place l.fn.section.reader) ≡ exported (outside_parts l.self) l.export-iterator.left (place l.export-iterator.reader);
+  left : exported (outside_parts l.initial.self) l.fn.section.count (place l.fn.section.reader)
+      ≡ exported (outside_parts l.self) l.export-iterator.left (place l.export-iterator.reader);
 }

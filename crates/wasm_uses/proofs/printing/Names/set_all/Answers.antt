@@ -9,10 +9,16 @@ loop-naming-preserved-in-Ok c =
     record {
       can = tt;
       finite = tt;
-      left = c.loop-naming.invariant.left ∙ (entry_came (texts_of c.loop-naming.self.list) c.loop-naming.naming-iterator c.next.new.self c.in-Ok.naming next ∙ ap (λ (n : Names). names_of_map n c.next.new.self) (sym c.set.ensures));
+      left = c.loop-naming.invariant.left ∙ (entry_came (texts_of c.loop-naming.self.list) c.loop-naming.naming-iterator c.next.new.self
+          c.in-Ok.naming next ∙ ap (λ (n : Names). names_of_map n c.next.new.self) (sym c.set.ensures));
     }
 
 pub loop-naming-preserved : goal.loop-naming-preserved
 loop-naming-preserved c =
     let next = rw c.in_default.is at c.in-Some.ensures.steps in
-    record { can = tt; finite = tt; left = c.loop-naming.invariant.left ∙ entry_fault (texts_of c.loop-naming.self.list) c.loop-naming.naming-iterator c.next.new.self c.in_default.field-0 next }
+    record {
+      can = tt;
+      finite = tt;
+      left = c.loop-naming.invariant.left
+          ∙ entry_fault (texts_of c.loop-naming.self.list) c.loop-naming.naming-iterator c.next.new.self c.in_default.field-0 next;
+    }

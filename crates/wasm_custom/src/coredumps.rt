@@ -1,0 +1,422 @@
+// Core dumps.
+ghost use Rattle.std.specs.Prelude.{◌≡◌, ℕ, map};
+ghost use Rattle.wasm_base.specs.Hints.{TakesNoMemory};
+ghost use Rattle.wasm_base.specs.Item.{Means, ReadsAs};
+ghost use Rattle.wasm_base.specs.Number.{unsigned_at};
+ghost use Rattle.wasm_base.specs.Outcome.{Outcome, GivesBy, GivesResult};
+ghost use Rattle.wasm_base.specs.Owned.{MeansAs, UnlessMemory, InTurn, ListOf, GivesUnlessMemory, GivesResultUnlessMemory, list_at};
+ghost use Rattle.wasm_base.specs.Window.{Place, place, KeepsWindow};
+ghost use Rattle.wasm_base.specs.declared.fault.NumberKind.TheVariants.{VarU32};
+ghost use Rattle.wasm_custom.specs.Coredumps.{start_at, end_at, module_at, value_parts, value_at, instance_parts, instance_at, frame_parts, frame_at, name_section_in, modules_in, modules_parts, instances_in, instances_parts, stack_in, stack_parts};
+
+use std::alloc::{Allocator, Global};
+use wasm_base::{
+    BinaryReader, CoreStart, Error, Fault, FromReader, FromReaderIn, Ieee32, Ieee64, Result,
+    read_list,
+};
+
+/// The section `core`: what was dumped (tool conventions, Coredump, Process Information).
+#[derive(Drop)]
+pub struct CoreDumpSection<'a> {
+    /// The name of the process.
+    pub name: &'a str,
+}
+
+/// The section `coremodules`: the modules of the process (tool conventions, Coredump, Modules and Instances).
+#[derive(Debug, Drop)]
+pub struct CoreDumpModulesSection<'a, A: Allocator = Global> {
+    /// Their names.
+    pub modules: Vec<&'a str, A>,
+}
+
+/// The section `coreinstances`: the instances of the process (tool conventions, Coredump, Modules and Instances).
+#[derive(Drop)]
+pub struct CoreDumpInstancesSection<A: Allocator = Global> {
+    /// The instances.
+    pub instances: Vec<CoreDumpInstance<A>, A>,
+}
+
+/// The section `corestack`: a thread and its frames (tool conventions, Coredump, Thread(s) and Stack Frames).
+#[derive(Drop)]
+pub struct CoreDumpStackSection<'a, A: Allocator = Global> {
+    /// The name of the thread.
+    pub name: &'a str,
+    /// Its frames.
+    pub frames: Vec<CoreDumpStackFrame<A>, A>,
+}
+
+/// An instance of a module (tool conventions, Coredump, Modules and Instances).
+#[derive(Debug, Drop)]
+pub struct CoreDumpInstance<A: Allocator = Global> {
+    /// The index of the module in the section `coremodules`.
+    pub module_index: u32,
+    /// The indices of its memories.
+    pub memories: Vec<u32, A>,
+    /// The indices of its globals.
+    pub globals: Vec<u32, A>,
+}
+
+/// A frame of a thread's stack (tool conventions, Coredump, Thread(s) and Stack Frames).
+#[derive(Debug, Drop)]
+pub struct CoreDumpStackFrame<A: Allocator = Global> {
+    /// The index of the instance in the section `coreinstances`.
+    pub instanceidx: u32,
+    /// The index of the function in its module.
+    pub funcidx: u32,
+    /// How many bytes after the start of the function's body the instruction is.
+    pub codeoffset: u32,
+    /// The values of its locals.
+    pub locals: Vec<CoreDumpValue, A>,
+    /// The values on its operand stack.
+    pub stack: Vec<CoreDumpValue, A>,
+}
+
+/// A value in a frame (tool conventions, Coredump, Thread(s) and Stack Frames).
+#[derive(Clone, Debug, Drop)]
+pub enum CoreDumpValue {
+    /// One that is not known any more.
+    Missing,
+    /// A number of 32 bits.
+    I32(i32),
+    /// A number of 64 bits.
+    I64(i64),
+    /// A float of 32 bits.
+    F32(Ieee32),
+    /// A float of 64 bits.
+    F64(Ieee64),
+}
+
+// What a core dump lists. Some of its items answer a fault at the start of the data, which is told by its offset.
+trait Listed<'a, A: Allocator>: Sized + Drop {
+    ghost meaning: { ℕ → Place → Outcome Self → Type 0 };
+
+    fn read(alloc: A, start: u64, reader: &mut BinaryReader<'a>) -> Result<Self>
+        ensures means { Means (UnlessMemory (meaning start)) (place reader.old) result (place reader.new) }
+        ensures keeps { KeepsWindow reader.old reader.new };
+}
+
+// The byte 0 with which this begins; another one is a fault at this offset.
+#[tactic(auto, unfolding(crate::specs::Coredumps::start_at))]
+fn read_start(what: CoreStart, offset: u64, reader: &mut BinaryReader<'_>) -> Result<()>
+    ensures gives { GivesBy (λ nothing. nothing) result reader.old reader.new (start_at what offset) }
+    ensures keeps { KeepsWindow reader.old reader.new }
+    ensures memory { TakesNoMemory result }
+{
+    if reader.read_u8()? != 0 {
+        return Err(Error::new(Fault::CoreStartByte(what), offset));
+    }
+    Ok(())
+}
+
+// The end of the data.
+#[tactic(auto, unfolding(crate::specs::Coredumps::end_at))]
+fn read_end(reader: &BinaryReader<'_>) -> Result<()>
+    ensures gives { GivesResult (λ nothing. nothing) result (end_at (place reader.now)) }
+    ensures memory { TakesNoMemory result }
+{
+    if !reader.eof() {
+        return Err(Error::new(Fault::CustomTrailing, reader.original_position()));
+    }
+    Ok(())
+}
+
+// So many items, one after the other. The list grows as they are read.
+fn read_items<'a, T: Listed<'a, A>, A: Allocator + Copy>(
+    alloc: A,
+    start: u64,
+    count: u32,
+    reader: &mut BinaryReader<'a>,
+) -> Result<Vec<T, A>>
+    ensures means { MeansAs (λ list. list.items) (UnlessMemory (InTurn (T.meaning start) count))
+        (place reader.old) result (place reader.new) }
+    ensures keeps { KeepsWindow reader.old reader.new }
+{
+    let mut items = Vec::new(alloc);
+    'items: for _ in 0..count {
+        let item = T::read(alloc, start, reader)?;
+        items.push(item)?;
+    }
+    Ok(items)
+}
+
+// A count and so many items.
+fn read_listed<'a, T: Listed<'a, A>, A: Allocator + Copy>(
+    alloc: A,
+    start: u64,
+    reader: &mut BinaryReader<'a>,
+) -> Result<Vec<T, A>>
+    ensures means { MeansAs (λ list. list.items) (UnlessMemory (ListOf (T.meaning start)))
+        (place reader.old) result (place reader.new) }
+    ensures keeps { KeepsWindow reader.old reader.new }
+{
+    let count = reader.read_var_u32()?;
+    read_items(alloc, start, count, reader)
+}
+
+// A module: a byte 0 and its name.
+impl<'a, A: Allocator> Listed<'a, A> for &'a str {
+    ghost meaning = { λ start. ReadsAs (λ name. name.now) (module_at start) };
+
+    #[tactic(auto, unfolding(crate::specs::Coredumps::module_at))]
+    fn read(_alloc: A, start: u64, reader: &mut BinaryReader<'a>) -> Result<Self> {
+        read_start(CoreStart::Module, start, reader)?;
+        reader.read_unlimited_string()
+    }
+}
+
+impl<'a, A: Allocator + Copy> Listed<'a, A> for CoreDumpInstance<A> {
+    ghost meaning = { λ _. ReadsAs instance_parts instance_at };
+
+    fn read(alloc: A, _start: u64, reader: &mut BinaryReader<'a>) -> Result<Self> {
+        read_instance(alloc, reader)
+    }
+}
+
+impl<'a, A: Allocator + Copy> Listed<'a, A> for CoreDumpStackFrame<A> {
+    ghost meaning = { λ _. ReadsAs frame_parts frame_at };
+
+    fn read(alloc: A, _start: u64, reader: &mut BinaryReader<'a>) -> Result<Self> {
+        read_frame(alloc, reader)
+    }
+}
+
+// A list of indices.
+fn read_indices<A: Allocator>(alloc: A, reader: &mut BinaryReader<'_>) -> Result<Vec<u32, A>>
+    ensures gives { GivesUnlessMemory (λ list. list.items)
+        result (place reader.new) (list_at (unsigned_at VarU32) (place reader.old)) }
+    ensures keeps { KeepsWindow reader.old reader.new }
+{
+    read_list(alloc, reader)
+}
+
+// A list of values.
+fn read_values<A: Allocator>(
+    alloc: A,
+    reader: &mut BinaryReader<'_>,
+) -> Result<Vec<CoreDumpValue, A>>
+    ensures gives { GivesUnlessMemory (λ list. map value_parts list.items)
+        result (place reader.new) (list_at value_at (place reader.old)) }
+    ensures keeps { KeepsWindow reader.old reader.new }
+{
+    read_list(alloc, reader)
+}
+
+#[tactic(auto, unfolding(crate::specs::Coredumps::instance_at))]
+fn read_instance<A: Allocator + Copy>(
+    alloc: A,
+    reader: &mut BinaryReader<'_>,
+) -> Result<CoreDumpInstance<A>>
+    ensures gives { GivesUnlessMemory instance_parts
+        result (place reader.new) (instance_at (place reader.old)) }
+    ensures keeps { KeepsWindow reader.old reader.new }
+{
+    let start = reader.original_position();
+    read_start(CoreStart::Instance, start, reader)?;
+    let module_index = reader.read_var_u32()?;
+    let memories = read_indices(alloc, reader)?;
+    let globals = read_indices(alloc, reader)?;
+    Ok(CoreDumpInstance {
+        module_index,
+        memories,
+        globals,
+    })
+}
+
+#[tactic(auto, unfolding(crate::specs::Coredumps::frame_at))]
+fn read_frame<A: Allocator + Copy>(
+    alloc: A,
+    reader: &mut BinaryReader<'_>,
+) -> Result<CoreDumpStackFrame<A>>
+    ensures gives { GivesUnlessMemory frame_parts
+        result (place reader.new) (frame_at (place reader.old)) }
+    ensures keeps { KeepsWindow reader.old reader.new }
+{
+    let start = reader.original_position();
+    read_start(CoreStart::Frame, start, reader)?;
+    let instanceidx = reader.read_var_u32()?;
+    let funcidx = reader.read_var_u32()?;
+    let codeoffset = reader.read_var_u32()?;
+    let locals = read_values(alloc, reader)?;
+    let stack = read_values(alloc, reader)?;
+    Ok(CoreDumpStackFrame {
+        instanceidx,
+        funcidx,
+        codeoffset,
+        locals,
+        stack,
+    })
+}
+
+/// A byte, and what it says: 0x01 for a missing value; 0x7F or 0x7E and a signed number of 32 or 64 bits; 0x7D or 0x7C and the
+/// 4 or 8 bytes of a float, the lowest first.
+///
+/// Another byte is `CoreValue` at it.
+impl<'a> FromReader<'a> for CoreDumpValue {
+    ghost meaning = { ReadsAs value_parts value_at };
+
+    #[tactic(auto, unfolding(crate::specs::Coredumps::value_at))]
+    fn from_reader(reader: &mut BinaryReader<'a>) -> Result<Self> {
+        let start = reader.original_position();
+        match reader.read_u8()? {
+            0x01 => Ok(CoreDumpValue::Missing),
+            0x7f => Ok(CoreDumpValue::I32(reader.read_var_i32()?)),
+            0x7e => Ok(CoreDumpValue::I64(reader.read_var_i64()?)),
+            0x7d => Ok(CoreDumpValue::F32(reader.read_f32()?)),
+            0x7c => Ok(CoreDumpValue::F64(reader.read_f64()?)),
+            _ => Err(Error::new(Fault::CoreValue, start)),
+        }
+    }
+}
+
+/// A byte 0, the index of a module, a u32, the list of its memories' indices, and that of its globals'.
+///
+/// Another byte is `CoreStartByte(Instance)` at it.
+impl<'a> FromReaderIn<'a> for CoreDumpInstance {
+    ghost meaning = { ReadsAs instance_parts instance_at };
+
+    fn from_reader(alloc: Global, reader: &mut BinaryReader<'a>) -> Result<Self> {
+        read_instance(alloc, reader)
+    }
+}
+
+/// A byte 0, an instance, a function and an offset, each a u32, the list of the locals' values, and that of the stack's.
+///
+/// Another byte is `CoreStartByte(Frame)` at it.
+impl<'a> FromReaderIn<'a> for CoreDumpStackFrame {
+    ghost meaning = { ReadsAs frame_parts frame_at };
+
+    fn from_reader(alloc: Global, reader: &mut BinaryReader<'a>) -> Result<Self> {
+        read_frame(alloc, reader)
+    }
+}
+
+impl<'a> CoreDumpSection<'a> {
+    /// Reads a byte 0 and the name of the process, a text of any size, to the window's end.
+    ///
+    /// Another byte is `CoreStartByte(Name)` at it; bytes that are left are `CustomTrailing` at the first of them.
+    #[tactic(auto, unfolding(crate::specs::Coredumps::name_section_in))]
+    pub fn new(mut reader: BinaryReader<'a>) -> Result<CoreDumpSection<'a>>
+        ensures gives { GivesResult (λ section. section.name.now)
+            result (name_section_in (place reader.entry)) }
+        ensures memory { TakesNoMemory result }
+    {
+        let start = reader.original_position();
+        read_start(CoreStart::Name, start, &mut reader)?;
+        let name = reader.read_unlimited_string()?;
+        read_end(&reader)?;
+        Ok(CoreDumpSection { name })
+    }
+}
+
+// The names of modules, in data that begins at this offset.
+fn read_modules<'a, A: Allocator + Copy>(
+    alloc: A,
+    start: u64,
+    reader: &mut BinaryReader<'a>,
+) -> Result<Vec<&'a str, A>>
+    ensures gives { GivesUnlessMemory (λ list. map (λ name. name.now) list.items)
+        result (place reader.new) (list_at (module_at start) (place reader.old)) }
+    ensures keeps { KeepsWindow reader.old reader.new }
+{
+    read_listed(alloc, start, reader)
+}
+
+// The instances of a process.
+fn read_instances<A: Allocator + Copy>(
+    alloc: A,
+    reader: &mut BinaryReader<'_>,
+) -> Result<Vec<CoreDumpInstance<A>, A>>
+    ensures gives { GivesUnlessMemory (λ list. map instance_parts list.items)
+        result (place reader.new) (list_at instance_at (place reader.old)) }
+    ensures keeps { KeepsWindow reader.old reader.new }
+{
+    read_listed(alloc, 0, reader)
+}
+
+// The frames of a thread.
+fn read_frames<A: Allocator + Copy>(
+    alloc: A,
+    reader: &mut BinaryReader<'_>,
+) -> Result<Vec<CoreDumpStackFrame<A>, A>>
+    ensures gives { GivesUnlessMemory (λ list. map frame_parts list.items)
+        result (place reader.new) (list_at frame_at (place reader.old)) }
+    ensures keeps { KeepsWindow reader.old reader.new }
+{
+    read_listed(alloc, 0, reader)
+}
+
+impl<'a> CoreDumpModulesSection<'a> {
+    /// Reads the list of modules, of each a byte 0 and its name, a text of any size, to the window's end.
+    ///
+    /// Another byte is `CoreStartByte(Module)` at the start of the list; bytes that are left are `CustomTrailing` at the
+    /// first of them. `OutOfMemory`, at offset 0, where a growth is refused.
+    pub fn new(alloc: Global, reader: BinaryReader<'a>) -> Result<CoreDumpModulesSection<'a>>
+        ensures gives { GivesResultUnlessMemory modules_parts result (modules_in (place reader.entry)) }
+    {
+        CoreDumpModulesSection::new_in(alloc, reader)
+    }
+}
+
+impl<'a, A: Allocator + Copy> CoreDumpModulesSection<'a, A> {
+    /// The same as `new`, with memory from any allocator: `OutOfMemory`, at offset 0, where it refuses a growth.
+    #[tactic(auto, unfolding(crate::specs::Coredumps::modules_in))]
+    pub fn new_in(alloc: A, mut reader: BinaryReader<'a>) -> Result<Self>
+        ensures gives { GivesResultUnlessMemory modules_parts result (modules_in (place reader.entry)) }
+    {
+        let start = reader.original_position();
+        let modules = read_modules(alloc, start, &mut reader)?;
+        read_end(&reader)?;
+        Ok(CoreDumpModulesSection { modules })
+    }
+}
+
+impl CoreDumpInstancesSection {
+    /// Reads the list of instances, to the window's end.
+    ///
+    /// The faults are those of instances; bytes that are left are `CustomTrailing` at the first of them. `OutOfMemory`, at
+    /// offset 0, where a growth is refused.
+    pub fn new(alloc: Global, reader: BinaryReader<'_>) -> Result<CoreDumpInstancesSection>
+        ensures gives { GivesResultUnlessMemory instances_parts result (instances_in (place reader.entry)) }
+    {
+        CoreDumpInstancesSection::new_in(alloc, reader)
+    }
+}
+
+impl<A: Allocator + Copy> CoreDumpInstancesSection<A> {
+    /// The same as `new`, with memory from any allocator: `OutOfMemory`, at offset 0, where it refuses a growth.
+    #[tactic(auto, unfolding(crate::specs::Coredumps::instances_in))]
+    pub fn new_in(alloc: A, mut reader: BinaryReader<'_>) -> Result<Self>
+        ensures gives { GivesResultUnlessMemory instances_parts result (instances_in (place reader.entry)) }
+    {
+        let instances = read_instances(alloc, &mut reader)?;
+        read_end(&reader)?;
+        Ok(CoreDumpInstancesSection { instances })
+    }
+}
+
+impl<'a> CoreDumpStackSection<'a> {
+    /// Reads a byte 0, the name of the thread, a text of any size, and the list of its frames, to the window's end.
+    ///
+    /// Another byte is `CoreStartByte(StackName)` at it; other faults are those of frames; bytes that are left are
+    /// `CustomTrailing` at the first of them. `OutOfMemory`, at offset 0, where a growth is refused.
+    pub fn new(alloc: Global, reader: BinaryReader<'a>) -> Result<CoreDumpStackSection<'a>>
+        ensures gives { GivesResultUnlessMemory stack_parts result (stack_in (place reader.entry)) }
+    {
+        CoreDumpStackSection::new_in(alloc, reader)
+    }
+}
+
+impl<'a, A: Allocator + Copy> CoreDumpStackSection<'a, A> {
+    /// The same as `new`, with memory from any allocator: `OutOfMemory`, at offset 0, where it refuses a growth.
+    #[tactic(auto, unfolding(crate::specs::Coredumps::stack_in))]
+    pub fn new_in(alloc: A, mut reader: BinaryReader<'a>) -> Result<Self>
+        ensures gives { GivesResultUnlessMemory stack_parts result (stack_in (place reader.entry)) }
+    {
+        let start = reader.original_position();
+        read_start(CoreStart::StackName, start, &mut reader)?;
+        let name = reader.read_unlimited_string()?;
+        let frames = read_frames(alloc, &mut reader)?;
+        read_end(&reader)?;
+        Ok(CoreDumpStackSection { name, frames })
+    }
+}

@@ -1,0 +1,228 @@
+// What a dynamic linker reads.
+ghost use Rattle.std.specs.Prelude.{◌≡◌, None, map};
+ghost use Rattle.wasm_base.specs.Item.{ReadsAs};
+ghost use Rattle.wasm_base.specs.Name.{text_at};
+ghost use Rattle.wasm_base.specs.Outcome.{GivesBy};
+ghost use Rattle.wasm_base.specs.Owned.{GivesResultUnlessMemory, GivesUnlessMemory, MeansAs, UnlessMemory, InTurn, ListOf, list_at};
+ghost use Rattle.wasm_base.specs.Subsections.{ReadsWindowAs};
+ghost use Rattle.wasm_base.specs.Window.{place, KeepsWindow};
+ghost use Rattle.wasm_custom.specs.Dylink0.{dylink_parts, dylink_subsection_in, export_info_parts, export_info_at, import_info_parts, import_info_at};
+
+use crate::flags::SymbolFlags;
+use std::alloc::{Allocator, Global};
+use std::ops::Range;
+use wasm_base::{
+    BinaryReader, FromReader, MayAllocate, Result, Subsection, Subsections, read_list,
+};
+
+/// The section `dylink.0`: its subsections (tool conventions, Dynamic Linking, The "dylink.0" Section).
+pub type Dylink0SectionReader<'a> = Subsections<'a, Dylink0Subsection<'a>>;
+
+/// What a library needs of the memory and the table (tool conventions, Dynamic Linking, The "dylink.0" Section).
+#[derive(Clone, Copy, Debug)]
+pub struct MemInfo {
+    /// How many bytes of memory.
+    pub memory_size: u32,
+    /// The power of two that their address is a multiple of.
+    pub memory_alignment: u32,
+    /// How many elements of the table.
+    pub table_size: u32,
+    /// The power of two that the index of the first is a multiple of.
+    pub table_alignment: u32,
+}
+
+/// What is said of an export (tool conventions, Dynamic Linking, The "dylink.0" Section).
+#[derive(Debug, Drop)]
+pub struct ExportInfo<'a> {
+    /// The export's name.
+    pub name: &'a str,
+    /// Its symbol's flags.
+    pub flags: SymbolFlags,
+}
+
+/// What is said of an import (tool conventions, Dynamic Linking, The "dylink.0" Section).
+#[derive(Debug, Drop)]
+pub struct ImportInfo<'a> {
+    /// The module that it comes from.
+    pub module: &'a str,
+    /// Its name there.
+    pub field: &'a str,
+    /// Its symbol's flags.
+    pub flags: SymbolFlags,
+}
+
+/// A subsection of the section `dylink.0` (tool conventions, Dynamic Linking, The "dylink.0" Section).
+#[derive(Debug, Drop)]
+pub enum Dylink0Subsection<'a, A: Allocator = Global> {
+    /// What the library needs of the memory and the table.
+    MemInfo(MemInfo),
+    /// The names of the libraries that it needs.
+    Needed(Vec<&'a str, A>),
+    /// What is said of exports.
+    ExportInfo(Vec<ExportInfo<'a>, A>),
+    /// What is said of imports.
+    ImportInfo(Vec<ImportInfo<'a>, A>),
+    /// The folders in which libraries are looked for.
+    RuntimePath(Vec<&'a str, A>),
+    /// The name of the architecture that the library is for.
+    TargetArch(&'a str),
+    /// A subsection with another id.
+    Unknown {
+        /// Its id.
+        ty: u8,
+        /// Its bytes.
+        contents: &'a [u8],
+        /// The offsets of its bytes in the whole stream.
+        range: Range<u64>,
+    },
+}
+
+/// Four numbers, each a u32.
+impl<'a> FromReader<'a> for MemInfo {
+    ghost use Rattle.wasm_custom.specs.Dylink0.{mem_info_at};
+
+    ghost meaning = { ReadsAs (λ info. info) mem_info_at };
+
+    #[tactic(auto, unfolding(crate::specs::Dylink0::mem_info_at))]
+    fn from_reader(reader: &mut BinaryReader<'a>) -> Result<Self> {
+        let memory_size = reader.read_var_u32()?;
+        let memory_alignment = reader.read_var_u32()?;
+        let table_size = reader.read_var_u32()?;
+        let table_alignment = reader.read_var_u32()?;
+        Ok(MemInfo {
+            memory_size,
+            memory_alignment,
+            table_size,
+            table_alignment,
+        })
+    }
+}
+
+/// A name of any length and flags, a u32.
+impl<'a> FromReader<'a> for ExportInfo<'a> {
+    ghost meaning = { ReadsAs export_info_parts export_info_at };
+
+    #[tactic(auto, unfolding(crate::specs::Dylink0::export_info_at))]
+    fn from_reader(reader: &mut BinaryReader<'a>) -> Result<Self> {
+        let name = reader.read_unlimited_string()?;
+        let flags = reader.read()?;
+        Ok(ExportInfo { name, flags })
+    }
+}
+
+/// Two names of any length and flags, a u32.
+impl<'a> FromReader<'a> for ImportInfo<'a> {
+    ghost meaning = { ReadsAs import_info_parts import_info_at };
+
+    #[tactic(auto, unfolding(crate::specs::Dylink0::import_info_at))]
+    fn from_reader(reader: &mut BinaryReader<'a>) -> Result<Self> {
+        let module = reader.read_unlimited_string()?;
+        let field = reader.read_unlimited_string()?;
+        let flags = reader.read()?;
+        Ok(ImportInfo {
+            module,
+            field,
+            flags,
+        })
+    }
+}
+
+// So many texts, one after the other. The list grows as they are read.
+fn read_each_text<'a, A: Allocator>(
+    alloc: A,
+    reader: &mut BinaryReader<'a>,
+    count: u32,
+) -> Result<Vec<&'a str, A>>
+    ensures means { MeansAs (λ list. list.items)
+        (UnlessMemory (InTurn (ReadsAs (λ text. text.now) (text_at None)) count))
+        (place reader.old) result (place reader.new) }
+    ensures keeps { KeepsWindow reader.old reader.new }
+{
+    let mut texts = Vec::new(alloc);
+    'texts: for _ in 0..count {
+        let text = reader.read_unlimited_string()?;
+        texts.push(text)?;
+    }
+    Ok(texts)
+}
+
+// A count and so many texts.
+fn read_text_list<'a, A: Allocator>(
+    alloc: A,
+    reader: &mut BinaryReader<'a>,
+) -> Result<Vec<&'a str, A>>
+    ensures means { MeansAs (λ list. list.items)
+        (UnlessMemory (ListOf (ReadsAs (λ text. text.now) (text_at None))))
+        (place reader.old) result (place reader.new) }
+    ensures keeps { KeepsWindow reader.old reader.new }
+{
+    let count = reader.read_var_u32()?;
+    read_each_text(alloc, reader, count)
+}
+
+// A list of texts.
+fn read_texts<'a, A: Allocator>(alloc: A, reader: &mut BinaryReader<'a>) -> Result<Vec<&'a str, A>>
+    ensures gives { GivesUnlessMemory (λ list. map (λ text. text.now) list.items)
+        result (place reader.new) (list_at (text_at None) (place reader.old)) }
+    ensures keeps { KeepsWindow reader.old reader.new }
+{
+    read_text_list(alloc, reader)
+}
+
+// A list of what is said of exports.
+fn read_exports<'a, A: Allocator>(
+    alloc: A,
+    reader: &mut BinaryReader<'a>,
+) -> Result<Vec<ExportInfo<'a>, A>>
+    ensures gives { GivesUnlessMemory (λ list. map export_info_parts list.items)
+        result (place reader.new) (list_at export_info_at (place reader.old)) }
+    ensures keeps { KeepsWindow reader.old reader.new }
+{
+    read_list(alloc, reader)
+}
+
+// A list of what is said of imports.
+fn read_imports<'a, A: Allocator>(
+    alloc: A,
+    reader: &mut BinaryReader<'a>,
+) -> Result<Vec<ImportInfo<'a>, A>>
+    ensures gives { GivesUnlessMemory (λ list. map import_info_parts list.items)
+        result (place reader.new) (list_at import_info_at (place reader.old)) }
+    ensures keeps { KeepsWindow reader.old reader.new }
+{
+    read_list(alloc, reader)
+}
+
+impl<'a, A: Allocator> Dylink0Subsection<'a, A> {
+    /// The same as `from_reader`, with memory from any allocator: `OutOfMemory`, at offset 0, where it refuses a growth.
+    #[tactic(auto, unfolding(crate::specs::Dylink0::dylink_subsection_in))]
+    pub fn from_reader_in(alloc: A, id: u8, mut reader: BinaryReader<'a>) -> Result<Self>
+        ensures gives { GivesResultUnlessMemory dylink_parts result
+            (dylink_subsection_in id reader.entry) }
+    {
+        match id {
+            1 => Ok(Dylink0Subsection::MemInfo(reader.read()?)),
+            2 => Ok(Dylink0Subsection::Needed(read_texts(alloc, &mut reader)?)),
+            3 => Ok(Dylink0Subsection::ExportInfo(read_exports(alloc, &mut reader)?)),
+            4 => Ok(Dylink0Subsection::ImportInfo(read_imports(alloc, &mut reader)?)),
+            5 => Ok(Dylink0Subsection::RuntimePath(read_texts(alloc, &mut reader)?)),
+            6 => Ok(Dylink0Subsection::TargetArch(reader.read_unlimited_string()?)),
+            _ => Ok(Dylink0Subsection::Unknown {
+                ty: id,
+                contents: reader.remaining_buffer(),
+                range: reader.remaining_range(),
+            }),
+        }
+    }
+}
+
+/// Numbers, lists of texts and of what is said of exports and imports, or a text. Bytes after these are not looked at.
+impl<'a> Subsection<'a> for Dylink0Subsection<'a> {
+    ghost meaning = { ReadsWindowAs dylink_parts dylink_subsection_in };
+
+    type Allocation = MayAllocate;
+
+    fn from_reader(alloc: Global, id: u8, reader: BinaryReader<'a>) -> Result<Self> {
+        Dylink0Subsection::from_reader_in(alloc, id, reader)
+    }
+}

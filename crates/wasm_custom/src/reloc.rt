@@ -1,0 +1,318 @@
+// Relocations.
+ghost use Rattle.std.specs.Prelude.{◌≡◌, ◌+◌, slice_get};
+ghost use Rattle.wasm_base.specs.Hints.{TakesNoMemory};
+ghost use Rattle.wasm_base.specs.Item.{ReadsAs};
+ghost use Rattle.wasm_base.specs.Outcome.{GivesBy};
+ghost use Rattle.wasm_base.specs.Window.{place, KeepsWindow};
+ghost use Rattle.wasm_custom.specs.Reloc.{types, addend_of, extent_of, addend_at};
+
+use std::ops::Range;
+use wasm_base::{BinaryReader, FromReader, Lead, Result, SectionLimited, leading_byte_error};
+
+/// The relocations of a section (tool conventions, Linking, Relocation Sections).
+pub type RelocationEntryReader<'a> = SectionLimited<'a, RelocationEntry>;
+
+/// A section whose name begins with `reloc.`: the relocations of another section (tool conventions, Linking, Relocation
+/// Sections).
+#[derive(Clone, Debug, Drop)]
+pub struct RelocSectionReader<'a> {
+    section: u32,
+    range: Range<u64>,
+    entries: RelocationEntryReader<'a>,
+}
+
+/// A relocation: a place in a section to be filled in by a linker (tool conventions, Linking, Relocation Sections).
+#[derive(Clone, Copy, Debug, PartialEq, Eq, Hash)]
+pub struct RelocationEntry {
+    /// Its type.
+    pub ty: RelocationType,
+    /// How many bytes after the start of the section's content the place begins.
+    pub offset: u32,
+    /// The index of what it is filled in with: a symbol, or of `TypeIndexLeb` a type.
+    pub index: u32,
+    /// What is added to the value, 0 where the type has none.
+    pub addend: i64,
+}
+
+/// What a relocation is filled in with, and how: the numbers are those in the tool conventions (Linking, Relocation Sections).
+#[derive(Clone, Copy, Debug, PartialEq, Eq, Hash)]
+#[repr(u8)]
+pub enum RelocationType {
+    /// 0: the index of a function, as an unsigned number of 5 bytes.
+    FunctionIndexLeb,
+    /// 1: the place of a function in a table, as a signed number of 5 bytes.
+    TableIndexSleb,
+    /// 2: the place of a function in a table, as 4 bytes.
+    TableIndexI32,
+    /// 3: an address in memory, as an unsigned number of 5 bytes.
+    MemoryAddrLeb,
+    /// 4: an address in memory, as a signed number of 5 bytes.
+    MemoryAddrSleb,
+    /// 5: an address in memory, as 4 bytes.
+    MemoryAddrI32,
+    /// 6: the index of a type, as an unsigned number of 5 bytes.
+    TypeIndexLeb,
+    /// 7: the index of a global, as an unsigned number of 5 bytes.
+    GlobalIndexLeb,
+    /// 8: the offset of a function in the code section, as 4 bytes.
+    FunctionOffsetI32,
+    /// 9: an offset in a section, as 4 bytes.
+    SectionOffsetI32,
+    /// 10: the index of a tag, as an unsigned number of 5 bytes.
+    EventIndexLeb,
+    /// 11: an address relative to the memory base, as a signed number of 5 bytes.
+    MemoryAddrRelSleb,
+    /// 12: a function's place in a table relative to the table base, as a signed number of 5 bytes.
+    TableIndexRelSleb,
+    /// 13: the index of a global, as 4 bytes.
+    GlobalIndexI32,
+    /// 14: an address in a 64-bit memory, as an unsigned number of 10 bytes.
+    MemoryAddrLeb64,
+    /// 15: an address in a 64-bit memory, as a signed number of 10 bytes.
+    MemoryAddrSleb64,
+    /// 16: an address in a 64-bit memory, as 8 bytes.
+    MemoryAddrI64,
+    /// 17: an address relative to the base of a 64-bit memory, as a signed number of 10 bytes.
+    MemoryAddrRelSleb64,
+    /// 18: the place of a function in a 64-bit table, as a signed number of 10 bytes.
+    TableIndexSleb64,
+    /// 19: the place of a function in a 64-bit table, as 8 bytes.
+    TableIndexI64,
+    /// 20: the index of a table, as an unsigned number of 5 bytes.
+    TableNumberLeb,
+    /// 21: an address relative to the thread-local base, as a signed number of 5 bytes.
+    MemoryAddrTlsSleb,
+    /// 22: the offset of a function in the code section, as 8 bytes.
+    FunctionOffsetI64,
+    /// 23: an address relative to the place itself, as 4 bytes.
+    MemoryAddrLocrelI32,
+    /// 24: a function's place in a 64-bit table relative to the table base, as a signed number of 10 bytes.
+    TableIndexRelSleb64,
+    /// 25: an address relative to the thread-local base of a 64-bit memory, as a signed number of 10 bytes.
+    MemoryAddrTlsSleb64,
+    /// 26: the index of a function, as 4 bytes.
+    FunctionIndexI32,
+}
+
+/// Whether a type of relocations has an addend, and how it is written (tool conventions, Linking, Relocation Sections).
+#[derive(Clone, Copy, Debug, PartialEq, Eq, Hash)]
+pub enum RelocAddendKind {
+    /// It has none.
+    None,
+    /// It has one of 32 bits, signed.
+    Addend32,
+    /// It has one of 64 bits, signed.
+    Addend64,
+}
+
+// The types in the order of their numbers.
+const TYPES: [RelocationType; 27] = [
+    RelocationType::FunctionIndexLeb,
+    RelocationType::TableIndexSleb,
+    RelocationType::TableIndexI32,
+    RelocationType::MemoryAddrLeb,
+    RelocationType::MemoryAddrSleb,
+    RelocationType::MemoryAddrI32,
+    RelocationType::TypeIndexLeb,
+    RelocationType::GlobalIndexLeb,
+    RelocationType::FunctionOffsetI32,
+    RelocationType::SectionOffsetI32,
+    RelocationType::EventIndexLeb,
+    RelocationType::MemoryAddrRelSleb,
+    RelocationType::TableIndexRelSleb,
+    RelocationType::GlobalIndexI32,
+    RelocationType::MemoryAddrLeb64,
+    RelocationType::MemoryAddrSleb64,
+    RelocationType::MemoryAddrI64,
+    RelocationType::MemoryAddrRelSleb64,
+    RelocationType::TableIndexSleb64,
+    RelocationType::TableIndexI64,
+    RelocationType::TableNumberLeb,
+    RelocationType::MemoryAddrTlsSleb,
+    RelocationType::FunctionOffsetI64,
+    RelocationType::MemoryAddrLocrelI32,
+    RelocationType::TableIndexRelSleb64,
+    RelocationType::MemoryAddrTlsSleb64,
+    RelocationType::FunctionIndexI32,
+];
+
+// The type of a number, if there is one.
+fn type_numbered(number: u8) -> Option<RelocationType>
+    ensures { result ≡ slice_get types number }
+{
+    match TYPES.get(usize::from(number)) {
+        Some(ty) => Some(*ty),
+        None => None,
+    }
+}
+
+/// The type of a number from 0 to 26; other numbers are refused.
+impl TryFrom<u8> for RelocationType {
+    ghost use Rattle.wasm_custom.specs.Reloc.{IsTypeOf};
+
+    type Error = ();
+
+    ghost try_from_gives = { IsTypeOf };
+
+    fn try_from(number: u8) -> std::result::Result<Self, ()> {
+        type_numbered(number).ok_or(())
+    }
+}
+
+impl RelocationType {
+    /// Whether relocations of this type have an addend.
+    pub fn addend_kind(&self) -> RelocAddendKind
+        ensures { result ≡ addend_of self.now }
+    {
+        match self {
+            RelocationType::MemoryAddrLeb
+            | RelocationType::MemoryAddrSleb
+            | RelocationType::MemoryAddrI32
+            | RelocationType::FunctionOffsetI32
+            | RelocationType::SectionOffsetI32
+            | RelocationType::MemoryAddrRelSleb
+            | RelocationType::MemoryAddrTlsSleb
+            | RelocationType::MemoryAddrLocrelI32 => RelocAddendKind::Addend32,
+            RelocationType::MemoryAddrLeb64
+            | RelocationType::MemoryAddrSleb64
+            | RelocationType::MemoryAddrI64
+            | RelocationType::MemoryAddrRelSleb64
+            | RelocationType::FunctionOffsetI64
+            | RelocationType::MemoryAddrTlsSleb64 => RelocAddendKind::Addend64,
+            _ => RelocAddendKind::None,
+        }
+    }
+
+    /// How many bytes the place of such a relocation takes.
+    pub fn extent(&self) -> usize
+        ensures { result ≡ extent_of self.now }
+    {
+        match self {
+            RelocationType::TableIndexI32
+            | RelocationType::MemoryAddrI32
+            | RelocationType::FunctionOffsetI32
+            | RelocationType::SectionOffsetI32
+            | RelocationType::GlobalIndexI32
+            | RelocationType::MemoryAddrLocrelI32
+            | RelocationType::FunctionIndexI32 => 4,
+            RelocationType::MemoryAddrI64
+            | RelocationType::TableIndexI64
+            | RelocationType::FunctionOffsetI64 => 8,
+            RelocationType::MemoryAddrLeb64
+            | RelocationType::MemoryAddrSleb64
+            | RelocationType::MemoryAddrRelSleb64
+            | RelocationType::TableIndexSleb64
+            | RelocationType::TableIndexRelSleb64
+            | RelocationType::MemoryAddrTlsSleb64 => 10,
+            _ => 5,
+        }
+    }
+}
+
+/// A byte. One above 26 is `LeadingByte(Reloc)` at it, with the byte as its number.
+impl<'a> FromReader<'a> for RelocationType {
+    ghost use Rattle.wasm_custom.specs.Reloc.{relocation_type_at};
+
+    ghost meaning = { ReadsAs (λ ty. ty) relocation_type_at };
+
+    #[tactic(auto, unfolding(crate::specs::Reloc::relocation_type_at))]
+    fn from_reader(reader: &mut BinaryReader<'a>) -> Result<Self> {
+        let start = reader.original_position();
+        let byte = reader.read_u8()?;
+        match type_numbered(byte) {
+            Some(ty) => Ok(ty),
+            None => Err(leading_byte_error(Lead::Reloc, byte, start)),
+        }
+    }
+}
+
+// The addend of a relocation of this type.
+fn read_addend(ty: RelocationType, reader: &mut BinaryReader<'_>) -> Result<i64>
+    ensures gives { GivesBy (λ addend. addend) result reader.old reader.new (addend_at (addend_of ty)) }
+    ensures keeps { KeepsWindow reader.old reader.new }
+    ensures memory { TakesNoMemory result }
+{
+    match ty.addend_kind() {
+        RelocAddendKind::None => Ok(0),
+        RelocAddendKind::Addend32 => Ok(i64::from(reader.read_var_i32()?)),
+        RelocAddendKind::Addend64 => reader.read_var_i64(),
+    }
+}
+
+/// A type, an offset and an index, each a u32, and the addend that the type has: a signed number of 32 or 64 bits, or none.
+impl<'a> FromReader<'a> for RelocationEntry {
+    ghost use Rattle.wasm_custom.specs.Reloc.{relocation_at};
+
+    ghost meaning = { ReadsAs (λ entry. entry) relocation_at };
+
+    #[tactic(auto, unfolding(crate::specs::Reloc::relocation_at))]
+    fn from_reader(reader: &mut BinaryReader<'a>) -> Result<Self> {
+        let ty = RelocationType::from_reader(reader)?;
+        let offset = reader.read_var_u32()?;
+        let index = reader.read_var_u32()?;
+        let addend = read_addend(ty, reader)?;
+        Ok(RelocationEntry {
+            ty,
+            offset,
+            index,
+            addend,
+        })
+    }
+}
+
+impl RelocationEntry {
+    ghost use Rattle.std.specs.Prelude.{Ok};
+    ghost use Rattle.wasm_custom.specs.Reloc.{relocated_range};
+
+    /// The bytes that are filled in, counted from the start of the section's content. It is always `Ok`.
+    pub fn relocation_range(&self) -> Result<Range<usize>>
+        ensures { result ≡ Ok (relocated_range self.now) }
+    {
+        let start = self.offset as usize;
+        Ok(start..start + self.ty.extent())
+    }
+}
+
+impl<'a> RelocSectionReader<'a> {
+    ghost use Rattle.wasm_custom.specs.Reloc.{reloc_section_in};
+    ghost use Rattle.wasm_base.specs.Outcome.{GivesResult};
+
+    /// Reads the index of the section that has the places, a u32, and the count of relocations, a u32.
+    ///
+    /// The faults are those of the two numbers. No relocation is looked at.
+    #[tactic(auto, unfolding(crate::specs::Reloc::reloc_section_in))]
+    pub fn new(mut reader: BinaryReader<'a>) -> Result<Self>
+        ensures gives { GivesResult (λ section. section) result (reloc_section_in reader.entry) }
+        ensures memory { TakesNoMemory result }
+    {
+        let range = reader.range();
+        let section = reader.read_var_u32()?;
+        let entries = SectionLimited::new(reader.shrink())?;
+        Ok(RelocSectionReader {
+            section,
+            range,
+            entries,
+        })
+    }
+
+    /// The index of the section that has the places, counting all sections of the module.
+    pub fn section_index(&self) -> u32
+        ensures { result ≡ self.now.section }
+    {
+        self.section
+    }
+
+    /// The offsets of the whole window, in bytes from the start of the whole stream.
+    pub fn range(&self) -> Range<u64>
+        ensures { result ≡ self.now.range }
+    {
+        self.range.start..self.range.end
+    }
+
+    /// The relocations, as a window that begins at their count.
+    pub fn entries(&self) -> RelocationEntryReader<'a>
+        ensures { result ≡ self.now.entries }
+    {
+        self.entries.clone().unwrap()
+    }
+}

@@ -1,0 +1,168 @@
+// Dumps of worked streams.
+mod worked;
+
+use std::alloc::Global;
+use std::process::Abort;
+use std::test::Fail;
+use wasm_feed::{BoundedSink, Ended, Failed, ListError, SliceSource, Source};
+use wasm_parser::{Error, Fault};
+use wasm_show::{Only, Tree, dump};
+
+/// A module with an item in each of its sections, and names that don't ascend.
+const MODULE: &[u8] =
+    b"\0asm\x01\0\0\0\x01\x05\x01\x60\x01\x7f\0\x02\x0a\x01\x03env\x01m\x02\0\x01\x03\x02\x01\0\
+\x07\x05\x01\x01f\0\0\x09\x05\x01\x01\0\x01\0\x0a\x04\x01\x02\0\x0b\x0b\x06\x01\x01\x03a\x22\xff\
+\0\x0e\x04name\x01\x07\x02\0\x01f\0\x01g";
+
+/// Its dump.
+const DUMP: &[u8] = b"version 0 8 1 module
+section 1 10 15 1
+  11 explicit=false type=(sub final (func (param i32)))
+section 2 17 27 1
+  18 module=\"env\" name=\"m\" ty=memory memory64=false shared=false initial=1 maximum=none page_size_log2=none
+section 3 29 31 1
+  30 index=0
+section 7 33 38 1
+  34 name=\"f\" kind=func index=0
+section 9 40 45 1
+  41 kind=passive functions=43..45 count=1 range=41..45
+    44 index=0
+code 47 51 1 3
+body 49 51
+section 11 53 59 1
+  54 kind=passive data=3:6122ff range=54..59
+custom 61 75 66
+  section name=\"name\"
+    66 function
+      69 index=0 name=\"f\"
+      fault 72 names out of order
+end 75
+";
+
+// A call with a long contract is in a function without one, which is cheaper to prove over.
+
+// How the dump of what this source gives ends, and the sink.
+fn dumped<R: Source>(
+    alloc: Global,
+    only: &Only<'_>,
+    input: &mut R,
+    output: BoundedSink,
+    piece: usize,
+) -> (Result<Ended, ListError>, BoundedSink) {
+    let mut tree = Tree::new(alloc, output);
+    let ended = dump(alloc, only, input, &mut tree, piece.max(1));
+    (ended, tree.into_output())
+}
+
+// The dump of this stream ends so, and is this text.
+pub(super) fn dumps(
+    rt: &impl Abort,
+    alloc: Global,
+    only: &Only<'_>,
+    stream: &[u8],
+    how: Result<Ended, ListError>,
+    text: &[u8],
+) -> Result<(), Fail> {
+    for piece in [1, 7, 65_536] {
+        let sink = BoundedSink::new(alloc, 6_000)?;
+        let (ended, output) = dumped(alloc, only, &mut SliceSource::new(stream), sink, piece);
+        assert!(rt; ended == how, "{piece}");
+        assert_eq!(rt; output.written(), text, "{piece}");
+    }
+    Ok(())
+}
+
+#[test]
+fn shows_every_item(rt: HostRuntime) -> Result<(), Fail> {
+    dumps(&rt, rt.alloc(), &Only::All, MODULE, Ok(Ended::End), DUMP)
+}
+
+#[test]
+fn shows_chosen_sections(rt: HostRuntime) -> Result<(), Fail> {
+    let rows: [(Only<'_>, &[u8]); 5] = [
+        (Only::Id(3), b"section 3 29 31 1\n  30 index=0\nend 75\n"),
+        (Only::Id(10), b"code 47 51 1 3\nbody 49 51\nend 75\n"),
+        (Only::Id(13), b"end 75\n"),
+        (
+            Only::Name("name"),
+            b"custom 61 75 66\n  section name=\"name\"\n    66 function\n      69 index=0 name=\"f\"\n      fault 72 names out of order\nend 75\n",
+        ),
+        (Only::Name("names"), b"end 75\n"),
+    ];
+    for (only, text) in rows {
+        dumps(&rt, rt.alloc(), &only, MODULE, Ok(Ended::End), text)?;
+    }
+    Ok(())
+}
+
+#[test]
+fn shows_faults_at_their_place(rt: HostRuntime) -> Result<(), Fail> {
+    // The second index can't be read, and the body is missing.
+    let stream = b"\0asm\x01\0\0\0\x03\x03\x02\x85\x80";
+    let how = Ok(Ended::Fault(Error::new(Fault::FunctionWithoutCode, 13)));
+    let text =
+        b"version 0 8 1 module\nsection 3 10 13 2\n  fault 13 unexpected end-of-file\nfault 13 function section has non-zero count but code section is absent\n";
+    dumps(&rt, rt.alloc(), &Only::All, stream, how, text)
+}
+
+#[test]
+fn writes_texts_in_quotes(rt: HostRuntime) -> Result<(), Fail> {
+    // The name is `a"\` and a letter of two bytes, and then a line feed.
+    let stream = b"\0asm\x01\0\0\0\x07\x0a\x01\x06a\"\\\xc3\xa9\n\x03\x07";
+    let text =
+        b"version 0 8 1 module\nsection 7 10 20 1\n  11 name=\"a\\22\\5c\\c3\\a9\\0a\" kind=global index=7\nend 20\n";
+    dumps(&rt, rt.alloc(), &Only::All, stream, Ok(Ended::End), text)
+}
+
+#[test]
+fn stops_where_the_sink_is_full(rt: HostRuntime) -> Result<(), Fail> {
+    for size in [0, 1, 30, 100] {
+        let sink = BoundedSink::new(rt.alloc(), size)?;
+        let input = &mut SliceSource::new(MODULE);
+        let (ended, output) = dumped(rt.alloc(), &Only::All, input, sink, 100);
+        assert!(rt; ended == Err(ListError::Output), "{size}");
+        assert_eq!(rt; output.written(), &DUMP[..size]);
+    }
+    Ok(())
+}
+
+/// A source that gives these bytes, and then fails.
+#[derive(Drop)]
+struct Cut<'a> {
+    bytes: SliceSource<'a>,
+    failed: bool,
+}
+
+impl Source for Cut<'_> {
+    ghost has_failed = { λ s. s.failed };
+
+    fn read(&mut self, buf: &mut [u8]) -> Result<usize, Failed> {
+        match self.bytes.read(buf) {
+            Ok(0) => {
+                self.failed = true;
+                Err(Failed)
+            }
+            other => other,
+        }
+    }
+
+    fn failed(&self) -> bool {
+        self.failed
+    }
+}
+
+#[test]
+fn shows_what_came_before_the_source_failed(rt: HostRuntime) -> Result<(), Fail> {
+    let sink = BoundedSink::new(rt.alloc(), 2_000)?;
+    let mut input = Cut {
+        bytes: SliceSource::new(&MODULE[..30]),
+        failed: false,
+    };
+    let (ended, output) = dumped(rt.alloc(), &Only::All, &mut input, sink, 4);
+    assert!(rt; ended == Err(ListError::Input));
+    assert!(rt; input.failed());
+    let text =
+        b"version 0 8 1 module\nsection 1 10 15 1\n  11 explicit=false type=(sub final (func (param i32)))\nsection 2 17 27 1\n  18 module=\"env\" name=\"m\" ty=memory memory64=false shared=false initial=1 maximum=none page_size_log2=none\n";
+    assert_eq!(rt; output.written(), text.as_slice());
+    Ok(())
+}

@@ -1,0 +1,328 @@
+// Streams, and what wasmparser 0.263.0 says of them: tools/golden_rows writes this file from tools/golden.jsonl.
+use super::dumps::dumps;
+use super::listings::lists_as;
+use std::alloc::Global;
+use std::process::Abort;
+use std::test::Fail;
+use wasm_feed::Ended;
+use wasm_show::Only;
+
+/// A stream with each kind of fault, and its listing.
+const LISTINGS: [(&[u8], &[u8]); 18] = [
+    (
+        b"\0asm\x0d\0\x01\0\0asm",
+        b"version 0 8 13 component\nfault 8 expected section, got wasm magic number\n",
+    ),
+    (
+        b"\0asm\x01\0\0\0\x0c\x01\x01\x03\x01\x01",
+        b"version 0 8 1 module\ndatacount 10 11 1\nfault 13 section out of order\n",
+    ),
+    (
+        b"\0asm\x01\0\0\0\x03\x01\x01\x0c\x01\x01",
+        b"version 0 8 1 module\nsection 3 10 11 1\ndatacount 13 14 1\nfault 14 function section has non-zero count but code section is absent\n",
+    ),
+    (
+        b"\0asm\x01\0\0\0\x08\x03\x01\0\xff",
+        b"version 0 8 1 module\nfault 11 unexpected content in the start section\n",
+    ),
+    (
+        b"\0asm\x01\0\0\0\x0a\x03\x01\0\xff",
+        b"version 0 8 1 module\nfault 10 function section is absent but code section has non-zero count\n",
+    ),
+    (
+        b"\0asm\x01\0\0\0\x0c\x05\xff\xff\xff\xff\x0f",
+        b"version 0 8 1 module\ndatacount 10 15 4294967295\nfault 15 data count is non-zero but data section is absent\n",
+    ),
+    (
+        b"\0asm\x0d\0\x01\0\0\x05\xff\xff\xff\xff\x0f",
+        b"version 0 8 13 component\nfault 14 string size out of bounds\n",
+    ),
+    (
+        b"\0asm\x01\0\0\0\0\x06\x83\x80\0\xf0\x9f\x98\0\x01\0",
+        b"version 0 8 1 module\nfault 15 malformed UTF-8 encoding\n",
+    ),
+    (
+        b"\0asm\x01\0\0\0\x0c\x01\x01\x0b\x01\0",
+        b"version 0 8 1 module\ndatacount 10 11 1\nfault 14 data count and data section have inconsistent lengths\n",
+    ),
+    (
+        b"\0asm\x01\0\0\0\x03\x02\x01\0\x0a\x01\0",
+        b"version 0 8 1 module\nsection 3 10 12 1\nfault 14 function and code section have inconsistent lengths\n",
+    ),
+    (
+        b"\0a\x0dm\x01\0\0\0",
+        b"fault 0 magic header not detected: bad magic number\n",
+    ),
+    (
+        b"\0asm\x01\x7f\0\0",
+        b"fault 4 unknown binary version: 32513\n",
+    ),
+    (b"\0", b"fault 0 unexpected end-of-file\n"),
+    (
+        b"\0asm\x0d\0\x01\0\xda\x01",
+        b"version 0 8 13 component\nfault 8 malformed section id\n",
+    ),
+    (
+        b"\0asm\x01\0\0\0\x08\x81\x80\x80\x80p",
+        b"version 0 8 1 module\nfault 13 invalid var_u32: integer too large\n",
+    ),
+    (
+        b"\0asm\x01\0\0\0\x08\x80\x80\x80\x80\xf0",
+        b"version 0 8 1 module\nfault 13 invalid var_u32: integer representation too long\n",
+    ),
+    (
+        b"\0asm\x01\0\0\0\x0c\x02\x01\x01\x0b\x01\x01",
+        b"version 0 8 1 module\nfault 11 unexpected content in the data count section\n",
+    ),
+    (
+        b"\0asm\x01\0\0\0\x0a\x03\0\0\0",
+        b"version 0 8 1 module\ncode 10 13 0 2\nfault 11 trailing bytes at end of section\n",
+    ),
+];
+
+/// A module.
+const MODULE_1: &[u8] = b"\0asm\x01\0\0\0\x06\x03\x01\0\xff";
+
+/// Its dump.
+const DUMP_1: &[u8] = b"version 0 8 1 module
+section 6 10 13 1
+  fault 11 invalid leading byte for value type: 0
+end 13
+";
+
+/// A module.
+const MODULE_2: &[u8] =
+    b"\0asm\x01\0\0\0\x01\x0d\x03_\x02\x7f\0~\x01^\x7f\x01`\0\0\x03\x02\x01\x02\x0a\x04\x01\x02\0\x0b\0\
+\x0a\x04name\x02\x03\x01\0\0";
+
+/// Its dump.
+const DUMP_2: &[u8] = b"version 0 8 1 module
+section 1 10 23 3
+  11 explicit=false type=(sub final (struct (field i32) (field (mut i64))))
+  17 explicit=false type=(sub final (array (mut i32)))
+  20 explicit=false type=(sub final (func))
+section 3 25 27 1
+  26 index=2
+code 29 33 1 3
+body 31 33
+custom 35 45 40
+  section name=\"name\"
+    40 local
+      43 index=0
+end 45
+";
+
+/// A module.
+const MODULE_3: &[u8] =
+    b"\0asm\x01\0\0\0\x01\x84\x80\x80\x80\0\x01`\0\0\x03\x82\x80\x80\x80\0\x01\0\x05\x84\x80\x80\x80\0\
+\x01\x01\x01\x04\x06\x86\x80\x80\x80\0\x01\x7f\0A\x08\x0b\x0c\x81\x80\x80\x80\0\x04\x0a\x95\x80\x80\
+\x80\0\x01\x8f\x80\x80\x80\0\0A\0A\0A\x03\xfc\x08\x02\0\xfc\x09\x02\x0b\x0b\x9f\x80\x80\x80\0\x04\0\
+A\0\x0b\x03abc\0A\x04\x0b\0\x01\x07passive\0A\xe4\0\x0b\x02xy";
+
+/// Its dump.
+const DUMP_3: &[u8] = b"version 0 8 1 module
+section 1 14 18 1
+  15 explicit=false type=(sub final (func))
+section 3 24 26 1
+  25 index=0
+section 5 32 36 1
+  33 memory64=false shared=false initial=1 maximum=4 page_size_log2=none
+section 6 42 48 1
+  43 content_type=i32 shared=false init_expr=45..48
+datacount 54 55 4
+code 61 82 1 20
+body 67 82
+section 11 88 119 4
+  89 kind=active memory_index=0 offset_expr=90..93 data=3:616263 range=89..97
+  97 kind=active memory_index=0 offset_expr=98..101 data=0: range=97..102
+  102 kind=passive data=7:70617373697665 range=102..111
+  111 kind=active memory_index=0 offset_expr=112..116 data=2:7879 range=111..119
+end 119
+";
+
+/// A module.
+const MODULE_4: &[u8] =
+    b"\0asm\x01\0\0\0\x01\x0c\x02`\0\0`\x04\x7f~}|\x01|\x025\x06\x03env\x01f\0\x01\x03env\x01t\x01p\x01\
+\x01\x0a\x03env\x01m\x02\x01\x01d\x03env\x01g\x03\x7f\0\x03env\x02mg\x03~\x01\0\0\0\0\x03\x03\x02\0\
+\x01\x06(\x04\x7f\0A\x05\x0b|\x01D\0\0\0\0\0\0\xf8?\x0b}\0C\0\0\0\x80\x0b~\0B\x80\x80\x80\x80\x80\
+\x80\x80\x80\x80\x7f\x0b\x07\x16\x05\x03two\0\x03\x01m\x02\0\x01t\x01\0\x01g\x03\x02\0\0\0\x08\x01\
+\x02\x09\x08\x01\0A\0\x0b\x02\x02\x03\x0a\x09\x02\x02\0\x0b\x04\0 \x03\x0b\x0b\x0d\x01\0A\x10\x0b\
+\x07hello\0\xff\0?\x07linking\x02\x084\x0b\00\0\0\x10\x01\0\0\x02\x05start\0\xa4\x01\x03\x03two\x05\
+0\0\x02\x10\0\x02\x10\x01\x02\xa4\x01\x02\x01c\x02\0\x03\x01d\x02\x06\x04\0\x02\x06\x05\0";
+
+/// Its dump.
+const DUMP_4: &[u8] = b"version 0 8 1 module
+section 1 10 22 2
+  11 explicit=false type=(sub final (func))
+  14 explicit=false type=(sub final (func (param i32 i64 f32 f64) (result f64)))
+section 2 24 77 6
+  25 module=\"env\" name=\"f\" ty=func index=1
+  33 module=\"env\" name=\"t\" ty=table element_type=(ref null func) table64=false initial=1 maximum=10 shared=false
+  44 module=\"env\" name=\"m\" ty=memory memory64=false shared=false initial=1 maximum=100 page_size_log2=none
+  54 module=\"env\" name=\"g\" ty=global content_type=i32 shared=false
+  63 module=\"env\" name=\"mg\" ty=global content_type=(mut i64) shared=false
+  73 module=\"\" name=\"\" ty=func index=0
+section 3 79 82 2
+  80 index=0
+  81 index=1
+section 6 84 124 4
+  85 content_type=i32 shared=false init_expr=87..90
+  90 content_type=(mut f64) shared=false init_expr=92..102
+  102 content_type=f32 shared=false init_expr=104..110
+  110 content_type=i64 shared=false init_expr=112..124
+section 7 126 148 5
+  127 name=\"two\" kind=func index=3
+  133 name=\"m\" kind=memory index=0
+  137 name=\"t\" kind=table index=0
+  141 name=\"g\" kind=global index=2
+  145 name=\"\" kind=func index=0
+start 150 151 2
+section 9 153 161 1
+  154 kind=active table_index=none offset_expr=155..158 functions=158..161 count=2 range=154..161
+    159 index=2
+    160 index=3
+code 163 172 2 8
+body 165 167
+body 168 172
+section 11 174 187 1
+  175 kind=active memory_index=0 offset_expr=176..179 data=7:68656c6c6f00ff range=175..187
+custom 189 252 197
+  section name=\"linking\" version=2 range=197..252 subsections=198
+    198 symbol_table=200..252 count=11
+      201 func flags=48 index=0 name=none
+      204 func flags=16 index=1 name=none
+      207 func flags=0 index=2 name=\"start\"
+      216 func flags=164 index=3 name=\"two\"
+      224 table flags=48 index=0 name=none
+      227 global flags=16 index=0 name=none
+      230 global flags=16 index=1 name=none
+      233 global flags=164 index=2 name=\"c\"
+      239 global flags=0 index=3 name=\"d\"
+      244 global flags=6 index=4 name=\"\"
+      248 global flags=6 index=5 name=\"\"
+end 252
+";
+
+/// A module.
+const MODULE_5: &[u8] =
+    b"\0asm\x01\0\0\0\x01\x08\x02`\0\0`\x01\x7f\0\x03\x02\x01\x01\x04\x04\x01p\0\x01\x05\x03\x01\0\x01\
+\x06\x06\x01\x7f\0A\0\x0b\x09\x05\x01\x01\0\x01\0\x0a\x06\x01\x04\x01\x01~\x0b\x0b\x04\x01\x01\x01x\
+\0F\x04name\0\x06\x05named\x01\x04\x01\0\x01f\x02\x09\x01\0\x02\0\x01p\x01\x01l\x04\x04\x01\0\x01t\
+\x05\x05\x01\0\x02tb\x06\x05\x01\0\x02mm\x07\x04\x01\0\x01g\x08\x05\x01\0\x02ee\x09\x05\x01\0\x02dd";
+
+/// Its dump.
+const DUMP_5: &[u8] = b"version 0 8 1 module
+section 1 10 18 2
+  11 explicit=false type=(sub final (func))
+  14 explicit=false type=(sub final (func (param i32)))
+section 3 20 22 1
+  21 index=1
+section 4 24 28 1
+  25 element_type=(ref null func) table64=false initial=1 maximum=none shared=false init=null
+section 5 30 33 1
+  31 memory64=false shared=false initial=1 maximum=none page_size_log2=none
+section 6 35 41 1
+  36 content_type=i32 shared=false init_expr=38..41
+section 9 43 48 1
+  44 kind=passive functions=46..48 count=1 range=44..48
+    47 index=0
+code 50 56 1 5
+body 52 56
+section 11 58 62 1
+  59 kind=passive data=1:78 range=59..62
+custom 64 134 69
+  section name=\"name\"
+    69 module name=\"named\" range=71..77
+    77 function
+      80 index=0 name=\"f\"
+    83 local
+      86 index=0
+        88 index=0 name=\"p\"
+        91 index=1 name=\"l\"
+    94 type
+      97 index=0 name=\"t\"
+    100 table
+      103 index=0 name=\"tb\"
+    107 memory
+      110 index=0 name=\"mm\"
+    114 global
+      117 index=0 name=\"g\"
+    120 element
+      123 index=0 name=\"ee\"
+    127 data
+      130 index=0 name=\"dd\"
+end 134
+";
+
+/// A module.
+const MODULE_6: &[u8] =
+    b"\0asm\x01\0\0\0\x01\x11\x04`\x02\x7f~\0`\x01\x7f\0`\x01}\0`\0\0\x02\x0a\x01\x01m\x03tag\x04\0\x01\
+\x03\x02\x01\x03\x0d\x05\x02\0\0\0\x02\x07\x09\x02\x01x\x04\x02\x01f\0\0\x0a\x11\x01\x0f\0\x06@A\
+\x01B\x02\x08\x01\x07\x01\x1a\x1a\x0b\x0b\0\x16\x04name\x02\x03\x01\0\0\x04\x04\x01\0\x01t\x0a\x04\
+\x01\x01\x01e";
+
+/// Its dump.
+const DUMP_6: &[u8] = b"version 0 8 1 module
+section 1 10 27 4
+  11 explicit=false type=(sub final (func (param i32 i64)))
+  16 explicit=false type=(sub final (func (param i32)))
+  20 explicit=false type=(sub final (func (param f32)))
+  24 explicit=false type=(sub final (func))
+section 2 29 39 1
+  30 module=\"m\" name=\"tag\" ty=tag kind=exception func_type_idx=1
+section 3 41 43 1
+  42 index=3
+section 13 45 50 2
+  46 kind=exception func_type_idx=0
+  48 kind=exception func_type_idx=2
+section 7 52 61 2
+  53 name=\"x\" kind=tag index=2
+  57 name=\"f\" kind=func index=0
+code 63 80 1 16
+body 65 80
+custom 82 104 87
+  section name=\"name\"
+    87 local
+      90 index=0
+    92 type
+      95 index=0 name=\"t\"
+    98 field
+      fault 104 unexpected end-of-file
+end 104
+";
+
+/// Each module and its dump.
+const DUMPS: [(&[u8], &[u8]); 6] = [
+    (MODULE_1, DUMP_1),
+    (MODULE_2, DUMP_2),
+    (MODULE_3, DUMP_3),
+    (MODULE_4, DUMP_4),
+    (MODULE_5, DUMP_5),
+    (MODULE_6, DUMP_6),
+];
+
+// Each stream has its listing.
+fn list_all(rt: &impl Abort, alloc: Global, rows: &[(&[u8], &[u8])]) -> Result<(), Fail> {
+    for (stream, lines) in rows {
+        lists_as(rt, alloc, stream, lines)?;
+    }
+    Ok(())
+}
+
+// Each stream ends well, and has its dump.
+fn dump_all(rt: &impl Abort, alloc: Global, rows: &[(&[u8], &[u8])]) -> Result<(), Fail> {
+    for (stream, text) in rows {
+        dumps(rt, alloc, &Only::All, stream, Ok(Ended::End), text)?;
+    }
+    Ok(())
+}
+
+#[test]
+fn lists_golden_streams(rt: HostRuntime) -> Result<(), Fail> {
+    list_all(&rt, rt.alloc(), &LISTINGS)
+}
+
+#[test]
+fn dumps_golden_streams(rt: HostRuntime) -> Result<(), Fail> {
+    dump_all(&rt, rt.alloc(), &DUMPS)
+}

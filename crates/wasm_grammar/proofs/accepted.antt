@@ -1,0 +1,14 @@
+pub mod Accepting
+pub mod Contents
+pub mod Counts
+pub mod Endings
+pub mod Fits
+pub mod Frames
+pub mod Headers
+pub mod KindIds
+pub mod Knows
+pub mod Parts
+pub mod States
+pub mod Steps
+pub mod Tiles
+pub mod Walks

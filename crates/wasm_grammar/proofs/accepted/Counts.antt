@@ -1,0 +1,136 @@
+-- What the tiles before a section say to it, reported of the frames before it.
+use Rattle.std.proofs.Common.{◌≡◌, ℕ, ◌<◌, Bool, true, false, cond, not, ◌&&◌, ◌||◌, List, [], ◌∷◌, ◌++◌, length, refl, sym, ap, ◌∙◌}
+use Rattle.std.proofs.Common.{nat_lt, nat_eq, eqb-true, eq-eqb, append-nil, append_assoc}
+use Rattle.std.specs.List.{All, list_all, list_any}
+use Rattle.std.proofs.Math.Bool.{and_comm, or_comm}
+use Rattle.std.proofs.Math.Dec.{eqb-suc-zero}
+use Rattle.std.proofs.lemmas.List.Folds.{list_all-append, list_any-append}
+use Rattle.wasm_grammar.specs.declared.encoding.Encoding.{Encoding}
+use Rattle.wasm_grammar.specs.declared.encoding.Encoding.TheVariants.{Module, Component}
+use Rattle.wasm_grammar.specs.Grammar.{SectionContext}
+use Rattle.wasm_grammar.specs.Accepted.{SectionFrame, frame_count, frame_rank, IsSection}
+use Rattle.wasm_grammar.proofs.PlainLists.{all_of, all_to}
+use Rattle.wasm_grammar.specs.Ids.{code_id, data_count_id, data_id, function_id}
+
+-- whether a frame is a module's section with this id
+abbrev pub is_section : Encoding → ℕ → SectionFrame → Bool
+is_section Module n f = nat_eq f.id n
+is_section Component n f = false
+
+-- its count, if it is
+abbrev pub one_count : Encoding → ℕ → SectionFrame → List ℕ
+one_count encoding n f = cond (is_section encoding n f) (frame_count f ∷ []) []
+
+-- the counts of the sections with this id, the last one first
+abbrev pub counts_of : Encoding → ℕ → List SectionFrame → List ℕ
+counts_of encoding n [] = []
+counts_of encoding n (f ∷ fs) = counts_of encoding n fs ++ one_count encoding n f
+
+-- these are the tiles' words for these frames
+pub record Knows (encoding : Encoding) (frames : List SectionFrame) (p : SectionContext) : Type 0 where
+  pub named : p.encoding ≡ encoding
+  pub ranks : (r : ℕ) → 0 < r → p.may_follow r ≡ list_all (λ (f : SectionFrame). nat_lt (frame_rank encoding f) r) frames
+  pub functions : p.functions ≡ counts_of encoding function_id frames
+  pub codes : p.codes ≡ counts_of encoding code_id frames
+  pub datas : p.datas ≡ counts_of encoding data_id frames
+  pub data_counts : p.data_counts ≡ counts_of encoding data_count_id frames
+
+-- the test for a section is right
+pub section_yes : (encoding : Encoding) (n : ℕ) (f : SectionFrame) → is_section encoding n f ≡ true → IsSection encoding n f
+section_yes Module n f e = (refl, eqb-true f.id n e)
+section_yes Component n f e = cc
+
+-- a module's section with this id passes the test
+pub yes_section : (encoding : Encoding) (n : ℕ) (f : SectionFrame) → IsSection encoding n f → is_section encoding n f ≡ true
+yes_section Module n f s = eq-eqb f.id n s.1
+yes_section Component n f s = let z : Component ≡ Module = s.0 in cc
+
+-- one more frame after others puts its count first
+pub counts_push : (encoding : Encoding) (n : ℕ) (fs : List SectionFrame) (f : SectionFrame) → counts_of encoding n (fs ++ f ∷ [])
+    ≡ one_count encoding n f ++ counts_of encoding n fs
+counts_push encoding n [] f = sym (append-nil (one_count encoding n f))
+counts_push encoding n (g ∷ fs) f =
+    ap (λ (x : List ℕ). x ++ one_count encoding n g) (counts_push encoding n fs f)
+    ∙ append_assoc (one_count encoding n f) (counts_of encoding n fs) (one_count encoding n g)
+
+-- a frame passes a test of its count, if it is such a section
+abbrev pub advances : Encoding → ℕ → (ℕ → Bool) → SectionFrame → Bool
+advances encoding n p f = not (is_section encoding n f) || p (frame_count f)
+
+-- a frame is such a section, and its count passes a test
+abbrev pub offends : Encoding → ℕ → (ℕ → Bool) → SectionFrame → Bool
+offends encoding n p f = is_section encoding n f && p (frame_count f)
+
+-- all of at most one count
+one_all : (b : Bool) (p : ℕ → Bool) (c : ℕ) → list_all p (cond b (c ∷ []) []) ≡ (not b || p c)
+one_all true p c = and_comm (p c) true
+one_all false p c = refl
+
+-- one of at most one count
+one_any : (b : Bool) (p : ℕ → Bool) (c : ℕ) → list_any p (cond b (c ∷ []) []) ≡ (b && p c)
+one_any true p c = or_comm (p c) false
+one_any false p c = refl
+
+-- each count passes exactly if each frame does
+pub all_counts : (encoding : Encoding) (n : ℕ) (p : ℕ → Bool) (fs : List SectionFrame) → list_all p (counts_of encoding n fs)
+    ≡ list_all (advances encoding n p) fs
+all_counts encoding n p [] = refl
+all_counts encoding n p (f ∷ fs) =
+    list_all-append p (counts_of encoding n fs) (one_count encoding n f)
+    ∙ (and_comm (list_all p (counts_of encoding n fs)) (list_all p (one_count encoding n f))
+    ∙ (ap (λ (b : Bool). b && list_all p (counts_of encoding n fs)) (one_all (is_section encoding n f) p (frame_count f))
+    ∙ ap (λ (b : Bool). advances encoding n p f && b) (all_counts encoding n p fs)))
+
+-- a count passes exactly if a frame does
+pub any_counts : (encoding : Encoding) (n : ℕ) (p : ℕ → Bool) (fs : List SectionFrame) → list_any p (counts_of encoding n fs)
+    ≡ list_any (offends encoding n p) fs
+any_counts encoding n p [] = refl
+any_counts encoding n p (f ∷ fs) =
+    list_any-append p (counts_of encoding n fs) (one_count encoding n f)
+    ∙ (or_comm (list_any p (counts_of encoding n fs)) (list_any p (one_count encoding n f))
+    ∙ (ap (λ (b : Bool). b || list_any p (counts_of encoding n fs)) (one_any (is_section encoding n f) p (frame_count f))
+    ∙ ap (λ (b : Bool). offends encoding n p f || b) (any_counts encoding n p fs)))
+
+-- one more section, if it is one, is one more count
+none_step : (b : Bool) (c : ℕ) (xs : List ℕ) (t : Bool) → nat_eq (length xs) 0 ≡ not t → nat_eq (length (xs ++ cond b (c ∷ []) [])) 0
+    ≡ not (b || t)
+none_step true c [] t h = refl
+none_step true c (x ∷ xs) t h = eqb-suc-zero (length (xs ++ c ∷ []))
+none_step false c xs t h = rw append-nil h
+
+-- there is no count exactly if there is no such section
+pub no_counts : (encoding : Encoding) (n : ℕ) (fs : List SectionFrame) → nat_eq (length (counts_of encoding n fs)) 0
+    ≡ not (list_any (is_section encoding n) fs)
+no_counts encoding n [] = refl
+no_counts encoding n (f ∷ fs) = none_step (is_section encoding n f) (frame_count f) (counts_of encoding n fs)
+    (list_any (is_section encoding n) fs) (no_counts encoding n fs)
+
+-- a test that holds where it is asked for
+passes_to : (b t : Bool) → (b ≡ true → t ≡ true) → (not b || t) ≡ true
+passes_to true t h = h refl
+passes_to false t h = refl
+
+-- what such a test says where it is asked for
+passes_of : (b t : Bool) → (not b || t) ≡ true → b ≡ true → t ≡ true
+passes_of true t e f = e
+passes_of false t e f = cc
+
+-- each section with this id has this count
+abbrev pub HasCount : Encoding → ℕ → ℕ → List SectionFrame → Type 0
+HasCount encoding n c fs = All (λ g. IsSection encoding n g → frame_count g ≡ c) fs
+
+-- the test of counts is right
+pub same_to : (encoding : Encoding) (n c : ℕ) (fs : List SectionFrame) → HasCount encoding n c fs
+    → list_all (nat_eq c) (counts_of encoding n fs) ≡ true
+same_to encoding n c fs a = all_counts encoding n (nat_eq c) fs
+    ∙ all_to (advances encoding n (nat_eq c)) (λ g. IsSection encoding n g → frame_count g ≡ c)
+    (λ g h. passes_to (is_section encoding n g) (nat_eq c (frame_count g))
+    (λ e. eq-eqb c (frame_count g) (sym (h (section_yes encoding n g e))))) fs a
+
+-- what the test of counts says
+pub same_of : (encoding : Encoding) (n c : ℕ) (fs : List SectionFrame) → list_all (nat_eq c) (counts_of encoding n fs) ≡ true
+    → HasCount encoding n c fs
+same_of encoding n c fs e =
+    all_of (advances encoding n (nat_eq c)) (λ g. IsSection encoding n g → frame_count g ≡ c)
+    (λ g h s. sym (eqb-true c (frame_count g) (passes_of (is_section encoding n g) (nat_eq c (frame_count g)) h
+    (yes_section encoding n g s)))) fs (sym (all_counts encoding n (nat_eq c) fs) ∙ e)

@@ -1,0 +1,98 @@
+-- A reading ends at the end exactly where no section misses its other section.
+use Rattle.std.proofs.Common.{◌≡◌, ℕ, ◌<◌, inl, inr, Bool, true, false, cond, ◌&&◌, List, length, nat_lt, nat_eq, refl, sym, subst, ◌∙◌}
+use Rattle.std.proofs.Common.{ltb-true, lt-ltb}
+use Rattle.std.specs.List.{Any, list_any}
+use Rattle.std.proofs.lemmas.Bool.{and_parts, and_from, and_cases, and_right, false_from_ne_true}
+use Rattle.wasm_base.specs.FaultAt.{FaultAt, at_offset}
+use Rattle.wasm_base.specs.declared.fault.Fault.TheVariants.{FunctionWithoutCode, DataCountWithoutData}
+use Rattle.wasm_grammar.specs.declared.encoding.Encoding.{Encoding}
+use Rattle.wasm_grammar.specs.Content.{fault, ended}
+use Rattle.wasm_grammar.specs.Grammar.{SectionContext, end_at_section}
+use Rattle.wasm_grammar.specs.Accepted.{SectionFrame, frame_count, IsSection, IsMatched}
+use Rattle.wasm_grammar.proofs.PlainLists.{any_of, none_of}
+use Rattle.wasm_grammar.proofs.accepted.Counts.{is_section, counts_of, Knows, section_yes, yes_section, any_counts, offends}
+use Rattle.wasm_grammar.proofs.accepted.Fits.{some_to, some_from}
+use Rattle.wasm_grammar.specs.Ids.{data_count_id, function_id}
+
+-- whether a section has a count above 0, and there is no other section
+abbrev pub misses : Encoding → ℕ → ℕ → List SectionFrame → Bool
+misses encoding n other fs = list_any (nat_lt 0) (counts_of encoding n fs) && nat_eq (length (counts_of encoding other fs)) 0
+
+-- a matched section whose other section is missing has no count above 0
+matched_any : (encoding : Encoding) (n other : ℕ) (fs : List SectionFrame) → IsMatched encoding n other fs
+    → nat_eq (length (counts_of encoding other fs)) 0 ≡ true → list_any (nat_lt 0) (counts_of encoding n fs) ≡ true → ⊥
+matched_any encoding n other fs m z e =
+    let a : Any (λ g. IsSection encoding n g × (0 < frame_count g)) fs =
+    any_of (offends encoding n (nat_lt 0)) (λ g. IsSection encoding n g × (0 < frame_count g))
+    (λ g h. let q : ((is_section encoding n g ≡ true) × (nat_lt 0 (frame_count g) ≡ true)) = and_parts _ _ h in
+    (section_yes encoding n g q.0, ltb-true 0 (frame_count g) q.1))
+    fs (sym (any_counts encoding n (nat_lt 0) fs) ∙ e) in
+    let h : IsSection encoding n a.1 → 0 < frame_count a.1 → Any (IsSection encoding other) fs =
+    subst (λ (g : SectionFrame). IsSection encoding n g → 0 < frame_count g → Any (IsSection encoding other) fs) a.3 (m a.0 a.1 a.2) in
+    let f : nat_eq (length (counts_of encoding other fs)) 0 ≡ false = some_to encoding other fs (h a.4.0 a.4.1) in
+    cc
+
+-- matched sections miss none, whether there is another section or not
+matched_at : (encoding : Encoding) (n other : ℕ) (fs : List SectionFrame) → IsMatched encoding n other fs → (b : Bool)
+    → nat_eq (length (counts_of encoding other fs)) 0 ≡ b → (list_any (nat_lt 0) (counts_of encoding n fs) && b) ≡ false
+matched_at encoding n other fs m true e = rw (false_from_ne_true (list_any (nat_lt 0) (counts_of encoding n fs))
+    (matched_any encoding n other fs m e)) refl
+matched_at encoding n other fs m false e = and_right (list_any (nat_lt 0) (counts_of encoding n fs)) false refl
+
+-- matched sections miss none
+pub matched_to : (encoding : Encoding) (n other : ℕ) (fs : List SectionFrame) → IsMatched encoding n other fs → misses encoding n other fs
+    ≡ false
+matched_to encoding n other fs m = matched_at encoding n other fs m (nat_eq (length (counts_of encoding other fs)) 0) refl
+
+-- sections without a count above 0 are matched
+matched_none : (encoding : Encoding) (n other : ℕ) (fs : List SectionFrame) → list_any (nat_lt 0) (counts_of encoding n fs) ≡ false
+    → IsMatched encoding n other fs
+matched_none encoding n other fs e =
+    none_of (offends encoding n (nat_lt 0)) (λ g. IsSection encoding n g → 0 < frame_count g → Any (IsSection encoding other) fs)
+    (λ g h s l. let z : (is_section encoding n g && nat_lt 0 (frame_count g))
+    ≡ true = and_from _ _ (yes_section encoding n g s) (lt-ltb 0 (frame_count g) l) in cc)
+    fs (sym (any_counts encoding n (nat_lt 0) fs) ∙ e)
+
+-- sections are matched where the other section is
+matched_some : (encoding : Encoding) (n other : ℕ) (fs : List SectionFrame) → Any (IsSection encoding other) fs
+    → IsMatched encoding n other fs
+matched_some encoding n other fs a = λ k d l s h. a
+
+-- sections that miss none are matched
+pub matched_from : (encoding : Encoding) (n other : ℕ) (fs : List SectionFrame) → misses encoding n other fs ≡ false
+    → IsMatched encoding n other fs
+matched_from encoding n other fs e =
+    elim (and_cases (list_any (nat_lt 0) (counts_of encoding n fs)) (nat_eq (length (counts_of encoding other fs)) 0) e) [
+      | inl a ↦ matched_none encoding n other fs a
+      | inr b ↦ matched_some encoding n other fs (some_from encoding other fs b)
+    ]
+
+-- where neither fault holds a stream may end
+ends_to : (a b : Bool) (e f : FaultAt) (o : ℕ) → a ≡ false → b ≡ false → cond a (fault e) (cond b (fault f) (ended o)) ≡ ended o
+ends_to a b e f o p q = rw (p, q) refl
+
+-- where a stream may end neither fault holds
+ends_from : (a b : Bool) (e f : FaultAt) (o p : ℕ) → cond a (fault e) (cond b (fault f) (ended o)) ≡ ended p → (a ≡ false) × (b ≡ false)
+ends_from true b e f o p h = cc
+ends_from false true e f o p h = cc
+ends_from false false e f o p h = (refl, refl)
+
+-- how a stream ends, reported of its frames
+misses_same : (encoding : Encoding) (fs : List SectionFrame) (p : SectionContext) → Knows encoding fs p → (o : ℕ)
+    → end_at_section p o ≡ cond (misses encoding function_id 10 fs) (fault (at_offset FunctionWithoutCode o))
+    (cond (misses encoding data_count_id 11 fs) (fault (at_offset DataCountWithoutData o)) (ended o))
+misses_same encoding fs p k o = rw (k.functions, k.codes, k.datas, k.data_counts) refl
+
+-- after frames that are matched a stream may end
+pub end_to : (encoding : Encoding) (fs : List SectionFrame) (p : SectionContext) → Knows encoding fs p → (o : ℕ)
+    → IsMatched encoding function_id 10 fs → IsMatched encoding data_count_id 11 fs → end_at_section p o ≡ ended o
+end_to encoding fs p k o a b = misses_same encoding fs p k o ∙ ends_to _ _ _ _ o (matched_to encoding function_id 10 fs a)
+    (matched_to encoding data_count_id 11 fs b)
+
+-- frames after which a stream may end are matched
+pub end_from : (encoding : Encoding) (fs : List SectionFrame) (p : SectionContext) → Knows encoding fs p → (o e : ℕ) → end_at_section p o
+    ≡ ended e → IsMatched encoding function_id 10 fs × IsMatched encoding data_count_id 11 fs
+end_from encoding fs p k o e h =
+    let q : ((misses encoding function_id 10 fs ≡ false) × (misses encoding data_count_id 11 fs ≡ false)) =
+    ends_from _ _ _ _ o e (sym (misses_same encoding fs p k o) ∙ h) in
+    (matched_from encoding function_id 10 fs q.0, matched_from encoding data_count_id 11 fs q.1)

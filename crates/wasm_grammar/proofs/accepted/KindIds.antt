@@ -1,0 +1,45 @@
+-- What the kind of a section says of its id.
+use Rattle.std.proofs.Common.{◌≡◌, ℕ, zero, suc, refl, subst}
+use Rattle.wasm_grammar.specs.declared.encoding.Encoding.{Encoding}
+use Rattle.wasm_grammar.specs.declared.encoding.Encoding.TheVariants.{Module, Component}
+use Rattle.wasm_grammar.specs.Content.{Kind, custom, index, data_count, code, kind_of, whole}
+use Rattle.wasm_grammar.specs.Ids.{code_id, custom_id, data_count_id, start_id}
+
+-- the ids that a section of this kind may have: a code section is a module's
+abbrev pub IdOf : Encoding → Kind → ℕ → Type 0
+IdOf encoding (whole custom) id = id ≡ custom_id
+IdOf encoding (whole index) id = id ≡ start_id
+IdOf encoding (whole data_count) id = id ≡ data_count_id
+IdOf encoding code id = (encoding ≡ Module) × (id ≡ code_id)
+IdOf encoding other id = Unit {0}
+
+pub id_of_kind : (encoding : Encoding) (id : ℕ) → IdOf encoding (kind_of encoding id) id
+id_of_kind Module zero = refl
+id_of_kind Module (suc zero) = tt
+id_of_kind Module (suc (suc zero)) = tt
+id_of_kind Module (suc (suc (suc zero))) = tt
+id_of_kind Module (suc (suc (suc (suc zero)))) = tt
+id_of_kind Module (suc (suc (suc (suc (suc zero))))) = tt
+id_of_kind Module (suc (suc (suc (suc (suc (suc zero)))))) = tt
+id_of_kind Module (suc (suc (suc (suc (suc (suc (suc zero))))))) = tt
+id_of_kind Module (suc (suc (suc (suc (suc (suc (suc (suc zero)))))))) = refl
+id_of_kind Module (suc (suc (suc (suc (suc (suc (suc (suc (suc zero))))))))) = tt
+id_of_kind Module (suc (suc (suc (suc (suc (suc (suc (suc (suc (suc zero)))))))))) = (refl, refl)
+id_of_kind Module (suc (suc (suc (suc (suc (suc (suc (suc (suc (suc (suc zero))))))))))) = tt
+id_of_kind Module (suc (suc (suc (suc (suc (suc (suc (suc (suc (suc (suc (suc zero)))))))))))) = refl
+id_of_kind Module (suc (suc (suc (suc (suc (suc (suc (suc (suc (suc (suc (suc (suc zero))))))))))))) = tt
+id_of_kind Module (suc (suc (suc (suc (suc (suc (suc (suc (suc (suc (suc (suc (suc (suc id)))))))))))))) = tt
+id_of_kind Component zero = refl
+id_of_kind Component (suc id) = tt
+
+-- the id of a section that is known to have this kind
+pub id_as : (encoding : Encoding) (kind : Kind) (id : ℕ) → kind_of encoding id ≡ kind → IdOf encoding kind id
+id_as encoding kind id e = subst (λ (k : Kind). IdOf encoding k id) e (id_of_kind encoding id)
+
+-- a custom section has the id 0
+pub custom_has_its_id : (encoding : Encoding) (id : ℕ) → kind_of encoding id ≡ whole custom → id ≡ custom_id
+custom_has_its_id encoding id e = id_as encoding (whole custom) id e
+
+-- a code section is a module's, with the id 10
+pub code_has_its_id : (encoding : Encoding) (id : ℕ) → kind_of encoding id ≡ code → (encoding ≡ Module) × (id ≡ code_id)
+code_has_its_id encoding id e = id_as encoding code id e

@@ -1,0 +1,230 @@
+-- Tiles are bytes in the textbook form.
+use Rattle.std.proofs.Common.{◌≡◌, ℕ, zero, suc, ◌+◌, ◌-◌, ◌<◌, ◌≤◌, Bool, true, false, cond, not, ◌&&◌, List, [], ◌∷◌, ◌++◌, length, take}
+use Rattle.std.proofs.Common.{drop, Option, Some, None, nat_lt, nat_le, refl, sym, ap, subst, ◌∙◌, arith, append-nil, leb-true, leb-false}
+use Rattle.std.proofs.Common.{ltb-false}
+use Rattle.std.proofs.lemmas.List.{length-take-le}
+use Rattle.wasm_base.specs.FaultAt.{FaultAt, at_offset}
+use Rattle.wasm_base.specs.Header.{magic, agree}
+use Rattle.wasm_base.specs.Number.{read}
+use Rattle.wasm_base.specs.declared.fault.NumberKind.TheVariants.{VarU32}
+use Rattle.wasm_base.specs.declared.fault.Fault.TheVariants.{MagicAtSection, UnexpectedEof}
+use Rattle.wasm_base.proofs.NumberLaws.{number-used, Used}
+use Rattle.wasm_grammar.specs.Content.{Kind, kind_of, rank_of, Ending, fault, when, wrong_content, Form}
+use Rattle.wasm_grammar.specs.Grammar.{Shape, section, code_start, code_entry, Tile, tile, final, after, SectionContext, Grammar, accept}
+use Rattle.wasm_grammar.specs.Grammar.{check, u32_field, bytes, verdict, section_grammar, body_grammar, content_grammar, whole_grammar}
+use Rattle.wasm_grammar.specs.Grammar.{code_grammar, after_length, after_id, wrong_count, wrong_data}
+use Rattle.wasm_grammar.specs.Accepted.{IsNumber}
+use Rattle.wasm_grammar.proofs.parts.Verdicts.{after-tile}
+use Rattle.wasm_grammar.proofs.parts.Placed.{Follows, none_when}
+use Rattle.wasm_grammar.proofs.parts.Guarded.{Numbered, numbered}
+use Rattle.wasm_grammar.proofs.accepted.Tiles.{made, IsWhole}
+
+-- nothing is wrong before a tile
+pub refuse_parts : (e : Option FaultAt) (next : Grammar) (xs : List ℕ) (t : Tile) → verdict (check e next) xs ≡ tile t → (e ≡ None)
+    × (verdict next xs ≡ tile t)
+unfolding verdict
+refuse_parts (Some e) next xs t h = cc
+refuse_parts None next xs t h = (refl, h)
+
+-- a tile that begins with a number
+record NumberParts (next : ℕ → ℕ → Grammar) (t : Tile) : Type 0 where
+  pub value : ℕ
+  pub field : List ℕ
+  pub whole : IsNumber field value
+  pub others : List ℕ
+  pub rest : Tile
+  pub goes_on : verdict (next value (length field)) others ≡ tile rest
+  pub is : t ≡ made rest.shape (field ++ rest.bytes)
+
+-- what a tile after a number consists of
+number_parts : (o : ℕ) (next : ℕ → ℕ → Grammar) (xs : List ℕ) (t : Tile) → verdict (u32_field o next) xs ≡ tile t → NumberParts next t
+number_parts o next xs t h =
+    let n : Numbered next xs t = numbered o next xs t h in
+    let u : Used VarU32 xs n.value n.used = number-used VarU32 xs n.value n.used n.reads in
+    let l : length (take n.used xs) ≡ n.used = length-take-le n.used xs u.there in
+    record {
+      value = n.value;
+      field = take n.used xs;
+      whole = u.alone ∙ ap (read n.value) (sym l);
+      others = drop n.used xs;
+      rest = n.rest;
+      goes_on = subst (λ (x : ℕ). verdict (next n.value x) (drop n.used xs) ≡ tile n.rest) (sym l) n.goes_on;
+      is = n.is;
+    }
+
+-- a tile that begins with so many bytes
+pub record BytesParts (n : ℕ) (next : List ℕ → Grammar) (t : Tile) : Type 0 where
+  pub prefix : List ℕ
+  pub size : length prefix ≡ n
+  pub others : List ℕ
+  pub rest : Tile
+  pub goes_on : verdict (next prefix) others ≡ tile rest
+  pub is : t ≡ made rest.shape (prefix ++ rest.bytes)
+
+-- what a tile after so many bytes consists of, if they are there
+bytes_at : (b : Bool) (n : ℕ) (next : List ℕ → Grammar) (xs : List ℕ) (e : Ending) (t : Tile) → nat_le n (length xs) ≡ b
+    → cond b (after (take n xs) (verdict (next (take n xs)) (drop n xs))) (final e) ≡ tile t → BytesParts n next t
+bytes_at true n next xs e t l h =
+    let (s, r, q) = after-tile (take n xs) (verdict (next (take n xs)) (drop n xs)) t h in
+    record { prefix = take n xs; size = length-take-le n xs (leb-true _ _ l); others = drop n xs; rest = s; goes_on = r; is = q }
+bytes_at false n next xs e t l h = cc
+
+-- what a tile after so many bytes consists of
+pub bytes_parts : (n o : ℕ) (next : List ℕ → Grammar) (xs : List ℕ) (t : Tile) → verdict (bytes n o next) xs ≡ tile t → BytesParts n next t
+unfolding verdict
+bytes_parts n o next xs t h = bytes_at (nat_le n (length xs)) n next xs _ t refl h
+
+-- a tile that is whole has no more bytes
+pub takes_parts : (s : Shape) (xs : List ℕ) (t : Tile) → verdict (accept s) xs ≡ tile t → t ≡ made s []
+unfolding verdict
+takes_parts s xs t h = cc
+
+-- a tile after bytes with which it ends
+pub ends_there : (t u : Tile) (s : Shape) (prefix : List ℕ) → t ≡ made u.shape (prefix ++ u.bytes) → u ≡ made s [] → t ≡ made s prefix
+ends_there t u s prefix e f =
+    e ∙ (ap (λ (x : Tile). made x.shape (prefix ++ x.bytes)) f ∙ ap (made s) (append-nil prefix))
+
+-- a section whose head is right, and what follows it
+pub record SectionParts (p : SectionContext) (o : ℕ) (t : Tile) : Type 0 where
+  pub id : ℕ
+  pub below : id < 128
+  pub field : List ℕ
+  pub size : ℕ
+  pub whole : IsNumber field size
+  pub follows : Follows p (rank_of (kind_of p.encoding id) id)
+  pub others : List ℕ
+  pub rest : Tile
+  pub goes_on : verdict (content_grammar p (kind_of p.encoding id) id (o + 1 + length field) size) others ≡ tile rest
+  pub is : t ≡ made rest.shape (id ∷ (field ++ rest.bytes))
+
+-- what a section's tile consists of after its id
+framed_parts : (p : SectionContext) (o id : ℕ) (xs : List ℕ) (s t : Tile) → verdict (after_id p o id) xs ≡ tile s → t
+    ≡ made s.shape (id ∷ s.bytes) → SectionParts p o t
+framed_parts p o id xs s t h e =
+    let a : ((when (nat_le 128 id) _ ≡ None) × (verdict _ xs ≡ tile s)) = refuse_parts _ _ xs s h in
+    let n : NumberParts (λ size width. after_length p (kind_of p.encoding id) id (o + 1) (o + 1 + width) size) s =
+    number_parts (o + 1) _ xs s a.1 in
+    let b : ((_ ≡ None) × (verdict _ n.others ≡ tile n.rest)) = refuse_parts _ _ n.others n.rest n.goes_on in
+    let c : ((when (nat_lt 0 (rank_of (kind_of p.encoding id) id) && not (p.may_follow (rank_of (kind_of p.encoding id) id))) _ ≡ None)
+    × (verdict (content_grammar p (kind_of p.encoding id) id (o + 1 + length n.field) n.value) n.others ≡ tile n.rest)) =
+    refuse_parts _ _ n.others n.rest b.1 in
+    record {
+      id = id;
+      below = leb-false 128 id (none_when (nat_le 128 id) _ a.0);
+      field = n.field;
+      size = n.value;
+      whole = n.whole;
+      follows = none_when _ _ c.0;
+      others = n.others;
+      rest = n.rest;
+      goes_on = c.1;
+      is = e ∙ ap (λ (x : Tile). made x.shape (id ∷ x.bytes)) n.is;
+    }
+
+-- what a section's tile consists of, if it begins no header
+start_at : (b : Bool) (p : SectionContext) (o id : ℕ) (xs : List ℕ) (x : FaultAt) (t : Tile)
+    → cond b (final (fault x)) (after (id ∷ []) (verdict (after_id p o id) xs)) ≡ tile t → SectionParts p o t
+start_at true p o id xs x t h = cc
+start_at false p o id xs x t h =
+    let (s, r, q) = after-tile (id ∷ []) (verdict (after_id p o id) xs) t h in
+    framed_parts p o id xs s t r q
+
+-- what a section's tile consists of
+pub section_parts : (p : SectionContext) (o : ℕ) (xs : List ℕ) (t : Tile) → verdict (section_grammar p o) xs ≡ tile t → SectionParts p o t
+unfolding verdict section_grammar
+section_parts p o [] t h = cc
+section_parts p o (id ∷ xs) t h = start_at (agree (id ∷ xs) magic && nat_le 4 (length (id ∷ xs))) p o id xs (at_offset MagicAtSection o) t h
+
+-- a section that is one tile: its content
+pub record WholeParts (p : SectionContext) (kind : Form) (id o size : ℕ) (t : Tile) : Type 0 where
+  pub content : List ℕ
+  pub long : length content ≡ size
+  pub right : wrong_content kind o content ≡ None
+  pub counted : wrong_data p kind id (o + size) content ≡ None
+  pub is : t ≡ made (section kind id content) content
+
+-- the content of a section that is one tile
+whole_parts : (p : SectionContext) (kind : Form) (id o size : ℕ) (xs : List ℕ) (t : Tile) → verdict (whole_grammar p kind id o size) xs
+    ≡ tile t → WholeParts p kind id o size t
+whole_parts p kind id o size xs t h =
+    let b : BytesParts size (λ content. check (wrong_content kind o content)
+    (check (wrong_data p kind id (o + size) content) (accept (section kind id content)))) t = bytes_parts size o _ xs t h in
+    let c : ((wrong_content kind o b.prefix ≡ None) × (verdict _ b.others ≡ tile b.rest)) = refuse_parts _ _ b.others b.rest b.goes_on in
+    let d : ((wrong_data p kind id (o + size) b.prefix ≡ None) × (verdict (accept (section kind id b.prefix)) b.others ≡ tile b.rest)) =
+    refuse_parts _ _ b.others b.rest c.1 in
+    record {
+      content = b.prefix;
+      long = b.size;
+      right = c.0;
+      counted = d.0;
+      is = ends_there t b.rest (section kind id b.prefix) b.prefix b.is (takes_parts _ b.others b.rest d.1);
+    }
+
+-- the same for each of its kinds
+pub content_parts : (p : SectionContext) (kind : Kind) (id o size : ℕ) (xs : List ℕ) (t : Tile) (w : IsWhole kind)
+    → verdict (content_grammar p kind id o size) xs ≡ tile t → WholeParts p w.0 id o size t
+content_parts p kind id o size xs t w h = whole_parts p w.0 id o size xs t
+    (subst (λ (k : Kind). verdict (content_grammar p k id o size) xs ≡ tile t) w.1 h)
+
+-- a code section up to its count: that count
+pub record HeadParts (p : SectionContext) (o size : ℕ) (t : Tile) : Type 0 where
+  pub count : ℕ
+  pub head : List ℕ
+  pub whole : IsNumber head count
+  pub fits : length head ≤ size
+  pub right : wrong_count p o count ≡ None
+  pub is : t ≡ made (code_start count (length head) (size - length head)) head
+
+-- what the head of a code section consists of
+pub head_parts : (p : SectionContext) (o size : ℕ) (xs : List ℕ) (t : Tile) → verdict (code_grammar p o size) xs ≡ tile t
+    → HeadParts p o size t
+head_parts p o size xs t h =
+    let n : NumberParts (λ count width. check (when (nat_lt size width) _)
+    (check (wrong_count p o count) (accept (code_start count width (size - width))))) t = number_parts o _ xs t h in
+    let a : ((when (nat_lt size (length n.field)) _ ≡ None) × (verdict _ n.others ≡ tile n.rest)) =
+    refuse_parts _ _ n.others n.rest n.goes_on in
+    let b : ((wrong_count p o n.value ≡ None) × (verdict (accept (code_start n.value (length n.field) (size - length n.field))) n.others
+    ≡ tile n.rest)) = refuse_parts _ _ n.others n.rest a.1 in
+    record {
+      count = n.value;
+      head = n.field;
+      whole = n.whole;
+      fits = ltb-false size (length n.field) (none_when _ _ a.0);
+      right = b.0;
+      is = ends_there t n.rest (code_start n.value (length n.field) (size - length n.field)) n.field n.is
+          (takes_parts _ n.others n.rest b.1);
+    }
+
+-- a body, in a code section of which so many bodies and bytes are left
+pub record BodyParts (m l : ℕ) (t : Tile) : Type 0 where
+  pub others : ℕ
+  pub missing : m ≡ suc others
+  pub field : List ℕ
+  pub content : List ℕ
+  pub whole : IsNumber field (length content)
+  pub fits : length field + length content ≤ l
+  pub is : t ≡ made (code_entry content) (field ++ content)
+
+-- what a body consists of
+pub body_parts : (m l o : ℕ) (xs : List ℕ) (t : Tile) → verdict (body_grammar m l o) xs ≡ tile t → BodyParts m l t
+unfolding body_grammar verdict
+body_parts zero l o xs t h = cc
+body_parts (suc m) l o xs t h =
+    let n : NumberParts (λ size width. check (when (nat_lt l (width + size)) (at_offset UnexpectedEof o))
+    (bytes size (o + width) (λ content. accept (code_entry content)))) t = number_parts o _ xs t h in
+    let a : ((when (nat_lt l (length n.field + n.value)) (at_offset UnexpectedEof o) ≡ None)
+    × (verdict (bytes n.value (o + length n.field) (λ content. accept (code_entry content))) n.others ≡ tile n.rest)) =
+    refuse_parts _ _ n.others n.rest n.goes_on in
+    let b : BytesParts n.value (λ content. accept (code_entry content)) n.rest =
+    bytes_parts n.value (o + length n.field) _ n.others n.rest a.1 in
+    let r : n.rest ≡ made (code_entry b.prefix) b.prefix = ends_there n.rest b.rest (code_entry b.prefix) b.prefix b.is
+    (takes_parts _ b.others b.rest b.goes_on) in
+    record {
+      others = m;
+      missing = refl;
+      field = n.field;
+      content = b.prefix;
+      whole = n.whole ∙ ap (λ (x : ℕ). read x (length n.field)) (sym b.size);
+      fits = omega (arith, b.size, ltb-false l (length n.field + n.value) (none_when _ _ a.0));
+      is = n.is ∙ ap (λ (x : Tile). made x.shape (n.field ++ x.bytes)) r;
+    }

@@ -1,0 +1,167 @@
+-- A good section that fits after other tiles is one tile more, or the head of a code section and its bodies.
+use Rattle.std.proofs.Common.{◌≡◌, ℕ, suc, ◌+◌, ◌-◌, ◌^◌, ◌<◌, ◌≤◌, true, false, List, [], ◌∷◌, ◌++◌, length, Some, nat_eq, refl, sym, ap}
+use Rattle.std.proofs.Common.{subst, ◌∙◌, arith, length-append, append-nil, append_assoc, lit<}
+use Rattle.std.specs.List.{All, flat_map}
+use Rattle.std.proofs.lemmas.Bool.{ne_eqb}
+use Rattle.std.proofs.lemmas.List.Elements.{All-head, All-tail}
+use Rattle.wasm_base.specs.Name.{named, name_limit, name}
+use Rattle.wasm_grammar.specs.declared.encoding.Encoding.{Encoding}
+use Rattle.wasm_grammar.specs.declared.encoding.Encoding.TheVariants.{Module, Component}
+use Rattle.wasm_grammar.specs.Content.{kind_of, rank_of, value_of, count_of, Kind}
+use Rattle.wasm_grammar.specs.FrameEvents.{body_events}
+use Rattle.wasm_grammar.specs.Grammar.{section, code_start, code_entry, Tile, tile, SectionContext, Grammar, verdict, section_grammar}
+use Rattle.wasm_grammar.specs.Grammar.{body_grammar}
+use Rattle.wasm_grammar.specs.Tiling.{bytes_of, grammar, Faultless, context_of, bodies_left, bytes_left, is_start}
+use Rattle.wasm_grammar.specs.Reading.{events_of}
+use Rattle.wasm_grammar.specs.Accepted.{Sized, sized_bytes, IsSized, SectionFrame, frame_bytes, frame_count, frame_rank, IsFrame, IsGood}
+use Rattle.wasm_grammar.specs.Accepted.{FitsAfter, CodeDivision}
+use Rattle.wasm_grammar.proofs.parts.Placed.{Follows}
+use Rattle.wasm_grammar.proofs.accepted.Counts.{Knows}
+use Rattle.wasm_grammar.proofs.accepted.Fits.{rank_to, CodeFits, code_to, data_to}
+use Rattle.wasm_grammar.proofs.accepted.Contents.{good_to}
+use Rattle.wasm_grammar.proofs.accepted.Tiles.{made, IsWhole, HeadIsRight, number_on, section_tile, code_head_tile, body_tile}
+use Rattle.wasm_grammar.proofs.accepted.Knows.{grammar_open, knows_body}
+use Rattle.wasm_grammar.proofs.frames.TileEvents.{body_tile_event}
+use Rattle.wasm_grammar.specs.Ids.{code_id, custom_id}
+
+-- what comes before a good section's content is right, if the section fits
+head_of_frame : (p : SectionContext) (fs : List SectionFrame) (o : ℕ) (f : SectionFrame) → Knows p.encoding fs p → IsFrame p.encoding f
+    → FitsAfter p.encoding fs f → o + length (frame_bytes f) < 2 ^ 64
+    → HeadIsRight p o f.id f.sized.field (length f.sized.content)
+head_of_frame p fs o f k i a r = record {
+  below = i.id;
+  number = i.sized;
+  room = omega (arith, length-append f.sized.field f.sized.content);
+  follows = rank_to p.encoding fs p k (frame_rank p.encoding f) a.ranks;
+}
+
+-- a good section with the id 0 has a name
+named_zero : (encoding : Encoding) (id : ℕ) (content : List ℕ) → IsGood (kind_of encoding id) content → id ≡ custom_id → (text : List ℕ)
+    × (used : ℕ) × (name (Some name_limit) content ≡ named text used)
+named_zero Module id content g z = subst (λ (x : ℕ). IsGood (kind_of Module x) content) z g
+named_zero Component id content g z = subst (λ (x : ℕ). IsGood (kind_of Component x) content) z g
+
+-- a good section that fits after tiles of its own encoding is a tile
+section_at : (p : SectionContext) (fs : List SectionFrame) (o : ℕ) (f : SectionFrame) → o + length (frame_bytes f) < 2 ^ 64
+    → Knows p.encoding fs p → IsFrame p.encoding f → FitsAfter p.encoding fs f
+    → (w : IsWhole (kind_of p.encoding f.id)) → verdict (section_grammar p o) (frame_bytes f)
+    ≡ tile (made (section w.0 f.id f.sized.content) (frame_bytes f))
+section_at p fs o f r k i a w =
+    section_tile p o f.id f.sized.field f.sized.content (head_of_frame p fs o f k i a r) w
+    (named_zero p.encoding f.id f.sized.content i.content)
+    (λ at. good_to w.0 at f.sized.content (subst (λ (k : Kind). IsGood k f.sized.content) w.1 i.content))
+    (λ at. data_to p.encoding fs p k f at a.segments w.0 w.1)
+
+-- a good section that fits and is no code section is a tile
+pub section_step : (encoding : Encoding) (p : SectionContext) (fs : List SectionFrame) (o : ℕ) (f : SectionFrame)
+    → o + length (frame_bytes f) < 2 ^ 64 → Knows encoding fs p → IsFrame encoding f → FitsAfter encoding fs f
+    → (w : IsWhole (kind_of encoding f.id)) → verdict (section_grammar p o) (frame_bytes f)
+    ≡ tile (made (section w.0 f.id f.sized.content) (frame_bytes f))
+section_step encoding p fs o f r k i a w =
+    subst (λ (e : Encoding). Knows e fs p → IsFrame e f → FitsAfter e fs f → (w : IsWhole (kind_of e f.id))
+    → verdict (section_grammar p o) (frame_bytes f) ≡ tile (made (section w.0 f.id f.sized.content) (frame_bytes f)))
+    k.named (section_at p fs o f r) k i a w
+
+-- what a code section's content says it has
+pub division_count : (f : SectionFrame) (d : CodeDivision f.sized.content) → frame_count f ≡ length d.bodies
+division_count f d = ap count_of d.whole ∙ ap value_of (number_on d.field (flat_map sized_bytes d.bodies) (length d.bodies) d.count)
+
+-- how long a code section's content is
+pub division_length : (f : SectionFrame) (d : CodeDivision f.sized.content) → length f.sized.content
+    ≡ length d.field + length (flat_map sized_bytes d.bodies)
+division_length f d = ap (λ (x : List ℕ). length x) d.whole ∙ length-append d.field (flat_map sized_bytes d.bodies)
+
+-- what comes before a good code section's content is right, if the section fits
+head_of_code : (p : SectionContext) (fs : List SectionFrame) (o : ℕ) (f : SectionFrame) → f.id ≡ code_id → Knows Module fs p
+    → IsFrame Module f
+    → FitsAfter Module fs f → o + length (frame_bytes f) < 2 ^ 64
+    → HeadIsRight p o 10 f.sized.field (length f.sized.content)
+head_of_code p fs o f z k i a r =
+    let q : Follows p (frame_rank Module f) = rank_to Module fs p k (frame_rank Module f) a.ranks in
+    let s : Follows p (rank_of (kind_of Module code_id) code_id) = subst (λ (x : ℕ). Follows p (rank_of (kind_of Module x) x)) z q in
+    record {
+      below = lit< tt;
+      number = i.sized;
+      room = omega (arith, length-append f.sized.field f.sized.content);
+      follows = subst (λ (e : Encoding). Follows p (rank_of (kind_of e 10) 10)) (sym k.named) s;
+    }
+
+-- a good code section that fits begins with the tile of its head
+pub code_step : (p : SectionContext) (fs : List SectionFrame) (o : ℕ) (f : SectionFrame) (d : CodeDivision f.sized.content) → f.id ≡ code_id
+    → o + length (frame_bytes f) < 2 ^ 64 → Knows Module fs p → IsFrame Module f → FitsAfter Module fs f
+    → verdict (section_grammar p o) (10 ∷ (f.sized.field ++ d.field))
+    ≡ tile (made (code_start (length d.bodies) (length d.field) (length f.sized.content - length d.field))
+    (10 ∷ (f.sized.field ++ d.field)))
+code_step p fs o f d z r k i a =
+    let c : frame_count f ≡ length d.bodies = division_count f d in
+    let g : CodeFits Module fs (frame_count f) = record { bodies = a.bodies (refl, z); functions = a.functions (refl, z) } in
+    code_head_tile p o (length f.sized.content) (length d.bodies) f.sized.field d.field (head_of_code p fs o f z k i a r)
+    (ap (λ (e : Encoding). kind_of e 10) k.named) d.count
+    (omega (arith, division_length f d)) (λ at. code_to Module fs p k at (length d.bodies) (subst (CodeFits Module fs) c g))
+
+-- tiles after all bodies of a code section
+pub record Through (start : ℕ) (ts : List Tile) (bodies : List Sized) : Type 0 where
+  pub tiles : List Tile
+  pub begun : is_start tiles ≡ false
+  pub faultless : Faultless start tiles
+  pub joined : bytes_of tiles ≡ bytes_of ts ++ flat_map sized_bytes bodies
+  pub closed : nat_eq (bodies_left tiles + bytes_left tiles) 0 ≡ true
+  pub knows : (encoding : Encoding) (fs : List SectionFrame) → Knows encoding fs (context_of ts) → Knows encoding fs (context_of tiles)
+  pub listed : (features : ℕ) → events_of start features tiles ≡ events_of start features ts
+      ++ body_events features (start + length (bytes_of ts)) bodies
+
+-- where a body is missing, a code section isn't at its end
+some_left : (a b n : ℕ) → a ≡ suc n → nat_eq (a + b) 0 ≡ false
+some_left a b n e = ne_eqb (a + b) 0 (λ z. absurd (omega arith))
+
+-- a body that a code section misses is a tile
+body_at : (start : ℕ) (ts : List Tile) (s : Sized) (n : ℕ) → is_start ts ≡ false → IsSized s → bodies_left ts ≡ suc n
+    → length (sized_bytes s) ≤ bytes_left ts
+    → verdict (grammar start ts) (sized_bytes s) ≡ tile (made (code_entry s.content) (sized_bytes s))
+body_at start ts s n b i e l =
+    subst (λ (g : Grammar). verdict g (sized_bytes s) ≡ tile (made (code_entry s.content) (sized_bytes s)))
+    (sym (grammar_open start ts b (some_left (bodies_left ts) (bytes_left ts) n e)))
+    (subst (λ (m : ℕ). verdict (body_grammar m (bytes_left ts) (start + length (bytes_of ts))) (sized_bytes s)
+    ≡ tile (made (code_entry s.content) (sized_bytes s))) (sym e)
+    (body_tile n (bytes_left ts) (start + length (bytes_of ts)) s.field s.content i (omega (arith, length-append s.field s.content))))
+
+-- the events of bodies after one more
+body_listed : (start features : ℕ) (ts : List Tile) (s : Sized) (bodies : List Sized)
+    → events_of start features (made (code_entry s.content) (sized_bytes s) ∷ ts)
+    ++ body_events features (start + length (bytes_of ts ++ sized_bytes s)) bodies
+    ≡ events_of start features ts ++ body_events features (start + length (bytes_of ts)) (s ∷ bodies)
+body_listed start features ts s bodies =
+    let o : start + length (bytes_of ts ++ sized_bytes s) ≡ start + length (bytes_of ts) + length (sized_bytes s) =
+    omega (arith, length-append (bytes_of ts) (sized_bytes s)) in
+    append_assoc (events_of start features ts) _ _
+    ∙ (λ i. events_of start features ts ++ body_tile_event features (start + length (bytes_of ts)) s i ∷ body_events features (o i) bodies)
+
+-- bodies that a code section misses are tiles
+pub bodies_walk : (start : ℕ) (bodies : List Sized) (ts : List Tile) → is_start ts ≡ false → Faultless start ts → All IsSized bodies
+    → bodies_left ts ≡ length bodies → bytes_left ts ≡ length (flat_map sized_bytes bodies) → Through start ts bodies
+bodies_walk start [] ts b f a m l = record {
+  tiles = ts;
+  begun = b;
+  faultless = f;
+  joined = sym (append-nil (bytes_of ts));
+  closed = rw (m, l) refl;
+  knows = λ encoding fs k. k;
+  listed = λ features. sym (append-nil (events_of start features ts));
+}
+bodies_walk start (s ∷ bodies) ts b f a m l =
+    let h : length (flat_map sized_bytes (s ∷ bodies)) ≡ length (sized_bytes s) + length (flat_map sized_bytes bodies) =
+    length-append (sized_bytes s) (flat_map sized_bytes bodies) in
+    let v : verdict (grammar start ts) (sized_bytes s) ≡ tile (made (code_entry s.content) (sized_bytes s)) =
+    body_at start ts s (length bodies) b (All-head IsSized s bodies a) m (omega arith) in
+    let t : Through start (made (code_entry s.content) (sized_bytes s) ∷ ts) bodies =
+    bodies_walk start bodies (made (code_entry s.content) (sized_bytes s) ∷ ts) refl (f, v) (All-tail IsSized s bodies a) (omega arith)
+    (omega arith) in
+    record {
+      tiles = t.tiles;
+      begun = t.begun;
+      faultless = t.faultless;
+      joined = t.joined ∙ append_assoc (bytes_of ts) (sized_bytes s) (flat_map sized_bytes bodies);
+      closed = t.closed;
+      knows = λ encoding fs k. t.knows encoding fs (knows_body encoding fs ts s.content (sized_bytes s) k);
+      listed = λ features. t.listed features ∙ body_listed start features ts s bodies;
+    }

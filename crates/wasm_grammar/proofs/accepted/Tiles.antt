@@ -1,0 +1,247 @@
+-- Bytes in the textbook form are tiles.
+use Rattle.std.proofs.Common.{◌≡◌, ◌≢◌, ℕ, suc, ◌+◌, ◌-◌, ◌^◌, ◌<◌, ◌≤◌, ◌⊎◌, inl, inr, Bool, true, false, not, ◌&&◌, List, [], ◌∷◌, ◌++◌}
+use Rattle.std.proofs.Common.{length, take, drop, Option, Some, None, nat_lt, nat_le, nat_eq, refl, sym, ap, subst, ◌∙◌, arith, append-nil}
+use Rattle.std.proofs.Common.{length-append, eqb-true, le-leb, le-ltb, lt-ltb}
+use Rattle.std.proofs.lemmas.List.{take_at, drop_at}
+use Rattle.std.proofs.lemmas.Bool.{and_parts, false_from_ne_true}
+use Rattle.std.proofs.lemmas.Bool.Decides.{nat_tests}
+use Rattle.wasm_base.specs.FaultAt.{FaultAt}
+use Rattle.wasm_base.specs.Header.{magic, agree}
+use Rattle.wasm_base.specs.Name.{named, refused, name_limit, name}
+use Rattle.wasm_base.specs.Number.{read, short, number}
+use Rattle.wasm_base.specs.declared.fault.NumberKind.TheVariants.{VarU32}
+use Rattle.wasm_base.specs.declared.fault.Fault.TheVariants.{UnexpectedEof}
+use Rattle.wasm_base.proofs.NumberLaws.{number-more, number-used, Used}
+use Rattle.wasm_grammar.specs.declared.encoding.Encoding.{Encoding}
+use Rattle.wasm_grammar.specs.declared.encoding.Encoding.TheVariants.{Module, Component}
+use Rattle.wasm_grammar.specs.Content.{Kind, code, kind_of, rank_of, Ending, when, wrong_content, Form, whole}
+use Rattle.wasm_grammar.specs.Grammar.{Shape, version, section, code_start, code_entry, Tile, tile, SectionContext, Grammar, accept, check}
+use Rattle.wasm_grammar.specs.Grammar.{u32_field, bytes, section_start, verdict, header_grammar, section_grammar, body_grammar}
+use Rattle.wasm_grammar.specs.Grammar.{content_grammar, whole_grammar, code_grammar, after_id, wrong_count, wrong_data}
+use Rattle.wasm_grammar.specs.Accepted.{IsNumber, header_bytes}
+use Rattle.wasm_grammar.proofs.parts.Placed.{Follows}
+use Rattle.wasm_grammar.proofs.parts.Guarded.{one_byte}
+use Rattle.wasm_grammar.specs.Ids.{custom_id}
+use Rattle.wasm_grammar.specs.Ids.{code_id}
+
+-- a tile of this shape with these bytes
+abbrev pub made : Shape → List ℕ → Tile
+made s b = record { shape = s; bytes = b }
+
+-- a number's field keeps its value, whatever follows
+pub number_on : (field rest : List ℕ) (v : ℕ) → IsNumber field v → number VarU32 (field ++ rest) ≡ read v (length field)
+number_on field rest v e =
+    let ns : number VarU32 field ≢ short = λ z. (cc) in
+    number-more VarU32 field rest ns ∙ e
+
+-- a number, and then a tile
+number_tile : (o : ℕ) (next : ℕ → ℕ → Grammar) (field rest : List ℕ) (v : ℕ) (s : Shape) (b : List ℕ) → IsNumber field v
+    → verdict (next v (length field)) rest ≡ tile (made s b) → verdict (u32_field o next) (field ++ rest) ≡ tile (made s (field ++ b))
+unfolding verdict
+number_tile o next field rest v s b e h =
+    let m : number VarU32 (field ++ rest) ≡ read v (length field) = number_on field rest v e in
+    let t : take (length field) (field ++ rest) ≡ field = take_at field rest (length field) refl in
+    let d : drop (length field) (field ++ rest) ≡ rest = drop_at field rest (length field) refl in
+    rw m (rw (t, d) (rw h refl))
+
+-- so many bytes, and then a tile
+bytes_tile : (n o : ℕ) (next : List ℕ → Grammar) (prefix rest : List ℕ) (s : Shape) (b : List ℕ) → length prefix ≡ n
+    → verdict (next prefix) rest ≡ tile (made s b) → verdict (bytes n o next) (prefix ++ rest) ≡ tile (made s (prefix ++ b))
+unfolding verdict
+bytes_tile n o next prefix rest s b len h =
+    let l : nat_le n (length (prefix ++ rest)) ≡ true = le-leb _ _ (omega (arith, length-append prefix rest)) in
+    let t : take n (prefix ++ rest) ≡ prefix = take_at prefix rest n len in
+    let d : drop n (prefix ++ rest) ≡ rest = drop_at prefix rest n len in
+    rw l (rw (t, d) (rw h refl))
+
+-- nothing is wrong, and then a tile
+refuse_tile : (e : Option FaultAt) (next : Grammar) (xs : List ℕ) (t : Tile) → e ≡ None → verdict next xs ≡ tile t
+    → verdict (check e next) xs ≡ tile t
+unfolding verdict
+refuse_tile (Some e) next xs t z h = cc
+refuse_tile None next xs t z h = h
+
+-- a test that fails, and then a tile
+when_tile : (b : Bool) (e : FaultAt) (next : Grammar) (xs : List ℕ) (t : Tile) → b ≡ false → verdict next xs ≡ tile t
+    → verdict (check (when b e) next) xs ≡ tile t
+when_tile b e next xs t z h = refuse_tile (when b e) next xs t (ap (λ (x : Bool). when x e) z) h
+
+-- an id that begins no header, and then a tile
+start_tile : (o : ℕ) (e : Ending) (next : ℕ → Grammar) (id : ℕ) (xs : List ℕ) (s : Shape) (b : List ℕ)
+    → (agree (id ∷ xs) magic && nat_le 4 (length (id ∷ xs))) ≡ false
+    → verdict (next id) xs ≡ tile (made s b) → verdict (section_start o e next) (id ∷ xs) ≡ tile (made s (id ∷ b))
+unfolding verdict
+start_tile o e next id xs s b m h = rw m (rw h refl)
+
+-- a tile that is whole has no more bytes
+takes_tile : (s : Shape) (xs : List ℕ) → verdict (accept s) xs ≡ tile (made s [])
+unfolding verdict
+takes_tile s xs = refl
+
+-- nothing follows
+all_of_it : (g : Grammar) (s : Shape) (xs : List ℕ) → verdict g (xs ++ []) ≡ tile (made s (xs ++ [])) → verdict g xs ≡ tile (made s xs)
+all_of_it g s xs h = subst (λ (x : List ℕ). verdict g x ≡ tile (made s x)) (append-nil xs) h
+
+-- content with no fault is a tile
+whole_tile : (p : SectionContext) (kind : Form) (id o : ℕ) (content : List ℕ) → wrong_content kind o content ≡ None
+    → wrong_data p kind id (o + length content) content ≡ None
+    → verdict (whole_grammar p kind id o (length content)) content ≡ tile (made (section kind id content) content)
+whole_tile p kind id o content a b =
+    all_of_it (whole_grammar p kind id o (length content)) (section kind id content) content
+    (bytes_tile (length content) o _ content [] (section kind id content) [] refl
+    (refuse_tile _ _ [] _ a (refuse_tile _ _ [] _ b (takes_tile (section kind id content) []))))
+
+-- a section that is one tile
+abbrev pub IsWhole : Kind → Type 0
+IsWhole kind = (form : Form) × (kind ≡ whole form)
+
+-- each section is one tile, or a code section
+pub whole_or_code : (k : Kind) → IsWhole k ⊎ (k ≡ code)
+whole_or_code (whole form) = inl (form, refl)
+whole_or_code code = inr refl
+
+pub not_code : (form : Form) → whole form ≡ code → ⊥
+not_code form e = cc
+
+pub same_form : (one other : Form) → whole one ≡ whole other → one ≡ other
+same_form one other e = cc
+
+-- the same for a kind that is one tile
+content_tile : (p : SectionContext) (kind : Kind) (id o : ℕ) (content : List ℕ) (w : IsWhole kind) → wrong_content w.0 o content ≡ None
+    → wrong_data p w.0 id (o + length content) content ≡ None
+    → verdict (content_grammar p kind id o (length content)) content ≡ tile (made (section w.0 id content) content)
+content_tile p kind id o content w a b =
+    subst (λ (k : Kind). verdict (content_grammar p k id o (length content)) content ≡ tile (made (section w.0 id content) content))
+    (sym w.1) (whole_tile p w.0 id o content a b)
+
+-- what comes before a section's content is right
+pub record HeadIsRight (p : SectionContext) (o id : ℕ) (field : List ℕ) (size : ℕ) : Type 0 where
+  pub below : id < 128
+  pub number : IsNumber field size
+  pub room : o + 1 + length field + size < 2 ^ 64
+  pub follows : Follows p (rank_of (kind_of p.encoding id) id)
+
+-- a right prefix, and then a tile
+framed_tile : (p : SectionContext) (o id : ℕ) (field : List ℕ) (size : ℕ) (xs : List ℕ) (s : Shape) → HeadIsRight p o id field size
+    → (agree (id ∷ (field ++ xs)) magic && nat_le 4 (length (id ∷ (field ++ xs)))) ≡ false
+    → verdict (content_grammar p (kind_of p.encoding id) id (o + 1 + length field) size) xs ≡ tile (made s xs)
+    → verdict (section_grammar p o) (id ∷ (field ++ xs)) ≡ tile (made s (id ∷ (field ++ xs)))
+unfolding section_grammar
+framed_tile p o id field size xs s f m h =
+    start_tile o _ (after_id p o) id (field ++ xs) s (field ++ xs) m
+    (when_tile (nat_le 128 id) _ _ (field ++ xs) _ (small id f.below)
+    (number_tile (o + 1) _ field xs size s xs f.number
+    (when_tile (nat_lt (2 ^ 64 - 1) (o + 1 + length field + size)) _ _ xs _ (fits (o + 1 + length field + size) f.room)
+    (when_tile (nat_lt 0 (rank_of (kind_of p.encoding id) id) && not (p.may_follow (rank_of (kind_of p.encoding id) id))) _ _ xs _ f.follows
+    h))))
+  where
+    small : (n : ℕ) → n < 128 → nat_le 128 n ≡ false
+    small n h = grind (arith, nat_tests)
+
+    fits : (n : ℕ) → n < 2 ^ 64 → nat_lt (2 ^ 64 - 1) n ≡ false
+    fits n h = grind (arith, nat_tests)
+
+-- 0x73 alone is a number, 115
+another_byte : (xs : List ℕ) → number VarU32 (0x73 ∷ xs) ≡ read 0x73 1
+unfolding number
+another_byte xs = refl
+
+-- a name of 115 bytes isn't in fewer
+long_name : (xs : List ℕ) → length xs < 0x73 → name (Some name_limit) (0x73 ∷ xs) ≡ refused UnexpectedEof 1
+unfolding name
+long_name xs h = rw (another_byte xs) (rw (lt-ltb (length xs) 0x73 h) refl)
+
+-- a section's content that begins as the end of the magic is no name
+magic_content : (content text : List ℕ) (used : ℕ) → length content ≡ 0x61 → agree content (0x73 ∷ 0x6d ∷ []) ≡ true
+    → name (Some name_limit) content ≡ named text used → ⊥
+magic_content [] text used l a e = absurd (omega arith)
+magic_content (y ∷ ys) text used l a e =
+    let q : ((nat_eq y 0x73 ≡ true) × (agree ys (0x6d ∷ []) ≡ true)) = and_parts _ _ a in
+    let z : y ≡ 0x73 = eqb-true y 0x73 q.0 in
+    let f : name (Some name_limit) (0x73 ∷ ys) ≡ named text used =
+    subst (λ (x : ℕ). name (Some name_limit) (x ∷ ys) ≡ named text used) z e in
+    let g : name (Some name_limit) (0x73 ∷ ys) ≡ refused UnexpectedEof 1 = long_name ys (omega arith) in
+    cc
+
+-- a section whose length and content begin as the magic goes on has no name
+magic_field : (field content text : List ℕ) (used : ℕ) → IsNumber field (length content)
+    → agree (field ++ content) (0x61 ∷ 0x73 ∷ 0x6d ∷ []) ≡ true → name (Some name_limit) content ≡ named text used → ⊥
+magic_field [] content text used e a n =
+    let u : Used VarU32 [] (length content) 0 = number-used VarU32 [] (length content) 0 e in
+    let l : 0 < 0 = u.some in absurd (omega arith)
+magic_field (x ∷ []) content text used e a n =
+    let q : ((nat_eq x 0x61 ≡ true) × (agree content (0x73 ∷ 0x6d ∷ []) ≡ true)) = and_parts _ _ a in
+    let z : x ≡ 0x61 = eqb-true x 0x61 q.0 in
+    let f : read 0x61 1 ≡ read (length content) 1 = sym (one_byte [])
+    ∙ subst (λ (y : ℕ). number VarU32 (y ∷ []) ≡ read (length content) 1) z e in
+    let l : length content ≡ 0x61 = cc in
+    magic_content content text used l q.1 n
+magic_field (x ∷ y ∷ field) content text used e a n =
+    let q : ((nat_eq x 0x61 ≡ true) × (agree (y ∷ field ++ content) (0x73 ∷ 0x6d ∷ []) ≡ true)) = and_parts _ _ a in
+    let z : x ≡ 0x61 = eqb-true x 0x61 q.0 in
+    let f : read 0x61 1 ≡ read (length content) (suc (suc (length field))) = sym (one_byte (y ∷ field))
+    ∙ subst (λ (w : ℕ). number VarU32 (w ∷ y ∷ field) ≡ read (length content) (suc (suc (length field)))) z e in
+    let l : 1 ≡ suc (suc (length field)) = cc in
+    absurd (omega arith)
+
+-- a good section begins no header
+pub no_magic : (id : ℕ) (field content : List ℕ) → IsNumber field (length content)
+    → (id ≡ custom_id → (text : List ℕ) × (used : ℕ) × (name (Some name_limit) content ≡ named text used))
+    → (agree (id ∷ (field ++ content)) magic && nat_le 4 (length (id ∷ (field ++ content)))) ≡ false
+no_magic id field content e n = false_from_ne_true _ (λ h.
+    let q : ((agree (id ∷ (field ++ content)) magic ≡ true) × (nat_le 4 (length (id ∷ (field ++ content))) ≡ true)) = and_parts _ _ h in
+    let r : ((nat_eq id 0 ≡ true) × (agree (field ++ content) (0x61 ∷ 0x73 ∷ 0x6d ∷ []) ≡ true)) = and_parts _ _ q.0 in
+    let m : (text : List ℕ) × (used : ℕ) × (name (Some name_limit) content ≡ named text used) = n (eqb-true id 0 r.0) in
+    magic_field field content m.0 m.1 e r.1 m.2)
+
+-- a section that is one tile
+pub section_tile : (p : SectionContext) (o id : ℕ) (field content : List ℕ) → HeadIsRight p o id field (length content)
+    → (w : IsWhole (kind_of p.encoding id))
+    → (id ≡ custom_id → (text : List ℕ) × (used : ℕ) × (name (Some name_limit) content ≡ named text used))
+    → ((at : ℕ) → wrong_content w.0 at content ≡ None) → ((at : ℕ) → wrong_data p w.0 id at content ≡ None)
+    → verdict (section_grammar p o) (id ∷ (field ++ content)) ≡ tile (made (section w.0 id content) (id ∷ (field ++ content)))
+section_tile p o id field content f w n a b =
+    framed_tile p o id field (length content) content (section w.0 id content) f (no_magic id field content f.number n)
+    (content_tile p (kind_of p.encoding id) id (o + 1 + length field) content w (a _) (b _))
+
+-- a right count is the head of a code section
+code_tile : (p : SectionContext) (o size count : ℕ) (head : List ℕ) → IsNumber head count → length head ≤ size → wrong_count p o count
+    ≡ None
+    → verdict (code_grammar p o size) head ≡ tile (made (code_start count (length head) (size - length head)) head)
+code_tile p o size count head e l w =
+    all_of_it (code_grammar p o size) (code_start count (length head) (size - length head)) head
+    (number_tile o _ head [] count (code_start count (length head) (size - length head)) [] e
+    (when_tile (nat_lt size (length head)) _ _ [] _ (le-ltb size (length head) l) (refuse_tile _ _ [] _ w (takes_tile _ []))))
+
+-- a code section up to its count
+pub code_head_tile : (p : SectionContext) (o size count : ℕ) (field head : List ℕ) → HeadIsRight p o 10 field size
+    → kind_of p.encoding code_id
+    ≡ code → IsNumber head count → length head ≤ size
+    → ((at : ℕ) → wrong_count p at count ≡ None)
+    → verdict (section_grammar p o) (10 ∷ (field ++ head)) ≡ tile
+    (made (code_start count (length head) (size - length head)) (10 ∷ (field ++ head)))
+code_head_tile p o size count field head f k e l w =
+    framed_tile p o 10 field size head (code_start count (length head) (size - length head)) f refl
+    (rw k (code_tile p (o + 1 + length field) size count head e l (w _)))
+
+-- a body
+pub body_tile : (m l o : ℕ) (field content : List ℕ) → IsNumber field (length content) → length field + length content ≤ l
+    → verdict (body_grammar (suc m) l o) (field ++ content) ≡ tile (made (code_entry content) (field ++ content))
+unfolding body_grammar
+body_tile m l o field content e h =
+    number_tile o _ field content (length content) (code_entry content) content e
+    (when_tile (nat_lt l (length field + length content)) _ _ content _ (le-ltb l (length field + length content) h)
+    (all_of_it _ (code_entry content) content
+    (bytes_tile (length content) (o + length field) _ content [] (code_entry content) [] refl (takes_tile (code_entry content) []))))
+
+-- the version of an encoding
+abbrev pub header_version : Encoding → ℕ
+header_version Module = 1
+header_version Component = 13
+
+-- a header
+pub header_tile : (o : ℕ) (encoding : Encoding) → verdict (header_grammar o) (header_bytes encoding)
+    ≡ tile (made (version (header_version encoding) encoding) (header_bytes encoding))
+unfolding verdict header_grammar
+header_tile o Module = refl
+header_tile o Component = refl

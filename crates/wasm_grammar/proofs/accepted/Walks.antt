@@ -1,0 +1,265 @@
+-- An accepted stream's reading ends at its end.
+use Rattle.std.proofs.Common.{◌≡◌, ℕ, ◌+◌, ◌-◌, ◌^◌, ◌<◌, ◌≤◌, inl, inr, true, false, List, [], ◌∷◌, ◌++◌, length, nat_eq, refl, sym, ap}
+use Rattle.std.proofs.Common.{subst, ◌∙◌, arith, length-append, append-nil, append_assoc}
+use Rattle.std.specs.List.{All, flat_map}
+use Rattle.std.proofs.lemmas.List.{flat_map_more}
+use Rattle.std.proofs.lemmas.Grind.{flat_map-append}
+use Rattle.std.proofs.lemmas.List.Elements.{All-head, All-tail}
+use Rattle.wasm_grammar.specs.declared.encoding.Encoding.{Encoding}
+use Rattle.wasm_grammar.specs.declared.encoding.Encoding.TheVariants.{Module, Component}
+use Rattle.wasm_grammar.specs.Content.{Kind, code, kind_of, ended}
+use Rattle.wasm_grammar.specs.FrameEvents.{header_event, section_event, code_events, KindEvents, FrameEvents, FramesEvents, body_events}
+use Rattle.wasm_grammar.specs.Grammar.{version, section, code_start, Tile, tile, final, SectionContext, Grammar, verdict, end_at_section}
+use Rattle.wasm_grammar.specs.Grammar.{section_grammar}
+use Rattle.wasm_grammar.specs.Tiling.{bytes_of, grammar, Faultless, context_of, bodies_left, bytes_left, is_start}
+use Rattle.wasm_grammar.specs.Reading.{Event, events_of, Reads}
+use Rattle.wasm_grammar.specs.Accepted.{sized_bytes, SectionFrame, frame_bytes, IsFrame, IsGood, FitsAfter, CodeDivision, IsAccepted}
+use Rattle.wasm_grammar.specs.Accepted.{header_bytes}
+use Rattle.wasm_grammar.proofs.accepted.Counts.{Knows}
+use Rattle.wasm_grammar.proofs.accepted.KindIds.{code_has_its_id}
+use Rattle.wasm_grammar.proofs.accepted.Endings.{end_to}
+use Rattle.wasm_grammar.proofs.accepted.Tiles.{made, IsWhole, whole_or_code, header_version, header_tile}
+use Rattle.wasm_grammar.proofs.accepted.Knows.{grammar_closed, knows_header, knows_section, knows_code}
+use Rattle.wasm_grammar.proofs.accepted.Steps.{section_step, code_step, division_count, division_length, Through, bodies_walk}
+use Rattle.wasm_grammar.proofs.frames.TileEvents.{header_tile_event, section_tile_event, start_tile_event, push_events}
+use Rattle.wasm_grammar.specs.Ids.{code_id}
+
+-- the bytes of a header and these frames
+abbrev pub stream_of : Encoding → List SectionFrame → List ℕ
+stream_of encoding fs = header_bytes encoding ++ flat_map frame_bytes fs
+
+-- the events of tiles are a header's, and those of these frames
+pub record Told (start features : ℕ) (encoding : Encoding) (fs : List SectionFrame) (tiles : List Tile) : Type 0 where
+  pub inner : List Event
+  pub sections : FramesEvents features encoding (start + length (header_bytes encoding)) fs inner
+  pub listed : events_of start features tiles ≡ header_event start encoding ∷ inner
+
+-- tiles that are a header and whole sections: these frames
+pub record Closed (start : ℕ) (encoding : Encoding) (fs : List SectionFrame) (tiles : List Tile) : Type 0 where
+  pub begun : is_start tiles ≡ false
+  pub faultless : Faultless start tiles
+  pub joined : bytes_of tiles ≡ stream_of encoding fs
+  pub knows : Knows encoding fs (context_of tiles)
+  pub closed : nat_eq (bodies_left tiles + bytes_left tiles) 0 ≡ true
+  pub told : (features : ℕ) → Told start features encoding fs tiles
+
+-- some tiles are
+pub record Reached (start : ℕ) (encoding : Encoding) (fs : List SectionFrame) : Type 0 where
+  pub tiles : List Tile
+  pub there : Closed start encoding fs tiles
+
+-- a section after them, as it is in the stream
+closed_verdict : (start : ℕ) (encoding : Encoding) (fs : List SectionFrame) (ts : List Tile) (c : Closed start encoding fs ts)
+    (bytes : List ℕ) (t : Tile)
+    → verdict (section_grammar (context_of ts) (start + length (bytes_of ts))) bytes ≡ tile t → verdict (grammar start ts) bytes ≡ tile t
+closed_verdict start encoding fs ts c bytes t h = subst (λ (g : Grammar). verdict g bytes ≡ tile t)
+    (sym (grammar_closed start ts c.begun c.closed)) h
+
+-- the bytes of one more frame
+pub stream_more : (encoding : Encoding) (fs : List SectionFrame) (f : SectionFrame) (prefix : List ℕ) → prefix ≡ stream_of encoding fs
+    → prefix ++ frame_bytes f ≡ stream_of encoding (fs ++ f ∷ [])
+stream_more encoding fs f prefix e = ap (λ (x : List ℕ). x ++ frame_bytes f) e ∙ flat_map_more frame_bytes (header_bytes encoding) fs f
+
+-- one more frame ends below 2^64
+room_for : (start : ℕ) (encoding : Encoding) (fs : List SectionFrame) (f : SectionFrame) (prefix : List ℕ) → prefix ≡ stream_of encoding fs
+    → start + length (stream_of encoding (fs ++ f ∷ [])) < 2 ^ 64
+    → (start + length prefix) + length (frame_bytes f) < 2 ^ 64
+room_for start encoding fs f prefix e r =
+    let l : length prefix + length (frame_bytes f) ≡ length (stream_of encoding (fs ++ f ∷ [])) = sym (length-append prefix (frame_bytes f))
+    ∙ ap (λ (x : List ℕ). length x) (stream_more encoding fs f prefix e) in
+    omega arith
+
+-- one more frame, with its events
+told_more : (start features : ℕ) (encoding : Encoding) (fs : List SectionFrame) (f : SectionFrame) (ts us : List Tile) (events : List Event)
+    → bytes_of ts ≡ stream_of encoding fs → Told start features encoding fs ts
+    → FrameEvents features encoding (start + length (bytes_of ts)) f events → events_of start features us ≡ events_of start features ts
+    ++ events → Told start features encoding (fs ++ f ∷ []) us
+told_more start features encoding fs f ts us events j t e l =
+    let n : length (bytes_of ts) ≡ length (header_bytes encoding) + length (flat_map frame_bytes fs) = ap (λ (x : List ℕ). length x) j
+    ∙ length-append (header_bytes encoding) (flat_map frame_bytes fs) in
+    let o : start + length (bytes_of ts) ≡ start + length (header_bytes encoding) + length (flat_map frame_bytes fs) = omega arith in
+    record {
+      inner = t.inner ++ events;
+      sections = push_events features encoding (start + length (header_bytes encoding)) fs f t.inner events t.sections
+          (subst (λ (x : ℕ). FrameEvents features encoding x f events) o e);
+      listed = l ∙ ap (λ (x : List Event). x ++ events) t.listed;
+    }
+
+-- one more frame that fits and is no code section
+whole_step : (start : ℕ) (encoding : Encoding) (fs : List SectionFrame) (f : SectionFrame) → Reached start encoding fs
+    → start + length (stream_of encoding (fs ++ f ∷ [])) < 2 ^ 64 → IsFrame encoding f → FitsAfter encoding fs f
+    → IsWhole (kind_of encoding f.id) → Reached start encoding (fs ++ f ∷ [])
+whole_step start encoding fs f q r i a w =
+    let ts : List Tile = q.tiles in
+    let c : Closed start encoding fs ts = q.there in
+    let o : ℕ = start + length (bytes_of ts) in
+    let v : verdict (grammar start ts) (frame_bytes f) ≡ tile (made (section w.0 f.id f.sized.content) (frame_bytes f)) =
+    closed_verdict start encoding fs ts c _ _ (section_step encoding (context_of ts) fs (start + length (bytes_of ts)) f
+    (room_for start encoding fs f (bytes_of ts) c.joined r) c.knows i a w) in
+    record {
+      tiles = made (section w.0 f.id f.sized.content) (frame_bytes f) ∷ ts;
+      there = record {
+        begun = refl;
+        faultless = (c.faultless, v);
+        joined = stream_more encoding fs f (bytes_of ts) c.joined;
+        knows = knows_section encoding fs ts f (frame_bytes f) w c.knows;
+        closed = refl;
+        told = λ features. told_more start features encoding fs f ts _ (section_event features o w.0 f ∷ []) c.joined (c.told features)
+            (subst (λ (k : Kind). KindEvents features o k f (section_event features o w.0 f ∷ [])) (sym w.1) refl)
+            (ap (λ (e : Event). events_of start features ts ++ e ∷ []) (section_tile_event features o w.0 f));
+      };
+    }
+
+-- the bytes of a code section's head and bodies are the section's
+code_bytes : (f : SectionFrame) (d : CodeDivision f.sized.content) → f.id ≡ code_id → (prefix : List ℕ)
+    → (prefix ++ 10 ∷ (f.sized.field ++ d.field)) ++ flat_map sized_bytes d.bodies ≡ prefix ++ frame_bytes f
+code_bytes f d z prefix =
+    append_assoc prefix (10 ∷ (f.sized.field ++ d.field)) (flat_map sized_bytes d.bodies)
+    ∙ (ap (λ (x : List ℕ). prefix ++ 10 ∷ x) (append_assoc f.sized.field d.field (flat_map sized_bytes d.bodies))
+    ∙ (ap (λ (x : List ℕ). prefix ++ 10 ∷ (f.sized.field ++ x)) (sym d.whole)
+    ∙ ap (λ (n : ℕ). prefix ++ n ∷ (f.sized.field ++ f.sized.content)) (sym z)))
+
+-- the events of a code section's head and bodies are the section's
+code_listed : (start features : ℕ) (ts : List Tile) (f : SectionFrame) (d : CodeDivision f.sized.content) → f.id ≡ code_id
+    → events_of start features (made (code_start (length d.bodies) (length d.field) (length f.sized.content - length d.field))
+    (10 ∷ (f.sized.field ++ d.field)) ∷ ts)
+    ++ body_events features (start + length (bytes_of ts ++ 10 ∷ (f.sized.field ++ d.field))) d.bodies
+    ≡ events_of start features ts ++ code_events features (start + length (bytes_of ts)) f d
+code_listed start features ts f d z =
+    let o : start + length (bytes_of ts ++ 10 ∷ (f.sized.field ++ d.field))
+    ≡ start + length (bytes_of ts) + 1 + length f.sized.field + length d.field =
+    omega (arith, length-append (bytes_of ts) (10 ∷ (f.sized.field ++ d.field)), length-append f.sized.field d.field) in
+    append_assoc (events_of start features ts) _ _
+    ∙ (λ i. events_of start features ts ++ start_tile_event features (start + length (bytes_of ts)) f d z i
+    ∷ body_events features (o i) d.bodies)
+
+-- one more code section that fits
+module_step : (start : ℕ) (fs : List SectionFrame) (f : SectionFrame) → f.id ≡ code_id → CodeDivision f.sized.content
+    → Reached start Module fs
+    → start + length (stream_of Module (fs ++ f ∷ [])) < 2 ^ 64 → IsFrame Module f → FitsAfter Module fs f
+    → Reached start Module (fs ++ f ∷ [])
+module_step start fs f z d q r i a =
+    let ts : List Tile = q.tiles in
+    let c : Closed start Module fs ts = q.there in
+    let n : ℕ = length f.sized.content - length d.field in
+    let hb : List ℕ = 10 ∷ (f.sized.field ++ d.field) in
+    let h : Tile = made (code_start (length d.bodies) (length d.field) n) hb in
+    let v : verdict (grammar start ts) hb ≡ tile h =
+    closed_verdict start Module fs ts c hb h (code_step (context_of ts) fs (start + length (bytes_of ts)) f d z
+    (room_for start Module fs f (bytes_of ts) c.joined r) c.knows i a) in
+    let l : length f.sized.content ≡ length d.field + length (flat_map sized_bytes d.bodies) = division_length f d in
+    let t : Through start (h ∷ ts) d.bodies = bodies_walk start d.bodies (h ∷ ts) refl (c.faultless, v) d.each refl (omega arith) in
+    record {
+      tiles = t.tiles;
+      there = record {
+        begun = t.begun;
+        faultless = t.faultless;
+        joined = t.joined ∙ (code_bytes f d z (bytes_of ts) ∙ stream_more Module fs f (bytes_of ts) c.joined);
+        knows = t.knows Module (fs ++ f ∷ []) (knows_code fs ts f (length d.bodies) (length d.field) n hb z (division_count f d) c.knows);
+        closed = t.closed;
+        told = λ features. told_more start features Module fs f ts t.tiles (code_events features (start + length (bytes_of ts)) f d)
+            c.joined (c.told features)
+            (subst (λ (k : Kind). KindEvents features (start + length (bytes_of ts)) k f
+            (code_events features (start + length (bytes_of ts)) f d)) (sym (ap (kind_of Module) z)) (d, refl))
+            (t.listed features ∙ code_listed start features ts f d z);
+      };
+    }
+
+-- the same in any encoding
+code_frame : (start : ℕ) (encoding : Encoding) (fs : List SectionFrame) (f : SectionFrame) → encoding ≡ Module → Reached start encoding fs
+    → start + length (stream_of encoding (fs ++ f ∷ [])) < 2 ^ 64 → IsFrame encoding f → FitsAfter encoding fs f
+    → kind_of encoding f.id ≡ code → Reached start encoding (fs ++ f ∷ [])
+code_frame start Module fs f e q r i a k =
+    module_step start fs f (code_has_its_id Module f.id k).1 (subst (λ (x : Kind). IsGood x f.sized.content) k i.content) q r i a
+code_frame start Component fs f e q r i a k = cc
+
+-- one more frame that fits
+frame_step : (start : ℕ) (encoding : Encoding) (fs : List SectionFrame) (f : SectionFrame) → Reached start encoding fs
+    → start + length (stream_of encoding (fs ++ f ∷ [])) < 2 ^ 64 → IsFrame encoding f → FitsAfter encoding fs f
+    → Reached start encoding (fs ++ f ∷ [])
+frame_step start encoding fs f q r i a =
+    elim (whole_or_code (kind_of encoding f.id)) [
+      | inl w ↦ whole_step start encoding fs f q r i a w
+      | inr k ↦ code_frame start encoding fs f (code_has_its_id encoding f.id k).0 q r i a k
+    ]
+
+-- the first frames are no longer than all
+stream_prefix : (encoding : Encoding) (fs later : List SectionFrame)
+    → length (stream_of encoding fs) ≤ length (stream_of encoding (fs ++ later))
+stream_prefix encoding fs later =
+    let e : flat_map frame_bytes (fs ++ later) ≡ flat_map frame_bytes fs
+    ++ flat_map frame_bytes later = flat_map-append frame_bytes fs later in
+    rw e (omega (
+      arith,
+      length-append (header_bytes encoding) (flat_map frame_bytes fs),
+      length-append (header_bytes encoding) (flat_map frame_bytes fs ++ flat_map frame_bytes later),
+      length-append (flat_map frame_bytes fs) (flat_map frame_bytes later),
+    ))
+
+-- all frames, from some on
+frames_walk : (start : ℕ) (encoding : Encoding) (all : List SectionFrame) → start + length (stream_of encoding all) < 2 ^ 64
+    → ((earlier later : List SectionFrame) (f : SectionFrame) → all ≡ earlier ++ f ∷ later → FitsAfter encoding earlier f)
+    → (later earlier : List SectionFrame) → earlier ++ later ≡ all → All (IsFrame encoding) later → Reached start encoding earlier
+    → Reached start encoding all
+frames_walk start encoding all r order [] earlier e a q = subst (Reached start encoding) (sym (append-nil earlier) ∙ e) q
+frames_walk start encoding all r order (f ∷ later) earlier e a q =
+    let w : (earlier ++ f ∷ []) ++ later ≡ all = append_assoc earlier (f ∷ []) later ∙ e in
+    let l : length (stream_of encoding (earlier ++ f ∷ [])) ≤ length (stream_of encoding all) =
+    subst (λ (x : List SectionFrame). length (stream_of encoding (earlier ++ f ∷ [])) ≤ length (stream_of encoding x)) w
+    (stream_prefix encoding (earlier ++ f ∷ []) later) in
+    frames_walk start encoding all r order later (earlier ++ f ∷ []) w (All-tail (IsFrame encoding) f later a)
+    (frame_step start encoding earlier f q (omega arith) (All-head (IsFrame encoding) f later a) (order earlier later f (sym e)))
+
+-- a header is no frame yet
+begins : (start : ℕ) (encoding : Encoding) → Reached start encoding []
+begins start encoding = record {
+  tiles = made (version (header_version encoding) encoding) (header_bytes encoding) ∷ [];
+  there = record {
+    begun = refl;
+    faultless = (tt, header_tile start encoding);
+    joined = sym (append-nil (header_bytes encoding));
+    knows = knows_header encoding (header_bytes encoding);
+    closed = refl;
+    told = λ features. record {
+      inner = [];
+      sections = refl;
+      listed =
+          ap (λ (e : Event). e ∷ []) (header_tile_event start features encoding);
+    };
+  };
+}
+
+-- where a stream may end and nothing follows it ends
+end_verdict : (p : SectionContext) (o : ℕ) → end_at_section p o ≡ ended o → verdict (section_grammar p o) [] ≡ final (ended o)
+unfolding verdict section_grammar
+end_verdict p o e = ap final e
+
+-- the tiles of an accepted stream are its frames
+pub accepted_walk : (stream : List ℕ) (start : ℕ) → start + length stream < 2 ^ 64 → (a : IsAccepted stream)
+    → Reached start a.encoding a.frames
+accepted_walk stream start r a =
+    frames_walk start a.encoding a.frames (subst (λ (x : List ℕ). start + length x < 2 ^ 64) a.whole r) a.order a.frames [] refl a.each
+    (begins start a.encoding)
+
+-- the stream ends after them
+pub accepted_ends_there : (stream : List ℕ) (start : ℕ) (a : IsAccepted stream) (q : Reached start a.encoding a.frames)
+    → Reads stream start q.tiles (ended (start + length stream))
+accepted_ends_there stream start a q =
+    let c : Closed start a.encoding a.frames q.tiles = q.there in
+    let w : bytes_of q.tiles ≡ stream = c.joined ∙ sym a.whole in
+    let o : ℕ = start + length (bytes_of q.tiles) in
+    let v : verdict (grammar start q.tiles) [] ≡ final (ended o) =
+    subst (λ (g : Grammar). verdict g [] ≡ final (ended o)) (sym (grammar_closed start q.tiles c.begun c.closed))
+    (end_verdict (context_of q.tiles) o (end_to a.encoding a.frames (context_of q.tiles) c.knows o a.functions a.segments)) in
+    record {
+      rest = [];
+      whole = sym w ∙ sym (append-nil (bytes_of q.tiles));
+      faultless = c.faultless;
+      stops = v ∙ ap (λ (x : List ℕ). final (ended (start + length x))) w;
+    }
+
+-- an accepted stream's reading ends at its end
+pub accepted_reads : (stream : List ℕ) (start : ℕ) → start + length stream < 2 ^ 64 → IsAccepted stream → (tiles : List Tile)
+    × Reads stream start tiles (ended (start + length stream))
+accepted_reads stream start r a = let q : Reached start a.encoding a.frames = accepted_walk stream start r a in
+    (q.tiles, accepted_ends_there stream start a q)

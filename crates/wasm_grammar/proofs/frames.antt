@@ -1,0 +1,9 @@
+pub mod Kept
+pub mod OpenSections
+pub mod Reported
+pub mod Same
+pub mod SectionEvents
+pub mod SectionPlaces
+pub mod SectionRanks
+pub mod TileEvents
+pub mod Told

@@ -1,0 +1,239 @@
+-- Sections that have no rank may go, and come.
+use Rattle.std.proofs.Common.{◌≡◌, ℕ, ◌+◌, ◌<◌, inl, inr, Bool, true, false, cond, ◌||◌, List, [], ◌∷◌, ◌++◌, length, nat_lt, refl, sym, ap}
+use Rattle.std.proofs.Common.{subst, ◌∙◌, arith, ltb-true, ltb-false}
+use Rattle.std.specs.List.{All, Any, filter, list_any, flat_map}
+use Rattle.std.proofs.lemmas.List.Elements.{All-nil, All-cons, All-head, All-tail, All-filter, All-weaker}
+use Rattle.wasm_base.specs.Window.{window_over}
+use Rattle.wasm_grammar.specs.Accepted.{Sized, sized_bytes, SectionFrame, frame_bytes, frame_count, frame_rank, IsFrame, IsSection}
+use Rattle.wasm_grammar.specs.Accepted.{FitsAfter, IsMatched, CodeDivision, IsAccepted}
+use Rattle.wasm_grammar.specs.Content.{Kind, code, kind_of, rank_of, Form, whole}
+use Rattle.wasm_grammar.specs.FrameEvents.{section_event, body_event, body_events, code_events, KindEvents, has_rank, SayTheSame}
+use Rattle.wasm_grammar.specs.FrameLaws.{FramesReadTheSame, RanklessMayGo}
+use Rattle.wasm_grammar.specs.Reading.{code_start, code_entry, section_report, Event}
+use Rattle.wasm_grammar.specs.Shifted.{shifted_report, shifted_event, shifted_events}
+use Rattle.wasm_grammar.specs.declared.encoding.Encoding.{Encoding}
+use Rattle.wasm_grammar.specs.declared.encoding.Encoding.TheVariants.{Module}
+use Rattle.wasm_grammar.proofs.accepted.Counts.{is_section, section_yes, yes_section}
+use Rattle.wasm_grammar.proofs.PlainLists.{any_of, any_to, all_prefix, Spares, filter_twice, each_of}
+use Rattle.wasm_grammar.proofs.readings.Shifting.{section_moves}
+use Rattle.wasm_grammar.specs.Ids.{data_count_id, function_id}
+
+-- ---- what is left of lists
+
+module _ {X : Type 0} where
+  -- what passes is left
+  any_step : (p q : X → Bool) (x : X) (xs : List X) → Spares p q x → list_any p (filter q xs) ≡ list_any p xs → (b c : Bool) → p x ≡ b → q x
+      ≡ c
+      → list_any p (cond c (x ∷ filter q xs) (filter q xs)) ≡ (b || list_any p xs)
+  any_step p q x xs h ih true true e f = rw e refl
+  any_step p q x xs h ih true false e f = let g : q x ≡ true = h e in cc
+  any_step p q x xs h ih false true e f = rw e ih
+  any_step p q x xs h ih false false e f = ih
+
+  any_left : (p q : X → Bool) (xs : List X) → All (Spares p q) xs → list_any p (filter q xs) ≡ list_any p xs
+  any_left p q [] a = refl
+  any_left p q (x ∷ xs) a = any_step p q x xs (All-head (Spares p q) x xs a) (any_left p q xs (All-tail (Spares p q) x xs a)) (p x) (q x)
+      refl refl
+
+  -- an element that is left was in the list, after all those that are left before it
+  record LeftAfter (q : X → Bool) (xs : List X) (earlier : List X) (x : X) : Type 0 where
+    before : List X
+    after : List X
+    whole : xs ≡ before ++ x ∷ after
+    left : filter q before ≡ earlier
+
+  left_step : (q : X → Bool) (y : X) (xs : List X) (x : X) (later : List X)
+      → ((earlier : List X) → filter q xs ≡ earlier ++ x ∷ later → LeftAfter q xs earlier x) → (b : Bool) → q y ≡ b
+      → (earlier : List X) → cond b (y ∷ filter q xs) (filter q xs) ≡ earlier ++ x ∷ later → LeftAfter q (y ∷ xs) earlier x
+  left_step q y xs x later ih true f [] e = let z : y ≡ x = cc in record { before = []; after = xs; whole = λ i. z i ∷ xs; left = refl }
+  left_step q y xs x later ih true f (w ∷ earlier) e =
+      let z : y ≡ w = cc in
+      let t : filter q xs ≡ earlier ++ x ∷ later = cc in
+      let r : LeftAfter q xs earlier x = ih earlier t in
+      let l : filter q r.before ≡ earlier = r.left in
+      record { before = y ∷ r.before; after = r.after; whole = ap (λ (l : List X). y ∷ l) r.whole; left = rw f (λ i. z i ∷ l i) }
+  left_step q y xs x later ih false f earlier e =
+      let r : LeftAfter q xs earlier x = ih earlier e in
+      record { before = y ∷ r.before; after = r.after; whole = ap (λ (l : List X). y ∷ l) r.whole; left = rw f r.left }
+
+  left_after : (q : X → Bool) (xs earlier later : List X) (x : X) → filter q xs ≡ earlier ++ x ∷ later → LeftAfter q xs earlier x
+  left_after q [] [] later x e = cc
+  left_after q [] (y ∷ earlier) later x e = cc
+  left_after q (y ∷ xs) earlier later x e = left_step q y xs x later (λ before. left_after q xs before later x) (q y) refl earlier e
+
+  -- what holds of all that fail a test and of all that pass it
+  passed_step : (P : X → Type 0) (p : X → Bool) → ((x : X) → p x ≡ false → P x) → (x : X) (xs : List X) → (All P (filter p xs) → All P xs)
+      → (b : Bool) → p x ≡ b
+      → All P (cond b (x ∷ filter p xs) (filter p xs)) → All P (x ∷ xs)
+  passed_step P p h x xs ih true e a = All-cons P x xs (All-head P x (filter p xs) a) (ih (All-tail P x (filter p xs) a))
+  passed_step P p h x xs ih false e a = All-cons P x xs (h x e) (ih a)
+
+  all_passed : (P : X → Type 0) (p : X → Bool) → ((x : X) → p x ≡ false → P x) → (xs : List X) → All P (filter p xs) → All P xs
+  all_passed P p h [] a = All-nil P
+  all_passed P p h (x ∷ xs) a = passed_step P p h x xs (all_passed P p h xs) (p x) refl a
+
+  -- the same of two lists of which the same pass
+  all_same : (P : X → Type 0) (p : X → Bool) → ((x : X) → p x ≡ false → P x) → (xs ys : List X) → filter p xs ≡ filter p ys → All P xs
+      → All P ys
+  all_same P p h xs ys e a = all_passed P p h ys (subst (All P) e (All-filter p P xs a))
+
+-- ---- sections that fit after others
+
+-- a section with this id has a rank
+ranked : (encoding : Encoding) (n : ℕ) (g : SectionFrame) → nat_lt 0 (rank_of (kind_of Module n) n) ≡ true → IsSection encoding n g
+    → has_rank encoding g ≡ true
+ranked encoding n g h (e, i) = ap (λ (x : Encoding). nat_lt 0 (rank_of (kind_of x g.id) g.id)) e
+    ∙ (ap (λ (x : ℕ). nat_lt 0 (rank_of (kind_of Module x) x)) i ∙ h)
+
+-- one without a rank has another id
+rankless : (encoding : Encoding) (n : ℕ) (g : SectionFrame) → nat_lt 0 (rank_of (kind_of Module n) n) ≡ true → has_rank encoding g ≡ false
+    → IsSection encoding n g → ⊥
+rankless encoding n g h f s = let t : has_rank encoding g ≡ true = ranked encoding n g h s in cc
+
+-- there is a section with this id among others that say the same
+some_same : (encoding : Encoding) (n : ℕ) (earlier others : List SectionFrame) → nat_lt 0 (rank_of (kind_of Module n) n) ≡ true
+    → SayTheSame encoding earlier others → Any (IsSection encoding n) earlier → Any (IsSection encoding n) others
+some_same encoding n earlier others h s a =
+    let spared : (g : SectionFrame) → Spares (is_section encoding n) (has_rank encoding) g = λ g e.
+    ranked encoding n g h (section_yes encoding n g e) in
+    let t : list_any (is_section encoding n) earlier ≡ true = any_to (is_section encoding n) (IsSection encoding n)
+    (λ g. yes_section encoding n g) earlier a in
+    any_of (is_section encoding n) (IsSection encoding n) (λ g. section_yes encoding n g) others
+    (sym (any_left (is_section encoding n) (has_rank encoding) others
+    (each_of (Spares (is_section encoding n) (has_rank encoding)) spared others))
+    ∙ (ap (list_any (is_section encoding n)) (sym s) ∙ (any_left (is_section encoding n) (has_rank encoding) earlier
+    (each_of (Spares (is_section encoding n) (has_rank encoding)) spared earlier) ∙ t)))
+
+-- a section fits after sections that say the same
+fits_same : (encoding : Encoding) (earlier others : List SectionFrame) (f : SectionFrame) → SayTheSame encoding earlier others
+    → FitsAfter encoding earlier f → FitsAfter encoding others f
+fits_same encoding earlier others f s a = record {
+  ranks = λ l. all_same (λ g. frame_rank encoding g < frame_rank encoding f) (has_rank encoding)
+      (λ g e. omega (arith, ltb-false 0 (frame_rank encoding g) e, l)) earlier others s (a.ranks l);
+  bodies = λ i. all_same (λ g. IsSection encoding function_id g → frame_count g ≡ frame_count f) (has_rank encoding)
+      (λ g e j. absurd (rankless encoding function_id g refl e j)) earlier others s (a.bodies i);
+  functions = λ i. elim (a.functions i) [ inl y ↦ inl (some_same encoding function_id earlier others refl s y) | inr z ↦ inr z ];
+  segments = λ i. all_same (λ g. IsSection encoding data_count_id g → frame_count g ≡ frame_count f) (has_rank encoding)
+      (λ g e j. absurd (rankless encoding data_count_id g refl e j)) earlier others s (a.segments i);
+}
+
+-- ---- events at another offset
+
+body_event_moves : (features at by : ℕ) (s : Sized) → shifted_event by (body_event features at s) ≡ body_event features (at + by) s
+body_event_moves features at by s =
+    let a : at + length s.field + by ≡ at + by + length s.field = omega arith in
+    λ i. record { report = code_entry (window_over features (a i) s.content); consumed = sized_bytes s }
+
+body_events_move : (features at by : ℕ) (bodies : List Sized) → shifted_events by (body_events features at bodies)
+    ≡ body_events features (at + by) bodies
+body_events_move features at by [] = refl
+body_events_move features at by (s ∷ bodies) =
+    let a : at + length (sized_bytes s) + by ≡ at + by + length (sized_bytes s) = omega arith in
+    let h : shifted_event by (body_event features at s) ≡ body_event features (at + by) s = body_event_moves features at by s in
+    let t : shifted_events by (body_events features (at + length (sized_bytes s)) bodies)
+    ≡ body_events features (at + by + length (sized_bytes s)) bodies =
+    body_events_move features (at + length (sized_bytes s)) by bodies ∙ ap (λ (x : ℕ). body_events features x bodies) a in
+    λ i. h i ∷ t i
+
+section_event_moves : (features at by : ℕ) (form : Form) (f : SectionFrame) → shifted_event by (section_event features at form f)
+    ≡ section_event features (at + by) form f
+section_event_moves features at by form f =
+    let a : at + 1 + length f.sized.field + by ≡ at + by + 1 + length f.sized.field = omega arith in
+    let b : at + length (frame_bytes f) + by ≡ at + by + length (frame_bytes f) = omega arith in
+    let m : shifted_report by (section_report features (at + 1 + length f.sized.field) (at + length (frame_bytes f)) form f.id
+    f.sized.content)
+    ≡ section_report features (at + 1 + length f.sized.field + by) (at + length (frame_bytes f) + by) form f.id f.sized.content =
+    sym (section_moves by features (at + 1 + length f.sized.field) (at + length (frame_bytes f)) form f.id f.sized.content) in
+    (λ i. record { report = m i; consumed = frame_bytes f }) ∙ (λ i.
+    record { report = section_report features (a i) (b i) form f.id f.sized.content; consumed = frame_bytes f })
+
+code_events_move : (features at by : ℕ) (f : SectionFrame) (d : CodeDivision f.sized.content)
+    → shifted_events by (code_events features at f d) ≡ code_events features (at + by) f d
+code_events_move features at by f d =
+    let a : at + 1 + length f.sized.field + by ≡ at + by + 1 + length f.sized.field = omega arith in
+    let b : at + length (frame_bytes f) + by ≡ at + by + length (frame_bytes f) = omega arith in
+    let c : at + 1 + length f.sized.field + length d.field + by ≡ at + by + 1 + length f.sized.field + length d.field = omega arith in
+    let t : shifted_events by (body_events features (at + 1 + length f.sized.field + length d.field) d.bodies)
+    ≡ body_events features (at + by + 1 + length f.sized.field + length d.field) d.bodies =
+    body_events_move features (at + 1 + length f.sized.field + length d.field) by d.bodies
+    ∙ ap (λ (x : ℕ). body_events features x d.bodies) c in
+    λ i. record {
+      report = code_start (length d.bodies) (a i) (b i) (length (flat_map sized_bytes d.bodies));
+      consumed = f.id ∷ (f.sized.field ++ d.field);
+    } ∷ t i
+
+events_here : (features at by : ℕ) (k : Kind) (f : SectionFrame) (moved : List Event) → KindEvents features (at + by) k f moved
+    → (events : List Event) × KindEvents features at k f events × (moved ≡ shifted_events by events)
+events_here features at by (whole form) f moved e = (
+  section_event features at form f ∷ [],
+  refl,
+  e
+      ∙ ap (λ (x : Event). x ∷ []) (sym (section_event_moves features at by form f)),
+)
+events_here features at by code f moved (d, e) = (code_events features at f d, (d, refl), e ∙ sym (code_events_move features at by f d))
+
+events_moved : (features at by : ℕ) (k : Kind) (f : SectionFrame) (moved events : List Event) → KindEvents features at k f events → moved
+    ≡ shifted_events by events → KindEvents features (at + by) k f moved
+events_moved features at by (whole form) f moved events e m = m
+    ∙ (ap (shifted_events by) e ∙ ap (λ (x : Event). x ∷ []) (section_event_moves features at by form f))
+events_moved features at by code f moved events (d, e) m = (d, m ∙ (ap (shifted_events by) e ∙ code_events_move features at by f d))
+
+pub frames_read_the_same : FramesReadTheSame
+frames_read_the_same encoding earlier others f s = (
+  fits_same encoding earlier others f s,
+  λ features at by moved. (
+    events_here features at by (kind_of encoding f.id) f moved,
+    λ (events, e, m). events_moved features at by (kind_of encoding f.id) f moved events e m,
+  ),
+)
+
+-- ---- an accepted stream without sections that have no rank
+
+-- the sections that stay are matched as all were
+matched_left : (encoding : Encoding) (n other : ℕ) (stays : SectionFrame → Bool) (frames : List SectionFrame)
+    → nat_lt 0 (rank_of (kind_of Module other) other) ≡ true
+    → All (λ f. 0 < frame_rank encoding f → stays f ≡ true) frames → IsMatched encoding n other frames
+    → IsMatched encoding n other (filter stays frames)
+matched_left encoding n other stays frames h k m =
+    let spared : All (Spares (is_section encoding other) stays) frames =
+    All-weaker (λ f. 0 < frame_rank encoding f → stays f ≡ true) (Spares (is_section encoding other) stays)
+    (λ f g e. g (ltb-true 0 (frame_rank encoding f) (ranked encoding other f h (section_yes encoding other f e)))) frames k in
+    let kept : Any (IsSection encoding other) frames → Any (IsSection encoding other) (filter stays frames) = λ a.
+    any_of (is_section encoding other) (IsSection encoding other) (λ g. section_yes encoding other g) (filter stays frames)
+    (any_left (is_section encoding other) stays frames spared ∙ any_to (is_section encoding other) (IsSection encoding other)
+    (λ g. yes_section encoding other g) frames a) in
+    All-weaker (λ f. IsSection encoding n f → 0 < frame_count f → Any (IsSection encoding other) frames)
+    (λ f. IsSection encoding n f → 0 < frame_count f → Any (IsSection encoding other) (filter stays frames))
+    (λ f g i l. kept (g i l)) (filter stays frames) (All-filter stays
+    (λ f. IsSection encoding n f → 0 < frame_count f → Any (IsSection encoding other) frames) frames m)
+
+-- a section that stays fits after those that stay before it
+order_left : (stream : List ℕ) (a : IsAccepted stream) (stays : SectionFrame → Bool)
+    → All (λ f. 0 < frame_rank a.encoding f → stays f ≡ true) a.frames
+    → (earlier later : List SectionFrame) (f : SectionFrame) → filter stays a.frames ≡ earlier ++ f ∷ later → FitsAfter a.encoding earlier f
+order_left stream a stays k earlier later f e =
+    let r : LeftAfter stays a.frames earlier f = left_after stays a.frames earlier later f e in
+    let kept : All (λ g. 0 < frame_rank a.encoding g → stays g ≡ true) r.before =
+    all_prefix (λ g. 0 < frame_rank a.encoding g → stays g ≡ true) r.before (f ∷ r.after)
+    (subst (All (λ g. 0 < frame_rank a.encoding g → stays g ≡ true)) r.whole k) in
+    let spared : All (Spares (has_rank a.encoding) stays) r.before =
+    All-weaker (λ g. 0 < frame_rank a.encoding g → stays g ≡ true) (Spares (has_rank a.encoding) stays)
+    (λ g h t. h (ltb-true 0 (frame_rank a.encoding g) t)) r.before kept in
+    let same : SayTheSame a.encoding r.before earlier = sym (filter_twice (has_rank a.encoding) stays r.before spared)
+    ∙ ap (filter (has_rank a.encoding)) r.left in
+    fits_same a.encoding r.before earlier f same (a.order r.before r.after f r.whole)
+
+pub rankless_may_go : RanklessMayGo
+rankless_may_go stream a stays k = (
+  record {
+    encoding = a.encoding;
+    frames = filter stays a.frames;
+    whole = refl;
+    each = All-filter stays (IsFrame a.encoding) a.frames a.each;
+    order = order_left stream a stays k;
+    functions = matched_left a.encoding function_id 10 stays a.frames refl k a.functions;
+    segments = matched_left a.encoding data_count_id 11 stays a.frames refl k a.segments;
+  },
+  refl,
+  refl,
+)

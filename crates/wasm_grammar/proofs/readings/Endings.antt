@@ -1,0 +1,109 @@
+-- Where a stream may end.
+use Rattle.std.proofs.Common.{◌≡◌, ℕ, zero, suc, ◌+◌, Bool, true, false, cond, ◌&&◌, List, [], ◌∷◌, length, take, drop, Option, Some, None}
+use Rattle.std.proofs.Common.{nat_le, refl}
+use Rattle.wasm_base.specs.FaultAt.{FaultAt, at_offset}
+use Rattle.wasm_base.specs.Header.{magic, agree}
+use Rattle.wasm_base.specs.Number.{Number, read, bad, short, number}
+use Rattle.wasm_base.specs.declared.fault.Fault.TheVariants.{MagicAtSection, UnexpectedEof}
+use Rattle.wasm_base.specs.declared.fault.NumberKind.TheVariants.{VarU32}
+use Rattle.wasm_grammar.specs.declared.encoding.Encoding.{Encoding}
+use Rattle.wasm_grammar.specs.Content.{Kind, code, kind_of, Ending, fault, ended, whole}
+use Rattle.wasm_grammar.specs.Grammar.{Verdict, tile, final, after, after_number, SectionContext, Grammar, accept, reject, check, u32_field}
+use Rattle.wasm_grammar.specs.Grammar.{bytes, section_start, verdict, header_of, header_grammar, end_at_section, section_grammar}
+use Rattle.wasm_grammar.specs.Grammar.{body_grammar, content_grammar, after_id}
+
+-- the stream doesn't end within this
+abbrev pub NoEnd : Grammar → Type 0
+NoEnd (accept s) = Unit {0}
+NoEnd (reject e) = Unit {0}
+NoEnd (check e next) = NoEnd next
+NoEnd (u32_field o next) = (v k : ℕ) → NoEnd (next v k)
+NoEnd (bytes n o next) = (b : List ℕ) → NoEnd (next b)
+NoEnd (section_start o e next) = ⊥
+
+-- how a stream ends after bytes of a tile is how it ends there
+pub after_final : (prefix : List ℕ) (v : Verdict) (e : Ending) → after prefix v ≡ final e → v ≡ final e
+after_final prefix (tile t) e h = cc
+after_final prefix (final x) e h = h
+
+-- no end after a number, if there is none in what follows
+end_number : (o : ℕ) (xs : List ℕ) (n : Number) (next : ℕ → ℕ → Verdict) (p : ℕ) → ((v k : ℕ) → next v k ≡ final (ended p) → ⊥)
+    → after_number o xs n next ≡ final (ended p) → ⊥
+end_number o xs (read v k) next p h e = h v k (after_final _ (next v k) (ended p) e)
+end_number o xs (bad f q) next p h e = cc
+end_number o xs short next p h e = cc
+
+-- no end after so many bytes, if there is none in what follows
+end_test : (b : Bool) (f : List ℕ) (v : Verdict) (x : FaultAt) (p : ℕ) → (v ≡ final (ended p) → ⊥) → cond b (after f v) (final (fault x))
+    ≡ final (ended p) → ⊥
+end_test true f v x p h e = h (after_final f v (ended p) e)
+end_test false f v x p h e = cc
+
+-- what has no end within doesn't end
+no_end : (g : Grammar) → NoEnd g → (d : List ℕ) (p : ℕ) → verdict g d ≡ final (ended p) → ⊥
+unfolding verdict
+no_end (accept s) h d p e = cc
+no_end (reject x) h d p e = cc
+no_end (check (Some x) next) h d p e = cc
+no_end (check None next) h d p e = no_end next h d p e
+no_end (u32_field o next) h d p e = end_number o d (number VarU32 d) (λ v k. verdict (next v k) (drop k d)) p
+    (λ v k. no_end (next v k) (h v k) (drop k d) p) e
+no_end (bytes n o next) h d p e = end_test (nat_le n (length d)) (take n d) (verdict (next (take n d)) (drop n d))
+    (at_offset UnexpectedEof o) p (no_end (next (take n d)) (h (take n d)) (drop n d) p) e
+no_end (section_start o e next) h d p z = h
+
+-- no end within a section's content
+no_end_content : (p : SectionContext) (k : Kind) (id o n : ℕ) → NoEnd (content_grammar p k id o n)
+no_end_content p (whole form) id o n = λ b. tt
+no_end_content p code id o n = λ v k. tt
+
+-- no end within a section
+no_end_framed : (p : SectionContext) (o id : ℕ) → NoEnd (after_id p o id)
+no_end_framed p o id = λ v k. no_end_content p (kind_of p.encoding id) id (o + 1 + k) v
+
+-- no end within a header's last four bytes
+no_end_header_of : (o v : ℕ) (e : Option Encoding) → NoEnd (header_of o v e)
+no_end_header_of o v (Some e) = tt
+no_end_header_of o v None = tt
+
+-- no end within a header
+no_end_header : (o : ℕ) → NoEnd (header_grammar o)
+unfolding header_grammar
+no_end_header o = λ a b. no_end_header_of o _ _
+
+-- the stream doesn't end at its start
+pub header_end : (o : ℕ) (d : List ℕ) (p : ℕ) → verdict (header_grammar o) d ≡ final (ended p) → ⊥
+header_end o d p e = no_end (header_grammar o) (no_end_header o) d p e
+
+-- no end within a body
+no_end_body : (m l o : ℕ) → NoEnd (body_grammar m l o)
+unfolding body_grammar
+no_end_body zero l o = tt
+no_end_body (suc m) l o = λ v k b. tt
+
+-- no end after a section's id, if there is none in what follows
+end_magic : (b : Bool) (o id : ℕ) (v : Verdict) (p : ℕ) → (v ≡ final (ended p) → ⊥)
+    → cond b (final (fault (at_offset MagicAtSection o))) (after (id ∷ []) v) ≡ final (ended p) → ⊥
+end_magic true o id v p h e = cc
+end_magic false o id v p h e = h (after_final (id ∷ []) v (ended p) e)
+
+-- where a section may come, a stream ends only if nothing follows, and as it may there
+start_end : (o : ℕ) (x : Ending) (next : ℕ → Grammar) → ((id : ℕ) → NoEnd (next id)) → (d : List ℕ) (p : ℕ)
+    → verdict (section_start o x next) d ≡ final (ended p) → (d ≡ []) × (x ≡ ended p)
+unfolding verdict
+start_end o x next h [] p e = (refl, cc)
+start_end o x next h (id ∷ d) p e = absurd (end_magic (agree (id ∷ d) magic && nat_le 4 (length (id ∷ d))) o id (verdict (next id) d) p
+    (no_end (next id) (h id) d p) e)
+
+-- the same of the grammar of sections
+section_end : (q : SectionContext) (o : ℕ) (d : List ℕ) (p : ℕ) → verdict (section_grammar q o) d ≡ final (ended p) → (d ≡ [])
+    × (end_at_section q o ≡ ended p)
+unfolding section_grammar
+section_end q o d p e = start_end o (end_at_section q o) (after_id q o) (no_end_framed q o) d p e
+
+-- a stream ends at its end only where no body is missing, and only if it may
+pub inside_end : (b : Bool) (q : SectionContext) (m l o : ℕ) (d : List ℕ) (p : ℕ)
+    → verdict (cond b (section_grammar q o) (body_grammar m l o)) d ≡ final (ended p) → (b ≡ true) × (d ≡ [])
+    × (end_at_section q o ≡ ended p)
+inside_end true q m l o d p e = let (a, c) = section_end q o d p e in (refl, a, c)
+inside_end false q m l o d p e = absurd (no_end (body_grammar m l o) (no_end_body m l o) d p e)

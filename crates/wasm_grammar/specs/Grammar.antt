@@ -1,0 +1,188 @@
+-- What may come at one place of a stream, and what the bytes there turn out to be.
+use Rattle.std.specs.Prelude.{ℕ, zero, suc, ◌+◌, ◌-◌, ◌/◌, ◌%◌, ◌^◌, Bool, ◌&&◌, not, List, [], ◌∷◌, ◌++◌, length, take}
+use Rattle.std.specs.Prelude.{drop, Option, Some, None, nat_lt, nat_le, nat_eq, ◌==◌, if◌then◌else◌}
+use Rattle.std.specs.List.{list_all, list_any}
+use Rattle.wasm_base.specs.FaultAt.{FaultAt, at_offset}
+use Rattle.wasm_base.specs.Header.{magic, agree}
+use Rattle.wasm_base.specs.Name.{of_four}
+use Rattle.wasm_base.specs.Number.{Number, read, bad, short, number}
+use Rattle.wasm_grammar.specs.Content.{Kind, items, code, kind_of, rank_of, Ending, fault, ended, when, wrong_content}
+use Rattle.wasm_grammar.specs.Content.{count_of, Form, whole}
+use Rattle.wasm_base.specs.declared.fault.Fault.TheVariants.{UnexpectedEof, BadMagic, UnknownVersion, MagicAtSection}
+use Rattle.wasm_base.specs.declared.fault.Fault.TheVariants.{MalformedSectionId, SectionTooLarge, OutOfOrder}
+use Rattle.wasm_base.specs.declared.fault.Fault.TheVariants.{FunctionCodeDiffer, FunctionWithoutCode}
+use Rattle.wasm_base.specs.declared.fault.Fault.TheVariants.{CodeWithoutFunction, DataCountDiffer, DataCountWithoutData}
+use Rattle.wasm_base.specs.declared.fault.Fault.TheVariants.{TrailingCode}
+use Rattle.wasm_base.specs.declared.fault.NumberKind.TheVariants.{VarU32}
+use Rattle.wasm_grammar.specs.declared.encoding.Encoding.{Encoding}
+use Rattle.wasm_grammar.specs.declared.encoding.Encoding.TheVariants.{Module, Component}
+use Rattle.wasm_grammar.specs.Ids.{data_id}
+
+-- what tiles a stream: its header, whole sections that are no code section, a code section up to its count, and its
+-- bodies
+pub data Shape : Type 0 where
+  version : (num : ℕ) → Encoding → Shape
+  section : Form → (id : ℕ) (content : List ℕ) → Shape
+  -- the bodies that it announces, the bytes of that count, and the bytes of the bodies
+  code_start : (count width size : ℕ) → Shape
+  code_entry : (content : List ℕ) → Shape
+
+-- one tile, with all its bytes
+pub record Tile : Type 0 where
+  pub shape : Shape
+  pub bytes : List ℕ
+
+-- what is at a place
+pub data Verdict : Type 0 where
+  tile : Tile → Verdict
+  final : Ending → Verdict
+
+-- What may come at a place, field by field. Offsets are where its faults are reported.
+pub data Grammar : Type 0 where
+  -- the tile is whole
+  accept : Shape → Grammar
+  -- the stream ends here
+  reject : FaultAt → Grammar
+  -- the stream ends here, if something is wrong; then what else may come
+  check : Option FaultAt → Grammar → Grammar
+  -- a u32 at this offset; then what its value and its length in bytes say
+  u32_field : (offset : ℕ) → (ℕ → ℕ → Grammar) → Grammar
+  -- so many bytes, which are missed at this offset; then what they say
+  bytes : (count offset : ℕ) → (List ℕ → Grammar) → Grammar
+  -- the stream may end here, in this way, and a header may not follow; then what the id says
+  section_start : (offset : ℕ) → Ending → (ℕ → Grammar) → Grammar
+
+-- a verdict after these bytes of the tile
+abbrev pub after : List ℕ → Verdict → Verdict
+after prefix (tile t) = tile (record t { bytes = prefix ++ t.bytes })
+after prefix (final e) = final e
+
+-- a verdict that waits for a number at this offset
+abbrev pub after_number : (offset : ℕ) (rest : List ℕ) → Number → (ℕ → ℕ → Verdict) → Verdict
+after_number offset rest (read value used) next = after (take used rest) (next value used)
+after_number offset rest (bad kind place) next = final (fault (at_offset kind (offset + place)))
+after_number offset rest short next = final (fault (at_offset UnexpectedEof (offset + length rest)))
+
+-- what the rest of a stream is, where this may come: the first fault, or the whole tile
+unfoldable pub verdict : Grammar → (rest : List ℕ) → Verdict
+verdict (accept shape) rest = tile (record { shape = shape; bytes = [] })
+verdict (reject e) rest = final (fault e)
+verdict (check (Some e) next) rest = final (fault e)
+verdict (check None next) rest = verdict next rest
+verdict (u32_field offset next) rest =
+    after_number offset rest (number VarU32 rest) (λ value used. verdict (next value used) (drop used rest))
+verdict (bytes count offset next) rest =
+    if nat_le count (length rest) then after (take count rest) (verdict (next (take count rest)) (drop count rest)) else
+    final (fault (at_offset UnexpectedEof offset))
+verdict (section_start offset e next) [] = final e
+verdict (section_start offset e next) (id ∷ rest) =
+    if agree (id ∷ rest) magic && nat_le 4 (length (id ∷ rest)) then
+    final (fault (at_offset MagicAtSection offset)) else
+    after (id ∷ []) (verdict (next id) rest)
+
+-- what the tiles before a section say to it
+pub record SectionContext : Type 0 where
+  pub encoding : Encoding
+  -- whether each of them has a lower rank than this
+  pub may_follow : ℕ → Bool
+  -- the counts of the function, code, data and data count sections
+  pub functions : List ℕ
+  pub codes : List ℕ
+  pub datas : List ℕ
+  pub data_counts : List ℕ
+
+-- the encoding of a header with this 16-bit version and 16-bit kind. Core specification, Binary format, Modules
+abbrev pub encoding_named : (num layer : ℕ) → Option Encoding
+encoding_named num layer =
+    if num == 1 && layer == 0 then Some Module else
+    if num == 13 && layer == 1 then Some Component else None
+
+abbrev pub header_of : (offset bits : ℕ) → Option Encoding → Grammar
+header_of offset bits (Some encoding) = accept (version (bits % 65536) encoding)
+header_of offset bits None = reject (record { fault = UnknownVersion; offset = offset + 4; number = Some bits })
+
+-- a header whose magic is followed by these 32 bits: the lower half is its version, the upper one its kind
+abbrev pub version_of : (offset bits : ℕ) → Grammar
+version_of offset bits = header_of offset bits (encoding_named (bits % 65536) (bits / 65536))
+
+-- a header at this offset
+unfoldable pub header_grammar : (offset : ℕ) → Grammar
+header_grammar offset = bytes 4 offset (λ prefix.
+    check (when (not (agree prefix magic)) (at_offset BadMagic offset)) (
+    bytes 4 (offset + 4) (λ four. version_of offset (of_four four))))
+
+-- how a stream ends at the start of a section: a count above 0 wants its other section
+abbrev pub end_at_section : SectionContext → (offset : ℕ) → Ending
+end_at_section context offset =
+    if list_any (nat_lt 0) context.functions && nat_eq (length context.codes) 0 then
+    fault (at_offset FunctionWithoutCode offset) else
+    if list_any (nat_lt 0) context.data_counts && nat_eq (length context.datas) 0 then
+    fault (at_offset DataCountWithoutData offset) else
+    ended offset
+
+-- what a code section whose content begins at this offset is wrong in: each function has its body
+abbrev pub wrong_count : SectionContext → (offset count : ℕ) → Option FaultAt
+wrong_count context offset count =
+    if not (list_all (nat_eq count) context.functions) then Some (at_offset FunctionCodeDiffer offset) else
+    when (nat_lt 0 count && nat_eq (length context.functions) 0) (at_offset CodeWithoutFunction offset)
+
+-- the head of a code section of this length, whose content begins at this offset
+abbrev pub code_grammar : SectionContext → (offset length : ℕ) → Grammar
+code_grammar context offset size = u32_field offset (λ count width.
+    check (when (nat_lt size width) (at_offset UnexpectedEof offset)) (
+    check (wrong_count context offset count) (
+    accept (code_start count width (size - width)))))
+
+-- what a counted section that ends at this offset is wrong in: the data section has as many segments as were announced
+abbrev pub wrong_data : SectionContext → Form → (id offset : ℕ) → List ℕ → Option FaultAt
+wrong_data context items id offset content =
+    when (id == data_id && not (list_all (nat_eq (count_of content)) context.data_counts))
+    (at_offset DataCountDiffer offset)
+wrong_data context other id offset content = None
+
+-- the content of any other section, of this length and at this offset
+abbrev pub whole_grammar : SectionContext → Form → (id offset length : ℕ) → Grammar
+whole_grammar context form id offset size = bytes size offset (λ content.
+    check (wrong_content form offset content) (
+    check (wrong_data context form id (offset + size) content) (
+    accept (section form id content))))
+
+-- the content of a section, of this length and at this offset
+abbrev pub content_grammar : SectionContext → Kind → (id offset length : ℕ) → Grammar
+content_grammar context code id offset size = code_grammar context offset size
+content_grammar context (whole form) id offset size = whole_grammar context form id offset size
+
+-- a section of this kind and length, whose length field and content begin at these offsets
+abbrev pub after_length : SectionContext → Kind → (id field offset length : ℕ) → Grammar
+after_length context kind id field offset size =
+    check (when (nat_lt (2 ^ 64 - 1) (offset + size)) (record {
+      fault = SectionTooLarge;
+      offset = field;
+      number = Some size;
+    })) (
+    check (when (nat_lt 0 (rank_of kind id) && not (context.may_follow (rank_of kind id)))
+    (at_offset OutOfOrder offset)) (
+    content_grammar context kind id offset size))
+
+-- a section with this id, at this offset
+abbrev pub after_id : SectionContext → (offset id : ℕ) → Grammar
+after_id context offset id =
+    check (when (nat_le 128 id) (at_offset MalformedSectionId offset)) (
+    u32_field (offset + 1) (λ size width. after_length context (kind_of context.encoding id) id (offset + 1)
+    (offset + 1 + width) size))
+
+-- a section at this offset. Core specification, Binary format, Modules, Sections
+unfoldable pub section_grammar : SectionContext → (offset : ℕ) → Grammar
+section_grammar context offset = section_start offset (end_at_section context offset) (after_id context offset)
+
+-- a body, in a code section of which so many bytes are left. Its size says by itself whether it passes the section
+abbrev pub body_of : (offset left size width : ℕ) → Grammar
+body_of offset left size width =
+    check (when (nat_lt left (width + size)) (at_offset UnexpectedEof offset)) (
+    bytes size (offset + width) (λ content.
+    accept (code_entry content)))
+
+-- what may come in a code section of which so many bodies and bytes are left
+unfoldable pub body_grammar : (bodies left offset : ℕ) → Grammar
+body_grammar zero left offset = reject (at_offset TrailingCode offset)
+body_grammar (suc bodies) left offset = u32_field offset (λ size width. body_of offset left size width)

@@ -1,0 +1,93 @@
+-- Which bytes leave it open what comes next in a stream, by the streams that begin with them.
+use Rattle.std.specs.Prelude.{◌≡◌, ◌≢◌, ◌↔◌, ℕ, ◌+◌, ◌-◌, ◌<◌, ◌^◌, List, [], ◌∷◌, ◌++◌, length, take, drop, replicate}
+use Rattle.std.specs.Prelude.{Some, None, nat_le, if◌then◌else◌}
+use Rattle.wasm_base.specs.Header.{magic, agree}
+use Rattle.wasm_base.specs.Number.{Number, read, bad, short, number}
+use Rattle.wasm_base.specs.declared.fault.NumberKind.TheVariants.{VarU32}
+use Rattle.wasm_grammar.specs.NextEvent.{NextEvent}
+use Rattle.wasm_grammar.specs.Grammar.{Tile, Grammar, accept, reject, check, u32_field, bytes, section_start}
+use Rattle.wasm_grammar.specs.Reading.{Event, Reading, Stream}
+use Rattle.wasm_grammar.specs.Tiling.{bytes_of, grammar, Faultless}
+use Rattle.wasm_grammar.specs.Waiting.{enough, wants, waiting}
+
+-- Bytes that decide what is here, where those that came don't. They are 00 for each byte that is missing, and five
+-- bytes 80 after a number that isn't at its end and where a section may start. After the first bytes of the magic they
+-- are its others.
+abbrev pub ending_of_number : Number → (ℕ → ℕ → List ℕ) → List ℕ
+ending_of_number (read value used) next = next value used
+ending_of_number (bad fault place) next = []
+ending_of_number short next = replicate 5 0x80
+
+unfoldable pub deciding_ending : Grammar → (prefix : List ℕ) → List ℕ
+deciding_ending (accept shape) prefix = []
+deciding_ending (reject e) prefix = []
+deciding_ending (check (Some e) next) prefix = []
+deciding_ending (check None next) prefix = deciding_ending next prefix
+deciding_ending (u32_field offset next) prefix =
+    ending_of_number (number VarU32 prefix) (λ value used. deciding_ending (next value used) (drop used prefix))
+deciding_ending (bytes count offset next) prefix =
+    if nat_le count (length prefix) then deciding_ending (next (take count prefix)) (drop count prefix) else
+    replicate (count - length prefix) 0
+deciding_ending (section_start offset e next) [] = replicate 5 0x80
+deciding_ending (section_start offset e next) (id ∷ prefix) =
+    if agree (id ∷ prefix) magic then drop (length (id ∷ prefix)) magic else deciding_ending (next id) prefix
+
+-- In the stream that is this front and this rest, this event comes next after the front.
+pub record ComesNext (start features : ℕ) (front rest : List ℕ) (event : Event) : Type 0 where
+  pub events : List Event
+  pub reading : Reading (front ++ rest) start features events
+  pub next : NextEvent events front
+  pub is : next.event ≡ event
+
+-- An event comes next, and no other.
+abbrev pub HasOneNext : (start features : ℕ) (front rest : List ℕ) → Type 0
+HasOneNext start features front rest =
+    ((event : Event) × ComesNext start features front rest event)
+    × ((one other : Event) → ComesNext start features front rest one → ComesNext start features front rest other → one
+    ≡ other)
+
+-- The same event comes next in two streams.
+abbrev pub SameNext : (start : ℕ) (front one other : List ℕ) → Type 0
+SameNext start front one other = (features : ℕ) (x y : Event) → ComesNext start features front one x
+    → ComesNext start features front other y → x ≡ y
+
+-- Different events come next in two streams.
+abbrev pub OtherNext : (start : ℕ) (front one other : List ℕ) → Type 0
+OtherNext start front one other = (features : ℕ) (x y : Event) → ComesNext start features front one x
+    → ComesNext start features front other y → x ≢ y
+
+-- The front is a faultless tiling by these tiles.
+abbrev pub IsTiledBy : (start : ℕ) (front : List ℕ) → List Tile → Type 0
+IsTiledBy start front tiles = Faultless start tiles × (bytes_of tiles ≡ front)
+
+-- After a front that is a faultless tiling, one event comes next in every stream that begins with it.
+abbrev pub OneComesNext : (start : ℕ) (front : List ℕ) → Type 0
+OneComesNext start front = (tiles : List Tile) → IsTiledBy start front tiles → (features : ℕ) (rest : List ℕ)
+    → HasOneNext start features front rest
+
+-- Where bytes after such a front suffice, the same event comes next in all streams that begin with both.
+abbrev pub EnoughIsDecided : (start : ℕ) (front came : List ℕ) → Type 0
+EnoughIsDecided start front came = (tiles : List Tile) → IsTiledBy start front tiles
+    → waiting (grammar start tiles) came ≡ enough
+    → (one other : List ℕ) → SameNext start front (came ++ one) (came ++ other)
+
+-- Where they don't, another event comes next in the stream that ends after them than in the one that goes on by the
+-- ending that decides. That is a stream too, if the offsets go on for 2^33 bytes more.
+abbrev pub ShortIsUndecided : (start : ℕ) (front came : List ℕ) → Type 0
+ShortIsUndecided start front came = (tiles : List Tile) → IsTiledBy start front tiles → (need hint : ℕ)
+    → waiting (grammar start tiles) came ≡ wants need hint
+    → OtherNext start front came (came ++ deciding_ending (grammar start tiles) came)
+    × (Stream (front ++ came) start → start + length (front ++ came) + 2 ^ 33 < 2 ^ 64
+    → Stream (front ++ (came ++ deciding_ending (grammar start tiles) came)) start)
+
+-- Two streams that begin with this front and these bytes, and what comes next in each: different events.
+pub record TwoStreams (start features : ℕ) (front came : List ℕ) : Type 0 where
+  pub one : List ℕ
+  pub other : List ℕ
+  pub is_stream : Stream (front ++ (came ++ one)) start
+  pub other_is_stream : Stream (front ++ (came ++ other)) start
+  pub event : Event
+  pub other_event : Event
+  pub comes : ComesNext start features front (came ++ one) event
+  pub other_comes : ComesNext start features front (came ++ other) other_event
+  pub differ : event ≢ other_event

@@ -1,0 +1,145 @@
+//! Laws of the definitions of a stream, and what comparing and copying encodings say, each the contract of a function
+//! that does nothing.
+ghost use Rattle.wasm_base.specs.Comparing.{DecidesSame, IsCopy};
+ghost use Rattle.wasm_grammar.specs.FrameLaws.{FramesGiveEvents, FramesReadTheSame, OneDivision, RanklessMayGo};
+ghost use Rattle.wasm_grammar.specs.Laws.{AcceptedEnds, EventsLieEndToEnd, FaultEnds, EventsSayTheirBytes, FaultLiesWithin, LongestTiling, OneReading, SomeReading, StartOnlyMoves, TilesStandAlone};
+ghost use Rattle.wasm_grammar.specs.SectionLaws.{BodiesFollowTheirCount, RanksAscend, SectionsTile};
+ghost use Rattle.wasm_grammar.specs.Worked.{EdgesOfRules, WorkedStreams};
+ghost use Rattle.wasm_grammar.specs.WorkedEndings.{WorkedEndings};
+ghost use Rattle.wasm_grammar.specs.WorkedFields.{LongFields, TwoFaults, WholeReadings};
+
+use crate::encoding::Encoding;
+
+/// Two readings of one stream are one.
+pub fn one_reading()
+    ensures { OneReading }
+{}
+
+/// Every stream has a reading.
+pub fn some_reading()
+    ensures { SomeReading }
+{}
+
+/// The reading of a stream ends at its end exactly if the stream is accepted: a header, and then nothing but good
+/// sections in their order.
+pub fn accepted_ends()
+    ensures { AcceptedEnds }
+{}
+
+/// The reading of a stream ends with a fault exactly if the stream is not accepted.
+pub fn fault_ends()
+    ensures { FaultEnds }
+{}
+
+/// A fault lies in the stream after the tiles before it, or at its end.
+pub fn fault_lies_within()
+    ensures { FaultLiesWithin }
+{}
+
+/// The tiles of a reading are the longest faultless tiling of its stream: every other is a beginning of it.
+pub fn longest_tiling()
+    ensures { LongestTiling }
+{}
+
+/// The events of a reading are end to end in its stream, and their windows are its parts at their own offsets; the
+/// bytes that they consumed, joined, are the stream up to where the reading stops.
+pub fn events_lie_end_to_end()
+    ensures { EventsLieEndToEnd }
+{}
+
+/// The start offset only moves offsets: the reading of a stream that starts later has the same events with every offset
+/// moved, unless a section passes the top of the offsets there.
+pub fn start_only_moves()
+    ensures { StartOnlyMoves }
+{}
+
+/// What a tile is depends on its own bytes alone: it comes after the same tiles in every stream that has its bytes
+/// there.
+pub fn tiles_stand_alone()
+    ensures { TilesStandAlone }
+{}
+
+/// Worked streams have the readings that were computed by hand.
+pub fn worked_streams()
+    ensures { WorkedStreams }
+{}
+
+/// After worked beginnings of streams, one for each kind of waiting, so many bytes are asked for, and so the stream goes on
+/// where that decides, by hand.
+pub fn worked_endings()
+    ensures { WorkedEndings }
+{}
+
+/// Streams at the edges of the rules have the readings, or end as they do, by hand.
+pub fn edges_of_rules()
+    ensures { EdgesOfRules }
+{}
+
+/// An accepted stream is its header and then the sections that its reading reports, in their order, and nothing between
+/// them or after. Of each it has the id, the length, and the content, which is the bytes of the range that is reported.
+pub fn sections_tile_an_accepted_stream()
+    ensures { SectionsTile }
+{}
+
+/// An accepted stream is divided into a header and sections in one way.
+pub fn one_division()
+    ensures { OneDivision }
+{}
+
+/// The events of an accepted stream are those of its header, of its sections in their order, and its end, each at its
+/// offset: a code section's are its start and its bodies, every other section's is one.
+pub fn frames_give_events()
+    ensures { FramesGiveEvents }
+{}
+
+/// A section that fits after some sections fits after others that say the same to it, and is read the same there: its events
+/// at another offset are its events moved. Sections without a rank, as custom ones, say nothing.
+pub fn frames_read_the_same()
+    ensures { FramesReadTheSame }
+{}
+
+/// What is left of an accepted stream without some of the sections that have no rank, as custom sections, is accepted.
+pub fn rankless_may_go()
+    ensures { RanklessMayGo }
+{}
+
+/// Of two sections of a reading the later one has the higher rank, if both have a rank in the encoding that the stream's
+/// header names: a module's sections ascend.
+pub fn ranks_ascend()
+    ensures { RanksAscend }
+{}
+
+/// After the start of a code section a reading has as many bodies as the section counts, and then another event; or
+/// fewer bodies, and then a fault, which is its last event.
+pub fn bodies_follow_their_count()
+    ensures { BodiesFollowTheirCount }
+{}
+
+/// Two encodings are equal exactly if they are the same. A copy of an encoding is the same, and can always be made.
+pub fn equal_encodings_are_the_same()
+    ensures equal { DecidesSame ⟦<Encoding as PartialEq>⟧.eq }
+    ensures copy { IsCopy ⟦<Encoding as Clone>⟧.is_clone ⟦<Encoding as Clone>⟧.is_infallible }
+{}
+
+/// What the events of a reading, accepted or not, say of sections and bodies is what the bytes that they consumed are. Of a
+/// section these are its id, a length field and the content, which is the bytes of its range and begins with the count,
+/// index or name that is reported. Of a code section it is only the content up to its count. Of a body they are a size
+/// field and its window.
+pub fn events_say_their_bytes()
+    ensures { EventsSayTheirBytes }
+{}
+
+/// Streams that start elsewhere, with other features, names and all ids, have the readings that were computed by hand.
+pub fn whole_readings()
+    ensures { WholeReadings }
+{}
+
+/// Streams whose fields take several bytes before a fault end at that fault, by hand.
+pub fn long_fields()
+    ensures { LongFields }
+{}
+
+/// Streams in which two checks can fail end at the first of them, by hand.
+pub fn two_faults()
+    ensures { TwoFaults }
+{}

@@ -1,0 +1,211 @@
+// How groups of types are read.
+ghost use Rattle.std.specs.Prelude.{◌≡◌, map};
+ghost use Rattle.wasm_base.specs.Hints.{TakesNoMemory};
+ghost use Rattle.wasm_base.specs.Item.{ReadsAs};
+ghost use Rattle.wasm_base.specs.Outcome.{GivesBy};
+ghost use Rattle.wasm_base.specs.Owned.{GivesUnlessMemory, list_at};
+ghost use Rattle.wasm_base.specs.Window.{place, KeepsWindow};
+ghost use Rattle.wasm_items.specs.RecGroups.{mutability_at, field_type_at, supertypes_at, subtype_parts, subtype_at, extending_at};
+ghost use Rattle.wasm_items.specs.Values.{val_type_at};
+
+use crate::types::{CompositeType, FieldType, FuncType, RecGroup, StorageType, SubType, ValType};
+use std::alloc::Global;
+use wasm_base::{
+    BinaryReader, Error, Fault, FromReader, FromReaderIn, Lead, Result, leading_byte_error,
+    read_list, read_list_in,
+};
+
+/// A byte for 8 or 16 bits, or a value type, with the faults of that.
+impl<'a> FromReader<'a> for StorageType {
+    ghost use Rattle.wasm_items.specs.RecGroups.{storage_type_at};
+
+    ghost meaning = { ReadsAs (λ storage. storage) storage_type_at };
+
+    #[tactic(auto, unfolding(crate::specs::RecGroups::storage_type_at))]
+    fn from_reader(reader: &mut BinaryReader<'a>) -> Result<Self> {
+        match reader.peek()? {
+            0x78 => {
+                reader.read_u8()?;
+                Ok(StorageType::I8)
+            }
+            0x77 => {
+                reader.read_u8()?;
+                Ok(StorageType::I16)
+            }
+            _ => Ok(StorageType::Val(ValType::from_reader(reader)?)),
+        }
+    }
+}
+
+// Whether a field can be changed.
+#[tactic(auto, unfolding(crate::specs::RecGroups::mutability_at))]
+fn read_mutability(reader: &mut BinaryReader<'_>) -> Result<bool>
+    ensures gives { GivesBy (λ mutable. mutable) result reader.old reader.new mutability_at }
+    ensures keeps { KeepsWindow reader.old reader.new }
+    ensures memory { TakesNoMemory result }
+{
+    let start = reader.original_position();
+    match reader.read_u8()? {
+        0 => Ok(false),
+        1 => Ok(true),
+        byte => Err(leading_byte_error(Lead::Mutability, byte, start)),
+    }
+}
+
+/// What the field holds, and a byte that is 0, or 1 where it can be changed.
+///
+/// Another byte is `LeadingByte(Mutability)` at it, with the byte as its number.
+impl<'a> FromReader<'a> for FieldType {
+    ghost meaning = { ReadsAs (λ field. field) field_type_at };
+
+    #[tactic(auto, unfolding(crate::specs::RecGroups::field_type_at))]
+    fn from_reader(reader: &mut BinaryReader<'a>) -> Result<Self> {
+        let storage = StorageType::from_reader(reader)?;
+        let mutable = read_mutability(reader)?;
+        Ok(FieldType { storage, mutable })
+    }
+}
+
+// A list of value types.
+fn read_val_types(alloc: Global, reader: &mut BinaryReader<'_>) -> Result<Vec<ValType>>
+    ensures gives { GivesUnlessMemory (λ types. types.items)
+        result (place reader.new) (list_at val_type_at (place reader.old)) }
+    ensures keeps { KeepsWindow reader.old reader.new }
+{
+    read_list(alloc, reader)
+}
+
+// A list of fields.
+fn read_fields(alloc: Global, reader: &mut BinaryReader<'_>) -> Result<Vec<FieldType>>
+    ensures gives { GivesUnlessMemory (λ fields. fields.items)
+        result (place reader.new) (list_at field_type_at (place reader.old)) }
+    ensures keeps { KeepsWindow reader.old reader.new }
+{
+    read_list(alloc, reader)
+}
+
+// A list of subtypes.
+fn read_subtypes(alloc: Global, reader: &mut BinaryReader<'_>) -> Result<Vec<SubType>>
+    ensures gives { GivesUnlessMemory (λ types. map subtype_parts types.items)
+        result (place reader.new) (list_at subtype_at (place reader.old)) }
+    ensures keeps { KeepsWindow reader.old reader.new }
+{
+    read_list_in(alloc, reader)
+}
+
+/// The list of the parameters' types, and that of the results'.
+impl<'a> FromReaderIn<'a> for FuncType {
+    ghost use Rattle.wasm_items.specs.RecGroups.{function_parts, func_type_at};
+
+    ghost meaning = { ReadsAs function_parts func_type_at };
+
+    #[tactic(auto, unfolding(crate::specs::RecGroups::func_type_at))]
+    fn from_reader(alloc: Global, reader: &mut BinaryReader<'a>) -> Result<Self> {
+        let params = read_val_types(alloc, reader)?;
+        let results = read_val_types(alloc, reader)?;
+        Ok(FuncType { params, results })
+    }
+}
+
+/// A byte, and a function type, a list of fields, or a field.
+///
+/// Another byte is `LeadingByte(Composite)` at it, with the byte as its number.
+impl<'a> FromReaderIn<'a> for CompositeType {
+    ghost use Rattle.wasm_items.specs.RecGroups.{composite_parts, composite_type_at};
+
+    ghost meaning = { ReadsAs composite_parts composite_type_at };
+
+    #[tactic(auto, unfolding(crate::specs::RecGroups::composite_type_at))]
+    fn from_reader(alloc: Global, reader: &mut BinaryReader<'a>) -> Result<Self> {
+        let start = reader.original_position();
+        match reader.read_u8()? {
+            0x60 => Ok(CompositeType::Func(FuncType::from_reader(alloc, reader)?)),
+            0x5f => Ok(CompositeType::Struct(read_fields(alloc, reader)?)),
+            0x5e => Ok(CompositeType::Array(FieldType::from_reader(reader)?)),
+            byte => Err(leading_byte_error(Lead::Composite, byte, start)),
+        }
+    }
+}
+
+// The supertypes of a subtype, of which there is one at most.
+#[tactic(auto, unfolding(crate::specs::RecGroups::supertypes_at))]
+fn read_supertype(reader: &mut BinaryReader<'_>) -> Result<Option<u32>>
+    ensures gives { GivesBy (λ supertype. supertype) result reader.old reader.new supertypes_at }
+    ensures keeps { KeepsWindow reader.old reader.new }
+    ensures memory { TakesNoMemory result }
+{
+    let start = reader.original_position();
+    match reader.read_var_u32()? {
+        0 => Ok(None),
+        1 => Ok(Some(reader.read_var_u32()?)),
+        _ => Err(Error::new(Fault::Supertypes, start)),
+    }
+}
+
+// A subtype after its first byte.
+#[tactic(auto, unfolding(crate::specs::RecGroups::extending_at))]
+fn read_extending(alloc: Global, is_final: bool, reader: &mut BinaryReader<'_>) -> Result<SubType>
+    ensures gives { GivesUnlessMemory subtype_parts
+        result (place reader.new) (extending_at is_final (place reader.old)) }
+    ensures keeps { KeepsWindow reader.old reader.new }
+{
+    let supertype = read_supertype(reader)?;
+    let composite = CompositeType::from_reader(alloc, reader)?;
+    Ok(SubType {
+        is_final,
+        supertype,
+        composite,
+    })
+}
+
+/// A byte that says whether the type is final, the list of its supertypes and a composite type; or a composite type alone,
+/// which is final.
+///
+/// More than one supertype is `Supertypes` at their count.
+impl<'a> FromReaderIn<'a> for SubType {
+    ghost meaning = { ReadsAs subtype_parts subtype_at };
+
+    #[tactic(auto, unfolding(crate::specs::RecGroups::subtype_at))]
+    fn from_reader(alloc: Global, reader: &mut BinaryReader<'a>) -> Result<Self> {
+        match reader.peek()? {
+            0x50 => {
+                reader.read_u8()?;
+                read_extending(alloc, false, reader)
+            }
+            0x4f => {
+                reader.read_u8()?;
+                read_extending(alloc, true, reader)
+            }
+            _ => Ok(SubType {
+                is_final: true,
+                supertype: None,
+                composite: CompositeType::from_reader(alloc, reader)?,
+            }),
+        }
+    }
+}
+
+/// A byte and a list of subtypes, for a group that is written as one; or a subtype alone.
+impl<'a> FromReaderIn<'a> for RecGroup {
+    ghost use Rattle.wasm_items.specs.RecGroups.{rec_group_parts, rec_group_at};
+
+    ghost meaning = { ReadsAs rec_group_parts rec_group_at };
+
+    #[tactic(auto, unfolding(crate::specs::RecGroups::rec_group_at))]
+    fn from_reader(alloc: Global, reader: &mut BinaryReader<'a>) -> Result<Self> {
+        if reader.peek()? == 0x4e {
+            reader.read_u8()?;
+            return Ok(RecGroup {
+                explicit: true,
+                types: read_subtypes(alloc, reader)?,
+            });
+        }
+        let one = SubType::from_reader(alloc, reader)?;
+        let mut types = Vec::new(alloc);
+        types.push(one)?;
+        Ok(RecGroup {
+            explicit: false,
+            types,
+        })
+    }
+}

@@ -1,5 +1,0 @@
-use Rattle.wasm_parser.proofs.BodyCounts as bodies
-use Rattle.wasm_parser.proofs.laws.bodies_follow_their_count.Goals as goal
-
-pub returns : goal.returns
-returns c = bodies.bodies_follow

@@ -1,5 +1,0 @@
-use Rattle.wasm_parser.proofs.SectionEvents.{events_say_their_bytes}
-use Rattle.wasm_parser.proofs.laws.events_say_their_bytes.Goals as goal
-
-pub returns : goal.returns
-returns c = events_say_their_bytes

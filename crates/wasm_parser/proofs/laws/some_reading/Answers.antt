@@ -1,6 +1,0 @@
-use Rattle.std.proofs.Common.{[], refl}
-use Rattle.wasm_parser.proofs.ReadingLaws.{Onward, reads_all}
-use Rattle.wasm_parser.proofs.laws.some_reading.Goals as goal
-
-pub returns : goal.returns
-returns c = λ stream start features. let r : Onward stream start [] = reads_all stream start in (_, record { tiles = r.tiles; end = r.end; reads = r.reads; listed = refl })

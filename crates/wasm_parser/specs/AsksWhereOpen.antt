@@ -1,0 +1,16 @@
+-- A parser asks for more exactly where streams that begin so differ.
+use Rattle.std.specs.Prelude.{◌≡◌, ◌≢◌, ◌↔◌, ℕ, ◌+◌, ◌-◌, ◌<◌, ◌^◌, Bool, false, List, [], ◌∷◌, ◌++◌, length, Result}
+use Rattle.std.specs.Prelude.{if◌then◌else◌}
+use Rattle.wasm_base.specs.declared.error.Error.{Error}
+use Rattle.wasm_parser.specs.ParseAnswer.{IsRequest}
+use Rattle.wasm_parser.specs.ParserState.{ParserState, IsStateAfter}
+use Rattle.wasm_grammar.specs.Reading.{Stream}
+use Rattle.wasm_parser.specs.declared.payload.Chunk.{Chunk}
+use Rattle.wasm_grammar.specs.Undecided.{TwoStreams}
+
+-- Where more bytes may come, wherever in a stream the parser is, it asks for them exactly if two streams that begin
+-- with the bytes so far have different next events. The offsets have to go on for 2^33 bytes, so that both are streams.
+abbrev pub AsksWhereOpen : ParserState → (eof : Bool) (came : List ℕ) → Result Chunk Error → Type 0
+AsksWhereOpen p eof came result = eof ≡ false → (start : ℕ) (front : List ℕ) → IsStateAfter p start front
+    → Stream (front ++ came) start → start + length (front ++ came) + 2 ^ 33 < 2 ^ 64
+    → IsRequest result ↔ TwoStreams start p.features front came

@@ -1,0 +1,31 @@
+-- Laws of what a parser knows and answers.
+use Rattle.std.specs.Prelude.{◌≡◌, ℕ, ◌+◌, ◌^◌, ◌<◌, ◌≤◌, ◌↔◌, Bool, false, Result, List, [], ◌∷◌, ◌++◌, length}
+use Rattle.wasm_grammar.specs.Grammar.{Tile, tile, verdict}
+use Rattle.wasm_grammar.specs.Reading.{Event, Reading}
+use Rattle.wasm_grammar.specs.NextEvent.{NextEvent}
+use Rattle.wasm_parser.specs.ParseAnswer.{IsRequest, ParseAnswer}
+use Rattle.wasm_parser.specs.declared.payload.Chunk.{Chunk}
+use Rattle.wasm_base.specs.declared.error.Error.{Error}
+use Rattle.wasm_parser.specs.ParserState.{ParserState, IsStateAfter, grammar_of}
+use Rattle.wasm_parser.specs.StateAfter.{state_after_tile}
+use Rattle.wasm_grammar.specs.Tiling.{grammar}
+
+-- what may come after a prefix of a stream depends on what a parser knows that is after that prefix; and where it
+-- passes the tile that comes there, it is after the tile
+abbrev pub ParserSuffices : Type 0
+ParserSuffices = (parser : ParserState) (start : ℕ) (prefix : List ℕ) (s : IsStateAfter parser start prefix) →
+    (grammar_of parser ≡ grammar start s.tiles)
+    × ((rest : List ℕ) (t : Tile) → verdict (grammar_of parser) rest ≡ tile t
+    → IsStateAfter (state_after_tile parser t) start (prefix ++ t.bytes))
+
+-- wherever a parser is in a stream, the reading of that stream has a next event
+abbrev pub SomeNextEvent : Type 0
+SomeNextEvent = (p : ParserState) (start features : ℕ) (prefix rest : List ℕ) (events : List Event)
+    → IsStateAfter p start prefix → Reading (prefix ++ rest) start features events → NextEvent events prefix
+
+-- whatever was answered on bytes after which more may come, but for a request, is answered with more of them too,
+-- whether these are then all or not
+abbrev pub AnswersLast : Type 0
+AnswersLast = (p new : ParserState) (bytes more : List ℕ) (result : Result Chunk Error)
+    → ParseAnswer p false bytes result new → ¬ IsRequest result → p.offset + length (bytes ++ more) < 2 ^ 64
+    → (eof : Bool) → ParseAnswer p eof (bytes ++ more) result new

@@ -1,0 +1,11 @@
+use Rattle.std.proofs.lemmas.Result.{err_from_is_err_and}
+use Rattle.wasm_show.proofs.Dumping.{fresh, no_room}
+use Rattle.wasm_show.proofs.stream.dump.Goals as goal
+
+pub returns-in_err-room : goal.returns-in_err-room
+returns-in_err-room g c taken failed s =
+    let e = err_from_is_err_and c.from_residual.result c.from_residual.ensures.1 in
+    rw (e.1, e.2) (no_room _ _ _ taken failed _ s)
+
+pub returns : goal.returns
+returns g c taken failed s = c.dump_into.ensures taken failed (fresh taken failed _ s)

@@ -1,0 +1,17 @@
+use Rattle.std.proofs.Common.{◌≡◌, ◌<◌, length}
+use Rattle.wasm_feed.specs.Progress.{weight}
+use Rattle.wasm_show.proofs.Dumping.{Dumping}
+use Rattle.wasm_show.proofs.stream.dump_into.Given as goal
+
+-- how far the dump has come
+abbrev pub invariant-events : goal.invariant-events
+invariant-events g l =
+    let source = g.R.Source in
+    record {
+      dumping : Dumping l.only (source.left l.initial.input) (source.left l.input) l.initial.out l.feeder l.out;
+      input : source.has_failed l.input ≡ source.has_failed l.initial.input;
+      room : 0 < length l.room;
+    }
+
+abbrev pub decreases-events : goal.decreases-events
+decreases-events g l = weight l.feeder

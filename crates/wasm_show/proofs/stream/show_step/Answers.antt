@@ -1,0 +1,10 @@
+use Rattle.std.proofs.Common.{rules}
+use Rattle.wasm_show.proofs.stream.show_step.Goals as goal
+
+pub returns : goal.returns
+returns g c = record {
+  answer = c.step-answer.result;
+  steps = search rules;
+  turns = c.show_answer.ensures.turns;
+  shows = c.show_answer.ensures.shows;
+}

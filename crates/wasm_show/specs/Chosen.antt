@@ -1,0 +1,42 @@
+-- Which events a dump shows.
+use Rattle.std.specs.Prelude.{option_map, ℕ, Bool, true, false, List, [], Option, Some, None, nat_eq, bytes_eq}
+use Rattle.std.specs.Prelude.{if◌then◌else◌}
+use Rattle.wasm_grammar.specs.Reading.{Report, code_entry, custom_section, stream_end}
+use Rattle.wasm_grammar.specs.Ids.{code_id}
+use Rattle.wasm_grammar.specs.Sections.{section_of}
+use Rattle.wasm_feed.specs.Listing.{line_of}
+use Rattle.wasm_show.specs.declared.only.Only.{Only}
+use Rattle.wasm_show.specs.declared.only.Only.TheVariants.{All, Id, Name}
+
+-- the id of the section that is reported, or that a part of one is of. Core specification, Binary format, Modules,
+-- Sections.
+abbrev pub id_of : Report → Option ℕ
+id_of (code_entry window) = Some code_id
+id_of other = option_map (λ s. s.0) (section_of other)
+
+-- the name of the custom section that is reported
+abbrev pub name_of : Report → Option (List ℕ)
+name_of (custom_section name data_offset window) = Some name
+name_of other = None
+
+abbrev pub is_last : Report → Bool
+is_last (stream_end end) = true
+is_last other = false
+
+abbrev pub is_id : ℕ → Option ℕ → Bool
+is_id id (Some other) = nat_eq id other
+is_id id None = false
+
+abbrev pub is_name : List ℕ → Option (List ℕ) → Bool
+is_name name (Some other) = bytes_eq name other
+is_name name None = false
+
+-- whether what is reported is shown: the sections that were chosen, and the last event
+abbrev pub is_chosen : Only → Report → Bool
+is_chosen All report = true
+is_chosen (Id id) report = if is_last report then true else is_id id (id_of report)
+is_chosen (Name name) report = if is_last report then true else is_name name.now (name_of report)
+
+-- the line of what is reported, where it is shown
+abbrev pub chosen_line : Only → Report → List ℕ
+chosen_line only report = if is_chosen only report then line_of report else []

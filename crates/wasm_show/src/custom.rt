@@ -1,0 +1,84 @@
+// Texts of custom sections.
+ghost use Rattle.wasm_show.specs.Tree.{Adds};
+
+use crate::lists::{show_fault, show_items, show_list, under};
+use crate::show::Show;
+use crate::tree::Tree;
+use std::alloc::Global;
+use wasm_custom::{
+    BranchHint, BranchHintFunction, CustomSectionReader, KnownCustom, NameSectionReader,
+    ProducersField, ProducersFieldValue,
+};
+use wasm_feed::Sink;
+
+impl Show for BranchHint {
+    fn show<W: Sink>(&self, _level: usize, out: &mut Tree<W>) {
+        out.number("func_offset", u64::from(self.func_offset));
+        out.flag("taken", self.taken);
+    }
+}
+
+/// The hints are under its line.
+impl Show for BranchHintFunction<'_> {
+    fn show<W: Sink>(&self, level: usize, out: &mut Tree<W>) {
+        out.number("func", u64::from(self.func));
+        show_list("hints", level, &self.hints, out);
+    }
+}
+
+impl Show for ProducersFieldValue<'_> {
+    fn show<W: Sink>(&self, _level: usize, out: &mut Tree<W>) {
+        out.quoted("name", self.name);
+        out.quoted("version", self.version);
+    }
+}
+
+/// The values are under its line.
+impl Show for ProducersField<'_> {
+    fn show<W: Sink>(&self, level: usize, out: &mut Tree<W>) {
+        out.quoted("name", self.name);
+        show_list("values", level, &self.values, out);
+    }
+}
+
+/// The subsections are under the line.
+impl Show for NameSectionReader<'_> {
+    fn show<W: Sink>(&self, level: usize, out: &mut Tree<W>) {
+        show_items(under(level), self.clone().unwrap(), out);
+    }
+}
+
+/// Writes the name of a custom section, and under it, if its data is known, what that says.
+pub(crate) fn show_custom<W: Sink>(
+    alloc: Global,
+    section: &CustomSectionReader<'_>,
+    out: &mut Tree<W>,
+)
+    ensures { Adds out.old out.new }
+{
+    out.line(1, "section");
+    out.quoted("name", section.name());
+    match section.as_known(alloc) {
+        Ok(known) => show_known(1, &known, out),
+        Err(error) => show_fault(2, &error, out),
+    }
+}
+
+// Writes what the data of a custom section says on the line that is begun, which is at this level, and its items under it.
+fn show_known<W: Sink>(level: usize, known: &KnownCustom<'_>, out: &mut Tree<W>)
+    ensures { Adds out.old out.new }
+{
+    match known {
+        KnownCustom::Name(section) => section.show(level, out),
+        KnownCustom::BranchHints(section) => show_list("functions", level, section, out),
+        KnownCustom::Producers(section) => show_list("fields", level, section, out),
+        KnownCustom::Dylink0(section) => section.show(level, out),
+        KnownCustom::CoreDump(section) => section.show(level, out),
+        KnownCustom::CoreDumpStack(section) => section.show(level, out),
+        KnownCustom::CoreDumpInstances(section) => section.show(level, out),
+        KnownCustom::CoreDumpModules(section) => section.show(level, out),
+        KnownCustom::Linking(section) => section.show(level, out),
+        KnownCustom::Reloc(section) => section.show(level, out),
+        KnownCustom::Unknown => out.word("unknown"),
+    }
+}

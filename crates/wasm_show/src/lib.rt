@@ -1,0 +1,22 @@
+//! What a stream holds, as text: a line for each event and, under it, a line for each item.
+#![tactic(auto)]
+
+mod coredumps;
+mod custom;
+mod items;
+mod linking;
+mod lists;
+mod names;
+mod only;
+mod payload;
+mod show;
+mod stream;
+mod tree;
+mod types;
+
+pub use lists::{Items, show_fault, show_items, show_list};
+pub use only::Only;
+pub use payload::show_payload;
+pub use show::Show;
+pub use stream::dump;
+pub use tree::Tree;

@@ -1,0 +1,286 @@
+// Texts of the sections for linkers, static and dynamic, and of their items.
+ghost use Rattle.wasm_show.specs.Tree.{Adds};
+
+use crate::lists::{show_items, show_lines, show_list, under};
+use crate::names::show_unknown;
+use crate::show::Show;
+use crate::tree::Tree;
+use bitflags::Flags;
+use wasm_custom::{
+    Comdat, ComdatSymbol, ComdatSymbolKind, DefinedDataSymbol, Dylink0SectionReader,
+    Dylink0Subsection, ExportInfo, ImportInfo, InitFunc, Linking, LinkingSectionReader, MemInfo,
+    RelocSectionReader, RelocationEntry, RelocationType, Segment, SymbolInfo,
+};
+use wasm_feed::Sink;
+
+impl Show for Segment<'_> {
+    fn show<W: Sink>(&self, _level: usize, out: &mut Tree<W>) {
+        out.quoted("name", self.name);
+        out.number("alignment", u64::from(self.alignment));
+        out.number("flags", u64::from(self.flags.bits()));
+    }
+}
+
+impl Show for InitFunc {
+    fn show<W: Sink>(&self, _level: usize, out: &mut Tree<W>) {
+        out.number("priority", u64::from(self.priority));
+        out.number("symbol_index", u64::from(self.symbol_index));
+    }
+}
+
+// The word of what is in a group.
+fn comdat_word(kind: &ComdatSymbolKind) -> &'static str {
+    match kind {
+        ComdatSymbolKind::Data => "data",
+        ComdatSymbolKind::Func => "func",
+        ComdatSymbolKind::Global => "global",
+        ComdatSymbolKind::Event => "event",
+        ComdatSymbolKind::Table => "table",
+        ComdatSymbolKind::Section => "section",
+    }
+}
+
+impl Show for ComdatSymbol {
+    fn show<W: Sink>(&self, _level: usize, out: &mut Tree<W>) {
+        out.field("kind");
+        out.text(comdat_word(&self.kind));
+        out.number("index", u64::from(self.index));
+    }
+}
+
+/// The symbols are under its line.
+impl Show for Comdat<'_> {
+    fn show<W: Sink>(&self, level: usize, out: &mut Tree<W>) {
+        out.quoted("name", self.name);
+        out.number("flags", u64::from(self.flags));
+        show_list("symbols", level, &self.symbols, out);
+    }
+}
+
+// Writes a symbol that has an index and perhaps a name.
+fn show_indexed<W: Sink>(kind: &str, flags: u32, index: u32, name: &Option<&str>, out: &mut Tree<W>)
+    ensures { Adds out.old out.new }
+{
+    out.word(kind);
+    out.number("flags", u64::from(flags));
+    out.number("index", u64::from(index));
+    match name {
+        Some(name) => out.quoted("name", name),
+        None => out.word("name=none"),
+    }
+}
+
+// Writes where the data of a symbol is, if it is here.
+fn show_defined<W: Sink>(symbol: &Option<DefinedDataSymbol>, out: &mut Tree<W>)
+    ensures { Adds out.old out.new }
+{
+    match symbol {
+        Some(symbol) => {
+            out.number("index", u64::from(symbol.index));
+            out.number("offset", u64::from(symbol.offset));
+            out.number("size", u64::from(symbol.size));
+        }
+        None => out.word("undefined"),
+    }
+}
+
+// Writes a symbol that is data.
+fn show_data<W: Sink>(flags: u32, name: &str, symbol: &Option<DefinedDataSymbol>, out: &mut Tree<W>)
+    ensures { Adds out.old out.new }
+{
+    out.word("data");
+    out.number("flags", u64::from(flags));
+    out.quoted("name", name);
+    show_defined(symbol, out);
+}
+
+// Writes a symbol that is a section.
+fn show_section_symbol<W: Sink>(flags: u32, section: u32, out: &mut Tree<W>)
+    ensures { Adds out.old out.new }
+{
+    out.word("section");
+    out.number("flags", u64::from(flags));
+    out.number("section", u64::from(section));
+}
+
+impl Show for SymbolInfo<'_> {
+    fn show<W: Sink>(&self, _level: usize, out: &mut Tree<W>) {
+        match self {
+            SymbolInfo::Func { flags, index, name } => {
+                show_indexed("func", flags.bits(), *index, name, out);
+            }
+            SymbolInfo::Global { flags, index, name } => {
+                show_indexed("global", flags.bits(), *index, name, out);
+            }
+            SymbolInfo::Event { flags, index, name } => {
+                show_indexed("event", flags.bits(), *index, name, out);
+            }
+            SymbolInfo::Table { flags, index, name } => {
+                show_indexed("table", flags.bits(), *index, name, out);
+            }
+            SymbolInfo::Data {
+                flags,
+                name,
+                symbol,
+            } => show_data(flags.bits(), name, symbol, out),
+            SymbolInfo::Section { flags, section } => {
+                show_section_symbol(flags.bits(), *section, out);
+            }
+        }
+    }
+}
+
+/// The items of a list are under its line.
+impl Show for Linking<'_> {
+    fn show<W: Sink>(&self, level: usize, out: &mut Tree<W>) {
+        match self {
+            Linking::SegmentInfo(segments) => show_list("segment_info", level, segments, out),
+            Linking::InitFuncs(functions) => show_list("init_funcs", level, functions, out),
+            Linking::ComdatInfo(comdats) => show_list("comdat_info", level, comdats, out),
+            Linking::SymbolTable(symbols) => show_list("symbol_table", level, symbols, out),
+            Linking::TargetArch(name) => out.quoted("target_arch", name),
+            Linking::Unknown {
+                ty,
+                contents,
+                range,
+            } => show_unknown(*ty, contents, range, out),
+        }
+    }
+}
+
+/// The subsections are under the line.
+impl Show for LinkingSectionReader<'_> {
+    fn show<W: Sink>(&self, level: usize, out: &mut Tree<W>) {
+        let range = self.range();
+        out.number("version", u64::from(self.version()));
+        out.range("range", range.start, range.end);
+        out.number("subsections", self.original_position());
+        show_items(under(level), self.subsections(), out);
+    }
+}
+
+/// The subsections are under the line.
+impl Show for Dylink0SectionReader<'_> {
+    fn show<W: Sink>(&self, level: usize, out: &mut Tree<W>) {
+        show_items(under(level), self.clone().unwrap(), out);
+    }
+}
+
+impl Show for MemInfo {
+    fn show<W: Sink>(&self, _level: usize, out: &mut Tree<W>) {
+        out.word("mem_info");
+        out.number("memory_size", u64::from(self.memory_size));
+        out.number("memory_alignment", u64::from(self.memory_alignment));
+        out.number("table_size", u64::from(self.table_size));
+        out.number("table_alignment", u64::from(self.table_alignment));
+    }
+}
+
+impl Show for ExportInfo<'_> {
+    fn show<W: Sink>(&self, _level: usize, out: &mut Tree<W>) {
+        out.quoted("name", self.name);
+        out.number("flags", u64::from(self.flags.bits()));
+    }
+}
+
+impl Show for ImportInfo<'_> {
+    fn show<W: Sink>(&self, _level: usize, out: &mut Tree<W>) {
+        out.quoted("module", self.module);
+        out.quoted("field", self.field);
+        out.number("flags", u64::from(self.flags.bits()));
+    }
+}
+
+// Writes what a list is, and its items under the line.
+fn show_words<T: Show, W: Sink>(
+    list: &str,
+    item: &str,
+    level: usize,
+    items: &[T],
+    out: &mut Tree<W>,
+)
+    ensures { Adds out.old out.new }
+{
+    out.word(list);
+    show_lines(under(level), item, items, out);
+}
+
+/// The items of a list are under its line.
+impl Show for Dylink0Subsection<'_> {
+    fn show<W: Sink>(&self, level: usize, out: &mut Tree<W>) {
+        match self {
+            Dylink0Subsection::MemInfo(info) => info.show(level, out),
+            Dylink0Subsection::Needed(names) => {
+                show_words("needed", "library", level, names, out);
+            }
+            Dylink0Subsection::ExportInfo(exports) => {
+                show_words("export_info", "export", level, exports, out);
+            }
+            Dylink0Subsection::ImportInfo(imports) => {
+                show_words("import_info", "import", level, imports, out);
+            }
+            Dylink0Subsection::RuntimePath(paths) => {
+                show_words("runtime_path", "folder", level, paths, out);
+            }
+            Dylink0Subsection::TargetArch(name) => out.quoted("target_arch", name),
+            Dylink0Subsection::Unknown {
+                ty,
+                contents,
+                range,
+            } => show_unknown(*ty, contents, range, out),
+        }
+    }
+}
+
+// The name of a type of relocations in the tool conventions.
+fn relocation_word(ty: &RelocationType) -> &'static str {
+    match ty {
+        RelocationType::FunctionIndexLeb => "R_WASM_FUNCTION_INDEX_LEB",
+        RelocationType::TableIndexSleb => "R_WASM_TABLE_INDEX_SLEB",
+        RelocationType::TableIndexI32 => "R_WASM_TABLE_INDEX_I32",
+        RelocationType::MemoryAddrLeb => "R_WASM_MEMORY_ADDR_LEB",
+        RelocationType::MemoryAddrSleb => "R_WASM_MEMORY_ADDR_SLEB",
+        RelocationType::MemoryAddrI32 => "R_WASM_MEMORY_ADDR_I32",
+        RelocationType::TypeIndexLeb => "R_WASM_TYPE_INDEX_LEB",
+        RelocationType::GlobalIndexLeb => "R_WASM_GLOBAL_INDEX_LEB",
+        RelocationType::FunctionOffsetI32 => "R_WASM_FUNCTION_OFFSET_I32",
+        RelocationType::SectionOffsetI32 => "R_WASM_SECTION_OFFSET_I32",
+        RelocationType::EventIndexLeb => "R_WASM_EVENT_INDEX_LEB",
+        RelocationType::MemoryAddrRelSleb => "R_WASM_MEMORY_ADDR_REL_SLEB",
+        RelocationType::TableIndexRelSleb => "R_WASM_TABLE_INDEX_REL_SLEB",
+        RelocationType::GlobalIndexI32 => "R_WASM_GLOBAL_INDEX_I32",
+        RelocationType::MemoryAddrLeb64 => "R_WASM_MEMORY_ADDR_LEB64",
+        RelocationType::MemoryAddrSleb64 => "R_WASM_MEMORY_ADDR_SLEB64",
+        RelocationType::MemoryAddrI64 => "R_WASM_MEMORY_ADDR_I64",
+        RelocationType::MemoryAddrRelSleb64 => "R_WASM_MEMORY_ADDR_REL_SLEB64",
+        RelocationType::TableIndexSleb64 => "R_WASM_TABLE_INDEX_SLEB64",
+        RelocationType::TableIndexI64 => "R_WASM_TABLE_INDEX_I64",
+        RelocationType::TableNumberLeb => "R_WASM_TABLE_NUMBER_LEB",
+        RelocationType::MemoryAddrTlsSleb => "R_WASM_MEMORY_ADDR_TLS_SLEB",
+        RelocationType::FunctionOffsetI64 => "R_WASM_FUNCTION_OFFSET_I64",
+        RelocationType::MemoryAddrLocrelI32 => "R_WASM_MEMORY_ADDR_LOCREL_I32",
+        RelocationType::TableIndexRelSleb64 => "R_WASM_TABLE_INDEX_REL_SLEB64",
+        RelocationType::MemoryAddrTlsSleb64 => "R_WASM_MEMORY_ADDR_TLS_SLEB64",
+        RelocationType::FunctionIndexI32 => "R_WASM_FUNCTION_INDEX_I32",
+    }
+}
+
+impl Show for RelocationEntry {
+    fn show<W: Sink>(&self, _level: usize, out: &mut Tree<W>) {
+        out.field("type");
+        out.text(relocation_word(&self.ty));
+        out.number("offset", u64::from(self.offset));
+        out.number("index", u64::from(self.index));
+        out.signed("addend", self.addend);
+    }
+}
+
+/// The relocations are under the line.
+impl Show for RelocSectionReader<'_> {
+    fn show<W: Sink>(&self, level: usize, out: &mut Tree<W>) {
+        let range = self.range();
+        out.number("section", u64::from(self.section_index()));
+        out.range("range", range.start, range.end);
+        show_list("entries", level, &self.entries(), out);
+    }
+}

@@ -1,0 +1,210 @@
+// Lists of items.
+ghost use Rattle.wasm_show.specs.Tree.{Adds};
+
+use crate::show::{Show, Text};
+use crate::tree::Tree;
+use wasm_base::{
+    Error, Fault, FromReader, FromReaderIn, Result, SectionLimited, SectionLimitedIntoIterIn,
+    SectionLimitedIntoIterWithOffsets, Subsection, Subsections,
+};
+use wasm_custom::{IndirectNameMap, IndirectNaming, Name, NameMap, NameSectionReader, Naming};
+use wasm_feed::Sink;
+use wasm_items::{Import, IntoImportsWithOffsets};
+
+/// Items that come one after the other, fewer than 2^64 of them.
+pub trait Items: Drop {
+    /// What one of them is.
+    type Item: Show;
+
+    /// The next one, or the fault in its place, and the offset in the whole stream at which its bytes begin.
+    fn next_item(&mut self) -> Option<Result<(u64, Self::Item)>>;
+}
+
+/// Writes the items of a list, each on a line at this level, with its offset. A fault is a line in the place of its item.
+pub fn show_items<I: Items, W: Sink>(level: usize, mut items: I, out: &mut Tree<W>)
+    ensures { Adds out.old out.new }
+{
+    for _ in 0..u64::MAX {
+        if out.has_stopped() {
+            break;
+        }
+        match items.next_item() {
+            Some(item) => show_item(level, &item, out),
+            None => break,
+        }
+    }
+}
+
+// Writes an item, or its fault.
+fn show_item<T: Show, W: Sink>(level: usize, item: &Result<(u64, T)>, out: &mut Tree<W>)
+    ensures { Adds out.old out.new }
+{
+    match item {
+        Ok((offset, item)) => {
+            out.item(level, *offset);
+            item.show(level, out);
+        }
+        Err(e) => show_fault(level, e, out),
+    }
+}
+
+/// Writes a fault. That there is no memory is no fault of a stream: the tree stops.
+pub fn show_fault<W: Sink>(level: usize, error: &Error, out: &mut Tree<W>)
+    ensures { Adds out.old out.new }
+{
+    match error.fault() {
+        Fault::OutOfMemory => out.out_of_memory(),
+        _ => out.fault(level, error),
+    }
+}
+
+/// The level of lines that are under one of this level.
+pub(crate) fn under(level: usize) -> usize {
+    level.saturating_add(1)
+}
+
+/// Writes the offsets of a section and its count on the line that is begun.
+pub(crate) fn show_extent<T, W: Sink>(
+    name: &str,
+    section: &SectionLimited<'_, T>,
+    out: &mut Tree<W>,
+)
+    ensures { Adds out.old out.new }
+{
+    let range = section.range();
+    out.range(name, range.start, range.end);
+    out.number("count", u64::from(section.count()));
+}
+
+/// Writes the items of a section, each on a line at this level, with its offset.
+pub(crate) fn show_section<'a, T: FromReader<'a> + Show, W: Sink>(
+    level: usize,
+    section: &SectionLimited<'a, T>,
+    out: &mut Tree<W>,
+)
+    ensures { Adds out.old out.new }
+{
+    show_items(
+        level,
+        section.clone().unwrap().into_iter_with_offsets(),
+        out,
+    );
+}
+
+/// Writes the offsets of a section and its count on the line that is begun, which is at this level, and the items under it.
+pub fn show_list<'a, T: FromReader<'a> + Show, W: Sink>(
+    name: &str,
+    level: usize,
+    section: &SectionLimited<'a, T>,
+    out: &mut Tree<W>,
+)
+    ensures { Adds out.old out.new }
+{
+    show_extent(name, section, out);
+    show_section(under(level), section, out);
+}
+
+/// Writes items without offsets, each on a line at this level that begins with this word.
+pub(crate) fn show_lines<T: Show, W: Sink>(level: usize, word: &str, items: &[T], out: &mut Tree<W>)
+    ensures { Adds out.old out.new }
+{
+    for item in items {
+        out.line(level, word);
+        item.show(level, out);
+    }
+}
+
+/// Writes texts, each on a line at this level that begins with this word.
+pub(crate) fn write_lines<T: Text, W: Sink>(
+    level: usize,
+    word: &str,
+    items: &[T],
+    out: &mut Tree<W>,
+)
+    ensures { Adds out.old out.new }
+{
+    for item in items {
+        out.line(level, word);
+        item.text(out);
+    }
+}
+
+/// Writes texts on the line that is begun, each after a blank.
+pub(crate) fn write_words<T: Text, W: Sink>(items: &[T], out: &mut Tree<W>)
+    ensures { Adds out.old out.new }
+{
+    for item in items {
+        out.text(" ");
+        item.text(out);
+    }
+}
+
+// What was read at this offset, if anything was.
+fn placed<T>(offset: u64, item: Option<Result<T>>) -> Option<Result<(u64, T)>> {
+    match item {
+        Some(Ok(item)) => Some(Ok((offset, item))),
+        Some(Err(e)) => Some(Err(e)),
+        None => None,
+    }
+}
+
+impl<'a, T: FromReader<'a> + Show> Items for SectionLimitedIntoIterWithOffsets<'a, T> {
+    type Item = T;
+
+    fn next_item(&mut self) -> Option<Result<(u64, T)>> {
+        self.next()
+    }
+}
+
+impl<'a, T: FromReaderIn<'a> + Show> Items for SectionLimitedIntoIterIn<'a, T> {
+    type Item = T;
+
+    fn next_item(&mut self) -> Option<Result<(u64, T)>> {
+        let offset = self.original_position();
+        placed(offset, self.next())
+    }
+}
+
+impl<'a> Items for IntoImportsWithOffsets<'a> {
+    type Item = Import<'a>;
+
+    fn next_item(&mut self) -> Option<Result<(u64, Import<'a>)>> {
+        self.next()
+    }
+}
+
+impl<'a, T: Subsection<'a> + Show> Items for Subsections<'a, T> {
+    type Item = T;
+
+    fn next_item(&mut self) -> Option<Result<(u64, T)>> {
+        let offset = self.original_position();
+        placed(offset, self.next())
+    }
+}
+
+impl<'a> Items for NameSectionReader<'a> {
+    type Item = Name<'a>;
+
+    fn next_item(&mut self) -> Option<Result<(u64, Name<'a>)>> {
+        let offset = self.sections.original_position();
+        placed(offset, self.next())
+    }
+}
+
+impl<'a> Items for NameMap<'a> {
+    type Item = Naming<'a>;
+
+    fn next_item(&mut self) -> Option<Result<(u64, Naming<'a>)>> {
+        let offset = self.names.original_position();
+        placed(offset, self.next())
+    }
+}
+
+impl<'a> Items for IndirectNameMap<'a> {
+    type Item = IndirectNaming<'a>;
+
+    fn next_item(&mut self) -> Option<Result<(u64, IndirectNaming<'a>)>> {
+        let offset = self.names.original_position();
+        placed(offset, self.next())
+    }
+}

@@ -1,0 +1,92 @@
+// Texts of names.
+ghost use Rattle.wasm_show.specs.Tree.{Adds};
+
+use crate::lists::{show_items, under};
+use crate::show::Show;
+use crate::tree::Tree;
+use std::ops::Range;
+use wasm_custom::{IndirectNameMap, IndirectNaming, Name, NameMap, Naming};
+use wasm_feed::Sink;
+
+impl Show for Naming<'_> {
+    fn show<W: Sink>(&self, _level: usize, out: &mut Tree<W>) {
+        out.number("index", u64::from(self.index));
+        out.quoted("name", self.name);
+    }
+}
+
+/// The names are under its line.
+impl Show for IndirectNaming<'_> {
+    fn show<W: Sink>(&self, level: usize, out: &mut Tree<W>) {
+        out.number("index", u64::from(self.index));
+        self.names.show(level, out);
+    }
+}
+
+/// The names are under the line.
+impl Show for NameMap<'_> {
+    fn show<W: Sink>(&self, level: usize, out: &mut Tree<W>) {
+        show_items(under(level), self.clone().unwrap(), out);
+    }
+}
+
+/// What has names is under the line.
+impl Show for IndirectNameMap<'_> {
+    fn show<W: Sink>(&self, level: usize, out: &mut Tree<W>) {
+        show_items(under(level), self.clone().unwrap(), out);
+    }
+}
+
+// Writes what names are of, and the names.
+fn show_map<T: Show, W: Sink>(word: &str, level: usize, names: &T, out: &mut Tree<W>)
+    ensures { Adds out.old out.new }
+{
+    out.word(word);
+    names.show(level, out);
+}
+
+/// Writes a subsection that isn't known.
+pub(crate) fn show_unknown<W: Sink>(ty: u8, contents: &[u8], range: &Range<u64>, out: &mut Tree<W>)
+    ensures { Adds out.old out.new }
+{
+    out.word("unknown");
+    out.number("ty", u64::from(ty));
+    out.raw("contents", contents);
+    out.range("range", range.start, range.end);
+}
+
+// Writes the name of the module.
+fn show_module_name<W: Sink>(name: &str, range: &Range<u64>, out: &mut Tree<W>)
+    ensures { Adds out.old out.new }
+{
+    out.word("module");
+    out.quoted("name", name);
+    out.range("range", range.start, range.end);
+}
+
+/// The names are under its line.
+impl Show for Name<'_> {
+    fn show<W: Sink>(&self, level: usize, out: &mut Tree<W>) {
+        match self {
+            Name::Module { name, name_range } => show_module_name(name, name_range, out),
+            Name::Function(names) => show_map("function", level, names, out),
+            Name::Local(names) => show_map("local", level, names, out),
+            Name::Label(names) => show_map("label", level, names, out),
+            Name::Types(names) => show_map("type", level, names, out),
+            Name::Table(names) => show_map("table", level, names, out),
+            Name::Memory(names) => show_map("memory", level, names, out),
+            Name::Global(names) => show_map("global", level, names, out),
+            Name::Element(names) => show_map("element", level, names, out),
+            Name::Data(names) => show_map("data", level, names, out),
+            Name::Field(names) => show_map("field", level, names, out),
+            Name::Tag(names) => show_map("tag", level, names, out),
+            Name::Parameter(names) => show_map("parameter", level, names, out),
+            Name::TagParameter(names) => show_map("tag_parameter", level, names, out),
+            Name::Unknown {
+                ty,
+                contents,
+                range,
+            } => show_unknown(*ty, contents, range, out),
+        }
+    }
+}

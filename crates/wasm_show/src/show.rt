@@ -1,0 +1,39 @@
+// What can be shown.
+ghost use Rattle.wasm_show.specs.Tree.{Adds};
+
+use crate::tree::Tree;
+use wasm_feed::Sink;
+
+/// An item that can be shown.
+pub trait Show: Drop {
+    /// Writes its text on the line that is begun, and under that line, which is at this level, the items of its lists.
+    fn show<W: Sink>(&self, level: usize, out: &mut Tree<W>)
+        ensures { Adds out.old out.new };
+}
+
+/// What is part of an item's text, without a name.
+pub(crate) trait Text: Drop {
+    /// Writes it on the line that is begun.
+    fn text<W: Sink>(&self, out: &mut Tree<W>)
+        ensures { Adds out.old out.new };
+}
+
+impl Text for u32 {
+    fn text<W: Sink>(&self, out: &mut Tree<W>) {
+        out.digits(u64::from(*self));
+    }
+}
+
+/// An index.
+impl Show for u32 {
+    fn show<W: Sink>(&self, _level: usize, out: &mut Tree<W>) {
+        out.number("index", u64::from(*self));
+    }
+}
+
+/// A name.
+impl Show for &str {
+    fn show<W: Sink>(&self, _level: usize, out: &mut Tree<W>) {
+        out.quoted("name", self);
+    }
+}

@@ -1,0 +1,147 @@
+// The dump of a stream.
+ghost use Rattle.std.specs.Prelude.{◌≡◌, ◌≤◌, ◌<◌, length, Some, None, OnOk, IfErr};
+ghost use Rattle.wasm_parser.specs.ParseAnswer.{report_of};
+ghost use Rattle.wasm_feed.specs.Calls.{device_of};
+ghost use Rattle.wasm_feed.specs.Turns.{text_after, turn_after};
+ghost use Rattle.wasm_show.specs.Chosen.{chosen_line};
+ghost use Rattle.wasm_show.specs.Dump.{DumpsByTree, DumpsInto, ShowsStep};
+ghost use Rattle.wasm_show.specs.Tree.{AddsFirst};
+
+use crate::only::{Only, chooses};
+use crate::payload::show_payload;
+use crate::tree::Tree;
+use std::alloc::Global;
+use wasm_feed::{
+    Ended, Feeder, Line, ListError, Sink, Source, Step, Turn, fault_line, payload_line,
+};
+use wasm_parser::{Parser, Payload, Result as ParserResult};
+
+// Writes the line of a payload and what it holds, if it is shown.
+#[tactic(auto, using(crate::proofs::Lines::line_ends))]
+fn show_chosen<W: Sink>(
+    alloc: Global,
+    only: &Only<'_>,
+    line: &mut Line,
+    payload: &Payload<'_>,
+    out: &mut Tree<W>,
+)
+    ensures { AddsFirst (chosen_line only.now (report_of payload.now)) out.old out.new }
+{
+    if chooses(only, payload) {
+        payload_line(line, payload);
+        out.first(line.as_bytes());
+        show_payload(alloc, payload, out);
+    }
+}
+
+// Writes what a step answered, and says what is to be done next.
+#[tactic(auto, using(crate::proofs::Lines::line_ends))]
+fn show_answer<W: Sink>(
+    alloc: Global,
+    only: &Only<'_>,
+    line: &mut Line,
+    answer: &ParserResult<Step<'_>>,
+    out: &mut Tree<W>,
+) -> Turn
+    ensures turns { result ≡ turn_after answer.now }
+    ensures shows { AddsFirst (text_after (chosen_line only.now) answer.now) out.old out.new }
+{
+    match answer {
+        Ok(Step::NeedMoreData(_)) => Turn::Read,
+        Ok(Step::Parsed { payload, .. }) => {
+            show_chosen(alloc, only, line, payload, out);
+            match payload {
+                Payload::End(_) => Turn::End(Ended::End),
+                _ => Turn::Advance,
+            }
+        }
+        Err(error) => {
+            fault_line(line, error);
+            out.first(line.as_bytes());
+            Turn::End(Ended::Fault(*error))
+        }
+    }
+}
+
+// Goes one step along the stream, and writes what it answered.
+fn show_step<W: Sink>(
+    alloc: Global,
+    only: &Only<'_>,
+    line: &mut Line,
+    feeder: &mut Feeder,
+    out: &mut Tree<W>,
+) -> Turn
+    ensures { ShowsStep only.now feeder.old feeder.new out.old out.new result }
+{
+    let answer = feeder.open().step();
+    show_answer(alloc, only, line, &answer, out)
+}
+
+// Whether the tree goes on, or why it has stopped.
+fn go_on<W: Sink>(out: &Tree<W>) -> Result<(), ListError>
+    ensures ok { OnOk result (out.now.why ≡ None) }
+    ensures err { IfErr result (λ why. out.now.why ≡ Some why) }
+{
+    match out.stopped() {
+        None => Ok(()),
+        Some(why) => Err(why),
+    }
+}
+
+// The same as `dump`, by a tree over the output that has written nothing yet, and with room to read into.
+fn dump_into<R: Source, W: Sink>(
+    alloc: Global,
+    only: &Only<'_>,
+    input: &mut R,
+    out: &mut Tree<W>,
+    room: &mut [u8],
+) -> Result<Ended, ListError>
+    requires { 0 < length room.old }
+    ensures { DumpsInto only.now (device_of R.left R.has_failed input.old input.new)
+        out.old result out.new }
+{
+    let mut line = Line::new();
+    let mut feeder = Feeder::new(alloc, 0, Parser::new(0).features());
+    'events: loop {
+        let turn = show_step(alloc, only, &mut line, &mut feeder, out);
+        go_on(out)?;
+        match turn {
+            Turn::Advance => {}
+            Turn::Read => {
+                out.write_out();
+                go_on(out)?;
+                feeder.read_from(input, room)?;
+            }
+            Turn::End(ended) => {
+                out.write_out();
+                go_on(out)?;
+                return Ok(ended);
+            }
+        }
+    }
+}
+
+/// Reads the input, at most `piece` bytes at once and at least one, and writes what it holds as text. Each event that is shown
+/// has its line, as `list` writes it, and under it a line for each item, indented by two blanks a level. Offsets count bytes
+/// from the start of the stream, which is at 0. The tree must be one that has written nothing.
+///
+/// It keeps what the parser has not decided, the piece that came last, the room that it was read into, and the lines that wait,
+/// of which the tree's invariant bounds the bytes.
+///
+/// A fault of the stream ends it; a fault of an item is a line at its place. An error leaves a beginning of the dump written:
+/// `Input` where the source failed, all of what it gave but the last event; `Output` where the sink did; `Memory` where a growth was
+/// refused. A device that had failed before the call is still known to have failed.
+pub fn dump<R: Source, W: Sink>(
+    alloc: Global,
+    only: &Only<'_>,
+    input: &mut R,
+    out: &mut Tree<W>,
+    piece: usize,
+) -> Result<Ended, ListError>
+    requires { 1 ≤ piece }
+    ensures { DumpsByTree only.now (device_of R.left R.has_failed input.old input.new)
+        out.old result out.new }
+{
+    let mut room = vec![in alloc; 0u8; piece]?;
+    dump_into(alloc, only, input, out, room.as_mut_slice())
+}

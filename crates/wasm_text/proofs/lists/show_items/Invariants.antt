@@ -1,5 +1,0 @@
-use Rattle.wasm_text.specs.Tree.{Origin, IsWritten}
-use Rattle.wasm_text.proofs.lists.show_items.Given as goal
-
-abbrev pub invariant-loop : goal.invariant-loop
-invariant-loop g l = (o : Origin) → IsWritten o l.initial.out → IsWritten o l.out

@@ -1,5 +1,0 @@
-use Rattle.wasm_text.specs.Tree.{Origin, IsWritten}
-use Rattle.wasm_text.proofs.lists.write_words.Given as goal
-
-abbrev pub invariant-loop-item : goal.invariant-loop-item
-invariant-loop-item g l = (o : Origin) → IsWritten o l.initial.out → IsWritten o l.out

@@ -1,8 +1,0 @@
-use Rattle.std.proofs.Common.{false, sym, ap, subst, ◌∙◌}
-use Rattle.wasm_text.specs.Tree.{Writing, IsWritten}
-use Rattle.wasm_text.proofs.Writing.{ends}
-use Rattle.wasm_text.proofs.tree.Tree.end.Goals as goal
-
-pub returns-clause-adds : goal.returns-clause-adds
-returns-clause-adds g c o i =
-    subst (λ (w : Writing). IsWritten o (record w { is_begun = false })) (sym c.self-2.view_is) (ends o _ _ (ap (λ (w : Writing). w.is_begun) (sym c.self.view_is) ∙ c.if-not-self.false) c.push.ensures i)

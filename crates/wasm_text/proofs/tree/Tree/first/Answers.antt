@@ -1,5 +1,0 @@
-use Rattle.wasm_text.proofs.Writing.{puts_first}
-use Rattle.wasm_text.proofs.tree.Tree.first.Goals as goal
-
-pub returns : goal.returns
-returns g c o i = puts_first o _ _ _ c.requires.line c.end.ensures.ended c.push.ensures (c.end.ensures.adds o i)
