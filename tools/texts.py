@@ -1,10 +1,12 @@
 """Reads the lines that tell of items, and gives each item's text as a model writes it.
 
-`case_text(row, lines, data, offset)` reads the lines of a case of `crates/wasm_show_items`; `listing_texts(lines, data)` those of a whole
+`case_text(row, lines, data, offset)` reads the lines of a case of `crates/wasm_compare`; `listing_texts(lines, data)` those of a whole
 stream, as the program `wasm_dump` writes them; `shortened(text)` gives a model's text with no more of raw bytes than the lines have.
 The models say nothing of where subsections and names begin: these offsets are compared with the bytes themselves.
 """
 import re
+
+import sections as S
 
 # How many of some raw bytes the lines show, after their count.
 SHOWN = 16
@@ -539,11 +541,27 @@ def case_text(row, lines, data, offset):
 # ---- streams
 
 # The row of each kind of section that has items, by its id.
-SECTIONS = {1: "recgroup", 2: "import", 3: "index", 4: "table", 5: "memory", 6: "global", 7: "export", 9: "element", 11: "data", 13: "tag"}
+SECTIONS = {
+    S.TYPE_SECTION: "recgroup",
+    S.IMPORT_SECTION: "import",
+    S.FUNCTION_SECTION: "index",
+    S.TABLE_SECTION: "table",
+    S.MEMORY_SECTION: "memory",
+    S.GLOBAL_SECTION: "global",
+    S.EXPORT_SECTION: "export",
+    S.ELEMENT_SECTION: "element",
+    S.DATA_SECTION: "data",
+    S.TAG_SECTION: "tag",
+}
 
 # The row of each custom section that is known, by its name.
 KNOWN = {"name": "names", "metadata.code.branch_hint": "hints", "producers": "producers", "dylink.0": "dylink", "core": "core",
          "coremodules": "coremodules", "coreinstances": "coreinstances", "corestack": "corestack", "linking": "linking"}
+
+
+def row_of(title):
+    """The row of a custom section of this name, if it is known."""
+    return KNOWN.get(title, "reloc" if title.startswith("reloc.") else None)
 
 
 def custom_text(node, data, offset):
@@ -553,7 +571,7 @@ def custom_text(node, data, offset):
         assert not node.under
         return name + " unknown"
     title = bytes.fromhex(name[1:]).decode()
-    row = KNOWN.get(title, "reloc" if title.startswith("reloc.") else None)
+    row = row_of(title)
     check_places(row, node, data, offset)
     return "%s %s" % (name, CUSTOM[row](node))
 

@@ -1,50 +1,12 @@
-#!/usr/bin/env python3
-"""Reads random byte strings as items, and compares what the readers say with what a model says.
+"""Random items: `ROWS` has, by the names that the programs and the models know, what makes the bytes of each kind of item.
 
-    compare_items.py [SEED] [COUNT] --model PATH [--program PATH] [--only ROW] [--show N]
-    compare_items.py --files LIST --model PATH [--program PATH] [--show N]
-
-The model is a Python file with `outcome(row, bytes, offset, features)`, which gives the text of the item and how many bytes it
-takes, or its fault. The program is `crates/wasm_show_items`, built: it reads all cases at once, and `texts.py` reads its lines. A new
-item is a row of `ROWS` here, a row of `show_case` there, and a row of `ITEMS` in `texts.py`. With `--files`, LIST is a text file with the path of a module or of an archive of modules on each
-line, and every item of their sections is compared.
+`SECTIONS` has the row of the items of each section by its id, and `CUSTOM` that of each custom section's data by its name.
 """
-import importlib.util
-import itertools
-import os
-import random
-import subprocess
-import sys
-
-sys.path.insert(0, os.path.dirname(os.path.abspath(__file__)))
-from texts import case_text, shortened
-
-TOP = os.path.dirname(os.path.dirname(os.path.abspath(__file__)))
-
-# How many cases go to the program at once.
-BATCH = 20000
-
+import sections as S
+from streams import random_bytes, some_leb
+from texts import KNOWN
 
 # ---- whole items; each takes a source of random numbers and gives bytes
-
-
-def random_bytes(rng, count):
-    return bytes(rng.getrandbits(8) for _ in range(count))
-
-
-def leb(rng, value):
-    """An unsigned number in LEB128, now and then with more bytes than it needs, and seldom with more than it may have."""
-    if rng.random() < 0.01:
-        return rng.choice([b"\x80\x80\x80\x80\x10", b"\xff\xff\xff\xff\x7f", b"\x80\x80\x80\x80\x80", b"\x80\x80"])
-    out = bytearray()
-    while value >= 128:
-        out.append(value & 127 | 128)
-        value >>= 7
-    out.append(value)
-    while len(out) < 5 and rng.random() < 0.1:
-        out[-1] |= 128
-        out.append(0)
-    return bytes(out)
 
 
 def signed(rng, bits):
@@ -68,11 +30,11 @@ def signed(rng, bits):
 
 
 def number(rng):
-    return leb(rng, rng.choice([0, 0, 1, 2, 5, 63, 64, 127, 128, 300, 16384, 2**31, 2**32 - 1]))
+    return some_leb(rng, rng.choice([0, 0, 1, 2, 5, 63, 64, 127, 128, 300, 16384, 2**31, 2**32 - 1]))
 
 
 def small(rng):
-    return leb(rng, rng.randrange(4))
+    return some_leb(rng, rng.randrange(4))
 
 
 def wide(rng):
@@ -80,7 +42,7 @@ def wide(rng):
         return bytes([255] * 9 + [rng.getrandbits(2) | rng.choice([0, 128])])
     if rng.random() < 0.7:
         return number(rng)
-    return leb(rng, rng.choice([2**32, 2**33 - 1, 2**63, 2**64 - 1]))
+    return some_leb(rng, rng.choice([2**32, 2**33 - 1, 2**63, 2**64 - 1]))
 
 
 def name(rng):
@@ -88,14 +50,14 @@ def name(rng):
     size = len(text)
     if rng.random() < 0.04:
         size = rng.choice([0, size + 1, 100000, 100001])
-    return leb(rng, size) + text
+    return some_leb(rng, size) + text
 
 
 def some(rng, part, most=3):
     """A count and so many parts, seldom with another count."""
     count = rng.randrange(most + 1)
     announced = count if rng.random() < 0.97 else rng.choice([count + 1, 2**32 - 1])
-    return leb(rng, announced) + b"".join(part(rng) for _ in range(count))
+    return some_leb(rng, announced) + b"".join(part(rng) for _ in range(count))
 
 
 def byte(*usual):
@@ -137,14 +99,14 @@ def instruction(rng):
     if opcode in (0x43, 0x44):
         return start + random_bytes(rng, 4 if opcode == 0x43 else 8)
     if opcode == 0xFD:
-        return start + leb(rng, 12) + random_bytes(rng, 16)
+        return start + some_leb(rng, 12) + random_bytes(rng, 16)
     if opcode in (0x23, 0xD2):
         return start + number(rng)
     if opcode == 0xD0:
         return start + heap_type(rng)
     if opcode == 0xFB:
         which = rng.choice([0, 1, 6, 7, 8, 26, 27, 28])
-        return start + leb(rng, which) + b"".join(number(rng) for _ in range({8: 2}.get(which, 1 if which < 8 else 0)))
+        return start + some_leb(rng, which) + b"".join(number(rng) for _ in range({8: 2}.get(which, 1 if which < 8 else 0)))
     return start
 
 
@@ -176,7 +138,7 @@ def table(rng):
 
 def memory(rng):
     flags = flags_byte(rng, 16)
-    page = leb(rng, rng.choice([0, 16, 63, 64, 65])) if flags & 8 else b""
+    page = some_leb(rng, rng.choice([0, 16, 63, 64, 65])) if flags & 8 else b""
     return bytes([flags]) + limits(rng, flags) + page
 
 
@@ -213,7 +175,7 @@ def imports(rng):
     kind = rng.random()
     if kind < 0.4:
         return import_item(rng)
-    start = name(rng) + (b"\0" if rng.random() < 0.95 else leb(rng, 0))
+    start = name(rng) + (b"\0" if rng.random() < 0.95 else some_leb(rng, 0))
     if kind < 0.7:
         return start + b"\x7f" + some(rng, compact_item)
     return start + b"\x7e" + type_ref(rng) + some(rng, name)
@@ -229,7 +191,7 @@ def export(rng):
 
 def element(rng):
     flags = rng.randrange(8) if rng.random() < 0.97 else rng.randrange(256)
-    out = leb(rng, flags)
+    out = some_leb(rng, flags)
     if not flags & 1:
         out += (number(rng) if flags & 2 else b"") + expression(rng)
     if flags & 3:
@@ -239,11 +201,11 @@ def element(rng):
 
 def data(rng):
     flags = rng.choice([0, 1, 2]) if rng.random() < 0.97 else rng.randrange(256)
-    out = leb(rng, flags)
+    out = some_leb(rng, flags)
     if flags != 1:
         out += (number(rng) if flags == 2 else b"") + expression(rng)
     content = random_bytes(rng, rng.choice([0, 1, 5, 130]))
-    return out + leb(rng, len(content)) + content
+    return out + some_leb(rng, len(content)) + content
 
 
 def field(rng):
@@ -279,11 +241,11 @@ def function_hints(rng):
 
 def producers_field(rng):
     field_name = rng.choice([b"language", b"sdk", b"processed-by"]) if rng.random() < 0.96 else b"sdks"
-    return leb(rng, len(field_name)) + field_name + some(rng, lambda rng: name(rng) + name(rng))
+    return some_leb(rng, len(field_name)) + field_name + some(rng, lambda rng: name(rng) + name(rng))
 
 
 def name_map(rng):
-    return some(rng, lambda rng: leb(rng, rng.choice([0, 1, 2, 3, 4, 200])) + name(rng))
+    return some(rng, lambda rng: some_leb(rng, rng.choice([0, 1, 2, 3, 4, 200])) + name(rng))
 
 
 def indirect_map(rng):
@@ -300,7 +262,7 @@ def subsections(rng, rows):
         content = rows[id](rng) if id in rows else random_bytes(rng, rng.randrange(4))
         if rng.random() < 0.1:
             content = mutated(rng, content)
-        out += bytes([id]) + leb(rng, len(content)) + content
+        out += bytes([id]) + some_leb(rng, len(content)) + content
     return out
 
 
@@ -310,12 +272,12 @@ NAMES.update(dict.fromkeys((2, 3, 10, 12, 13), indirect_map))
 
 
 def symbol_flags(rng):
-    return leb(rng, rng.choice([0, 0, 16, 64, 80, 1, 4, 513, 4096]))
+    return some_leb(rng, rng.choice([0, 0, 16, 64, 80, 1, 4, 513, 4096]))
 
 
 def symbol(rng):
     kind, flags = byte(0, 1, 2, 3, 4, 5)(rng), rng.choice([0, 0, 16, 64, 80, 1, 513, 4096])
-    start = kind + leb(rng, flags)
+    start = kind + some_leb(rng, flags)
     if kind[0] == 1:
         return start + name(rng) + (b"" if flags & 16 else number(rng) + number(rng) + number(rng))
     if kind[0] == 3:
@@ -394,7 +356,7 @@ ROWS = {
     "indirect": indirect_map,
     "names": lambda rng: subsections(rng, NAMES),
     "dylink": lambda rng: subsections(rng, DYLINK),
-    "linking": lambda rng: (leb(rng, 2) if rng.random() < 0.97 else number(rng)) + subsections(rng, LINKING),
+    "linking": lambda rng: (some_leb(rng, 2) if rng.random() < 0.97 else number(rng)) + subsections(rng, LINKING),
     "symbol": symbol,
     "comdat": comdat,
     "relocation": relocation,
@@ -408,8 +370,21 @@ ROWS = {
     "corestack": lambda rng: byte(0)(rng) + name(rng) + some(rng, frame),
 }
 
+# The row that makes the items of each kind of section, by its id.
+SECTIONS = {
+    S.TYPE_SECTION: "recgroup",
+    S.IMPORT_SECTION: "imports",
+    S.TABLE_SECTION: "table",
+    S.MEMORY_SECTION: "memory",
+    S.GLOBAL_SECTION: "global",
+    S.EXPORT_SECTION: "export",
+    S.ELEMENT_SECTION: "element",
+    S.DATA_SECTION: "data",
+    S.TAG_SECTION: "tag",
+}
 
-# ---- cases
+# The row that makes the data of each custom section that is known, by its name.
+CUSTOM = {**KNOWN, "reloc.CODE": "reloc", "reloc.DATA": "reloc", "reloc.": "reloc"}
 
 
 def mutated(rng, item):
@@ -426,207 +401,3 @@ def mutated(rng, item):
         elif place < len(out):
             del out[place]
     return bytes(out)
-
-
-def some_bytes(rng, make):
-    how = rng.random()
-    if how < 0.03:
-        return random_bytes(rng, rng.randrange(12))
-    item = make(rng)
-    if how < 0.3:
-        item = mutated(rng, item)
-    elif how < 0.45:
-        item = item[: rng.randrange(len(item) + 1)]
-    if rng.random() < 0.3:
-        item += random_bytes(rng, rng.randrange(4))
-    return item
-
-
-def some_case(rng, rows):
-    """A row, bytes, the offset of the first of them, and the features."""
-    row = rng.choice(rows)
-    data = some_bytes(rng, ROWS[row])
-    last = 2**64 - 1 - len(data)
-    offset = rng.choice([0, 0, 7, 1000, 2**32 - 3, last - 1, last])
-    return row, data, offset, rng.choice([3, 3, 3, 2, 1, 0])
-
-
-def plain_leb(value):
-    out = bytearray()
-    while value >= 128:
-        out.append(value & 127 | 128)
-        value >>= 7
-    out.append(value)
-    return bytes(out)
-
-
-def packed(cases):
-    """The program's input."""
-    parts = [plain_leb(len(cases))]
-    for row, data, offset, features in cases:
-        parts += [plain_leb(len(row)), row.encode(), bytes([features]), plain_leb(offset), plain_leb(len(data)), data]
-    return b"".join(parts)
-
-
-# ---- items of files
-
-
-# The row of each kind of section whose items are compared, by its id.
-SECTIONS = {1: "recgroup", 2: "imports", 4: "table", 5: "memory", 6: "global", 7: "export", 9: "element", 11: "data", 13: "tag"}
-
-# The row of each custom section that is compared, by its name.
-CUSTOM = {"name": "names", "metadata.code.branch_hint": "hints", "producers": "producers", "dylink.0": "dylink", "linking": "linking"}
-
-
-def u32_at(data, place):
-    value = shift = 0
-    while True:
-        byte = data[place]
-        value |= (byte & 127) << shift
-        place, shift = place + 1, shift + 7
-        if byte < 128:
-            return value, place
-
-
-def modules_in(data):
-    """The modules of a file: it is one, or an archive of them."""
-    if data[:4] == b"\0asm":
-        yield data
-    elif data[:8] == b"!<arch>\n":
-        place = 8
-        while place + 60 <= len(data):
-            size = int(data[place + 48 : place + 58])
-            member = data[place + 60 : place + 60 + size]
-            if member[:4] == b"\0asm":
-                yield member
-            place += 60 + size + size % 2
-
-
-def cases_in(module, outcome):
-    """Each item of each section, with the bytes after it up to a few more than it takes, which is what the model says."""
-    place = 8
-    while place < len(module):
-        id, (size, start) = module[place], u32_at(module, place + 1)
-        place = start + size
-        if id == 0:
-            length, at = u32_at(module, start)
-            title, at = module[at : at + length].decode(), at + length
-            row = CUSTOM.get(title, "reloc" if title.startswith("reloc.") else None)
-            if row in ROWS:
-                yield row, module[at:place], at, 3
-        if id not in SECTIONS:
-            continue
-        count, at = u32_at(module, start)
-        for _ in range(count):
-            used = int(outcome(SECTIONS[id], module[at:place], at, 3).rsplit(" used ", 1)[1])
-            yield SECTIONS[id], module[at : min(place, at + used + 4)], at, 3
-            at += used
-        assert at == place, (id, at, place)
-
-
-def cases_of(list_of_files, outcome):
-    for line in open(list_of_files):
-        for module in modules_in(open(line.strip(), "rb").read()):
-            yield from cases_in(module, outcome)
-
-
-# ---- comparing
-
-
-def cases_of_lines(lines):
-    """The lines of each case: an empty line is after them."""
-    case = []
-    for line in lines:
-        if line:
-            case.append(line)
-        else:
-            yield case
-            case = []
-    assert not case
-
-
-def read_with(program, cases):
-    """The lines that the program writes of each case."""
-    done = subprocess.run([program], input=packed(cases), stdout=subprocess.PIPE, timeout=600, check=True)
-    lines = done.stdout.decode("ascii").split("\n")
-    assert lines.pop() == ""
-    found = list(cases_of_lines(lines))
-    assert len(found) == len(cases), (len(found), len(cases))
-    return found
-
-
-def text_of(case, lines):
-    """What they say of a case, as the model writes it; of lines that can't be read, themselves."""
-    row, data, offset, _ = case
-    try:
-        return case_text(row, lines, data, offset)
-    except (AssertionError, LookupError, ValueError, StopIteration) as error:
-        return "%s: %s" % (type(error).__name__, " / ".join(lines))
-
-
-def load(path):
-    spec = importlib.util.spec_from_file_location("model_of_items", path)
-    model = importlib.util.module_from_spec(spec)
-    spec.loader.exec_module(model)
-    return model.outcome
-
-
-def agrees(line, expected):
-    """Whether a text is what the model says; after a star it says no more."""
-    return line == expected or expected.endswith("*") and line.startswith(expected[:-1])
-
-
-def sort_of(row, text):
-    """What an answer is, to tell how many there were of each kind."""
-    words = text.split(" ", 2)
-    return "fault " + words[2].split(":")[0] if words[0] == "fault" and row != "flatimports" else row
-
-
-def arguments(words):
-    plain, options = [], {"--model": None, "--files": None, "--show": "10", "--only": None, "--program": os.path.join(TOP, "crates", "wasm_show_items", "out", "wasm_show_items")}
-    words = list(words)
-    while words:
-        word = words.pop(0)
-        if word in options:
-            options[word] = words.pop(0)
-        else:
-            plain.append(int(word))
-    if options["--model"] is None:
-        sys.exit(__doc__)
-    return plain[0] if plain else 1, plain[1] if len(plain) > 1 else 100000, options
-
-
-def main():
-    seed, count, options = arguments(sys.argv[1:])
-    rng = random.Random(seed)
-    outcome = load(options["--model"])
-    rows = [options["--only"]] if options["--only"] else list(ROWS)
-    if options["--files"]:
-        some = cases_of(options["--files"], outcome)
-    else:
-        some = (some_case(rng, rows) for _ in range(count))
-    found, kinds, compared = [], {}, 0
-    while True:
-        cases = list(itertools.islice(some, BATCH))
-        if not cases:
-            break
-        compared += len(cases)
-        for case, lines in zip(cases, read_with(options["--program"], cases)):
-            row, data, offset, features = case
-            # Imports have a blank after each.
-            expected = shortened(outcome(row, data, offset, features)).rstrip(" ")
-            line = text_of(case, lines)
-            sort = sort_of(row, expected)
-            kinds[sort] = kinds.get(sort, 0) + 1
-            if not agrees(line, expected):
-                found.append("%s %s offset %d features %d\n  program %s\n  model   %s" % (row, data.hex(), offset, features, line[:300], expected[:300]))
-    for word in sorted(kinds, key=lambda word: -kinds[word]):
-        print("%7d %s" % (kinds[word], word))
-    for text in found[: int(options["--show"])]:
-        print("DIFFERS", text)
-    print("%d compared, %d differ (seed %d)" % (compared, len(found), seed))
-    return 1 if found else 0
-
-
-if __name__ == "__main__":
-    sys.exit(main())

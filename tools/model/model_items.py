@@ -1,0 +1,956 @@
+#!/usr/bin/env python3
+"""A model of items: what each item of a section and each known custom section says.
+
+  model_items.py READER [--offset O] [--features F] < BYTES
+  model_items.py --rows                     its worked rows
+  model_items.py --listing < STREAM         the listing with all items below it
+
+Written from the standard, from the conventions of the custom sections, and from rows that were worked out by hand, and
+knowing nothing of any reader. The features are 1 for memories and tables of 64 bits, and 2 for compact imports.
+Behind a fault of a subsection's id or size nothing more is said: there the text ends with a star, and what a reader says
+behind it isn't compared."""
+import os
+import sys
+
+sys.dont_write_bytecode = True
+sys.path.insert(0, os.path.dirname(os.path.abspath(__file__)))
+import model  # noqa: E402
+
+EOF = "unexpected end-of-file"
+
+
+class Bad(Exception):
+    def __init__(self, at, text, number=None):
+        super().__init__(at, text, number)
+        self.at, self.text, self.number = at, text, number
+
+    def line(self):
+        return "fault %d %s%s" % (self.at, self.text, "" if self.number is None else ": %d" % self.number)
+
+
+def lead(at, what, byte):
+    return Bad(at, "invalid leading byte for " + what, byte)
+
+
+# kind: longest, value bits of the last byte, signed
+KINDS = {"u32": (5, 4, False, "var_u32"), "s32": (5, 4, True, "var_i32"), "s33": (5, 5, True, "var_s33"),
+         "u64": (10, 1, False, "var_u64"), "s64": (10, 1, True, "var_i64")}
+
+
+class R:
+    """A window: b[p:e], stream offset of place i is o + i."""
+
+    def __init__(self, b, o=0, feats=3, p=0, e=None):
+        self.b, self.o, self.f, self.p, self.e = b, o, feats, p, len(b) if e is None else e
+        self.s = p
+
+    def at(self, i=None):
+        return self.o + (self.p if i is None else i)
+
+    def left(self):
+        return self.e - self.p
+
+    def window(self, p, e):
+        return R(self.b, self.o, self.f, p, e)
+
+    def range(self):
+        return "%d..%d" % (self.at(self.s), self.at(self.e))
+
+    def peek(self):
+        if self.p >= self.e:
+            raise Bad(self.at(), EOF)
+        return self.b[self.p]
+
+    def byte(self):
+        x = self.peek()
+        self.p += 1
+        return x
+
+    def raw(self, n):
+        if self.left() < n:
+            raise Bad(self.at(), EOF)
+        self.p += n
+        return self.b[self.p - n:self.p]
+
+    def num(self, kind):
+        """A number in LEB128 of one of KINDS."""
+        longest, bits, signed, word = KINDS[kind]
+        k = 0
+        while True:
+            if self.p + k >= self.e:
+                raise Bad(self.at(self.p + k), EOF)
+            x = self.b[self.p + k]
+            if k == longest - 1:
+                if x >= 128:
+                    raise Bad(self.at(self.p + k), "invalid %s: integer representation too long" % word)
+                unused = x >> bits
+                full = (1 << (7 - bits)) - 1
+                copies = full if signed and (x >> (bits - 1)) & 1 else 0
+                if unused != copies:
+                    raise Bad(self.at(self.p + k), "invalid %s: integer too large" % word)
+            k += 1
+            if x < 128:
+                break
+        v = sum((self.b[self.p + j] & 127) << (7 * j) for j in range(k))
+        if signed and self.b[self.p + k - 1] & 64:
+            v -= 1 << (7 * k)
+        self.p += k
+        return v
+
+    def u32(self):
+        return self.num("u32")
+
+    def u7(self):
+        x = self.byte()
+        if x >= 128:
+            raise Bad(self.at() - 1, "invalid u7")
+        return x
+
+    def size(self, limited):
+        n = self.u32()
+        if limited and n > 100000:
+            raise Bad(self.at() - 1, "string size out of bounds")
+        return n
+
+    def string(self, limited):
+        t = self.raw(self.size(limited))
+        try:
+            t.decode("utf-8")
+        except UnicodeDecodeError:
+            raise Bad(self.at() - 1, "malformed UTF-8 encoding") from None
+        return t
+
+    def skip_string(self):
+        self.raw(self.size(True))
+
+
+def x(b):
+    return "x" + b.hex()
+
+
+def name(r):
+    return x(r.string(True))
+
+
+def text(r):
+    return x(r.string(False))
+
+
+def u32(r):
+    return str(r.u32())
+
+
+def boolean(r):
+    b = r.byte()
+    if b > 1:
+        raise Bad(r.at() - 1, "invalid boolean value")
+    return "true" if b else "false"
+
+
+def yes(b):
+    return "true" if b else "false"
+
+
+# ---- types
+HEAPS = {0x70: "func", 0x6F: "extern", 0x6E: "any", 0x6D: "eq", 0x6C: "i31", 0x6B: "struct", 0x6A: "array", 0x69: "exn",
+         0x71: "none", 0x72: "noextern", 0x73: "nofunc", 0x74: "noexn"}
+PLAIN = {0x7F: "i32", 0x7E: "i64", 0x7D: "f32", 0x7C: "f64", 0x7B: "v128"}
+
+
+def heaptype(r):
+    at, first = r.at(), r.peek()
+    if first in HEAPS:
+        r.byte()
+        return HEAPS[first]
+    v = r.num("s33")
+    if v < 0:
+        raise lead(at, "heap type", first)
+    return str(v)
+
+
+def reftype(r, what="reference type"):
+    at, b = r.at(), r.byte()
+    if b in HEAPS:
+        return "null:" + HEAPS[b]
+    if b == 0x63:
+        return "null:" + heaptype(r)
+    if b == 0x64:
+        return "ref:" + heaptype(r)
+    raise lead(at, what, b)
+
+
+def valtype(r):
+    b = r.peek()
+    if b in PLAIN:
+        r.byte()
+        return PLAIN[b]
+    return reftype(r, "value type")
+
+
+def fieldtype(r):
+    b = r.peek()
+    if b in (0x78, 0x77):
+        r.byte()
+        s = "i8" if b == 0x78 else "i16"
+    else:
+        s = valtype(r)
+    at, m = r.at(), r.byte()
+    if m > 1:
+        raise lead(at, "field mutability", m)
+    return "field(%s %s )" % (s, yes(m))
+
+
+def owned(r, f):
+    n = r.u32()
+    return "[" + "".join(f(r) + " " for _ in range(n)) + "]"
+
+
+def composite(r):
+    at, b = r.at(), r.byte()
+    if b == 0x60:
+        p = owned(r, valtype)
+        return "func(%s %s )" % (p, owned(r, valtype))
+    if b == 0x5F:
+        return "struct " + owned(r, fieldtype)
+    if b == 0x5E:
+        return "array " + fieldtype(r)
+    raise lead(at, "composite type", b)
+
+
+def subtype(r):
+    b, final, sup = r.peek(), True, "-"
+    if b in (0x50, 0x4F):
+        r.byte()
+        final = b == 0x4F
+        at, n = r.at(), r.u32()
+        if n > 1:
+            raise Bad(at, "more than one supertype")
+        if n:
+            sup = u32(r)
+    return "sub(%s %s %s )" % (yes(final), sup, composite(r))
+
+
+def recgroup(r):
+    if r.peek() == 0x4E:
+        r.byte()
+        return "rec(true %s )" % owned(r, subtype)
+    return "rec(false [%s ] )" % subtype(r)
+
+
+# ---- constant expressions
+def constexpr(r):
+    s = r.at()
+    while True:
+        at, b = r.at(), r.byte()
+        bad = Bad(at, "not a constant instruction")
+        if b == 0x0B:
+            return "%d..%d" % (s, r.at())
+        if b == 0x41:
+            r.num("s32")
+        elif b == 0x42:
+            r.num("s64")
+        elif b == 0x43:
+            r.raw(4)
+        elif b == 0x44:
+            r.raw(8)
+        elif b == 0xFD:
+            if r.u32() != 12:
+                raise bad
+            r.raw(16)
+        elif b in (0x23, 0xD2):
+            r.u32()
+        elif b == 0xD0:
+            heaptype(r)
+        elif b in (0x6A, 0x6B, 0x6C, 0x7C, 0x7D, 0x7E):
+            pass
+        elif b == 0xFB:
+            n = r.u32()
+            if n in (0, 1, 6, 7):
+                r.u32()
+            elif n == 8:
+                r.u32()
+                r.u32()
+            elif n not in (26, 27, 28):
+                raise bad
+        else:
+            raise bad
+
+
+# ---- items of sections
+KIND = {0: "func", 1: "table", 2: "memory", 3: "global", 4: "tag", 0x20: "funcexact"}
+
+
+def kind(r):
+    at, b = r.at(), r.byte()
+    if b not in KIND:
+        raise lead(at, "external kind", b)
+    return KIND[b]
+
+
+def limit(r):
+    return str(r.num("u64" if r.f & 1 else "u32"))
+
+
+def tabletype(r):
+    t, at, f = reftype(r), r.at(), r.byte()
+    if f > 7:
+        raise Bad(at, "invalid table resizable limits flags")
+    low = limit(r)
+    high = limit(r) if f & 1 else "-"
+    return "table(%s %s %s %s %s )" % (t, yes(f & 4), low, high, yes(f & 2))
+
+
+def table(r):
+    if r.peek() == 0x40:
+        r.byte()
+        at = r.at()
+        if r.byte() != 0:
+            raise Bad(at, "invalid table encoding")
+        t = tabletype(r)
+        return "table(%s %s )" % (t, constexpr(r))
+    return "table(%s null )" % tabletype(r)
+
+
+def memory(r):
+    at, f = r.at(), r.byte()
+    if f > 15:
+        raise Bad(at, "invalid memory limits flags")
+    low = limit(r)
+    high = limit(r) if f & 1 else "-"
+    page = "-"
+    if f & 8:
+        n = r.u32()
+        if n >= 64:
+            raise Bad(at, "invalid custom page size")
+        page = str(n)
+    return "memory(%s %s %s %s %s )" % (yes(f & 4), yes(f & 2), low, high, page)
+
+
+def tag(r):
+    at = r.at()
+    if r.byte() != 0:
+        raise Bad(at, "invalid tag attributes")
+    return "tag(exception %s )" % u32(r)
+
+
+def globaltype(r):
+    t, at, f = valtype(r), r.at(), r.byte()
+    if f > 3:
+        raise Bad(at, "malformed global flags")
+    return "global(%s %s %s )" % (t, yes(f & 1), yes(f & 2))
+
+
+def globl(r):
+    t = globaltype(r)
+    return "global(%s %s )" % (t, constexpr(r))
+
+
+def typeref(r):
+    k = kind(r)
+    if k in ("func", "funcexact"):
+        return "%s %s" % (k, u32(r))
+    return {"table": tabletype, "memory": memory, "global": globaltype, "tag": tag}[k](r)
+
+
+def imp(r):
+    m, n = name(r), name(r)
+    return "import(%s %s %s )" % (m, n, typeref(r))
+
+
+def compact(r):
+    n = name(r)
+    return "item(%s %s )" % (n, typeref(r))
+
+
+def counted(r, f, skip=None):
+    """The items of a window that begins at the count; `skip` first passes over them, where the list lies in an item."""
+    start = r.p
+    if skip:
+        for _ in range(r.u32()):
+            skip(r)
+        r = r.window(start, r.p)
+    return listed(r, f)
+
+
+def walk(r, f):
+    """(offset, text) of each item, then (None, fault) if one stands at the end."""
+    n = r.u32()
+    out = []
+    for _ in range(n):
+        at = r.at()
+        try:
+            out.append((at, f(r)))
+        except Bad as e:
+            return n, out + [(None, e.line())]
+    if r.left():
+        out.append((None, Bad(r.at(), "section size mismatch: unexpected data at the end of the section").line()))
+    return n, out
+
+
+def listed(r, f):
+    n, got = walk(r, f)
+    return "%s #%d[%s]" % (r.range(), n, "".join(("%d:%s " % g if g[0] is not None else g[1] + " ") for g in got))
+
+
+def skipped_item(r):
+    r.skip_string()
+    typeref(r)
+
+
+def imports_group(r, flat=False):
+    """The text of a group; or, flat, the list of its imports."""
+    at = r.at()
+    m, n = name(r), name(r)
+    d = r.peek()
+    if n == "x" and d in (0x7F, 0x7E):
+        if not r.f & 2:
+            raise Bad(r.at(), "invalid leading byte 0x%X with compact imports proposal disabled" % d)
+        r.byte()
+        t = typeref(r) if d == 0x7E else None
+        start = r.p
+        for _ in range(r.u32()):
+            skipped_item(r) if d == 0x7F else r.skip_string()
+        w = r.window(start, r.p)
+        if flat:
+            one = (lambda q: (lambda a: "import(%s %s %s )" % (m, a, typeref(q)))(name(q))) if d == 0x7F else \
+                (lambda q: "import(%s %s %s )" % (m, name(q), t))
+            return walk(w, one)[1]
+        if d == 0x7F:
+            return "compact1 %s %s" % (m, listed(w, compact))
+        return "compact2 %s %s %s" % (m, t, listed(w, name))
+    i = "import(%s %s %s )" % (m, n, typeref(r))
+    return [(at, i)] if flat else "single %d %s" % (at, i)
+
+
+def flatimports(r):
+    n = r.u32()
+    out = ""
+    for _ in range(n):
+        try:
+            for at, t in imports_group(r, True):
+                out += ("%d:%s " % (at, t)) if at is not None else t + " "
+        except Bad as e:
+            return out + e.line() + " "
+    if r.left():
+        out += Bad(r.at(), "section size mismatch: unexpected data at the end of the section").line() + " "
+    return out
+
+
+def export(r):
+    n, k = name(r), kind(r)
+    if k == "funcexact":
+        raise Bad(r.at(), "Exact type is not allowed in the exports")
+    return "export(%s %s %s )" % (n, k, u32(r))
+
+
+def element(r):
+    s = r.at()
+    f = r.u32()
+    if f > 7:
+        raise Bad(r.at() - 1, "invalid flags byte in element segment")
+    if f & 1:
+        k = "declared" if f & 2 else "passive"
+    else:
+        t = u32(r) if f & 2 else "-"
+        k = "active %s %s" % (t, constexpr(r))
+    ty = "null:func"
+    if f & 3:
+        if f & 4:
+            ty = reftype(r)
+        else:
+            at = r.at()
+            if kind(r) != "func":
+                raise Bad(at, "only the function external type is supported in elem segment")
+    one = constexpr if f & 4 else u32
+    items = counted(r, one, one)
+    return "element(%s %s %d..%d )" % (k, ty + " " + items if f & 4 else items, s, r.at())
+
+
+def data(r):
+    s = r.at()
+    f = r.u32()
+    if f == 1:
+        k = "passive"
+    elif f in (0, 2):
+        m = u32(r) if f else "0"
+        k = "active %s %s" % (m, constexpr(r))
+    else:
+        raise Bad(s, "invalid flags byte in data segment")
+    b = r.raw(r.u32())
+    return "data(%s %s %d..%d )" % (k, x(b), s, r.at())
+
+
+# ---- custom sections
+def naming(r):
+    i = u32(r)
+    return "name(%s %s )" % (i, text(r))
+
+
+def ascending(r, f, fault):
+    """Items whose indices must ascend; f gives (index, text)."""
+    n = r.u32()
+    out, last = "{", None
+    for _ in range(n):
+        at = r.at()
+        try:
+            i, t = f(r)
+        except Bad as e:
+            return out + e.line() + " }"
+        if last is not None and i <= last:
+            out += "fault %d %s " % (at, fault)
+        else:
+            last = i
+            out += t + " "
+    if r.left():
+        out += Bad(r.at(), "section size mismatch: unexpected data at the end of the section").line() + " "
+    return out + "}"
+
+
+def namemap(r):
+    def one(q):
+        i = q.u32()
+        return i, "name(%d %s )" % (i, text(q))
+    return ascending(r, one, "names out of order")
+
+
+def indirect(r):
+    def one(q):
+        i = q.u32()
+        start = q.p
+        for _ in range(q.u32()):
+            q.u32()
+            q.skip_string()
+        return i, "names(%d %s )" % (i, namemap(q.window(start, q.p)))
+    return ascending(r, one, "indirect names out of order")
+
+
+def parts(r, f, order=None):
+    """The subsections of a window; where `order` is the fault, their ids must ascend."""
+    out, last = "<", None
+    while r.left():
+        at = r.at()
+        try:
+            ident = r.u7()
+            n = r.u32()
+            p = r.p
+            r.raw(n)
+        except Bad as e:
+            return out + e.line() + " *"
+        w = r.window(p, r.p)
+        try:
+            t = f(ident, w)
+        except Bad as e:
+            out += e.line() + " "
+            continue
+        if order and last is not None and ident <= last:
+            out += "fault %d %s " % (at, order)
+            continue
+        last = ident
+        out += t + " "
+    return out + ">"
+
+
+def unknown(ident, r):
+    return "unknown %d %s %s" % (ident, x(r.b[r.p:r.e]), r.range())
+
+
+def names(r):
+    def one(ident, q):
+        if ident == 0:
+            n = name(q)
+            if q.left():
+                raise Bad(q.at(), "trailing data at the end of a name")
+            return "module %s %s" % (n, q.range())
+        if ident in (2, 3, 10, 12, 13):
+            return "%d%s" % (ident, indirect(q))
+        if ident <= 13:
+            return "%d%s" % (ident, namemap(q))
+        return unknown(ident, q)
+    return parts(r, one, "name subsection out of order")
+
+
+def hint(r):
+    o = u32(r)
+    at, b = r.at(), r.byte()
+    if b != 1:
+        raise lead(at, "invalid branch hint byte", b)
+    at, b = r.at(), r.byte()
+    if b > 1:
+        raise lead(at, "invalid branch hint taken byte", b)
+    return "hint(%s %s )" % (o, yes(b))
+
+
+def hints(r):
+    def one(q):
+        f = u32(q)
+        return "function(%s %s )" % (f, counted(q, hint, hint))
+    return listed(r, one)
+
+
+def producers(r):
+    def value(q):
+        n = text(q)
+        return "value(%s %s )" % (n, text(q))
+
+    def skip(q):
+        q.skip_string()
+        q.skip_string()
+
+    def one(q):
+        at = q.at()
+        n = q.string(False)
+        if n not in (b"language", b"sdk", b"processed-by"):
+            raise Bad(at, "invalid producers field name")
+        return "field(%s %s )" % (x(n), counted(q, value, skip))
+    return listed(r, one)
+
+
+def dylink(r):
+    def one(i, q):
+        if i == 1:
+            return "1 meminfo(%s )" % " ".join(u32(q) for _ in range(4))
+        if i in (2, 5):
+            return "%d %s" % (i, owned(q, text))
+        if i == 3:
+            return "3 " + owned(q, lambda w: (lambda n: "export(%s %s )" % (n, u32(w)))(text(w)))
+        if i == 4:
+            def im(w):
+                m, n = text(w), text(w)
+                return "import(%s %s %s )" % (m, n, u32(w))
+            return "4 " + owned(q, im)
+        if i == 6:
+            return "6 " + text(q)
+        return unknown(i, q)
+    return parts(r, one)
+
+
+def segment(r):
+    n, a = text(r), u32(r)
+    return "segment(%s %s %s )" % (n, a, u32(r))
+
+
+def init(r):
+    p = u32(r)
+    return "init(%s %s )" % (p, u32(r))
+
+
+def comdat_symbol(r):
+    at, b = r.at(), r.byte()
+    if b > 5:
+        raise lead(at, "comdat symbol kind", b)
+    return "symbol(%s %s )" % (["data", "func", "global", "event", "table", "section"][b], u32(r))
+
+
+def comdat(r):
+    n, f = text(r), u32(r)
+    return "comdat(%s %s %s )" % (n, f, counted(r, comdat_symbol, comdat_symbol))
+
+
+def symbol(r):
+    at, k, f = r.at(), r.byte(), r.u32()
+    undefined, explicit = f & 16, f & 64
+    if k in (0, 2, 4, 5):
+        i = u32(r)
+        n = text(r) if not undefined or explicit else "-"
+        return "%s %d %s %s" % ({0: "func", 2: "global", 4: "event", 5: "table"}[k], f, i, n)
+    if k == 1:
+        n, d = text(r), "-"
+        if not undefined:
+            d = "defined(%s )" % " ".join(u32(r) for _ in range(3))
+        return "data %d %s %s" % (f, n, d)
+    if k == 3:
+        return "section %d %s" % (f, u32(r))
+    raise lead(at, "symbol kind", k)
+
+
+def linking(r):
+    at, v = r.at(), r.u32()
+    if v != 2:
+        raise Bad(at, "unsupported linking section version", v)
+
+    def one(i, q):
+        if i in (5, 6, 7, 8):
+            return "%d %s" % (i, listed(q, {5: segment, 6: init, 7: comdat, 8: symbol}[i]))
+        if i == 9:
+            return "9 " + name(q)
+        return unknown(i, q)
+
+    # a counted subsection whose count is faulty is that subsection's own fault
+    rng, pos = r.range(), r.at()
+    return "version 2 at %d %s %s" % (pos, rng, parts(r, one))
+
+
+def relocation(r):
+    at, t = r.at(), r.byte()
+    if t > 26:
+        raise lead(at, "RelocEntryType", t)
+    o, i = u32(r), u32(r)
+    a = 0
+    if t in (3, 4, 5, 8, 9, 11, 21, 23):
+        a = r.num("s32")
+    elif t in (14, 15, 16, 17, 22, 25):
+        a = r.num("s64")
+    return "reloc(%d %s %s %d )" % (t, o, i, a)
+
+
+def reloc(r):
+    s = u32(r)
+    rng = r.range()
+    return "section %s %s %s" % (s, rng, listed(r.window(r.p, r.e), relocation))
+
+
+def finish(r, t):
+    if r.left():
+        raise Bad(r.at(), "trailing bytes at end of custom section")
+    return t
+
+
+def start(r, at, what):
+    if r.byte() != 0:
+        raise Bad(at, "invalid start byte for " + what)
+
+
+def core(r):
+    start(r, r.at(), "core dump name")
+    return finish(r, text(r))
+
+
+def coremodules(r):
+    begin = r.at()
+
+    def one(q):
+        start(q, begin, "coremodule")
+        return text(q)
+    return finish(r, owned(r, one))
+
+
+def corevalue(r):
+    at, b = r.at(), r.byte()
+    if b == 1:
+        return "missing"
+    if b == 0x7F:
+        return "i32:%d" % r.num("s32")
+    if b == 0x7E:
+        return "i64:%d" % r.num("s64")
+    if b == 0x7D:
+        return "f32:%d" % int.from_bytes(r.raw(4), "little")
+    if b == 0x7C:
+        return "f64:%d" % int.from_bytes(r.raw(8), "little")
+    raise Bad(at, "invalid CoreDumpValue type")
+
+
+def instance(r):
+    start(r, r.at(), "core dump instance")
+    m = u32(r)
+    a = owned(r, u32)
+    return "instance(%s %s %s )" % (m, a, owned(r, u32))
+
+
+def frame(r):
+    start(r, r.at(), "core dump stack frame")
+    a = [u32(r) for _ in range(3)]
+    loc = owned(r, corevalue)
+    return "frame(%s %s %s )" % (" ".join(a), loc, owned(r, corevalue))
+
+
+def coreinstances(r):
+    return finish(r, owned(r, instance))
+
+
+def corestack(r):
+    start(r, r.at(), "core dump stack name")
+    n = text(r)
+    return finish(r, n + " " + owned(r, frame))
+
+
+ITEMS = {"bool": boolean, "u32": u32, "string": name, "kind": kind, "typeref": typeref, "import": imp,
+         "imports": imports_group, "valtype": valtype, "reftype": reftype, "heaptype": heaptype, "recgroup": recgroup,
+         "table": table, "memory": memory, "tag": tag, "global": globl, "export": export, "element": element, "data": data,
+         "constexpr": constexpr, "symbol": symbol, "comdat": comdat, "relocation": relocation, "corevalue": corevalue,
+         "instance": instance, "frame": frame}
+SECTIONS = {"bools": lambda r: listed(r, boolean), "u32s": lambda r: listed(r, u32), "strings": lambda r: listed(r, name),
+            "flatimports": flatimports, "namemap": namemap, "indirect": indirect, "names": names, "dylink": dylink,
+            "hints": hints, "producers": producers, "linking": linking, "reloc": reloc, "core": core,
+            "coremodules": coremodules, "coreinstances": coreinstances, "corestack": corestack}
+
+
+def outcome(reader, b, o=0, feats=3):
+    r = R(b, o, feats)
+    try:
+        if reader in ITEMS:
+            return "%s used %d" % (ITEMS[reader](r), r.p)
+        return SECTIONS[reader](r)
+    except Bad as e:
+        return e.line()
+
+
+# ------------------------------------------------------------------ checks
+H = bytes.fromhex
+
+
+def rows():
+    bad, n = [], 0
+
+    def want(reader, hexa, expected, o=0, feats=3):
+        nonlocal n
+        n += 1
+        got = outcome(reader, H(hexa.replace(" ", "")), o, feats)
+        if got != expected:
+            bad.append((reader, hexa, got, expected))
+
+    f = lambda at, t: "fault %d %s" % (at, t)
+    mism = "section size mismatch: unexpected data at the end of the section"
+    want("namemap", "03 05 01 61 03 01 62 04 01 63", "{name(5 x61 ) fault 4 names out of order fault 7 names out of order }")
+    two_imports = "01 01 6d 00 7f 02 01 61 00 03 01 62 00 04"
+    want("flatimports", two_imports, "6:import(x6d x61 func 3 ) 10:import(x6d x62 func 4 ) ")
+    want("flatimports", two_imports, f(4, "invalid leading byte 0x7F with compact imports proposal disabled") + " ", 0, 1)
+    want("u32s", "02 05 80 01 07", "100..105 #2[101:5 102:128 %s ]" % f(104, mism), 100)
+    want("coremodules", "01 00 04 74 65 73 74", "[x74657374 ]")
+    want("data", "80 00 41 00 0b 01 ff", "data(active 0 2..5 xff 0..7 ) used 7")
+    want("producers", "01 08 6c 61 6e 67 75 61 67 65 02 03 77 61 74 01 31 01 43 03 39 2e 30",
+         "0..23 #1[1:field(x6c616e6775616765 10..23 #2[11:value(x776174 x31 ) 17:value(x43 x392e30 ) ] ) ]")
+    want("corestack", "00 04 6d 61 69 6e 01 00 04 2a 33 01 7f 01 01 7f 02", "x6d61696e [frame(4 42 51 [i32:1 ] [i32:2 ] ) ]")
+    want("core", "00 09 74 65 73 74 2e 77 61 73 6d", "x746573742e7761736d")
+    want("memory", "00 ff ff ff ff 1f", "memory(false false 8589934591 - - ) used 6")
+    want("memory", "00 ff ff ff ff 1f", f(5, "invalid var_u32: integer too large"), 0, 2)
+    want("element", "00 41 00 0b 02 00 01", "element(active - 1..4 4..7 #2[5:0 6:1 ] 0..7 ) used 7")
+    want("dylink", "01 05 10 02 01 00 ff", "<1 meminfo(16 2 1 0 ) >")
+    want("bools", "03 01 00 01", "0..4 #3[1:true 2:false 3:true ]")
+    want("strings", "01 02 c3 28", "0..4 #1[%s ]" % f(3, "malformed UTF-8 encoding"))
+    want("flatimports", "01 01 6d 00 7e 00 05 02 01 61 01 62", "8:import(x6d x61 func 5 ) 10:import(x6d x62 func 5 ) ")
+    want("flatimports", "02 01 6d 00 7f 01 01 ff 00 00 01 6e 01 78 00 01",
+         f(7, "malformed UTF-8 encoding") + " 10:import(x6e x78 func 1 ) ")
+    want("table", "40 00 70 00 01 d0 70 0b", "table(table(null:func false 1 - false ) 5..8 ) used 8")
+    want("table", "40 01", f(1, "invalid table encoding"))
+    want("table", "70 08 00", f(1, "invalid table resizable limits flags"))
+    want("memory", "09 01 02 10", "memory(false false 1 2 16 ) used 4")
+    want("memory", "08 00 40", f(0, "invalid custom page size"))
+    want("memory", "10", f(0, "invalid memory limits flags"))
+    want("global", "7f 01 41 05 0b", "global(global(i32 true false ) 2..5 ) used 5")
+    want("global", "7f 04", f(1, "malformed global flags"))
+    want("export", "01 61 20 00", f(3, "Exact type is not allowed in the exports"))
+    want("export", "01 61 05", f(2, "invalid leading byte for external kind: 5"))
+    want("tag", "01 00", f(0, "invalid tag attributes"))
+    want("constexpr", "41 ff ff ff ff 7f 0b", "0..7 used 7")
+    want("constexpr", "41 80 80 80 80 10 0b", f(5, "invalid var_i32: integer too large"))
+    want("constexpr", "20 00 0b", f(0, "not a constant instruction"))
+    want("element", "04 41 00 0b 01 d0 70 0b", "element(active - 1..4 null:func 4..8 #1[5:5..8 ] 0..8 ) used 8")
+    want("element", "06 00 41 00 0b 6f 00", "element(active 0 2..5 null:extern 6..7 #0[] 0..7 ) used 7")
+    want("element", "07 70 00", "element(declared null:func 2..3 #0[] 0..3 ) used 3")
+    want("element", "01 01 00", f(1, "only the function external type is supported in elem segment"))
+    want("element", "08", f(0, "invalid flags byte in element segment"))
+    want("element", "88 00", f(1, "invalid flags byte in element segment"))
+    want("data", "01 01 aa", "data(passive xaa 0..3 ) used 3")
+    want("data", "03", f(0, "invalid flags byte in data segment"))
+    want("recgroup", "60 01 7f 01 7e", "rec(false [sub(true - func([i32 ] [i64 ] ) ) ] ) used 5")
+    want("recgroup", "4f 01 00 5f 00", "rec(false [sub(true 0 struct [] ) ] ) used 5")
+    want("recgroup", "4e 00", "rec(true [] ) used 2")
+    want("recgroup", "50 02 00 00", f(1, "more than one supertype"))
+    want("recgroup", "5f 01 7f 02", f(3, "invalid leading byte for field mutability: 2"))
+    want("recgroup", "40", f(0, "invalid leading byte for composite type: 64"))
+    want("names", "00 02 01 61 01 04 01 00 01 66 00 01 00 0e 00",
+         "<module x61 2..4 1{name(0 x66 ) } %s unknown 14 x 15..15 >" % f(10, "name subsection out of order"))
+    want("names", "01 00 02 01 00", "<%s 2{} >" % f(2, EOF))
+    want("names", "00 03 01 61 ff", "<%s >" % f(4, "trailing data at the end of a name"))
+    want("indirect", "02 01 01 00 01 61 00 00", "{names(1 {name(0 x61 ) } ) %s }" % f(6, "indirect names out of order"))
+    want("hints", "01 00 01 05 01 01", "0..6 #1[1:function(0 2..6 #1[3:hint(5 true ) ] ) ]")
+    want("hints", "01 00 01 05 02 01", "0..6 #1[%s ]" % f(4, "invalid leading byte for invalid branch hint byte: 2"))
+    want("producers", "01 01 78 00", "0..4 #1[%s ]" % f(1, "invalid producers field name"))
+    want("dylink", "02 03 01 01 61 03 04 01 01 66 02", "<2 [x61 ] 3 [export(x66 2 ) ] >")
+    want("linking", "02 06 03 01 05 07", "version 2 at 1 0..6 <6 3..6 #1[4:init(5 7 ) ] >")
+    want("linking", "03", f(0, "unsupported linking section version: 3"))
+    want("symbol", "00 10 03", "func 16 3 - used 3")
+    want("symbol", "00 50 03 01 66", "func 80 3 x66 used 5")
+    want("symbol", "01 00 01 64 02 00 04", "data 0 x64 defined(2 0 4 ) used 7")
+    want("symbol", "03 80 20 05", "section 4096 5 used 4")
+    want("symbol", "06 00", f(0, "invalid leading byte for symbol kind: 6"))
+    want("reloc", "03 01 03 06 00 7f", "section 3 0..6 1..6 #1[2:reloc(3 6 0 -1 ) ]")
+    want("relocation", "1b", f(0, "invalid leading byte for RelocEntryType: 27"))
+    want("corevalue", "7d 00 00 80 3f", "f32:1065353216 used 5")
+    want("corevalue", "02", f(0, "invalid CoreDumpValue type"))
+    want("coremodules", "02 00 01 61 01", f(0, "invalid start byte for coremodule"))
+    want("coreinstances", "01 00 02 01 00 01 03", "[instance(2 [0 ] [3 ] ) ]")
+    want("element", "01 00 21" + "00" * 31 + "80 01 05", "element(passive 2..37 #33[%s34:128 36:5 ] 0..37 ) used 37"
+         % "".join("%d:0 " % i for i in range(3, 34)))
+    want("element", "01 00 20" + "7f" * 32, "element(passive 2..35 #32[%s] 0..35 ) used 35" % "".join("%d:127 " % i for i in range(3, 35)))
+    want("element", "01 00 01 05" + "00" * 40, "element(passive 2..4 #1[3:5 ] 0..4 ) used 4")
+    want("element", "01 00 20" + "00" * 31, f(34, EOF))
+    want("element", "01 00 20" + "00" * 31 + "ff ff ff ff 10", f(38, "invalid var_u32: integer too large"))
+    want("bools", "ff ff ff ff 0f", "0..5 #4294967295[%s ]" % f(5, EOF))
+    want("recgroup", "4e ff ff ff ff 0f", f(6, EOF))
+    want("imports", "01 6d 00 7e 00 05 ff ff ff ff 0f", f(11, EOF))
+    return n, bad
+
+
+SECTION_ITEMS = {1: recgroup, 3: u32, 4: table, 5: memory, 6: globl, 7: export, 9: element, 11: data, 13: tag}
+KNOWN = {"name": names, "metadata.code.branch_hint": hints, "producers": producers, "dylink.0": dylink, "core": core,
+         "coremodules": coremodules, "coreinstances": coreinstances, "corestack": corestack, "linking": linking}
+
+
+def known(n, r):
+    """What a custom section of this name says, if it is known."""
+    f = KNOWN.get(n, reloc if n.startswith("reloc.") else None)
+    try:
+        return f(r) if f else "unknown"
+    except Bad:
+        return "unknown"
+
+
+def listing(s, feats=3):
+    out = []
+    for l in model.reading(s):
+        out.append(l)
+        w = l.split(" ")
+        if w[0] == "section":
+            i, b, e = int(w[1]), int(w[2]), int(w[3])
+            r = R(s, 0, feats, b, e)
+            if i == 2:
+                r.u32()
+                n = model.u32(s, b, e)[1]
+                stop = False
+                for _ in range(n):
+                    try:
+                        got = imports_group(r, True)
+                    except Bad as fault:
+                        out.append("  " + fault.line())
+                        stop = True
+                        break
+                    out += ["  " + ("%d %s" % g if g[0] is not None else g[1]) for g in got]
+                if not stop and r.left():
+                    out.append("  " + Bad(r.at(), "section size mismatch: unexpected data at the end of the section").line())
+            else:
+                out += ["  " + ("%d %s" % g if g[0] is not None else g[1]) for g in walk(r, SECTION_ITEMS[i])[1]]
+        elif w[0] == "custom":
+            b, e, at = int(w[1]), int(w[2]), int(w[3])
+            n = s[b + model.u32(s, b, e)[2]:at]
+            out.append("  %s %s" % (x(n), known(n.decode(), R(s, 0, feats, at, e))))
+    return out
+
+
+def main():
+    a = sys.argv[1:]
+    if not a:
+        sys.stderr.write(__doc__ + "\n")
+        return 2
+    if a[0] in ("-h", "--help"):
+        print(__doc__.strip())
+        return 0
+    opt = lambda n, d: a[a.index(n) + 1] if n in a else d
+    if a[0] == "--rows":
+        n, bad = rows()
+        for b in bad:
+            print("DIFFERS", b)
+        print("%d agree, %d differ" % (n - len(bad), len(bad)))
+        return 1 if bad else 0
+    if a[0] == "--listing":
+        sys.stdout.write("".join(l + "\n" for l in listing(sys.stdin.buffer.read())))
+        return 0
+    if a[0] not in ITEMS and a[0] not in SECTIONS:
+        sys.stderr.write("model_items.py: no reader has the name %s; there are %s\n" % (a[0], ", ".join([*ITEMS, *SECTIONS])))
+        return 2
+    print(outcome(a[0], sys.stdin.buffer.read(), int(opt("--offset", 0)), int(opt("--features", 3))))
+    return 0
+
+
+if __name__ == "__main__":
+    sys.exit(main())

@@ -1,0 +1,89 @@
+"""Streams in pieces: the cases that the program wasm_compare reads, and what a model says of them."""
+import subprocess
+
+from common import leb
+
+
+def case(row, offset, pieces):
+    data = leb(len(pieces)) + b"".join(leb(len(piece)) + piece for piece in pieces)
+    return leb(len(row)) + row.encode() + b"\3" + leb(offset) + leb(len(data)) + data
+
+
+# ---- what the model says
+
+
+def event_text(line, data):
+    words = line.split(" ")
+    if words[0] == "version":
+        return "version %s %s %s..%s %s" % (words[3], words[4], words[1], words[2], data)
+    if words[0] in ("section", "unknown"):
+        return " ".join([words[0], words[1]] + words[4:]) + " %s..%s %s" % (words[2], words[3], data)
+    if words[0] in ("start", "datacount", "code", "body", "custom"):
+        return " ".join([words[0]] + words[3:]) + " %s..%s %s" % (words[1], words[2], data)
+    return (line if words[0] == "fault" else words[0]) + " %s..%s x" % (words[1], words[1])
+
+
+def expected_events(model, stream, offset):
+    state, place, out = model.State(offset, True), 0, []
+    while True:
+        try:
+            line, used, state = model.next_event(state, stream, place)
+        except model.Fault as fault:
+            return out + [event_text(fault.line(), "")]
+        out.append(event_text(line, "x" + stream[place : place + used].hex()))
+        if line.startswith("end"):
+            return out
+        place += used
+
+
+def expected_steps(model, pieces, offset):
+    state, place, given, stored, eof, out, lasts = model.State(offset, True), 0, b"", 0, False, [], 0
+    later = iter(pieces)
+    while lasts < 2:
+        request = None if eof else model.short(state, given, place)
+        used = 0
+        if request is not None:
+            text = "need %d" % request[0]
+        else:
+            try:
+                line, used, state = model.next_event(state, given, place)
+                text = "part %d" % used
+                lasts += line.startswith("end")
+            except model.Fault as fault:
+                text = fault.line()
+                lasts += 1
+        place += used
+        out.append("%s %d %d" % (text, len(given) - place, stored))
+        if request is not None:
+            piece = next(later, None)
+            if piece is None:
+                eof = True
+            else:
+                given += piece
+                stored = len(given) - place
+    return out
+
+
+# ---- cuts
+
+
+def cut(rng, stream):
+    places = sorted(rng.randrange(len(stream) + 1) for _ in range(rng.randrange(6)))
+    return [stream[i:j] for i, j in zip([0] + places, places + [len(stream)])]
+
+
+def with_empty(rng, pieces):
+    return [part for piece in pieces for part in ([b""] * rng.randrange(2) + [piece])]
+
+
+# ---- the program
+
+
+def run(program, cases):
+    """What it says of each case; an empty line is after each."""
+    done = subprocess.run([program], input=leb(len(cases)) + b"".join(cases), stdout=subprocess.PIPE, check=True)
+    return done.stdout.decode().split("\n")[::2]
+
+
+def said_of(line):
+    return [part for part in line.split("; ") if part]
