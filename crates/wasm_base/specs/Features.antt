@@ -1,10 +1,19 @@
 -- Sets of features, as bits.
-use Rattle.std.specs.Prelude.{ℕ}
+use Rattle.std.specs.Prelude.{ℕ, Bool}
+use Rattle.wasm_base.specs.Bits.{has_bit}
 use Rattle.wasm_base.specs.declared.features.WasmFeatures.{WasmFeatures}
 
 -- the bits of a set of features
 abbrev pub feature_bits : WasmFeatures → ℕ
 feature_bits features = features.0
+
+-- whether 64-bit memories are taken
+abbrev pub takes_wide_limits : (features : ℕ) → Bool
+takes_wide_limits features = has_bit features 0
+
+-- whether groups of imports are taken
+abbrev pub takes_import_groups : (features : ℕ) → Bool
+takes_import_groups features = has_bit features 1
 
 -- all features
 abbrev pub all_features : ℕ

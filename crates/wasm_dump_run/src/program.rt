@@ -60,7 +60,7 @@ pub fn run_program<R: Source, W: Write, E: Sink>(
 ) -> (ExitCode, WriteSink<W>)
     ensures { RunsProgram (asked_if_any (λ args. map string_bytes (into_iter_items args)) arguments)
         result.1.handed_on
-        (device_of R.left R.has_failed input.old input.new)
+        (device_of R.remaining R.has_failed input.old input.new)
         (writer_device W.contents output result.1)
         (device_of E.taken E.has_failed errors.old errors.new) (exit_status result.0) }
 {
@@ -81,7 +81,7 @@ fn run_command<R: Source, W: Write, E: Sink>(
     errors: &mut E,
 ) -> (u8, WriteSink<W>)
     ensures { Runs (asked_of command) result.1.handed_on
-        (device_of R.left R.has_failed input.old input.new)
+        (device_of R.remaining R.has_failed input.old input.new)
         (writer_device W.contents output result.1)
         (device_of E.taken E.has_failed errors.old errors.new) result.0 }
 {
@@ -130,7 +130,7 @@ fn show_chosen<R: Source, W: Write, E: Sink>(
     errors: &mut E,
 ) -> (u8, WriteSink<W>)
     ensures { ShowsChosen word.now result.1.handed_on
-        (device_of R.left R.has_failed input.old input.new)
+        (device_of R.remaining R.has_failed input.old input.new)
         (writer_device W.contents output result.1)
         (device_of E.taken E.has_failed errors.old errors.new) result.0 }
 {
@@ -147,7 +147,7 @@ fn show_input<R: Source, W: Write, E: Sink>(
     errors: &mut E,
 ) -> (u8, WriteSink<W>)
     ensures { Shows only.now result.1.handed_on
-        (device_of R.left R.has_failed input.old input.new)
+        (device_of R.remaining R.has_failed input.old input.new)
         (writer_device W.contents output result.1)
         (device_of E.taken E.has_failed errors.old errors.new) result.0 }
 {
@@ -191,7 +191,7 @@ pub fn dump_input<R: Source, W: Write>(
     input: &mut R,
     output: WriteSink<W>,
 ) -> (Result<Ended, ListError>, WriteSink<W>)
-    ensures { RunsDump only.now (device_of R.left R.has_failed input.old input.new)
+    ensures { RunsDump only.now (device_of R.remaining R.has_failed input.old input.new)
         (writer_device W.contents output result.1) result.1.handed_on result.0 }
 {
     let mut tree = Tree::new(alloc, output);

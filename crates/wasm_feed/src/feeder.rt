@@ -228,7 +228,7 @@ impl<A: Allocator> Feeder<A> {
     ) -> std::result::Result<(), ListError>
         requires wants { self.old.wants_more ≡ true }
         requires room { 0 < length room.old }
-        ensures refills { Refills (R.left input.old) (R.left input.new) self.old self.new result }
+        ensures refills { Refills (R.remaining input.old) (R.remaining input.new) self.old self.new result }
         ensures failed { R.has_failed input.new ≡ input_failed result (R.has_failed input.old) }
         ensures unchanged { OnErr result (self.new ≡ self.old) }
     {
@@ -295,7 +295,7 @@ pub(crate) fn read_more<A: Allocator, R: Source>(
     room: &mut [u8],
 ) -> Result<(), ListError>
     requires { 0 < length room.old }
-    ensures refills { Refills (R.left input.old) (R.left input.new)
+    ensures refills { Refills (R.remaining input.old) (R.remaining input.new)
         (feed_of stored.old.items cursor.old) (feed_of stored.new.items cursor.new) result }
     ensures unchanged { OnErr result (feed_of stored.new.items cursor.new
         ≡ feed_of stored.old.items cursor.old) }

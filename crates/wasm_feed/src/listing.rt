@@ -70,7 +70,7 @@ pub fn list_in<A: Allocator + Copy, R: Source, W: Sink>(
     piece: usize,
 ) -> Result<Ended, ListError>
     requires { 1 ≤ piece }
-    ensures lists { Lists (change_of R.left input.old input.new)
+    ensures lists { Lists (change_of R.remaining input.old input.new)
         (change_of W.taken output.old output.new) result }
     ensures input { R.has_failed input.new ≡ input_failed result (R.has_failed input.old) }
     ensures output { W.has_failed output.new ≡ output_failed result (W.has_failed output.old) }
@@ -113,7 +113,7 @@ pub fn list<R: Source, W: Sink>(
     piece: usize,
 ) -> Result<Ended, ListError>
     requires { 1 ≤ piece }
-    ensures lists { Lists (change_of R.left input.old input.new)
+    ensures lists { Lists (change_of R.remaining input.old input.new)
         (change_of W.taken output.old output.new) result }
     ensures input { R.has_failed input.new ≡ input_failed result (R.has_failed input.old) }
     ensures output { W.has_failed output.new ≡ output_failed result (W.has_failed output.old) }

@@ -1,7 +1,8 @@
 -- Imports. Core specification, Binary format, Modules, Import Section, and Types, External Types; the groups are of the
 -- proposal for compact imports.
 use Rattle.std.specs.Prelude.{ℕ, ◌==◌, Bool, List, [], ◌∷◌, Some, Ok, Err, if◌then◌else◌}
-use Rattle.std.specs.Int.RustNames.{bit_and}
+use Rattle.wasm_base.specs.Features.{takes_import_groups}
+use Rattle.wasm_base.specs.Leading.{lookup_or}
 use Rattle.wasm_base.specs.FaultAt.{at_offset}
 use Rattle.wasm_base.specs.Name.{name_limit, text_at, peeked_byte_at}
 use Rattle.wasm_base.specs.Number.{unsigned_at}
@@ -103,19 +104,13 @@ group_parts (Compact2 from ty names) = of_type from.now ty names
 -- How an item of an import section goes on after its two names: a group has an empty second name, and a byte that is no
 -- external kind after it.
 abbrev pub form_of : (name : List ℕ) (byte : ℕ) → Form
-form_of [] byte =
-    if byte == 0x7F then ModuleGroup
-    else if byte == 0x7E then TypeGroup
-    else OneImport
+form_of [] byte = lookup_or OneImport ((0x7F, ModuleGroup) ∷ (0x7E, TypeGroup) ∷ []) byte
 form_of (b ∷ name) byte = OneImport
-
--- whether groups are taken: the feature of compact imports, which is flag 2 of the features
-abbrev pub has_groups : Place → Bool
-has_groups p = bit_and p.features 2 == 2
 
 -- after the byte that a group has, where groups are taken; else the fault is at that byte
 abbrev pub if_groups : {A : Type 0} → Fault → (Place → Outcome A) → Place → Outcome A
-if_groups fault reading p = if has_groups p then reading (advanced 1 p) else Err (at_offset fault p.offset)
+if_groups fault reading p =
+    if takes_import_groups p.features then reading (advanced 1 p) else Err (at_offset fault p.offset)
 
 -- imports of one module, after its byte
 unfoldable pub module_group_at : (from : List ℕ) → Place → Outcome Group

@@ -4,7 +4,8 @@ ghost use Rattle.wasm_base.specs.Hints.{TakesNoMemory};
 ghost use Rattle.wasm_base.specs.Item.{ReadsAs};
 ghost use Rattle.wasm_base.specs.Outcome.{GivesBy};
 ghost use Rattle.wasm_base.specs.Window.{place, KeepsWindow};
-ghost use Rattle.wasm_items.specs.Imports.{form_of, group_parts, has_groups, module_group_at, type_group_at};
+ghost use Rattle.wasm_base.specs.Features.{takes_import_groups};
+ghost use Rattle.wasm_items.specs.Imports.{form_of, group_parts, module_group_at, type_group_at};
 
 use crate::exports::ExternalKind;
 use crate::types::{GlobalType, MemoryType, TableType, TagType};
@@ -82,6 +83,7 @@ pub enum Imports<'a> {
 
 /// A kind, and the type of it: of a function the index of its type, a u32.
 impl<'a> FromReader<'a> for TypeRef {
+    ghost use Rattle.wasm_base.specs.Features.{takes_import_groups};
     ghost use Rattle.wasm_items.specs.Imports.{type_ref_at};
 
     ghost meaning = { ReadsAs (λ ty. ty) type_ref_at };
@@ -101,6 +103,7 @@ impl<'a> FromReader<'a> for TypeRef {
 
 /// The name of a module, a name in it, and what it is.
 impl<'a> FromReader<'a> for Import<'a> {
+    ghost use Rattle.wasm_base.specs.Features.{takes_import_groups};
     ghost use Rattle.wasm_items.specs.Imports.{import_parts, import_at};
 
     ghost meaning = { ReadsAs import_parts import_at };
@@ -116,6 +119,7 @@ impl<'a> FromReader<'a> for Import<'a> {
 
 /// A name, and what it is.
 impl<'a> FromReader<'a> for ImportItemCompact<'a> {
+    ghost use Rattle.wasm_base.specs.Features.{takes_import_groups};
     ghost use Rattle.wasm_items.specs.Imports.{item_parts, item_at};
 
     ghost meaning = { ReadsAs item_parts item_at };
@@ -130,6 +134,7 @@ impl<'a> FromReader<'a> for ImportItemCompact<'a> {
 
 /// Its name is passed over whether or not it is UTF-8, which is seen when it is read.
 impl<'a> SkipItem<'a> for ImportItemCompact<'a> {
+    ghost use Rattle.wasm_base.specs.Features.{takes_import_groups};
     ghost use Rattle.wasm_items.specs.Imports.{passed_item_at};
 
     ghost passed_at = { passed_item_at };
@@ -164,8 +169,8 @@ fn form_after(name: &str, byte: u8) -> Form
 }
 
 // Whether a reader takes groups.
-fn has_groups(reader: &BinaryReader<'_>) -> bool
-    ensures { result ≡ has_groups (place reader.now) }
+fn takes_groups(reader: &BinaryReader<'_>) -> bool
+    ensures { result ≡ takes_import_groups reader.now.features }
 {
     reader.features().contains(WasmFeatures::COMPACT_IMPORTS)
 }
@@ -199,6 +204,7 @@ fn read_type_group<'a>(module: &'a str, reader: &mut BinaryReader<'a>) -> Result
 /// Without the feature `COMPACT_IMPORTS` the byte is `Compact7F` or `Compact7E`, at it. The items of a group are passed
 /// over, with the faults of a skipped name and of a type; that their names are UTF-8 is seen when they are read.
 impl<'a> FromReader<'a> for Imports<'a> {
+    ghost use Rattle.wasm_base.specs.Features.{takes_import_groups};
     ghost use Rattle.wasm_items.specs.Imports.{group_parts, group_at};
 
     ghost meaning = { ReadsAs group_parts group_at };
@@ -214,14 +220,14 @@ impl<'a> FromReader<'a> for Imports<'a> {
                 Ok(Imports::Single(start, Import { module, name, ty }))
             }
             Form::ModuleGroup => {
-                if !has_groups(reader) {
+                if !takes_groups(reader) {
                     return Err(Error::new(Fault::Compact7F, reader.original_position()));
                 }
                 reader.read_u8()?;
                 read_module_group(module, reader)
             }
             Form::TypeGroup => {
-                if !has_groups(reader) {
+                if !takes_groups(reader) {
                     return Err(Error::new(Fault::Compact7E, reader.original_position()));
                 }
                 reader.read_u8()?;

@@ -7,7 +7,7 @@ ghost use Rattle.wasm_base.specs.Window.{place, KeepsWindow};
 ghost use Rattle.wasm_items.specs.Tables.{filled_table_at};
 
 use crate::init::ConstExpr;
-use crate::limits::{has_flag, read_limits};
+use crate::limits::{IS_SHARED, IS_WIDE, has_flag, read_limits};
 use crate::types::{RefType, TableType};
 use wasm_base::{BinaryReader, Error, Fault, FromReader, Result, SectionLimited};
 
@@ -51,10 +51,10 @@ impl<'a> FromReader<'a> for TableType {
         let limits = read_limits(flags, reader)?;
         Ok(TableType {
             element_type,
-            table64: has_flag(flags, 4),
+            table64: has_flag(flags, IS_WIDE),
             initial: limits.initial,
             maximum: limits.maximum,
-            shared: has_flag(flags, 2),
+            shared: has_flag(flags, IS_SHARED),
         })
     }
 }

@@ -16,7 +16,7 @@ fn read_piece<R: Source>(
     bytes: &mut Vec<u8>,
 ) -> Result<bool, ListError>
     requires { length room.old ≡ 65536 }
-    ensures reads { ReadsPiece (R.left input.old) (R.left input.new)
+    ensures reads { ReadsPiece (R.remaining input.old) (R.remaining input.new)
         bytes.old.items result bytes.new.items }
     ensures failed { R.has_failed input.new ≡ input_failed result (R.has_failed input.old) }
 {
@@ -32,7 +32,7 @@ fn read_piece<R: Source>(
 
 // All bytes that the source gives.
 fn read_all<R: Source>(alloc: Global, input: &mut R) -> Result<Vec<u8>, ListError>
-    ensures reads { ReadsAll (R.left input.old) (R.left input.new) result }
+    ensures reads { ReadsAll (R.remaining input.old) (R.remaining input.new) result }
     ensures failed { R.has_failed input.new ≡ input_failed result (R.has_failed input.old) }
 {
     let mut room = room(alloc)?;
@@ -88,7 +88,7 @@ pub(crate) fn strip_input<R: Source, W: Sink, E: Sink>(
     errors: &mut E,
 ) -> u8
     ensures { RunsStripping
-        (device_of R.left R.has_failed input.old input.new)
+        (device_of R.remaining R.has_failed input.old input.new)
         (device_of W.taken W.has_failed output.old output.new)
         (device_of E.taken E.has_failed errors.old errors.new) result }
 {

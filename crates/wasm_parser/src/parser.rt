@@ -54,7 +54,7 @@ pub struct Parser {
     data_counts: Option<u32>,
     // The bodies and the bytes that a code section still misses.
     bodies: u32,
-    left: u32,
+    code_bytes: u32,
     // Whether the start of a code section came last, or a body.
     in_code: bool,
 }
@@ -75,7 +75,7 @@ impl Parser {
             datas: None,
             data_counts: None,
             bodies: 0,
-            left: 0,
+            code_bytes: 0,
             in_code: false,
         }
     }
@@ -144,7 +144,11 @@ impl Parser {
     pub fn skippable(&self) -> Option<u32>
         ensures { result ≡ skippable_of self.now }
     {
-        if self.in_code { Some(self.left) } else { None }
+        if self.in_code {
+            Some(self.code_bytes)
+        } else {
+            None
+        }
     }
 
     /// Passes what is left of a code section, as many bytes as `skippable` says: the caller hands in the bytes after
@@ -154,9 +158,9 @@ impl Parser {
         ensures state { self.new ≡ skipped_state self.old }
         ensures skips { SkipsSection self.old self.new }
     {
-        self.offset += u64::from(self.left);
+        self.offset += u64::from(self.code_bytes);
         self.bodies = 0;
-        self.left = 0;
+        self.code_bytes = 0;
     }
 
     /// The stream offset of what comes next.
@@ -222,11 +226,11 @@ impl Model for Parser {
       datas = p.datas;
       data_counts = p.data_counts;
       bodies = p.bodies;
-      left = p.left;
+      code_bytes = p.code_bytes;
       in_code = p.in_code;
     } };
 
-    ghost invariant = { λ p. p.offset + p.left < 2 ^ 64 };
+    ghost invariant = { λ p. p.offset + p.code_bytes < 2 ^ 64 };
 }
 
 impl Clone for Parser {
@@ -246,7 +250,7 @@ impl Clone for Parser {
             datas: self.datas,
             data_counts: self.data_counts,
             bodies: self.bodies,
-            left: self.left,
+            code_bytes: self.code_bytes,
             in_code: self.in_code,
         })
     }
@@ -275,17 +279,17 @@ impl Parser {
     }
 
     // Whether a code section isn't at its end.
-    fn is_code_left(&self) -> bool
-        ensures { result ≡ not (nat_eq (self.now.bodies + self.now.left) 0) }
+    fn is_code_open(&self) -> bool
+        ensures { result ≡ not (nat_eq (self.now.bodies + self.now.code_bytes) 0) }
     {
-        self.bodies > 0 || self.left > 0
+        self.bodies > 0 || self.code_bytes > 0
     }
 
     // Whether a section may start here.
     fn is_at_section(&self) -> bool
         ensures { result ≡ at_section self.now }
     {
-        !self.expects_header && !self.is_code_left()
+        !self.expects_header && !self.is_code_open()
     }
 
     // A reader of bytes that begin where the parser is.
@@ -381,7 +385,7 @@ impl Parser {
     {
         if self.expects_header {
             read_header(reader)
-        } else if self.is_code_left() {
+        } else if self.is_code_open() {
             self.body(reader)
         } else {
             self.section(reader)
@@ -409,7 +413,7 @@ impl Parser {
 
     // Goes on to the end of what was read, which is at this offset. A section that has a rank ranks above all earlier ones.
     fn advance(&mut self, payload: &Payload, end: u64)
-        requires { end + missing_bytes (report_of payload.now) (end - self.old.offset) self.old.left < 2 ^ 64 }
+        requires { end + missing_bytes (report_of payload.now) (end - self.old.offset) self.old.code_bytes < 2 ^ 64 }
         ensures { Advances self.old payload.now end self.new }
     {
         self.learn(payload);
@@ -417,7 +421,7 @@ impl Parser {
         self.offset = end;
         self.expects_header = false;
         self.bodies = missing_bodies(payload, self.bodies);
-        self.left = missing_bytes(payload, taken, self.left);
+        self.code_bytes = missing_bytes(payload, taken, self.code_bytes);
         self.in_code = is_of_code(payload);
     }
 
@@ -495,7 +499,7 @@ impl Parser {
             return Err(Error::new(Fault::TrailingCode, start));
         }
         let size = reader.read_var_u32()?;
-        if passes(self.left, reader.original_position() - start, size) {
+        if passes(self.code_bytes, reader.original_position() - start, size) {
             return Err(Error::new(Fault::UnexpectedEof, start));
         }
         let window = window(size, reader)?;
@@ -504,10 +508,10 @@ impl Parser {
 }
 
 // Whether a field of so many bytes, and the bytes that it counts, are more than are left.
-fn passes(left: u32, width: u64, size: u32) -> bool
-    ensures { result ≡ nat_lt left (width + size) }
+fn passes(code_bytes: u32, width: u64, size: u32) -> bool
+    ensures { result ≡ nat_lt code_bytes (width + size) }
 {
-    match u64::from(left).checked_sub(width) {
+    match u64::from(code_bytes).checked_sub(width) {
         Some(room) => u64::from(size) > room,
         None => true,
     }

@@ -97,7 +97,7 @@ fn dump_into<R: Source, W: Sink>(
     room: &mut [u8],
 ) -> Result<Ended, ListError>
     requires { 0 < length room.old }
-    ensures { DumpsInto only.now (device_of R.left R.has_failed input.old input.new)
+    ensures { DumpsInto only.now (device_of R.remaining R.has_failed input.old input.new)
         out.old result out.new }
 {
     let mut line = Line::new();
@@ -139,7 +139,7 @@ pub fn dump<R: Source, W: Sink>(
     piece: usize,
 ) -> Result<Ended, ListError>
     requires { 1 ≤ piece }
-    ensures { DumpsByTree only.now (device_of R.left R.has_failed input.old input.new)
+    ensures { DumpsByTree only.now (device_of R.remaining R.has_failed input.old input.new)
         out.old result out.new }
 {
     let mut room = vec![in alloc; 0u8; piece]?;

@@ -161,7 +161,7 @@ struct Measuring<'a> {
 impl Source for Measuring<'_> {
     ghost use Rattle.std.specs.Prelude.{Some, false};
 
-    ghost left = { λ s. Some s.inner.rest.now };
+    ghost remaining = { λ s. Some s.inner.rest.now };
 
     ghost has_failed = { λ _. false };
 

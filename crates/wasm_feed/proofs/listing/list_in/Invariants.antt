@@ -11,7 +11,7 @@ invariant-events g l =
     let source = g.R.Source in
     let sink = g.W.Sink in
     record {
-      progress : Progress line_of (from_to (source.left l.initial.input) (source.left l.input))
+      progress : Progress line_of (from_to (source.remaining l.initial.input) (source.remaining l.input))
           (from_to (sink.taken l.initial.output) (sink.taken l.output))
           (feed_of l.stored.items l.cursor) l.page.bytes.items;
       input : source.has_failed l.input ≡ source.has_failed l.initial.input;

@@ -7,15 +7,15 @@ use Rattle.std.proofs.lemmas.List.Edits.{take-paste, drop-paste}
 use lib.Seq.{paste}
 use Rattle.wasm_parser.specs.Along.{Along}
 use Rattle.wasm_feed.specs.Cursors.{feed_of}
-use Rattle.wasm_feed.specs.Strips.{HasLeft}
+use Rattle.wasm_feed.specs.Strips.{HasKept}
 use Rattle.wasm_feed.specs.declared.feeder.Cursor.{Cursor}
 use Rattle.wasm_base.specs.Features.{all_features}
 
 -- a part that is moved down, after what is at the front, changes nothing of what comes after it
-module _ (bytes part : List ℕ) (left start end : ℕ) (order : left ≤ start) (within : start ≤ length bytes)
+module _ (bytes part : List ℕ) (kept start end : ℕ) (order : kept ≤ start) (within : start ≤ length bytes)
     (size : end ≡ start + length part) (parts : drop start bytes ≡ part ++ drop end bytes) where
   abbrev moved : List ℕ
-  moved = copy_within bytes start (start + length part) left
+  moved = copy_within bytes start (start + length part) kept
 
   fits : length part ≤ length (drop start bytes)
   fits = let n : length (drop start bytes) ≡ length part + length (drop end bytes) = ap (λ (x : List ℕ). length x) parts
@@ -24,20 +24,20 @@ module _ (bytes part : List ℕ) (left start end : ℕ) (order : left ≤ start)
   same_size : start + length part - start ≡ length part
   same_size = omega arith
 
-  moved_front : take (left + length part) moved ≡ take left bytes ++ part
+  moved_front : take (kept + length part) moved ≡ take kept bytes ++ part
   moved_front =
-      ap (λ (n : ℕ). take (left + length part) (paste bytes left (drop start bytes) n)) same_size
-      ∙ (take-paste bytes left (drop start bytes) (length part) (omega (arith, order, within)) fits
-      ∙ ap (λ (x : List ℕ). take left bytes ++ x) (ap (take (length part)) parts ∙ take_at part (drop end bytes) (length part) refl))
+      ap (λ (n : ℕ). take (kept + length part) (paste bytes kept (drop start bytes) n)) same_size
+      ∙ (take-paste bytes kept (drop start bytes) (length part) (omega (arith, order, within)) fits
+      ∙ ap (λ (x : List ℕ). take kept bytes ++ x) (ap (take (length part)) parts ∙ take_at part (drop end bytes) (length part) refl))
 
-  later : (xs : List ℕ) → drop end xs ≡ drop (start - left) (drop (left + length part) xs)
-  later xs = ap (λ (n : ℕ). drop n xs) (omega (arith, order, size)) ∙ sym (drop-drop (start - left) (left + length part) xs)
+  later : (xs : List ℕ) → drop end xs ≡ drop (start - kept) (drop (kept + length part) xs)
+  later xs = ap (λ (n : ℕ). drop n xs) (omega (arith, order, size)) ∙ sym (drop-drop (start - kept) (kept + length part) xs)
 
   moved_rest : drop end moved ≡ drop end bytes
   moved_rest =
-      ap (λ (n : ℕ). drop end (paste bytes left (drop start bytes) n)) same_size
-      ∙ (later (paste bytes left (drop start bytes) (length part))
-      ∙ (ap (drop (start - left)) (drop-paste bytes left (drop start bytes) (length part) (omega (arith, order, within)) fits)
+      ap (λ (n : ℕ). drop end (paste bytes kept (drop start bytes) n)) same_size
+      ∙ (later (paste bytes kept (drop start bytes) (length part))
+      ∙ (ap (drop (start - kept)) (drop-paste bytes kept (drop start bytes) (length part) (omega (arith, order, within)) fits)
       ∙ sym (later bytes)))
 
 -- bytes that are moved to where they are
@@ -58,17 +58,17 @@ mark_within bytes part old new within (size, parts) =
     omega (arith, within, size, n, length-drop old bytes)
 
 -- so what is left goes on with it
-pub moves_on : (keep : Bool) (stream bytes items part : List ℕ) (left start : ℕ) (old new : Cursor) → start ≡ old.mark → left ≤ old.mark
+pub moves_on : (keep : Bool) (stream bytes items part : List ℕ) (kept start : ℕ) (old new : Cursor) → start ≡ old.mark → kept ≤ old.mark
     → old.mark ≤ length bytes
     → (new.mark ≡ old.mark + length part) × (drop old.mark bytes ≡ part ++ drop new.mark bytes) → items
-    ≡ copy_within bytes start (start + length part) left
-    → HasLeft keep stream (feed_of bytes new) (take left bytes ++ part)
-    → HasLeft keep stream (feed_of items new) (take (left + length part) items)
-moves_on keep stream bytes items part left start old new e order within (size, parts) i (events, a, b) =
-    let m : items ≡ copy_within bytes old.mark (old.mark + length part) left = i
-    ∙ ap (λ (n : ℕ). copy_within bytes n (n + length part) left) e in
+    ≡ copy_within bytes start (start + length part) kept
+    → HasKept keep stream (feed_of bytes new) (take kept bytes ++ part)
+    → HasKept keep stream (feed_of items new) (take (kept + length part) items)
+moves_on keep stream bytes items part kept start old new e order within (size, parts) i (events, a, b) =
+    let m : items ≡ copy_within bytes old.mark (old.mark + length part) kept = i
+    ∙ ap (λ (n : ℕ). copy_within bytes n (n + length part) kept) e in
     let held : drop new.mark items ≡ drop new.mark bytes = ap (drop new.mark) m
-    ∙ moved_rest bytes part left old.mark new.mark order within size parts in
-    let front : take (left + length part) items ≡ take left bytes ++ part = ap (take (left + length part)) m
-    ∙ moved_front bytes part left old.mark new.mark order within size parts in
+    ∙ moved_rest bytes part kept old.mark new.mark order within size parts in
+    let front : take (kept + length part) items ≡ take kept bytes ++ part = ap (take (kept + length part)) m
+    ∙ moved_front bytes part kept old.mark new.mark order within size parts in
     (events, subst (λ (x : List ℕ). Along 0 all_features stream new.parser x events) (sym held) a, front ∙ b)

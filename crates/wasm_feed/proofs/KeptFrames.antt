@@ -16,7 +16,7 @@ use Rattle.wasm_grammar.specs.Shifted.{shifted_report, shifted_event, shifted_ev
 use Rattle.wasm_grammar.specs.declared.encoding.Encoding.{Encoding}
 use Rattle.wasm_grammar.specs.declared.encoding.Encoding.TheVariants.{Module, Component}
 use Rattle.wasm_parser.proofs.ForCallers.{frames_read_the_same, custom_has_its_id}
-use Rattle.wasm_feed.specs.Stripped.{custom_stays, frame_stays, report_stays, event_stays, left_bytes, staying, IsMovedBack}
+use Rattle.wasm_feed.specs.Stripped.{custom_stays, frame_stays, report_stays, event_stays, kept_bytes, staying, IsMovedBack}
 use Rattle.wasm_grammar.specs.Ids.{custom_id}
 
 -- ---- the events of one section
@@ -131,13 +131,13 @@ moved_stays keep by (stream_end (fault f)) = refl
 moved_stays keep by (stream_end (ended offset)) = refl
 
 -- events that stay, before others
-stay_first : (keep : Bool) (dropped : ℕ) (here : List Event) (rest left : List Event) → AllStay keep (shifted_events dropped here)
-    → AllZip IsMovedBack (staying keep dropped rest) left
-    → AllZip IsMovedBack (staying keep dropped (shifted_events dropped here ++ rest)) (here ++ left)
-stay_first keep dropped [] rest left s z = z
-stay_first keep dropped (e ∷ here) rest left s z =
+stay_first : (keep : Bool) (dropped : ℕ) (here : List Event) (rest kept : List Event) → AllStay keep (shifted_events dropped here)
+    → AllZip IsMovedBack (staying keep dropped rest) kept
+    → AllZip IsMovedBack (staying keep dropped (shifted_events dropped here ++ rest)) (here ++ kept)
+stay_first keep dropped [] rest kept s z = z
+stay_first keep dropped (e ∷ here) rest kept s z =
     let b : event_stays keep (shifted_event dropped e) ≡ true = s.0 in
-    rw b (refl, stay_first keep dropped here rest left s.1 z)
+    rw b (refl, stay_first keep dropped here rest kept s.1 z)
 
 -- the bytes of events that stay
 stay_bytes : (keep : Bool) (events : List Event) → AllStay keep events → filter (event_stays keep) events ≡ events
@@ -145,8 +145,8 @@ stay_bytes keep [] s = refl
 stay_bytes keep (e ∷ events) s = let b : event_stays keep e ≡ true = s.0 in
     rw b (ap (λ (x : List Event). e ∷ x) (stay_bytes keep events s.1))
 
-pub left_more : (keep : Bool) (xs ys : List Event) → left_bytes keep (xs ++ ys) ≡ left_bytes keep xs ++ left_bytes keep ys
-left_more keep xs ys = ap consumed_by (filter-append (event_stays keep) xs ys)
+pub kept_more : (keep : Bool) (xs ys : List Event) → kept_bytes keep (xs ++ ys) ≡ kept_bytes keep xs ++ kept_bytes keep ys
+kept_more keep xs ys = ap consumed_by (filter-append (event_stays keep) xs ys)
     ∙ flat_map-append (λ (e : Event). e.consumed) (filter (event_stays keep) xs) (filter (event_stays keep) ys)
 
 -- the bytes of the sections that stay
@@ -155,26 +155,26 @@ kept_bytes keep frames = flat_map frame_bytes (filter (frame_stays keep) frames)
 
 -- What is left of the events of sections, of which the first begins at this offset after so many bytes were dropped, and of
 -- events after them.
-pub record LeftOf (keep : Bool) (features : ℕ) (encoding : Encoding) (at dropped : ℕ) (frames : List SectionFrame)
-    (inner rest left : List Event) : Type 0 where
+pub record KeptOf (keep : Bool) (features : ℕ) (encoding : Encoding) (at dropped : ℕ) (frames : List SectionFrame)
+    (inner rest kept : List Event) : Type 0 where
   pub others : List Event
   pub sections : FramesEvents features encoding at (filter (frame_stays keep) frames) others
-  pub moved : AllZip IsMovedBack (staying keep dropped (inner ++ rest)) (others ++ left)
-  pub bytes : left_bytes keep inner ≡ kept_bytes keep frames
+  pub moved : AllZip IsMovedBack (staying keep dropped (inner ++ rest)) (others ++ kept)
+  pub bytes : kept_bytes keep inner ≡ kept_bytes keep frames
 
 -- what is left of events after those of sections, however many bytes of the sections were dropped
-abbrev pub LeftAfter : (keep : Bool) (at dropped : ℕ) (frames : List SectionFrame) (rest left : List Event) → Type 0
-LeftAfter keep at dropped frames rest left =
+abbrev pub KeptAfter : (keep : Bool) (at dropped : ℕ) (frames : List SectionFrame) (rest kept : List Event) → Type 0
+KeptAfter keep at dropped frames rest kept =
     (total : ℕ) → at + dropped + length (flat_map frame_bytes frames) ≡ at + length (kept_bytes keep frames) + total
-    → AllZip IsMovedBack (staying keep total rest) left
+    → AllZip IsMovedBack (staying keep total rest) kept
 
 -- one section that stays
-left_stays : (keep : Bool) (features : ℕ) (encoding : Encoding) (at dropped : ℕ) (f : SectionFrame) (frames : List SectionFrame)
-    (first more rest left : List Event) → FrameEvents features encoding (at + dropped) f first
+kept_stays : (keep : Bool) (features : ℕ) (encoding : Encoding) (at dropped : ℕ) (f : SectionFrame) (frames : List SectionFrame)
+    (first more rest kept : List Event) → FrameEvents features encoding (at + dropped) f first
     → frame_stays keep f ≡ true → AllStay keep first → consumed_by first ≡ frame_bytes f
-    → LeftOf keep features encoding (at + length (frame_bytes f)) dropped frames more rest left
-    → LeftOf keep features encoding at dropped (f ∷ frames) (first ++ more) rest left
-left_stays keep features encoding at dropped f frames first more rest left h s a c t =
+    → KeptOf keep features encoding (at + length (frame_bytes f)) dropped frames more rest kept
+    → KeptOf keep features encoding at dropped (f ∷ frames) (first ++ more) rest kept
+kept_stays keep features encoding at dropped f frames first more rest kept h s a c t =
     let (here, e, m) = ((frames_read_the_same encoding [] [] f refl).1 features at dropped first).0 h in
     let m' : first ≡ shifted_events dropped here = m in
     record {
@@ -182,38 +182,38 @@ left_stays keep features encoding at dropped f frames first more rest left h s a
       sections = rw s (here, t.others, refl, e, t.sections);
       moved = subst₂ (λ (x y : List Event). AllZip IsMovedBack (staying keep dropped x) y)
           (ap (λ (x : List Event). x ++ (more ++ rest)) (sym m') ∙ sym (append_assoc first more rest))
-          (sym (append_assoc here t.others left))
-          (stay_first keep dropped here (more ++ rest) (t.others ++ left) (subst (AllStay keep) m' a) t.moved);
-      bytes = rw s (left_more keep first more ∙ (λ i. (ap consumed_by (stay_bytes keep first a) ∙ c) i ++ t.bytes i));
+          (sym (append_assoc here t.others kept))
+          (stay_first keep dropped here (more ++ rest) (t.others ++ kept) (subst (AllStay keep) m' a) t.moved);
+      bytes = rw s (kept_more keep first more ∙ (λ i. (ap consumed_by (stay_bytes keep first a) ∙ c) i ++ t.bytes i));
     }
 
 -- one section that is dropped
-left_goes : (keep : Bool) (features : ℕ) (encoding : Encoding) (at dropped : ℕ) (f : SectionFrame) (frames : List SectionFrame) (e : Event)
-    (more rest left : List Event) → frame_stays keep f ≡ false
+kept_goes : (keep : Bool) (features : ℕ) (encoding : Encoding) (at dropped : ℕ) (f : SectionFrame) (frames : List SectionFrame) (e : Event)
+    (more rest kept : List Event) → frame_stays keep f ≡ false
     → event_stays keep e ≡ false → e.consumed ≡ frame_bytes f
-    → LeftOf keep features encoding at (dropped + length (frame_bytes f)) frames more rest left
-    → LeftOf keep features encoding at dropped (f ∷ frames) (e ∷ more) rest left
-left_goes keep features encoding at dropped f frames e more rest left s g c t =
+    → KeptOf keep features encoding at (dropped + length (frame_bytes f)) frames more rest kept
+    → KeptOf keep features encoding at dropped (f ∷ frames) (e ∷ more) rest kept
+kept_goes keep features encoding at dropped f frames e more rest kept s g c t =
     let n : dropped + length (frame_bytes f) ≡ dropped + length e.consumed = ap (λ (x : List ℕ). dropped + length x) (sym c) in
     record {
       others = t.others;
       sections = rw s t.sections;
-      moved = rw g (subst (λ (x : ℕ). AllZip IsMovedBack (staying keep x (more ++ rest)) (t.others ++ left)) n t.moved);
+      moved = rw g (subst (λ (x : ℕ). AllZip IsMovedBack (staying keep x (more ++ rest)) (t.others ++ kept)) n t.moved);
       bytes = rw (s, g) t.bytes;
     }
 
 -- all sections
-pub left_of : (keep : Bool) (features : ℕ) (encoding : Encoding) (at dropped : ℕ) (frames : List SectionFrame)
-    (inner rest left : List Event) → All (IsFrame encoding) frames → FramesEvents features encoding (at + dropped) frames inner
-    → LeftAfter keep at dropped frames rest left → LeftOf keep features encoding at dropped frames inner rest left
-left_of keep features encoding at dropped [] inner rest left a i k =
-    subst (λ (x : List Event). LeftOf keep features encoding at dropped [] x rest left) (sym i)
+pub kept_of : (keep : Bool) (features : ℕ) (encoding : Encoding) (at dropped : ℕ) (frames : List SectionFrame)
+    (inner rest kept : List Event) → All (IsFrame encoding) frames → FramesEvents features encoding (at + dropped) frames inner
+    → KeptAfter keep at dropped frames rest kept → KeptOf keep features encoding at dropped frames inner rest kept
+kept_of keep features encoding at dropped [] inner rest kept a i k =
+    subst (λ (x : List Event). KeptOf keep features encoding at dropped [] x rest kept) (sym i)
     (record { others = []; sections = refl; moved = k dropped (omega arith); bytes = refl })
-left_of keep features encoding at dropped (f ∷ frames) inner rest left a (first, more, w, h, t) k =
-    subst (λ (x : List Event). LeftOf keep features encoding at dropped (f ∷ frames) x rest left) (sym w)
+kept_of keep features encoding at dropped (f ∷ frames) inner rest kept a (first, more, w, h, t) k =
+    subst (λ (x : List Event). KeptOf keep features encoding at dropped (f ∷ frames) x rest kept) (sym w)
     (elim (frame_at keep features (at + dropped) encoding f first (All-head (IsFrame encoding) f frames a) h) [
-      | inl (s, b, c) ↦ left_stays keep features encoding at dropped f frames first more rest left h s b c
-          (left_of keep features encoding (at + length (frame_bytes f)) dropped frames more rest left
+      | inl (s, b, c) ↦ kept_stays keep features encoding at dropped f frames first more rest kept h s b c
+          (kept_of keep features encoding (at + length (frame_bytes f)) dropped frames more rest kept
           (All-tail (IsFrame encoding) f frames a) (subst (λ (x : ℕ). FramesEvents features encoding x frames more) (omega arith) t)
           (λ total e. k total (rw s (omega (
             arith,
@@ -221,10 +221,10 @@ left_of keep features encoding at dropped (f ∷ frames) inner rest left a (firs
             length-append (frame_bytes f) (flat_map frame_bytes frames),
             length-append (frame_bytes f) (kept_bytes keep frames),
           )))))
-      | inr (s, e, z, g, c) ↦ subst (λ (x : List Event). LeftOf keep features encoding at dropped (f ∷ frames) (x ++ more) rest left)
+      | inr (s, e, z, g, c) ↦ subst (λ (x : List Event). KeptOf keep features encoding at dropped (f ∷ frames) (x ++ more) rest kept)
           (sym z)
-          (left_goes keep features encoding at dropped f frames e more rest left s g c
-          (left_of keep features encoding at (dropped + length (frame_bytes f)) frames more rest left
+          (kept_goes keep features encoding at dropped f frames e more rest kept s g c
+          (kept_of keep features encoding at (dropped + length (frame_bytes f)) frames more rest kept
           (All-tail (IsFrame encoding) f frames a) (subst (λ (x : ℕ). FramesEvents features encoding x frames more) (omega arith) t)
           (λ total q. k total (rw s (omega (arith, q, length-append (frame_bytes f) (flat_map frame_bytes frames)))))))
     ])

@@ -5,8 +5,8 @@ use Rattle.wasm_grammar.specs.Reading.{Stream}
 use Rattle.wasm_feed.specs.Cursors.{feed_of}
 use Rattle.wasm_feed.specs.Strips.{FateComes}
 use Rattle.wasm_feed.specs.declared.stripping.Fate.{Fate}
-use Rattle.wasm_feed.proofs.LeftParts.{nothing_left, stays_left, goes_left, all_left, no_longer}
-use Rattle.wasm_feed.proofs.stripping.count_left.Goals as goal
+use Rattle.wasm_feed.proofs.KeptParts.{nothing_left, stays_kept, goes_kept, all_kept, no_longer}
+use Rattle.wasm_feed.proofs.stripping.count_kept.Goals as goal
 
 pub parts-init : goal.parts-init
 parts-init c =
@@ -43,24 +43,24 @@ overflow_add-count c =
     let bytes = c.args.bytes.now in
     let old = feed_of bytes c.parts.cursor in
     let new = feed_of bytes c.next_part.new.cursor in
-    let (left, h, n) = c.parts.invariant.comes in
+    let (kept, h, n) = c.parts.invariant.comes in
     let part = c.in_ok-part.part.bytes.now in
     let came = subst (λ (x : Fate). FateComes c.args.keep_names bytes h.0 part x new) c.in-Stays.is
     (c.in_ok-part.ensures.takes bytes h.0 h.1 c.requires) in
-    let within = no_longer c.args.keep_names bytes new (left ++ part) (stays_left c.args.keep_names bytes left old new h part came) in
-    omega (arith, within, n, c.requires, length-append left part)
+    let within = no_longer c.args.keep_names bytes new (kept ++ part) (stays_kept c.args.keep_names bytes kept old new h part came) in
+    omega (arith, within, n, c.requires, length-append kept part)
 
 pub parts-preserved-in-Stays : goal.parts-preserved-in-Stays
 parts-preserved-in-Stays c =
     let bytes = c.args.bytes.now in
     let old = feed_of bytes c.parts.cursor in
     let new = feed_of bytes c.next_part.new.cursor in
-    let (left, h, n) = c.parts.invariant.comes in
+    let (kept, h, n) = c.parts.invariant.comes in
     let part = c.in_ok-part.part.bytes.now in
     let came = subst (λ (x : Fate). FateComes c.args.keep_names bytes h.0 part x new) c.in-Stays.is
     (c.in_ok-part.ensures.takes bytes h.0 h.1 c.requires) in
     record {
-      comes = (left ++ part, stays_left c.args.keep_names bytes left old new h part came, omega (arith, n, length-append left part));
+      comes = (kept ++ part, stays_kept c.args.keep_names bytes kept old new h part came, omega (arith, n, length-append kept part));
       finished = c.in_ok-part.ensures.finished;
     }
 
@@ -69,19 +69,19 @@ parts-preserved c =
     let bytes = c.args.bytes.now in
     let old = feed_of bytes c.parts.cursor in
     let new = feed_of bytes c.next_part.new.cursor in
-    let (left, h, n) = c.parts.invariant.comes in
+    let (kept, h, n) = c.parts.invariant.comes in
     let part = c.in_ok-part.part.bytes.now in
     let came = subst (λ (x : Fate). FateComes c.args.keep_names bytes h.0 part x new) c.in-Goes.is
     (c.in_ok-part.ensures.takes bytes h.0 h.1 c.requires) in
-    record { comes = (left, goes_left c.args.keep_names bytes left old new h part came, n); finished = c.in_ok-part.ensures.finished }
+    record { comes = (kept, goes_kept c.args.keep_names bytes kept old new h part came, n); finished = c.in_ok-part.ensures.finished }
 
 pub returns-in-End-clause-counts : goal.returns-in-End-clause-counts
 returns-in-End-clause-counts c =
     let bytes = c.args.bytes.now in
     let old = feed_of bytes c.parts.cursor in
     let new = feed_of bytes c.next_part.new.cursor in
-    let (left, h, n) = c.parts.invariant.comes in
+    let (kept, h, n) = c.parts.invariant.comes in
     let part = c.in_ok-part.part.bytes.now in
     let came = subst (λ (x : Fate). FateComes c.args.keep_names bytes h.0 part x new) c.in-End.is
     (c.in_ok-part.ensures.takes bytes h.0 h.1 c.requires) in
-    (left, all_left c.args.keep_names bytes left old new h part came, n)
+    (kept, all_kept c.args.keep_names bytes kept old new h part came, n)

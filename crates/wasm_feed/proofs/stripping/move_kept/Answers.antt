@@ -1,11 +1,11 @@
 use Rattle.std.proofs.Common.{ℕ, List, Ok, Err, ◌∙◌, drop, take, refl, sym, ap, subst, arith}
 use Rattle.std.proofs.lemmas.Result.{err_from_is_err_and}
 use Rattle.wasm_feed.specs.Cursors.{feed_of}
-use Rattle.wasm_feed.specs.Strips.{FateComes, Passes, ReadsLeft, TakesPart}
+use Rattle.wasm_feed.specs.Strips.{FateComes, Passes, ReadsKept, TakesPart}
 use Rattle.wasm_feed.specs.declared.stripping.Fate.{Fate}
-use Rattle.wasm_feed.proofs.LeftInPlace.{mark_within, moves_on}
-use Rattle.wasm_feed.proofs.LeftParts.{nothing_left, stays_left, goes_left, all_left}
-use Rattle.wasm_feed.proofs.stripping.move_left.Goals as goal
+use Rattle.wasm_feed.proofs.KeptInPlace.{mark_within, moves_on}
+use Rattle.wasm_feed.proofs.KeptParts.{nothing_left, stays_kept, goes_kept, all_kept}
+use Rattle.wasm_feed.proofs.stripping.move_kept.Goals as goal
 
 pub parts-init : goal.parts-init
 parts-init g c =
@@ -42,11 +42,11 @@ parts-preserved-in-Stays g c =
     let passes = subst (λ (x : List ℕ). Passes x cursor.mark (Ok part) next.mark) c.deref.ensures.value c.in_ok-part.ensures.passes in
     let came = subst (λ (x : Fate). FateComes c.args.keep_names stream loop.comes.0 part.bytes.now x (feed_of bytes next)) c.in-Stays.is
     (takes stream loop.comes.0 loop.comes.1 c.requires) in
-    let left = stays_left c.args.keep_names stream (take c.parts.left bytes) (feed_of bytes cursor) (feed_of bytes next) loop.comes
+    let kept = stays_kept c.args.keep_names stream (take c.parts.kept bytes) (feed_of bytes cursor) (feed_of bytes next) loop.comes
     part.bytes.now came in
     record {
-      comes = moves_on c.args.keep_names stream bytes c.move_down.new.bytes.items part.bytes.now c.parts.left c.mark-start.result cursor
-          next c.mark-start.ensures loop.order loop.within passes c.move_down.ensures.items left;
+      comes = moves_on c.args.keep_names stream bytes c.move_down.new.bytes.items part.bytes.now c.parts.kept c.mark-start.result cursor
+          next c.mark-start.ensures loop.order loop.within passes c.move_down.ensures.items kept;
       finished = c.in_ok-part.ensures.finished;
       order = omega (arith, loop.order, passes.0);
       within = omega (arith, c.move_down.ensures.len, mark_within bytes part.bytes.now cursor.mark next.mark loop.within passes);
@@ -67,7 +67,7 @@ parts-preserved g c =
     let came = subst (λ (x : Fate). FateComes c.args.keep_names stream loop.comes.0 part.bytes.now x (feed_of bytes next)) c.in-Goes.is
     (takes stream loop.comes.0 loop.comes.1 c.requires) in
     record {
-      comes = goes_left c.args.keep_names stream (take c.parts.left bytes) (feed_of bytes cursor) (feed_of bytes next) loop.comes
+      comes = goes_kept c.args.keep_names stream (take c.parts.kept bytes) (feed_of bytes cursor) (feed_of bytes next) loop.comes
           part.bytes.now came;
       finished = c.in_ok-part.ensures.finished;
       order = omega (arith, loop.order, passes.0);
@@ -87,5 +87,5 @@ returns-in-End g c =
     c.in_ok-part.ensures.takes in
     let came = subst (λ (x : Fate). FateComes c.args.keep_names stream loop.comes.0 part.bytes.now x (feed_of bytes next)) c.in-End.is
     (takes stream loop.comes.0 loop.comes.1 c.requires) in
-    subst (ReadsLeft c.args.keep_names stream) (sym c.truncate.ensures.items)
-    (all_left c.args.keep_names stream (take c.parts.left bytes) (feed_of bytes cursor) (feed_of bytes next) loop.comes part.bytes.now came)
+    subst (ReadsKept c.args.keep_names stream) (sym c.truncate.ensures.items)
+    (all_kept c.args.keep_names stream (take c.parts.kept bytes) (feed_of bytes cursor) (feed_of bytes next) loop.comes part.bytes.now came)

@@ -15,13 +15,13 @@ use Rattle.wasm_parser.specs.ParserState.{ParserState, initial_state}
 use Rattle.wasm_parser.specs.Along.{Along, Came, ReadsEach}
 use Rattle.wasm_feed.specs.Feed.{Feed}
 use Rattle.wasm_feed.specs.Step.{answer_of, Steps}
-use Rattle.wasm_feed.specs.Stripped.{report_stays, event_stays, left_bytes, EndsWithFault}
-use Rattle.wasm_feed.specs.Strips.{IsFateOf, FateComes, IsFewer, HasLeft, ReadsLeft}
+use Rattle.wasm_feed.specs.Stripped.{report_stays, event_stays, kept_bytes, EndsWithFault}
+use Rattle.wasm_feed.specs.Strips.{IsFateOf, FateComes, IsFewer, HasKept, ReadsKept}
 use Rattle.wasm_feed.specs.declared.feeder.Step.TheVariants.{Parsed}
 use Rattle.wasm_feed.specs.declared.stripping.Fate.{Fate}
 use Rattle.wasm_feed.specs.declared.stripping.Fate.TheVariants.{Stays, Goes, End}
 use Rattle.wasm_feed.proofs.Stepping.{stepped}
-use Rattle.wasm_feed.proofs.LeftFrames.{left_more}
+use Rattle.wasm_feed.proofs.KeptFrames.{kept_more}
 use Rattle.wasm_base.specs.Features.{all_features}
 
 some_bytes : (n : ℕ) → nat_eq n 0 ≡ false → 0 < n
@@ -74,7 +74,7 @@ module _ (keep : Bool) (stream : List ℕ) (events : List Event) (f g : Feed) (a
 
 -- nothing is read yet
 pub nothing_left : (keep : Bool) (stream : List ℕ) (f : Feed) → f.state ≡ initial_state 0 all_features → f.held ≡ stream
-    → HasLeft keep stream f []
+    → HasKept keep stream f []
 nothing_left keep stream f s h = (
   [],
   subst₂ (λ (p : ParserState) (held : List ℕ). Along 0 all_features stream p held []) (sym s) (sym h)
@@ -82,50 +82,50 @@ nothing_left keep stream f s h = (
   refl,
 )
 
-one_stays : (keep : Bool) (e : Event) → event_stays keep e ≡ true → left_bytes keep (e ∷ []) ≡ e.consumed
+one_stays : (keep : Bool) (e : Event) → event_stays keep e ≡ true → kept_bytes keep (e ∷ []) ≡ e.consumed
 one_stays keep e s = rw s (append-nil e.consumed)
 
-one_goes : (keep : Bool) (e : Event) → event_stays keep e ≡ false → left_bytes keep (e ∷ []) ≡ []
+one_goes : (keep : Bool) (e : Event) → event_stays keep e ≡ false → kept_bytes keep (e ∷ []) ≡ []
 one_goes keep e s = rw s refl
 
-module _ (keep : Bool) (stream left : List ℕ) (f g : Feed) (h : HasLeft keep stream f left) where
+module _ (keep : Bool) (stream kept : List ℕ) (f g : Feed) (h : HasKept keep stream f kept) where
   -- a part that stays
-  pub stays_left : (bytes : List ℕ) → FateComes keep stream h.0 bytes Stays g → HasLeft keep stream g (left ++ bytes)
-  stays_left bytes (e, (s, a), c) = (
+  pub stays_kept : (bytes : List ℕ) → FateComes keep stream h.0 bytes Stays g → HasKept keep stream g (kept ++ bytes)
+  stays_kept bytes (e, (s, a), c) = (
     h.0 ++ e ∷ [],
     a,
-    (λ i. h.2 i ++ sym c i) ∙ (ap (λ (x : List ℕ). left_bytes keep h.0 ++ x) (sym (one_stays keep e s))
-        ∙ sym (left_more keep h.0 (e ∷ []))),
+    (λ i. h.2 i ++ sym c i) ∙ (ap (λ (x : List ℕ). kept_bytes keep h.0 ++ x) (sym (one_stays keep e s))
+        ∙ sym (kept_more keep h.0 (e ∷ []))),
   )
 
   -- a part that is dropped
-  pub goes_left : (bytes : List ℕ) → FateComes keep stream h.0 bytes Goes g → HasLeft keep stream g left
-  goes_left bytes (e, (s, a)) = (
+  pub goes_kept : (bytes : List ℕ) → FateComes keep stream h.0 bytes Goes g → HasKept keep stream g kept
+  goes_kept bytes (e, (s, a)) = (
     h.0 ++ e ∷ [],
     a,
-    h.2 ∙ (sym (append-nil (left_bytes keep h.0)) ∙ (ap (λ (x : List ℕ). left_bytes keep h.0 ++ x) (sym (one_goes keep e s))
-        ∙ sym (left_more keep h.0 (e ∷ [])))),
+    h.2 ∙ (sym (append-nil (kept_bytes keep h.0)) ∙ (ap (λ (x : List ℕ). kept_bytes keep h.0 ++ x) (sym (one_goes keep e s))
+        ∙ sym (kept_more keep h.0 (e ∷ [])))),
   )
 
   -- the end
-  pub all_left : (bytes : List ℕ) → FateComes keep stream h.0 bytes End g → ReadsLeft keep stream left
-  all_left bytes (offset, r) = record { events = h.0; offset = offset; reading = r; bytes = h.2 }
+  pub all_kept : (bytes : List ℕ) → FateComes keep stream h.0 bytes End g → ReadsKept keep stream kept
+  all_kept bytes (offset, r) = record { events = h.0; offset = offset; reading = r; bytes = h.2 }
 
-left_shorter : (keep : Bool) (events : List Event) → length (left_bytes keep events) ≤ length (consumed_by events)
-left_shorter keep [] = omega arith
-left_shorter keep (e ∷ events) = by_fate (event_stays keep e) (left_shorter keep events)
+kept_shorter : (keep : Bool) (events : List Event) → length (kept_bytes keep events) ≤ length (consumed_by events)
+kept_shorter keep [] = omega arith
+kept_shorter keep (e ∷ events) = by_fate (event_stays keep e) (kept_shorter keep events)
   where
-    by_fate : (b : Bool) → length (left_bytes keep events) ≤ length (consumed_by events)
+    by_fate : (b : Bool) → length (kept_bytes keep events) ≤ length (consumed_by events)
         → length (consumed_by (cond b (e ∷ filter (event_stays keep) events) (filter (event_stays keep) events))) ≤ length
         (e.consumed ++ consumed_by events)
-    by_fate true h = omega (arith, h, length-append e.consumed (left_bytes keep events), length-append e.consumed (consumed_by events))
+    by_fate true h = omega (arith, h, length-append e.consumed (kept_bytes keep events), length-append e.consumed (consumed_by events))
     by_fate false h = omega (arith, h, length-append e.consumed (consumed_by events))
 
 -- what is left is no longer than the stream
-pub no_longer : (keep : Bool) (stream : List ℕ) (f : Feed) (left : List ℕ) → HasLeft keep stream f left → length left ≤ length stream
-no_longer keep stream f left (events, a, e) =
-    let n : length left ≡ length (left_bytes keep events) = ap (λ (x : List ℕ). length x) e in
+pub no_longer : (keep : Bool) (stream : List ℕ) (f : Feed) (kept : List ℕ) → HasKept keep stream f kept → length kept ≤ length stream
+no_longer keep stream f kept (events, a, e) =
+    let n : length kept ≡ length (kept_bytes keep events) = ap (λ (x : List ℕ). length x) e in
     let w : length stream ≡ length (consumed_by events) + length f.held =
     ap (λ (x : List ℕ). length x) (answers_go_along.consumed 0 all_features stream f.state f.held events a)
     ∙ length-append (consumed_by events) f.held in
-    omega (arith, n, w, left_shorter keep events)
+    omega (arith, n, w, kept_shorter keep events)

@@ -4,8 +4,8 @@ use Rattle.std.proofs.lemmas.Grind.{common_steps}
 use Rattle.wasm_feed.specs.Cursors.{feed_of}
 use Rattle.wasm_feed.specs.Strips.{FateComes}
 use Rattle.wasm_feed.specs.declared.stripping.Fate.{Fate}
-use Rattle.wasm_feed.proofs.LeftParts.{nothing_left, stays_left, goes_left, all_left}
-use Rattle.wasm_feed.proofs.stripping.copy_left.Goals as goal
+use Rattle.wasm_feed.proofs.KeptParts.{nothing_left, stays_kept, goes_kept, all_kept}
+use Rattle.wasm_feed.proofs.stripping.copy_kept.Goals as goal
 
 pub parts-init : goal.parts-init
 parts-init g c =
@@ -16,7 +16,7 @@ parts-init g c =
         [],
         nothing_left c.args.keep_names bytes (feed_of bytes cursor) (c.over_all-cursor.ensures.parser ∙ c.new.ensures)
             (ap (λ (n : ℕ). drop n bytes) c.over_all-cursor.ensures.mark),
-        sym (append-nil c.args.left.now.items),
+        sym (append-nil c.args.kept.now.items),
       );
       finished = c.over_all-cursor.ensures.finished;
     }
@@ -36,13 +36,13 @@ parts-preserved-else-is_err g c =
     let part = c.in_ok-part.part.bytes.now in
     let came = subst (λ (x : Fate). FateComes c.args.keep_names bytes h.0 part x new) c.in-Stays.is
     (c.in_ok-part.ensures.takes bytes h.0 h.1 c.requires) in
-    let put : c.extend_from_slice.new.self.items ≡ c.parts.left.items ++ part = grind (arith, common_steps) in
+    let put : c.extend_from_slice.new.self.items ≡ c.parts.kept.items ++ part = grind (arith, common_steps) in
     record {
       comes = (
         more ++ part,
-        stays_left c.args.keep_names bytes more old new h part came,
+        stays_kept c.args.keep_names bytes more old new h part came,
         put
-            ∙ (ap (λ (x : List ℕ). x ++ part) all ∙ append_assoc c.args.left.now.items more part),
+            ∙ (ap (λ (x : List ℕ). x ++ part) all ∙ append_assoc c.args.kept.now.items more part),
       );
       finished = c.in_ok-part.ensures.finished;
     }
@@ -56,7 +56,7 @@ parts-preserved g c =
     let part = c.in_ok-part.part.bytes.now in
     let came = subst (λ (x : Fate). FateComes c.args.keep_names bytes h.0 part x new) c.in-Goes.is
     (c.in_ok-part.ensures.takes bytes h.0 h.1 c.requires) in
-    record { comes = (more, goes_left c.args.keep_names bytes more old new h part came, all); finished = c.in_ok-part.ensures.finished }
+    record { comes = (more, goes_kept c.args.keep_names bytes more old new h part came, all); finished = c.in_ok-part.ensures.finished }
 
 pub returns-in-End : goal.returns-in-End
 returns-in-End g c =
@@ -67,4 +67,4 @@ returns-in-End g c =
     let part = c.in_ok-part.part.bytes.now in
     let came = subst (λ (x : Fate). FateComes c.args.keep_names bytes h.0 part x new) c.in-End.is
     (c.in_ok-part.ensures.takes bytes h.0 h.1 c.requires) in
-    (more, all_left c.args.keep_names bytes more old new h part came, all)
+    (more, all_kept c.args.keep_names bytes more old new h part came, all)

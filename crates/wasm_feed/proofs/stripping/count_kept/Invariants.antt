@@ -1,12 +1,12 @@
 use Rattle.std.proofs.Common.{◌≡◌, true, ℕ, List, length}
 use Rattle.wasm_feed.specs.Cursors.{feed_of}
-use Rattle.wasm_feed.specs.Strips.{HasLeft}
-use Rattle.wasm_feed.proofs.stripping.count_left.Given as goal
+use Rattle.wasm_feed.specs.Strips.{HasKept}
+use Rattle.wasm_feed.proofs.stripping.count_kept.Given as goal
 
 -- what is left of the parts that came was counted
 abbrev pub invariant-parts : goal.invariant-parts
 invariant-parts l = record {
-  comes : (left : List ℕ) × HasLeft l.fn.keep_names l.fn.bytes (feed_of l.fn.bytes l.cursor) left × (l.count ≡ length left);
+  comes : (kept : List ℕ) × HasKept l.fn.keep_names l.fn.bytes (feed_of l.fn.bytes l.cursor) kept × (l.count ≡ length kept);
   finished : l.cursor.is_finished ≡ true;
 }
 
