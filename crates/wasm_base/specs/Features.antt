@@ -1,5 +1,5 @@
 -- Sets of features, as bits.
-use Rattle.std.specs.Prelude.{ℕ, Bool}
+use Rattle.std.specs.Prelude.{ℕ, Bool, List, [], ◌∷◌, codes}
 use Rattle.wasm_base.specs.Bits.{has_bit}
 use Rattle.wasm_base.specs.declared.features.WasmFeatures.{WasmFeatures}
 
@@ -15,6 +15,10 @@ takes_wide_limits features = has_bit features 0
 abbrev pub takes_import_groups : (features : ℕ) → Bool
 takes_import_groups features = has_bit features 1
 
--- all features
+-- the name and the bits of each feature
+abbrev pub feature_table : List (List ℕ × ℕ)
+feature_table = (codes "MEMORY64", 1) ∷ (codes "COMPACT_IMPORTS", 2) ∷ []
+
+-- the bits of all of them
 abbrev pub all_features : ℕ
 all_features = 3

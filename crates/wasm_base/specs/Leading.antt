@@ -1,5 +1,5 @@
 -- Bytes that say what follows them.
-use Rattle.std.specs.Prelude.{ℕ, ◌×◌, ◌-◌, ◌==◌, List, [], ◌∷◌, Option, Some, None, Ok, Err, if◌then◌else◌}
+use Rattle.std.specs.Prelude.{ℕ, ◌-◌, ◌==◌, List, [], ◌∷◌, Option, Some, None, Ok, Err, if◌then◌else◌}
 use Rattle.wasm_base.specs.FaultAt.{FaultAt}
 use Rattle.wasm_base.specs.Name.{byte_at}
 use Rattle.wasm_base.specs.Outcome.{Outcome, ◌>>=◌}

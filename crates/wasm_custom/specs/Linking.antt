@@ -1,6 +1,6 @@
 -- What a linker reads. Tool conventions, Linking, Linking Metadata Section.
 use Rattle.std.specs.declared.ops.Range.{Range}
-use Rattle.std.specs.Prelude.{ℕ, ◌×◌, ◌==◌, ◌||◌, not, Bool, List, [], ◌∷◌, Option, Some, None, Result, Ok, Err}
+use Rattle.std.specs.Prelude.{ℕ, ◌==◌, ◌||◌, not, Bool, List, [], ◌∷◌, Option, Some, None, Result, Ok, Err}
 use Rattle.std.specs.Prelude.{if◌then◌else◌}
 use Rattle.wasm_base.specs.Bits.{has_bit}
 use Rattle.wasm_base.specs.FaultAt.{FaultAt}

@@ -1,6 +1,6 @@
 -- What can be imported or exported. Core specification, Binary format, Types, External Types, and Modules, Export
 -- Section. Kind 0x20, a function of exactly the given type, is of the proposal for custom descriptors.
-use Rattle.std.specs.Prelude.{ℕ, ◌×◌, List, [], ◌∷◌}
+use Rattle.std.specs.Prelude.{ℕ, List, [], ◌∷◌}
 use Rattle.wasm_base.specs.Outcome.{Outcome}
 use Rattle.wasm_base.specs.Window.{Place}
 use Rattle.wasm_base.specs.declared.fault.Lead.TheVariants as Leads
