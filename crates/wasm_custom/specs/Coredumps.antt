@@ -1,5 +1,5 @@
 -- Core dumps. Tool conventions, Coredump.
-use Rattle.std.specs.Prelude.{ℕ, ℤ, List, [], ◌∷◌, length, None, Result, Ok, Err, map}
+use Rattle.std.specs.Prelude.{ℕ, ◌==◌, ℤ, List, [], ◌∷◌, length, None, Result, Ok, Err, map, if◌then◌else◌}
 use Rattle.wasm_base.specs.FaultAt.{FaultAt, at_offset}
 use Rattle.wasm_base.specs.Float.{bits_of_32, bits_of_64, u64_at}
 use Rattle.wasm_base.specs.Leading.{lookup_or}
