@@ -7,7 +7,6 @@ use Rattle.wasm_base.specs.Number.{unsigned_at}
 use Rattle.wasm_base.specs.Outcome.{Outcome, ◌>>=◌}
 use Rattle.wasm_base.specs.Window.{Place}
 use Rattle.wasm_base.specs.declared.fault.NumberKind.TheVariants.{VarU32, VarU64}
-use Rattle.wasm_items.specs.declared.limits.Limits.{Limits}
 
 -- whether a maximum is written
 abbrev pub has_maximum : (flags : ℕ) → Bool
@@ -40,8 +39,8 @@ unfoldable pub maximum_at : (flags : ℕ) → Place → Outcome (Option ℕ)
 maximum_at flags p = if has_maximum flags then some_limit_at p else Ok (None, p)
 
 -- a minimum, and a maximum if there is one, after their flags
-unfoldable pub limits_at : (flags : ℕ) → Place → Outcome Limits
+unfoldable pub limits_at : (flags : ℕ) → Place → Outcome (ℕ × Option ℕ)
 limits_at flags p = do
   initial ← limit_at p
   maximum ← maximum_at flags initial.1
-  Ok (record { initial = initial.0; maximum = maximum.0 }, maximum.1)
+  Ok ((initial.0, maximum.0), maximum.1)

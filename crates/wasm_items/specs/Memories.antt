@@ -29,8 +29,8 @@ memory_after_flags start flags p = do
     record {
       memory64 = is_wide flags;
       shared = is_shared flags;
-      initial = limits.0.initial;
-      maximum = limits.0.maximum;
+      initial = limits.0.0;
+      maximum = limits.0.1;
       page_size_log2 = page.0;
     },
     page.1,

@@ -22,8 +22,8 @@ table_after_flags element flags p = do
     record {
       element_type = element;
       table64 = is_wide flags;
-      initial = limits.0.initial;
-      maximum = limits.0.maximum;
+      initial = limits.0.0;
+      maximum = limits.0.1;
       shared = is_shared flags;
     },
     limits.1,

@@ -1,11 +1,11 @@
 // Imports.
-ghost use Rattle.std.specs.Prelude.{◌≡◌};
+ghost use Rattle.std.specs.Prelude.{◌≡◌, ◌<◌, length};
 ghost use Rattle.wasm_base.specs.Hints.{TakesNoMemory};
 ghost use Rattle.wasm_base.specs.Item.{ReadsAs};
 ghost use Rattle.wasm_base.specs.Outcome.{GivesBy};
 ghost use Rattle.wasm_base.specs.Window.{place, KeepsWindow};
 ghost use Rattle.wasm_base.specs.Features.{takes_import_groups};
-ghost use Rattle.wasm_items.specs.Imports.{form_of, group_parts, module_group_at, type_group_at};
+ghost use Rattle.wasm_items.specs.Imports.{group_parts, group_byte_at, module_group_at, type_group_at, single_at};
 
 use crate::exports::ExternalKind;
 use crate::types::{GlobalType, MemoryType, TableType, TagType};
@@ -83,7 +83,6 @@ pub enum Imports<'a> {
 
 /// A kind, and the type of it: of a function the index of its type, a u32.
 impl<'a> FromReader<'a> for TypeRef {
-    ghost use Rattle.wasm_base.specs.Features.{takes_import_groups};
     ghost use Rattle.wasm_items.specs.Imports.{type_ref_at};
 
     ghost meaning = { ReadsAs (λ ty. ty) type_ref_at };
@@ -103,7 +102,6 @@ impl<'a> FromReader<'a> for TypeRef {
 
 /// The name of a module, a name in it, and what it is.
 impl<'a> FromReader<'a> for Import<'a> {
-    ghost use Rattle.wasm_base.specs.Features.{takes_import_groups};
     ghost use Rattle.wasm_items.specs.Imports.{import_parts, import_at};
 
     ghost meaning = { ReadsAs import_parts import_at };
@@ -119,7 +117,6 @@ impl<'a> FromReader<'a> for Import<'a> {
 
 /// A name, and what it is.
 impl<'a> FromReader<'a> for ImportItemCompact<'a> {
-    ghost use Rattle.wasm_base.specs.Features.{takes_import_groups};
     ghost use Rattle.wasm_items.specs.Imports.{item_parts, item_at};
 
     ghost meaning = { ReadsAs item_parts item_at };
@@ -134,7 +131,6 @@ impl<'a> FromReader<'a> for ImportItemCompact<'a> {
 
 /// Its name is passed over whether or not it is UTF-8, which is seen when it is read.
 impl<'a> SkipItem<'a> for ImportItemCompact<'a> {
-    ghost use Rattle.wasm_base.specs.Features.{takes_import_groups};
     ghost use Rattle.wasm_items.specs.Imports.{passed_item_at};
 
     ghost passed_at = { passed_item_at };
@@ -147,27 +143,6 @@ impl<'a> SkipItem<'a> for ImportItemCompact<'a> {
     }
 }
 
-// How an item of an import section goes on after its two names.
-#[derive(Clone, Copy)]
-enum Form {
-    OneImport,
-    ModuleGroup,
-    TypeGroup,
-}
-
-fn form_after(name: &str, byte: u8) -> Form
-    ensures { result ≡ form_of name.now byte }
-{
-    if !name.is_empty() {
-        return Form::OneImport;
-    }
-    match byte {
-        0x7f => Form::ModuleGroup,
-        0x7e => Form::TypeGroup,
-        _ => Form::OneImport,
-    }
-}
-
 // Whether a reader takes groups.
 fn takes_groups(reader: &BinaryReader<'_>) -> bool
     ensures { result ≡ takes_import_groups reader.now.features }
@@ -175,27 +150,62 @@ fn takes_groups(reader: &BinaryReader<'_>) -> bool
     reader.features().contains(WasmFeatures::COMPACT_IMPORTS)
 }
 
-// Imports of one module, after the byte of such a group.
+// Passes over the byte of a group, which is this fault where groups aren't taken.
+fn pass_group_byte(fault: Fault, reader: &mut BinaryReader<'_>) -> Result<()>
+    requires { 0 < length (place reader.old).rest }
+    ensures gives { GivesBy (λ nothing. nothing) result reader.old reader.new (group_byte_at fault) }
+    ensures keeps { KeepsWindow reader.old reader.new }
+    ensures memory { TakesNoMemory result }
+{
+    if !takes_groups(reader) {
+        return Err(Error::new(fault, reader.original_position()));
+    }
+    reader.read_u8()?;
+    Ok(())
+}
+
+// Imports of one module.
 #[tactic(auto, unfolding(crate::specs::Imports::module_group_at))]
 fn read_module_group<'a>(module: &'a str, reader: &mut BinaryReader<'a>) -> Result<Imports<'a>>
+    requires { 0 < length (place reader.old).rest }
     ensures gives { GivesBy group_parts result reader.old reader.new (module_group_at «module».now) }
     ensures keeps { KeepsWindow reader.old reader.new }
     ensures memory { TakesNoMemory result }
 {
+    pass_group_byte(Fault::Compact7F, reader)?;
     let items = read_inner(reader)?;
     Ok(Imports::Compact1 { module, items })
 }
 
-// Imports of one module and one type, after the byte of such a group.
+// Imports of one module and one type.
 #[tactic(auto, unfolding(crate::specs::Imports::type_group_at))]
 fn read_type_group<'a>(module: &'a str, reader: &mut BinaryReader<'a>) -> Result<Imports<'a>>
+    requires { 0 < length (place reader.old).rest }
     ensures gives { GivesBy group_parts result reader.old reader.new (type_group_at «module».now) }
     ensures keeps { KeepsWindow reader.old reader.new }
     ensures memory { TakesNoMemory result }
 {
+    pass_group_byte(Fault::Compact7E, reader)?;
     let ty = reader.read()?;
     let names = read_inner(reader)?;
     Ok(Imports::Compact2 { module, ty, names })
+}
+
+// One import, after its names.
+#[tactic(auto, unfolding(crate::specs::Imports::single_at))]
+fn read_single<'a>(
+    start: u64,
+    module: &'a str,
+    name: &'a str,
+    reader: &mut BinaryReader<'a>,
+) -> Result<Imports<'a>>
+    ensures gives { GivesBy group_parts result reader.old reader.new
+        (single_at start «module».now name.now) }
+    ensures keeps { KeepsWindow reader.old reader.new }
+    ensures memory { TakesNoMemory result }
+{
+    let ty = reader.read()?;
+    Ok(Imports::Single(start, Import { module, name, ty }))
 }
 
 /// The name of a module and a name in it, and what is imported; or, where the second name is empty, the byte 0x7F or 0x7E and
@@ -204,35 +214,19 @@ fn read_type_group<'a>(module: &'a str, reader: &mut BinaryReader<'a>) -> Result
 /// Without the feature `COMPACT_IMPORTS` the byte is `Compact7F` or `Compact7E`, at it. The items of a group are passed
 /// over, with the faults of a skipped name and of a type; that their names are UTF-8 is seen when they are read.
 impl<'a> FromReader<'a> for Imports<'a> {
-    ghost use Rattle.wasm_base.specs.Features.{takes_import_groups};
     ghost use Rattle.wasm_items.specs.Imports.{group_parts, group_at};
 
     ghost meaning = { ReadsAs group_parts group_at };
 
-    #[tactic(auto, unfolding(crate::specs::Imports::group_at, crate::specs::Imports::single_at))]
+    #[tactic(auto, unfolding(crate::specs::Imports::group_at))]
     fn from_reader(reader: &mut BinaryReader<'a>) -> Result<Self> {
         let start = reader.original_position();
         let module = reader.read_string()?;
         let name = reader.read_string()?;
-        match form_after(name, reader.peek()?) {
-            Form::OneImport => {
-                let ty = reader.read()?;
-                Ok(Imports::Single(start, Import { module, name, ty }))
-            }
-            Form::ModuleGroup => {
-                if !takes_groups(reader) {
-                    return Err(Error::new(Fault::Compact7F, reader.original_position()));
-                }
-                reader.read_u8()?;
-                read_module_group(module, reader)
-            }
-            Form::TypeGroup => {
-                if !takes_groups(reader) {
-                    return Err(Error::new(Fault::Compact7E, reader.original_position()));
-                }
-                reader.read_u8()?;
-                read_type_group(module, reader)
-            }
+        match reader.peek()? {
+            0x7f if name.is_empty() => read_module_group(module, reader),
+            0x7e if name.is_empty() => read_type_group(module, reader),
+            _ => read_single(start, module, name, reader),
         }
     }
 }

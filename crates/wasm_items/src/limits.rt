@@ -8,15 +8,6 @@ ghost use Rattle.wasm_items.specs.Limits.{limit_at, maximum_at, limits_at};
 
 use wasm_base::{BinaryReader, Result};
 
-/// A minimum, and a maximum if there is one (core specification, Binary format, Types, Limits).
-#[derive(Drop)]
-pub(crate) struct Limits {
-    /// The minimum.
-    pub(crate) initial: u64,
-    /// The maximum.
-    pub(crate) maximum: Option<u64>,
-}
-
 /// The flag of limits with a maximum.
 pub(crate) const HAS_MAXIMUM: u8 = 1;
 
@@ -64,14 +55,15 @@ fn read_maximum(flags: u8, reader: &mut BinaryReader<'_>) -> Result<Option<u64>>
     }
 }
 
-/// Reads limits after their flags.
+/// Reads limits after their flags: a minimum, and a maximum if there is one (core specification, Binary format, Types,
+/// Limits).
 #[tactic(auto, unfolding(crate::specs::Limits::limits_at))]
-pub(crate) fn read_limits(flags: u8, reader: &mut BinaryReader<'_>) -> Result<Limits>
+pub(crate) fn read_limits(flags: u8, reader: &mut BinaryReader<'_>) -> Result<(u64, Option<u64>)>
     ensures gives { GivesBy (λ limits. limits) result reader.old reader.new (limits_at flags) }
     ensures keeps { KeepsWindow reader.old reader.new }
     ensures memory { TakesNoMemory result }
 {
     let initial = read_limit(reader)?;
     let maximum = read_maximum(flags, reader)?;
-    Ok(Limits { initial, maximum })
+    Ok((initial, maximum))
 }

@@ -46,13 +46,13 @@ impl<'a> FromReader<'a> for MemoryType {
         if flags > 15 {
             return Err(Error::new(Fault::MemoryFlags, start));
         }
-        let limits = read_limits(flags, reader)?;
+        let (initial, maximum) = read_limits(flags, reader)?;
         let page_size_log2 = read_page_size(start, flags, reader)?;
         Ok(MemoryType {
             memory64: has_flag(flags, IS_WIDE),
             shared: has_flag(flags, IS_SHARED),
-            initial: limits.initial,
-            maximum: limits.maximum,
+            initial,
+            maximum,
             page_size_log2,
         })
     }

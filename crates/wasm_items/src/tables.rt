@@ -48,12 +48,12 @@ impl<'a> FromReader<'a> for TableType {
         if flags > 7 {
             return Err(Error::new(Fault::TableFlags, start));
         }
-        let limits = read_limits(flags, reader)?;
+        let (initial, maximum) = read_limits(flags, reader)?;
         Ok(TableType {
             element_type,
             table64: has_flag(flags, IS_WIDE),
-            initial: limits.initial,
-            maximum: limits.maximum,
+            initial,
+            maximum,
             shared: has_flag(flags, IS_SHARED),
         })
     }
