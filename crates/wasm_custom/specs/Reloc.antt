@@ -1,7 +1,7 @@
 -- Relocations. Tool conventions, Linking, Relocation Sections.
 use Rattle.std.specs.declared.ops.Range.{Range}
-use Rattle.std.specs.Prelude.{◌≡◌, ◌↔◌, ℕ, ◌+◌, ◌-◌, ◌<◌, ℤ, pos, List, [], ◌∷◌, slice_get, Option, Some, None, Result, Ok}
-use Rattle.std.specs.Prelude.{Err, IsOk, IfOk}
+use Rattle.std.specs.Prelude.{◌≡◌, ◌↔◌, ℕ, ◌+◌, ◌-◌, ◌<◌, ℤ, pos, List, [], ◌∷◌, slice_get, Option, Some, None, Result}
+use Rattle.std.specs.Prelude.{Ok, Err, IsOk, IfOk}
 use Rattle.wasm_base.specs.FaultAt.{FaultAt}
 use Rattle.wasm_base.specs.Leading.{or_leading}
 use Rattle.wasm_base.specs.Name.{byte_at}
