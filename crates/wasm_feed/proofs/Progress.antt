@@ -1,8 +1,7 @@
 -- How far a listing has come, and what each turn does to it.
-use Rattle.std.proofs.Common.{◌≡◌, ℕ, ◌+◌, ◌-◌, ◌^◌, ◌<◌, ◌≤◌, Bool, true, false, if◌then◌else◌, List, [], ◌∷◌, ◌++◌, length, take, drop}
+use Rattle.std.proofs.Common.{◌≡◌, ℕ, ◌+◌, ◌-◌, ◌^◌, ◌<◌, ◌≤◌, Bool, true, false, if◌then◌else◌, List, [], ◌∷◌, ◌++◌, length, drop}
 use Rattle.std.proofs.Common.{Option, Some, None, IfSome, Result, Ok, Err, nat_lt, refl, sym, ap, subst, ◌∙◌, arith, append_assoc}
 use Rattle.std.proofs.Common.{append-nil, length-append, ltb-true, ltb-false, inl, inr}
-use Rattle.std.proofs.lemmas.List.{take-append-drop}
 use Rattle.std.specs.Io.KnownBytes.{Consumes, Appends, IsAtEnd, Keeps}
 use Rattle.std.proofs.KnownBytes.{Consumes-nil, Consumes-trans, Consumes-kept, Appends-nil, Appends-trans}
 use Rattle.wasm_base.specs.FaultAt.{fault_at, at_offset}
@@ -20,9 +19,9 @@ use Rattle.wasm_parser.proofs.ForCallers.{answers_go_along}
 use Rattle.wasm_feed.specs.Calls.{from_to}
 use Rattle.wasm_feed.specs.Feed.{Feed, new_feed, pushed, finished}
 use Rattle.wasm_feed.specs.Listing.{listing_by}
-use Rattle.wasm_feed.specs.Lists.{IsEndedBy, IsWhole, IsListed, Begins, Fills, Refills, ListsBy}
+use Rattle.wasm_feed.specs.Lists.{IsEndedBy, IsWhole, IsListed, Begins, IsBeginning, Fills, Refills, ListsBy}
 use Rattle.wasm_feed.specs.Progress.{weight, Progress, Wants}
-use Rattle.wasm_feed.specs.Page.{IsCut, PutsLine}
+use Rattle.wasm_feed.specs.Page.{WritesBeginning, IsCut, WritesOut, PutsBytes}
 use Rattle.wasm_feed.specs.Cursors.{feed_of}
 use Rattle.wasm_feed.specs.Step.{chunk_of, answer_of, shown, is_request, Stepped, Steps}
 use Rattle.wasm_feed.specs.declared.feeder.Cursor.{Cursor}
@@ -86,6 +85,13 @@ all_given : (eof : Bool) (given : List ℕ) → MayBe eof given given
 all_given true given = refl
 all_given false given = ([], sym (append-nil given))
 
+-- a page that could not be written out was cut
+pub cut_of : (taken written : Option (List ℕ)) (waiting new : List ℕ) (e : ListError) → WritesOut taken written waiting new (Err e)
+    → IsCut taken written waiting e
+cut_of taken written waiting new Output w = w
+cut_of taken written waiting new Input w = absurd w
+cut_of taken written waiting new Memory w = absurd w
+
 -- ---- what is listed: each event by the text of what it reports
 
 module _ (text_of : Report → List ℕ) where
@@ -122,10 +128,9 @@ module _ (text_of : Report → List ℕ) where
         ∙ (ap (λ (x : List ℕ). x ++ listing_by text_of r.more) e ∙ append_assoc lines more (listing_by text_of r.more)));
   }
 
-  -- a page of which so much was written
-  cut_page : (lines page : List ℕ) (n : ℕ) → lines ++ page ≡ (lines ++ take n page) ++ drop n page
-  cut_page lines page n = ap (λ (x : List ℕ). lines ++ x) (sym (take-append-drop n page))
-      ∙ sym (append_assoc lines (take n page) (drop n page))
+  -- a page of which a beginning was written
+  cut_page : (lines page moved unwritten : List ℕ) → page ≡ moved ++ unwritten → lines ++ page ≡ (lines ++ moved) ++ unwritten
+  cut_page lines page moved unwritten e = ap (λ (x : List ℕ). lines ++ x) e ∙ sym (append_assoc lines moved unwritten)
 
   -- a run that ends with this line, after these events
   record AtEnd (given : List ℕ) (events : List Event) (eof : Bool) (line : List ℕ) (how : Ended) : Type 0 where
@@ -169,17 +174,22 @@ module _ (text_of : Report → List ℕ) where
     }
 
     -- a beginning of those that waited is written
+    cut_beginning : (written' : Option (List ℕ)) → WritesBeginning written written' page
+        → IsBeginning text_of (from_to source rest) (from_to taken written')
+    cut_beginning written' w = record {
+      given = p.given;
+      shown = p.lines ++ w.moved;
+      gave = p.gave;
+      listed = Appends-trans taken written written' p.lines w.moved p.listed w.wrote;
+      begins = λ l. begins_listing p.given p.events (p.lines ++ w.moved) w.unwritten begins_here
+          (p.parts ∙ cut_page p.lines page w.moved w.unwritten w.parts);
+    }
+
     pub cut : (written' : Option (List ℕ)) (e : ListError) → IsCut written written' page e
         → ListsBy text_of (from_to source rest) (from_to taken written') (Err e)
-    cut written' Output (n, w) = record {
-      given = p.given;
-      shown = p.lines ++ take n page;
-      gave = p.gave;
-      listed = Appends-trans taken written written' p.lines (take n page) p.listed w;
-      begins = λ l. begins_listing p.given p.events (p.lines ++ take n page) (drop n page) begins_here (p.parts ∙ cut_page p.lines page n);
-    }
+    cut written' Output w = cut_beginning written' w
+    cut written' Memory w = cut_beginning written' w
     cut written' Input w = absurd w
-    cut written' Memory w = absurd w
 
     -- no memory for what came
     pub no_memory : (rest' : Option (List ℕ)) (piece : List ℕ) → Consumes rest rest' piece
@@ -194,26 +204,26 @@ module _ (text_of : Report → List ℕ) where
     }
 
     -- the line of an event was put after those that waited
-    put_line : (written' : Option (List ℕ)) (line page' : List ℕ) (e : Event) (w : PutsLine written written' page line page') → line
+    put_line : (written' : Option (List ℕ)) (line page' : List ℕ) (e : Event) (w : PutsBytes written written' page line page') → line
         ≡ text_of e.report
-        → Appends taken written' (p.lines ++ w.lines) × (listing_by text_of (p.events ++ e ∷ []) ≡ (p.lines ++ w.lines) ++ page')
+        → Appends taken written' (p.lines ++ w.moved) × (listing_by text_of (p.events ++ e ∷ []) ≡ (p.lines ++ w.moved) ++ page')
     put_line written' line page' e w same = (
-      Appends-trans taken written written' p.lines w.lines p.listed w.writes,
+      Appends-trans taken written written' p.lines w.moved p.listed w.writes,
       one_more p.events e ∙ (ap (λ (x : List ℕ). x ++ text_of e.report) p.parts
           ∙ (append_assoc p.lines page (text_of e.report) ∙ (ap (λ (x : List ℕ). p.lines ++ (page ++ x)) (sym same) ∙ waits_after))),
     )
       where
-        waits_after : p.lines ++ (page ++ line) ≡ (p.lines ++ w.lines) ++ page'
-        waits_after = ap (λ (x : List ℕ). p.lines ++ x) w.waits ∙ sym (append_assoc p.lines w.lines page')
+        waits_after : p.lines ++ (page ++ line) ≡ (p.lines ++ w.moved) ++ page'
+        waits_after = ap (λ (x : List ℕ). p.lines ++ x) w.waits ∙ sym (append_assoc p.lines w.moved page')
 
     -- the listing of a reading that ends here, of which a part waits
-    last_line : (written' : Option (List ℕ)) (line page' : List ℕ) (end : Ending) (w : PutsLine written written' page line page') → line
+    last_line : (written' : Option (List ℕ)) (line page' : List ℕ) (end : Ending) (w : PutsBytes written written' page line page') → line
         ≡ text_of (stream_end end)
         → (written'' : Option (List ℕ)) → Appends written' written'' page'
         → Appends taken written'' (listing_by text_of (p.events ++ last_event end ∷ []))
     last_line written' line page' end w same written'' v =
         let (wrote, parts) = put_line written' line page' (last_event end) w same in
-        subst (Appends taken written'') (sym parts) (Appends-trans taken written' written'' (p.lines ++ w.lines) page' wrote v)
+        subst (Appends taken written'') (sym parts) (Appends-trans taken written' written'' (p.lines ++ w.moved) page' wrote v)
 
     -- the source's whole input is one of the streams that begin with what it gave
     whole_input : (events : List Event) → ReadsEach 0 all_features f.eof p.given events → IsWhole source p.given events
@@ -239,7 +249,7 @@ module _ (text_of : Report → List ℕ) where
 
       -- an event that isn't the last one
       went_on : (bytes : _) (payload : Payload) → (s : Steps f (Ok (Parsed bytes payload)) g) → is_end (report_of payload) ≡ false
-          → (written' : Option (List ℕ)) (page' : List ℕ) → PutsLine written written' page (text_of (report_of payload)) page'
+          → (written' : Option (List ℕ)) (page' : List ℕ) → PutsBytes written written' page (text_of (report_of payload)) page'
           → Progress text_of (from_to source rest) (from_to taken written') g page' × (weight g < weight f)
       went_on bytes payload s n written' page' w =
           let came : Came 0 all_features f.eof p.given p.events bytes.now payload g.state g.held =
@@ -256,7 +266,7 @@ module _ (text_of : Report → List ℕ) where
               is_along = after;
               gave = p.gave;
               at_end = λ e. p.at_end (sym s.eof ∙ e);
-              lines = p.lines ++ w.lines;
+              lines = p.lines ++ w.moved;
               listed = wrote;
               parts = parts;
             },
@@ -266,7 +276,7 @@ module _ (text_of : Report → List ℕ) where
     -- ---- the turns
 
     module _ (g : Feed) (x : Result Step Error) (s : Steps f x g) (written' : Option (List ℕ)) (page' : List ℕ)
-        (w : PutsLine written written' page (text_after text_of x) page') where
+        (w : PutsBytes written written' page (text_after text_of x) page') where
       -- an event that isn't the last one: there is less to consume
       pub advanced : turn.Advance ≡ turn_after x → Progress text_of (from_to source rest) (from_to taken written') g page'
           × (weight g < weight f)
@@ -278,7 +288,7 @@ module _ (text_of : Report → List ℕ) where
           by_end bytes payload true e t is = cc
           by_end bytes payload false e t is =
               let s' = subst (λ y. Steps f y g) is s in
-              went_on g bytes payload s' e written' page' (subst (λ y. PutsLine written written' page (text_after text_of y) page') is w)
+              went_on g bytes payload s' e written' page' (subst (λ y. PutsBytes written written' page (text_after text_of y) page') is w)
 
           by_answer : (y : Result Step Error) → x ≡ y → turn.Advance ≡ turn_after y
               → Progress text_of (from_to source rest) (from_to taken written') g page'
@@ -299,7 +309,7 @@ module _ (text_of : Report → List ℕ) where
               × (weight g ≡ weight f)
           request hint is =
               let s' = subst (λ y. Steps f y g) is s in
-              let w' = subst (λ y. PutsLine written written' page (text_after text_of y) page') is w in
+              let w' = subst (λ y. PutsBytes written written' page (text_after text_of y) page') is w in
               let l = given_below g (NeedMoreData hint) s' in
               let (u, a) = stepped g (Ok (NeedMoreData hint)) s' l in
               let stays : g.state ≡ f.state = answers_go_along.becomes f.state g.state f.eof f.held (answer_of (Ok (NeedMoreData hint)))
@@ -311,10 +321,10 @@ module _ (text_of : Report → List ℕ) where
                     is_along = a;
                     gave = p.gave;
                     at_end = λ e. p.at_end (sym s.eof ∙ e);
-                    lines = p.lines ++ w'.lines;
-                    listed = Appends-trans taken written written' p.lines w'.lines p.listed w'.writes;
+                    lines = p.lines ++ w'.moved;
+                    listed = Appends-trans taken written written' p.lines w'.moved p.listed w'.writes;
                     parts = p.parts ∙ (ap (λ (z : List ℕ). p.lines ++ z) (sym (append-nil page) ∙ w'.waits)
-                        ∙ sym (append_assoc p.lines w'.lines page'));
+                        ∙ sym (append_assoc p.lines w'.moved page'));
                   };
                   hint = hint;
                   undecided = subst (λ b. IsUndecided g.state b g.held hint) (sym s.eof) u;
@@ -391,24 +401,28 @@ module _ (text_of : Report → List ℕ) where
           }
 
       -- the last lines were cut
-      pub end_cut : (how : Ended) → turn.End how ≡ turn_after x → (written'' : Option (List ℕ)) (e : ListError)
-          → IsCut written' written'' page' e → ListsBy text_of (from_to source rest) (from_to taken written'') (Err e)
-      end_cut how t written'' Output (n, v) =
+      end_beginning : (how : Ended) → turn.End how ≡ turn_after x → (written'' : Option (List ℕ))
+          → WritesBeginning written' written'' page' → IsBeginning text_of (from_to source rest) (from_to taken written'')
+      end_beginning how t written'' v =
           let a = end_at how t in
           let (wrote, parts) = put_line written' (text_after text_of x) page' (last_event a.end) w a.same in
           record {
             given = p.given;
-            shown = (p.lines ++ w.lines) ++ take n page';
+            shown = (p.lines ++ w.moved) ++ v.moved;
             gave = p.gave;
-            listed = Appends-trans taken written' written'' (p.lines ++ w.lines) (take n page') wrote v;
-            begins = λ l. begins_listing p.given (p.events ++ last_event a.end ∷ []) ((p.lines ++ w.lines) ++ take n page') (drop n page')
+            listed = Appends-trans taken written' written'' (p.lines ++ w.moved) v.moved wrote v.wrote;
+            begins = λ l. begins_listing p.given (p.events ++ last_event a.end ∷ []) ((p.lines ++ w.moved) ++ v.moved) v.unwritten
                 (whole_begins 0 all_features true p.given (p.events ++ last_event a.end ∷ [])
                 (λ stream m. subst (λ (y : List ℕ). Reading y 0 all_features (p.events ++ last_event a.end ∷ [])) (sym m)
                 (a.within l p.given (all_given f.eof p.given))) p.given refl)
-                (parts ∙ cut_page (p.lines ++ w.lines) page' n);
+                (parts ∙ cut_page (p.lines ++ w.moved) page' v.moved v.unwritten v.parts);
           }
+
+      pub end_cut : (how : Ended) → turn.End how ≡ turn_after x → (written'' : Option (List ℕ)) (e : ListError)
+          → IsCut written' written'' page' e → ListsBy text_of (from_to source rest) (from_to taken written'') (Err e)
+      end_cut how t written'' Output v = end_beginning how t written'' v
+      end_cut how t written'' Memory v = end_beginning how t written'' v
       end_cut how t written'' Input v = absurd v
-      end_cut how t written'' Memory v = absurd v
 
   -- ---- a read
 

@@ -40,7 +40,7 @@ fn put_answer<A: Allocator, W: Sink>(
     answer: &ParserResult<Step<'_>>,
 ) -> Result<Turn, ListError>
     ensures takes { TakesTurn (W.taken output.old) (W.taken output.new)
-        page.old.bytes.items page.new.bytes.items answer.now result }
+        page.old page.new answer.now result }
     ensures failed { W.has_failed output.new ≡ output_failed result (W.has_failed output.old) }
 {
     match answer {
@@ -76,7 +76,7 @@ pub fn list_in<A: Allocator + Copy, R: Source, W: Sink>(
     ensures output { W.has_failed output.new ≡ output_failed result (W.has_failed output.old) }
 {
     let mut room = vec![in alloc; 0u8; piece]?;
-    let mut page = Page::new(alloc)?;
+    let mut page = Page::new(alloc);
     let mut line = Line::new();
     let mut stored = Vec::new(alloc);
     let mut cursor = Cursor::new(Parser::new(0));
