@@ -1,5 +1,6 @@
 pub mod Adding
 pub mod ByHand
+pub mod Cut
 pub mod Decimal
 pub mod ForCallers
 pub mod Joining

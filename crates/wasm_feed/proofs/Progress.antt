@@ -1,7 +1,7 @@
 -- How far a listing has come, and what each turn does to it.
-use Rattle.std.proofs.Common.{◌≡◌, ℕ, ◌+◌, ◌-◌, ◌^◌, ◌<◌, ◌≤◌, Bool, true, false, if◌then◌else◌, List, [], ◌∷◌, ◌++◌, length, drop}
-use Rattle.std.proofs.Common.{Option, Some, None, IfSome, Result, Ok, Err, nat_lt, refl, sym, ap, subst, ◌∙◌, arith, append_assoc}
-use Rattle.std.proofs.Common.{append-nil, length-append, ltb-true, ltb-false, inl, inr}
+use Rattle.std.proofs.Common.{◌≡◌, ℕ, ◌+◌, ◌^◌, ◌<◌, ◌≤◌, Bool, true, false, if◌then◌else◌, List, [], ◌∷◌, ◌++◌, length, drop}
+use Rattle.std.proofs.Common.{Option, Some, None, IfSome, Result, Ok, Err, refl, sym, ap, subst, ◌∙◌, arith, append_assoc}
+use Rattle.std.proofs.Common.{append-nil, length-append, inl, inr}
 use Rattle.std.specs.Io.KnownBytes.{Consumes, Appends, IsAtEnd, Keeps}
 use Rattle.std.proofs.KnownBytes.{Consumes-nil, Consumes-trans, Consumes-kept, Appends-nil, Appends-trans}
 use Rattle.wasm_base.specs.FaultAt.{fault_at, at_offset}
@@ -11,17 +11,16 @@ use Rattle.wasm_grammar.specs.Content.{Ending, fault, ended}
 use Rattle.wasm_grammar.specs.EventRanges.{consumed_by}
 use Rattle.wasm_parser.specs.GivesNextEvent.{MayBe, IsUndecided}
 use Rattle.wasm_parser.specs.ParseAnswer.{report_of, is_end, ParseAnswer}
-use Rattle.wasm_parser.specs.ParserState.{ParserState}
 use Rattle.wasm_grammar.specs.Reading.{Report, stream_end, Event, events_of, last_event, Reading}
 use Rattle.wasm_parser.specs.declared.payload.Payload.{Payload}
-use Rattle.wasm_parser.specs.Along.{Along, ReadingBegins, BeginsEach, ReadsEach, Came}
+use Rattle.wasm_parser.specs.Along.{ReadingBegins, BeginsEach, ReadsEach, Came}
 use Rattle.wasm_parser.proofs.ForCallers.{answers_go_along}
 use Rattle.wasm_feed.specs.Calls.{from_to}
 use Rattle.wasm_feed.specs.Feed.{Feed, new_feed, pushed, finished}
 use Rattle.wasm_feed.specs.Listing.{listing_by}
 use Rattle.wasm_feed.specs.Lists.{IsEndedBy, IsWhole, IsListed, Begins, IsBeginning, Fills, Refills, ListsBy}
 use Rattle.wasm_feed.specs.Progress.{weight, Progress, Wants}
-use Rattle.wasm_feed.specs.Page.{WritesBeginning, IsCut, WritesOut, PutsBytes}
+use Rattle.wasm_feed.specs.Page.{WritesBeginning, IsCut, PutsBytes}
 use Rattle.wasm_feed.specs.Cursors.{feed_of}
 use Rattle.wasm_feed.specs.Step.{chunk_of, answer_of, shown, is_request, Stepped, Steps}
 use Rattle.wasm_feed.specs.declared.feeder.Cursor.{Cursor}
@@ -84,13 +83,6 @@ ends_well (fault f) r e t = let no : false ≡ true = sym (ap is_end e) ∙ t in
 all_given : (eof : Bool) (given : List ℕ) → MayBe eof given given
 all_given true given = refl
 all_given false given = ([], sym (append-nil given))
-
--- a page that could not be written out was cut
-pub cut_of : (taken written : Option (List ℕ)) (waiting new : List ℕ) (e : ListError) → WritesOut taken written waiting new (Err e)
-    → IsCut taken written waiting e
-cut_of taken written waiting new Output w = w
-cut_of taken written waiting new Input w = absurd w
-cut_of taken written waiting new Memory w = absurd w
 
 -- ---- what is listed: each event by the text of what it reports
 

@@ -4,7 +4,8 @@ use Rattle.std.proofs.lemmas.Result.{err_from_is_err_and}
 use Rattle.std.proofs.KnownBytes.{Consumes-nil}
 use Rattle.wasm_feed.specs.Cursors.{feed_of}
 use Rattle.wasm_feed.specs.Listing.{line_of}
-use Rattle.wasm_feed.proofs.Progress.{begun, no_memory, cut_of, cut, wants_written, steps_by, advanced, asked, listed_all, end_cut, filled}
+use Rattle.wasm_feed.proofs.Cut.{cut_of}
+use Rattle.wasm_feed.proofs.Progress.{begun, no_memory, cut, wants_written, steps_by, advanced, asked, listed_all, end_cut, filled}
 use Rattle.wasm_feed.proofs.Progress.{not_filled}
 use Rattle.wasm_feed.proofs.listing.list_in.Goals as goal
 
@@ -15,7 +16,7 @@ returns-in_err-room-clause-lists g c =
 
 pub events-init : goal.events-init
 events-init g c = record {
-  progress = rw (c.new-stored.ensures.items, c.new-cursor.ensures, c.new-2.ensures, c.new-page.ensures)
+  progress = rw (c.new-stored.ensures.items, c.new-cursor.ensures, c.new.ensures, c.new-page.ensures)
       (begun line_of _ _);
   input = refl;
   output = refl;
@@ -53,7 +54,7 @@ returns-in_err-write_out-in-Read-clause-lists g c =
     let t = c.in_ok-turn.ensures.takes in
     let asks = (asked line_of _ _ _ _ _ _ c.events.invariant.progress _ _ s _ _ t.0 (sym c.in-Read.is ∙ t.1)).0 in
     let e = err_from_is_err_and c.from_residual-in_err-write_out-in-Read.result c.from_residual-in_err-write_out-in-Read.ensures.1 in
-    rw (e.1, e.2) (cut line_of _ _ _ _ _ _ asks.progress _ _ (cut_of _ _ _ _ _ c.in_err-write_out-in-Read.ensures.writes))
+    rw (e.1, e.2) (cut line_of _ _ _ _ _ _ asks.progress _ _ (cut_of _ _ _ _ c.in_err-write_out-in-Read.ensures.writes))
 
 pub returns-in_err-read_more-in-Read-clause-lists : goal.returns-in_err-read_more-in-Read-clause-lists
 returns-in_err-read_more-in-Read-clause-lists g c =
@@ -99,7 +100,7 @@ returns-in_err-write_out-in-End-clause-lists g c =
     let t = c.in_ok-turn.ensures.takes in
     let e = err_from_is_err_and c.from_residual-in_err-write_out-in-End.result c.from_residual-in_err-write_out-in-End.ensures.1 in
     rw (e.1, e.2) (end_cut line_of _ _ _ _ _ _ c.events.invariant.progress _ _ s _ _ t.0 _ (sym c.in-End.is ∙ t.1) _ _
-    (cut_of _ _ _ _ _ c.in_err-write_out-in-End.ensures.writes))
+    (cut_of _ _ _ _ c.in_err-write_out-in-End.ensures.writes))
 
 pub returns-in-End-clause-lists : goal.returns-in-End-clause-lists
 returns-in-End-clause-lists g c =
