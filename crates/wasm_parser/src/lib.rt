@@ -1,6 +1,7 @@
 //! The parser of WebAssembly modules and of components' headers.
 #![tactic(auto)]
 
+mod checkpoint;
 mod contents;
 mod header;
 pub mod laws;
@@ -9,6 +10,7 @@ mod parser;
 mod payload;
 mod state;
 
+pub use checkpoint::Checkpoint;
 pub use parse_all::ParseAll;
 pub use parser::Parser;
 pub use payload::Chunk;

@@ -6,6 +6,7 @@ ghost use Rattle.wasm_base.specs.Window.{place, window_over};
 ghost use Rattle.wasm_grammar.specs.Accepted.{begins_with_header};
 ghost use Rattle.wasm_grammar.specs.Content.{kind_of};
 ghost use Rattle.wasm_grammar.specs.KindInCode.{kind_is};
+ghost use Rattle.wasm_parser.specs.Checkpoint.{state_of};
 ghost use Rattle.wasm_parser.specs.GivesNextEvent.{GivesNextEvent};
 ghost use Rattle.wasm_parser.specs.ParseAll.{walk_over, WalksWhole};
 ghost use Rattle.wasm_parser.specs.ParseAnswer.{Advances, AsksForSome, Consumes, ParseAnswer, FaultsWithin, IsUnchanged, report_of};
@@ -16,6 +17,7 @@ ghost use Rattle.wasm_parser.specs.StateAfter.{knowing, missing_bytes};
 ghost use Rattle.wasm_parser.specs.AsksWhereOpen.{AsksWhereOpen};
 ghost use Rattle.wasm_grammar.specs.declared.encoding.Encoding.TheVariants.{Module, Component};
 
+use crate::checkpoint::Checkpoint;
 use crate::contents::{code, custom, data_count, items, lacks, start, unknown, window};
 use crate::header::{magic_follows, missing_at_section, read_header};
 use crate::parse_all::ParseAll;
@@ -163,6 +165,49 @@ impl Parser {
         self.code_bytes = 0;
     }
 
+    /// All that the parser knows, as plain values: `resume` makes a parser of them that goes on as this one.
+    pub fn checkpoint(&self) -> Checkpoint
+        ensures state { state_of result ≡ self.now }
+        ensures fits { result.offset + result.code_bytes < 2 ^ 64 }
+    {
+        Checkpoint {
+            offset: self.offset,
+            features: self.features,
+            expects_header: self.expects_header,
+            encoding: self.encoding,
+            rank: self.rank,
+            functions: self.functions,
+            codes: self.codes,
+            datas: self.datas,
+            data_counts: self.data_counts,
+            bodies: self.bodies,
+            code_bytes: self.code_bytes,
+            in_code: self.in_code,
+        }
+    }
+
+    /// The parser whose checkpoint this is. What is left of a code section must end within the offsets of a stream, below
+    /// 2^64, as it does in each checkpoint that `checkpoint` gives.
+    pub fn resume(checkpoint: Checkpoint) -> Self
+        requires { checkpoint.offset + checkpoint.code_bytes < 2 ^ 64 }
+        ensures { result ≡ state_of checkpoint }
+    {
+        Parser {
+            offset: checkpoint.offset,
+            features: checkpoint.features,
+            expects_header: checkpoint.expects_header,
+            encoding: checkpoint.encoding,
+            rank: checkpoint.rank,
+            functions: checkpoint.functions,
+            codes: checkpoint.codes,
+            datas: checkpoint.datas,
+            data_counts: checkpoint.data_counts,
+            bodies: checkpoint.bodies,
+            code_bytes: checkpoint.code_bytes,
+            in_code: checkpoint.in_code,
+        }
+    }
+
     /// The stream offset of what comes next.
     pub fn offset(&self) -> u64
         ensures { result ≡ self.now.offset }
@@ -239,20 +284,7 @@ impl Clone for Parser {
     ghost is_infallible = { λ _. ⊤ };
 
     fn clone(&self) -> std::result::Result<Self, AllocError> {
-        Ok(Parser {
-            offset: self.offset,
-            features: self.features,
-            expects_header: self.expects_header,
-            encoding: self.encoding,
-            rank: self.rank,
-            functions: self.functions,
-            codes: self.codes,
-            datas: self.datas,
-            data_counts: self.data_counts,
-            bodies: self.bodies,
-            code_bytes: self.code_bytes,
-            in_code: self.in_code,
-        })
+        Ok(Parser::resume(self.checkpoint()))
     }
 }
 
