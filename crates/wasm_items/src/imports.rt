@@ -5,7 +5,7 @@ ghost use Rattle.wasm_base.specs.Item.{ReadsAs};
 ghost use Rattle.wasm_base.specs.Outcome.{GivesBy};
 ghost use Rattle.wasm_base.specs.Window.{place, KeepsWindow};
 ghost use Rattle.wasm_base.specs.Features.{takes_import_groups};
-ghost use Rattle.wasm_items.specs.Imports.{group_parts, group_byte_at, module_group_at, type_group_at, single_at};
+ghost use Rattle.wasm_items.specs.Imports.{group_parts, module_group_at, type_group_at, single_at};
 
 use crate::exports::ExternalKind;
 use crate::types::{GlobalType, MemoryType, TableType, TagType};
@@ -150,20 +150,6 @@ fn takes_groups(reader: &BinaryReader<'_>) -> bool
     reader.features().contains(WasmFeatures::COMPACT_IMPORTS)
 }
 
-// Passes over the byte of a group, which is this fault where groups aren't taken.
-fn pass_group_byte(fault: Fault, reader: &mut BinaryReader<'_>) -> Result<()>
-    requires { 0 < length (place reader.old).rest }
-    ensures gives { GivesBy (λ nothing. nothing) result reader.old reader.new (group_byte_at fault) }
-    ensures keeps { KeepsWindow reader.old reader.new }
-    ensures memory { TakesNoMemory result }
-{
-    if !takes_groups(reader) {
-        return Err(Error::new(fault, reader.original_position()));
-    }
-    reader.read_u8()?;
-    Ok(())
-}
-
 // Imports of one module.
 #[tactic(auto, unfolding(crate::specs::Imports::module_group_at))]
 fn read_module_group<'a>(module: &'a str, reader: &mut BinaryReader<'a>) -> Result<Imports<'a>>
@@ -172,7 +158,10 @@ fn read_module_group<'a>(module: &'a str, reader: &mut BinaryReader<'a>) -> Resu
     ensures keeps { KeepsWindow reader.old reader.new }
     ensures memory { TakesNoMemory result }
 {
-    pass_group_byte(Fault::Compact7F, reader)?;
+    if !takes_groups(reader) {
+        return Err(Error::new(Fault::Compact7F, reader.original_position()));
+    }
+    reader.read_u8()?;
     let items = read_inner(reader)?;
     Ok(Imports::Compact1 { module, items })
 }
@@ -185,7 +174,10 @@ fn read_type_group<'a>(module: &'a str, reader: &mut BinaryReader<'a>) -> Result
     ensures keeps { KeepsWindow reader.old reader.new }
     ensures memory { TakesNoMemory result }
 {
-    pass_group_byte(Fault::Compact7E, reader)?;
+    if !takes_groups(reader) {
+        return Err(Error::new(Fault::Compact7E, reader.original_position()));
+    }
+    reader.read_u8()?;
     let ty = reader.read()?;
     let names = read_inner(reader)?;
     Ok(Imports::Compact2 { module, ty, names })

@@ -18,9 +18,9 @@ fn fed(alloc: Global, bytes: &[u8]) -> Result<Feeder> {
 
 // The sum of a section's numbers.
 fn total(numbers: SectionLimited<'_, u32>) -> Result<u64> {
-    let mut total = 0;
+    let mut total = 0u64;
     for number in numbers {
-        total += u64::from(number?);
+        total = total.saturating_add(u64::from(number?));
     }
     Ok(total)
 }
