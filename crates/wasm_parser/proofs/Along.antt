@@ -237,7 +237,7 @@ module _ (start features : ℕ) (given : List ℕ) (p : ParserState) (held : Lis
       ≡ wants need hint → AsksFor hint p x new → held ≡ bytes ++ rest → length bytes ≡ taken_by x
       → GoesAlong start features false given events x bytes new rest
   asked need hint (Ok (NeedMoreData some)) bytes new rest e r w n =
-      let same : held ≡ code_bytes = w ∙ ap (λ (y : List ℕ). y ++ rest) (nil_from_length bytes n) in (
+      let same : held ≡ rest = w ∙ ap (λ (y : List ℕ). y ++ rest) (nil_from_length bytes n) in (
         (
           refl,
           (

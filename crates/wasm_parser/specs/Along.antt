@@ -61,11 +61,11 @@ pub record Came (start features : ℕ) (eof : Bool) (given : List ℕ) (events :
 -- the fault is the last one
 abbrev pub GoesAlong : (start features : ℕ) (eof : Bool) (given : List ℕ) (events : List Event) → Result Chunk Error
     → (bytes : List ℕ) (new : ParserState) (rest : List ℕ) → Type 0
-GoesAlong start features eof given events (Ok (NeedMoreData hint)) bytes new code_bytes =
+GoesAlong start features eof given events (Ok (NeedMoreData hint)) bytes new rest =
     IsUndecided new eof rest hint × Along start features given new rest events
-GoesAlong start features eof given events (Ok (Parsed consumed payload)) bytes new code_bytes =
+GoesAlong start features eof given events (Ok (Parsed consumed payload)) bytes new rest =
     Came start features eof given events bytes payload new rest
-GoesAlong start features eof given events (Err e) bytes new code_bytes =
+GoesAlong start features eof given events (Err e) bytes new rest =
     ReadsEach start features eof given (events ++ last_event (fault (fault_at e)) ∷ [])
     × Along start features given new rest events
 
