@@ -4,6 +4,7 @@ use Rattle.wasm_base.specs.Name.{byte_at, first_of}
 use Rattle.wasm_base.specs.Outcome.{Outcome}
 use Rattle.wasm_base.specs.Window.{Window, Place, place, advanced, KeepsWindow}
 use Rattle.wasm_items.specs.Init.{after_opcode, instructions_at}
+use Rattle.wasm_items.specs.declared.init.ConstOperator.{ConstOperator}
 
 first_passed : (p : Place) (rest : List ℕ) (b : ℕ) (q : Place) → p.rest ≡ rest → first_of p rest ≡ Ok (b, q) → length q.rest + 1
     ≡ length p.rest
@@ -33,11 +34,12 @@ pub record Left (p : Place) (whole : Outcome (Unit {0})) : Type 0 where
 
 pub next_instruction : (most : ℕ) (p : Place) (whole : Outcome (Unit {0})) (opcode : ℕ) (after next : Place) → length p.rest ≤ most
     → instructions_at most p ≡ whole
-    → byte_at p ≡ Ok (opcode, after) → nat_eq opcode 0x0B ≡ false → after_opcode p.offset opcode after ≡ Ok (tt, next)
+    → byte_at p ≡ Ok (opcode, after) → nat_eq opcode 0x0B ≡ false → (operator : ConstOperator)
+    → after_opcode p.offset opcode after ≡ Ok (operator, next)
     → length next.rest ≤ length after.rest → Left next whole
-next_instruction zero p whole opcode after next le e byte other operands fewer =
+next_instruction zero p whole opcode after next le e byte other operator operands fewer =
     absurd (omega (arith, byte_passed p opcode after byte))
-next_instruction (suc most) p whole opcode after next le e byte other operands fewer = record {
+next_instruction (suc most) p whole opcode after next le e byte other operator operands fewer = record {
   most = most;
   fewer = omega (arith, byte_passed p opcode after byte);
   so_far = rw (byte, other, operands) at e;
