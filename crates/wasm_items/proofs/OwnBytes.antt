@@ -1,5 +1,6 @@
 -- Types and expressions depend on no byte after those that they take.
-use Rattle.std.proofs.Common.{length-drop, ◌≡◌, ℕ, zero, suc, ◌+◌, ◌*◌, ◌^◌, ◌<◌, ◌≤◌, Bool, true, false, cond, List, [], ◌∷◌, length, take, drop}
+use Rattle.std.proofs.Common.{length-drop, ◌≡◌, ℕ, zero, suc, ◌+◌, ◌*◌, ◌^◌, ◌<◌, ◌≤◌}
+use Rattle.std.proofs.Common.{Bool, true, false, cond, List, [], ◌∷◌, length, take, drop}
 use Rattle.std.proofs.Common.{Option, Some, None, nat_eq, Ok, Err, refl, sym, ap, arith, ◌∙◌, ℤ, pos, negsuc}
 use Rattle.std.proofs.lemmas.List.{length-take}
 use Rattle.wasm_base.proofs.Texts.{advanced_twice}
@@ -136,7 +137,8 @@ instructions_own (suc most) features offset (b ∷ bs) q e = by (λ r h. instruc
         alone (suc more) (suc n) m l k i = let z : n ≡ m = omega (arith, k) in rw (is, sym i, sym z) refl
     by again false is e = instruction (after_opcode offset b (record { features = features; offset = offset + 1; rest = bs })) refl e
       where
-        instruction : (o : Outcome ConstOperator) → after_opcode offset b (record { features = features; offset = offset + 1; rest = bs }) ≡ o
+        instruction : (o : Outcome ConstOperator)
+            → after_opcode offset b (record { features = features; offset = offset + 1; rest = bs }) ≡ o
             → (o >>= λ i. instructions_at most i.1) ≡ Ok (tt, q)
             → OwnInstructions (record { features = features; offset = offset; rest = b ∷ bs }) q
         instruction (Err f) at e = cc

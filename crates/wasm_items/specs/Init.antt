@@ -77,7 +77,9 @@ aggregate_operands_of number =
 
 -- the operands of the constant instruction with opcode 0xFD and each number after it
 abbrev pub vector_operands_of : ℕ → Option Operands
-vector_operands_of number = if number == 12 then Some (raw 16 (λ bytes. done (V128Const (record { 0 = bytes })))) else None
+vector_operands_of number =
+    if number == 12 then Some (raw 16 (λ bytes. done (V128Const (record { 0 = bytes }))))
+    else None
 
 -- the operator that is after operands
 abbrev pub operands_at : Operands → Place → Outcome ConstOperator

@@ -73,7 +73,8 @@ Tile p (x ∷ xs) q = (between : Place) × (instruction_at p ≡ Ok (x, between)
 abbrev pub end_of_window : Window → Place
 end_of_window w = record { features = w.features; offset = w.start + length w.bytes; rest = [] }
 
--- What was given are instructions without a fault, of which the last one, and no other, is the end. They tile the window.
+-- What was given are instructions without a fault, of which the last one, and no other, is the end. They tile the
+-- window.
 pub record TileTheirWindow (window : Window) (given : List (Result ConstInstruction FaultAt)) : Type 0 where
   pub first : List ConstInstruction
   pub last : ConstInstruction
@@ -83,8 +84,8 @@ pub record TileTheirWindow (window : Window) (given : List (Result ConstInstruct
   pub is_the_end : last.operator ≡ End
 
 -- What calls of `next` give up to the first `None`, from the start of an expression.
-abbrev pub GivesItsInstructions : (next : List (Result ConstInstruction FaultAt) → Option (Result ConstInstruction Error)
-    → List (Result ConstInstruction FaultAt) → Type 0) → ConstExpr → Type 0
+abbrev pub GivesItsInstructions : (next : List (Result ConstInstruction FaultAt)
+    → Option (Result ConstInstruction Error) → List (Result ConstInstruction FaultAt) → Type 0) → ConstExpr → Type 0
 GivesItsInstructions next expression = (given : List (Result ConstInstruction Error))
     → Drains next (instructions_in (place (expression_window expression))) given
     → TileTheirWindow (expression_window expression) (map item_or_fault given)

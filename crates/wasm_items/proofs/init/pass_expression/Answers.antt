@@ -15,7 +15,7 @@ pub instructions-preserved : goal.instructions-preserved
 instructions-preserved c = record {
   left = next_instruction c.instructions.invariant.left.most (place c.instructions.reader) _ c.in_ok-opcode.opcode
       (place c.read_u8.new.self) (place c.read_operands.new.reader) c.instructions.invariant.left.fewer c.instructions.invariant.left.so_far
-      (search rules) (search rules) c.in_ok-read_operands.field-0 (search rules) (fewer_to_come c.read_u8.new.self c.read_operands.new.reader
-      c.read_operands.ensures.keeps);
+      (search rules) (search rules) c.in_ok-read_operands.field-0 (search rules)
+      (fewer_to_come c.read_u8.new.self c.read_operands.new.reader c.read_operands.ensures.keeps);
   keeps = search rules;
 }
