@@ -129,8 +129,8 @@ fn fault_code(fault: Fault) -> u32
     }
 }
 
-// Whether there is a number, and which.
-fn number_parts(number: Option<u64>) -> (u32, u64)
+/// Whether there is a number, and which.
+pub(crate) fn number_parts(number: Option<u64>) -> (u32, u64)
     ensures has { result.0 ≡ number_flag number }
     ensures number { result.1 ≡ number_or_0 number }
 {

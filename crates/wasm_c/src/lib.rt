@@ -4,17 +4,29 @@
 mod events;
 mod faults;
 mod feeding;
+mod kinds;
 pub mod laws;
 mod parsing;
+mod spans;
 mod stored;
 mod text;
+mod values;
 
 pub use events::PlainEvent;
 pub use faults::PlainFault;
 pub use feeding::{
     StoredFeed, pulleynavy_feed, pulleynavy_finish, pulleynavy_push, pulleynavy_step,
 };
+pub use kinds::{
+    PlainGlobal, PlainGlobalType, PlainMemory, PlainMemoryType, PlainTable, PlainTableType,
+    PlainTag, pulleynavy_global, pulleynavy_memory, pulleynavy_table, pulleynavy_tag,
+};
 pub use parsing::{
     pulleynavy_fault_text, pulleynavy_parse, pulleynavy_parser, pulleynavy_skip_section,
 };
+pub use spans::PlainSpan;
 pub use stored::StoredParser;
+pub use values::{
+    PlainField, PlainNumber, PlainType, PlainValue, pulleynavy_field_type, pulleynavy_number,
+    pulleynavy_value_type,
+};
