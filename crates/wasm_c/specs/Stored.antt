@@ -29,10 +29,10 @@ parser_of s = record {
   datas = count_from s.has_datas s.datas;
   data_counts = count_from s.has_data_counts s.data_counts;
   bodies = s.bodies;
-  left = min s.left (2 ^ 64 - 1 - s.offset);
+  code_bytes = min s.code_bytes (2 ^ 64 - 1 - s.offset);
   in_code = is_set s.in_code;
 }
 
 -- what is left of a code section, if the parser is in one
 abbrev pub skipped_of : ParserState → ℕ × ParserState
-skipped_of p = if p.in_code then (p.left, skipped_state p) else (0, p)
+skipped_of p = if p.in_code then (p.code_bytes, skipped_state p) else (0, p)

@@ -14,7 +14,12 @@ whole_kept : (a b c : Option (List ℕ)) (outline : List ℕ) → WritesWhole a 
 whole_kept a b c outline w k = record { text = w.text; outlined = w.outlined; wrote = appends_kept a b c w.text w.wrote k }
 
 some_kept : (a b c : Option (List ℕ)) (outline : List ℕ) → WritesSome a b outline → Keeps b c → WritesSome a c outline
-some_kept a b c outline w k = record { text = w.text; unwritten = w.unwritten; outlined = w.outlined; wrote = appends_kept a b c w.text w.wrote k }
+some_kept a b c outline w k = record {
+  text = w.text;
+  unwritten = w.unwritten;
+  outlined = w.outlined;
+  wrote = appends_kept a b c w.text w.wrote k;
+}
 
 writes_kept : (how : Result Ended ListError) (a b c : Option (List ℕ)) (outline : List ℕ) → Writes how a b outline → Keeps b c
     → Writes how a c outline
