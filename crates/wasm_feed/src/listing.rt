@@ -75,7 +75,7 @@ pub fn list_in<A: Allocator + Copy, R: Source, W: Sink>(
     ensures input { R.has_failed input.new ≡ input_failed result (R.has_failed input.old) }
     ensures output { W.has_failed output.new ≡ output_failed result (W.has_failed output.old) }
 {
-    let mut room = vec![in alloc; 0u8; piece]?;
+    let mut buffer = vec![in alloc; 0u8; piece]?;
     let mut page = Page::new(alloc);
     let mut line = Line::new();
     let mut stored = Vec::new(alloc);
@@ -88,7 +88,7 @@ pub fn list_in<A: Allocator + Copy, R: Source, W: Sink>(
             Turn::Advance => {}
             Turn::Read => {
                 page.write_out(output)?;
-                read_more(&mut cursor, &mut stored, input, room.as_mut_slice())?;
+                read_more(&mut cursor, &mut stored, input, buffer.as_mut_slice())?;
             }
             Turn::End(ended) => {
                 page.write_out(output)?;
@@ -100,7 +100,7 @@ pub fn list_in<A: Allocator + Copy, R: Source, W: Sink>(
 
 /// Reads the input, at most `piece` bytes at once and at least one, and writes its listing: a line for each event of the
 /// reading of the stream, whose offsets count bytes from 0. The lines of all events that are decided are written before more
-/// is read. It keeps what the parser has not decided, the piece that came last, the room that it was read into, and a page of
+/// is read. It keeps what the parser has not decided, the piece that came last, the buffer that it was read into, and a page of
 /// lines; no clause says how much that is.
 ///
 /// A stream that passes the offset 2^64 - 1 ends with the fault `OffsetRange`. An error leaves a beginning of the listing

@@ -8,7 +8,7 @@ use std::alloc::{Allocator, Global};
 use std::marker::Model;
 
 /// How many bytes wait at most.
-const ROOM: usize = 65_536;
+const PAGE_BYTES: usize = 65_536;
 
 /// Bytes that wait to be written, at most 65,536 of them, so that a sink is called once for many lines.
 #[derive(Drop)]
@@ -53,7 +53,7 @@ impl<A: Allocator> Page<A> {
         ensures failed { W.has_failed output.new
             ≡ output_failed result (W.has_failed output.old) }
     {
-        if bytes.len() > ROOM - self.bytes.len() {
+        if bytes.len() > PAGE_BYTES - self.bytes.len() {
             self.write_out(output)?;
         }
         match self.bytes.extend_from_slice(bytes) {

@@ -7,7 +7,7 @@ ghost use Rattle.wasm_feed.specs.Strips.{CountsKept, CopiesKept, custom_fate, Go
 ghost use Rattle.wasm_parser.specs.ParseAnswer.{report_of};
 ghost use Rattle.wasm_grammar.specs.Reading.{Stream};
 
-use crate::devices::room;
+use crate::devices::list_of_capacity;
 use crate::feeder::{Cursor, Step, parse_next};
 use std::alloc::{Allocator, Global};
 use wasm_parser::{Error, Fault, Parser, Payload, Result};
@@ -165,7 +165,7 @@ pub fn strip_in<A: Allocator>(alloc: A, bytes: &[u8], keep_names: bool) -> Resul
     // A slice is shorter than 2^64 bytes, which the functions below want to know.
     let _length = bytes.len();
     let count = count_kept(bytes, keep_names)?;
-    let Ok(mut kept) = room(alloc, count) else {
+    let Ok(mut kept) = list_of_capacity(alloc, count) else {
         return Err(Error::new(Fault::OutOfMemory, 0));
     };
     copy_kept(bytes, keep_names, &mut kept)?;

@@ -88,15 +88,15 @@ fn go_on<W: Sink>(out: &Tree<W>) -> Result<(), ListError>
     }
 }
 
-// The same as `dump`, by a tree over the output that has written nothing yet, and with room to read into.
+// The same as `dump`, by a tree over the output that has written nothing yet, and with a buffer to read into.
 fn dump_into<R: Source, W: Sink>(
     alloc: Global,
     only: &Only<'_>,
     input: &mut R,
     out: &mut Tree<W>,
-    room: &mut [u8],
+    buffer: &mut [u8],
 ) -> Result<Ended, ListError>
-    requires { 0 < length room.old }
+    requires { 0 < length buffer.old }
     ensures { DumpsInto only.now (device_of R.remaining R.has_failed input.old input.new)
         out.old result out.new }
 {
@@ -110,7 +110,7 @@ fn dump_into<R: Source, W: Sink>(
             Turn::Read => {
                 out.write_out();
                 go_on(out)?;
-                feeder.read_from(input, room)?;
+                feeder.read_from(input, buffer)?;
             }
             Turn::End(ended) => {
                 out.write_out();
@@ -125,7 +125,7 @@ fn dump_into<R: Source, W: Sink>(
 /// has its line, as `list` writes it, and under it a line for each item, indented by two blanks a level. Offsets count bytes
 /// from the start of the stream, which is at 0. The tree must be one that has written nothing.
 ///
-/// It keeps what the parser has not decided, the piece that came last, the room that it was read into, and the lines that wait,
+/// It keeps what the parser has not decided, the piece that came last, the buffer that it was read into, and the lines that wait,
 /// of which the tree's invariant bounds the bytes.
 ///
 /// A fault of the stream ends it; a fault of an item is a line at its place. An error leaves a beginning of the dump written:
@@ -142,6 +142,6 @@ pub fn dump<R: Source, W: Sink>(
     ensures { DumpsByTree only.now (device_of R.remaining R.has_failed input.old input.new)
         out.old result out.new }
 {
-    let mut room = vec![in alloc; 0u8; piece]?;
-    dump_into(alloc, only, input, out, room.as_mut_slice())
+    let mut buffer = vec![in alloc; 0u8; piece]?;
+    dump_into(alloc, only, input, out, buffer.as_mut_slice())
 }

@@ -9,7 +9,7 @@ use wasm_base::Error;
 use wasm_feed::{Line, ListError, Page, Sink};
 
 /// How many bytes are put at once at most.
-const ROOM: usize = 65_536;
+const PAGE_BYTES: usize = 65_536;
 
 /// How many bytes stand for a byte string.
 const SHOWN: usize = 16;
@@ -206,8 +206,8 @@ impl<W: Sink> Tree<W> {
         ensures { Adds self.old self.new }
     {
         let mut rest = bytes;
-        'pieces: while rest.len() > ROOM {
-            let (first, later) = rest.split_at(ROOM);
+        'pieces: while rest.len() > PAGE_BYTES {
+            let (first, later) = rest.split_at(PAGE_BYTES);
             self.piece(first);
             rest = later;
         }

@@ -9,8 +9,8 @@ use Rattle.wasm_feed.proofs.Progress.{begun, no_memory, cut, wants_written, step
 use Rattle.wasm_feed.proofs.Progress.{not_filled}
 use Rattle.wasm_feed.proofs.listing.list_in.Goals as goal
 
-pub returns-in_err-room-clause-lists : goal.returns-in_err-room-clause-lists
-returns-in_err-room-clause-lists g c =
+pub returns-in_err-buffer-clause-lists : goal.returns-in_err-buffer-clause-lists
+returns-in_err-buffer-clause-lists g c =
     let e = err_from_is_err_and c.from_residual.result c.from_residual.ensures.1 in
     rw (e.1, e.2) (no_memory line_of _ _ _ _ _ _ (begun line_of _ _) _ _ (Consumes-nil _))
 
@@ -20,7 +20,7 @@ events-init g c = record {
       (begun line_of _ _);
   input = refl;
   output = refl;
-  room = grind (arith, common_steps);
+  buffer = grind (arith, common_steps);
 }
 
 pub returns-in_err-turn-clause-lists : goal.returns-in_err-turn-clause-lists
@@ -44,7 +44,7 @@ events-preserved-in-Advance g c =
       progress = (advanced line_of _ _ _ _ _ _ c.events.invariant.progress _ _ s _ _ t.0 (sym c.in-Advance.is ∙ t.1)).0;
       input = c.events.invariant.input;
       output = grind (arith, common_steps);
-      room = c.events.invariant.room;
+      buffer = c.events.invariant.buffer;
     }
 
 pub returns-in_err-write_out-in-Read-clause-lists : goal.returns-in_err-write_out-in-Read-clause-lists
@@ -90,7 +90,7 @@ events-preserved g c =
       progress = rw none after;
       input = grind (arith, common_steps);
       output = grind (arith, common_steps);
-      room = grind (arith, common_steps);
+      buffer = grind (arith, common_steps);
     }
 
 pub returns-in_err-write_out-in-End-clause-lists : goal.returns-in_err-write_out-in-End-clause-lists

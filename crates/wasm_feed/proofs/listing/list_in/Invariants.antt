@@ -16,7 +16,7 @@ invariant-events g l =
           (feed_of l.stored.items l.cursor) l.page;
       input : source.has_failed l.input ≡ source.has_failed l.initial.input;
       output : sink.has_failed l.output ≡ sink.has_failed l.initial.output;
-      room : 0 < vec_len l.room;
+      buffer : 0 < vec_len l.buffer;
     }
 
 abbrev pub decreases-events : goal.decreases-events

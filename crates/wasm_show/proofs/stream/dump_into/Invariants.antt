@@ -10,7 +10,7 @@ invariant-events g l =
     record {
       dumping : Dumping l.only (source.remaining l.initial.input) (source.remaining l.input) l.initial.out l.feeder l.out;
       input : source.has_failed l.input ≡ source.has_failed l.initial.input;
-      room : 0 < length l.room;
+      buffer : 0 < length l.buffer;
     }
 
 abbrev pub decreases-events : goal.decreases-events
