@@ -11,9 +11,9 @@ feature_bits features = features.0
 abbrev pub takes_wide_limits : (features : ℕ) → Bool
 takes_wide_limits features = has_bit features 0
 
--- whether groups of imports are taken
-abbrev pub takes_import_groups : (features : ℕ) → Bool
-takes_import_groups features = has_bit features 1
+-- whether bundles of imports are taken
+abbrev pub takes_import_bundles : (features : ℕ) → Bool
+takes_import_bundles features = has_bit features 1
 
 -- the name and the bits of each feature
 abbrev pub feature_table : List (List ℕ × ℕ)

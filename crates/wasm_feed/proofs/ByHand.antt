@@ -4,7 +4,7 @@ pub use Rattle.std.proofs.raw_atomic.Walks.{proved, leaves}
 pub use mathlib.Core.Path.{subst}
 pub use base.Logic.{SProp, ent, emp, id⊢}
 pub use base.Fml.{Fml, ftrue, flft, fres}
-pub use base.Fraction.{source, right}
+pub use base.Fraction.{left, right}
 pub use denote.Follow.{followed}
 pub use seplogic.Ra.Ura.{Ura}
 pub use lib.Dec.{T}

@@ -150,8 +150,8 @@ kept_more keep xs ys = ap consumed_by (filter-append (event_stays keep) xs ys)
     ∙ flat_map-append (λ (e : Event). e.consumed) (filter (event_stays keep) xs) (filter (event_stays keep) ys)
 
 -- the bytes of the sections that stay
-abbrev pub kept_bytes : (keep : Bool) → List SectionFrame → List ℕ
-kept_bytes keep frames = flat_map frame_bytes (filter (frame_stays keep) frames)
+abbrev pub bytes_of_frames : (keep : Bool) → List SectionFrame → List ℕ
+bytes_of_frames keep frames = flat_map frame_bytes (filter (frame_stays keep) frames)
 
 -- What is left of the events of sections, of which the first begins at this offset after so many bytes were dropped, and of
 -- events after them.
@@ -160,12 +160,12 @@ pub record KeptOf (keep : Bool) (features : ℕ) (encoding : Encoding) (at dropp
   pub others : List Event
   pub sections : FramesEvents features encoding at (filter (frame_stays keep) frames) others
   pub moved : AllZip IsMovedBack (staying keep dropped (inner ++ rest)) (others ++ kept)
-  pub bytes : kept_bytes keep inner ≡ kept_bytes keep frames
+  pub bytes : kept_bytes keep inner ≡ bytes_of_frames keep frames
 
 -- what is left of events after those of sections, however many bytes of the sections were dropped
 abbrev pub KeptAfter : (keep : Bool) (at dropped : ℕ) (frames : List SectionFrame) (rest kept : List Event) → Type 0
 KeptAfter keep at dropped frames rest kept =
-    (total : ℕ) → at + dropped + length (flat_map frame_bytes frames) ≡ at + length (kept_bytes keep frames) + total
+    (total : ℕ) → at + dropped + length (flat_map frame_bytes frames) ≡ at + length (bytes_of_frames keep frames) + total
     → AllZip IsMovedBack (staying keep total rest) kept
 
 -- one section that stays
@@ -219,7 +219,7 @@ kept_of keep features encoding at dropped (f ∷ frames) inner rest kept a (firs
             arith,
             e,
             length-append (frame_bytes f) (flat_map frame_bytes frames),
-            length-append (frame_bytes f) (kept_bytes keep frames),
+            length-append (frame_bytes f) (bytes_of_frames keep frames),
           )))))
       | inr (s, e, z, g, c) ↦ subst (λ (x : List Event). KeptOf keep features encoding at dropped (f ∷ frames) (x ++ more) rest kept)
           (sym z)

@@ -19,7 +19,7 @@ use Rattle.wasm_grammar.proofs.PlainLists.{all_prefix, Spares, filter_twice, eac
 use Rattle.wasm_feed.specs.Stripped.{frame_stays, stripped, kept_bytes, AreKept, IsStripped, EndsWithFault, RefusesToStrip, LeavesStream}
 use Rattle.wasm_feed.specs.Stripped.{StripsInPlace, StrippingTwiceIsOnce}
 use Rattle.wasm_feed.specs.Strips.{MovesKept, ReadsKept}
-use Rattle.wasm_feed.proofs.KeptFrames.{kept_bytes, KeptOf, KeptAfter, kept_of}
+use Rattle.wasm_feed.proofs.KeptFrames.{bytes_of_frames, KeptOf, KeptAfter, kept_of}
 use Rattle.wasm_base.specs.Features.{all_features}
 use Rattle.wasm_grammar.specs.Ids.{custom_id}
 
@@ -118,9 +118,9 @@ stream_kept keep stream a s =
     ∙ length-append h (flat_map frame_bytes a.frames) in
     let f : 0 + length stream < 2 ^ 64 = s.fits in
     record {
-      each = All-append (λ b. b < 256) h (kept_bytes keep a.frames) (all_prefix (λ b. b < 256) h (flat_map frame_bytes a.frames) e)
+      each = All-append (λ b. b < 256) h (bytes_of_frames keep a.frames) (all_prefix (λ b. b < 256) h (flat_map frame_bytes a.frames) e)
           (all_kept (λ b. b < 256) (frame_stays keep) a.frames (all_rest (λ b. b < 256) h (flat_map frame_bytes a.frames) e));
-      fits = omega (arith, f, n, length_kept (frame_stays keep) a.frames, length-append h (kept_bytes keep a.frames));
+      fits = omega (arith, f, n, length_kept (frame_stays keep) a.frames, length-append h (bytes_of_frames keep a.frames));
     }
 
 -- a custom section has no rank
@@ -153,18 +153,18 @@ header_stays Component = refl
 end_left : (keep : Bool) (encoding : Encoding) (frames : List SectionFrame)
     → KeptAfter keep (0 + length (header_bytes encoding)) 0 frames
     (last_event (ended (0 + length (header_bytes encoding ++ flat_map frame_bytes frames))) ∷ [])
-    (last_event (ended (0 + length (header_bytes encoding ++ kept_bytes keep frames))) ∷ [])
+    (last_event (ended (0 + length (header_bytes encoding ++ bytes_of_frames keep frames))) ∷ [])
 end_left keep encoding frames total e =
     let h : List ℕ = header_bytes encoding in
-    let n : 0 + length (h ++ flat_map frame_bytes frames) ≡ 0 + length (h ++ kept_bytes keep frames) + total =
-    omega (arith, e, length-append h (flat_map frame_bytes frames), length-append h (kept_bytes keep frames)) in
+    let n : 0 + length (h ++ flat_map frame_bytes frames) ≡ 0 + length (h ++ bytes_of_frames keep frames) + total =
+    omega (arith, e, length-append h (flat_map frame_bytes frames), length-append h (bytes_of_frames keep frames)) in
     (ap (λ (x : ℕ). last_event (ended x)) n, tt)
 
 kept_here : (keep : Bool) (features : ℕ) (encoding : Encoding) (frames : List SectionFrame) (events : List Event)
     → All (IsFrame encoding) frames → (t : TellsFrames 0 features encoding frames events)
     → KeptOf keep features encoding (0 + length (header_bytes encoding)) 0 frames t.inner
     (last_event (ended (0 + length (header_bytes encoding ++ flat_map frame_bytes frames))) ∷ [])
-    (last_event (ended (0 + length (header_bytes encoding ++ kept_bytes keep frames))) ∷ [])
+    (last_event (ended (0 + length (header_bytes encoding ++ bytes_of_frames keep frames))) ∷ [])
 kept_here keep features encoding frames events a t =
     let z : 0 + length (header_bytes encoding) ≡ 0 + length (header_bytes encoding) + 0 = omega arith in
     kept_of keep features encoding (0 + length (header_bytes encoding)) 0 frames t.inner _ _ a
@@ -178,7 +178,7 @@ read_kept keep stream a s features events r =
     let t : TellsFrames 0 features a.encoding a.frames events = (frames_give_events stream 0 features events s a).0 r in
     let l = kept_here keep features a.encoding a.frames events a.each t in
     let others : List Event = header_event 0 a.encoding ∷ (l.others
-    ++ last_event (ended (0 + length (header_bytes a.encoding ++ kept_bytes keep a.frames))) ∷ []) in
+    ++ last_event (ended (0 + length (header_bytes a.encoding ++ bytes_of_frames keep a.frames))) ∷ []) in
     let (b, e, f) = accepted_kept keep stream a in
     let told : TellsFrames 0 features a.encoding (filter (frame_stays keep) a.frames) others =
     record { inner = l.others; sections = l.sections; whole = refl } in (

@@ -1,7 +1,7 @@
--- Imports. Core specification, Binary format, Modules, Import Section, and Types, External Types; the groups are of the
--- proposal for compact imports.
+-- Imports. Core specification, Binary format, Modules, Import Section, and Types, External Types; the bundles are of
+-- the proposal for compact imports.
 use Rattle.std.specs.Prelude.{ℕ, ◌==◌, List, [], ◌∷◌, length, Some, Ok, Err, if◌then◌else◌}
-use Rattle.wasm_base.specs.Features.{takes_import_groups}
+use Rattle.wasm_base.specs.Features.{takes_import_bundles}
 use Rattle.wasm_base.specs.Leading.{lookup_or}
 use Rattle.wasm_base.specs.FaultAt.{at_offset}
 use Rattle.wasm_base.specs.Name.{name_limit, text_at, peeked_byte_at}
@@ -65,7 +65,7 @@ import_at p = do
   ty ← type_ref_at name.1
   Ok (record { from = from.0; name = name.0; ty = ty.0 }, ty.1)
 
--- an import of a group, with the bytes of its name
+-- an import of a bundle, with the bytes of its name
 pub record ItemParts : Type 0 where
   pub name : List ℕ
   pub ty : TypeRef
@@ -73,14 +73,14 @@ pub record ItemParts : Type 0 where
 abbrev pub item_parts : ImportItemCompact → ItemParts
 item_parts i = record { name = i.name.now; ty = i.ty }
 
--- an import of a group of imports from one module: its name, and what it is
+-- an import of a bundle of imports from one module: its name, and what it is
 unfoldable pub item_at : Place → Outcome ItemParts
 item_at p = do
   name ← text_at (Some name_limit) p
   ty ← type_ref_at name.1
   Ok (record { name = name.0; ty = ty.0 }, ty.1)
 
--- the place after an import of a group, whose name is not looked at
+-- the place after an import of a bundle, whose name is not looked at
 unfoldable pub passed_item_at : Place → Outcome (Unit {0})
 passed_item_at p = do
   name ← skipped_name_at p
@@ -89,54 +89,54 @@ passed_item_at p = do
 
 -- an item of an import section: one import and where it begins, imports of one module, or names of imports of one
 -- module and one type
-pub data Group : Type 0 where
-  single : (offset : ℕ) (one : ImportParts) → Group
-  of_module : (from : List ℕ) (items : Section) → Group
-  of_type : (from : List ℕ) (ty : TypeRef) (names : Section) → Group
+pub data Bundle : Type 0 where
+  single : (offset : ℕ) (one : ImportParts) → Bundle
+  of_module : (from : List ℕ) (items : Section) → Bundle
+  of_type : (from : List ℕ) (ty : TypeRef) (names : Section) → Bundle
 
-abbrev pub group_parts : Imports → Group
-group_parts (Single offset one) = single offset (import_parts one)
-group_parts (Compact1 from items) = of_module from.now items
-group_parts (Compact2 from ty names) = of_type from.now ty names
+abbrev pub bundle_parts : Imports → Bundle
+bundle_parts (Single offset one) = single offset (import_parts one)
+bundle_parts (Compact1 from items) = of_module from.now items
+bundle_parts (Compact2 from ty names) = of_type from.now ty names
 
--- the byte that a group has, where groups are taken; else it is a fault, at it
-abbrev pub group_byte_at : Fault → Place → Outcome (Unit {0})
-group_byte_at fault p =
-    if takes_import_groups p.features then Ok (tt, advanced 1 p) else Err (at_offset fault p.offset)
+-- the byte that a bundle has, where bundles are taken; else it is a fault, at it
+abbrev pub bundle_byte_at : Fault → Place → Outcome (Unit {0})
+bundle_byte_at fault p =
+    if takes_import_bundles p.features then Ok (tt, advanced 1 p) else Err (at_offset fault p.offset)
 
 -- imports of one module: the byte 0x7F, and a list of them
-unfoldable pub module_group_at : (from : List ℕ) → Place → Outcome Group
-module_group_at from p = do
-  byte ← group_byte_at Compact7F p
+unfoldable pub module_bundle_at : (from : List ℕ) → Place → Outcome Bundle
+module_bundle_at from p = do
+  byte ← bundle_byte_at Compact7F p
   items ← inner_section_at passed_item_at byte.1
   Ok (of_module from items.0, items.1)
 
 -- imports of one module and one type: the byte 0x7E, the type, and a list of names
-unfoldable pub type_group_at : (from : List ℕ) → Place → Outcome Group
-type_group_at from p = do
-  byte ← group_byte_at Compact7E p
+unfoldable pub type_bundle_at : (from : List ℕ) → Place → Outcome Bundle
+type_bundle_at from p = do
+  byte ← bundle_byte_at Compact7E p
   ty ← type_ref_at byte.1
   names ← inner_section_at skipped_name_at ty.1
   Ok (of_type from ty.0 names.0, names.1)
 
 -- one import after its two names
-unfoldable pub single_at : (start : ℕ) (from name : List ℕ) → Place → Outcome Group
+unfoldable pub single_at : (start : ℕ) (from name : List ℕ) → Place → Outcome Bundle
 single_at start from name p = do
   ty ← type_ref_at p
   Ok (single start (record { from = from; name = name; ty = ty.0 }), ty.1)
 
--- An item of an import section after its two names, by the byte there: a group has an empty second name, and a byte
+-- An item of an import section after its two names, by the byte there: a bundle has an empty second name, and a byte
 -- that is no external kind.
-abbrev pub group_after_names : (start : ℕ) (from name : List ℕ) → (byte : ℕ) → Place → Outcome Group
-group_after_names start from name byte =
+abbrev pub bundle_after_names : (start : ℕ) (from name : List ℕ) → (byte : ℕ) → Place → Outcome Bundle
+bundle_after_names start from name byte =
     if length name == 0
-    then lookup_or (single_at start from name) ((0x7F, module_group_at from) ∷ (0x7E, type_group_at from) ∷ []) byte
+    then lookup_or (single_at start from name) ((0x7F, module_bundle_at from) ∷ (0x7E, type_bundle_at from) ∷ []) byte
     else single_at start from name
 
 -- an item of an import section
-unfoldable pub group_at : Place → Outcome Group
-group_at p = do
+unfoldable pub bundle_at : Place → Outcome Bundle
+bundle_at p = do
   from ← text_at (Some name_limit) p
   name ← text_at (Some name_limit) from.1
   byte ← peeked_byte_at name.1
-  group_after_names p.offset from.0 name.0 byte.0 byte.1
+  bundle_after_names p.offset from.0 name.0 byte.0 byte.1

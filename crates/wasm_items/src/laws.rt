@@ -137,7 +137,7 @@ pub fn all_imports_come<'a>()
     ensures alone { GivesAll found ⟦<IntoImports<'a> as Iterator>⟧.next_gives }
 {}
 
-/// Wherever an import of a group or a constant expression is read, passing over it takes the bytes that reading it takes.
+/// Wherever an import of a bundle or a constant expression is read, passing over it takes the bytes that reading it takes.
 pub fn passing_over_takes_what_reading_takes<'a>()
     ensures item { PassesAsRead
         ⟦<ImportItemCompact<'a> as FromReader<'a>>⟧.meaning

@@ -66,7 +66,7 @@ impl Show for ImportItemCompact<'_> {
     }
 }
 
-/// A group's imports are under its line.
+/// A bundle's imports are under its line.
 impl Show for Imports<'_> {
     fn show<W: Sink>(&self, level: usize, out: &mut Tree<W>) {
         match self {
