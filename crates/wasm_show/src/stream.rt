@@ -7,13 +7,12 @@ ghost use Rattle.wasm_show.specs.Chosen.{chosen_line};
 ghost use Rattle.wasm_show.specs.Dump.{DumpsByTree, DumpsInto, ShowsStep};
 ghost use Rattle.wasm_show.specs.Tree.{AddsFirst};
 
+use crate::heading::shown_line;
 use crate::only::{Only, chooses};
 use crate::payload::show_payload;
 use crate::tree::Tree;
 use std::alloc::Global;
-use wasm_feed::{
-    Ended, Feeder, Line, ListError, Sink, Source, Step, Turn, fault_line, payload_line,
-};
+use wasm_feed::{Ended, Feeder, Line, ListError, Sink, Source, Step, Turn, fault_line};
 use wasm_parser::{Parser, Payload, Result as ParserResult};
 
 // Writes the line of a payload and what it holds, if it is shown.
@@ -28,7 +27,7 @@ fn show_chosen<W: Sink>(
     ensures { AddsFirst (chosen_line only.now (report_of payload.now)) out.old out.new }
 {
     if chooses(only, payload) {
-        payload_line(line, payload);
+        shown_line(line, payload);
         out.first(line.as_bytes());
         show_payload(alloc, payload, out);
     }
@@ -122,8 +121,8 @@ fn dump_into<R: Source, W: Sink>(
 }
 
 /// Reads the input, at most `piece` bytes at once and at least one, and writes what it holds as text. Each event that is shown
-/// has its line, as `list` writes it, and under it a line for each item, indented by two blanks a level. Offsets count bytes
-/// from the start of the stream, which is at 0. The tree must be one that has written nothing.
+/// has its line, as `list` writes it and with the name of its section, and under it a line for each item, indented by two blanks
+/// a level. Offsets count bytes from the start of the stream, which is at 0. The tree must be one that has written nothing.
 ///
 /// It keeps what the parser has not decided, the piece that came last, the buffer that it was read into, and the lines that wait,
 /// of which the tree's invariant bounds the bytes.

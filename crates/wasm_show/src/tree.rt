@@ -259,6 +259,13 @@ impl<W: Sink> Tree<W> {
         ensures { Adds self.old self.new }
     {
         self.field(name);
+        self.integer(number);
+    }
+
+    /// Writes a number in decimal digits, with a sign where it is below 0.
+    pub fn integer(&mut self, number: i64)
+        ensures { Adds self.old self.new }
+    {
         if number < 0 {
             self.text("-");
         }
@@ -324,7 +331,14 @@ impl<W: Sink> Tree<W> {
     {
         self.number(name, bytes.len() as u64);
         self.text(":");
-        for byte in &bytes[..bytes.len().min(SHOWN)] {
+        self.hexadecimals(&bytes[..bytes.len().min(SHOWN)]);
+    }
+
+    /// Writes bytes, each as two hexadecimal digits.
+    pub fn hexadecimals(&mut self, bytes: &[u8])
+        ensures { Adds self.old self.new }
+    {
+        for byte in bytes {
             self.hexadecimal(*byte);
         }
     }
@@ -338,11 +352,19 @@ impl<W: Sink> Tree<W> {
         self.digits(end);
     }
 
-    /// Writes a line that is a fault: `fault`, its offset in the whole stream, its message, and its number, if it has one.
+    /// Writes a line that is a fault.
     pub fn fault(&mut self, level: usize, error: &Error)
         ensures { Adds self.old self.new }
     {
-        self.line(level, "fault ");
+        self.indent(level);
+        self.fault_text(error);
+    }
+
+    /// Writes a fault: `fault`, its offset in the whole stream, its message, and its number, if it has one.
+    pub fn fault_text(&mut self, error: &Error)
+        ensures { Adds self.old self.new }
+    {
+        self.text("fault ");
         self.digits(error.offset());
         self.word(error.message());
         if let Some(number) = error.number() {
