@@ -1,7 +1,10 @@
 pub mod Events
+pub mod Exports
 pub mod Faults
 pub mod Feeds
+pub mod Imports
 pub mod Kinds
+pub mod Segments
 pub mod Spans
 pub mod Stored
 pub mod Texts

@@ -151,8 +151,8 @@ pub(crate) const NO_GLOBAL_TYPE: PlainGlobalType = PlainGlobalType {
     shared: 0,
 };
 
-// Whether there is a number, and which.
-fn small_parts(number: Option<u32>) -> (u32, u32)
+/// Whether there is a number, and which.
+pub(crate) fn small_parts(number: Option<u32>) -> (u32, u32)
     ensures has { result.0 ≡ number_flag number }
     ensures number { result.1 ≡ number_or_0 number }
 {
