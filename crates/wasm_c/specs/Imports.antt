@@ -9,7 +9,7 @@ use Rattle.wasm_items.specs.declared.imports.TypeRef.TheVariants.{Func, Table, M
 use Rattle.wasm_c.specs.Faults.{no_fault, plain_fault}
 use Rattle.wasm_c.specs.Kinds.{no_global_type, no_memory_type, no_table_type, plain_global_type, plain_memory_type}
 use Rattle.wasm_c.specs.Kinds.{plain_table_type}
-use Rattle.wasm_c.specs.Spans.{items_span, no_span, second_span, text_span}
+use Rattle.wasm_c.specs.Spans.{items_span, no_span, text_after, text_span}
 use Rattle.wasm_c.specs.declared.imports.PlainImport.{PlainImport}
 use Rattle.wasm_c.specs.declared.imports.PlainImportItem.{PlainImportItem}
 use Rattle.wasm_c.specs.declared.imports.PlainImportType.{PlainImportType}
@@ -51,7 +51,7 @@ abbrev pub import_from : Place → (consumed : ℕ) → Group → PlainImport
 import_from p consumed (single offset one) = record no_import {
   consumed = consumed;
   from = text_span p.offset p (length one.from);
-  name = second_span p.offset (length one.name) (text_at (Some name_limit) p);
+  name = text_after p.offset (length one.name) (text_at (Some name_limit) p);
   ty = plain_import_type one.ty;
   count = 1;
 }

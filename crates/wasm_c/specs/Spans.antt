@@ -46,7 +46,7 @@ after_size from (Err f) = 0
 abbrev pub text_span : (from : ℕ) → Place → (size : ℕ) → PlainSpan
 text_span from p size = record { at = after_size from (unsigned_at VarU32 p); size = size }
 
--- the same of the text after a name
-abbrev pub second_span : (from size : ℕ) → Outcome (List ℕ) → PlainSpan
-second_span from size (Ok first) = text_span from first.1 size
-second_span from size (Err f) = record { at = 0; size = size }
+-- the same of the text after what was read there
+abbrev pub text_after : {X : Type 0} → (from size : ℕ) → Outcome X → PlainSpan
+text_after from size (Ok first) = text_span from first.1 size
+text_after from size (Err f) = record { at = 0; size = size }

@@ -13,7 +13,7 @@ use crate::kinds::{
     PlainTableType, plain_global_type, plain_memory_type, plain_table_type,
 };
 use crate::spans::{
-    NO_SPAN, PlainSpan, distance, items_span, out_of_range, reader_over, second_span, text_span,
+    NO_SPAN, PlainSpan, distance, items_span, out_of_range, reader_over, text_after_name, text_span,
 };
 use wasm_parser::{BinaryReader, Error, FromReader, ImportItemCompact, Imports, TypeRef, fits};
 
@@ -142,7 +142,7 @@ fn whole_import(before: BinaryReader<'_>, consumed: u64, group: &Imports) -> Pla
         Imports::Single(_, one) => PlainImport {
             consumed,
             from: text_span(from, before.clone().unwrap(), one.module.len()),
-            name: second_span(from, before, one.name.len()),
+            name: text_after_name(from, before, one.name.len()),
             ty: plain_import_type(one.ty),
             count: 1,
             ..NO_IMPORT

@@ -1,9 +1,11 @@
 // Places in the caller's bytes.
-ghost use Rattle.std.specs.Prelude.{◌≡◌, ◌+◌, ◌-◌, ◌<◌, ◌^◌, Some, length};
+ghost use Rattle.std.specs.Prelude.{◌≡◌, ◌+◌, ◌-◌, ◌<◌, ◌^◌, Some, None, length};
 ghost use Rattle.wasm_base.specs.FaultAt.{at_offset, fault_at};
+ghost use Rattle.wasm_base.specs.Number.{unsigned_at};
+ghost use Rattle.wasm_base.specs.declared.fault.NumberKind.TheVariants.{VarU32};
 ghost use Rattle.wasm_base.specs.Window.{place, window_over};
 ghost use Rattle.wasm_base.specs.Name.{name_limit, text_at};
-ghost use Rattle.wasm_c.specs.Spans.{flag, items_span, second_span, text_span, window_span};
+ghost use Rattle.wasm_c.specs.Spans.{flag, items_span, text_after, text_span, window_span};
 ghost use Rattle.wasm_base.specs.declared.fault.Fault.TheVariants.{OffsetRange};
 
 use bitflags::Flags;
@@ -66,15 +68,43 @@ pub(crate) fn text_span(from: u64, mut reader: BinaryReader<'_>, size: usize) ->
 }
 
 /// The same of the text after the name with which the reader begins.
-pub(crate) fn second_span(from: u64, mut reader: BinaryReader<'_>, size: usize) -> PlainSpan
-    ensures { result ≡ second_span from size (text_at (Some name_limit) (place reader.entry)) }
+pub(crate) fn text_after_name(from: u64, mut reader: BinaryReader<'_>, size: usize) -> PlainSpan
+    ensures { result ≡ text_after from size (text_at (Some name_limit) (place reader.entry)) }
 {
     match reader.read_string() {
         Ok(_) => text_span(from, reader, size),
-        Err(_) => PlainSpan {
-            at: 0,
-            size: size as u64,
-        },
+        Err(_) => unknown_span(size),
+    }
+}
+
+/// The same after a text of any size.
+pub(crate) fn text_after_text(from: u64, mut reader: BinaryReader<'_>, size: usize) -> PlainSpan
+    ensures { result ≡ text_after from size (text_at None (place reader.entry)) }
+{
+    match reader.read_unlimited_string() {
+        Ok(_) => text_span(from, reader, size),
+        Err(_) => unknown_span(size),
+    }
+}
+
+/// The same after a number.
+pub(crate) fn text_after_number(from: u64, mut reader: BinaryReader<'_>, size: usize) -> PlainSpan
+    ensures { result ≡ text_after from size (unsigned_at VarU32 (place reader.entry)) }
+{
+    match reader.read_var_u32() {
+        Ok(_) => text_span(from, reader, size),
+        Err(_) => unknown_span(size),
+    }
+}
+
+// A text whose place isn't known.
+fn unknown_span(size: usize) -> PlainSpan
+    ensures at { result.at ≡ 0 }
+    ensures size { result.size ≡ size }
+{
+    PlainSpan {
+        at: 0,
+        size: size as u64,
     }
 }
 
