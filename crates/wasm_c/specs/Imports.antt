@@ -3,7 +3,7 @@ use Rattle.std.specs.Prelude.{ℕ, ◌-◌, List, length, Some, Ok, Err}
 use Rattle.wasm_base.specs.Name.{name_limit, text_at}
 use Rattle.wasm_base.specs.Outcome.{Outcome}
 use Rattle.wasm_base.specs.Window.{Place}
-use Rattle.wasm_items.specs.Imports.{Group, ItemParts, single, of_module, of_type}
+use Rattle.wasm_items.specs.Imports.{Bundle, ItemParts, single, of_module, of_type}
 use Rattle.wasm_items.specs.declared.imports.TypeRef.{TypeRef}
 use Rattle.wasm_items.specs.declared.imports.TypeRef.TheVariants.{Func, Table, Memory, Global, Tag, FuncExact}
 use Rattle.wasm_c.specs.Faults.{no_fault, plain_fault}
@@ -46,8 +46,8 @@ no_import = record {
   count = 0;
 }
 
--- an import, or the beginning of a group, that takes so many bytes from a place on
-abbrev pub import_from : Place → (consumed : ℕ) → Group → PlainImport
+-- an import, or the beginning of a bundle, that takes so many bytes from a place on
+abbrev pub import_from : Place → (consumed : ℕ) → Bundle → PlainImport
 import_from p consumed (single offset one) = record no_import {
   consumed = consumed;
   from = text_span p.offset p (length one.from);
@@ -71,12 +71,12 @@ import_from p consumed (of_type from ty names) = record no_import {
   count = names.count;
 }
 
--- an import, or a group of imports
-abbrev pub plain_import : Place → Outcome Group → PlainImport
+-- an import, or a bundle of imports
+abbrev pub plain_import : Place → Outcome Bundle → PlainImport
 plain_import p (Ok x) = import_from p (x.1.offset - p.offset) x.0
 plain_import p (Err f) = record no_import { fault = plain_fault f }
 
--- an import of a group of one module
+-- an import of a bundle of one module
 abbrev pub plain_import_item : Place → Outcome ItemParts → PlainImportItem
 plain_import_item p (Ok x) = record {
   fault = no_fault;

@@ -3,7 +3,7 @@ ghost use Rattle.std.specs.Prelude.{◌≡◌, [], Some};
 ghost use Rattle.wasm_base.specs.FaultAt.{fault_at};
 ghost use Rattle.wasm_base.specs.Name.{name_limit, text_at};
 ghost use Rattle.wasm_base.specs.Window.{place};
-ghost use Rattle.wasm_items.specs.Imports.{group_at, group_parts, item_at};
+ghost use Rattle.wasm_items.specs.Imports.{bundle_at, bundle_parts, item_at};
 ghost use Rattle.wasm_c.specs.Imports.{import_from, indexed_type, no_import, plain_import, plain_import_item, plain_import_type, plain_name};
 ghost use Rattle.wasm_c.specs.Spans.{place_over, read_over};
 
@@ -33,29 +33,29 @@ pub struct PlainImportType {
     pub global: PlainGlobalType,
 }
 
-/// An import, or a group of imports, or its fault.
+/// An import, or a bundle of imports, or its fault.
 #[repr(C)]
 #[derive(Clone, Copy, Debug, PartialEq, Eq)]
 pub struct PlainImport {
     /// The fault, whose kind is 0 where there is none.
     pub fault: PlainFault,
-    /// How many bytes it takes, those of a group's imports among them.
+    /// How many bytes it takes, those of a bundle's imports among them.
     pub consumed: u64,
     /// The name of the module that it comes from, which is UTF-8.
     pub from: PlainSpan,
     /// The name of an import in its module, which is UTF-8.
     pub name: PlainSpan,
-    /// What is imported, but for a group of several types.
+    /// What is imported, but for a bundle of several types.
     pub ty: PlainImportType,
-    /// The imports of a group, after their count.
+    /// The imports of a bundle, after their count.
     pub items: PlainSpan,
-    /// 0 an import, 1 a group of imports of one module, 2 a group of one module and one type.
+    /// 0 an import, 1 a bundle of imports of one module, 2 a bundle of one module and one type.
     pub kind: u32,
     /// How many imports it is.
     pub count: u32,
 }
 
-/// An import of a group of one module, or its fault.
+/// An import of a bundle of one module, or its fault.
 #[repr(C)]
 #[derive(Clone, Copy, Debug, PartialEq, Eq)]
 pub struct PlainImportItem {
@@ -63,7 +63,7 @@ pub struct PlainImportItem {
     pub fault: PlainFault,
     /// How many bytes it takes.
     pub consumed: u64,
-    /// Its name in the group's module, which is UTF-8.
+    /// Its name in the bundle's module, which is UTF-8.
     pub name: PlainSpan,
     /// What it is.
     pub ty: PlainImportType,
@@ -133,12 +133,12 @@ fn plain_import_type(ty: TypeRef) -> PlainImportType
     }
 }
 
-// An import, or the beginning of a group, that takes so many bytes from where the reader is.
-fn whole_import(before: BinaryReader<'_>, consumed: u64, group: &Imports) -> PlainImport
-    ensures { result ≡ import_from (place before.entry) consumed (group_parts group.now) }
+// An import, or the beginning of a bundle, that takes so many bytes from where the reader is.
+fn whole_import(before: BinaryReader<'_>, consumed: u64, bundle: &Imports) -> PlainImport
+    ensures { result ≡ import_from (place before.entry) consumed (bundle_parts bundle.now) }
 {
     let from = before.original_position();
-    match group {
+    match bundle {
         Imports::Single(_, one) => PlainImport {
             consumed,
             from: text_span(from, before.clone().unwrap(), one.module.len()),
@@ -177,24 +177,24 @@ fn refused_import(error: Error) -> PlainImport
 }
 
 fn next_import(mut reader: BinaryReader<'_>) -> PlainImport
-    ensures { result ≡ plain_import (place reader.entry) (group_at (place reader.entry)) }
+    ensures { result ≡ plain_import (place reader.entry) (bundle_at (place reader.entry)) }
 {
     let from = reader.original_position();
     let before = reader.clone().unwrap();
     match Imports::from_reader(&mut reader) {
-        Ok(group) => whole_import(before, distance(from, reader.original_position()), &group),
+        Ok(bundle) => whole_import(before, distance(from, reader.original_position()), &bundle),
         Err(error) => refused_import(error),
     }
 }
 
-/// The import, or the group of imports, with which these bytes begin (core specification, Binary format, Modules, Import Section; the
-/// groups are of the proposal for compact imports). The imports of a group are read by `pulleynavy_import_item`, or by
+/// The import, or the bundle of imports, with which these bytes begin (core specification, Binary format, Modules, Import Section; the
+/// bundles are of the proposal for compact imports). The imports of a bundle are read by `pulleynavy_import_item`, or by
 /// `pulleynavy_name` where they have one type. The bytes are the rest of
 /// its section, and are at this offset of the whole stream.
 #[unsafe(no_mangle)]
 pub extern "C" fn pulleynavy_import(bytes: &[u8], offset: u64, features: u32) -> PlainImport
     ensures { result ≡ plain_import (place_over features offset bytes.now)
-        (read_over group_at features offset bytes.now) }
+        (read_over bundle_at features offset bytes.now) }
 {
     if !fits(offset, bytes.len()) {
         return refused_import(out_of_range(offset));
@@ -229,7 +229,7 @@ fn next_import_item(mut reader: BinaryReader<'_>) -> PlainImportItem
     }
 }
 
-/// The import of a group of one module with which these bytes begin (the proposal for compact imports). The bytes are the rest of
+/// The import of a bundle of one module with which these bytes begin (the proposal for compact imports). The bytes are the rest of
 /// its section, and are at this offset of the whole stream.
 #[unsafe(no_mangle)]
 pub extern "C" fn pulleynavy_import_item(
