@@ -7,6 +7,11 @@ ghost use Rattle.wasm_parser.specs.ParseAnswer.{report_of, unread};
 ghost use Rattle.wasm_c.specs.Events.{answer_event, encoding_code, event_between, fault_event, report_event, silent};
 
 use crate::faults::{NO_FAULT, PlainFault, plain_fault};
+use wasm_grammar::{
+    CODE_SECTION, CUSTOM_SECTION, DATA_COUNT_SECTION, DATA_SECTION, ELEMENT_SECTION,
+    EXPORT_SECTION, FUNCTION_SECTION, GLOBAL_SECTION, IMPORT_SECTION, MEMORY_SECTION,
+    START_SECTION, TABLE_SECTION, TAG_SECTION, TYPE_SECTION,
+};
 use wasm_parser::{Chunk, Encoding, Error, Payload, Result, SectionLimited};
 
 /// What a parser answered, as plain numbers: an event, a fault or a request for more bytes. Numbers that its kind doesn't name are
@@ -100,23 +105,23 @@ fn payload_event(payload: &Payload) -> PlainEvent
             count: u32::from(*num),
             ..event_between(1, encoding_code(*encoding), range.start, range.end)
         },
-        Payload::TypeSection(section) => counted_event(1, section),
-        Payload::ImportSection(section) => counted_event(2, section),
-        Payload::FunctionSection(section) => counted_event(3, section),
-        Payload::TableSection(section) => counted_event(4, section),
-        Payload::MemorySection(section) => counted_event(5, section),
-        Payload::TagSection(section) => counted_event(13, section),
-        Payload::GlobalSection(section) => counted_event(6, section),
-        Payload::ExportSection(section) => counted_event(7, section),
-        Payload::ElementSection(section) => counted_event(9, section),
-        Payload::DataSection(section) => counted_event(11, section),
+        Payload::TypeSection(section) => counted_event(TYPE_SECTION, section),
+        Payload::ImportSection(section) => counted_event(IMPORT_SECTION, section),
+        Payload::FunctionSection(section) => counted_event(FUNCTION_SECTION, section),
+        Payload::TableSection(section) => counted_event(TABLE_SECTION, section),
+        Payload::MemorySection(section) => counted_event(MEMORY_SECTION, section),
+        Payload::TagSection(section) => counted_event(TAG_SECTION, section),
+        Payload::GlobalSection(section) => counted_event(GLOBAL_SECTION, section),
+        Payload::ExportSection(section) => counted_event(EXPORT_SECTION, section),
+        Payload::ElementSection(section) => counted_event(ELEMENT_SECTION, section),
+        Payload::DataSection(section) => counted_event(DATA_SECTION, section),
         Payload::StartSection { func, range } => PlainEvent {
             count: *func,
-            ..event_between(3, 8, range.start, range.end)
+            ..event_between(3, u32::from(START_SECTION), range.start, range.end)
         },
         Payload::DataCountSection { count, range } => PlainEvent {
             count: *count,
-            ..event_between(4, 12, range.start, range.end)
+            ..event_between(4, u32::from(DATA_COUNT_SECTION), range.start, range.end)
         },
         Payload::CodeSectionStart {
             count,
@@ -125,18 +130,23 @@ fn payload_event(payload: &Payload) -> PlainEvent
         } => PlainEvent {
             count: *count,
             size: *size,
-            ..event_between(5, 10, unchecked_range.start, unchecked_range.end)
+            ..event_between(
+                5,
+                u32::from(CODE_SECTION),
+                unchecked_range.start,
+                unchecked_range.end,
+            )
         },
         Payload::CodeSectionEntry(body) => {
             let range = body.range();
-            event_between(6, 10, range.start, range.end)
+            event_between(6, u32::from(CODE_SECTION), range.start, range.end)
         }
         Payload::CustomSection(section) => {
             let range = section.range();
             PlainEvent {
                 data_offset: section.data_offset(),
                 name_size: section.name().len() as u64,
-                ..event_between(7, 0, range.start, range.end)
+                ..event_between(7, u32::from(CUSTOM_SECTION), range.start, range.end)
             }
         }
         Payload::UnknownSection { id, range, .. } => {

@@ -3,7 +3,7 @@ use Rattle.wasm_feed.proofs.ByHand.{tables, ‵, raw, ◌⊛◌, some, later, �
 use Rattle.wasm_feed.proofs.ByHand.{pick, await, rewrite, fjoin, fsplit, enter, addr, stop, no_more, and_then, returns, alloc_all, pass_all}
 use Rattle.wasm_feed.proofs.ByHand.{free_all, look_at, get, through, sets, lands_as, shows, Is, mut_vals, mut_Tells, no, plain, named_lft}
 use Rattle.wasm_feed.proofs.ByHand.{mut_ref_to, nothing, heard, peeks, only, calls_at, Lasts, lasts, triple_of, Stays, stay_dropped}
-use Rattle.wasm_feed.proofs.ByHand.{Goes-spent_ref, framed, source, right, followed, ◌≡◌}
+use Rattle.wasm_feed.proofs.ByHand.{Goes-spent_ref, framed, left, right, followed, ◌≡◌}
 use Rattle.wasm_feed.proofs.Stepping.{gives, steps_from}
 use Rattle.wasm_feed.proofs.Resting.{rests_close}
 use Rattle.std.specs.Prelude.{Result}
@@ -41,7 +41,7 @@ step_spec 𝓤 𝓛 𝓜 𝓡 wired =
     proved 𝓛 f.ended stayed c 𝓜 𝓡 (Goes-spent_ref 𝓛 1 (0 ∷ []) tt (plain (λ _. R)), tt)
     f.Key.name code.function (code.unfolded 𝓤 𝓛.H 𝓜 𝓡 wired)
     (λ κs. (mut_vals, tt)) (λ κs. (mut_Tells (named 0) κs.0 R, tt)) (λ κs qs bounds a _ are.
-    let κ = κs.0 in let q = qs.0 in let ql = source q in let qr = right q in
+    let κ = κs.0 in let q = qs.0 in let ql = left q in let qr = right q in
     let ℓ = named_lft 1 0 tt κs in let vs = mut_vals a.0 in let γ = a.0.ghost_name in let old = a.0.now in
     let Tr = opened-row.the_row ℓ ℓ in let Rr = result-row.the_row (step-row.the_row ℓ) error-row.the_row in
     let G = triple_of 𝓛 g.signature (g.spec 𝓛 𝓜.mem 𝓡.returns) in
