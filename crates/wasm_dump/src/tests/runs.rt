@@ -19,7 +19,7 @@ custom 20 26 25
 end 26
 ";
 
-const USAGE: &[u8] = b"usage: wasm_dump [--help] [--section ID|NAME]\n";
+const USAGE: &[u8] = b"usage: wasm_dump [--help] [--version] [--section ID|NAME] [FILE]...\n";
 
 // The program's own name, and these arguments.
 fn arguments(alloc: Global, words: &[&str]) -> Result<Args, Fail> {
@@ -37,7 +37,7 @@ fn run_over<R: Source, W: Write + Drop>(
     input: &mut R,
     writer: W,
 ) -> Result<(ExitCode, BoundedSink), Fail> {
-    let mut errors = BoundedSink::new(alloc, 60)?;
+    let mut errors = BoundedSink::new(alloc, 100)?;
     let output = WriteSink::new(writer);
     let (status, _output) = run_program(alloc, given, input, output, &mut errors);
     Ok((status, errors))
@@ -176,11 +176,23 @@ fn says_how_it_is_used(rt: HostRuntime) -> Result<(), Fail> {
     assert!(rt;
         written
             .as_slice()
-            .starts_with(b"usage: wasm_dump [--section ID|NAME] < FILE\n\n")
+            .starts_with(b"usage: wasm_dump [--section ID|NAME] [FILE]...\n\n")
     );
     assert!(rt; written.as_slice().ends_with(b"or memory failed.\n"));
     assert_eq!(rt; errors.written(), b"".as_slice());
     Ok(())
+}
+
+#[test]
+fn says_which_version_it_is(rt: HostRuntime) -> Result<(), Fail> {
+    let given = Ok(arguments(rt.alloc(), &["--version"])?);
+    runs(
+        &rt,
+        rt.alloc(),
+        given,
+        MODULE,
+        (0, b"wasm_dump 0.263.0\n", b""),
+    )
 }
 
 /// A reader that fails.
