@@ -50,14 +50,14 @@ abbrev pub plain_dylink_import : Place → Outcome ImportInfoParts → PlainDyli
 plain_dylink_import p (Ok x) = record {
   fault = no_fault;
   consumed = x.1.offset - p.offset;
-  from = text_span p.offset p (length x.0.from);
+  module_name = text_span p.offset p (length x.0.from);
   field = text_after p.offset (length x.0.field) (text_at None p);
   flags = x.0.flags;
 }
 plain_dylink_import p (Err f) = record {
   fault = plain_fault f;
   consumed = 0;
-  from = no_span;
+  module_name = no_span;
   field = no_span;
   flags = 0;
 }

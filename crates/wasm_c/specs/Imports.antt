@@ -38,7 +38,7 @@ abbrev pub no_import : PlainImport
 no_import = record {
   fault = no_fault;
   consumed = 0;
-  from = no_span;
+  module_name = no_span;
   name = no_span;
   ty = indexed_type 0 0;
   items = no_span;
@@ -50,21 +50,21 @@ no_import = record {
 abbrev pub import_from : Place → (consumed : ℕ) → Bundle → PlainImport
 import_from p consumed (single offset one) = record no_import {
   consumed = consumed;
-  from = text_span p.offset p (length one.from);
+  module_name = text_span p.offset p (length one.from);
   name = text_after p.offset (length one.name) (text_at (Some name_limit) p);
   ty = plain_import_type one.ty;
   count = 1;
 }
 import_from p consumed (of_module from items) = record no_import {
   consumed = consumed;
-  from = text_span p.offset p (length from);
+  module_name = text_span p.offset p (length from);
   items = items_span p.offset items;
   kind = 1;
   count = items.count;
 }
 import_from p consumed (of_type from ty names) = record no_import {
   consumed = consumed;
-  from = text_span p.offset p (length from);
+  module_name = text_span p.offset p (length from);
   ty = plain_import_type ty;
   items = items_span p.offset names;
   kind = 2;

@@ -62,12 +62,12 @@ no_memory_type = record {
 abbrev pub plain_global_type : GlobalType → PlainGlobalType
 plain_global_type g = record {
   content = plain_type g.content_type;
-  mutable = flag g.mutable;
+  is_mutable = flag g.mutable;
   shared = flag g.shared;
 }
 
 abbrev pub no_global_type : PlainGlobalType
-no_global_type = record { content = simple_type 0; mutable = 0; shared = 0 }
+no_global_type = record { content = simple_type 0; is_mutable = 0; shared = 0 }
 
 abbrev pub has_expression : TableInit → ℕ
 has_expression RefNull = 0

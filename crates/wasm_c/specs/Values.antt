@@ -73,6 +73,6 @@ plain_field p (Ok x) = record {
   fault = no_fault;
   consumed = x.1.offset - p.offset;
   ty = plain_storage x.0.storage;
-  mutable = flag x.0.mutable;
+  is_mutable = flag x.0.mutable;
 }
-plain_field p (Err f) = record { fault = plain_fault f; consumed = 0; ty = simple_type 0; mutable = 0 }
+plain_field p (Err f) = record { fault = plain_fault f; consumed = 0; ty = simple_type 0; is_mutable = 0 }

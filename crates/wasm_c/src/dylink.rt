@@ -54,7 +54,7 @@ pub struct PlainDylinkImport {
     /// How many bytes it takes.
     pub consumed: u64,
     /// The name of its module, which is UTF-8.
-    pub from: PlainSpan,
+    pub module_name: PlainSpan,
     /// Its name there, which is UTF-8.
     pub field: PlainSpan,
     /// Its flags, as those of a symbol.
@@ -159,7 +159,7 @@ fn refused_dylink_import(error: Error) -> PlainDylinkImport
     PlainDylinkImport {
         fault: plain_fault(error),
         consumed: 0,
-        from: NO_SPAN,
+        module_name: NO_SPAN,
         field: NO_SPAN,
         flags: 0,
     }
@@ -174,7 +174,7 @@ fn next_dylink_import(mut reader: BinaryReader<'_>) -> PlainDylinkImport
         Ok(info) => PlainDylinkImport {
             fault: NO_FAULT,
             consumed: distance(from, reader.original_position()),
-            from: text_span(from, before.clone().unwrap(), info.module.len()),
+            module_name: text_span(from, before.clone().unwrap(), info.module.len()),
             field: text_after_text(from, before, info.field.len()),
             flags: info.flags.bits(),
         },

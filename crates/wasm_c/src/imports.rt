@@ -42,7 +42,7 @@ pub struct PlainImport {
     /// How many bytes it takes, those of a bundle's imports among them.
     pub consumed: u64,
     /// The name of the module that it comes from, which is UTF-8.
-    pub from: PlainSpan,
+    pub module_name: PlainSpan,
     /// The name of an import in its module, which is UTF-8.
     pub name: PlainSpan,
     /// What is imported, but for a bundle of several types.
@@ -92,7 +92,7 @@ const NO_TYPE: PlainImportType = PlainImportType {
 const NO_IMPORT: PlainImport = PlainImport {
     fault: NO_FAULT,
     consumed: 0,
-    from: NO_SPAN,
+    module_name: NO_SPAN,
     name: NO_SPAN,
     ty: NO_TYPE,
     items: NO_SPAN,
@@ -141,7 +141,7 @@ fn whole_import(before: BinaryReader<'_>, consumed: u64, bundle: &Imports) -> Pl
     match bundle {
         Imports::Single(_, one) => PlainImport {
             consumed,
-            from: text_span(from, before.clone().unwrap(), one.module.len()),
+            module_name: text_span(from, before.clone().unwrap(), one.module.len()),
             name: text_after_name(from, before, one.name.len()),
             ty: plain_import_type(one.ty),
             count: 1,
@@ -149,7 +149,7 @@ fn whole_import(before: BinaryReader<'_>, consumed: u64, bundle: &Imports) -> Pl
         },
         Imports::Compact1 { module, items } => PlainImport {
             consumed,
-            from: text_span(from, before, module.len()),
+            module_name: text_span(from, before, module.len()),
             items: items_span(from, items),
             kind: 1,
             count: items.count(),
@@ -157,7 +157,7 @@ fn whole_import(before: BinaryReader<'_>, consumed: u64, bundle: &Imports) -> Pl
         },
         Imports::Compact2 { module, ty, names } => PlainImport {
             consumed,
-            from: text_span(from, before, module.len()),
+            module_name: text_span(from, before, module.len()),
             ty: plain_import_type(*ty),
             items: items_span(from, names),
             kind: 2,

@@ -64,7 +64,7 @@ pub struct PlainGlobalType {
     /// The type of its value.
     pub content: PlainType,
     /// 1 if its value can be changed, or 0.
-    pub mutable: u32,
+    pub is_mutable: u32,
     /// 1 if threads share it, or 0.
     pub shared: u32,
 }
@@ -147,7 +147,7 @@ pub(crate) const NO_MEMORY_TYPE: PlainMemoryType = PlainMemoryType {
 /// The type that stands where there is no global.
 pub(crate) const NO_GLOBAL_TYPE: PlainGlobalType = PlainGlobalType {
     content: SIMPLE,
-    mutable: 0,
+    is_mutable: 0,
     shared: 0,
 };
 
@@ -200,7 +200,7 @@ pub(crate) fn plain_global_type(ty: GlobalType) -> PlainGlobalType
 {
     PlainGlobalType {
         content: plain_type(ty.content_type),
-        mutable: flag(ty.mutable),
+        is_mutable: flag(ty.mutable),
         shared: flag(ty.shared),
     }
 }

@@ -66,7 +66,7 @@ pub struct PlainField {
     /// What it holds.
     pub ty: PlainType,
     /// 1 if it can be changed, or 0.
-    pub mutable: u32,
+    pub is_mutable: u32,
 }
 
 // What a reference refers to, and the index of the type that it names.
@@ -230,7 +230,7 @@ fn refused_field(error: Error) -> PlainField
         fault: plain_fault(error),
         consumed: 0,
         ty: simple_type(0),
-        mutable: 0,
+        is_mutable: 0,
     }
 }
 
@@ -243,7 +243,7 @@ fn next_field(mut reader: BinaryReader<'_>) -> PlainField
             fault: NO_FAULT,
             consumed: distance(from, reader.original_position()),
             ty: plain_storage(field.storage),
-            mutable: flag(field.mutable),
+            is_mutable: flag(field.mutable),
         },
         Err(error) => refused_field(error),
     }
