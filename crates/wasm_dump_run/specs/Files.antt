@@ -1,7 +1,6 @@
 -- Which files arguments name.
-use Rattle.std.specs.Prelude.{ℕ, Bool, true, false, List, [], ◌∷◌, codes, bytes_eq, drop, map, Option}
-use Rattle.std.specs.Prelude.{Some, None, Result}
-use Rattle.std.specs.Prelude.{Ok, Err, string_bytes, option_map, take, if◌then◌else◌}
+use Rattle.std.specs.Prelude.{ℕ, Bool, List, ◌∷◌, [], codes, bytes_eq, drop, map, Option, Some, None, Result, Ok, Err}
+use Rattle.std.specs.Prelude.{string_bytes, option_map, take, if◌then◌else◌}
 use Rattle.std.specs.Vec.Iter.{into_iter_items}
 use Rattle.wasm_dump_run.specs.declared.files.Named.{Named}
 
