@@ -106,6 +106,10 @@ struct pulleynavy_fault {
     uint64_t offset;
 };
 
+/* The text of the fault of this number, as far as there is room for it in `out`, without a zero byte. Answers how long the text is,
+   at most 80 bytes, or 0 where no fault has the number. */
+size_t pulleynavy_fault_message(uint32_t kind, uint8_t *out, size_t out_size);
+
 /* What a parser answered, as plain numbers: an event, a fault or a request for more bytes. Numbers that its kind doesn't name are 0.
    Offsets and sizes are in bytes, offsets from the start of the whole stream (core specification, Binary format, Modules). */
 struct pulleynavy_event {

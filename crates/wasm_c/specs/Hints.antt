@@ -1,7 +1,7 @@
 -- Branch hints as plain numbers.
-use Rattle.std.specs.Prelude.{ℕ, ◌-◌, List, length, Ok, Err}
+use Rattle.std.specs.Prelude.{◌-◌, Ok, Err}
 use Rattle.wasm_base.specs.Outcome.{Outcome}
-use Rattle.wasm_base.specs.Window.{Place, Window}
+use Rattle.wasm_base.specs.Window.{Place}
 use Rattle.wasm_c.specs.Faults.{no_fault, plain_fault}
 use Rattle.wasm_custom.specs.declared.branch_hinting.BranchHint.{BranchHint}
 use Rattle.wasm_custom.specs.declared.branch_hinting.BranchHintFunction.{BranchHintFunction}

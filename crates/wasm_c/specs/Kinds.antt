@@ -1,5 +1,5 @@
 -- Tables, memories, tags and globals as plain numbers.
-use Rattle.std.specs.Prelude.{ℕ, ◌-◌, Option, Some, None, Ok, Err}
+use Rattle.std.specs.Prelude.{ℕ, ◌-◌, Ok, Err}
 use Rattle.wasm_base.specs.Outcome.{Outcome}
 use Rattle.wasm_base.specs.Window.{Place}
 use Rattle.wasm_items.specs.Windows.{expression_window}

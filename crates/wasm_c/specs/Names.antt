@@ -1,5 +1,5 @@
 -- Names and subsections as plain numbers.
-use Rattle.std.specs.Prelude.{ℕ, ◌-◌, List, length, Ok, Err}
+use Rattle.std.specs.Prelude.{ℕ, ◌-◌, length, Ok, Err}
 use Rattle.wasm_base.specs.Outcome.{Outcome}
 use Rattle.wasm_base.specs.Window.{Place, Window}
 use Rattle.wasm_c.specs.Faults.{no_fault, plain_fault}

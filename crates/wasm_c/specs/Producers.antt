@@ -1,7 +1,7 @@
 -- What a module was produced with, as plain numbers.
-use Rattle.std.specs.Prelude.{ℕ, ◌-◌, List, length, None, Ok, Err}
+use Rattle.std.specs.Prelude.{◌-◌, length, None, Ok, Err}
 use Rattle.wasm_base.specs.Outcome.{Outcome}
-use Rattle.wasm_base.specs.Window.{Place, Window}
+use Rattle.wasm_base.specs.Window.{Place}
 use Rattle.wasm_c.specs.Faults.{no_fault, plain_fault}
 use Rattle.wasm_base.specs.Name.{text_at}
 use Rattle.wasm_custom.specs.Producers.{FieldParts, ValueParts}

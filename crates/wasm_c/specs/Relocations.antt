@@ -1,7 +1,7 @@
 -- Relocations as plain numbers.
-use Rattle.std.specs.Prelude.{ℕ, ◌-◌, List, length, Ok, Err, pos}
+use Rattle.std.specs.Prelude.{◌-◌, Ok, Err, pos}
 use Rattle.wasm_base.specs.Outcome.{Outcome}
-use Rattle.wasm_base.specs.Window.{Place, Window}
+use Rattle.wasm_base.specs.Window.{Place}
 use Rattle.wasm_c.specs.Faults.{no_fault, plain_fault}
 use Rattle.wasm_custom.specs.Reloc.{extent_of, number_of}
 use Rattle.wasm_custom.specs.declared.reloc.RelocationEntry.{RelocationEntry}

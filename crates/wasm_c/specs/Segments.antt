@@ -1,5 +1,5 @@
 -- Expressions and segments as plain numbers.
-use Rattle.std.specs.Prelude.{ℕ, ◌-◌, length, Option, Some, None, Ok, Err}
+use Rattle.std.specs.Prelude.{ℕ, ◌-◌, length, Option, None, Ok, Err}
 use Rattle.wasm_base.specs.Outcome.{Outcome}
 use Rattle.wasm_base.specs.Section.{Section}
 use Rattle.wasm_base.specs.Window.{Place, Window}

@@ -1,5 +1,5 @@
 -- Types of values as plain numbers.
-use Rattle.std.specs.Prelude.{◌≡◌, ℕ, ◌-◌, Ok, Err}
+use Rattle.std.specs.Prelude.{ℕ, ◌-◌, Ok, Err}
 use Rattle.wasm_base.specs.Outcome.{Outcome}
 use Rattle.wasm_base.specs.Window.{Place}
 use Rattle.wasm_items.specs.declared.types.FieldType.{FieldType}

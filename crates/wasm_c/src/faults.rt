@@ -73,8 +73,8 @@ fn start_code(of: CoreStart) -> u32
     }
 }
 
-// The number of a fault: that of its kind, and 256 times that of what it names.
-fn fault_code(fault: Fault) -> u32
+/// The number of a fault: that of its kind, and 256 times that of what it names.
+pub(crate) fn fault_code(fault: Fault) -> u32
     ensures { result ≡ fault_code fault }
 {
     match fault {

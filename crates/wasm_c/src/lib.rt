@@ -11,6 +11,7 @@ mod imports;
 mod kinds;
 pub mod laws;
 mod linking;
+mod messages;
 mod names;
 mod parsing;
 mod producers;
@@ -47,6 +48,7 @@ pub use linking::{
     PlainComdat, PlainComdatSymbol, PlainInitFunction, PlainLinkingSegment, pulleynavy_comdat,
     pulleynavy_comdat_symbol, pulleynavy_init_function, pulleynavy_linking_segment,
 };
+pub use messages::pulleynavy_fault_message;
 pub use names::{PlainNaming, PlainSubsection, pulleynavy_naming, pulleynavy_subsection};
 pub use parsing::{
     pulleynavy_fault_text, pulleynavy_parse, pulleynavy_parser, pulleynavy_skip_section,
