@@ -156,7 +156,7 @@ struct pulleynavy_parser {
     /* The bodies that a code section still misses. */
     uint32_t bodies;
     /* The bytes that a code section still misses. */
-    uint32_t left;
+    uint32_t code_bytes;
     /* 0 before the header. */
     uint8_t is_begun;
     /* 0 in a module. */
@@ -453,33 +453,33 @@ struct pulleynavy_import_type {
     struct pulleynavy_global_type global;
 };
 
-/* An import, or a group of imports, or its fault. */
+/* An import, or a bundle of imports, or its fault. */
 struct pulleynavy_import {
     /* The fault, whose kind is 0 where there is none. */
     struct pulleynavy_fault fault;
-    /* How many bytes it takes, those of a group's imports among them. */
+    /* How many bytes it takes, those of a bundle's imports among them. */
     uint64_t consumed;
     /* The name of the module that it comes from, which is UTF-8. */
     struct pulleynavy_span module_name;
     /* The name of an import in its module, which is UTF-8. */
     struct pulleynavy_span name;
-    /* What is imported, but for a group of several types. */
+    /* What is imported, but for a bundle of several types. */
     struct pulleynavy_import_type ty;
-    /* The imports of a group, after their count. */
+    /* The imports of a bundle, after their count. */
     struct pulleynavy_span items;
-    /* 0 an import, 1 a group of imports of one module, 2 a group of one module and one type. */
+    /* 0 an import, 1 a bundle of imports of one module, 2 a bundle of one module and one type. */
     uint32_t kind;
     /* How many imports it is. */
     uint32_t count;
 };
 
-/* An import of a group of one module, or its fault. */
+/* An import of a bundle of one module, or its fault. */
 struct pulleynavy_import_item {
     /* The fault, whose kind is 0 where there is none. */
     struct pulleynavy_fault fault;
     /* How many bytes it takes. */
     uint64_t consumed;
-    /* Its name in the group's module, which is UTF-8. */
+    /* Its name in the bundle's module, which is UTF-8. */
     struct pulleynavy_span name;
     /* What it is. */
     struct pulleynavy_import_type ty;
@@ -495,13 +495,13 @@ struct pulleynavy_name {
     struct pulleynavy_span name;
 };
 
-/* The import, or the group of imports, with which these bytes begin (core specification, Binary format, Modules, Import Section; the
-   groups are of the proposal for compact imports). The imports of a group are read by `pulleynavy_import_item`, or by
+/* The import, or the bundle of imports, with which these bytes begin (core specification, Binary format, Modules, Import Section; the
+   bundles are of the proposal for compact imports). The imports of a bundle are read by `pulleynavy_import_item`, or by
    `pulleynavy_name` where they have one type. The bytes are the rest of its section, and are at this offset of the whole stream. */
 struct pulleynavy_import pulleynavy_import(
     const uint8_t *bytes, size_t bytes_size, uint64_t offset, uint32_t features);
 
-/* The import of a group of one module with which these bytes begin (the proposal for compact imports). The bytes are the rest of its
+/* The import of a bundle of one module with which these bytes begin (the proposal for compact imports). The bytes are the rest of its
    section, and are at this offset of the whole stream. */
 struct pulleynavy_import_item pulleynavy_import_item(
     const uint8_t *bytes, size_t bytes_size, uint64_t offset, uint32_t features);
