@@ -36,7 +36,7 @@ class Parser(ctypes.Structure):
         ("datas", ctypes.c_uint32),
         ("data_counts", ctypes.c_uint32),
         ("bodies", ctypes.c_uint32),
-        ("left", ctypes.c_uint32),
+        ("code_bytes", ctypes.c_uint32),
         ("is_begun", ctypes.c_uint8),
         ("is_component", ctypes.c_uint8),
         ("rank", ctypes.c_uint8),

@@ -35,7 +35,7 @@ pub struct Parser {
     pub datas: u32,
     pub data_counts: u32,
     pub bodies: u32,
-    pub left: u32,
+    pub code_bytes: u32,
     pub is_begun: u8,
     pub is_component: u8,
     pub rank: u8,
