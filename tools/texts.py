@@ -7,6 +7,7 @@ The models say nothing of where subsections and names begin: these offsets are c
 import re
 
 import sections as S
+from expressions import instructions, range_of
 
 # How many of some raw bytes the lines show, after their count.
 SHOWN = 16
@@ -75,6 +76,56 @@ def value_end(text, place):
 def as_hex(quoted):
     plain = re.sub(r"\\([0-9a-f]{2})", lambda found: chr(int(found[1], 16)), quoted[1:-1])
     return "x" + plain.encode("latin-1").hex()
+
+
+# The rows of items that have expressions, and an expression as a field of theirs.
+WITH_EXPRESSIONS = ("table", "global", "element", "data", "constexpr")
+EXPRESSION = re.compile(r" (init_expr|offset_expr|init|expr)=(\([^()]*\)(?: \([^()]*\))*)")
+
+
+def start_of_expression(row, data, place):
+    """Where the expression of an item at a place begins at the earliest: in a segment after its flags and the index of its memory or table."""
+    if row in ("element", "data"):
+        flags, place = number_at(data, place)
+        if flags & 3 == 2:
+            place = number_at(data, place)[1]
+    return place
+
+
+def with_ranges(row, lines, data, offset):
+    """Lines of items of this row with the range of each expression in place of its instructions. The data begins at this offset."""
+    def ranged(line, is_under):
+        found = EXPRESSION.search(line)
+        if not found:
+            return line
+        place = int(line.split()[0]) - offset
+        start, end = range_of(data, place if is_under else start_of_expression(row, data, place), found[2])
+        return "%s %s=%d..%d%s" % (line[: found.start()], found[1], start + offset, end + offset, line[found.end() :])
+
+    return [ranged(line, line.startswith("    ")) for line in lines] if row in WITH_EXPRESSIONS else lines
+
+
+def with_instructions(row, lines, data):
+    """Lines of a stream's items of this row with the instructions of each expression in place of its range."""
+    def told(found):
+        text, end = instructions(data, int(found[2]))
+        assert end == int(found[3]), found[0]
+        return " %s=%s" % (found[1], text)
+
+    return [re.sub(r" (init_expr|offset_expr|init|expr)=(\d+)\.\.(\d+)", told, line) for line in lines] if row in WITH_EXPRESSIONS else lines
+
+
+def named(event):
+    """The line of an event as a dump has it: with the name of a section that is told by its id."""
+    words = event.split(" ")
+    return event + " " + S.NAMES[int(words[1])] if words[0] == "section" else event
+
+
+def unnamed(line):
+    """The line of an event as a listing has it."""
+    event = line.rsplit(" ", 1)[0] if line.startswith("section ") else line
+    assert named(event) == line, line
+    return event
 
 
 def nodes_of(lines):
@@ -524,7 +575,7 @@ CUSTOM = {
 
 def case_text(row, lines, data, offset):
     """The text of a case: an item and how many bytes it takes, a section, or a fault. Its bytes begin at this offset."""
-    nodes = nodes_of(lines)
+    nodes = nodes_of(with_ranges(row, lines, data, offset))
     if row == "flatimports":
         return " ".join(placed(node, import_item) for node in nodes)
     if nodes[0].text.startswith("fault "):
@@ -584,14 +635,17 @@ def listing_texts(lines, data):
         end = place + 1
         while end < len(lines) and lines[end].startswith("  "):
             end += 1
+        event = unnamed(event)
         texts.append(event)
-        nodes, words = nodes_of(lines[place + 1 : end]), event.split(" ")
+        words = event.split(" ")
+        row = SECTIONS.get(int(words[1])) if words[0] == "section" else None
+        nodes = nodes_of(with_ranges(row, lines[place + 1 : end], data, 0))
         if words[0] == "custom":
             start, end_of_data = int(words[3]), int(words[2])
             texts += ["  " + custom_text(node, data[start:end_of_data], start) for node in nodes]
         else:
             assert words[0] == "section" or not nodes, event
-            texts += ["  " + placed(node, ITEMS[SECTIONS[int(words[1])]], " ") for node in nodes]
+            texts += ["  " + placed(node, ITEMS[row], " ") for node in nodes]
         place = end
     return texts
 

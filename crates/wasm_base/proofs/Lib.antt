@@ -1,4 +1,5 @@
 pub mod Announced
+pub mod EveryFeature
 pub mod InnerLists
 pub mod InTurn
 pub mod Lists

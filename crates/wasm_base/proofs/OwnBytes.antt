@@ -1,5 +1,6 @@
 -- Readings that depend on no byte after those that they take.
 use Rattle.std.proofs.Common.{length-drop, ◌≡◌, ℕ, zero, suc, ◌+◌, ◌-◌, ◌<◌, ◌≤◌, Bool, true, false, cond, List, [], ◌∷◌, ◌++◌, length}
+use Rattle.std.proofs.Common.{Option, Some, None}
 use Rattle.std.proofs.Common.{take, drop, nat_lt, Ok, Err, refl, sym, ap, subst, arith, ◌∙◌, ℤ, ltb-false, le-ltb}
 use Rattle.std.proofs.Math.Seq.{take-add}
 use Rattle.std.proofs.lemmas.List.{drop-take, take-take, length-take}
@@ -7,12 +8,14 @@ use Rattle.wasm_base.proofs.NumberLaws.{Used, number-used, number-more}
 use Rattle.wasm_base.proofs.Texts.{advanced_twice}
 use Rattle.wasm_base.specs.FaultAt.{FaultAt, at_offset}
 use Rattle.wasm_base.specs.Inner.{after_reading}
+use Rattle.wasm_base.specs.Leading.{leading_byte, lookup, or_leading, in_table}
 use Rattle.wasm_base.specs.Name.{bytes_at, byte_at}
 use Rattle.wasm_base.specs.Number.{Number, read, bad, short, number, in_window, unsigned_at}
 use Rattle.wasm_base.specs.Outcome.{Outcome, ◌>>=◌}
 use Rattle.wasm_base.specs.Signed.{signed_value, signed_at}
 use Rattle.wasm_base.specs.Window.{Place, advanced}
 use Rattle.wasm_base.specs.declared.fault.Fault.TheVariants.{UnexpectedEof}
+use Rattle.wasm_base.specs.declared.fault.Lead.{Lead}
 use Rattle.wasm_base.specs.declared.fault.NumberKind.{NumberKind}
 
 -- the place in a window that ends after n more bytes
@@ -109,6 +112,16 @@ byte_own features offset (b ∷ bs) x q e =
 
 pub own_byte : Own byte_at
 own_byte = record { at = λ p x q e. byte_own p.features p.offset p.rest x q e }
+
+own_or_leading : {A : Type 0} (lead : Lead) (byte : ℕ) (value : Option A) → Own (λ p. or_leading lead byte (p.offset - 1) value p)
+own_or_leading lead byte (Some value) = own_nothing value
+own_or_leading lead byte None = own_refused (λ p. leading_byte lead byte (p.offset - 1))
+
+-- a byte that a table says something of
+pub own_in_table : {A : Type 0} (lead : Lead) (table : List (ℕ × A)) → Own (in_table lead table)
+unfolding in_table
+own_in_table lead table = own_both byte_at (λ byte p. or_leading lead byte (p.offset - 1) (lookup table byte) p) own_byte
+    (λ byte. own_or_leading lead byte (lookup table byte))
 
 -- a number in the bytes up to a later place is the number
 pub cut_number : (kind : NumberKind) (xs : List ℕ) (v k m : ℕ) → number kind xs ≡ read v k → k ≤ m → number kind (take m xs) ≡ read v k

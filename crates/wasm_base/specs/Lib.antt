@@ -1,4 +1,5 @@
 pub mod Announced
+pub mod Bits
 pub mod Comparing
 pub mod FaultAt
 pub mod Features

@@ -1,9 +1,8 @@
 // A reader of bytes that knows where they are in the whole stream.
 ghost use Rattle.std.specs.Fn.{FnOnceReturnsAtMut};
 ghost use Rattle.std.specs.Prelude.{⊤, ◌≡◌, ◌+◌, ◌<◌, ◌≤◌, ◌^◌, ◌==◌, ◌↔◌, IsTrue, IfOk, OnOk, OnErr, Some, None, length, true};
-ghost use Rattle.std.specs.Int.RustNames.{bit_and};
 ghost use Rattle.wasm_base.specs.FaultAt.{fault_at, at_offset, hint_of};
-ghost use Rattle.wasm_base.specs.Features.{feature_bits, all_features};
+ghost use Rattle.wasm_base.specs.Features.{feature_bits, takes_wide_limits, all_features};
 ghost use Rattle.wasm_base.specs.Float.{bits_of_32, bits_of_64, u64_at};
 ghost use Rattle.wasm_base.specs.Septets.{sum_bound};
 ghost use Rattle.wasm_base.specs.Header.{agree, magic, header_version_at};
@@ -183,7 +182,7 @@ impl<'a> BinaryReader<'a> {
 
     /// Whether limits are 64-bit numbers.
     pub fn memory64(&self) -> bool
-        ensures { result ≡ (bit_and self.now.features 1 == 1) }
+        ensures { result ≡ takes_wide_limits self.now.features }
     {
         let features = self.features;
         features.contains(WasmFeatures::MEMORY64)

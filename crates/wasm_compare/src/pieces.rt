@@ -131,7 +131,7 @@ fn write_steps(
     offset: u64,
     out: &mut String,
 ) -> Result<(), Failed> {
-    let features = WasmFeatures::from_bits_retain(3);
+    let features = WasmFeatures::all();
     let most = reader
         .remaining_buffer()
         .len()

@@ -1,39 +1,19 @@
 -- The hints of a function that was read, which are all that it announces.
-use Rattle.std.proofs.Common.{◌≡◌, ℕ, zero, suc, ◌-◌, true, false, Ok, ap, subst}
+use Rattle.std.proofs.Common.{◌≡◌, ℕ, true, false, [], ◌∷◌, Ok, ap, subst}
 use Rattle.wasm_base.proofs.Announced.{in_steps, read_as, announced, after_follows}
-use Rattle.wasm_base.proofs.OwnBytes.{Own, own_nothing, own_refused, own_both, own_byte, own_number, own_passed}
+use Rattle.wasm_base.proofs.OwnBytes.{Own, own_nothing, own_both, own_in_table, own_number, own_passed}
 use Rattle.wasm_base.specs.Announced.{GivesAnnounced}
 use Rattle.wasm_base.specs.Inner.{inner_section_at, after_reading}
 use Rattle.wasm_base.specs.Item.{ReadsAs}
-use Rattle.wasm_base.specs.Leading.{leading_byte}
-use Rattle.wasm_base.specs.Name.{byte_at}
 use Rattle.wasm_base.specs.Number.{unsigned_at}
 use Rattle.wasm_base.specs.Outcome.{Outcome, ◌>>=◌}
 use Rattle.wasm_base.specs.Section.{Section, NextItem}
 use Rattle.wasm_base.specs.Window.{Place}
 use Rattle.wasm_base.specs.declared.fault.Lead.TheVariants as Leads
 use Rattle.wasm_base.specs.declared.fault.NumberKind.TheVariants.{VarU32}
-use Rattle.wasm_custom.specs.BranchHinting.{only_one, hint_size_at, taken_of, taken_at, branch_hint_at, function_hints_at}
+use Rattle.wasm_custom.specs.BranchHinting.{hint_size_at, taken_at, branch_hint_at, function_hints_at}
 use Rattle.wasm_custom.specs.declared.branch_hinting.BranchHint.{BranchHint}
 use Rattle.wasm_custom.specs.declared.branch_hinting.BranchHintFunction.{BranchHintFunction}
-
-own_one : (byte : ℕ) → Own (λ p. only_one byte (p.offset - 1) p)
-own_one zero = own_refused (λ p. leading_byte Leads.BranchHint zero (p.offset - 1))
-own_one (suc zero) = own_nothing tt
-own_one (suc (suc n)) = own_refused (λ p. leading_byte Leads.BranchHint (suc (suc n)) (p.offset - 1))
-
-own_size : Own hint_size_at
-unfolding hint_size_at
-own_size = own_both byte_at (λ byte p. only_one byte (p.offset - 1) p) own_byte own_one
-
-own_value : (byte : ℕ) → Own (λ p. taken_of byte (p.offset - 1) p)
-own_value zero = own_nothing false
-own_value (suc zero) = own_nothing true
-own_value (suc (suc n)) = own_refused (λ p. leading_byte Leads.BranchTaken (suc (suc n)) (p.offset - 1))
-
-own_taken : Own taken_at
-unfolding taken_at
-own_taken = own_both byte_at (λ byte p. taken_of byte (p.offset - 1) p) own_byte own_value
 
 own_hint : Own branch_hint_at
 unfolding branch_hint_at
@@ -41,9 +21,11 @@ own_hint =
     own_both (unsigned_at VarU32) (λ offset p. hint_size_at p >>= λ size. taken_at size.1 >>= λ taken.
     let o : Outcome BranchHint = Ok (record { func_offset = offset; taken = taken.0 }, taken.1) in o) (own_number VarU32)
     (λ offset. own_both hint_size_at (λ size p. taken_at p >>= λ taken.
-    let o : Outcome BranchHint = Ok (record { func_offset = offset; taken = taken.0 }, taken.1) in o) own_size
-    (λ size. own_both taken_at (λ taken p. let o : Outcome BranchHint = Ok (record { func_offset = offset; taken = taken }, p) in o)
-    own_taken (λ taken. own_nothing (record { func_offset = offset; taken = taken }))))
+    let o : Outcome BranchHint = Ok (record { func_offset = offset; taken = taken.0 }, taken.1) in o)
+    (own_in_table Leads.BranchHint ((1, tt) ∷ []))
+    (λ size. own_both taken_at (λ taken p.
+    let o : Outcome BranchHint = Ok (record { func_offset = offset; taken = taken }, p) in o)
+    (own_in_table Leads.BranchTaken ((0, false) ∷ (1, true) ∷ [])) (λ taken. own_nothing (record { func_offset = offset; taken = taken }))))
 
 abbrev pub Given : Section → Type 0
 Given hints = GivesAnnounced (NextItem (ReadsAs (λ (hint : BranchHint). hint) branch_hint_at)) hints

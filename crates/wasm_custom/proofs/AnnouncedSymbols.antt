@@ -1,36 +1,26 @@
 -- The symbols of a comdat that was read, which are all that it announces.
-use Rattle.std.proofs.Common.{◌≡◌, ℕ, ◌-◌, Option, Some, None, Ok, ap, subst}
+use Rattle.std.proofs.Common.{◌≡◌, ℕ, None, Ok, ap, subst}
 use Rattle.wasm_base.proofs.Announced.{in_steps, read_as, announced, after_follows}
-use Rattle.wasm_base.proofs.OwnBytes.{Own, own_nothing, own_refused, own_both, own_byte, own_number, own_passed}
+use Rattle.wasm_base.proofs.OwnBytes.{Own, own_nothing, own_both, own_in_table, own_number, own_passed}
 use Rattle.wasm_base.specs.Announced.{GivesAnnounced}
 use Rattle.wasm_base.specs.Inner.{inner_section_at, after_reading}
 use Rattle.wasm_base.specs.Item.{ReadsAs}
-use Rattle.wasm_base.specs.Leading.{leading_byte}
-use Rattle.wasm_base.specs.Name.{byte_at, text_at}
+use Rattle.wasm_base.specs.Name.{text_at}
 use Rattle.wasm_base.specs.Number.{unsigned_at}
 use Rattle.wasm_base.specs.Outcome.{Outcome, ◌>>=◌}
 use Rattle.wasm_base.specs.Section.{Section, NextItem}
 use Rattle.wasm_base.specs.Window.{Place}
 use Rattle.wasm_base.specs.declared.fault.Lead.TheVariants as Leads
 use Rattle.wasm_base.specs.declared.fault.NumberKind.TheVariants.{VarU32}
-use Rattle.wasm_custom.specs.Linking.{comdat_kind_of, comdat_kind_or_fault, comdat_kind_at, comdat_symbol_at, ComdatParts, comdat_at}
+use Rattle.wasm_custom.specs.Linking.{comdat_kinds, comdat_kind_at, comdat_symbol_at, ComdatParts, comdat_at}
 use Rattle.wasm_custom.specs.declared.linking.ComdatSymbol.{ComdatSymbol}
-use Rattle.wasm_custom.specs.declared.linking.ComdatSymbolKind.{ComdatSymbolKind}
-
-own_kind_or_fault : (byte : ℕ) (kind : Option ComdatSymbolKind) → Own (λ p. comdat_kind_or_fault byte (p.offset - 1) p kind)
-own_kind_or_fault byte (Some kind) = own_nothing kind
-own_kind_or_fault byte None = own_refused (λ p. leading_byte Leads.ComdatSymbol byte (p.offset - 1))
-
-own_kind : Own comdat_kind_at
-unfolding comdat_kind_at
-own_kind = own_both byte_at (λ byte p. comdat_kind_or_fault byte (p.offset - 1) p (comdat_kind_of byte)) own_byte
-    (λ byte. own_kind_or_fault byte (comdat_kind_of byte))
 
 own_symbol : Own comdat_symbol_at
 unfolding comdat_symbol_at
 own_symbol =
     own_both comdat_kind_at (λ kind p. unsigned_at VarU32 p >>= λ index.
-    let o : Outcome ComdatSymbol = Ok (record { kind = kind; index = index.0 }, index.1) in o) own_kind
+    let o : Outcome ComdatSymbol = Ok (record { kind = kind; index = index.0 }, index.1) in o)
+    (own_in_table Leads.ComdatSymbol comdat_kinds)
     (λ kind. own_both (unsigned_at VarU32) (λ index p. let o : Outcome ComdatSymbol = Ok (record { kind = kind; index = index }, p) in o)
     (own_number VarU32)
     (λ index. own_nothing (record { kind = kind; index = index })))

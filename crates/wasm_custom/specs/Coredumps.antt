@@ -1,7 +1,8 @@
 -- Core dumps. Tool conventions, Coredump.
-use Rattle.std.specs.Prelude.{ℕ, ◌==◌, ℤ, List, length, None, Result, Ok, Err, map, if◌then◌else◌}
+use Rattle.std.specs.Prelude.{ℕ, ◌==◌, ℤ, List, [], ◌∷◌, length, None, Result, Ok, Err, map, if◌then◌else◌}
 use Rattle.wasm_base.specs.FaultAt.{FaultAt, at_offset}
 use Rattle.wasm_base.specs.Float.{bits_of_32, bits_of_64, u64_at}
+use Rattle.wasm_base.specs.Leading.{lookup_or}
 use Rattle.wasm_base.specs.Name.{byte_at, text_at, u32_at}
 use Rattle.wasm_base.specs.Number.{unsigned_at}
 use Rattle.wasm_base.specs.Outcome.{Outcome, ◌>>=◌}
@@ -102,20 +103,19 @@ value_parts (Values.F32 float) = f32 (bits_of_32 float)
 value_parts (Values.F64 float) = f64 (bits_of_64 float)
 
 -- a value by a reading of what is in it
-abbrev pub as_value : {A : Type 0} → (A → ValueParts) → Outcome A → Outcome ValueParts
-as_value value_of (Ok part) = Ok (value_of part.0, part.1)
-as_value value_of (Err e) = Err e
+abbrev pub as_value : {A : Type 0} → (A → ValueParts) → (Place → Outcome A) → Place → Outcome ValueParts
+as_value value_of reading p = do
+  part ← reading p
+  Ok (value_of part.0, part.1)
 
 -- a value: a byte that says what it is, and that (Thread(s) and Stack Frames)
 unfoldable pub value_at : Place → Outcome ValueParts
 value_at p = do
   byte ← byte_at p
-  if byte.0 == 0x01 then Ok (missing, byte.1)
-      else if byte.0 == 0x7F then as_value i32 (signed_at VarI32 byte.1)
-      else if byte.0 == 0x7E then as_value i64 (signed_at VarI64 byte.1)
-      else if byte.0 == 0x7D then as_value f32 (u32_at byte.1)
-      else if byte.0 == 0x7C then as_value f64 (u64_at byte.1)
-      else Err (at_offset CoreValue p.offset)
+  lookup_or {A = Place → Outcome ValueParts} (λ after. Err (at_offset CoreValue p.offset))
+      ((0x01, λ after. Ok (missing, after)) ∷ (0x7F, as_value i32 (signed_at VarI32))
+      ∷ (0x7E, as_value i64 (signed_at VarI64)) ∷ (0x7D, as_value f32 u32_at) ∷ (0x7C, as_value f64 u64_at) ∷
+      []) byte.0 byte.1
 
 -- a frame with its lists
 pub record FrameParts : Type 0 where

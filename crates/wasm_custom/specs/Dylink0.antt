@@ -1,7 +1,8 @@
 -- What a dynamic linker reads. Tool conventions, Dynamic Linking, The "dylink.0" Section.
 use Rattle.std.specs.declared.ops.Range.{Range}
-use Rattle.std.specs.Prelude.{ℕ, ◌==◌, List, None, Result, Ok, Err, map, if◌then◌else◌}
+use Rattle.std.specs.Prelude.{ℕ, List, [], ◌∷◌, None, Result, Ok, map}
 use Rattle.wasm_base.specs.FaultAt.{FaultAt}
+use Rattle.wasm_base.specs.Leading.{lookup_or}
 use Rattle.wasm_base.specs.Name.{text_at}
 use Rattle.wasm_base.specs.Number.{unsigned_at}
 use Rattle.wasm_base.specs.Outcome.{Outcome, ◌>>=◌}
@@ -81,17 +82,14 @@ dylink_parts (Dylinks.TargetArch name) = arch name.now
 dylink_parts (Dylinks.Unknown id contents range) = unknown id contents.now range
 
 -- the value that a window begins with; bytes after it are not looked at
-abbrev pub begins_with : {A : Type 0} → (A → DylinkParts) → Outcome A → Result DylinkParts FaultAt
-begins_with parts (Ok x) = Ok (parts x.0)
-begins_with parts (Err e) = Err e
+abbrev pub begins_with : {A : Type 0} → (A → DylinkParts) → (Place → Outcome A) → Window → Result DylinkParts FaultAt
+begins_with parts reading w = do
+  value ← reading (place w)
+  Ok (parts value.0)
 
 -- a subsection for dynamic linkers, by its id
 unfoldable pub dylink_subsection_in : (id : ℕ) → Window → Result DylinkParts FaultAt
-dylink_subsection_in id w =
-    if id == 1 then begins_with memory_info (mem_info_at (place w))
-    else if id == 2 then begins_with (texts 2) (list_at (text_at None) (place w))
-    else if id == 3 then begins_with exports (list_at export_info_at (place w))
-    else if id == 4 then begins_with imports (list_at import_info_at (place w))
-    else if id == 5 then begins_with (texts 5) (list_at (text_at None) (place w))
-    else if id == 6 then begins_with arch (text_at None (place w))
-    else Ok (unknown id (place w).rest (rest_range w))
+dylink_subsection_in id = lookup_or (λ w. Ok (unknown id (place w).rest (rest_range w)))
+    ((1, begins_with memory_info mem_info_at) ∷ (2, begins_with (texts 2) (list_at (text_at None)))
+    ∷ (3, begins_with exports (list_at export_info_at)) ∷ (4, begins_with imports (list_at import_info_at))
+    ∷ (5, begins_with (texts 5) (list_at (text_at None))) ∷ (6, begins_with arch (text_at None)) ∷ []) id

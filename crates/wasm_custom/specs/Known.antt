@@ -1,6 +1,7 @@
 -- What the data of a custom section is, by the section's name. Core specification, Appendix, Custom Sections, and the
 -- tool conventions; that data which can't be read is unknown is this project's profile.
-use Rattle.std.specs.Prelude.{◌≡◌, ℕ, Bool, true, false, List, Result, Ok, Err, codes, bytes_eq, nat_eq, if◌then◌else◌}
+use Rattle.std.specs.Prelude.{◌≡◌, ℕ, Bool, ◌||◌, List, [], ◌∷◌, Result, Ok, Err, codes, bytes_eq, nat_eq}
+use Rattle.std.specs.Prelude.{if◌then◌else◌}
 use Rattle.std.specs.List.{starts_with}
 use Rattle.wasm_base.specs.FaultAt.{FaultAt, fault_at}
 use Rattle.wasm_base.specs.Owned.{out_of_memory}
@@ -15,8 +16,6 @@ use Rattle.wasm_custom.specs.Linking.{LinkingSection, linking_in}
 use Rattle.wasm_custom.specs.Reloc.{reloc_section_in}
 use Rattle.wasm_custom.specs.declared.known.KnownCustom.{KnownCustom}
 use Rattle.wasm_custom.specs.declared.known.KnownCustom.TheVariants as Knowns
-use Rattle.wasm_custom.specs.declared.known.SectionName.{SectionName}
-use Rattle.wasm_custom.specs.declared.known.SectionName.TheVariants as Sections
 use Rattle.wasm_custom.specs.declared.reloc.RelocSectionReader.{RelocSectionReader}
 
 -- what a section is, with the bytes of its texts
@@ -45,21 +44,6 @@ known_parts (Knowns.CoreDumpModules section) = core_modules (modules_parts secti
 known_parts (Knowns.Linking section) = linking section
 known_parts (Knowns.Reloc section) = relocations section
 known_parts Knowns.Unknown = unknown
-
--- which known section has a name
-abbrev pub section_named : List ℕ → SectionName
-section_named name =
-    if bytes_eq name (codes "name") then Sections.Name
-    else if bytes_eq name (codes "metadata.code.branch_hint") then Sections.BranchHints
-    else if bytes_eq name (codes "producers") then Sections.Producers
-    else if bytes_eq name (codes "dylink.0") then Sections.Dylink0
-    else if bytes_eq name (codes "core") then Sections.CoreDump
-    else if bytes_eq name (codes "coremodules") then Sections.CoreModules
-    else if bytes_eq name (codes "coreinstances") then Sections.CoreInstances
-    else if bytes_eq name (codes "corestack") then Sections.CoreStack
-    else if bytes_eq name (codes "linking") then Sections.Linking
-    else if starts_with nat_eq name (codes "reloc.") then Sections.Reloc
-    else Sections.Other
 
 -- data that was read as something, or else is unknown
 abbrev pub or_unknown : {X : Type 0} → (X → Known) → Result X FaultAt → Known
@@ -90,30 +74,27 @@ linking_section_in w = or_unknown linking (linking_in w)
 abbrev pub relocations_in : Window → Known
 relocations_in w = or_unknown relocations (reloc_section_in w)
 
--- what a window is as the data of a section
-abbrev pub known_in : SectionName → Window → Known
-known_in Sections.Name w = names (none_given w)
-known_in Sections.BranchHints w = branch_hints_in w
-known_in Sections.Producers w = producers_in w
-known_in Sections.Dylink0 w = dynamic_linking w
-known_in Sections.CoreDump w = core_dump_in w
-known_in Sections.CoreModules w = core_modules_in w
-known_in Sections.CoreInstances w = core_instances_in w
-known_in Sections.CoreStack w = core_stack_in w
-known_in Sections.Linking w = linking_section_in w
-known_in Sections.Reloc w = relocations_in w
-known_in Sections.Other w = unknown
+-- the names that are known, and what a window is as the data of a section of each
+abbrev pub readings : List (List ℕ × (Window → Known))
+readings =
+    (codes "name", λ w. names (none_given w)) ∷ (codes "metadata.code.branch_hint", branch_hints_in)
+    ∷ (codes "producers", producers_in) ∷ (codes "dylink.0", dynamic_linking) ∷ (codes "core", core_dump_in)
+    ∷ (codes "coremodules", core_modules_in) ∷ (codes "coreinstances", core_instances_in)
+    ∷ (codes "corestack", core_stack_in) ∷ (codes "linking", linking_section_in) ∷ []
+
+-- what a window is as the data of a section of this name; many names begin with the word of relocations
+abbrev pub read_by_name : List (List ℕ × (Window → Known)) → (name : List ℕ) → Window → Known
+read_by_name [] name w = if starts_with nat_eq name (codes "reloc.") then relocations_in w else unknown
+read_by_name (row ∷ rows) name w = if bytes_eq name row.0 then row.1 w else read_by_name rows name w
 
 -- what a custom section is: its data, read as its name says
 abbrev pub known_of : Custom → Known
-known_of section = known_in (section_named section.name) (whole_window (place section.reader))
+known_of section = read_by_name readings section.name (whole_window (place section.reader))
 
--- whether reading a section may ask for memory: the lists of core dumps are owned
-abbrev pub owns_lists : SectionName → Bool
-owns_lists Sections.CoreModules = true
-owns_lists Sections.CoreInstances = true
-owns_lists Sections.CoreStack = true
-owns_lists _ = false
+-- whether reading a section of this name may ask for memory: the lists of core dumps are owned
+abbrev pub owns_lists : (name : List ℕ) → Bool
+owns_lists name =
+    bytes_eq name (codes "coremodules") || bytes_eq name (codes "coreinstances") || bytes_eq name (codes "corestack")
 
 -- What a call returned is what the section is, or memory was refused.
 abbrev pub KnowsUnlessMemory : {A : Type 0} → Result (KnownCustom A) Error → Known → Type 0

@@ -1,10 +1,11 @@
 -- What a linker reads. Tool conventions, Linking, Linking Metadata Section.
 use Rattle.std.specs.declared.ops.Range.{Range}
-use Rattle.std.specs.Prelude.{ℕ, ◌-◌, ◌==◌, ◌||◌, not, Bool, List, Option, Some, None, Result, Ok, Err, bit_and}
+use Rattle.std.specs.Prelude.{ℕ, ◌==◌, ◌||◌, not, Bool, List, [], ◌∷◌, Option, Some, None, Result, Ok, Err}
 use Rattle.std.specs.Prelude.{if◌then◌else◌}
+use Rattle.wasm_base.specs.Bits.{has_bit}
 use Rattle.wasm_base.specs.FaultAt.{FaultAt}
 use Rattle.wasm_base.specs.Inner.{inner_section_at, after_reading}
-use Rattle.wasm_base.specs.Leading.{leading_byte}
+use Rattle.wasm_base.specs.Leading.{leading_byte, lookup_or, in_table}
 use Rattle.wasm_base.specs.Name.{byte_at, name_limit, text_at}
 use Rattle.wasm_base.specs.Number.{unsigned_at}
 use Rattle.wasm_base.specs.Outcome.{Outcome, ◌>>=◌}
@@ -55,25 +56,14 @@ init_function_at p = do
   Ok (record { priority = priority.0; symbol_index = symbol.0 }, symbol.1)
 
 -- the kind of a comdat's symbol that each byte is (COMDAT Subsection)
-abbrev pub comdat_kind_of : ℕ → Option ComdatSymbolKind
-comdat_kind_of byte =
-    if byte == 0 then Some Kinds.Data
-    else if byte == 1 then Some Kinds.Func
-    else if byte == 2 then Some Kinds.Global
-    else if byte == 3 then Some Kinds.Event
-    else if byte == 4 then Some Kinds.Table
-    else if byte == 5 then Some Kinds.Section
-    else None
+abbrev pub comdat_kinds : List (ℕ × ComdatSymbolKind)
+comdat_kinds =
+    (0, Kinds.Data) ∷ (1, Kinds.Func) ∷ (2, Kinds.Global) ∷ (3, Kinds.Event) ∷ (4, Kinds.Table)
+    ∷ (5, Kinds.Section) ∷ []
 
-abbrev pub comdat_kind_or_fault : (byte offset : ℕ) → Place → Option ComdatSymbolKind → Outcome ComdatSymbolKind
-comdat_kind_or_fault byte offset p (Some kind) = Ok (kind, p)
-comdat_kind_or_fault byte offset p None = Err (leading_byte Leads.ComdatSymbol byte offset)
-
--- a kind: a byte, else a fault at it
-unfoldable pub comdat_kind_at : Place → Outcome ComdatSymbolKind
-comdat_kind_at p = do
-  byte ← byte_at p
-  comdat_kind_or_fault byte.0 (byte.1.offset - 1) byte.1 (comdat_kind_of byte.0)
+-- a kind: a byte
+abbrev pub comdat_kind_at : Place → Outcome ComdatSymbolKind
+comdat_kind_at = in_table Leads.ComdatSymbol comdat_kinds
 
 -- a symbol of a comdat: a kind and an index
 unfoldable pub comdat_symbol_at : Place → Outcome ComdatSymbol
@@ -99,13 +89,17 @@ comdat_at p = do
   symbols ← inner_section_at (after_reading comdat_symbol_at) flags.1
   Ok (record { name = name.0; flags = flags.0; symbols = symbols.0 }, symbols.1)
 
--- whether a symbol is not defined here, which is flag 16
-abbrev pub is_undefined : ℕ → Bool
-is_undefined flags = bit_and flags 16 == 16
+-- whether a symbol is not defined here
+abbrev pub is_undefined : (flags : ℕ) → Bool
+is_undefined flags = has_bit flags 4
 
--- whether a symbol's name is written: it is defined here, or has flag 64 for a name of its own
-abbrev pub is_named : ℕ → Bool
-is_named flags = not (is_undefined flags) || (bit_and flags 64 == 64)
+-- whether a symbol has a name of its own, and not that of what it imports
+abbrev pub has_explicit_name : (flags : ℕ) → Bool
+has_explicit_name flags = has_bit flags 6
+
+-- whether a symbol's name is written
+abbrev pub is_named : (flags : ℕ) → Bool
+is_named flags = not (is_undefined flags) || has_explicit_name flags
 
 abbrev pub some_text_at : Place → Outcome (Option (List ℕ))
 some_text_at p = do
@@ -174,14 +168,9 @@ section_symbol_at flags p = do
 
 -- a symbol after its kind and flags; the fault of another kind is at the kind
 abbrev pub symbol_after : (start kind flags : ℕ) → Place → Outcome SymbolParts
-symbol_after start kind flags p =
-    if kind == 0 then indexed_symbol_at 0 flags p
-    else if kind == 1 then data_symbol_at flags p
-    else if kind == 2 then indexed_symbol_at 2 flags p
-    else if kind == 3 then section_symbol_at flags p
-    else if kind == 4 then indexed_symbol_at 4 flags p
-    else if kind == 5 then indexed_symbol_at 5 flags p
-    else Err (leading_byte Leads.Symbol kind start)
+symbol_after start kind = lookup_or (λ flags p. Err (leading_byte Leads.Symbol kind start))
+    ((0, indexed_symbol_at 0) ∷ (1, data_symbol_at) ∷ (2, indexed_symbol_at 2) ∷ (3, section_symbol_at)
+    ∷ (4, indexed_symbol_at 4) ∷ (5, indexed_symbol_at 5) ∷ []) kind
 
 -- a symbol: a kind, flags, and what its kind has (Symbol Table Subsection)
 unfoldable pub symbol_at : Place → Outcome SymbolParts
@@ -216,13 +205,8 @@ arch_in w = do
 
 -- a subsection for linkers, by its id; bytes after the name of an architecture are not looked at
 unfoldable pub linking_subsection_in : (id : ℕ) → Window → Result LinkingParts FaultAt
-linking_subsection_in id w =
-    if id == 5 then listed_in 5 w
-    else if id == 6 then listed_in 6 w
-    else if id == 7 then listed_in 7 w
-    else if id == 8 then listed_in 8 w
-    else if id == 9 then arch_in w
-    else Ok (unknown id (place w).rest (rest_range w))
+linking_subsection_in id = lookup_or (λ w. Ok (unknown id (place w).rest (rest_range w)))
+    ((5, listed_in 5) ∷ (6, listed_in 6) ∷ (7, listed_in 7) ∷ (8, listed_in 8) ∷ (9, arch_in) ∷ []) id
 
 -- the section for linkers: its version, its offsets, and the window of its subsections
 pub record LinkingSection : Type 0 where

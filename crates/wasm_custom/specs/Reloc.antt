@@ -1,9 +1,9 @@
 -- Relocations. Tool conventions, Linking, Relocation Sections.
 use Rattle.std.specs.declared.ops.Range.{Range}
-use Rattle.std.specs.Prelude.{◌≡◌, ◌↔◌, ℕ, ◌+◌, ◌<◌, ℤ, pos, List, [], ◌∷◌, slice_get, Option, Some, None, Result, Ok}
-use Rattle.std.specs.Prelude.{Err, IsOk, IfOk}
+use Rattle.std.specs.Prelude.{◌≡◌, ◌↔◌, ℕ, ◌+◌, ◌-◌, ◌<◌, ℤ, pos, List, [], ◌∷◌, slice_get, Option, Some, None, Result}
+use Rattle.std.specs.Prelude.{Ok, Err, IsOk, IfOk}
 use Rattle.wasm_base.specs.FaultAt.{FaultAt}
-use Rattle.wasm_base.specs.Leading.{leading_byte}
+use Rattle.wasm_base.specs.Leading.{or_leading}
 use Rattle.wasm_base.specs.Name.{byte_at}
 use Rattle.wasm_base.specs.Number.{unsigned_at}
 use Rattle.wasm_base.specs.Outcome.{Outcome, ◌>>=◌}
@@ -93,16 +93,11 @@ types =
 abbrev pub IsTypeOf : ℕ → Result RelocationType (Unit {0}) → Type 0
 IsTypeOf number result = (IsOk result ↔ number < 27) × IfOk result (λ ty. number_of ty ≡ number)
 
--- the type of a byte that was read at an offset, or the fault that there is none
-abbrev pub type_or_fault : (offset : ℕ) → ℕ × Place → Option RelocationType → Outcome RelocationType
-type_or_fault offset byte (Some ty) = Ok (ty, byte.1)
-type_or_fault offset byte None = Err (leading_byte Leads.Reloc byte.0 offset)
-
 -- a type: the byte of its number
 unfoldable pub relocation_type_at : Place → Outcome RelocationType
 relocation_type_at p = do
   byte ← byte_at p
-  type_or_fault p.offset byte (slice_get types byte.0)
+  or_leading Leads.Reloc byte.0 (byte.1.offset - 1) (slice_get types byte.0) byte.1
 
 -- an addend: none, which counts as 0, or a signed number of 32 or 64 bits
 abbrev pub addend_at : RelocAddendKind → Place → Outcome ℤ

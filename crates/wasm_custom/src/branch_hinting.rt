@@ -35,7 +35,7 @@ pub struct BranchHint {
 }
 
 // The size of a hint's value, which is 1.
-#[tactic(auto, unfolding(crate::specs::BranchHinting::hint_size_at))]
+#[tactic(auto, unfolding(wasm_base::specs::Leading::in_table))]
 fn read_hint_size(reader: &mut BinaryReader<'_>) -> Result<()>
     ensures gives { GivesBy (λ nothing. nothing) result reader.old reader.new hint_size_at }
     ensures keeps { KeepsWindow reader.old reader.new }
@@ -51,7 +51,7 @@ fn read_hint_size(reader: &mut BinaryReader<'_>) -> Result<()>
 }
 
 // A hint's value.
-#[tactic(auto, unfolding(crate::specs::BranchHinting::taken_at))]
+#[tactic(auto, unfolding(wasm_base::specs::Leading::in_table))]
 fn read_taken(reader: &mut BinaryReader<'_>) -> Result<bool>
     ensures gives { GivesBy (λ taken. taken) result reader.old reader.new taken_at }
     ensures keeps { KeepsWindow reader.old reader.new }

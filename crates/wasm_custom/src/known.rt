@@ -5,7 +5,7 @@ ghost use Rattle.wasm_base.specs.FaultAt.{fault_at};
 ghost use Rattle.wasm_base.specs.Hints.{TakesNoMemory, is_want_of_memory};
 ghost use Rattle.wasm_base.specs.Owned.{out_of_memory};
 ghost use Rattle.wasm_base.specs.Window.{place};
-ghost use Rattle.wasm_custom.specs.Known.{section_named, unknown, known_parts, known_of, owns_lists, branch_hints_in, producers_in, core_dump_in, core_modules_in, core_instances_in, core_stack_in, linking_section_in, relocations_in, KnowsUnlessMemory};
+ghost use Rattle.wasm_custom.specs.Known.{unknown, known_parts, known_of, owns_lists, branch_hints_in, producers_in, core_dump_in, core_modules_in, core_instances_in, core_stack_in, linking_section_in, relocations_in, KnowsUnlessMemory};
 
 use crate::branch_hinting::BranchHintSectionReader;
 use crate::coredumps::{
@@ -47,50 +47,11 @@ pub enum KnownCustom<'a, A: Allocator = Global> {
     Unknown,
 }
 
-// Which known section a name is that of.
-#[derive(Clone, Copy)]
-enum SectionName {
-    Name,
-    BranchHints,
-    Producers,
-    Dylink0,
-    CoreDump,
-    CoreModules,
-    CoreInstances,
-    CoreStack,
-    Linking,
-    Reloc,
-    Other,
-}
-
 // Whether a section has relocations, by its name.
 fn has_relocations(name: &str) -> bool
     ensures { result ≡ starts_with nat_eq name.now (codes "reloc.") }
 {
     name.starts_with("reloc.")
-}
-
-fn section_named(name: &str) -> SectionName
-    ensures { result ≡ section_named name.now }
-{
-    match name {
-        "name" => SectionName::Name,
-        "metadata.code.branch_hint" => SectionName::BranchHints,
-        "producers" => SectionName::Producers,
-        "dylink.0" => SectionName::Dylink0,
-        "core" => SectionName::CoreDump,
-        "coremodules" => SectionName::CoreModules,
-        "coreinstances" => SectionName::CoreInstances,
-        "corestack" => SectionName::CoreStack,
-        "linking" => SectionName::Linking,
-        _ => {
-            if has_relocations(name) {
-                SectionName::Reloc
-            } else {
-                SectionName::Other
-            }
-        }
-    }
 }
 
 fn branch_hints<'a, A: Allocator>(window: BinaryReader<'a>) -> KnownCustom<'a, A>
@@ -196,7 +157,7 @@ impl<'a> CustomSectionReader<'a> {
     pub fn as_known(&self, alloc: Global) -> Result<KnownCustom<'a>>
         ensures known { IfOk result (λ known. known_parts known ≡ known_of self.now) }
         ensures refused { IfErr result (λ e. fault_at e ≡ out_of_memory) }
-        ensures memory { owns_lists (section_named self.now.name) ≡ false → TakesNoMemory result }
+        ensures memory { owns_lists self.now.name ≡ false → TakesNoMemory result }
     {
         self.as_known_in(alloc, alloc)
     }
@@ -210,21 +171,21 @@ impl<'a> CustomSectionReader<'a> {
     ) -> Result<KnownCustom<'a, A>>
         ensures known { IfOk result (λ known. known_parts known ≡ known_of self.now) }
         ensures refused { IfErr result (λ e. fault_at e ≡ out_of_memory) }
-        ensures memory { owns_lists (section_named self.now.name) ≡ false → TakesNoMemory result }
+        ensures memory { owns_lists self.now.name ≡ false → TakesNoMemory result }
     {
         let data = self.data_reader();
-        match section_named(self.name()) {
-            SectionName::Name => Ok(KnownCustom::Name(NameSectionReader::new(kept, data))),
-            SectionName::BranchHints => Ok(branch_hints(data)),
-            SectionName::Producers => Ok(producers(data)),
-            SectionName::Dylink0 => Ok(KnownCustom::Dylink0(Subsections::new(kept, data))),
-            SectionName::CoreDump => Ok(core_dump(data)),
-            SectionName::CoreModules => core_modules(alloc, data),
-            SectionName::CoreInstances => core_instances(alloc, data),
-            SectionName::CoreStack => core_stack(alloc, data),
-            SectionName::Linking => Ok(linking(kept, data)),
-            SectionName::Reloc => Ok(relocations(data)),
-            SectionName::Other => Ok(KnownCustom::Unknown),
+        match self.name() {
+            "name" => Ok(KnownCustom::Name(NameSectionReader::new(kept, data))),
+            "metadata.code.branch_hint" => Ok(branch_hints(data)),
+            "producers" => Ok(producers(data)),
+            "dylink.0" => Ok(KnownCustom::Dylink0(Subsections::new(kept, data))),
+            "core" => Ok(core_dump(data)),
+            "coremodules" => core_modules(alloc, data),
+            "coreinstances" => core_instances(alloc, data),
+            "corestack" => core_stack(alloc, data),
+            "linking" => Ok(linking(kept, data)),
+            name if has_relocations(name) => Ok(relocations(data)),
+            _ => Ok(KnownCustom::Unknown),
         }
     }
 }

@@ -4,11 +4,12 @@ ghost use Rattle.std.specs.Iterator.{at_most};
 ghost use Rattle.wasm_base.specs.Hints.{TakesNoMemory};
 ghost use Rattle.wasm_base.specs.Inner.{after_reading};
 ghost use Rattle.wasm_base.specs.Item.{ReadsAs};
+ghost use Rattle.wasm_base.specs.Leading.{lookup};
 ghost use Rattle.wasm_base.specs.Outcome.{GivesBy, GivesResult};
 ghost use Rattle.wasm_base.specs.Subsections.{NextSubsection, ReadsWindowAs};
 ghost use Rattle.wasm_base.specs.Window.{place, KeepsWindow};
 ghost use Rattle.wasm_custom.specs.Flags.{symbol_bits};
-ghost use Rattle.wasm_custom.specs.Linking.{comdat_kind_of, comdat_symbol_at, symbol_name_at, text_if_any, data_place_at, linking_in, linking_parts, linking_subsection_in};
+ghost use Rattle.wasm_custom.specs.Linking.{comdat_kinds, comdat_symbol_at, symbol_name_at, text_if_any, data_place_at, linking_in, linking_parts, linking_subsection_in};
 
 use crate::flags::{SegmentFlags, SymbolFlags};
 use bitflags::Flags;
@@ -195,7 +196,7 @@ impl<'a> FromReader<'a> for InitFunc {
 
 // The kind of a comdat's symbol that a byte is.
 fn comdat_kind(byte: u8) -> Option<ComdatSymbolKind>
-    ensures { result ≡ comdat_kind_of byte }
+    ensures { result ≡ lookup comdat_kinds byte }
 {
     match byte {
         0 => Some(ComdatSymbolKind::Data),
@@ -214,7 +215,7 @@ impl<'a> FromReader<'a> for ComdatSymbolKind {
 
     ghost meaning = { ReadsAs (λ kind. kind) comdat_kind_at };
 
-    #[tactic(auto, unfolding(crate::specs::Linking::comdat_kind_at))]
+    #[tactic(auto, unfolding(wasm_base::specs::Leading::in_table))]
     fn from_reader(reader: &mut BinaryReader<'a>) -> Result<Self> {
         let byte = reader.read_u8()?;
         match comdat_kind(byte) {

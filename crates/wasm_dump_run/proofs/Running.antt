@@ -14,7 +14,12 @@ whole_kept : (a b c : Option (List ℕ)) (outline : List ℕ) → WritesWhole a 
 whole_kept a b c outline w k = record { text = w.text; outlined = w.outlined; wrote = appends_kept a b c w.text w.wrote k }
 
 some_kept : (a b c : Option (List ℕ)) (outline : List ℕ) → WritesSome a b outline → Keeps b c → WritesSome a c outline
-some_kept a b c outline w k = record { text = w.text; left = w.left; outlined = w.outlined; wrote = appends_kept a b c w.text w.wrote k }
+some_kept a b c outline w k = record {
+  text = w.text;
+  unwritten = w.unwritten;
+  outlined = w.outlined;
+  wrote = appends_kept a b c w.text w.wrote k;
+}
 
 writes_kept : (how : Result Ended ListError) (a b c : Option (List ℕ)) (outline : List ℕ) → Writes how a b outline → Keeps b c
     → Writes how a c outline
@@ -23,10 +28,10 @@ writes_kept (Err Input) a b c outline w k = whole_kept a b c outline w k
 writes_kept (Err Output) a b c outline w k = some_kept a b c outline w k
 writes_kept (Err Memory) a b c outline w k = some_kept a b c outline w k
 
-pub dumps_kept : (only : Only) (left rest a b c : Option (List ℕ)) (how : Result Ended ListError)
-    → Dumps only (from_to left rest) (from_to a b) how → Keeps b c
-    → Dumps only (from_to left rest) (from_to a c) how
-dumps_kept only left rest a b c how d k = record {
+pub dumps_kept : (only : Only) (source rest a b c : Option (List ℕ)) (how : Result Ended ListError)
+    → Dumps only (from_to source rest) (from_to a b) how → Keeps b c
+    → Dumps only (from_to source rest) (from_to a c) how
+dumps_kept only source rest a b c how d k = record {
   outline = d.outline;
   lists = d.lists;
   writes = writes_kept how a b c d.outline d.writes k;

@@ -9,25 +9,30 @@ use Rattle.wasm_run.specs.Arguments.{is_no_text}
 use Rattle.wasm_show.specs.declared.only.Only.{Only}
 use Rattle.wasm_show.specs.declared.only.Only.TheVariants as only
 use Rattle.wasm_dump_run.specs.declared.command.Command.{Command}
-use Rattle.wasm_dump_run.specs.declared.command.Command.TheVariants.{All, Section, Help, Unknown}
+use Rattle.wasm_dump_run.specs.declared.command.Command.TheVariants.{All, Section, Help, Version, Unknown}
 
--- what is asked for: to show all sections, or those that a word chooses; to say how the program is used; or it isn't
--- known
+-- what is asked for: to show all sections, or those that a word chooses; to say how the program is used, or which
+-- version it is; or it isn't known
 pub data Asked : Type 0 where
   all : Asked
   sections : List ℕ → Asked
   help : Asked
+  version : Asked
   unknown : Asked
 
 abbrev pub asked_of : Command → Asked
 asked_of All = all
 asked_of (Section word) = sections (string_bytes word)
 asked_of Help = help
+asked_of Version = version
 asked_of Unknown = unknown
 
 -- what one argument asks for, and what two do
 abbrev pub asked_by_one : List ℕ → Asked
-asked_by_one word = if bytes_eq word (codes "--help") then help else unknown
+asked_by_one word =
+    if bytes_eq word (codes "--help") then help
+    else if bytes_eq word (codes "--version") then version
+    else unknown
 
 abbrev pub asked_by_two : (first second : List ℕ) → Asked
 asked_by_two first second = if bytes_eq first (codes "--section") then sections second else unknown

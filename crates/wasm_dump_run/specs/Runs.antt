@@ -10,7 +10,7 @@ use Rattle.wasm_show.specs.declared.only.Only.{Only}
 use Rattle.wasm_show.specs.declared.only.Only.TheVariants.{All}
 use Rattle.wasm_run.specs.Devices.{IsUntouched}
 use Rattle.wasm_run.specs.Endings.{status_of, Reports, RunsUsage, CannotBegin, WritesAll, WritesSome}
-use Rattle.wasm_dump_run.specs.Commands.{Asked, Chooses, all, sections, help, unknown}
+use Rattle.wasm_dump_run.specs.Commands.{Asked, Chooses, all, sections, help, version, unknown}
 
 -- What was written was handed on, or the output failed to; after a dump that was given up nothing is done.
 abbrev pub HandsOn : (how : Result Ended ListError) (had_failed has_failed handed_on : Bool) → Result Ended ListError
@@ -29,22 +29,26 @@ pub record RunsDump (only : Only) (input output : Device) (handed_on : Bool) (re
   pub ends : HandsOn how (output_failed how output.had_failed) output.has_failed handed_on result
 
 abbrev pub usage : List ℕ
-usage = codes "usage: wasm_dump [--help] [--section ID|NAME]\n"
+usage = codes "usage: wasm_dump [--help] [--version] [--section ID|NAME] [FILE]...\n"
+
+abbrev pub version_text : List ℕ
+version_text = codes "wasm_dump 0.263.0\n"
 
 abbrev pub help_text : List ℕ
 help_text =
-    codes "usage: wasm_dump [--section ID|NAME] < FILE\n" ++ (
+    codes "usage: wasm_dump [--section ID|NAME] [FILE]...\n" ++ (
     codes "\n" ++ (
-    codes "Shows what the WebAssembly module in FILE holds: a line for each section and\n" ++ (
-    codes "body, and under it a line for each item, which begins with the offset of its\n" ++ (
+    codes "Shows what the WebAssembly modules in the FILEs hold, each under its name where\n" ++ (
+    codes "there are several; - or none is standard input. Each section and body has a\n" ++ (
+    codes "line, and under it a line for each item, which begins with the offset of its\n" ++ (
     codes "bytes in the file. A fault of an item is a line at its place. With --section\n" ++ (
     codes "only the sections with this id or name are shown.\n" ++ (
     codes "\n" ++ (
-    codes "  wasm_dump < a.wasm                     all of it\n" ++ (
+    codes "  wasm_dump a.wasm                       all of it\n" ++ (
     codes "  wasm_dump --section import < a.wasm    its imports\n" ++ (
     codes "\n" ++ (
-    codes "The status is 0, or 1 where the file has a fault at which reading stops, 2 for\n" ++ (
-    codes "other arguments, and 3 where the input, the output or memory failed.\n")))))))))))
+    codes "The status is 0, or 1 where a file has a fault at which reading stops, 2 for\n" ++ (
+    codes "other arguments, and 3 where a file, the output or memory failed.\n"))))))))))))
 
 -- These sections of the input were shown, and how that ended is answered.
 pub record Shows (only : Only) (handed_on : Bool) (input output errors : Device) (status : ℕ) : Type 0 where
@@ -59,21 +63,22 @@ pub record ShowsChosen (word : List ℕ) (handed_on : Bool) (input output errors
   pub chosen : Chooses word only
   pub shows : Shows only handed_on input output errors status
 
--- how the program is used was written and handed on, or the output failed
-abbrev pub Helps : (handed_on : Bool) (output errors : Device) (status : ℕ) → Type 0
-Helps handed_on output errors status =
-    (WritesAll help_text output errors status × (handed_on ≡ true)) ⊎ WritesSome help_text output errors status
+-- a text was written and handed on, or the output failed
+abbrev pub Tells : (text : List ℕ) (handed_on : Bool) (output errors : Device) (status : ℕ) → Type 0
+Tells text handed_on output errors status =
+    (WritesAll text output errors status × (handed_on ≡ true)) ⊎ WritesSome text output errors status
 
 -- the same, and the input was left alone
-pub record RunsHelp (handed_on : Bool) (input output errors : Device) (status : ℕ) : Type 0 where
+pub record RunsTelling (text : List ℕ) (handed_on : Bool) (input output errors : Device) (status : ℕ) : Type 0 where
   pub source : IsUntouched input
-  pub helps : Helps handed_on output errors status
+  pub tells : Tells text handed_on output errors status
 
 -- a run that was asked for this
 pub record Runs (asked : Asked) (handed_on : Bool) (input output errors : Device) (status : ℕ) : Type 0 where
   pub shows : asked ≡ all → Shows All handed_on input output errors status
   pub shows_chosen : (word : List ℕ) → asked ≡ sections word → ShowsChosen word handed_on input output errors status
-  pub helps : asked ≡ help → RunsHelp handed_on input output errors status
+  pub helps : asked ≡ help → RunsTelling help_text handed_on input output errors status
+  pub says_version : asked ≡ version → RunsTelling version_text handed_on input output errors status
   pub refuses : asked ≡ unknown → RunsUsage usage input output errors status
 
 -- The whole program, which was asked for this if the arguments could be had, or one was no text.

@@ -18,6 +18,8 @@ pub(crate) enum Command {
     Section(String),
     /// To say how it is used.
     Help,
+    /// To say which version it is.
+    Version,
     /// It doesn't know.
     Unknown,
 }
@@ -26,10 +28,10 @@ pub(crate) enum Command {
 fn command_of_one(word: &str) -> Command
     ensures { asked_of result ≡ asked_by_one word.now }
 {
-    if word == "--help" {
-        Command::Help
-    } else {
-        Command::Unknown
+    match word {
+        "--help" => Command::Help,
+        "--version" => Command::Version,
+        _ => Command::Unknown,
     }
 }
 

@@ -2,6 +2,7 @@
 #![tactic(auto)]
 
 mod command;
+mod files;
 mod program;
 
 pub use program::{dump_input, run_host, run_program};

@@ -6,9 +6,10 @@ ghost use Rattle.std.specs.Vec.Iter.{into_iter_items};
 ghost use Rattle.wasm_feed.specs.Calls.{device_of, writer_device};
 ghost use Rattle.wasm_run.specs.Endings.{Reports, status_of};
 ghost use Rattle.wasm_dump_run.specs.Commands.{asked_if_any, asked_of};
-ghost use Rattle.wasm_dump_run.specs.Runs.{HandsOn, Helps, Runs, RunsDump, RunsProgram, Shows, ShowsChosen, help_text};
+ghost use Rattle.wasm_dump_run.specs.Runs.{HandsOn, Runs, RunsDump, RunsProgram, Shows, ShowsChosen, Tells, help_text, version_text};
 
 use crate::command::{Command, command_asked, sections_named};
+use crate::files::{files_named, run_files};
 use std::alloc::Global;
 use std::env::{self, Args};
 use std::io::{self, Write};
@@ -18,19 +19,23 @@ use wasm_run::{PIECE, complain, give_up};
 use wasm_show::{Only, Tree, dump};
 
 /// What `--help` says.
-const HELP: &[u8] = b"usage: wasm_dump [--section ID|NAME] < FILE
+const HELP: &[u8] = b"usage: wasm_dump [--section ID|NAME] [FILE]...
 
-Shows what the WebAssembly module in FILE holds: a line for each section and
-body, and under it a line for each item, which begins with the offset of its
+Shows what the WebAssembly modules in the FILEs hold, each under its name where
+there are several; - or none is standard input. Each section and body has a
+line, and under it a line for each item, which begins with the offset of its
 bytes in the file. A fault of an item is a line at its place. With --section
 only the sections with this id or name are shown.
 
-  wasm_dump < a.wasm                     all of it
+  wasm_dump a.wasm                       all of it
   wasm_dump --section import < a.wasm    its imports
 
-The status is 0, or 1 where the file has a fault at which reading stops, 2 for
-other arguments, and 3 where the input, the output or memory failed.
+The status is 0, or 1 where a file has a fault at which reading stops, 2 for
+other arguments, and 3 where a file, the output or memory failed.
 ";
+
+/// What `--version` says.
+const VERSION: &[u8] = b"wasm_dump 0.263.0\n";
 
 // The same, in the words of its clause.
 fn help() -> &'static [u8]
@@ -39,18 +44,29 @@ fn help() -> &'static [u8]
     HELP
 }
 
-/// The program over the standard streams.
+// What `--version` says, in the words of its clause.
+fn version() -> &'static [u8]
+    ensures { result.now ≡ version_text }
+{
+    VERSION
+}
+
+/// The program over files, if some are named, and else over the standard streams.
 pub fn run_host(rt: HostRuntime) -> ExitCode {
-    let mut input = ReadSource::new(rt.stdin());
     let output = WriteSink::new(rt.stdout());
     let mut errors = WriteSink::new(rt.stderr());
+    if let Some(named) = files_named(env::args(&rt)) {
+        return ExitCode::from(run_files(&rt, named, output, &mut errors));
+    }
+    let mut input = ReadSource::new(rt.stdin());
     run_program(rt.alloc(), env::args(&rt), &mut input, output, &mut errors).0
 }
 
 /// The whole program: it looks at the arguments after the program's own name, shows the input, hands on what the output has kept,
 /// and answers the exit status, and the output.
 ///
-/// An argument that is no text is another argument; arguments that could not be had otherwise are a want of memory.
+/// An argument that is no text is another argument; arguments that could not be had otherwise are a want of memory. Arguments that
+/// name files are refused here, since `run_host` opens them.
 pub fn run_program<R: Source, W: Write, E: Sink>(
     alloc: Global,
     arguments: io::Result<Args>,
@@ -60,7 +76,7 @@ pub fn run_program<R: Source, W: Write, E: Sink>(
 ) -> (ExitCode, WriteSink<W>)
     ensures { RunsProgram (asked_if_any (λ args. map string_bytes (into_iter_items args)) arguments)
         result.1.handed_on
-        (device_of R.left R.has_failed input.old input.new)
+        (device_of R.remaining R.has_failed input.old input.new)
         (writer_device W.contents output result.1)
         (device_of E.taken E.has_failed errors.old errors.new) (exit_status result.0) }
 {
@@ -81,41 +97,49 @@ fn run_command<R: Source, W: Write, E: Sink>(
     errors: &mut E,
 ) -> (u8, WriteSink<W>)
     ensures { Runs (asked_of command) result.1.handed_on
-        (device_of R.left R.has_failed input.old input.new)
+        (device_of R.remaining R.has_failed input.old input.new)
         (writer_device W.contents output result.1)
         (device_of E.taken E.has_failed errors.old errors.new) result.0 }
 {
     match command {
         Command::All => show_input(alloc, &Only::All, input, output, errors),
         Command::Section(word) => show_chosen(alloc, &word, input, output, errors),
-        Command::Help => show_help(output, errors),
+        Command::Help => show_text(help(), output, errors),
+        Command::Version => show_text(version(), output, errors),
         Command::Unknown => {
-            complain(errors, b"usage: wasm_dump [--help] [--section ID|NAME]\n");
+            complain(
+                errors,
+                b"usage: wasm_dump [--help] [--version] [--section ID|NAME] [FILE]...\n",
+            );
             (2, output)
         }
     }
 }
 
-// Writes how the program is used, and hands it on.
-fn write_help<W: Write>(output: &mut WriteSink<W>) -> Result<(), Failed>
+// Writes a text, and hands it on.
+fn write_text<W: Write>(text: &[u8], output: &mut WriteSink<W>) -> Result<(), Failed>
     ensures ok { OnOk result
-        (Appends (W.contents output.old.writer) (W.contents output.new.writer) help_text) }
+        (Appends (W.contents output.old.writer) (W.contents output.new.writer) text.now) }
     ensures all { OnOk result (output.new.handed_on ≡ true) }
     ensures err { OnErr result ((n : ℕ)
-        × Appends (W.contents output.old.writer) (W.contents output.new.writer) (take n help_text)) }
+        × Appends (W.contents output.old.writer) (W.contents output.new.writer) (take n text.now)) }
     ensures failed { output.new.failed ≡ (if is_ok result then output.old.failed else true) }
 {
-    write_all(output, help())?;
+    write_all(output, text)?;
     output.flush()
 }
 
-// Says how the program is used, and answers the status.
-fn show_help<W: Write, E: Sink>(mut output: WriteSink<W>, errors: &mut E) -> (u8, WriteSink<W>)
-    ensures { Helps result.1.handed_on
+// Writes a text, and answers the status.
+fn show_text<W: Write, E: Sink>(
+    text: &[u8],
+    mut output: WriteSink<W>,
+    errors: &mut E,
+) -> (u8, WriteSink<W>)
+    ensures { Tells text.now result.1.handed_on
         (writer_device W.contents output result.1)
         (device_of E.taken E.has_failed errors.old errors.new) result.0 }
 {
-    match write_help(&mut output) {
+    match write_text(text, &mut output) {
         Ok(()) => (0, output),
         Err(_) => (give_up(errors, ListError::Output), output),
     }
@@ -130,7 +154,7 @@ fn show_chosen<R: Source, W: Write, E: Sink>(
     errors: &mut E,
 ) -> (u8, WriteSink<W>)
     ensures { ShowsChosen word.now result.1.handed_on
-        (device_of R.left R.has_failed input.old input.new)
+        (device_of R.remaining R.has_failed input.old input.new)
         (writer_device W.contents output result.1)
         (device_of E.taken E.has_failed errors.old errors.new) result.0 }
 {
@@ -138,8 +162,8 @@ fn show_chosen<R: Source, W: Write, E: Sink>(
     show_input(alloc, &only, input, output, errors)
 }
 
-// Shows these sections of the input, and answers the status. A message goes to `errors` where a device or memory failed.
-fn show_input<R: Source, W: Write, E: Sink>(
+/// Shows these sections of the input, and answers the status. A message goes to `errors` where a device or memory failed.
+pub(crate) fn show_input<R: Source, W: Write, E: Sink>(
     alloc: Global,
     only: &Only<'_>,
     input: &mut R,
@@ -147,7 +171,7 @@ fn show_input<R: Source, W: Write, E: Sink>(
     errors: &mut E,
 ) -> (u8, WriteSink<W>)
     ensures { Shows only.now result.1.handed_on
-        (device_of R.left R.has_failed input.old input.new)
+        (device_of R.remaining R.has_failed input.old input.new)
         (writer_device W.contents output result.1)
         (device_of E.taken E.has_failed errors.old errors.new) result.0 }
 {
@@ -191,7 +215,7 @@ pub fn dump_input<R: Source, W: Write>(
     input: &mut R,
     output: WriteSink<W>,
 ) -> (Result<Ended, ListError>, WriteSink<W>)
-    ensures { RunsDump only.now (device_of R.left R.has_failed input.old input.new)
+    ensures { RunsDump only.now (device_of R.remaining R.has_failed input.old input.new)
         (writer_device W.contents output result.1) result.1.handed_on result.0 }
 {
     let mut tree = Tree::new(alloc, output);

@@ -1,11 +1,12 @@
 pub mod Adding
 pub mod ByHand
+pub mod Cut
 pub mod Decimal
 pub mod ForCallers
 pub mod Joining
-pub mod LeftFrames
-pub mod LeftInPlace
-pub mod LeftParts
+pub mod KeptFrames
+pub mod KeptInPlace
+pub mod KeptParts
 pub mod Progress
 pub mod Resting
 pub mod Stepping

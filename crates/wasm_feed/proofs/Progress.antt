@@ -1,8 +1,7 @@
 -- How far a listing has come, and what each turn does to it.
-use Rattle.std.proofs.Common.{◌≡◌, ℕ, ◌+◌, ◌-◌, ◌^◌, ◌<◌, ◌≤◌, Bool, true, false, if◌then◌else◌, List, [], ◌∷◌, ◌++◌, length, take, drop}
-use Rattle.std.proofs.Common.{Option, Some, None, IfSome, Result, Ok, Err, nat_lt, refl, sym, ap, subst, ◌∙◌, arith, append_assoc}
-use Rattle.std.proofs.Common.{append-nil, length-append, ltb-true, ltb-false, inl, inr}
-use Rattle.std.proofs.lemmas.List.{take-append-drop}
+use Rattle.std.proofs.Common.{◌≡◌, ℕ, ◌+◌, ◌^◌, ◌<◌, ◌≤◌, Bool, true, false, if◌then◌else◌, List, [], ◌∷◌, ◌++◌, length, drop}
+use Rattle.std.proofs.Common.{Option, Some, None, IfSome, Result, Ok, Err, refl, sym, ap, subst, ◌∙◌, arith, append_assoc}
+use Rattle.std.proofs.Common.{append-nil, length-append, inl, inr}
 use Rattle.std.specs.Io.KnownBytes.{Consumes, Appends, IsAtEnd, Keeps}
 use Rattle.std.proofs.KnownBytes.{Consumes-nil, Consumes-trans, Consumes-kept, Appends-nil, Appends-trans}
 use Rattle.wasm_base.specs.FaultAt.{fault_at, at_offset}
@@ -12,17 +11,16 @@ use Rattle.wasm_grammar.specs.Content.{Ending, fault, ended}
 use Rattle.wasm_grammar.specs.EventRanges.{consumed_by}
 use Rattle.wasm_parser.specs.GivesNextEvent.{MayBe, IsUndecided}
 use Rattle.wasm_parser.specs.ParseAnswer.{report_of, is_end, ParseAnswer}
-use Rattle.wasm_parser.specs.ParserState.{ParserState}
 use Rattle.wasm_grammar.specs.Reading.{Report, stream_end, Event, events_of, last_event, Reading}
 use Rattle.wasm_parser.specs.declared.payload.Payload.{Payload}
-use Rattle.wasm_parser.specs.Along.{Along, ReadingBegins, BeginsEach, ReadsEach, Came}
+use Rattle.wasm_parser.specs.Along.{ReadingBegins, BeginsEach, ReadsEach, Came}
 use Rattle.wasm_parser.proofs.ForCallers.{answers_go_along}
 use Rattle.wasm_feed.specs.Calls.{from_to}
 use Rattle.wasm_feed.specs.Feed.{Feed, new_feed, pushed, finished}
 use Rattle.wasm_feed.specs.Listing.{listing_by}
-use Rattle.wasm_feed.specs.Lists.{IsEndedBy, IsWhole, IsListed, Begins, Fills, Refills, ListsBy}
+use Rattle.wasm_feed.specs.Lists.{IsEndedBy, IsWhole, IsListed, Begins, IsBeginning, Fills, Refills, ListsBy}
 use Rattle.wasm_feed.specs.Progress.{weight, Progress, Wants}
-use Rattle.wasm_feed.specs.Page.{IsCut, PutsLine}
+use Rattle.wasm_feed.specs.Page.{WritesBeginning, IsCut, PutsBytes}
 use Rattle.wasm_feed.specs.Cursors.{feed_of}
 use Rattle.wasm_feed.specs.Step.{chunk_of, answer_of, shown, is_request, Stepped, Steps}
 use Rattle.wasm_feed.specs.declared.feeder.Cursor.{Cursor}
@@ -50,8 +48,8 @@ whole_begins start features eof given events r stream m = record {
 }
 
 -- a source that kept its bytes
-kept : (left rest rest' : Option (List ℕ)) (given : List ℕ) → Consumes left rest given → Keeps rest rest' → Consumes left rest' given
-kept left rest rest' given g k = Consumes-kept left rest rest' given g k
+kept : (source rest rest' : Option (List ℕ)) (given : List ℕ) → Consumes source rest given → Keeps rest rest' → Consumes source rest' given
+kept source rest rest' given g k = Consumes-kept source rest rest' given g k
 
 -- a step, by what the cursor says of it
 pub steps_by : (bytes items : List ℕ) (old new : Cursor) (x : Result Step Error) → bytes ≡ items
@@ -89,12 +87,12 @@ all_given false given = ([], sym (append-nil given))
 -- ---- what is listed: each event by the text of what it reports
 
 module _ (text_of : Report → List ℕ) where
-  pub begun : (left taken : Option (List ℕ)) → Progress text_of (from_to left left) (from_to taken taken) (new_feed 0 all_features) []
-  begun left taken = record {
+  pub begun : (source taken : Option (List ℕ)) → Progress text_of (from_to source source) (from_to taken taken) (new_feed 0 all_features) []
+  begun source taken = record {
     given = [];
     events = [];
     is_along = answers_go_along.begins 0 all_features;
-    gave = Consumes-nil left;
+    gave = Consumes-nil source;
     at_end = λ e. let no : true ≡ false = sym e in cc;
     lines = [];
     listed = Appends-nil taken;
@@ -122,10 +120,9 @@ module _ (text_of : Report → List ℕ) where
         ∙ (ap (λ (x : List ℕ). x ++ listing_by text_of r.more) e ∙ append_assoc lines more (listing_by text_of r.more)));
   }
 
-  -- a page of which so much was written
-  cut_page : (lines page : List ℕ) (n : ℕ) → lines ++ page ≡ (lines ++ take n page) ++ drop n page
-  cut_page lines page n = ap (λ (x : List ℕ). lines ++ x) (sym (take-append-drop n page))
-      ∙ sym (append_assoc lines (take n page) (drop n page))
+  -- a page of which a beginning was written
+  cut_page : (lines page moved unwritten : List ℕ) → page ≡ moved ++ unwritten → lines ++ page ≡ (lines ++ moved) ++ unwritten
+  cut_page lines page moved unwritten e = ap (λ (x : List ℕ). lines ++ x) e ∙ sym (append_assoc lines moved unwritten)
 
   -- a run that ends with this line, after these events
   record AtEnd (given : List ℕ) (events : List Event) (eof : Bool) (line : List ℕ) (how : Ended) : Type 0 where
@@ -137,8 +134,8 @@ module _ (text_of : Report → List ℕ) where
 
   -- ---- a turn
 
-  module _ (left rest taken written : Option (List ℕ)) (f : Feed) (page : List ℕ)
-      (p : Progress text_of (from_to left rest) (from_to taken written) f page) where
+  module _ (source rest taken written : Option (List ℕ)) (f : Feed) (page : List ℕ)
+      (p : Progress text_of (from_to source rest) (from_to taken written) f page) where
     ends_at : f.state.offset + length f.held ≡ length p.given
     ends_at = let o : f.state.offset + length f.held ≡ 0 + length p.given =
         answers_go_along.ends 0 all_features p.given f.state f.held p.events p.is_along in omega (arith, o)
@@ -156,7 +153,7 @@ module _ (text_of : Report → List ℕ) where
 
     -- all lines that waited are written
     pub written_out : (written' : Option (List ℕ)) → Appends written written' page
-        → Progress text_of (from_to left rest) (from_to taken written') f []
+        → Progress text_of (from_to source rest) (from_to taken written') f []
     written_out written' w = record {
       given = p.given;
       events = p.events;
@@ -169,58 +166,64 @@ module _ (text_of : Report → List ℕ) where
     }
 
     -- a beginning of those that waited is written
-    pub cut : (written' : Option (List ℕ)) (e : ListError) → IsCut written written' page e
-        → ListsBy text_of (from_to left rest) (from_to taken written') (Err e)
-    cut written' Output (n, w) = record {
+    cut_beginning : (written' : Option (List ℕ)) → WritesBeginning written written' page
+        → IsBeginning text_of (from_to source rest) (from_to taken written')
+    cut_beginning written' w = record {
       given = p.given;
-      shown = p.lines ++ take n page;
+      shown = p.lines ++ w.moved;
       gave = p.gave;
-      listed = Appends-trans taken written written' p.lines (take n page) p.listed w;
-      begins = λ l. begins_listing p.given p.events (p.lines ++ take n page) (drop n page) begins_here (p.parts ∙ cut_page p.lines page n);
+      listed = Appends-trans taken written written' p.lines w.moved p.listed w.wrote;
+      begins = λ l. begins_listing p.given p.events (p.lines ++ w.moved) w.unwritten begins_here
+          (p.parts ∙ cut_page p.lines page w.moved w.unwritten w.parts);
     }
+
+    pub cut : (written' : Option (List ℕ)) (e : ListError) → IsCut written written' page e
+        → ListsBy text_of (from_to source rest) (from_to taken written') (Err e)
+    cut written' Output w = cut_beginning written' w
+    cut written' Memory w = cut_beginning written' w
     cut written' Input w = absurd w
-    cut written' Memory w = absurd w
 
     -- no memory for what came
     pub no_memory : (rest' : Option (List ℕ)) (piece : List ℕ) → Consumes rest rest' piece
-        → ListsBy text_of (from_to left rest') (from_to taken written) (Err Memory)
+        → ListsBy text_of (from_to source rest') (from_to taken written) (Err Memory)
     no_memory rest' piece c = record {
       given = p.given ++ piece;
       shown = p.lines;
-      gave = Consumes-trans left rest rest' p.given piece p.gave c;
+      gave = Consumes-trans source rest rest' p.given piece p.gave c;
       listed = p.listed;
       begins = λ l. begins_listing (p.given ++ piece) p.events p.lines page
           (answers_go_along.first 0 all_features p.given f.state f.held p.events false p.is_along (p.given ++ piece) (piece, refl)) p.parts;
     }
 
     -- the line of an event was put after those that waited
-    put_line : (written' : Option (List ℕ)) (line page' : List ℕ) (e : Event) (w : PutsLine written written' page line page') → line
+    put_line : (written' : Option (List ℕ)) (line page' : List ℕ) (e : Event) (w : PutsBytes written written' page line page') → line
         ≡ text_of e.report
-        → Appends taken written' (p.lines ++ w.lines) × (listing_by text_of (p.events ++ e ∷ []) ≡ (p.lines ++ w.lines) ++ page')
+        → Appends taken written' (p.lines ++ w.moved) × (listing_by text_of (p.events ++ e ∷ []) ≡ (p.lines ++ w.moved) ++ page')
     put_line written' line page' e w same = (
-      Appends-trans taken written written' p.lines w.lines p.listed w.writes,
+      Appends-trans taken written written' p.lines w.moved p.listed w.writes,
       one_more p.events e ∙ (ap (λ (x : List ℕ). x ++ text_of e.report) p.parts
           ∙ (append_assoc p.lines page (text_of e.report) ∙ (ap (λ (x : List ℕ). p.lines ++ (page ++ x)) (sym same) ∙ waits_after))),
     )
       where
-        waits_after : p.lines ++ (page ++ line) ≡ (p.lines ++ w.lines) ++ page'
-        waits_after = ap (λ (x : List ℕ). p.lines ++ x) w.waits ∙ sym (append_assoc p.lines w.lines page')
+        waits_after : p.lines ++ (page ++ line) ≡ (p.lines ++ w.moved) ++ page'
+        waits_after = ap (λ (x : List ℕ). p.lines ++ x) w.waits ∙ sym (append_assoc p.lines w.moved page')
 
     -- the listing of a reading that ends here, of which a part waits
-    last_line : (written' : Option (List ℕ)) (line page' : List ℕ) (end : Ending) (w : PutsLine written written' page line page') → line
+    last_line : (written' : Option (List ℕ)) (line page' : List ℕ) (end : Ending) (w : PutsBytes written written' page line page') → line
         ≡ text_of (stream_end end)
         → (written'' : Option (List ℕ)) → Appends written' written'' page'
         → Appends taken written'' (listing_by text_of (p.events ++ last_event end ∷ []))
     last_line written' line page' end w same written'' v =
         let (wrote, parts) = put_line written' line page' (last_event end) w same in
-        subst (Appends taken written'') (sym parts) (Appends-trans taken written' written'' (p.lines ++ w.lines) page' wrote v)
+        subst (Appends taken written'') (sym parts) (Appends-trans taken written' written'' (p.lines ++ w.moved) page' wrote v)
 
     -- the source's whole input is one of the streams that begin with what it gave
-    whole_input : (events : List Event) → ReadsEach 0 all_features f.eof p.given events → IsWhole left p.given events
-    whole_input events r = record { reading = r p.given (all_given f.eof p.given); all = of_input left rest p.gave f.eof r p.at_end }
+    whole_input : (events : List Event) → ReadsEach 0 all_features f.eof p.given events → IsWhole source p.given events
+    whole_input events r = record { reading = r p.given (all_given f.eof p.given); all = of_input source rest p.gave f.eof r p.at_end }
       where
-        of_input : (left rest : Option (List ℕ)) → Consumes left rest p.given → (eof : Bool) → ReadsEach 0 all_features eof p.given events
-            → (eof ≡ true → IsAtEnd rest) → IfSome left (λ input. Reading input 0 all_features events)
+        of_input : (source rest : Option (List ℕ)) → Consumes source rest p.given → (eof : Bool)
+            → ReadsEach 0 all_features eof p.given events
+            → (eof ≡ true → IsAtEnd rest) → IfSome source (λ input. Reading input 0 all_features events)
         of_input None rest g eof r h = tt
         of_input (Some input) None g eof r h = absurd g
         of_input (Some input) (Some more) g true r h = r input (g ∙ (ap (λ (x : List ℕ). p.given ++ x) (h refl) ∙ append-nil p.given))
@@ -238,8 +241,8 @@ module _ (text_of : Report → List ℕ) where
 
       -- an event that isn't the last one
       went_on : (bytes : _) (payload : Payload) → (s : Steps f (Ok (Parsed bytes payload)) g) → is_end (report_of payload) ≡ false
-          → (written' : Option (List ℕ)) (page' : List ℕ) → PutsLine written written' page (text_of (report_of payload)) page'
-          → Progress text_of (from_to left rest) (from_to taken written') g page' × (weight g < weight f)
+          → (written' : Option (List ℕ)) (page' : List ℕ) → PutsBytes written written' page (text_of (report_of payload)) page'
+          → Progress text_of (from_to source rest) (from_to taken written') g page' × (weight g < weight f)
       went_on bytes payload s n written' page' w =
           let came : Came 0 all_features f.eof p.given p.events bytes.now payload g.state g.held =
           stepped (Ok (Parsed bytes payload)) s (given_below (Parsed bytes payload) s) in
@@ -255,7 +258,7 @@ module _ (text_of : Report → List ℕ) where
               is_along = after;
               gave = p.gave;
               at_end = λ e. p.at_end (sym s.eof ∙ e);
-              lines = p.lines ++ w.lines;
+              lines = p.lines ++ w.moved;
               listed = wrote;
               parts = parts;
             },
@@ -265,40 +268,40 @@ module _ (text_of : Report → List ℕ) where
     -- ---- the turns
 
     module _ (g : Feed) (x : Result Step Error) (s : Steps f x g) (written' : Option (List ℕ)) (page' : List ℕ)
-        (w : PutsLine written written' page (text_after text_of x) page') where
+        (w : PutsBytes written written' page (text_after text_of x) page') where
       -- an event that isn't the last one: there is less to consume
-      pub advanced : turn.Advance ≡ turn_after x → Progress text_of (from_to left rest) (from_to taken written') g page'
+      pub advanced : turn.Advance ≡ turn_after x → Progress text_of (from_to source rest) (from_to taken written') g page'
           × (weight g < weight f)
       advanced t = by_answer x refl t
         where
           by_end : (bytes : _) (payload : Payload) (b : Bool) → is_end (report_of payload) ≡ b → turn.Advance
               ≡ (if b then turn.End End else turn.Advance) → x ≡ Ok (Parsed bytes payload)
-              → Progress text_of (from_to left rest) (from_to taken written') g page' × (weight g < weight f)
+              → Progress text_of (from_to source rest) (from_to taken written') g page' × (weight g < weight f)
           by_end bytes payload true e t is = cc
           by_end bytes payload false e t is =
               let s' = subst (λ y. Steps f y g) is s in
-              went_on g bytes payload s' e written' page' (subst (λ y. PutsLine written written' page (text_after text_of y) page') is w)
+              went_on g bytes payload s' e written' page' (subst (λ y. PutsBytes written written' page (text_after text_of y) page') is w)
 
           by_answer : (y : Result Step Error) → x ≡ y → turn.Advance ≡ turn_after y
-              → Progress text_of (from_to left rest) (from_to taken written') g page'
+              → Progress text_of (from_to source rest) (from_to taken written') g page'
               × (weight g < weight f)
           by_answer (Ok (NeedMoreData hint)) is t = cc
           by_answer (Ok (Parsed bytes payload)) is t = by_end bytes payload (is_end (report_of payload)) refl t is
           by_answer (Err e) is t = cc
 
       -- a request: the parser is undecided
-      pub asked : turn.Read ≡ turn_after x → Wants text_of (from_to left rest) (from_to taken written') g page' × (weight g ≡ weight f)
+      pub asked : turn.Read ≡ turn_after x → Wants text_of (from_to source rest) (from_to taken written') g page' × (weight g ≡ weight f)
       asked t = by_answer x refl t
         where
           by_end : (b : Bool) → turn.Read ≡ (if b then turn.End End else turn.Advance) → ⊥
           by_end true t = cc
           by_end false t = cc
 
-          request : (hint : ℕ) → x ≡ Ok (NeedMoreData hint) → Wants text_of (from_to left rest) (from_to taken written') g page'
+          request : (hint : ℕ) → x ≡ Ok (NeedMoreData hint) → Wants text_of (from_to source rest) (from_to taken written') g page'
               × (weight g ≡ weight f)
           request hint is =
               let s' = subst (λ y. Steps f y g) is s in
-              let w' = subst (λ y. PutsLine written written' page (text_after text_of y) page') is w in
+              let w' = subst (λ y. PutsBytes written written' page (text_after text_of y) page') is w in
               let l = given_below g (NeedMoreData hint) s' in
               let (u, a) = stepped g (Ok (NeedMoreData hint)) s' l in
               let stays : g.state ≡ f.state = answers_go_along.becomes f.state g.state f.eof f.held (answer_of (Ok (NeedMoreData hint)))
@@ -310,10 +313,10 @@ module _ (text_of : Report → List ℕ) where
                     is_along = a;
                     gave = p.gave;
                     at_end = λ e. p.at_end (sym s.eof ∙ e);
-                    lines = p.lines ++ w'.lines;
-                    listed = Appends-trans taken written written' p.lines w'.lines p.listed w'.writes;
+                    lines = p.lines ++ w'.moved;
+                    listed = Appends-trans taken written written' p.lines w'.moved p.listed w'.writes;
                     parts = p.parts ∙ (ap (λ (z : List ℕ). p.lines ++ z) (sym (append-nil page) ∙ w'.waits)
-                        ∙ sym (append_assoc p.lines w'.lines page'));
+                        ∙ sym (append_assoc p.lines w'.moved page'));
                   };
                   hint = hint;
                   undecided = subst (λ b. IsUndecided g.state b g.held hint) (sym s.eof) u;
@@ -323,7 +326,7 @@ module _ (text_of : Report → List ℕ) where
               )
 
           by_answer : (y : Result Step Error) → x ≡ y → turn.Read ≡ turn_after y
-              → Wants text_of (from_to left rest) (from_to taken written') g page'
+              → Wants text_of (from_to source rest) (from_to taken written') g page'
               × (weight g ≡ weight f)
           by_answer (Ok (NeedMoreData hint)) is t = request hint is
           by_answer (Ok (Parsed bytes payload)) is t = absurd (by_end (is_end (report_of payload)) t)
@@ -375,7 +378,7 @@ module _ (text_of : Report → List ℕ) where
 
       -- all is written, and the run ends
       pub listed_all : (how : Ended) → turn.End how ≡ turn_after x → (written'' : Option (List ℕ)) → Appends written' written'' page'
-          → IsListed text_of (from_to left rest) (from_to taken written'') how
+          → IsListed text_of (from_to source rest) (from_to taken written'') how
       listed_all how t written'' v =
           let a = end_at how t in
           record {
@@ -390,47 +393,51 @@ module _ (text_of : Report → List ℕ) where
           }
 
       -- the last lines were cut
-      pub end_cut : (how : Ended) → turn.End how ≡ turn_after x → (written'' : Option (List ℕ)) (e : ListError)
-          → IsCut written' written'' page' e → ListsBy text_of (from_to left rest) (from_to taken written'') (Err e)
-      end_cut how t written'' Output (n, v) =
+      end_beginning : (how : Ended) → turn.End how ≡ turn_after x → (written'' : Option (List ℕ))
+          → WritesBeginning written' written'' page' → IsBeginning text_of (from_to source rest) (from_to taken written'')
+      end_beginning how t written'' v =
           let a = end_at how t in
           let (wrote, parts) = put_line written' (text_after text_of x) page' (last_event a.end) w a.same in
           record {
             given = p.given;
-            shown = (p.lines ++ w.lines) ++ take n page';
+            shown = (p.lines ++ w.moved) ++ v.moved;
             gave = p.gave;
-            listed = Appends-trans taken written' written'' (p.lines ++ w.lines) (take n page') wrote v;
-            begins = λ l. begins_listing p.given (p.events ++ last_event a.end ∷ []) ((p.lines ++ w.lines) ++ take n page') (drop n page')
+            listed = Appends-trans taken written' written'' (p.lines ++ w.moved) v.moved wrote v.wrote;
+            begins = λ l. begins_listing p.given (p.events ++ last_event a.end ∷ []) ((p.lines ++ w.moved) ++ v.moved) v.unwritten
                 (whole_begins 0 all_features true p.given (p.events ++ last_event a.end ∷ [])
                 (λ stream m. subst (λ (y : List ℕ). Reading y 0 all_features (p.events ++ last_event a.end ∷ [])) (sym m)
                 (a.within l p.given (all_given f.eof p.given))) p.given refl)
-                (parts ∙ cut_page (p.lines ++ w.lines) page' n);
+                (parts ∙ cut_page (p.lines ++ w.moved) page' v.moved v.unwritten v.parts);
           }
+
+      pub end_cut : (how : Ended) → turn.End how ≡ turn_after x → (written'' : Option (List ℕ)) (e : ListError)
+          → IsCut written' written'' page' e → ListsBy text_of (from_to source rest) (from_to taken written'') (Err e)
+      end_cut how t written'' Output v = end_beginning how t written'' v
+      end_cut how t written'' Memory v = end_beginning how t written'' v
       end_cut how t written'' Input v = absurd v
-      end_cut how t written'' Memory v = absurd v
 
   -- ---- a read
 
   -- the lines that waited are written
-  pub wants_written : (left rest taken written written' : Option (List ℕ)) (f : Feed) (page : List ℕ)
-      → Wants text_of (from_to left rest) (from_to taken written) f page → Appends written written' page
-      → Wants text_of (from_to left rest) (from_to taken written') f []
+  pub wants_written : (source rest taken written written' : Option (List ℕ)) (f : Feed) (page : List ℕ)
+      → Wants text_of (from_to source rest) (from_to taken written) f page → Appends written written' page
+      → Wants text_of (from_to source rest) (from_to taken written') f []
   unfolding written_out
-  wants_written left rest taken written written' f page p w = record {
-    progress = written_out left rest taken written f page p.progress written' w;
+  wants_written source rest taken written written' f page p w = record {
+    progress = written_out source rest taken written f page p.progress written' w;
     hint = p.hint;
     undecided = p.undecided;
     below = p.below;
   }
 
-  module _ (left rest taken written : Option (List ℕ)) (f : Feed)
-      (wants : Wants text_of (from_to left rest) (from_to taken written) f []) where
-    p : Progress text_of (from_to left rest) (from_to taken written) f []
+  module _ (source rest taken written : Option (List ℕ)) (f : Feed)
+      (wants : Wants text_of (from_to source rest) (from_to taken written) f []) where
+    p : Progress text_of (from_to source rest) (from_to taken written) f []
     p = wants.progress
 
     -- the source failed: the lines of all events but the last are written
     pub input_fails : (rest' : Option (List ℕ)) → Keeps rest rest'
-        → ListsBy text_of (from_to left rest') (from_to taken written) (Err Input)
+        → ListsBy text_of (from_to source rest') (from_to taken written) (Err Input)
     input_fails rest' k =
         let (end, reading) = answers_go_along.cut_short 0 all_features p.given f.state f.held p.events f.eof wants.hint p.is_along
         wants.undecided in
@@ -438,23 +445,23 @@ module _ (text_of : Report → List ℕ) where
           given = p.given;
           events = p.events;
           last = last_event end;
-          gave = kept left rest rest' p.given p.gave k;
+          gave = kept source rest rest' p.given p.gave k;
           listed = subst (Appends taken written) (sym (p.parts ∙ append-nil p.lines)) p.listed;
           reading = reading;
         }
 
     -- it gave something, or ended
     pub filled : (rest' : Option (List ℕ)) (g : Feed) → Fills rest rest' f g
-        → Progress text_of (from_to left rest') (from_to taken written) g []
+        → Progress text_of (from_to source rest') (from_to taken written) g []
         × (weight g < weight f)
-    filled rest' g (inl (none, at_end, is)) = subst (λ (h : Feed). Progress text_of (from_to left rest') (from_to taken written) h []
+    filled rest' g (inl (none, at_end, is)) = subst (λ (h : Feed). Progress text_of (from_to source rest') (from_to taken written) h []
         × (weight h < weight f))
         (sym is) (
           record {
             given = p.given;
             events = p.events;
             is_along = p.is_along;
-            gave = subst (Consumes left rest') (append-nil p.given) (Consumes-trans left rest rest' p.given [] p.gave none);
+            gave = subst (Consumes source rest') (append-nil p.given) (Consumes-trans source rest rest' p.given [] p.gave none);
             at_end = λ _. at_end;
             lines = p.lines;
             listed = p.listed;
@@ -462,13 +469,13 @@ module _ (text_of : Report → List ℕ) where
           },
           rw wants.undecided.0 (omega arith),
         )
-    filled rest' g (inr (piece, gave, some, is)) = subst (λ (h : Feed). Progress text_of (from_to left rest') (from_to taken written) h []
+    filled rest' g (inr (piece, gave, some, is)) = subst (λ (h : Feed). Progress text_of (from_to source rest') (from_to taken written) h []
         × (weight h < weight f)) (sym is) (
           record {
             given = p.given ++ piece;
             events = p.events;
             is_along = answers_go_along.more 0 all_features p.given f.state f.held p.events piece p.is_along;
-            gave = Consumes-trans left rest rest' p.given piece p.gave gave;
+            gave = Consumes-trans source rest rest' p.given piece p.gave gave;
             at_end = λ e. let no : true ≡ false = sym e ∙ wants.undecided.0 in cc;
             lines = p.lines;
             listed = p.listed;
@@ -479,14 +486,14 @@ module _ (text_of : Report → List ℕ) where
       where
         lighter : weight (pushed f piece) < weight f
         lighter =
-            let o : f.state.offset + length f.held ≡ length wants.progress.given = ends_at left rest taken written f [] wants.progress in
+            let o : f.state.offset + length f.held ≡ length wants.progress.given = ends_at source rest taken written f [] wants.progress in
             let n : length (pushed f piece).held ≡ length f.held + length piece = length-append f.held piece in
             let same : (pushed f piece).state.offset ≡ f.state.offset = refl in
             rw wants.undecided.0 (omega (arith, o, n, same, wants.below, some))
 
     -- a read that was given up
     pub not_filled : (rest' : Option (List ℕ)) (g : Feed) (e : ListError) → Refills rest rest' f g (Err e)
-        → ListsBy text_of (from_to left rest') (from_to taken written) (Err e)
+        → ListsBy text_of (from_to source rest') (from_to taken written) (Err e)
     not_filled rest' g Input k = input_fails rest' k
-    not_filled rest' g Memory k = no_memory left rest taken written f [] p rest' k.0 k.1
+    not_filled rest' g Memory k = no_memory source rest taken written f [] p rest' k.0 k.1
     not_filled rest' g Output k = absurd k

@@ -42,11 +42,11 @@ taken (Ok (Parsed bytes payload)) = refl
 taken (Err e) = refl
 
 pub stepped : (start features : ℕ) (given : List ℕ) (p : ParserState) (held : List ℕ) (events : List Event)
-    (a : Along start features given p held events) (eof : Bool) (x : Result Step Error) (new : ParserState) (left : List ℕ)
+    (a : Along start features given p held events) (eof : Bool) (x : Result Step Error) (new : ParserState) (rest : List ℕ)
     → start + length given < 2 ^ 64
-    → ParseAnswer p eof held (answer_of x) new → held ≡ shown x ++ left → Stepped start features eof given events x new left
-stepped start features given p held events a eof x new left l r w =
-    answers_go_along.answers start features given p held events eof (answer_of x) (shown x) new left a l r w (taken x)
+    → ParseAnswer p eof held (answer_of x) new → held ≡ shown x ++ rest → Stepped start features eof given events x new rest
+stepped start features given p held events a eof x new rest l r w =
+    answers_go_along.answers start features given p held events eof (answer_of x) (shown x) new rest a l r w (taken x)
 
 -- after the last answer nothing is passed, and nothing is shown
 nothing_shown : (f g : Feed) (x : Result Step Error) → Steps f x g → is_last (answer_of x) ≡ true → shown x ≡ []

@@ -16,10 +16,10 @@ use Rattle.wasm_grammar.specs.declared.encoding.Encoding.{Encoding}
 use Rattle.wasm_grammar.specs.declared.encoding.Encoding.TheVariants.{Module, Component}
 use Rattle.wasm_parser.proofs.ForCallers.{reads_accepted, fault_ends, rankless_may_go, one_division, frames_give_events}
 use Rattle.wasm_grammar.proofs.PlainLists.{all_prefix, Spares, filter_twice, each_of}
-use Rattle.wasm_feed.specs.Stripped.{frame_stays, stripped, left_bytes, AreLeft, IsStripped, EndsWithFault, RefusesToStrip, LeavesStream}
+use Rattle.wasm_feed.specs.Stripped.{frame_stays, stripped, kept_bytes, AreKept, IsStripped, EndsWithFault, RefusesToStrip, LeavesStream}
 use Rattle.wasm_feed.specs.Stripped.{StripsInPlace, StrippingTwiceIsOnce}
-use Rattle.wasm_feed.specs.Strips.{MovesLeft, ReadsLeft}
-use Rattle.wasm_feed.proofs.LeftFrames.{kept_bytes, LeftOf, LeftAfter, left_of}
+use Rattle.wasm_feed.specs.Strips.{MovesKept, ReadsKept}
+use Rattle.wasm_feed.proofs.KeptFrames.{bytes_of_frames, KeptOf, KeptAfter, kept_of}
 use Rattle.wasm_base.specs.Features.{all_features}
 use Rattle.wasm_grammar.specs.Ids.{custom_id}
 
@@ -50,8 +50,8 @@ ends_so stream events end r =
     (r.tiles, subst (Reads stream 0 r.tiles) (sym (end_same end r.end q.1)) r.reads)
 
 -- a stream that is read up to its end is accepted
-accepted_of : (keep : Bool) (stream left : List ℕ) → Stream stream 0 → ReadsLeft keep stream left → IsAccepted stream
-accepted_of keep stream left s r =
+accepted_of : (keep : Bool) (stream kept : List ℕ) → Stream stream 0 → ReadsKept keep stream kept → IsAccepted stream
+accepted_of keep stream kept s r =
     let (tiles, reads) = ends_so stream r.events (ended r.offset) r.reading in
     reads_accepted stream 0 r.offset tiles s.each reads
 
@@ -63,14 +63,14 @@ not_accepted stream e s (events, r) = let (tiles, reads) = ends_so stream events
 pub refused_fault : (stream : List ℕ) (e : Error) → Stream stream 0 → EndsWithFault stream e → RefusesToStrip stream e
 refused_fault stream e s h = record { memory = λ a. absurd (not_accepted stream e s h a); fault = λ n. h }
 
-pub refused_memory : (keep : Bool) (stream left : List ℕ) (e : Error) → Stream stream 0 → ReadsLeft keep stream left → fault_at e
+pub refused_memory : (keep : Bool) (stream kept : List ℕ) (e : Error) → Stream stream 0 → ReadsKept keep stream kept → fault_at e
     ≡ out_of_memory → RefusesToStrip stream e
-refused_memory keep stream left e s r m = record { memory = λ a. m; fault = λ n. absurd (n (accepted_of keep stream left s r)) }
+refused_memory keep stream kept e s r m = record { memory = λ a. m; fault = λ n. absurd (n (accepted_of keep stream kept s r)) }
 
-pub refused_copy : (keep : Bool) (stream left : List ℕ) (e : Error) → Stream stream 0 → ReadsLeft keep stream left → EndsWithFault stream e
+pub refused_copy : (keep : Bool) (stream kept : List ℕ) (e : Error) → Stream stream 0 → ReadsKept keep stream kept → EndsWithFault stream e
     ⊎ (fault_at e ≡ out_of_memory) → RefusesToStrip stream e
-refused_copy keep stream left e s r (inl h) = refused_fault stream e s h
-refused_copy keep stream left e s r (inr m) = refused_memory keep stream left e s r m
+refused_copy keep stream kept e s r (inl h) = refused_fault stream e s h
+refused_copy keep stream kept e s r (inr m) = refused_memory keep stream kept e s r m
 
 pub left_as_it_was : (stream after : List ℕ) (e : Error) → Stream stream 0 → EndsWithFault stream e → after ≡ stream
     → LeavesStream stream e after
@@ -110,17 +110,17 @@ length_kept q [] = omega arith
 length_kept q (f ∷ frames) = length_step f frames (filter q frames) (length_kept q frames) (q f)
 
 -- what is left of a stream is one
-stream_left : (keep : Bool) (stream : List ℕ) (a : IsAccepted stream) → Stream stream 0 → Stream (stripped keep a.encoding a.frames) 0
-stream_left keep stream a s =
+stream_kept : (keep : Bool) (stream : List ℕ) (a : IsAccepted stream) → Stream stream 0 → Stream (stripped keep a.encoding a.frames) 0
+stream_kept keep stream a s =
     let h : List ℕ = header_bytes a.encoding in
     let e : All (λ b. b < 256) (h ++ flat_map frame_bytes a.frames) = subst (All (λ b. b < 256)) a.whole s.each in
     let n : length stream ≡ length h + length (flat_map frame_bytes a.frames) = ap (λ (x : List ℕ). length x) a.whole
     ∙ length-append h (flat_map frame_bytes a.frames) in
     let f : 0 + length stream < 2 ^ 64 = s.fits in
     record {
-      each = All-append (λ b. b < 256) h (kept_bytes keep a.frames) (all_prefix (λ b. b < 256) h (flat_map frame_bytes a.frames) e)
+      each = All-append (λ b. b < 256) h (bytes_of_frames keep a.frames) (all_prefix (λ b. b < 256) h (flat_map frame_bytes a.frames) e)
           (all_kept (λ b. b < 256) (frame_stays keep) a.frames (all_rest (λ b. b < 256) h (flat_map frame_bytes a.frames) e));
-      fits = omega (arith, f, n, length_kept (frame_stays keep) a.frames, length-append h (kept_bytes keep a.frames));
+      fits = omega (arith, f, n, length_kept (frame_stays keep) a.frames, length-append h (bytes_of_frames keep a.frames));
     }
 
 -- a custom section has no rank
@@ -137,9 +137,9 @@ ranked_stays keep encoding f r = by_id (nat_eq f.id custom_id) refl
     by_id false e = rw e refl
 
 -- what is left of an accepted stream is accepted, with the sections that stay
-pub accepted_left : (keep : Bool) (stream : List ℕ) (a : IsAccepted stream)
+pub accepted_kept : (keep : Bool) (stream : List ℕ) (a : IsAccepted stream)
     → (b : IsAccepted (stripped keep a.encoding a.frames)) × (b.encoding ≡ a.encoding) × (b.frames ≡ filter (frame_stays keep) a.frames)
-accepted_left keep stream a =
+accepted_kept keep stream a =
     rankless_may_go stream a (frame_stays keep) (each_of (λ f. 0 < frame_rank a.encoding f → frame_stays keep f ≡ true)
     (λ f. ranked_stays keep a.encoding f) a.frames)
 
@@ -151,41 +151,41 @@ header_stays Component = refl
 
 -- the end is moved back by all that was dropped
 end_left : (keep : Bool) (encoding : Encoding) (frames : List SectionFrame)
-    → LeftAfter keep (0 + length (header_bytes encoding)) 0 frames
+    → KeptAfter keep (0 + length (header_bytes encoding)) 0 frames
     (last_event (ended (0 + length (header_bytes encoding ++ flat_map frame_bytes frames))) ∷ [])
-    (last_event (ended (0 + length (header_bytes encoding ++ kept_bytes keep frames))) ∷ [])
+    (last_event (ended (0 + length (header_bytes encoding ++ bytes_of_frames keep frames))) ∷ [])
 end_left keep encoding frames total e =
     let h : List ℕ = header_bytes encoding in
-    let n : 0 + length (h ++ flat_map frame_bytes frames) ≡ 0 + length (h ++ kept_bytes keep frames) + total =
-    omega (arith, e, length-append h (flat_map frame_bytes frames), length-append h (kept_bytes keep frames)) in
+    let n : 0 + length (h ++ flat_map frame_bytes frames) ≡ 0 + length (h ++ bytes_of_frames keep frames) + total =
+    omega (arith, e, length-append h (flat_map frame_bytes frames), length-append h (bytes_of_frames keep frames)) in
     (ap (λ (x : ℕ). last_event (ended x)) n, tt)
 
-left_here : (keep : Bool) (features : ℕ) (encoding : Encoding) (frames : List SectionFrame) (events : List Event)
+kept_here : (keep : Bool) (features : ℕ) (encoding : Encoding) (frames : List SectionFrame) (events : List Event)
     → All (IsFrame encoding) frames → (t : TellsFrames 0 features encoding frames events)
-    → LeftOf keep features encoding (0 + length (header_bytes encoding)) 0 frames t.inner
+    → KeptOf keep features encoding (0 + length (header_bytes encoding)) 0 frames t.inner
     (last_event (ended (0 + length (header_bytes encoding ++ flat_map frame_bytes frames))) ∷ [])
-    (last_event (ended (0 + length (header_bytes encoding ++ kept_bytes keep frames))) ∷ [])
-left_here keep features encoding frames events a t =
+    (last_event (ended (0 + length (header_bytes encoding ++ bytes_of_frames keep frames))) ∷ [])
+kept_here keep features encoding frames events a t =
     let z : 0 + length (header_bytes encoding) ≡ 0 + length (header_bytes encoding) + 0 = omega arith in
-    left_of keep features encoding (0 + length (header_bytes encoding)) 0 frames t.inner _ _ a
+    kept_of keep features encoding (0 + length (header_bytes encoding)) 0 frames t.inner _ _ a
     (subst (λ (x : ℕ). FramesEvents features encoding x frames t.inner) z t.sections) (end_left keep encoding frames)
 
 -- it is read as the stream, but for what was dropped
-read_left : (keep : Bool) (stream : List ℕ) (a : IsAccepted stream) → Stream stream 0 → (features : ℕ) (events : List Event)
+read_kept : (keep : Bool) (stream : List ℕ) (a : IsAccepted stream) → Stream stream 0 → (features : ℕ) (events : List Event)
     → Reading stream 0 features events
-    → (others : List Event) × Reading (stripped keep a.encoding a.frames) 0 features others × AreLeft keep events others
-read_left keep stream a s features events r =
+    → (others : List Event) × Reading (stripped keep a.encoding a.frames) 0 features others × AreKept keep events others
+read_kept keep stream a s features events r =
     let t : TellsFrames 0 features a.encoding a.frames events = (frames_give_events stream 0 features events s a).0 r in
-    let l = left_here keep features a.encoding a.frames events a.each t in
+    let l = kept_here keep features a.encoding a.frames events a.each t in
     let others : List Event = header_event 0 a.encoding ∷ (l.others
-    ++ last_event (ended (0 + length (header_bytes a.encoding ++ kept_bytes keep a.frames))) ∷ []) in
-    let (b, e, f) = accepted_left keep stream a in
+    ++ last_event (ended (0 + length (header_bytes a.encoding ++ bytes_of_frames keep a.frames))) ∷ []) in
+    let (b, e, f) = accepted_kept keep stream a in
     let told : TellsFrames 0 features a.encoding (filter (frame_stays keep) a.frames) others =
     record { inner = l.others; sections = l.sections; whole = refl } in (
       others,
-      (frames_give_events (stripped keep a.encoding a.frames) 0 features others (stream_left keep stream a s) b).1
+      (frames_give_events (stripped keep a.encoding a.frames) 0 features others (stream_kept keep stream a s) b).1
           (subst₂ (λ (x : Encoding) (y : List SectionFrame). TellsFrames 0 features x y others) (sym e) (sym f) told),
-      subst (λ (x : List Event). AreLeft keep x others) (sym t.whole) (header_stays a.encoding, l.moved),
+      subst (λ (x : List Event). AreKept keep x others) (sym t.whole) (header_stays a.encoding, l.moved),
     )
 
 -- the stream is stripped
@@ -194,40 +194,40 @@ is_stripped : (keep : Bool) (stream : List ℕ) (a : IsAccepted stream) → Stre
 is_stripped keep stream a s = record {
   accepted = a;
   bytes = refl;
-  still = (accepted_left keep stream a).0;
-  reading = read_left keep stream a s;
+  still = (accepted_kept keep stream a).0;
+  reading = read_kept keep stream a s;
 }
 
 -- the bytes of the events that stay are those
-left_is : (keep : Bool) (stream left : List ℕ) (a : IsAccepted stream) → Stream stream 0 → ReadsLeft keep stream left → left
+kept_is : (keep : Bool) (stream kept : List ℕ) (a : IsAccepted stream) → Stream stream 0 → ReadsKept keep stream kept → kept
     ≡ stripped keep a.encoding a.frames
-left_is keep stream left a s r =
+kept_is keep stream kept a s r =
     let all : List Event = r.events ++ last_event (ended r.offset) ∷ [] in
     let t : TellsFrames 0 all_features a.encoding a.frames all = (frames_give_events stream 0 all_features all s a).0 r.reading in
-    let l = left_here keep all_features a.encoding a.frames all a.each t in
+    let l = kept_here keep all_features a.encoding a.frames all a.each t in
     let q : ((r.events ≡ header_event 0 a.encoding ∷ t.inner) × (last_event (ended r.offset)
     ≡ last_event (ended (0 + length (header_bytes a.encoding ++ flat_map frame_bytes a.frames))))) =
     push_same r.events (header_event 0 a.encoding ∷ t.inner) (last_event (ended r.offset))
     (last_event (ended (0 + length (header_bytes a.encoding ++ flat_map frame_bytes a.frames)))) t.whole in
-    r.bytes ∙ (ap (left_bytes keep) q.0 ∙ ap (λ (x : List ℕ). header_bytes a.encoding ++ x) l.bytes)
+    r.bytes ∙ (ap (kept_bytes keep) q.0 ∙ ap (λ (x : List ℕ). header_bytes a.encoding ++ x) l.bytes)
 
-pub strips_so : (keep : Bool) (stream left : List ℕ) → Stream stream 0 → ReadsLeft keep stream left → IsStripped keep stream left
-strips_so keep stream left s r =
-    let a : IsAccepted stream = accepted_of keep stream left s r in
-    subst (IsStripped keep stream) (sym (left_is keep stream left a s r)) (is_stripped keep stream a s)
+pub strips_so : (keep : Bool) (stream kept : List ℕ) → Stream stream 0 → ReadsKept keep stream kept → IsStripped keep stream kept
+strips_so keep stream kept s r =
+    let a : IsAccepted stream = accepted_of keep stream kept s r in
+    subst (IsStripped keep stream) (sym (kept_is keep stream kept a s r)) (is_stripped keep stream a s)
 
 -- in place: what is left was moved to the front, which cannot end with a fault where the stream is accepted
-pub strips_in_place : (keep : Bool) (stream left after : List ℕ) (r : Result (Unit {0}) Error) → Stream stream 0
-    → ReadsLeft keep stream left → MovesLeft keep stream r after → StripsInPlace keep stream r after
-strips_in_place keep stream left after (Ok done) s reads m = strips_so keep stream after s m
-strips_in_place keep stream left after (Err e) s reads m = absurd (not_accepted stream e s m (accepted_of keep stream left s reads))
+pub strips_in_place : (keep : Bool) (stream kept after : List ℕ) (r : Result (Unit {0}) Error) → Stream stream 0
+    → ReadsKept keep stream kept → MovesKept keep stream r after → StripsInPlace keep stream r after
+strips_in_place keep stream kept after (Ok done) s reads m = strips_so keep stream after s m
+strips_in_place keep stream kept after (Err e) s reads m = absurd (not_accepted stream e s m (accepted_of keep stream kept s reads))
 
 -- ---- twice
 
 pub stripping_twice : StrippingTwiceIsOnce
 stripping_twice keep stream once twice o t =
     let a : IsAccepted stream = o.accepted in
-    let (b, e, f) = accepted_left keep stream a in
+    let (b, e, f) = accepted_kept keep stream a in
     let c : IsAccepted once = record {
       encoding = b.encoding;
       frames = b.frames;

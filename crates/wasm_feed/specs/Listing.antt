@@ -26,21 +26,25 @@ abbrev pub fault_number : Option ℕ → List ℕ → List ℕ
 fault_number None rest = rest
 fault_number (Some n) rest = codes ": " ++ (decimal n ++ rest)
 
--- the line of what is reported, which ends with a line feed
-unfoldable pub line_of : Report → List ℕ
-line_of (version num encoding from to) = codes "version"
-    ++ field from (field to (field num (codes " " ++ (encoding_name encoding ++ codes "\n"))))
-line_of (counted id count window) = codes "section" ++ field id (window_fields window (field count (codes "\n")))
-line_of (start_section func from to) = codes "start" ++ field from (field to (field func (codes "\n")))
-line_of (data_count_section count from to) = codes "datacount" ++ field from (field to (field count (codes "\n")))
-line_of (code_start count from to size) = codes "code" ++ field from (field to (field count (field size (codes "\n"))))
-line_of (code_entry window) = codes "body" ++ window_fields window (codes "\n")
-line_of (custom_section name data_offset window) = codes "custom"
-    ++ window_fields window (field data_offset (codes "\n"))
-line_of (unknown_section id contents from to) = codes "unknown" ++ field id (field from (field to (codes "\n")))
-line_of (stream_end (fault f)) = codes "fault" ++ field f.offset
-    (codes " " ++ (message_of f.fault ++ fault_number f.number (codes "\n")))
-line_of (stream_end (ended offset)) = codes "end" ++ field offset (codes "\n")
+-- the text of what is reported, before the rest of a line
+unfoldable pub text_before : Report → (rest : List ℕ) → List ℕ
+text_before (version num encoding from to) rest = codes "version"
+    ++ field from (field to (field num (codes " " ++ (encoding_name encoding ++ rest))))
+text_before (counted id count window) rest = codes "section" ++ field id (window_fields window (field count rest))
+text_before (start_section func from to) rest = codes "start" ++ field from (field to (field func rest))
+text_before (data_count_section count from to) rest = codes "datacount" ++ field from (field to (field count rest))
+text_before (code_start count from to size) rest = codes "code" ++ field from (field to (field count (field size rest)))
+text_before (code_entry window) rest = codes "body" ++ window_fields window rest
+text_before (custom_section name data_offset window) rest = codes "custom"
+    ++ window_fields window (field data_offset rest)
+text_before (unknown_section id contents from to) rest = codes "unknown" ++ field id (field from (field to rest))
+text_before (stream_end (fault f)) rest = codes "fault" ++ field f.offset
+    (codes " " ++ (message_of f.fault ++ fault_number f.number rest))
+text_before (stream_end (ended offset)) rest = codes "end" ++ field offset rest
+
+-- the line of what is reported: its text, and a line feed
+abbrev pub line_of : Report → List ℕ
+line_of report = text_before report (codes "\n")
 
 -- events by such lines: the text of each, by what it reports
 abbrev pub listing_by : (Report → List ℕ) → List Event → List ℕ

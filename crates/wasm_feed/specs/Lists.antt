@@ -25,9 +25,9 @@ IsEndedBy (Fault e) (fault f) = fault_at e ≡ f
 IsEndedBy (Fault e) (ended offset) = ⊥
 
 -- The bytes that the source gave are read as these events, and so is its whole input.
-pub record IsWhole (left : Option (List ℕ)) (given : List ℕ) (events : List Event) : Type 0 where
+pub record IsWhole (source : Option (List ℕ)) (given : List ℕ) (events : List Event) : Type 0 where
   pub reading : Reading given 0 all_features events
-  pub all : IfSome left (λ input. Reading input 0 all_features events)
+  pub all : IfSome source (λ input. Reading input 0 all_features events)
 
 -- The bytes that the source gave pass the top of the offsets, which is the fault after these events of theirs, at the
 -- offset where these end: the parser's.
@@ -82,17 +82,17 @@ abbrev pub Lists : (input output : Change) → Result Ended ListError → Type 0
 Lists input output how = ListsBy line_of input output how
 
 -- The source was at its end, which the feeder was told; or it gave some bytes, which were pushed.
-abbrev pub Fills : (left rest : Option (List ℕ)) → (old new : Feed) → Type 0
-Fills left rest old new =
-    (Consumes left rest [] × IsAtEnd rest × (new ≡ finished old))
-    ⊎ ((piece : List ℕ) × Consumes left rest piece × (0 < length piece) × (new ≡ pushed old piece))
+abbrev pub Fills : (source rest : Option (List ℕ)) → (old new : Feed) → Type 0
+Fills source rest old new =
+    (Consumes source rest [] × IsAtEnd rest × (new ≡ finished old))
+    ⊎ ((piece : List ℕ) × Consumes source rest piece × (0 < length piece) × (new ≡ pushed old piece))
 
 -- what one read did to the source, and to a feeder
-abbrev pub Refills : (left rest : Option (List ℕ)) → (old new : Feed) → Result (Unit {0}) ListError → Type 0
-Refills left rest old new (Ok done) = Fills left rest old new
-Refills left rest old new (Err Input) = Keeps left rest
-Refills left rest old new (Err Memory) = (piece : List ℕ) × Consumes left rest piece
-Refills left rest old new (Err Output) = ⊥
+abbrev pub Refills : (source rest : Option (List ℕ)) → (old new : Feed) → Result (Unit {0}) ListError → Type 0
+Refills source rest old new (Ok done) = Fills source rest old new
+Refills source rest old new (Err Input) = Keeps source rest
+Refills source rest old new (Err Memory) = (piece : List ℕ) × Consumes source rest piece
+Refills source rest old new (Err Output) = ⊥
 
 -- whether a device has failed after a call
 abbrev pub input_failed : {A : Type 0} → Result A ListError → Bool → Bool

@@ -48,6 +48,6 @@ pub record Steps (old : Feed) (result : Result Step Error) (new : Feed) : Type 0
 
 -- what a step says of every stream that goes on as what was given, of which these events were read before it
 abbrev pub Stepped : (start features : ℕ) (eof : Bool) (given : List ℕ) (events : List Event) → Result Step Error
-    → (new : ParserState) (left : List ℕ) → Type 0
-Stepped start features eof given events result new left =
-    GoesAlong start features eof given events (answer_of result) (shown result) new left
+    → (new : ParserState) (rest : List ℕ) → Type 0
+Stepped start features eof given events result new rest =
+    GoesAlong start features eof given events (answer_of result) (shown result) new rest

@@ -40,8 +40,8 @@ abbrev pub event_stays : (keep : Bool) → Event → Bool
 event_stays keep e = report_stays keep e.report
 
 -- the bytes that the events that stay consumed, joined
-abbrev pub left_bytes : (keep : Bool) → List Event → List ℕ
-left_bytes keep events = consumed_by (filter (event_stays keep) events)
+abbrev pub kept_bytes : (keep : Bool) → List Event → List ℕ
+kept_bytes keep events = consumed_by (filter (event_stays keep) events)
 
 -- the events that stay, each with the number of bytes that were dropped before it, so many of them before the first
 -- event
@@ -57,17 +57,17 @@ IsMovedBack s e = s.1 ≡ shifted_event s.0 e
 
 -- The events on the right are those on the left that stay, each at offsets that are less by the bytes dropped before
 -- it.
-abbrev pub AreLeft : (keep : Bool) → List Event → List Event → Type 0
-AreLeft keep events left = AllZip IsMovedBack (staying keep 0 events) left
+abbrev pub AreKept : (keep : Bool) → List Event → List Event → Type 0
+AreKept keep events kept = AllZip IsMovedBack (staying keep 0 events) kept
 
 -- The stream is accepted, and these bytes are what is left of it: they are accepted too, and are read as the stream is,
 -- but for the events that were dropped.
-pub record IsStripped (keep : Bool) (stream left : List ℕ) : Type 0 where
+pub record IsStripped (keep : Bool) (stream kept : List ℕ) : Type 0 where
   pub accepted : IsAccepted stream
-  pub bytes : left ≡ stripped keep accepted.encoding accepted.frames
-  pub still : IsAccepted left
+  pub bytes : kept ≡ stripped keep accepted.encoding accepted.frames
+  pub still : IsAccepted kept
   pub reading : (features : ℕ) (events : List Event) → Reading stream 0 features events
-      → (others : List Event) × Reading left 0 features others × AreLeft keep events others
+      → (others : List Event) × Reading kept 0 features others × AreKept keep events others
 
 -- The reading of the stream ends with this fault.
 abbrev pub EndsWithFault : (stream : List ℕ) → Error → Type 0
@@ -81,7 +81,7 @@ pub record RefusesToStrip (stream : List ℕ) (e : Error) : Type 0 where
 
 -- The stream was stripped, or refused.
 abbrev pub Strips : {A : Type 0} → (keep : Bool) (stream : List ℕ) → Result (Vec ℕ A) Error → Type 0
-Strips keep stream (Ok left) = IsStripped keep stream left.items
+Strips keep stream (Ok kept) = IsStripped keep stream kept.items
 Strips keep stream (Err e) = RefusesToStrip stream e
 
 -- The stream is not accepted, ends with this fault, and was left as it was.

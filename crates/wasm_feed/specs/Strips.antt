@@ -9,7 +9,7 @@ use Rattle.wasm_parser.specs.ParseAnswer.{is_end}
 use Rattle.wasm_grammar.specs.Reading.{Report, Event, last_event, Reading}
 use Rattle.wasm_parser.specs.Along.{Along}
 use Rattle.wasm_feed.specs.Feed.{Feed}
-use Rattle.wasm_feed.specs.Stripped.{event_stays, report_stays, left_bytes, EndsWithFault}
+use Rattle.wasm_feed.specs.Stripped.{event_stays, report_stays, kept_bytes, EndsWithFault}
 use Rattle.wasm_feed.specs.declared.stripping.Fate.{Fate}
 use Rattle.wasm_feed.specs.declared.stripping.Fate.TheVariants.{Stays, Goes, End}
 use Rattle.wasm_feed.specs.declared.stripping.Part.{Part}
@@ -59,31 +59,31 @@ GoesOn old (Ok part) new = IsFewer part.fate old new
 GoesOn old (Err e) new = Unit {0}
 
 -- A stream was read so far, and these are the bytes of the events that stay.
-abbrev pub HasLeft : (keep : Bool) (stream : List ℕ) → Feed → (left : List ℕ) → Type 0
-HasLeft keep stream feed left =
-    (events : List Event) × Along 0 all_features stream feed.state feed.held events × (left ≡ left_bytes keep events)
+abbrev pub HasKept : (keep : Bool) (stream : List ℕ) → Feed → (kept : List ℕ) → Type 0
+HasKept keep stream feed kept =
+    (events : List Event) × Along 0 all_features stream feed.state feed.held events × (kept ≡ kept_bytes keep events)
 
 -- The stream is read up to its end, and these are the bytes of its events that stay.
-pub record ReadsLeft (keep : Bool) (stream left : List ℕ) : Type 0 where
+pub record ReadsKept (keep : Bool) (stream kept : List ℕ) : Type 0 where
   pub events : List Event
   pub offset : ℕ
   pub reading : Reading stream 0 all_features (events ++ last_event (ended offset) ∷ [])
-  pub bytes : left ≡ left_bytes keep events
+  pub bytes : kept ≡ kept_bytes keep events
 
 -- the number of them, if the stream has no fault
-abbrev pub CountsLeft : (keep : Bool) (stream : List ℕ) → Result ℕ Error → Type 0
-CountsLeft keep stream (Ok count) = (left : List ℕ) × ReadsLeft keep stream left × (count ≡ length left)
-CountsLeft keep stream (Err e) = EndsWithFault stream e
+abbrev pub CountsKept : (keep : Bool) (stream : List ℕ) → Result ℕ Error → Type 0
+CountsKept keep stream (Ok count) = (kept : List ℕ) × ReadsKept keep stream kept × (count ≡ length kept)
+CountsKept keep stream (Err e) = EndsWithFault stream e
 
 -- they were put after others, if the stream has no fault and memory was there
-abbrev pub CopiesLeft : (keep : Bool) (stream before : List ℕ) → Result (Unit {0}) Error → (after : List ℕ) → Type 0
-CopiesLeft keep stream before (Ok done) after = (left : List ℕ) × ReadsLeft keep stream left × (after ≡ before ++ left)
-CopiesLeft keep stream before (Err e) after = EndsWithFault stream e ⊎ (fault_at e ≡ out_of_memory)
+abbrev pub CopiesKept : (keep : Bool) (stream before : List ℕ) → Result (Unit {0}) Error → (after : List ℕ) → Type 0
+CopiesKept keep stream before (Ok done) after = (kept : List ℕ) × ReadsKept keep stream kept × (after ≡ before ++ kept)
+CopiesKept keep stream before (Err e) after = EndsWithFault stream e ⊎ (fault_at e ≡ out_of_memory)
 
 -- what is left of a stream was moved to the front of its bytes, and is all of them, if it has no fault
-abbrev pub MovesLeft : (keep : Bool) (stream : List ℕ) → Result (Unit {0}) Error → (after : List ℕ) → Type 0
-MovesLeft keep stream (Ok done) after = ReadsLeft keep stream after
-MovesLeft keep stream (Err e) after = EndsWithFault stream e
+abbrev pub MovesKept : (keep : Bool) (stream : List ℕ) → Result (Unit {0}) Error → (after : List ℕ) → Type 0
+MovesKept keep stream (Ok done) after = ReadsKept keep stream after
+MovesKept keep stream (Err e) after = EndsWithFault stream e
 
 -- a part is the bytes between two marks
 abbrev pub Passes : (bytes : List ℕ) (old : ℕ) → Result Part Error → (new : ℕ) → Type 0

@@ -6,7 +6,7 @@ use Rattle.wasm_grammar.specs.Content.{fault}
 use Rattle.wasm_parser.specs.ParseAnswer.{report_of, is_end}
 use Rattle.wasm_grammar.specs.Reading.{Report, stream_end}
 use Rattle.wasm_feed.specs.Listing.{line_of}
-use Rattle.wasm_feed.specs.Page.{IsCut, PutsLine}
+use Rattle.wasm_feed.specs.Page.{IsCut, PutsBytes}
 use Rattle.wasm_feed.specs.declared.feeder.Step.{Step}
 use Rattle.wasm_feed.specs.declared.feeder.Step.TheVariants.{NeedMoreData, Parsed}
 use Rattle.wasm_feed.specs.declared.listing.Ended.TheVariants as how
@@ -34,5 +34,5 @@ turn_after (Err e) = turn.End (how.Fault e)
 abbrev pub TakesTurn : (taken written : Option (List ℕ)) (waiting new : List ℕ) → Result Step Error
     → Result Turn ListError → Type 0
 TakesTurn taken written waiting new answer (Ok next) =
-    PutsLine taken written waiting (line_after answer) new × (next ≡ turn_after answer)
+    PutsBytes taken written waiting (line_after answer) new × (next ≡ turn_after answer)
 TakesTurn taken written waiting new answer (Err e) = IsCut taken written waiting e

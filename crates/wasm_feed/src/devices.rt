@@ -2,7 +2,7 @@
 mod sink;
 mod source;
 
-pub(crate) use sink::room;
+pub(crate) use sink::list_of_capacity;
 pub use sink::{BoundedSink, Sink, WriteSink, write_all};
 pub use source::{ReadSource, SliceSource, Source};
 use std::alloc::AllocError;

@@ -8,14 +8,14 @@ pub(crate) fn write_digits(number: u64, bytes: &mut [u8], end: usize) -> usize
     ensures start { result + length (decimal number) ≡ end }
     ensures written { drop result bytes.new ≡ decimal number ++ drop end bytes.old }
 {
-    let mut left = number;
+    let mut more = number;
     let mut at = end;
-    while left >= 100 {
+    while more >= 100 {
         at -= 2;
-        write_pair(left % 100, bytes, at);
-        left /= 100;
+        write_pair(more % 100, bytes, at);
+        more /= 100;
     }
-    write_first(left, bytes, at)
+    write_first(more, bytes, at)
 }
 
 // Writes the first digit, or the first two, before the others.

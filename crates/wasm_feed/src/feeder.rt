@@ -216,23 +216,23 @@ impl<A: Allocator> Feeder<A> {
         refill(&mut self.cursor, &mut self.bytes, piece)
     }
 
-    /// Reads from this source once, into `room`, and takes what came as the next bytes of the stream; or where nothing came,
+    /// Reads from this source once, into `buffer`, and takes what came as the next bytes of the stream; or where nothing came,
     /// that it was the end. A stream that passes the offset 2^64 - 1 is a fault of the next step. The feeder must want more, as for
-    /// `push`, and `room` must have a byte.
+    /// `push`, and `buffer` must have a byte.
     ///
     /// `Input` where the source failed; `Memory` where the growth was refused. Either leaves the feeder as it was.
     pub fn read_from<R: Source>(
         &mut self,
         input: &mut R,
-        room: &mut [u8],
+        buffer: &mut [u8],
     ) -> std::result::Result<(), ListError>
         requires wants { self.old.wants_more ≡ true }
-        requires room { 0 < length room.old }
-        ensures refills { Refills (R.left input.old) (R.left input.new) self.old self.new result }
+        requires buffer { 0 < length buffer.old }
+        ensures refills { Refills (R.remaining input.old) (R.remaining input.new) self.old self.new result }
         ensures failed { R.has_failed input.new ≡ input_failed result (R.has_failed input.old) }
         ensures unchanged { OnErr result (self.new ≡ self.old) }
     {
-        read_more(&mut self.cursor, &mut self.bytes, input, room)
+        read_more(&mut self.cursor, &mut self.bytes, input, buffer)
     }
 
     /// One step along the stream, and what is made of it.
@@ -292,21 +292,21 @@ pub(crate) fn read_more<A: Allocator, R: Source>(
     cursor: &mut Cursor,
     stored: &mut Vec<u8, A>,
     input: &mut R,
-    room: &mut [u8],
+    buffer: &mut [u8],
 ) -> Result<(), ListError>
-    requires { 0 < length room.old }
-    ensures refills { Refills (R.left input.old) (R.left input.new)
+    requires { 0 < length buffer.old }
+    ensures refills { Refills (R.remaining input.old) (R.remaining input.new)
         (feed_of stored.old.items cursor.old) (feed_of stored.new.items cursor.new) result }
     ensures unchanged { OnErr result (feed_of stored.new.items cursor.new
         ≡ feed_of stored.old.items cursor.old) }
     ensures failed { R.has_failed input.new ≡ input_failed result (R.has_failed input.old) }
 {
-    match input.read(room) {
+    match input.read(buffer) {
         Ok(0) => {
             cursor.finish();
             Ok(())
         }
-        Ok(count) => match refill(cursor, stored, &room[..count]) {
+        Ok(count) => match refill(cursor, stored, &buffer[..count]) {
             Ok(()) => Ok(()),
             Err(_) => Err(ListError::Memory),
         },

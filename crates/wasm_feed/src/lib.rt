@@ -21,7 +21,8 @@ pub use devices::{
 pub use events::{Event, EventKind};
 pub use feeder::{Cursor, Feeder, Opened, Step};
 pub use line::Line;
-pub use lines::{fault_line, payload_line};
+pub use lines::{fault_line, payload_line, payload_text};
 pub use listing::{Ended, Turn, list, list_in};
+pub use page::Page;
 pub use pieces::{fits_pieces, read_pieces, read_pieces_in};
 pub use stripping::{strip, strip_in, strip_in_place};

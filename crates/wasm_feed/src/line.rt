@@ -6,12 +6,12 @@ use crate::digits::write_digits;
 use std::marker::Model;
 
 /// No line has more bytes: the longest is that of a fault, with a message of at most 80 bytes and two numbers of at most 20.
-const ROOM: usize = 160;
+const LINE_BYTES: usize = 160;
 
 /// The end of a line. Each part that is put before it makes it longer.
 #[derive(Drop)]
 pub struct Line {
-    bytes: [u8; ROOM],
+    bytes: [u8; LINE_BYTES],
     start: usize,
 }
 
@@ -31,8 +31,8 @@ impl Line {
         ensures { result ≡ [] }
     {
         Line {
-            bytes: [0; ROOM],
-            start: ROOM,
+            bytes: [0; LINE_BYTES],
+            start: LINE_BYTES,
         }
     }
 
@@ -40,8 +40,8 @@ impl Line {
     pub fn feed(&mut self)
         ensures { self.new ≡ codes "\n" }
     {
-        self.bytes[ROOM - 1] = b'\n';
-        self.start = ROOM - 1;
+        self.bytes[LINE_BYTES - 1] = b'\n';
+        self.start = LINE_BYTES - 1;
     }
 
     /// Puts a number before it.

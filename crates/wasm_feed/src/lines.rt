@@ -1,8 +1,8 @@
-// The lines of a listing.
+// The lines of a listing, each put together from its end: the text of a payload goes before what a line has.
 ghost use Rattle.std.specs.Prelude.{◌≡◌, ◌≤◌, ◌++◌, codes, length};
 ghost use Rattle.wasm_base.specs.FaultAt.{fault_at};
 ghost use Rattle.wasm_parser.specs.ParseAnswer.{report_of};
-ghost use Rattle.wasm_feed.specs.Listing.{encoding_name as name_of, field, line_of};
+ghost use Rattle.wasm_feed.specs.Listing.{encoding_name as name_of, field, line_of, text_before};
 ghost use Rattle.wasm_grammar.specs.Content.{fault};
 ghost use Rattle.wasm_grammar.specs.Reading.{code_start, counted, stream_end};
 
@@ -23,13 +23,14 @@ fn encoding_name(encoding: Encoding) -> &'static str
     }
 }
 
-// The line of a section with this id.
-#[tactic(auto, unfolding(crate::specs::Listing::line_of))]
-fn counted_line<T>(line: &mut Line, id: u8, section: &SectionLimited<'_, T>)
-    ensures { line.new ≡ line_of (counted id section.now.count section.now.reader) }
+// The text of a section with this id.
+#[tactic(auto, unfolding(crate::specs::Listing::text_before))]
+fn counted_text<T>(line: &mut Line, id: u8, section: &SectionLimited<'_, T>)
+    requires { length line.old ≤ 20 }
+    ensures { line.new ≡ text_before
+        (counted id section.now.count section.now.reader) line.old }
 {
     let range = section.range();
-    line.feed();
     line.field(u64::from(section.count()));
     line.field(range.end);
     line.field(range.start);
@@ -37,25 +38,26 @@ fn counted_line<T>(line: &mut Line, id: u8, section: &SectionLimited<'_, T>)
     line.word("section");
 }
 
-// The line of what has this word, a range and a number.
-fn number_line(line: &mut Line, word: &str, range: &Range<u64>, number: u64)
-    requires { length word.now ≤ 9 }
+// The text of what has this word, a range and a number.
+fn number_text(line: &mut Line, word: &str, range: &Range<u64>, number: u64)
+    requires word { length word.now ≤ 9 }
+    requires short { length line.old ≤ 20 }
     ensures { line.new ≡ word.now
-        ++ field range.now.start (field range.now.end (field number (codes "\n"))) }
+        ++ field range.now.start (field range.now.end (field number line.old)) }
 {
-    line.feed();
     line.field(number);
     line.field(range.end);
     line.field(range.start);
     line.word(word);
 }
 
-// The line of the start of a code section.
-#[tactic(auto, unfolding(crate::specs::Listing::line_of))]
-fn code_line(line: &mut Line, range: &Range<u64>, count: u32, size: u32)
-    ensures { line.new ≡ line_of (code_start count range.now.start range.now.end size) }
+// The text of the start of a code section.
+#[tactic(auto, unfolding(crate::specs::Listing::text_before))]
+fn code_text(line: &mut Line, range: &Range<u64>, count: u32, size: u32)
+    requires { length line.old ≤ 20 }
+    ensures { line.new ≡ text_before
+        (code_start count range.now.start range.now.end size) line.old }
 {
-    line.feed();
     line.field(u64::from(size));
     line.field(u64::from(count));
     line.field(range.end);
@@ -63,12 +65,12 @@ fn code_line(line: &mut Line, range: &Range<u64>, count: u32, size: u32)
     line.word("code");
 }
 
-// The line of a header.
-fn version_line(line: &mut Line, version: u16, encoding: Encoding, range: &Range<u64>)
+// The text of a header.
+fn version_text(line: &mut Line, version: u16, encoding: Encoding, range: &Range<u64>)
+    requires { length line.old ≤ 20 }
     ensures { line.new ≡ codes "version" ++ field range.now.start (field range.now.end
-        (field version (codes " " ++ (name_of encoding ++ codes "\n")))) }
+        (field version (codes " " ++ (name_of encoding ++ line.old)))) }
 {
-    line.feed();
     line.word(encoding_name(encoding));
     line.word(" ");
     line.field(u64::from(version));
@@ -77,81 +79,90 @@ fn version_line(line: &mut Line, version: u16, encoding: Encoding, range: &Range
     line.word("version");
 }
 
-// The line of a body.
-fn body_line(line: &mut Line, range: &Range<u64>)
+// The text of a body.
+fn body_text(line: &mut Line, range: &Range<u64>)
+    requires { length line.old ≤ 20 }
     ensures { line.new ≡ codes "body"
-        ++ field range.now.start (field range.now.end (codes "\n")) }
+        ++ field range.now.start (field range.now.end line.old) }
 {
-    line.feed();
     line.field(range.end);
     line.field(range.start);
     line.word("body");
 }
 
-// The line of an unknown section.
-fn unknown_line(line: &mut Line, id: u8, range: &Range<u64>)
+// The text of an unknown section.
+fn unknown_text(line: &mut Line, id: u8, range: &Range<u64>)
+    requires { length line.old ≤ 20 }
     ensures { line.new ≡ codes "unknown"
-        ++ field id (field range.now.start (field range.now.end (codes "\n"))) }
+        ++ field id (field range.now.start (field range.now.end line.old)) }
 {
-    line.feed();
     line.field(range.end);
     line.field(range.start);
     line.field(u64::from(id));
     line.word("unknown");
 }
 
-// The line of the end.
-fn end_line(line: &mut Line, offset: u64)
-    ensures { line.new ≡ codes "end" ++ field offset (codes "\n") }
+// The text of the end.
+fn end_text(line: &mut Line, offset: u64)
+    requires { length line.old ≤ 20 }
+    ensures { line.new ≡ codes "end" ++ field offset line.old }
 {
-    line.feed();
     line.field(offset);
     line.word("end");
 }
 
 /// The line of a payload.
-#[tactic(auto, unfolding(crate::specs::Listing::line_of))]
 pub fn payload_line(line: &mut Line, payload: &Payload)
     ensures { line.new ≡ line_of (report_of payload.now) }
+{
+    line.feed();
+    payload_text(line, payload);
+}
+
+/// Puts the text of a payload before what the line has, which is at most 20 bytes.
+#[tactic(auto, unfolding(crate::specs::Listing::text_before))]
+pub fn payload_text(line: &mut Line, payload: &Payload)
+    requires { length line.old ≤ 20 }
+    ensures { line.new ≡ text_before (report_of payload.now) line.old }
 {
     match payload {
         Payload::Version {
             num,
             encoding,
             range,
-        } => version_line(line, *num, *encoding, range),
-        Payload::TypeSection(section) => counted_line(line, TYPE_SECTION, section),
-        Payload::ImportSection(section) => counted_line(line, IMPORT_SECTION, section),
-        Payload::FunctionSection(section) => counted_line(line, FUNCTION_SECTION, section),
-        Payload::TableSection(section) => counted_line(line, TABLE_SECTION, section),
-        Payload::MemorySection(section) => counted_line(line, MEMORY_SECTION, section),
-        Payload::TagSection(section) => counted_line(line, TAG_SECTION, section),
-        Payload::GlobalSection(section) => counted_line(line, GLOBAL_SECTION, section),
-        Payload::ExportSection(section) => counted_line(line, EXPORT_SECTION, section),
+        } => version_text(line, *num, *encoding, range),
+        Payload::TypeSection(section) => counted_text(line, TYPE_SECTION, section),
+        Payload::ImportSection(section) => counted_text(line, IMPORT_SECTION, section),
+        Payload::FunctionSection(section) => counted_text(line, FUNCTION_SECTION, section),
+        Payload::TableSection(section) => counted_text(line, TABLE_SECTION, section),
+        Payload::MemorySection(section) => counted_text(line, MEMORY_SECTION, section),
+        Payload::TagSection(section) => counted_text(line, TAG_SECTION, section),
+        Payload::GlobalSection(section) => counted_text(line, GLOBAL_SECTION, section),
+        Payload::ExportSection(section) => counted_text(line, EXPORT_SECTION, section),
         Payload::StartSection { func, range } => {
-            number_line(line, "start", range, u64::from(*func));
+            number_text(line, "start", range, u64::from(*func));
         }
-        Payload::ElementSection(section) => counted_line(line, ELEMENT_SECTION, section),
+        Payload::ElementSection(section) => counted_text(line, ELEMENT_SECTION, section),
         Payload::DataCountSection { count, range } => {
-            number_line(line, "datacount", range, u64::from(*count));
+            number_text(line, "datacount", range, u64::from(*count));
         }
-        Payload::DataSection(section) => counted_line(line, DATA_SECTION, section),
+        Payload::DataSection(section) => counted_text(line, DATA_SECTION, section),
         Payload::CodeSectionStart {
             count,
             unchecked_range,
             size,
-        } => code_line(line, unchecked_range, *count, *size),
-        Payload::CodeSectionEntry(body) => body_line(line, &body.range()),
+        } => code_text(line, unchecked_range, *count, *size),
+        Payload::CodeSectionEntry(body) => body_text(line, &body.range()),
         Payload::CustomSection(section) => {
-            number_line(line, "custom", &section.range(), section.data_offset());
+            number_text(line, "custom", &section.range(), section.data_offset());
         }
-        Payload::UnknownSection { id, range, .. } => unknown_line(line, *id, range),
-        Payload::End(offset) => end_line(line, *offset),
+        Payload::UnknownSection { id, range, .. } => unknown_text(line, *id, range),
+        Payload::End(offset) => end_text(line, *offset),
     }
 }
 
 /// The line of a fault.
-#[tactic(auto, unfolding(crate::specs::Listing::line_of))]
+#[tactic(auto, unfolding(crate::specs::Listing::text_before))]
 pub fn fault_line(line: &mut Line, error: &Error)
     ensures { line.new ≡ line_of (stream_end (fault (fault_at error.now))) }
 {

@@ -40,7 +40,7 @@ fn put_answer<A: Allocator, W: Sink>(
     answer: &ParserResult<Step<'_>>,
 ) -> Result<Turn, ListError>
     ensures takes { TakesTurn (W.taken output.old) (W.taken output.new)
-        page.old.bytes.items page.new.bytes.items answer.now result }
+        page.old page.new answer.now result }
     ensures failed { W.has_failed output.new ≡ output_failed result (W.has_failed output.old) }
 {
     match answer {
@@ -70,13 +70,13 @@ pub fn list_in<A: Allocator + Copy, R: Source, W: Sink>(
     piece: usize,
 ) -> Result<Ended, ListError>
     requires { 1 ≤ piece }
-    ensures lists { Lists (change_of R.left input.old input.new)
+    ensures lists { Lists (change_of R.remaining input.old input.new)
         (change_of W.taken output.old output.new) result }
     ensures input { R.has_failed input.new ≡ input_failed result (R.has_failed input.old) }
     ensures output { W.has_failed output.new ≡ output_failed result (W.has_failed output.old) }
 {
-    let mut room = vec![in alloc; 0u8; piece]?;
-    let mut page = Page::new(alloc)?;
+    let mut buffer = vec![in alloc; 0u8; piece]?;
+    let mut page = Page::new(alloc);
     let mut line = Line::new();
     let mut stored = Vec::new(alloc);
     let mut cursor = Cursor::new(Parser::new(0));
@@ -88,7 +88,7 @@ pub fn list_in<A: Allocator + Copy, R: Source, W: Sink>(
             Turn::Advance => {}
             Turn::Read => {
                 page.write_out(output)?;
-                read_more(&mut cursor, &mut stored, input, room.as_mut_slice())?;
+                read_more(&mut cursor, &mut stored, input, buffer.as_mut_slice())?;
             }
             Turn::End(ended) => {
                 page.write_out(output)?;
@@ -100,7 +100,7 @@ pub fn list_in<A: Allocator + Copy, R: Source, W: Sink>(
 
 /// Reads the input, at most `piece` bytes at once and at least one, and writes its listing: a line for each event of the
 /// reading of the stream, whose offsets count bytes from 0. The lines of all events that are decided are written before more
-/// is read. It keeps what the parser has not decided, the piece that came last, the room that it was read into, and a page of
+/// is read. It keeps what the parser has not decided, the piece that came last, the buffer that it was read into, and a page of
 /// lines; no clause says how much that is.
 ///
 /// A stream that passes the offset 2^64 - 1 ends with the fault `OffsetRange`. An error leaves a beginning of the listing
@@ -113,7 +113,7 @@ pub fn list<R: Source, W: Sink>(
     piece: usize,
 ) -> Result<Ended, ListError>
     requires { 1 ≤ piece }
-    ensures lists { Lists (change_of R.left input.old input.new)
+    ensures lists { Lists (change_of R.remaining input.old input.new)
         (change_of W.taken output.old output.new) result }
     ensures input { R.has_failed input.new ≡ input_failed result (R.has_failed input.old) }
     ensures output { W.has_failed output.new ≡ output_failed result (W.has_failed output.old) }

@@ -1,51 +1,71 @@
-// Lines that wait to be written.
-ghost use Rattle.std.specs.Prelude.{◌≡◌, ◌≤◌, [], length, IfOk, vec_len, vec_capacity};
+// Bytes that wait to be written.
+ghost use Rattle.std.specs.Prelude.{◌≡◌, ◌≤◌, [], length};
 ghost use Rattle.wasm_feed.specs.Lists.{output_failed};
 ghost use Rattle.wasm_feed.specs.Page.{Puts, WritesOut};
 
-use crate::devices::{ListError, Sink, room, write_all};
-use std::alloc::{AllocError, Allocator};
+use crate::devices::{ListError, Sink, write_all};
+use std::alloc::{Allocator, Global};
+use std::marker::Model;
 
 /// How many bytes wait at most.
-const SIZE: usize = 65_536;
+const PAGE_BYTES: usize = 65_536;
 
-/// Lines that were not written yet. So a sink is called once for many of them.
+/// Bytes that wait to be written, at most 65,536 of them, so that a sink is called once for many lines.
 #[derive(Drop)]
-pub(crate) struct Page<A: Allocator> {
+pub struct Page<A: Allocator = Global> {
     bytes: Vec<u8, A>,
-    ghost room: { 65536 ≤ vec_capacity bytes },
-    ghost within: { vec_len bytes ≤ 65536 },
+}
+
+impl<A: Allocator> Model for Page<A> {
+    ghost use Rattle.std.specs.Prelude.{ℕ, ◌≤◌, List, vec_len};
+
+    ghost Value = { List ℕ };
+
+    ghost view = { λ p. p.bytes.items };
+
+    ghost invariant = { λ p. vec_len p.bytes ≤ 65536 };
 }
 
 impl<A: Allocator> Page<A> {
-    /// No lines, and memory for them.
-    pub(crate) fn new(alloc: A) -> Result<Self, AllocError>
-        ensures { IfOk result (λ p. p.bytes.items ≡ []) }
+    /// An empty one. It takes memory from this allocator when bytes are put.
+    pub fn new(alloc: A) -> Self
+        ensures { result ≡ [] }
     {
-        Ok(Page {
-            bytes: room(alloc, SIZE)?,
-        })
+        Page {
+            bytes: Vec::new(alloc),
+        }
     }
 
-    /// Puts a line after those that wait, which are written first where there is no room for it.
-    pub(crate) fn put<W: Sink>(&mut self, line: &[u8], output: &mut W) -> Result<(), ListError>
-        requires { length line.now ≤ 160 }
+    /// How many bytes wait: at most 65,536.
+    pub fn len(&self) -> usize
+        ensures len { result ≡ length self.now }
+        ensures bounded { result ≤ 65536 }
+    {
+        self.bytes.len()
+    }
+
+    /// Puts at most 65,536 bytes after those that wait, which are written first where there is no room. `Output` where the sink
+    /// fails, and `Memory` where a growth is refused: a beginning of what waited is then written, and no more is known.
+    pub fn put<W: Sink>(&mut self, bytes: &[u8], output: &mut W) -> Result<(), ListError>
+        requires { length bytes.now ≤ 65536 }
         ensures puts { Puts (W.taken output.old) (W.taken output.new)
-            self.old.bytes.items line.now self.new.bytes.items result }
+            self.old bytes.now self.new result }
         ensures failed { W.has_failed output.new
             ≡ output_failed result (W.has_failed output.old) }
     {
-        if line.len() > SIZE - self.bytes.len() {
+        if bytes.len() > PAGE_BYTES - self.bytes.len() {
             self.write_out(output)?;
         }
-        self.bytes.extend_from_slice(line).unwrap();
-        Ok(())
+        match self.bytes.extend_from_slice(bytes) {
+            Ok(()) => Ok(()),
+            Err(_) => Err(ListError::Memory),
+        }
     }
 
-    /// Writes the lines that wait.
-    pub(crate) fn write_out<W: Sink>(&mut self, output: &mut W) -> Result<(), ListError>
+    /// Writes the bytes that wait. `Output` where the sink fails, and a beginning of them is then written.
+    pub fn write_out<W: Sink>(&mut self, output: &mut W) -> Result<(), ListError>
         ensures writes { WritesOut (W.taken output.old) (W.taken output.new)
-            self.old.bytes.items self.new.bytes.items result }
+            self.old self.new result }
         ensures failed { W.has_failed output.new
             ≡ output_failed result (W.has_failed output.old) }
     {

@@ -3,11 +3,11 @@ ghost use Rattle.std.specs.Prelude.{◌≡◌, ◌+◌, ◌<◌, ◌≤◌, ◌^
 ghost use Rattle.std.specs.List.{copy_within};
 ghost use Rattle.wasm_feed.specs.Cursors.{feed_of};
 ghost use Rattle.wasm_feed.specs.Stripped.{custom_stays, Strips, StripsInPlace};
-ghost use Rattle.wasm_feed.specs.Strips.{CountsLeft, CopiesLeft, custom_fate, GoesOn, IsFateOf, MovesLeft, Passes, TakesPart};
+ghost use Rattle.wasm_feed.specs.Strips.{CountsKept, CopiesKept, custom_fate, GoesOn, IsFateOf, MovesKept, Passes, TakesPart};
 ghost use Rattle.wasm_parser.specs.ParseAnswer.{report_of};
 ghost use Rattle.wasm_grammar.specs.Reading.{Stream};
 
-use crate::devices::room;
+use crate::devices::list_of_capacity;
 use crate::feeder::{Cursor, Step, parse_next};
 use std::alloc::{Allocator, Global};
 use wasm_parser::{Error, Fault, Parser, Payload, Result};
@@ -72,9 +72,9 @@ fn next_part<'a>(cursor: &mut Cursor, bytes: &'a [u8], keep_names: bool) -> Resu
 }
 
 // How many bytes are left of a stream.
-fn count_left(bytes: &[u8], keep_names: bool) -> Result<usize>
+fn count_kept(bytes: &[u8], keep_names: bool) -> Result<usize>
     requires { length bytes.now < 2 ^ 64 }
-    ensures counts { CountsLeft keep_names bytes.now result }
+    ensures counts { CountsKept keep_names bytes.now result }
     ensures stream { Stream bytes.now 0 }
 {
     let mut cursor = Cursor::over_all(Parser::new(0));
@@ -90,16 +90,16 @@ fn count_left(bytes: &[u8], keep_names: bool) -> Result<usize>
 }
 
 // Puts what is left of a stream after these bytes.
-fn copy_left<A: Allocator>(bytes: &[u8], keep_names: bool, left: &mut Vec<u8, A>) -> Result<()>
+fn copy_kept<A: Allocator>(bytes: &[u8], keep_names: bool, kept: &mut Vec<u8, A>) -> Result<()>
     requires { length bytes.now < 2 ^ 64 }
-    ensures { CopiesLeft keep_names bytes.now left.old.items result left.new.items }
+    ensures { CopiesKept keep_names bytes.now kept.old.items result kept.new.items }
 {
     let mut cursor = Cursor::over_all(Parser::new(0));
     'parts: loop {
         let part = next_part(&mut cursor, bytes, keep_names)?;
         match part.fate {
             Fate::Stays => {
-                if left.extend_from_slice(part.bytes).is_err() {
+                if kept.extend_from_slice(part.bytes).is_err() {
                     return Err(Error::new(Fault::OutOfMemory, 0));
                 }
             }
@@ -122,24 +122,24 @@ fn move_down<A: Allocator>(bytes: &mut Vec<u8, A>, start: usize, size: usize, to
 }
 
 // Moves what is left of a stream to the front of its bytes, and lets go of the rest.
-fn move_left<A: Allocator>(bytes: &mut Vec<u8, A>, keep_names: bool) -> Result<()>
+fn move_kept<A: Allocator>(bytes: &mut Vec<u8, A>, keep_names: bool) -> Result<()>
     requires { length bytes.old.items < 2 ^ 64 }
-    ensures { MovesLeft keep_names bytes.old.items result bytes.new.items }
+    ensures { MovesKept keep_names bytes.old.items result bytes.new.items }
 {
     let mut cursor = Cursor::over_all(Parser::new(0));
-    let mut left = 0;
+    let mut kept = 0;
     'parts: loop {
         let start = cursor.mark();
         let part = next_part(&mut cursor, bytes, keep_names)?;
         let size = part.bytes.len();
         match part.fate {
             Fate::Stays => {
-                move_down(bytes, start, size, left);
-                left += size;
+                move_down(bytes, start, size, kept);
+                kept += size;
             }
             Fate::Goes => {}
             Fate::End => {
-                bytes.truncate(left);
+                bytes.truncate(kept);
                 return Ok(());
             }
         }
@@ -153,8 +153,8 @@ pub fn strip_in_place<A: Allocator>(bytes: &mut Vec<u8, A>, keep_names: bool) ->
 {
     // A list is shorter than 2^64 bytes, which the functions below want to know.
     let _length = bytes.len();
-    count_left(bytes, keep_names)?;
-    move_left(bytes, keep_names)
+    count_kept(bytes, keep_names)?;
+    move_kept(bytes, keep_names)
 }
 
 /// The same as `strip`, with memory from any allocator: of an accepted stream `OutOfMemory`, at offset 0, where it refuses the
@@ -164,12 +164,12 @@ pub fn strip_in<A: Allocator>(alloc: A, bytes: &[u8], keep_names: bool) -> Resul
 {
     // A slice is shorter than 2^64 bytes, which the functions below want to know.
     let _length = bytes.len();
-    let count = count_left(bytes, keep_names)?;
-    let Ok(mut left) = room(alloc, count) else {
+    let count = count_kept(bytes, keep_names)?;
+    let Ok(mut kept) = list_of_capacity(alloc, count) else {
         return Err(Error::new(Fault::OutOfMemory, 0));
     };
-    copy_left(bytes, keep_names, &mut left)?;
-    Ok(left)
+    copy_kept(bytes, keep_names, &mut kept)?;
+    Ok(kept)
 }
 
 /// What is left of a stream without its custom sections (core specification, Binary format, Modules, Custom Section): its

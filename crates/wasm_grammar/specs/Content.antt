@@ -67,9 +67,10 @@ wrong_number offset bytes short = Some (at_offset UnexpectedEof (offset + length
 
 -- the same for content that is one number, and this if bytes are left
 abbrev pub wrong_single : Fault → (offset : ℕ) (bytes : List ℕ) → Number → Option FaultAt
-wrong_single left offset bytes (read value used) = when (nat_lt used (length bytes)) (at_offset left (offset + used))
-wrong_single left offset bytes (bad f place) = Some (at_offset f (offset + place))
-wrong_single left offset bytes short = Some (at_offset UnexpectedEof (offset + length bytes))
+wrong_single trailing offset bytes (read value used) = when (nat_lt used (length bytes))
+    (at_offset trailing (offset + used))
+wrong_single trailing offset bytes (bad f place) = Some (at_offset f (offset + place))
+wrong_single trailing offset bytes short = Some (at_offset UnexpectedEof (offset + length bytes))
 
 -- the same for a name
 abbrev pub wrong_name : (offset : ℕ) → Name → Option FaultAt

@@ -176,13 +176,13 @@ unfoldable pub section_grammar : SectionContext → (offset : ℕ) → Grammar
 section_grammar context offset = section_start offset (end_at_section context offset) (after_id context offset)
 
 -- a body, in a code section of which so many bytes are left. Its size says by itself whether it passes the section
-abbrev pub body_of : (offset left size width : ℕ) → Grammar
-body_of offset left size width =
-    check (when (nat_lt left (width + size)) (at_offset UnexpectedEof offset)) (
+abbrev pub body_of : (offset code_bytes size width : ℕ) → Grammar
+body_of offset code_bytes size width =
+    check (when (nat_lt code_bytes (width + size)) (at_offset UnexpectedEof offset)) (
     bytes size (offset + width) (λ content.
     accept (code_entry content)))
 
 -- what may come in a code section of which so many bodies and bytes are left
-unfoldable pub body_grammar : (bodies left offset : ℕ) → Grammar
-body_grammar zero left offset = reject (at_offset TrailingCode offset)
-body_grammar (suc bodies) left offset = u32_field offset (λ size width. body_of offset left size width)
+unfoldable pub body_grammar : (bodies code_bytes offset : ℕ) → Grammar
+body_grammar zero code_bytes offset = reject (at_offset TrailingCode offset)
+body_grammar (suc bodies) code_bytes offset = u32_field offset (λ size width. body_of offset code_bytes size width)

@@ -1,6 +1,7 @@
 -- Worked streams, and what is read of them.
 use Rattle.std.specs.Prelude.{ℕ, List, [], ◌∷◌, ◌++◌, flat_map, Some}
 use Rattle.wasm_base.specs.FaultAt.{at_offset}
+use Rattle.wasm_base.specs.Features.{all_features}
 use Rattle.wasm_base.specs.Window.{Window}
 use Rattle.wasm_base.specs.declared.fault.Fault.TheVariants.{OutOfOrder, FunctionWithoutCode, FunctionCodeDiffer}
 use Rattle.wasm_base.specs.declared.fault.Fault.TheVariants.{CodeWithoutFunction, DataCountWithoutData, DataCountDiffer}
@@ -40,11 +41,11 @@ EndsSo stream end = EndsFrom 0 stream end
 
 -- a function section and a code section with its one body
 abbrev pub ABody : Type 0
-ABody = Reading (m ++ 3 ∷ 2 ∷ 1 ∷ 0 ∷ 0x0a ∷ 4 ∷ 1 ∷ 2 ∷ 0 ∷ 0x0b ∷ []) 0 3
+ABody = Reading (m ++ 3 ∷ 2 ∷ 1 ∷ 0 ∷ 0x0a ∷ 4 ∷ 1 ∷ 2 ∷ 0 ∷ 0x0b ∷ []) 0 all_features
     (event (version 1 Module 0 8) m
-    ∷ event (counted 3 1 (window 3 10 (1 ∷ 0 ∷ []))) (3 ∷ 2 ∷ 1 ∷ 0 ∷ [])
+    ∷ event (counted 3 1 (window all_features 10 (1 ∷ 0 ∷ []))) (3 ∷ 2 ∷ 1 ∷ 0 ∷ [])
     ∷ event (code_start 1 14 18 3) (0x0a ∷ 4 ∷ 1 ∷ [])
-    ∷ event (code_entry (window 3 16 (0 ∷ 0x0b ∷ []))) (2 ∷ 0 ∷ 0x0b ∷ [])
+    ∷ event (code_entry (window all_features 16 (0 ∷ 0x0b ∷ []))) (2 ∷ 0 ∷ 0x0b ∷ [])
     ∷ event (stream_end (ended 18)) [] ∷ [])
 
 -- a section with this id whose content is one byte, 0
@@ -52,11 +53,12 @@ abbrev pub small : ℕ → List ℕ
 small id = id ∷ 1 ∷ 0 ∷ []
 
 abbrev pub counted_none : (id from : ℕ) → Event
-counted_none id from = event (counted id 0 (window 3 from (0 ∷ []))) (small id)
+counted_none id from = event (counted id 0 (window all_features from (0 ∷ []))) (small id)
 
 -- a module with every section, in their order
 abbrev pub EverySection : Type 0
-EverySection = Reading (m ++ flat_map small (1 ∷ 2 ∷ 3 ∷ 4 ∷ 5 ∷ 13 ∷ 6 ∷ 7 ∷ 8 ∷ 9 ∷ 12 ∷ 10 ∷ 11 ∷ 0 ∷ [])) 0 3
+EverySection = Reading (m ++ flat_map small (1 ∷ 2 ∷ 3 ∷ 4 ∷ 5 ∷ 13 ∷ 6 ∷ 7 ∷ 8 ∷ 9 ∷ 12 ∷ 10 ∷ 11 ∷ 0 ∷ [])) 0
+    all_features
     (event (version 1 Module 0 8) m
     ∷ counted_none 1 10 ∷ counted_none 2 13 ∷ counted_none 3 16 ∷ counted_none 4 19 ∷ counted_none 5 22
     ∷ counted_none 13 25 ∷ counted_none 6 28 ∷ counted_none 7 31
@@ -65,19 +67,19 @@ EverySection = Reading (m ++ flat_map small (1 ∷ 2 ∷ 3 ∷ 4 ∷ 5 ∷ 13 �
     ∷ event (data_count_section 0 40 41) (small 12)
     ∷ event (code_start 0 43 44 0) (small 10)
     ∷ counted_none 11 46
-    ∷ event (custom_section [] 50 (window 3 49 (0 ∷ []))) (small 0)
+    ∷ event (custom_section [] 50 (window all_features 49 (0 ∷ []))) (small 0)
     ∷ event (stream_end (ended 50)) [] ∷ [])
 
 -- a component, whose type section is an unknown one
 abbrev pub AComponent : Type 0
-AComponent = Reading (component ++ 1 ∷ 1 ∷ 0 ∷ []) 0 3
+AComponent = Reading (component ++ 1 ∷ 1 ∷ 0 ∷ []) 0 all_features
     (event (version 13 Component 0 8) component
     ∷ event (unknown_section 1 (0 ∷ []) 10 11) (1 ∷ 1 ∷ 0 ∷ [])
     ∷ event (stream_end (ended 11)) [] ∷ [])
 
 -- a section with the highest id below 128, which is an unknown one
 abbrev pub AHighId : Type 0
-AHighId = Reading (m ++ small 127) 0 3
+AHighId = Reading (m ++ small 127) 0 all_features
     (event (version 1 Module 0 8) m
     ∷ event (unknown_section 127 (0 ∷ []) 10 11) (small 127)
     ∷ event (stream_end (ended 11)) [] ∷ [])

@@ -2,6 +2,7 @@
 -- once.
 use Rattle.std.specs.Prelude.{ℕ, ◌+◌, [], ◌∷◌, ◌++◌, flat_map, Some}
 use Rattle.wasm_base.specs.FaultAt.{at_offset}
+use Rattle.wasm_base.specs.Features.{all_features}
 use Rattle.wasm_base.specs.declared.fault.Fault.TheVariants.{UnexpectedEof, BadMagic, MagicAtSection}
 use Rattle.wasm_base.specs.declared.fault.Fault.TheVariants.{MalformedSectionId, SectionTooLarge, OutOfOrder}
 use Rattle.wasm_base.specs.declared.fault.Fault.TheVariants.{StartContent, DataCountContent, FunctionCodeDiffer}
@@ -16,9 +17,9 @@ use Rattle.wasm_grammar.specs.declared.encoding.Encoding.TheVariants.{Module, Co
 
 -- a custom section with a name and data
 abbrev pub NameAndData : Type 0
-NameAndData = Reading (m ++ 0 ∷ 3 ∷ 1 ∷ 97 ∷ 7 ∷ []) 0 3
+NameAndData = Reading (m ++ 0 ∷ 3 ∷ 1 ∷ 97 ∷ 7 ∷ []) 0 all_features
     (event (version 1 Module 0 8) m
-    ∷ event (custom_section (97 ∷ []) 12 (window 3 10 (1 ∷ 97 ∷ 7 ∷ []))) (0 ∷ 3 ∷ 1 ∷ 97 ∷ 7 ∷ [])
+    ∷ event (custom_section (97 ∷ []) 12 (window all_features 10 (1 ∷ 97 ∷ 7 ∷ []))) (0 ∷ 3 ∷ 1 ∷ 97 ∷ 7 ∷ [])
     ∷ event (stream_end (ended 13)) [] ∷ [])
 
 -- a section of a component with this id, which is unknown and is at this offset
@@ -28,9 +29,9 @@ unknown_one id from = event (unknown_section id (0 ∷ []) from (from + 1)) (sma
 -- a component with a section of each id from 0 to 13: only 0 is known
 abbrev pub AllIdsOfAComponent : Type 0
 AllIdsOfAComponent = Reading (component ++ flat_map small
-    (0 ∷ 1 ∷ 2 ∷ 3 ∷ 4 ∷ 5 ∷ 6 ∷ 7 ∷ 8 ∷ 9 ∷ 10 ∷ 11 ∷ 12 ∷ 13 ∷ [])) 0 3
+    (0 ∷ 1 ∷ 2 ∷ 3 ∷ 4 ∷ 5 ∷ 6 ∷ 7 ∷ 8 ∷ 9 ∷ 10 ∷ 11 ∷ 12 ∷ 13 ∷ [])) 0 all_features
     (event (version 13 Component 0 8) component
-    ∷ event (custom_section [] 11 (window 3 10 (0 ∷ []))) (small 0)
+    ∷ event (custom_section [] 11 (window all_features 10 (0 ∷ []))) (small 0)
     ∷ unknown_one 1 13 ∷ unknown_one 2 16 ∷ unknown_one 3 19 ∷ unknown_one 4 22 ∷ unknown_one 5 25 ∷ unknown_one 6 28
     ∷ unknown_one 7 31 ∷ unknown_one 8 34 ∷ unknown_one 9 37 ∷ unknown_one 10 40 ∷ unknown_one 11 43
     ∷ unknown_one 12 46 ∷ unknown_one 13 49

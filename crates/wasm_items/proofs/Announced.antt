@@ -11,9 +11,8 @@ use Rattle.wasm_base.specs.Window.{Place, window_between}
 use Rattle.wasm_base.specs.declared.fault.NumberKind.TheVariants.{VarU32}
 use Rattle.wasm_items.specs.Announced.{ElementsAreGiven}
 use Rattle.wasm_items.specs.Elements.{element_at, element_flags_at, element_kind_at, elements_at, after_element_kind, element_type_at}
-use Rattle.wasm_items.specs.Elements.{function_elements_at, expression_elements_at}
+use Rattle.wasm_items.specs.Elements.{has_expressions, function_elements_at, expression_elements_at}
 use Rattle.wasm_items.specs.Init.{end_of_expression, expression_at}
-use Rattle.wasm_items.specs.Limits.{has_flag}
 use Rattle.wasm_items.specs.Windows.{expression_window}
 use Rattle.wasm_items.specs.declared.elements.Element.{Element}
 use Rattle.wasm_items.specs.declared.elements.ElementItems.{ElementItems}
@@ -79,7 +78,7 @@ kind_given : (flags start : ℕ) (o : Outcome ElementKind) (element : Element) (
     → Given element.items
 kind_given flags start (Err f) element q e = cc
 kind_given flags start (Ok k) element q e = segment_given k.0 start (elements_at flags k.1) element q
-    (λ items r read. elements_given flags (has_flag flags 4) k.1 r items read) e
+    (λ items r read. elements_given flags (has_expressions flags) k.1 r items read) e
 
 flags_given : (start : ℕ) (o : Outcome ℕ) (element : Element) (q : Place)
     → (o >>= λ f. element_kind_at f.0 f.1 >>= λ k. elements_at f.0 k.1 >>= λ i.

@@ -1,8 +1,10 @@
 -- An expression is the end, or an instruction and then an expression: the bound on the number of instructions is no limit.
-use Rattle.std.proofs.Common.{◌≡◌, ℕ, zero, suc, ◌+◌, ◌-◌, ◌≤◌, Bool, true, false, cond, List, [], ◌∷◌, length, take, Option, Some, None}
+use Rattle.std.proofs.Common.{◌≡◌, ℕ, zero, suc, ◌+◌, ◌-◌, ◌*◌, ◌^◌, ◌≤◌, Bool, true}
+use Rattle.std.proofs.Common.{false, cond, List, [], ◌∷◌, length, take, drop, Option, Some, None}
 use Rattle.std.proofs.Common.{Ok, Err, nat_lt, nat_eq, ℤ, pos, negsuc, refl, sym, ◌==◌, if◌then◌else◌, arith, length-drop, ◌∙◌}
 use Rattle.wasm_base.specs.FaultAt.{at_offset}
-use Rattle.wasm_base.specs.Name.{bytes_at, byte_at, first_of, first_peeked}
+use Rattle.wasm_base.specs.Float.{u64_at}
+use Rattle.wasm_base.specs.Name.{bytes_at, byte_at, first_of, first_peeked, of_four, u32_at}
 use Rattle.wasm_base.specs.Number.{Number, read, bad, short, number, in_window, unsigned_at}
 use Rattle.wasm_base.specs.Outcome.{Outcome, ◌>>=◌}
 use Rattle.wasm_base.specs.Signed.{signed_at, signed_value}
@@ -10,20 +12,21 @@ use Rattle.wasm_base.specs.Window.{Place, advanced}
 use Rattle.wasm_base.specs.declared.fault.Fault.TheVariants.{UnexpectedEof}
 use Rattle.wasm_base.specs.declared.fault.NumberKind.{NumberKind}
 use Rattle.wasm_base.specs.declared.fault.NumberKind.TheVariants.{VarU32, VarS33}
-use Rattle.wasm_items.proofs.Instructions.{byte_passed}
-use Rattle.wasm_items.specs.Init.{Operand, signed, raw, u32_index, heap, operand_at, operands_at, constant_operands_at}
+use Rattle.wasm_items.proofs.PassedInstructions.{byte_passed}
+use Rattle.wasm_items.specs.Init.{Operands, done, signed, float_32, float_64, raw, u32_index, heap, operands_at, constant_operands_at}
 use Rattle.wasm_items.specs.Init.{numbered_operands_at, operands_of, aggregate_operands_of, vector_operands_of, after_opcode}
 use Rattle.wasm_items.specs.Init.{instructions_at, end_of_expression, IsEndOrInstruction}
 use Rattle.wasm_items.specs.Values.{heap_type_at, heap_type_from, abstract_heap_of, type_index}
+use Rattle.wasm_items.specs.declared.init.ConstOperator.{ConstOperator}
 use Rattle.wasm_items.specs.declared.types.HeapType.{HeapType}
 
 -- After a reading at most so many bytes are to come.
-abbrev Within : {A : Type 0} → ℕ → Outcome A → Type 0
+abbrev pub Within : {A : Type 0} → ℕ → Outcome A → Type 0
 Within n (Ok x) = length x.1.rest ≤ n
 Within n (Err e) = Unit {0}
 
 -- one reading after the other
-then_within : {A B : Type 0} (n : ℕ) (r : Outcome A) (f : A × Place → Outcome B) → Within n r
+pub then_within : {A B : Type 0} (n : ℕ) (r : Outcome A) (f : A × Place → Outcome B) → Within n r
     → ((x : A × Place) → length x.1.rest ≤ n → Within n (f x)) → Within n (r >>= f)
 then_within n (Ok x) f h k = k x h
 then_within n (Err e) f h k = tt
@@ -71,29 +74,42 @@ heap_within : (n : ℕ) (p : Place) → length p.rest ≤ n → Within n (heap_t
 unfolding heap_type_at
 heap_within n p le = peeked_within p p.rest n le
 
-operand_within : (operand : Operand) (n : ℕ) (p : Place) → length p.rest ≤ n → Within n (operand_at operand p)
-operand_within (signed kind) n p le = then_within n (signed_at kind p) (λ x. Ok (tt, x.1)) (signed_within kind n p le) (λ x h. h)
-operand_within (raw count) n p le = then_within n (bytes_at count p) (λ x. Ok (tt, x.1)) (bytes_within count n p le) (λ x h. h)
-operand_within u32_index n p le = then_within n (unsigned_at VarU32 p) (λ x. Ok (tt, x.1)) (unsigned_within VarU32 n p le) (λ x h. h)
-operand_within heap n p le = then_within n (heap_type_at p) (λ x. Ok (tt, x.1)) (heap_within n p le) (λ x h. h)
+number_32_within : (n : ℕ) (p : Place) → length p.rest ≤ n → Within n (u32_at p)
+unfolding u32_at
+number_32_within n p le = then_within n (bytes_at 4 p) (λ bytes. Ok (of_four bytes.0, bytes.1)) (bytes_within 4 n p le) (λ x h. h)
 
-operands_within : (operands : List Operand) (n : ℕ) (p : Place) → length p.rest ≤ n → Within n (operands_at operands p)
-operands_within [] n p le = le
-operands_within (operand ∷ operands) n p le = then_within n (operand_at operand p) (λ first. operands_at operands first.1)
-    (operand_within operand n p le) (λ x h. operands_within operands n x.1 h)
+number_64_within : (n : ℕ) (p : Place) → length p.rest ≤ n → Within n (u64_at p)
+unfolding u64_at
+number_64_within n p le = then_within n (bytes_at 8 p)
+    (λ bytes. Ok (of_four (take 4 bytes.0) + 2 ^ 32 * of_four (drop 4 bytes.0), bytes.1)) (bytes_within 8 n p le) (λ x h. h)
 
-constant_within : (start : ℕ) (operands : Option (List Operand)) (n : ℕ) (p : Place) → length p.rest ≤ n
+operands_within : (operands : Operands) (n : ℕ) (p : Place) → length p.rest ≤ n → Within n (operands_at operands p)
+operands_within (done operator) n p le = le
+operands_within (signed kind more) n p le = then_within n (signed_at kind p) (λ x. operands_at (more x.0) x.1)
+    (signed_within kind n p le) (λ x h. operands_within (more x.0) n x.1 h)
+operands_within (float_32 more) n p le = then_within n (u32_at p) (λ x. operands_at (more (record { 0 = x.0 })) x.1)
+    (number_32_within n p le) (λ x h. operands_within (more (record { 0 = x.0 })) n x.1 h)
+operands_within (float_64 more) n p le = then_within n (u64_at p) (λ x. operands_at (more (record { 0 = x.0 })) x.1)
+    (number_64_within n p le) (λ x h. operands_within (more (record { 0 = x.0 })) n x.1 h)
+operands_within (raw count more) n p le = then_within n (bytes_at count p) (λ x. operands_at (more x.0) x.1)
+    (bytes_within count n p le) (λ x h. operands_within (more x.0) n x.1 h)
+operands_within (u32_index more) n p le = then_within n (unsigned_at VarU32 p) (λ x. operands_at (more x.0) x.1)
+    (unsigned_within VarU32 n p le) (λ x h. operands_within (more x.0) n x.1 h)
+operands_within (heap more) n p le = then_within n (heap_type_at p) (λ x. operands_at (more x.0) x.1)
+    (heap_within n p le) (λ x h. operands_within (more x.0) n x.1 h)
+
+constant_within : (start : ℕ) (operands : Option Operands) (n : ℕ) (p : Place) → length p.rest ≤ n
     → Within n (constant_operands_at start operands p)
 constant_within start (Some operands) n p le = operands_within operands n p le
 constant_within start None n p le = tt
 
-numbered_within : (start : ℕ) (table : ℕ → Option (List Operand)) (n : ℕ) (p : Place) → length p.rest ≤ n
+numbered_within : (start : ℕ) (table : ℕ → Option Operands) (n : ℕ) (p : Place) → length p.rest ≤ n
     → Within n (numbered_operands_at start table p)
 numbered_within start table n p le = then_within n (unsigned_at VarU32 p) (λ number. constant_operands_at start (table number.0) number.1)
     (unsigned_within VarU32 n p le) (λ x h. constant_within start (table x.0) n x.1 h)
 
 -- After an instruction no more bytes are to come than before it.
-after_within : (start opcode n : ℕ) (p : Place) → length p.rest ≤ n → Within n (after_opcode start opcode p)
+pub after_within : (start opcode n : ℕ) (p : Place) → length p.rest ≤ n → Within n (after_opcode start opcode p)
 unfolding after_opcode
 after_within start opcode n p le = by_test (nat_eq opcode 0xFB) (nat_eq opcode 0xFD)
   where
@@ -108,12 +124,12 @@ abbrev first_and_more : (Place → Outcome (Unit {0})) → Place → Outcome (Un
 first_and_more more p = byte_at p >>= λ opcode. if opcode.0 == 0x0B then Ok (tt, opcode.1) else
     (after_opcode p.offset opcode.0 opcode.1 >>= λ instruction. more instruction.1)
 
-agree_after : (f g : Place → Outcome (Unit {0})) (n : ℕ) (r : Outcome (Unit {0})) → Within n r
+agree_after : (f g : Place → Outcome (Unit {0})) (n : ℕ) (r : Outcome ConstOperator) → Within n r
     → ((q : Place) → length q.rest ≤ n → f q ≡ g q) → (r >>= λ instruction. f instruction.1) ≡ (r >>= λ instruction. g instruction.1)
 agree_after f g n (Ok x) h same = same x.1 h
 agree_after f g n (Err e) h same = refl
 
-agree_by : (f g : Place → Outcome (Unit {0})) (t : Bool) (n : ℕ) (q : Place) (r : Outcome (Unit {0})) → Within n r
+agree_by : (f g : Place → Outcome (Unit {0})) (t : Bool) (n : ℕ) (q : Place) (r : Outcome ConstOperator) → Within n r
     → ((q : Place) → length q.rest ≤ n → f q ≡ g q)
     → cond t (Ok (tt, q)) (r >>= λ instruction. f instruction.1) ≡ cond t (Ok (tt, q)) (r >>= λ instruction. g instruction.1)
 agree_by f g true n q r h same = refl
@@ -142,7 +158,7 @@ none_of f p [] le = refl
 none_of f p (b ∷ rest) le = absurd (omega arith)
 
 -- How many instructions may come at most makes no difference, where these are as many as bytes.
-same_bound : (m n : ℕ) (p : Place) → length p.rest ≤ m → length p.rest ≤ n → instructions_at m p ≡ instructions_at n p
+pub same_bound : (m n : ℕ) (p : Place) → length p.rest ≤ m → length p.rest ≤ n → instructions_at m p ≡ instructions_at n p
 same_bound zero zero p lm ln = refl
 same_bound zero (suc n) p lm ln = sym (none_of (λ q. instructions_at n q) p p.rest lm)
 same_bound (suc m) zero p lm ln = none_of (λ q. instructions_at m q) p p.rest ln

@@ -1,6 +1,7 @@
 pub mod Announced
 pub mod Expressions
-pub mod Instructions
+pub mod PassedInstructions
+pub mod OneByOne
 pub mod OwnBytes
 pub mod Same
 pub mod SameGroup

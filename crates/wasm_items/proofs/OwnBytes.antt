@@ -1,20 +1,23 @@
 -- Types and expressions depend on no byte after those that they take.
-use Rattle.std.proofs.Common.{length-drop, ◌≡◌, ℕ, zero, suc, ◌+◌, ◌<◌, ◌≤◌, Bool, true, false, cond, List, [], ◌∷◌, length, take, drop}
+use Rattle.std.proofs.Common.{length-drop, ◌≡◌, ℕ, zero, suc, ◌+◌, ◌*◌, ◌^◌, ◌<◌, ◌≤◌}
+use Rattle.std.proofs.Common.{Bool, true, false, cond, List, [], ◌∷◌, length, take, drop}
 use Rattle.std.proofs.Common.{Option, Some, None, nat_eq, Ok, Err, refl, sym, ap, arith, ◌∙◌, ℤ, pos, negsuc}
 use Rattle.std.proofs.lemmas.List.{length-take}
 use Rattle.wasm_base.proofs.Texts.{advanced_twice}
 use Rattle.wasm_base.proofs.OwnBytes.{cut, same_read, OwnAt, Own, own_nothing, own_fault, own_both, own_cond, own_number, own_signed_at}
-use Rattle.wasm_base.proofs.OwnBytes.{own_signed, own_bytes, own_passed}
-use Rattle.wasm_base.specs.Name.{bytes_at}
+use Rattle.wasm_base.proofs.OwnBytes.{own_signed, own_bytes}
+use Rattle.wasm_base.specs.Float.{u64_at}
+use Rattle.wasm_base.specs.Name.{bytes_at, of_four, u32_at}
 use Rattle.wasm_base.specs.Number.{unsigned_at}
 use Rattle.wasm_base.specs.Outcome.{Outcome, ◌>>=◌}
 use Rattle.wasm_base.specs.Signed.{signed_at}
 use Rattle.wasm_base.specs.Window.{Place, advanced}
 use Rattle.wasm_base.specs.declared.fault.NumberKind.TheVariants.{VarU32, VarS33}
-use Rattle.wasm_items.specs.Init.{Operand, signed, raw, u32_index, heap, operand_at, operands_at, constant_operands_at}
+use Rattle.wasm_items.specs.Init.{Operands, done, signed, float_32, float_64, raw, u32_index, heap, operands_at, constant_operands_at}
 use Rattle.wasm_items.specs.Init.{numbered_operands_at, aggregate_operands_of, vector_operands_of, operands_of, after_opcode}
 use Rattle.wasm_items.specs.Init.{instructions_at, end_of_expression}
 use Rattle.wasm_items.specs.Values.{abstract_heap_of, type_index, heap_type_from, heap_type_at}
+use Rattle.wasm_items.specs.declared.init.ConstOperator.{ConstOperator}
 use Rattle.wasm_items.specs.declared.types.HeapType.{HeapType}
 
 index_own : (first start : ℕ) (z : ℤ) (m : Place) (x : HeapType) (q : Place) → type_index first start (z, m) ≡ Ok (x, q) → (m ≡ q)
@@ -65,22 +68,32 @@ heap_own features offset (b ∷ bs) x q e = by (abstract_heap_of b) refl e
 pub own_heap_type : Own heap_type_at
 own_heap_type = record { at = λ p x q e. heap_own p.features p.offset p.rest x q e }
 
-own_operand : (operand : Operand) → Own (operand_at operand)
-own_operand (signed kind) = own_passed (signed_at kind) (own_signed kind)
-own_operand (raw n) = own_passed (bytes_at n) (own_bytes n)
-own_operand u32_index = own_passed (unsigned_at VarU32) (own_number VarU32)
-own_operand heap = own_passed heap_type_at own_heap_type
+own_32 : Own u32_at
+unfolding u32_at
+own_32 = own_both (bytes_at 4) (λ bytes p. Ok (of_four bytes, p)) (own_bytes 4) (λ bytes. own_nothing (of_four bytes))
 
-own_operands : (operands : List Operand) → Own (operands_at operands)
-own_operands [] = own_nothing tt
-own_operands (operand ∷ operands) = own_both (operand_at operand) (λ a p. operands_at operands p) (own_operand operand)
-    (λ a. own_operands operands)
+own_64 : Own u64_at
+unfolding u64_at
+own_64 = own_both (bytes_at 8) (λ bytes p. Ok (of_four (take 4 bytes) + 2 ^ 32 * of_four (drop 4 bytes), p)) (own_bytes 8)
+    (λ bytes. own_nothing (of_four (take 4 bytes) + 2 ^ 32 * of_four (drop 4 bytes)))
 
-own_constant : (start : ℕ) (operands : Option (List Operand)) → Own (constant_operands_at start operands)
+own_operands : (operands : Operands) → Own (operands_at operands)
+own_operands (done operator) = own_nothing operator
+own_operands (signed kind more) = own_both (signed_at kind) (λ n p. operands_at (more n) p) (own_signed kind) (λ n. own_operands (more n))
+own_operands (float_32 more) = own_both u32_at (λ n p. operands_at (more (record { 0 = n })) p) own_32
+    (λ n. own_operands (more (record { 0 = n })))
+own_operands (float_64 more) = own_both u64_at (λ n p. operands_at (more (record { 0 = n })) p) own_64
+    (λ n. own_operands (more (record { 0 = n })))
+own_operands (raw n more) = own_both (bytes_at n) (λ b p. operands_at (more b) p) (own_bytes n) (λ b. own_operands (more b))
+own_operands (u32_index more) = own_both (unsigned_at VarU32) (λ n p. operands_at (more n) p) (own_number VarU32)
+    (λ n. own_operands (more n))
+own_operands (heap more) = own_both heap_type_at (λ ty p. operands_at (more ty) p) own_heap_type (λ ty. own_operands (more ty))
+
+own_constant : (start : ℕ) (operands : Option Operands) → Own (constant_operands_at start operands)
 own_constant start (Some operands) = own_operands operands
 own_constant start None = own_fault _
 
-own_numbered : (start : ℕ) (table : ℕ → Option (List Operand)) → Own (numbered_operands_at start table)
+own_numbered : (start : ℕ) (table : ℕ → Option Operands) → Own (numbered_operands_at start table)
 own_numbered start table = own_both (unsigned_at VarU32) (λ number p. constant_operands_at start (table number) p) (own_number VarU32)
     (λ number. own_constant start (table number))
 
@@ -124,7 +137,8 @@ instructions_own (suc most) features offset (b ∷ bs) q e = by (λ r h. instruc
         alone (suc more) (suc n) m l k i = let z : n ≡ m = omega (arith, k) in rw (is, sym i, sym z) refl
     by again false is e = instruction (after_opcode offset b (record { features = features; offset = offset + 1; rest = bs })) refl e
       where
-        instruction : (o : Outcome (Unit {0})) → after_opcode offset b (record { features = features; offset = offset + 1; rest = bs }) ≡ o
+        instruction : (o : Outcome ConstOperator)
+            → after_opcode offset b (record { features = features; offset = offset + 1; rest = bs }) ≡ o
             → (o >>= λ i. instructions_at most i.1) ≡ Ok (tt, q)
             → OwnInstructions (record { features = features; offset = offset; rest = b ∷ bs }) q
         instruction (Err f) at e = cc

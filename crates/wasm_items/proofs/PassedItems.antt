@@ -36,7 +36,7 @@ module _ (q : Place) (parts : ItemParts) where
   name_step p (Err e) is h = cc
   name_step p (Ok name) is h = rw (name_passed p name.1 name.0 is) (type_step name (type_ref_at name.1) h)
 
--- an import of a group
+-- an import of a bundle
 pub item_passed : (p q : Place) (parts : ItemParts) → item_at p ≡ Ok (parts, q) → passed_item_at p ≡ Ok (tt, q)
 unfolding item_at passed_item_at
 item_passed p q parts h = name_step q parts p (text_at (Some name_limit) p) refl h

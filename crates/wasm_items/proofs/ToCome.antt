@@ -1,4 +1,4 @@
--- One call of `next` over the groups of an import section, as what is to come of their imports.
+-- One call of `next` over the bundles of an import section, as what is to come of their imports.
 use Rattle.std.proofs.Common.{◌≡◌, ℕ, zero, suc, ◌<◌, ◌⊎◌, inl, inr, length, nat_lt, lt-ltb, Bool, true, false, List, [], ◌∷◌, ◌++◌, Option}
 use Rattle.std.proofs.Common.{Some, None, Result, Ok, Err, refl, sym, ap, arith, ◌∙◌}
 use Rattle.std.specs.Prelude.{map}
@@ -8,23 +8,24 @@ use Rattle.wasm_base.specs.Item.{ReadsAs}
 use Rattle.wasm_base.specs.Section.{Items, NextItem}
 use Rattle.wasm_base.specs.Window.{place}
 use Rattle.wasm_base.specs.declared.error.Error.{Error}
-use Rattle.wasm_items.specs.Flattened.{group_imports, imports_of_groups, NextImport, GivesAll}
-use Rattle.wasm_items.specs.Imports.{ImportParts, group_parts, group_at}
+use Rattle.wasm_items.specs.Flattened.{bundle_imports, imports_of_bundles, NextImport, GivesAll}
+use Rattle.wasm_items.specs.Imports.{ImportParts, bundle_parts, bundle_at}
 use Rattle.wasm_items.specs.declared.imports.Imports.{Imports}
 
 -- An item was given, so there was one.
 going : (ended : Bool) (s t : Items) (x : Result Imports Error) → s.ended ≡ ended
-    → NextItem {T = Imports} (ReadsAs group_parts group_at) s (Some x) t → ended ≡ false
+    → NextItem {T = Imports} (ReadsAs bundle_parts bundle_at) s (Some x) t → ended ≡ false
 going true s t x e next = absurd (let z = (next.over e).0 in cc)
 going false s t x e next = refl
 
 some_left : (left : ℕ) (s t : Items) (x : Imports) → s.left ≡ left → s.ended ≡ false
-    → NextItem {T = Imports} (ReadsAs group_parts group_at) s (Some (Ok x)) t → 0 < left
+    → NextItem {T = Imports} (ReadsAs bundle_parts bundle_at) s (Some (Ok x)) t → 0 < left
 some_left zero s t x e going next = absurd (next.last going e)
 some_left (suc left) s t x e going next = omega arith
 
 some_left_err : (left : ℕ) (s t : Items) (e : Error) → s.left ≡ left → s.ended ≡ false
-    → NextItem {T = Imports} (ReadsAs group_parts group_at) s (Some (Err e)) t → (0 < left) ⊎ (imports_of_groups s ≡ Err (fault_at e) ∷ [])
+    → NextItem {T = Imports} (ReadsAs bundle_parts bundle_at) s (Some (Err e)) t
+    → (0 < left) ⊎ (imports_of_bundles s ≡ Err (fault_at e) ∷ [])
 some_left_err zero s t e z on next =
     let last = next.last on z in
     let test : nat_lt 0 (length (place s.reader).rest) ≡ true = lt-ltb _ _ last.0 in
@@ -32,45 +33,46 @@ some_left_err zero s t e z on next =
 some_left_err (suc left) s t e z on next = inl (omega arith)
 
 over_after : (left : ℕ) (s t : Items) (e : Error) → s.left ≡ left → s.ended ≡ false
-    → NextItem {T = Imports} (ReadsAs group_parts group_at) s (Some (Err e)) t → t.ended ≡ true
+    → NextItem {T = Imports} (ReadsAs bundle_parts bundle_at) s (Some (Err e)) t → t.ended ≡ true
 over_after zero s t e z on next = ap (λ (w : Items). w.ended) (next.last on z).2
 over_after (suc left) s t e z on next = (next.item on (omega (arith, z))).2
 
 -- a fault was given, and nothing is to come
-pub fault_given : (s t : Items) (e : Error) → NextItem {T = Imports} (ReadsAs group_parts group_at) s (Some (Err e)) t
-    → (imports_of_groups s ≡ Err (fault_at e) ∷ []) × (imports_of_groups t ≡ [])
+pub fault_given : (s t : Items) (e : Error) → NextItem {T = Imports} (ReadsAs bundle_parts bundle_at) s (Some (Err e)) t
+    → (imports_of_bundles s ≡ Err (fault_at e) ∷ []) × (imports_of_bundles t ≡ [])
 fault_given s t e next =
     let on : s.ended ≡ false = going s.ended s t (Err e) refl next in
     let over : t.ended ≡ true = over_after s.left s t e refl on next in
-    let first : imports_of_groups s ≡ Err (fault_at e) ∷ [] = elim (some_left_err s.left s t e refl on next)
+    let first : imports_of_bundles s ≡ Err (fault_at e) ∷ [] = elim (some_left_err s.left s t e refl on next)
     [ inl some ↦ read_fault s t e on some next | inr h ↦ h ] in
     (first, rw over refl)
   where
     read_fault : (s t : Items) (e : Error) → s.ended ≡ false → 0 < s.left
-        → NextItem {T = Imports} (ReadsAs group_parts group_at) s (Some (Err e)) t → imports_of_groups s ≡ Err (fault_at e) ∷ []
+        → NextItem {T = Imports} (ReadsAs bundle_parts bundle_at) s (Some (Err e)) t → imports_of_bundles s ≡ Err (fault_at e) ∷ []
     read_fault s t e on some next =
         let item = next.item on some in
         let left : s.left ≡ suc t.left = omega (arith, item.1) in
         rw (on, left, item.0) refl
 
--- Nothing was left of a group, and the next one is at hand: what is to come is the same.
-pub group_follows : (group started s t whole : List (Result (ℕ × ImportParts) FaultAt)) → group ++ s ≡ whole → group ≡ [] → s ≡ started ++ t
+-- Nothing was left of a bundle, and the next one is at hand: what is to come is the same.
+pub bundle_follows : (bundle started s t whole : List (Result (ℕ × ImportParts) FaultAt)) → bundle ++ s ≡ whole → bundle ≡ []
+    → s ≡ started ++ t
     → started ++ t ≡ whole
-group_follows group started s t whole e none next =
+bundle_follows bundle started s t whole e none next =
     let h : [] ++ s ≡ whole = rw none at e in
     sym next ∙ h
 
--- Nothing was left of a group, and the next one is a fault.
-pub fault_follows : (group after s t whole : List (Result (ℕ × ImportParts) FaultAt)) (fault : FaultAt) → group ++ s ≡ whole → group ≡ []
+-- Nothing was left of a bundle, and the next one is a fault.
+pub fault_follows : (bundle after s t whole : List (Result (ℕ × ImportParts) FaultAt)) (fault : FaultAt) → bundle ++ s ≡ whole → bundle ≡ []
     → after ≡ [] → s ≡ Err fault ∷ [] → t ≡ [] → whole ≡ Err fault ∷ (after ++ t)
-fault_follows group after s t whole fault e none none_after next over =
+fault_follows bundle after s t whole fault e none none_after next over =
     let h : [] ++ s ≡ whole = rw none at e in
     rw (none_after, over) (sym h ∙ next)
 
--- a group was given, and the others are to come
-pub group_given : (s t : Items) (x : Imports) → NextItem {T = Imports} (ReadsAs group_parts group_at) s (Some (Ok x)) t
-    → imports_of_groups s ≡ group_imports (group_parts x) ++ imports_of_groups t
-group_given s t x next =
+-- a bundle was given, and the others are to come
+pub bundle_given : (s t : Items) (x : Imports) → NextItem {T = Imports} (ReadsAs bundle_parts bundle_at) s (Some (Ok x)) t
+    → imports_of_bundles s ≡ bundle_imports (bundle_parts x) ++ imports_of_bundles t
+bundle_given s t x next =
     let on : s.ended ≡ false = going s.ended s t (Ok x) refl next in
     let item = next.item on (some_left s.left s t x refl on next) in
     let left : s.left ≡ suc t.left = omega (arith, item.1) in

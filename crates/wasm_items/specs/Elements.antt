@@ -1,5 +1,6 @@
 -- Element segments. Core specification, Binary format, Modules, Element Section.
 use Rattle.std.specs.Prelude.{ℕ, ◌-◌, Bool, true, ◌||◌, Option, Some, None, Ok, Err, nat_lt, if◌then◌else◌}
+use Rattle.wasm_base.specs.Bits.{has_bit}
 use Rattle.wasm_base.specs.FaultAt.{at_offset}
 use Rattle.wasm_base.specs.Number.{unsigned_at}
 use Rattle.wasm_base.specs.Outcome.{Outcome, ◌>>=◌}
@@ -9,7 +10,6 @@ use Rattle.wasm_base.specs.declared.fault.NumberKind.TheVariants.{VarU32}
 use Rattle.wasm_items.specs.Externals.{kind_at}
 use Rattle.wasm_items.specs.Init.{end_of_expression, expression_at}
 use Rattle.wasm_base.specs.Inner.{inner_section_at, after_reading}
-use Rattle.wasm_items.specs.Limits.{has_flag}
 use Rattle.wasm_items.specs.Values.{ref_type_at}
 use Rattle.wasm_items.specs.declared.elements.Element.{Element}
 use Rattle.wasm_items.specs.declared.elements.ElementItems.{ElementItems}
@@ -39,17 +39,28 @@ indexed_element_at p = do
   table ← unsigned_at VarU32 p
   active_element_at (Some table.0) table.1
 
--- What becomes of a segment. Flag 1 distinguishes passive and declared segments from active ones; flag 2 is that of a
--- written table index of an active segment, and otherwise distinguishes declared segments from passive ones.
+-- whether a segment is passive or declared, and not active
+abbrev pub is_not_active : (flags : ℕ) → Bool
+is_not_active flags = has_bit flags 0
+
+-- whether the table's index of an active segment is written, or the segment is declared and not passive
+abbrev pub is_indexed_or_declared : (flags : ℕ) → Bool
+is_indexed_or_declared flags = has_bit flags 1
+
+-- whether the elements are expressions, and not indices of functions
+abbrev pub has_expressions : (flags : ℕ) → Bool
+has_expressions flags = has_bit flags 2
+
+-- what becomes of a segment
 unfoldable pub element_kind_at : (flags : ℕ) → Place → Outcome ElementKind
 element_kind_at flags p =
-    if has_flag flags 1 then (if has_flag flags 2 then Ok (Declared, p) else Ok (Passive, p))
-    else if has_flag flags 2 then indexed_element_at p
+    if is_not_active flags then (if is_indexed_or_declared flags then Ok (Declared, p) else Ok (Passive, p))
+    else if is_indexed_or_declared flags then indexed_element_at p
     else active_element_at None p
 
 -- whether the kind or the type of the elements is written: an active segment without a table index has neither
 abbrev pub is_typed : (flags : ℕ) → Bool
-is_typed flags = has_flag flags 1 || has_flag flags 2
+is_typed flags = is_not_active flags || is_indexed_or_declared flags
 
 abbrev pub only_functions : ExternalKind → (offset : ℕ) → Place → Outcome (Unit {0})
 only_functions Func offset p = Ok (tt, p)
@@ -87,9 +98,9 @@ expression_elements_at flags p = do
   expressions ← inner_section_at end_of_expression ty.1
   Ok (Expressions ty.0 expressions.0, expressions.1)
 
--- the elements: flag 4 is that of expressions in place of functions
+-- the elements
 abbrev pub elements_at : (flags : ℕ) → Place → Outcome ElementItems
-elements_at flags p = if has_flag flags 4 then expression_elements_at flags p else function_elements_at flags p
+elements_at flags p = if has_expressions flags then expression_elements_at flags p else function_elements_at flags p
 
 -- an element segment: flags, what becomes of it, its elements
 unfoldable pub element_at : Place → Outcome Element

@@ -1,5 +1,5 @@
--- The imports of an import section one by one, without their groups. Core specification, Binary format, Modules, Import
--- Section; the groups are of the proposal for compact imports.
+-- The imports of an import section one by one, without their bundles. Core specification, Binary format, Modules,
+-- Import Section; the bundles are of the proposal for compact imports.
 use Rattle.std.specs.Prelude.{◌≡◌, ℕ, zero, suc, List, [], ◌∷◌, ◌++◌, map, Option, Some, None, IfSome, Result, Ok, Err}
 use Rattle.std.specs.Prelude.{if◌then◌else◌}
 use Rattle.std.specs.Iterator.{Drains}
@@ -10,62 +10,62 @@ use Rattle.wasm_base.specs.Outcome.{Outcome}
 use Rattle.wasm_base.specs.Section.{Items, at_the_end}
 use Rattle.wasm_base.specs.Window.{Place, place}
 use Rattle.wasm_base.specs.declared.error.Error.{Error}
-use Rattle.wasm_items.specs.Imports.{ImportParts, import_parts, ItemParts, item_at, Group, single, of_module, of_type}
-use Rattle.wasm_items.specs.Imports.{group_at}
+use Rattle.wasm_items.specs.Imports.{ImportParts, import_parts, ItemParts, item_at, Bundle, single, of_module, of_type}
+use Rattle.wasm_items.specs.Imports.{bundle_at}
 use Rattle.wasm_items.specs.declared.imports.Import.{Import}
 use Rattle.wasm_items.specs.declared.imports.TypeRef.{TypeRef}
 
--- the import that an import of a group is
+-- the import that an import of a bundle is
 abbrev pub import_of_item : (from : List ℕ) → ItemParts → ImportParts
 import_of_item from item = record { from = from; name = item.name; ty = item.ty }
 
--- the import that a name of a group is
+-- the import that a name of a bundle is
 abbrev pub import_of_name : (from : List ℕ) → TypeRef → (name : List ℕ) → ImportParts
 import_of_name from ty name = record { from = from; name = name; ty = ty }
 
--- an import with its offset and what comes after it, or its fault, after which nothing of the group comes
+-- an import with its offset and what comes after it, or its fault, after which nothing of the bundle comes
 abbrev pub one_and_more : {A : Type 0} → (A → ImportParts) → (offset : ℕ)
     → (Place → List (Result (ℕ × ImportParts) FaultAt)) → Outcome A → List (Result (ℕ × ImportParts) FaultAt)
 one_and_more import_of offset more (Ok x) = Ok (offset, import_of x.0) ∷ more x.1
 one_and_more import_of offset more (Err e) = Err e ∷ []
 
--- so many imports of a group from a place on, each with the offset at which it begins
+-- so many imports of a bundle from a place on, each with the offset at which it begins
 abbrev pub imports_from : {A : Type 0} → (Place → Outcome A) → (A → ImportParts) → (left : ℕ) → Place
     → List (Result (ℕ × ImportParts) FaultAt)
 imports_from reading import_of zero p = at_the_end p
 imports_from reading import_of (suc left) p = one_and_more import_of p.offset
     (λ q. imports_from reading import_of left q) (reading p)
 
--- what is left of a group's items
+-- what is left of a bundle's items
 abbrev pub imports_of_items : (from : List ℕ) → Items → List (Result (ℕ × ImportParts) FaultAt)
 imports_of_items from s = if s.ended then [] else imports_from item_at (import_of_item from) s.left (place s.reader)
 
--- what is left of a group's names
+-- what is left of a bundle's names
 abbrev pub imports_of_names : (from : List ℕ) → TypeRef → Items → List (Result (ℕ × ImportParts) FaultAt)
 imports_of_names from ty s = if s.ended then [] else imports_from (text_at (Some name_limit)) (import_of_name from ty)
     s.left (place s.reader)
 
--- the imports of an item of an import section: the one that it is, or those of its group
-abbrev pub group_imports : Group → List (Result (ℕ × ImportParts) FaultAt)
-group_imports (single offset one) = Ok (offset, one) ∷ []
-group_imports (of_module from items) = imports_from item_at (import_of_item from) items.count (place items.reader)
-group_imports (of_type from ty names) = imports_from (text_at (Some name_limit)) (import_of_name from ty) names.count
+-- the imports of an item of an import section: the one that it is, or those of its bundle
+abbrev pub bundle_imports : Bundle → List (Result (ℕ × ImportParts) FaultAt)
+bundle_imports (single offset one) = Ok (offset, one) ∷ []
+bundle_imports (of_module from items) = imports_from item_at (import_of_item from) items.count (place items.reader)
+bundle_imports (of_type from ty names) = imports_from (text_at (Some name_limit)) (import_of_name from ty) names.count
     (place names.reader)
 
--- the imports of a group and what comes after it, or its fault, after which nothing comes
-abbrev pub group_and_more : (Place → List (Result (ℕ × ImportParts) FaultAt)) → Outcome Group
+-- the imports of a bundle and what comes after it, or its fault, after which nothing comes
+abbrev pub bundle_and_more : (Place → List (Result (ℕ × ImportParts) FaultAt)) → Outcome Bundle
     → List (Result (ℕ × ImportParts) FaultAt)
-group_and_more more (Ok x) = group_imports x.0 ++ more x.1
-group_and_more more (Err e) = Err e ∷ []
+bundle_and_more more (Ok x) = bundle_imports x.0 ++ more x.1
+bundle_and_more more (Err e) = Err e ∷ []
 
--- so many groups from a place on, as their imports in order
+-- so many bundles from a place on, as their imports in order
 abbrev pub flattened : (left : ℕ) → Place → List (Result (ℕ × ImportParts) FaultAt)
 flattened zero p = at_the_end p
-flattened (suc left) p = group_and_more (λ q. flattened left q) (group_at p)
+flattened (suc left) p = bundle_and_more (λ q. flattened left q) (bundle_at p)
 
--- what is left of an import section's groups
-abbrev pub imports_of_groups : Items → List (Result (ℕ × ImportParts) FaultAt)
-imports_of_groups s = if s.ended then [] else flattened s.left (place s.reader)
+-- what is left of an import section's bundles
+abbrev pub imports_of_bundles : Items → List (Result (ℕ × ImportParts) FaultAt)
+imports_of_bundles s = if s.ended then [] else flattened s.left (place s.reader)
 
 -- an import alone, or the fault
 abbrev pub import_alone : Result (ℕ × ImportParts) FaultAt → Result ImportParts FaultAt

@@ -1,7 +1,8 @@
--- Imports. Core specification, Binary format, Modules, Import Section, and Types, External Types; the groups are of the
--- proposal for compact imports.
-use Rattle.std.specs.Prelude.{ℕ, ◌==◌, Bool, List, [], ◌∷◌, Some, Ok, Err, if◌then◌else◌}
-use Rattle.std.specs.Int.RustNames.{bit_and}
+-- Imports. Core specification, Binary format, Modules, Import Section, and Types, External Types; the bundles are of
+-- the proposal for compact imports.
+use Rattle.std.specs.Prelude.{ℕ, ◌==◌, List, [], ◌∷◌, length, Some, Ok, Err, if◌then◌else◌}
+use Rattle.wasm_base.specs.Features.{takes_import_bundles}
+use Rattle.wasm_base.specs.Leading.{lookup_or}
 use Rattle.wasm_base.specs.FaultAt.{at_offset}
 use Rattle.wasm_base.specs.Name.{name_limit, text_at, peeked_byte_at}
 use Rattle.wasm_base.specs.Number.{unsigned_at}
@@ -20,8 +21,6 @@ use Rattle.wasm_items.specs.Tables.{table_type_at}
 use Rattle.wasm_items.specs.Tags.{tag_type_at}
 use Rattle.wasm_items.specs.declared.exports.ExternalKind.{ExternalKind}
 use Rattle.wasm_items.specs.declared.exports.ExternalKind.TheVariants as Kinds
-use Rattle.wasm_items.specs.declared.imports.Form.{Form}
-use Rattle.wasm_items.specs.declared.imports.Form.TheVariants.{OneImport, ModuleGroup, TypeGroup}
 use Rattle.wasm_items.specs.declared.imports.Import.{Import}
 use Rattle.wasm_items.specs.declared.imports.ImportItemCompact.{ImportItemCompact}
 use Rattle.wasm_items.specs.declared.imports.Imports.{Imports}
@@ -66,7 +65,7 @@ import_at p = do
   ty ← type_ref_at name.1
   Ok (record { from = from.0; name = name.0; ty = ty.0 }, ty.1)
 
--- an import of a group, with the bytes of its name
+-- an import of a bundle, with the bytes of its name
 pub record ItemParts : Type 0 where
   pub name : List ℕ
   pub ty : TypeRef
@@ -74,14 +73,14 @@ pub record ItemParts : Type 0 where
 abbrev pub item_parts : ImportItemCompact → ItemParts
 item_parts i = record { name = i.name.now; ty = i.ty }
 
--- an import of a group of imports from one module: its name, and what it is
+-- an import of a bundle of imports from one module: its name, and what it is
 unfoldable pub item_at : Place → Outcome ItemParts
 item_at p = do
   name ← text_at (Some name_limit) p
   ty ← type_ref_at name.1
   Ok (record { name = name.0; ty = ty.0 }, ty.1)
 
--- the place after an import of a group, whose name is not looked at
+-- the place after an import of a bundle, whose name is not looked at
 unfoldable pub passed_item_at : Place → Outcome (Unit {0})
 passed_item_at p = do
   name ← skipped_name_at p
@@ -90,62 +89,54 @@ passed_item_at p = do
 
 -- an item of an import section: one import and where it begins, imports of one module, or names of imports of one
 -- module and one type
-pub data Group : Type 0 where
-  single : (offset : ℕ) (one : ImportParts) → Group
-  of_module : (from : List ℕ) (items : Section) → Group
-  of_type : (from : List ℕ) (ty : TypeRef) (names : Section) → Group
+pub data Bundle : Type 0 where
+  single : (offset : ℕ) (one : ImportParts) → Bundle
+  of_module : (from : List ℕ) (items : Section) → Bundle
+  of_type : (from : List ℕ) (ty : TypeRef) (names : Section) → Bundle
 
-abbrev pub group_parts : Imports → Group
-group_parts (Single offset one) = single offset (import_parts one)
-group_parts (Compact1 from items) = of_module from.now items
-group_parts (Compact2 from ty names) = of_type from.now ty names
+abbrev pub bundle_parts : Imports → Bundle
+bundle_parts (Single offset one) = single offset (import_parts one)
+bundle_parts (Compact1 from items) = of_module from.now items
+bundle_parts (Compact2 from ty names) = of_type from.now ty names
 
--- How an item of an import section goes on after its two names: a group has an empty second name, and a byte that is no
--- external kind after it.
-abbrev pub form_of : (name : List ℕ) (byte : ℕ) → Form
-form_of [] byte =
-    if byte == 0x7F then ModuleGroup
-    else if byte == 0x7E then TypeGroup
-    else OneImport
-form_of (b ∷ name) byte = OneImport
+-- the byte that a bundle has, where bundles are taken; else it is a fault, at it
+abbrev pub bundle_byte_at : Fault → Place → Outcome (Unit {0})
+bundle_byte_at fault p =
+    if takes_import_bundles p.features then Ok (tt, advanced 1 p) else Err (at_offset fault p.offset)
 
--- whether groups are taken: the feature of compact imports, which is flag 2 of the features
-abbrev pub has_groups : Place → Bool
-has_groups p = bit_and p.features 2 == 2
-
--- after the byte that a group has, where groups are taken; else the fault is at that byte
-abbrev pub if_groups : {A : Type 0} → Fault → (Place → Outcome A) → Place → Outcome A
-if_groups fault reading p = if has_groups p then reading (advanced 1 p) else Err (at_offset fault p.offset)
-
--- imports of one module, after its byte
-unfoldable pub module_group_at : (from : List ℕ) → Place → Outcome Group
-module_group_at from p = do
-  items ← inner_section_at passed_item_at p
+-- imports of one module: the byte 0x7F, and a list of them
+unfoldable pub module_bundle_at : (from : List ℕ) → Place → Outcome Bundle
+module_bundle_at from p = do
+  byte ← bundle_byte_at Compact7F p
+  items ← inner_section_at passed_item_at byte.1
   Ok (of_module from items.0, items.1)
 
--- imports of one module and one type, after its byte
-unfoldable pub type_group_at : (from : List ℕ) → Place → Outcome Group
-type_group_at from p = do
-  ty ← type_ref_at p
+-- imports of one module and one type: the byte 0x7E, the type, and a list of names
+unfoldable pub type_bundle_at : (from : List ℕ) → Place → Outcome Bundle
+type_bundle_at from p = do
+  byte ← bundle_byte_at Compact7E p
+  ty ← type_ref_at byte.1
   names ← inner_section_at skipped_name_at ty.1
   Ok (of_type from ty.0 names.0, names.1)
 
 -- one import after its two names
-unfoldable pub single_at : (start : ℕ) (from name : List ℕ) → Place → Outcome Group
+unfoldable pub single_at : (start : ℕ) (from name : List ℕ) → Place → Outcome Bundle
 single_at start from name p = do
   ty ← type_ref_at p
   Ok (single start (record { from = from; name = name; ty = ty.0 }), ty.1)
 
--- an item of an import section after its two names, by its form
-abbrev pub group_by_form_at : Form → (start : ℕ) (from name : List ℕ) → Place → Outcome Group
-group_by_form_at OneImport start from name p = single_at start from name p
-group_by_form_at ModuleGroup start from name p = if_groups Compact7F (module_group_at from) p
-group_by_form_at TypeGroup start from name p = if_groups Compact7E (type_group_at from) p
+-- An item of an import section after its two names, by the byte there: a bundle has an empty second name, and a byte
+-- that is no external kind.
+abbrev pub bundle_after_names : (start : ℕ) (from name : List ℕ) → (byte : ℕ) → Place → Outcome Bundle
+bundle_after_names start from name byte =
+    if length name == 0
+    then lookup_or (single_at start from name) ((0x7F, module_bundle_at from) ∷ (0x7E, type_bundle_at from) ∷ []) byte
+    else single_at start from name
 
 -- an item of an import section
-unfoldable pub group_at : Place → Outcome Group
-group_at p = do
+unfoldable pub bundle_at : Place → Outcome Bundle
+bundle_at p = do
   from ← text_at (Some name_limit) p
   name ← text_at (Some name_limit) from.1
   byte ← peeked_byte_at name.1
-  group_by_form_at (form_of name.0 byte.0) p.offset from.0 name.0 byte.1
+  bundle_after_names p.offset from.0 name.0 byte.0 byte.1

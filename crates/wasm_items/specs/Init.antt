@@ -1,99 +1,121 @@
 -- Constant expressions. Core specification, Binary format, Instructions, Expressions, with the instructions of
 -- Validation, Instructions, Constant Expressions.
-use Rattle.std.specs.Prelude.{◌≡◌, ℕ, zero, suc, ◌==◌, List, [], ◌∷◌, length, Option, Some, None, Ok, Err}
-use Rattle.std.specs.Prelude.{if◌then◌else◌}
+use Rattle.std.specs.Prelude.{◌≡◌, ℕ, zero, suc, ◌==◌, List, length, Option, Some, None, Ok, Err}
+use Rattle.std.specs.Prelude.{ℤ, if◌then◌else◌}
 use Rattle.wasm_base.specs.FaultAt.{at_offset}
-use Rattle.wasm_base.specs.Name.{bytes_at, byte_at}
+use Rattle.wasm_base.specs.Float.{u64_at}
+use Rattle.wasm_base.specs.Name.{bytes_at, byte_at, u32_at}
 use Rattle.wasm_base.specs.Number.{unsigned_at}
 use Rattle.wasm_base.specs.Signed.{signed_at}
 use Rattle.wasm_base.specs.Outcome.{Outcome, ◌>>=◌}
 use Rattle.wasm_base.specs.Window.{Window, Place, window_between}
 use Rattle.wasm_base.specs.declared.fault.Fault.TheVariants.{UnexpectedEof, NotConstant}
+use Rattle.wasm_base.specs.declared.float.Ieee32.{Ieee32}
+use Rattle.wasm_base.specs.declared.float.Ieee64.{Ieee64}
 use Rattle.wasm_base.specs.declared.fault.NumberKind.{NumberKind}
 use Rattle.wasm_base.specs.declared.fault.NumberKind.TheVariants.{VarU32, VarI32, VarI64}
 use Rattle.wasm_items.specs.Values.{heap_type_at}
+use Rattle.wasm_items.specs.declared.init.ConstOperator.{ConstOperator}
+use Rattle.wasm_items.specs.declared.init.ConstOperator.TheVariants.{GlobalGet, I32Const, I64Const, F32Const, F64Const}
+use Rattle.wasm_items.specs.declared.init.ConstOperator.TheVariants.{V128Const, I32Add, I32Sub, I32Mul, I64Add, I64Sub}
+use Rattle.wasm_items.specs.declared.init.ConstOperator.TheVariants.{I64Mul, RefNull, RefFunc, StructNew}
+use Rattle.wasm_items.specs.declared.init.ConstOperator.TheVariants.{StructNewDefault, ArrayNew, ArrayNewDefault}
+use Rattle.wasm_items.specs.declared.init.ConstOperator.TheVariants.{ArrayNewFixed, AnyConvertExtern, ExternConvertAny}
+use Rattle.wasm_items.specs.declared.init.ConstOperator.TheVariants.{RefI31}
+use Rattle.wasm_items.specs.declared.types.HeapType.{HeapType}
 
--- what an instruction has after its opcode
-pub data Operand : Type 0 where
+-- What an instruction has after its opcode, one operand after the other, and the operator that it then is.
+pub data Operands : Type 0 where
+  -- no more of them
+  done : ConstOperator → Operands
   -- a signed number
-  signed : NumberKind → Operand
+  signed : NumberKind → (ℤ → Operands) → Operands
+  -- a float
+  float_32 : (Ieee32 → Operands) → Operands
+  float_64 : (Ieee64 → Operands) → Operands
   -- so many bytes
-  raw : ℕ → Operand
-  -- an index
-  u32_index : Operand
+  raw : ℕ → (List ℕ → Operands) → Operands
+  -- an index, or another unsigned number of 32 bits
+  u32_index : (ℕ → Operands) → Operands
   -- a heap type
-  heap : Operand
+  heap : (HeapType → Operands) → Operands
+
+-- the operator with the index that comes next
+abbrev pub index : (ℕ → ConstOperator) → Operands
+index operator = u32_index (λ n. done (operator n))
 
 -- the operands of the constant instruction with each opcode of one byte
-abbrev pub operands_of : (opcode : ℕ) → Option (List Operand)
+abbrev pub operands_of : (opcode : ℕ) → Option Operands
 operands_of opcode =
-    if opcode == 0x23 then Some (u32_index ∷ [])  -- global.get
-    else if opcode == 0x41 then Some (signed VarI32 ∷ [])  -- i32.const
-    else if opcode == 0x42 then Some (signed VarI64 ∷ [])  -- i64.const
-    else if opcode == 0x43 then Some (raw 4 ∷ [])  -- f32.const
-    else if opcode == 0x44 then Some (raw 8 ∷ [])  -- f64.const
-    else if opcode == 0x6A then Some []  -- i32.add
-    else if opcode == 0x6B then Some []  -- i32.sub
-    else if opcode == 0x6C then Some []  -- i32.mul
-    else if opcode == 0x7C then Some []  -- i64.add
-    else if opcode == 0x7D then Some []  -- i64.sub
-    else if opcode == 0x7E then Some []  -- i64.mul
-    else if opcode == 0xD0 then Some (heap ∷ [])  -- ref.null
-    else if opcode == 0xD2 then Some (u32_index ∷ [])  -- ref.func
+    if opcode == 0x23 then Some (index (λ n. GlobalGet n))
+    else if opcode == 0x41 then Some (signed VarI32 (λ n. done (I32Const n)))
+    else if opcode == 0x42 then Some (signed VarI64 (λ n. done (I64Const n)))
+    else if opcode == 0x43 then Some (float_32 (λ float. done (F32Const float)))
+    else if opcode == 0x44 then Some (float_64 (λ float. done (F64Const float)))
+    else if opcode == 0x6A then Some (done I32Add)
+    else if opcode == 0x6B then Some (done I32Sub)
+    else if opcode == 0x6C then Some (done I32Mul)
+    else if opcode == 0x7C then Some (done I64Add)
+    else if opcode == 0x7D then Some (done I64Sub)
+    else if opcode == 0x7E then Some (done I64Mul)
+    else if opcode == 0xD0 then Some (heap (λ ty. done (RefNull ty)))
+    else if opcode == 0xD2 then Some (index (λ n. RefFunc n))
     else None
 
 -- the operands of the constant instruction with opcode 0xFB and each number after it
-abbrev pub aggregate_operands_of : ℕ → Option (List Operand)
+abbrev pub aggregate_operands_of : ℕ → Option Operands
 aggregate_operands_of number =
-    if number == 0 then Some (u32_index ∷ [])  -- struct.new
-    else if number == 1 then Some (u32_index ∷ [])  -- struct.new_default
-    else if number == 6 then Some (u32_index ∷ [])  -- array.new
-    else if number == 7 then Some (u32_index ∷ [])  -- array.new_default
-    else if number == 8 then Some (u32_index ∷ u32_index ∷ [])  -- array.new_fixed
-    else if number == 26 then Some []  -- any.convert_extern
-    else if number == 27 then Some []  -- extern.convert_any
-    else if number == 28 then Some []  -- ref.i31
+    if number == 0 then Some (index (λ n. StructNew n))
+    else if number == 1 then Some (index (λ n. StructNewDefault n))
+    else if number == 6 then Some (index (λ n. ArrayNew n))
+    else if number == 7 then Some (index (λ n. ArrayNewDefault n))
+    else if number == 8 then Some (u32_index (λ n. index (λ size. ArrayNewFixed n size)))
+    else if number == 26 then Some (done AnyConvertExtern)
+    else if number == 27 then Some (done ExternConvertAny)
+    else if number == 28 then Some (done RefI31)
     else None
 
 -- the operands of the constant instruction with opcode 0xFD and each number after it
-abbrev pub vector_operands_of : ℕ → Option (List Operand)
-vector_operands_of number = if number == 12 then Some (raw 16 ∷ []) else None  -- v128.const
+abbrev pub vector_operands_of : ℕ → Option Operands
+vector_operands_of number =
+    if number == 12 then Some (raw 16 (λ bytes. done (V128Const (record { 0 = bytes }))))
+    else None
 
--- the place after an operand
-abbrev pub operand_at : Operand → Place → Outcome (Unit {0})
-operand_at (signed kind) p = do
+-- the operator that is after operands
+abbrev pub operands_at : Operands → Place → Outcome ConstOperator
+operands_at (done operator) p = Ok (operator, p)
+operands_at (signed kind more) p = do
   number ← signed_at kind p
-  Ok (tt, number.1)
-operand_at (raw n) p = do
+  operands_at (more number.0) number.1
+operands_at (float_32 more) p = do
+  bits ← u32_at p
+  operands_at (more (record { 0 = bits.0 })) bits.1
+operands_at (float_64 more) p = do
+  bits ← u64_at p
+  operands_at (more (record { 0 = bits.0 })) bits.1
+operands_at (raw n more) p = do
   bytes ← bytes_at n p
-  Ok (tt, bytes.1)
-operand_at u32_index p = do
+  operands_at (more bytes.0) bytes.1
+operands_at (u32_index more) p = do
   number ← unsigned_at VarU32 p
-  Ok (tt, number.1)
-operand_at heap p = do
+  operands_at (more number.0) number.1
+operands_at (heap more) p = do
   ty ← heap_type_at p
-  Ok (tt, ty.1)
+  operands_at (more ty.0) ty.1
 
--- the place after operands
-abbrev pub operands_at : List Operand → Place → Outcome (Unit {0})
-operands_at [] p = Ok (tt, p)
-operands_at (operand ∷ operands) p = do
-  first ← operand_at operand p
-  operands_at operands first.1
-
--- the place after the operands of an instruction, or the fault that it is not constant, where it begins
-abbrev pub constant_operands_at : (start : ℕ) → Option (List Operand) → Place → Outcome (Unit {0})
+-- the operator that is after the operands of an instruction, or the fault that it is not constant, where it begins
+abbrev pub constant_operands_at : (start : ℕ) → Option Operands → Place → Outcome ConstOperator
 constant_operands_at start (Some operands) p = operands_at operands p
 constant_operands_at start None p = Err (at_offset NotConstant start)
 
--- the place after the operands of an instruction, where a number after the opcode says which one it is
-abbrev pub numbered_operands_at : (start : ℕ) → (ℕ → Option (List Operand)) → Place → Outcome (Unit {0})
+-- the same where a number after the opcode says which instruction it is
+abbrev pub numbered_operands_at : (start : ℕ) → (ℕ → Option Operands) → Place → Outcome ConstOperator
 numbered_operands_at start table p = do
   number ← unsigned_at VarU32 p
   constant_operands_at start (table number.0) number.1
 
--- the place after what an instruction, which begins at this offset, has after its opcode
-unfoldable pub after_opcode : (start opcode : ℕ) → Place → Outcome (Unit {0})
+-- the operator of an instruction, which begins at this offset, by what it has after its opcode
+unfoldable pub after_opcode : (start opcode : ℕ) → Place → Outcome ConstOperator
 after_opcode start opcode p =
     if opcode == 0xFB then numbered_operands_at start aggregate_operands_of p
     else if opcode == 0xFD then numbered_operands_at start vector_operands_of p

@@ -8,17 +8,17 @@ use Rattle.wasm_items.specs.declared.flattened.Left.{Left}
 use Rattle.wasm_items.specs.declared.flattened.Left.TheVariants.{One, Items, Names}
 use Rattle.wasm_items.specs.declared.flattened.NamesLeft.{NamesLeft}
 
--- the imports that are left of a group of one module, each with its offset, up to the first fault
+-- the imports that are left of a bundle of one module, each with its offset, up to the first fault
 abbrev pub items_left : ItemsLeft → List (Result (ℕ × ImportParts) FaultAt)
-items_left group = imports_of_items group.module.now group.items
+items_left bundle = imports_of_items bundle.module.now bundle.items
 
--- the imports that are left of a group of one module and one type
+-- the imports that are left of a bundle of one module and one type
 abbrev pub names_left : NamesLeft → List (Result (ℕ × ImportParts) FaultAt)
-names_left group = imports_of_names group.module.now group.ty group.names
+names_left bundle = imports_of_names bundle.module.now bundle.ty bundle.names
 
 -- the imports that are left of an item of an import section
 abbrev pub imports_left : Left → List (Result (ℕ × ImportParts) FaultAt)
 imports_left (One None) = []
 imports_left (One (Some one)) = Ok (one.0, import_parts one.1) ∷ []
-imports_left (Items group) = items_left group
-imports_left (Names group) = names_left group
+imports_left (Items bundle) = items_left bundle
+imports_left (Names bundle) = names_left bundle

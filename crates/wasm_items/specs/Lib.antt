@@ -9,6 +9,7 @@ pub mod RecGroups
 pub mod Hashed
 pub mod Imports
 pub mod Init
+pub mod Instructions
 pub mod Left
 pub mod Limits
 pub mod Memories

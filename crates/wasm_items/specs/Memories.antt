@@ -8,28 +8,29 @@ use Rattle.wasm_base.specs.Outcome.{Outcome, ◌>>=◌}
 use Rattle.wasm_base.specs.Window.{Place}
 use Rattle.wasm_base.specs.declared.fault.Fault.TheVariants.{MemoryFlags, PageSize}
 use Rattle.wasm_base.specs.declared.fault.NumberKind.TheVariants.{VarU32}
-use Rattle.wasm_items.specs.Limits.{has_flag, limits_at}
+use Rattle.wasm_items.specs.Limits.{is_shared, is_wide, has_page_size, limits_at}
 use Rattle.wasm_items.specs.declared.types.MemoryType.{MemoryType}
 
 -- the size of a page as a power of two, below 64; the fault is where the memory type begins
 abbrev pub small_page_size : (start : ℕ) → ℕ × Place → Outcome (Option ℕ)
 small_page_size start size = if nat_lt size.0 64 then Ok (Some size.0, size.1) else Err (at_offset PageSize start)
 
--- the size of a page, which flag 8 says is there
+-- the size of a page, if it is there
 unfoldable pub page_size_at : (start flags : ℕ) → Place → Outcome (Option ℕ)
-page_size_at start flags p = if has_flag flags 8 then (unsigned_at VarU32 p >>= small_page_size start) else Ok (None, p)
+page_size_at start flags p =
+    if has_page_size flags then (unsigned_at VarU32 p >>= small_page_size start) else Ok (None, p)
 
--- a memory type after its flags: 2 for a shared one, 4 for one with addresses of 64 bits
+-- a memory type after its flags
 unfoldable pub memory_after_flags : (start flags : ℕ) → Place → Outcome MemoryType
 memory_after_flags start flags p = do
   limits ← limits_at flags p
   page ← page_size_at start flags limits.1
   Ok (
     record {
-      memory64 = has_flag flags 4;
-      shared = has_flag flags 2;
-      initial = limits.0.initial;
-      maximum = limits.0.maximum;
+      memory64 = is_wide flags;
+      shared = is_shared flags;
+      initial = limits.0.0;
+      maximum = limits.0.1;
       page_size_log2 = page.0;
     },
     page.1,

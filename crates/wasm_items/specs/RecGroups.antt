@@ -11,7 +11,7 @@ use Rattle.wasm_base.specs.Window.{Place, advanced}
 use Rattle.wasm_base.specs.declared.fault.Fault.TheVariants.{Supertypes}
 use Rattle.wasm_base.specs.declared.fault.Lead.TheVariants as Leads
 use Rattle.wasm_base.specs.declared.fault.NumberKind.TheVariants.{VarU32}
-use Rattle.wasm_base.specs.Leading.{leading_byte}
+use Rattle.wasm_base.specs.Leading.{leading_byte, lookup_or, in_table}
 use Rattle.wasm_items.specs.Values.{val_type_at}
 use Rattle.wasm_items.specs.declared.types.CompositeType.{CompositeType}
 use Rattle.wasm_items.specs.declared.types.CompositeType.TheVariants.{Func, Array, Struct}
@@ -37,17 +37,9 @@ storage_type_at p = do
       else if first.0 == 0x77 then Ok (I16, advanced 1 p)
       else value_storage_at p
 
--- whether a field can be changed: 0 for one that can't, 1 for one that can, else a fault at the byte
-abbrev pub mutability_of : (byte offset : ℕ) → Place → Outcome Bool
-mutability_of zero offset p = Ok (false, p)
-mutability_of (suc zero) offset p = Ok (true, p)
-mutability_of (suc (suc n)) offset p = Err (leading_byte Leads.Mutability (suc (suc n)) offset)
-
--- a byte for whether a field can be changed
-unfoldable pub mutability_at : Place → Outcome Bool
-mutability_at p = do
-  byte ← byte_at p
-  mutability_of byte.0 p.offset byte.1
+-- whether a field can be changed: 0 for one that can't, 1 for one that can
+abbrev pub mutability_at : Place → Outcome Bool
+mutability_at = in_table Leads.Mutability ((0, false) ∷ (1, true) ∷ [])
 
 -- a field: what it holds, and whether it can be changed (Composite Types)
 unfoldable pub field_type_at : Place → Outcome FieldType
@@ -102,10 +94,8 @@ structures_at p = do
 unfoldable pub composite_type_at : Place → Outcome CompositeParts
 composite_type_at p = do
   first ← byte_at p
-  if first.0 == 0x60 then functions_at first.1
-      else if first.0 == 0x5F then structures_at first.1
-      else if first.0 == 0x5E then arrays_at first.1
-      else Err (leading_byte Leads.Composite first.0 p.offset)
+  lookup_or {A = Place → Outcome CompositeParts} (λ after. Err (leading_byte Leads.Composite first.0 p.offset))
+      ((0x60, functions_at) ∷ (0x5F, structures_at) ∷ (0x5E, arrays_at) ∷ []) first.0 first.1
 
 -- a type with the type that it extends, and its lists
 pub record SubtypeParts : Type 0 where

@@ -16,7 +16,7 @@ pub record IsSameImport (one other : Import) : Type 0 where
   pub name : one.name.now ≡ other.name.now
   pub ty : one.ty ≡ other.ty
 
--- Two imports of a group have the same name and the same type.
+-- Two imports of a bundle have the same name and the same type.
 pub record IsSameItem (one other : ImportItemCompact) : Type 0 where
   pub name : one.name.now ≡ other.name.now
   pub ty : one.ty ≡ other.ty

@@ -7,24 +7,24 @@ use Rattle.wasm_base.specs.Outcome.{Outcome, ◌>>=◌}
 use Rattle.wasm_base.specs.Window.{Place, advanced}
 use Rattle.wasm_base.specs.declared.fault.Fault.TheVariants.{TableEncoding, TableFlags}
 use Rattle.wasm_items.specs.Init.{expression_at}
-use Rattle.wasm_items.specs.Limits.{has_flag, limits_at}
+use Rattle.wasm_items.specs.Limits.{is_shared, is_wide, limits_at}
 use Rattle.wasm_items.specs.Values.{ref_type_at}
 use Rattle.wasm_items.specs.declared.tables.Table.{Table}
 use Rattle.wasm_items.specs.declared.tables.TableInit.TheVariants.{RefNull, Expr}
 use Rattle.wasm_items.specs.declared.types.RefType.{RefType}
 use Rattle.wasm_items.specs.declared.types.TableType.{TableType}
 
--- a table type after its flags: 2 for a shared one, 4 for one with indices of 64 bits
+-- a table type after its flags
 unfoldable pub table_after_flags : RefType → (flags : ℕ) → Place → Outcome TableType
 table_after_flags element flags p = do
   limits ← limits_at flags p
   Ok (
     record {
       element_type = element;
-      table64 = has_flag flags 4;
-      initial = limits.0.initial;
-      maximum = limits.0.maximum;
-      shared = has_flag flags 2;
+      table64 = is_wide flags;
+      initial = limits.0.0;
+      maximum = limits.0.1;
+      shared = is_shared flags;
     },
     limits.1,
   )

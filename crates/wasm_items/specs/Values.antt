@@ -1,5 +1,6 @@
 -- Types of values, references and heaps. Core specification, Binary format, Types.
-use Rattle.std.specs.Prelude.{ℕ, ◌==◌, Bool, true, false, ℤ, pos, negsuc, Option, Some, None, Ok, Err, if◌then◌else◌}
+use Rattle.std.specs.Prelude.{ℕ, ◌==◌, Bool, true, false, List, [], ◌∷◌, ℤ, pos, negsuc, Option, Some}
+use Rattle.std.specs.Prelude.{None, Ok, Err, if◌then◌else◌}
 use Rattle.wasm_base.specs.FaultAt.{FaultAt}
 use Rattle.wasm_base.specs.Name.{byte_at, peeked_byte_at}
 use Rattle.wasm_base.specs.Signed.{signed_at}
@@ -8,7 +9,7 @@ use Rattle.wasm_base.specs.Window.{Place, advanced}
 use Rattle.wasm_base.specs.declared.fault.Lead.{Lead}
 use Rattle.wasm_base.specs.declared.fault.Lead.TheVariants as Leads
 use Rattle.wasm_base.specs.declared.fault.NumberKind.TheVariants.{VarS33}
-use Rattle.wasm_base.specs.Leading.{leading_byte}
+use Rattle.wasm_base.specs.Leading.{leading_byte, lookup}
 use Rattle.wasm_items.specs.declared.types.HeapType.{HeapType}
 use Rattle.wasm_items.specs.declared.types.HeapType.TheVariants as Heaps
 use Rattle.wasm_items.specs.declared.types.RefType.{RefType}
@@ -17,20 +18,11 @@ use Rattle.wasm_items.specs.declared.types.ValType.TheVariants as Values
 
 -- the abstract heap type that each byte is (Heap Types)
 abbrev pub abstract_heap_of : ℕ → Option HeapType
-abstract_heap_of byte =
-    if byte == 0x69 then Some Heaps.Exn
-    else if byte == 0x6A then Some Heaps.Array
-    else if byte == 0x6B then Some Heaps.Struct
-    else if byte == 0x6C then Some Heaps.I31
-    else if byte == 0x6D then Some Heaps.Eq
-    else if byte == 0x6E then Some Heaps.Any
-    else if byte == 0x6F then Some Heaps.Extern
-    else if byte == 0x70 then Some Heaps.Func
-    else if byte == 0x71 then Some Heaps.None
-    else if byte == 0x72 then Some Heaps.NoExtern
-    else if byte == 0x73 then Some Heaps.NoFunc
-    else if byte == 0x74 then Some Heaps.NoExn
-    else None
+abstract_heap_of = lookup (
+    (0x69, Heaps.Exn) ∷ (0x6A, Heaps.Array) ∷ (0x6B, Heaps.Struct) ∷ (0x6C, Heaps.I31) ∷ (0x6D, Heaps.Eq)
+    ∷ (0x6E, Heaps.Any) ∷ (0x6F, Heaps.Extern) ∷ (0x70, Heaps.Func) ∷ (0x71, Heaps.None) ∷ (0x72, Heaps.NoExtern) ∷
+    (0x73, Heaps.NoFunc)
+    ∷ (0x74, Heaps.NoExn) ∷ [])
 
 -- a signed number as the index of a type, which is not negative; the fault has the first byte of the heap type
 abbrev pub type_index : (first start : ℕ) → ℤ × Place → Outcome HeapType
@@ -76,13 +68,8 @@ ref_type_at = ref_type_in Leads.Reference
 
 -- the number type or vector type that each byte is (Number Types, Vector Types)
 abbrev pub plain_type_of : ℕ → Option ValType
-plain_type_of byte =
-    if byte == 0x7F then Some Values.I32
-    else if byte == 0x7E then Some Values.I64
-    else if byte == 0x7D then Some Values.F32
-    else if byte == 0x7C then Some Values.F64
-    else if byte == 0x7B then Some Values.V128
-    else None
+plain_type_of = lookup (
+    (0x7F, Values.I32) ∷ (0x7E, Values.I64) ∷ (0x7D, Values.F32) ∷ (0x7C, Values.F64) ∷ (0x7B, Values.V128) ∷ [])
 
 -- a value type, by the number type or vector type that its first byte is
 abbrev pub val_type_from : Place → Option ValType → Outcome ValType

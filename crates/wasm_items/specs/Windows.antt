@@ -1,7 +1,9 @@
--- The windows that items hold.
+-- The windows that items hold, and the bytes of a vector.
+use Rattle.std.specs.Prelude.{ℕ, List}
 use Rattle.wasm_base.specs.Window.{Window}
 use Rattle.wasm_items.specs.declared.code.FunctionBody.{FunctionBody}
 use Rattle.wasm_items.specs.declared.init.ConstExpr.{ConstExpr}
+use Rattle.wasm_items.specs.declared.init.V128.{V128}
 
 -- the window that a body is
 abbrev pub body_window : FunctionBody → Window
@@ -10,3 +12,7 @@ body_window body = body.reader
 -- the window that a constant expression is
 abbrev pub expression_window : ConstExpr → Window
 expression_window expression = expression.reader
+
+-- the bytes that a vector is
+abbrev pub bytes_of_vector : V128 → List ℕ
+bytes_of_vector vector = vector.0

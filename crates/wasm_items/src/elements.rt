@@ -54,6 +54,15 @@ pub enum ElementItems<'a> {
     Expressions(RefType, SectionLimited<'a, ConstExpr<'a>>),
 }
 
+// The flag of a segment that is passive or declared, and not active.
+const IS_NOT_ACTIVE: u8 = 1;
+
+// The flag of an active segment whose table's index is written, or of one that is declared and not passive.
+const IS_INDEXED_OR_DECLARED: u8 = 2;
+
+// The flag of elements that are expressions, and not indices of functions.
+const HAS_EXPRESSIONS: u8 = 4;
+
 // The flags of a segment.
 #[tactic(auto, unfolding(crate::specs::Elements::element_flags_at))]
 fn read_flags(reader: &mut BinaryReader<'_>) -> Result<u8>
@@ -75,13 +84,13 @@ fn read_kind<'a>(flags: u8, reader: &mut BinaryReader<'a>) -> Result<ElementKind
     ensures keeps { KeepsWindow reader.old reader.new }
     ensures memory { TakesNoMemory result }
 {
-    if has_flag(flags, 1) {
-        if has_flag(flags, 2) {
+    if has_flag(flags, IS_NOT_ACTIVE) {
+        if has_flag(flags, IS_INDEXED_OR_DECLARED) {
             return Ok(ElementKind::Declared);
         }
         return Ok(ElementKind::Passive);
     }
-    if has_flag(flags, 2) {
+    if has_flag(flags, IS_INDEXED_OR_DECLARED) {
         return Ok(ElementKind::Active {
             table_index: Some(reader.read_var_u32()?),
             offset_expr: ConstExpr::from_reader(reader)?,
@@ -97,7 +106,7 @@ fn read_kind<'a>(flags: u8, reader: &mut BinaryReader<'a>) -> Result<ElementKind
 fn is_typed(flags: u8) -> bool
     ensures { result ≡ is_typed flags }
 {
-    has_flag(flags, 1) || has_flag(flags, 2)
+    has_flag(flags, IS_NOT_ACTIVE) || has_flag(flags, IS_INDEXED_OR_DECLARED)
 }
 
 // Passes over the kind of the elements, where it is written.
@@ -167,7 +176,7 @@ impl<'a> FromReader<'a> for Element<'a> {
         let start = reader.original_position();
         let flags = read_flags(reader)?;
         let kind = read_kind(flags, reader)?;
-        let items = if has_flag(flags, 4) {
+        let items = if has_flag(flags, HAS_EXPRESSIONS) {
             read_typed(flags, reader)?
         } else {
             read_functions(flags, reader)?

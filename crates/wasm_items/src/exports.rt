@@ -43,7 +43,7 @@ impl<'a> FromReader<'a> for ExternalKind {
 
     ghost meaning = { ReadsAs (λ kind. kind) kind_at };
 
-    #[tactic(auto, unfolding(crate::specs::Externals::kind_at))]
+    #[tactic(auto, unfolding(wasm_base::specs::Leading::in_table))]
     fn from_reader(reader: &mut BinaryReader<'a>) -> Result<Self> {
         match reader.read_u8()? {
             0x00 => Ok(ExternalKind::Func),

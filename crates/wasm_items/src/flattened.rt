@@ -3,15 +3,15 @@ ghost use Rattle.std.specs.Iterator.{at_most};
 ghost use Rattle.std.specs.Prelude.{◌≡◌, ◌++◌, [], map, length, IfSome};
 ghost use Rattle.wasm_base.specs.Hints.{TakesNoMemory};
 ghost use Rattle.wasm_base.specs.Window.{place};
-ghost use Rattle.wasm_items.specs.Flattened.{imports_of_groups, group_imports, flattened, import_alone, found_at, found, GivesFirst, NextImport};
-ghost use Rattle.wasm_items.specs.Imports.{group_parts};
+ghost use Rattle.wasm_items.specs.Flattened.{imports_of_bundles, bundle_imports, flattened, import_alone, found_at, found, GivesFirst, NextImport};
+ghost use Rattle.wasm_items.specs.Imports.{bundle_parts};
 ghost use Rattle.wasm_items.specs.Left.{items_left, names_left};
 
 use crate::imports::{Import, ImportItemCompact, ImportSectionReader, Imports, TypeRef};
 use std::marker::Model;
 use wasm_base::{Result, SectionLimitedIntoIter, SectionLimitedIntoIterWithOffsets};
 
-// What is left of a group of imports from one module.
+// What is left of a bundle of imports from one module.
 #[derive(Drop)]
 struct ItemsLeft<'a> {
     module: &'a str,
@@ -34,7 +34,7 @@ impl<'a> ItemsLeft<'a> {
     }
 }
 
-// What is left of a group of imports from one module and of one type.
+// What is left of a bundle of imports from one module and of one type.
 #[derive(Drop)]
 struct NamesLeft<'a> {
     module: &'a str,
@@ -65,9 +65,9 @@ enum Left<'a> {
 }
 
 /// The imports of an item of an import section, each with its offset in the whole stream: of a single import that of the
-/// item, of an import in a group its own.
+/// item, of an import in a bundle its own.
 ///
-/// They come up to the first fault. Where all were read and bytes of the group are left, one `SizeMismatch` follows, at the
+/// They come up to the first fault. Where all were read and bytes of the bundle are left, one `SizeMismatch` follows, at the
 /// first of them.
 #[derive(Drop)]
 pub struct ImportsIter<'a> {
@@ -95,18 +95,18 @@ impl<'a> Iterator for ImportsIter<'a> {
     fn next(&mut self) -> Option<Result<(u64, Import<'a>)>> {
         match &mut self.left {
             Left::One(import) => import.take().map(Ok),
-            Left::Items(group) => group.next_import(),
-            Left::Names(group) => group.next_import(),
+            Left::Items(bundle) => bundle.next_import(),
+            Left::Names(bundle) => bundle.next_import(),
         }
     }
 }
 
 impl<'a> ImportsIter<'a> {
-    // Gives the imports of a group from now on.
-    fn start(&mut self, group: Imports<'a>)
-        ensures { self.new ≡ group_imports (group_parts group.entry) }
+    // Gives the imports of a bundle from now on.
+    fn start(&mut self, bundle: Imports<'a>)
+        ensures { self.new ≡ bundle_imports (bundle_parts bundle.entry) }
     {
-        *self = group.into_iter();
+        *self = bundle.into_iter();
     }
 }
 
@@ -115,7 +115,7 @@ impl<'a> IntoIterator for Imports<'a> {
 
     type IntoIter = ImportsIter<'a>;
 
-    ghost into_iter_gives = { λ group imports. imports ≡ group_imports (group_parts group) };
+    ghost into_iter_gives = { λ bundle imports. imports ≡ bundle_imports (bundle_parts bundle) };
 
     fn into_iter(self) -> ImportsIter<'a> {
         let left = match self {
@@ -134,21 +134,21 @@ impl<'a> IntoIterator for Imports<'a> {
     }
 }
 
-// The next import of an import section: the next one of the group at hand, or the first one of a group after it.
+// The next import of an import section: the next one of the bundle at hand, or the first one of a bundle after it.
 fn next_import<'a>(
-    group: &mut ImportsIter<'a>,
-    groups: &mut SectionLimitedIntoIter<'a, Imports<'a>>,
+    bundle: &mut ImportsIter<'a>,
+    bundles: &mut SectionLimitedIntoIter<'a, Imports<'a>>,
 ) -> Option<Result<(u64, Import<'a>)>>
-    ensures gives { GivesFirst found_at (group.old ++ imports_of_groups groups.old) result
-        (group.new ++ imports_of_groups groups.new) }
+    ensures gives { GivesFirst found_at (bundle.old ++ imports_of_bundles bundles.old) result
+        (bundle.new ++ imports_of_bundles bundles.new) }
     ensures memory { IfSome result TakesNoMemory }
 {
     'left: loop {
-        if let Some(import) = group.next() {
+        if let Some(import) = bundle.next() {
             return Some(import);
         }
-        match groups.next() {
-            Some(Ok(next)) => group.start(next),
+        match bundles.next() {
+            Some(Ok(next)) => bundle.start(next),
             Some(Err(e)) => return Some(Err(e)),
             None => return None,
         }
@@ -156,25 +156,25 @@ fn next_import<'a>(
 }
 
 /// The imports of an import section one by one, each with its offset in the whole stream: of a single import where it
-/// begins, of an import in a group its own.
+/// begins, of an import in a bundle its own.
 ///
-/// After a fault inside a group the next group follows. After the fault of an item of the section itself nothing
+/// After a fault inside a bundle the next bundle follows. After the fault of an item of the section itself nothing
 /// comes; bytes after the last one are a `SizeMismatch`.
 #[derive(Drop)]
 pub struct IntoImportsWithOffsets<'a> {
-    group: ImportsIter<'a>,
-    groups: SectionLimitedIntoIter<'a, Imports<'a>>,
+    bundle: ImportsIter<'a>,
+    bundles: SectionLimitedIntoIter<'a, Imports<'a>>,
 }
 
 impl<'a> Model for IntoImportsWithOffsets<'a> {
     ghost use Rattle.std.specs.Prelude.{ℕ, List, ◌++◌, Result};
     ghost use Rattle.wasm_base.specs.FaultAt.{FaultAt};
-    ghost use Rattle.wasm_items.specs.Flattened.{imports_of_groups};
+    ghost use Rattle.wasm_items.specs.Flattened.{imports_of_bundles};
     ghost use Rattle.wasm_items.specs.Imports.{ImportParts};
 
     ghost Value = { List (Result (ℕ × ImportParts) FaultAt) };
 
-    ghost view = { λ s. s.group ++ imports_of_groups s.groups };
+    ghost view = { λ s. s.bundle ++ imports_of_bundles s.bundles };
 }
 
 impl<'a> Iterator for IntoImportsWithOffsets<'a> {
@@ -185,7 +185,7 @@ impl<'a> Iterator for IntoImportsWithOffsets<'a> {
     ghost remaining = { λ imports. at_most (length imports) };
 
     fn next(&mut self) -> Option<Result<(u64, Import<'a>)>> {
-        next_import(&mut self.group, &mut self.groups)
+        next_import(&mut self.bundle, &mut self.bundles)
     }
 }
 
@@ -222,7 +222,7 @@ impl<'a> Iterator for IntoImports<'a> {
     }
 }
 
-/// What an import section can do beside other sections: give its imports one by one, whatever groups they are in.
+/// What an import section can do beside other sections: give its imports one by one, whatever bundles they are in.
 ///
 /// ```text
 /// for import in section.into_imports() {
@@ -250,10 +250,10 @@ impl<'a> ImportSection<'a> for ImportSectionReader<'a> {
         ensures { result ≡ flattened self.entry.count (place self.entry.reader) }
     {
         IntoImportsWithOffsets {
-            group: ImportsIter {
+            bundle: ImportsIter {
                 left: Left::One(None),
             },
-            groups: self.into_iter(),
+            bundles: self.into_iter(),
         }
     }
 }

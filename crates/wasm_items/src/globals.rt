@@ -3,7 +3,7 @@ ghost use Rattle.std.specs.Prelude.{◌≡◌};
 ghost use Rattle.wasm_base.specs.Item.{ReadsAs};
 
 use crate::init::ConstExpr;
-use crate::limits::has_flag;
+use crate::limits::{IS_SHARED, has_flag};
 use crate::types::{GlobalType, ValType};
 use wasm_base::{BinaryReader, Error, Fault, FromReader, Result, SectionLimited};
 
@@ -18,6 +18,9 @@ pub struct Global<'a> {
     /// The expression of its first value.
     pub init_expr: ConstExpr<'a>,
 }
+
+// The flag of a global that can be changed.
+const IS_MUTABLE: u8 = 1;
 
 /// The type of the value, and flags. Flags above 3 are `GlobalFlags` at them.
 impl<'a> FromReader<'a> for GlobalType {
@@ -35,8 +38,8 @@ impl<'a> FromReader<'a> for GlobalType {
         }
         Ok(GlobalType {
             content_type,
-            mutable: has_flag(flags, 1),
-            shared: has_flag(flags, 2),
+            mutable: has_flag(flags, IS_MUTABLE),
+            shared: has_flag(flags, IS_SHARED),
         })
     }
 }

@@ -1,10 +1,11 @@
 // Imports.
-ghost use Rattle.std.specs.Prelude.{◌≡◌};
+ghost use Rattle.std.specs.Prelude.{◌≡◌, ◌<◌, length};
 ghost use Rattle.wasm_base.specs.Hints.{TakesNoMemory};
 ghost use Rattle.wasm_base.specs.Item.{ReadsAs};
 ghost use Rattle.wasm_base.specs.Outcome.{GivesBy};
 ghost use Rattle.wasm_base.specs.Window.{place, KeepsWindow};
-ghost use Rattle.wasm_items.specs.Imports.{form_of, group_parts, has_groups, module_group_at, type_group_at};
+ghost use Rattle.wasm_base.specs.Features.{takes_import_bundles};
+ghost use Rattle.wasm_items.specs.Imports.{bundle_parts, module_bundle_at, type_bundle_at, single_at};
 
 use crate::exports::ExternalKind;
 use crate::types::{GlobalType, MemoryType, TableType, TagType};
@@ -14,7 +15,7 @@ use wasm_base::{
     read_inner,
 };
 
-/// The import section: its imports and groups of imports (core specification, Binary format, Modules, Import Section).
+/// The import section: its imports and bundles of imports (core specification, Binary format, Modules, Import Section).
 pub type ImportSectionReader<'a> = SectionLimited<'a, Imports<'a>>;
 
 /// What is imported, with its type (core specification, Binary format, Types, External Types).
@@ -45,18 +46,18 @@ pub struct Import<'a> {
     pub ty: TypeRef,
 }
 
-/// An import whose module is that of its group (a proposal, not in the core specification).
+/// An import whose module is that of its bundle (a proposal, not in the core specification).
 #[derive(Clone, Copy, Debug, PartialEq, Eq)]
 pub struct ImportItemCompact<'a> {
-    /// The import's name in the group's module.
+    /// The import's name in the bundle's module.
     pub name: &'a str,
     /// What it is.
     pub ty: TypeRef,
 }
 
-/// An item of an import section: an import, or a group of imports from one module.
+/// An item of an import section: an import, or a bundle of imports from one module.
 ///
-/// The single import is that of the core specification (Binary format, Modules, Import Section); the groups are those
+/// The single import is that of the core specification (Binary format, Modules, Import Section); the bundles are those
 /// of the proposal for compact imports.
 #[derive(Clone, Debug, Drop)]
 pub enum Imports<'a> {
@@ -142,91 +143,82 @@ impl<'a> SkipItem<'a> for ImportItemCompact<'a> {
     }
 }
 
-// How an item of an import section goes on after its two names.
-#[derive(Clone, Copy)]
-enum Form {
-    OneImport,
-    ModuleGroup,
-    TypeGroup,
-}
-
-fn form_after(name: &str, byte: u8) -> Form
-    ensures { result ≡ form_of name.now byte }
-{
-    if !name.is_empty() {
-        return Form::OneImport;
-    }
-    match byte {
-        0x7f => Form::ModuleGroup,
-        0x7e => Form::TypeGroup,
-        _ => Form::OneImport,
-    }
-}
-
-// Whether a reader takes groups.
-fn has_groups(reader: &BinaryReader<'_>) -> bool
-    ensures { result ≡ has_groups (place reader.now) }
+// Whether a reader takes bundles.
+fn takes_bundles(reader: &BinaryReader<'_>) -> bool
+    ensures { result ≡ takes_import_bundles reader.now.features }
 {
     reader.features().contains(WasmFeatures::COMPACT_IMPORTS)
 }
 
-// Imports of one module, after the byte of such a group.
-#[tactic(auto, unfolding(crate::specs::Imports::module_group_at))]
-fn read_module_group<'a>(module: &'a str, reader: &mut BinaryReader<'a>) -> Result<Imports<'a>>
-    ensures gives { GivesBy group_parts result reader.old reader.new (module_group_at «module».now) }
+// Imports of one module.
+#[tactic(auto, unfolding(crate::specs::Imports::module_bundle_at))]
+fn read_module_bundle<'a>(module: &'a str, reader: &mut BinaryReader<'a>) -> Result<Imports<'a>>
+    requires { 0 < length (place reader.old).rest }
+    ensures gives { GivesBy bundle_parts result reader.old reader.new (module_bundle_at «module».now) }
     ensures keeps { KeepsWindow reader.old reader.new }
     ensures memory { TakesNoMemory result }
 {
+    if !takes_bundles(reader) {
+        return Err(Error::new(Fault::Compact7F, reader.original_position()));
+    }
+    reader.read_u8()?;
     let items = read_inner(reader)?;
     Ok(Imports::Compact1 { module, items })
 }
 
-// Imports of one module and one type, after the byte of such a group.
-#[tactic(auto, unfolding(crate::specs::Imports::type_group_at))]
-fn read_type_group<'a>(module: &'a str, reader: &mut BinaryReader<'a>) -> Result<Imports<'a>>
-    ensures gives { GivesBy group_parts result reader.old reader.new (type_group_at «module».now) }
+// Imports of one module and one type.
+#[tactic(auto, unfolding(crate::specs::Imports::type_bundle_at))]
+fn read_type_bundle<'a>(module: &'a str, reader: &mut BinaryReader<'a>) -> Result<Imports<'a>>
+    requires { 0 < length (place reader.old).rest }
+    ensures gives { GivesBy bundle_parts result reader.old reader.new (type_bundle_at «module».now) }
     ensures keeps { KeepsWindow reader.old reader.new }
     ensures memory { TakesNoMemory result }
 {
+    if !takes_bundles(reader) {
+        return Err(Error::new(Fault::Compact7E, reader.original_position()));
+    }
+    reader.read_u8()?;
     let ty = reader.read()?;
     let names = read_inner(reader)?;
     Ok(Imports::Compact2 { module, ty, names })
 }
 
+// One import, after its names.
+#[tactic(auto, unfolding(crate::specs::Imports::single_at))]
+fn read_single<'a>(
+    start: u64,
+    module: &'a str,
+    name: &'a str,
+    reader: &mut BinaryReader<'a>,
+) -> Result<Imports<'a>>
+    ensures gives { GivesBy bundle_parts result reader.old reader.new
+        (single_at start «module».now name.now) }
+    ensures keeps { KeepsWindow reader.old reader.new }
+    ensures memory { TakesNoMemory result }
+{
+    let ty = reader.read()?;
+    Ok(Imports::Single(start, Import { module, name, ty }))
+}
+
 /// The name of a module and a name in it, and what is imported; or, where the second name is empty, the byte 0x7F or 0x7E and
-/// a group.
+/// a bundle.
 ///
-/// Without the feature `COMPACT_IMPORTS` the byte is `Compact7F` or `Compact7E`, at it. The items of a group are passed
+/// Without the feature `COMPACT_IMPORTS` the byte is `Compact7F` or `Compact7E`, at it. The items of a bundle are passed
 /// over, with the faults of a skipped name and of a type; that their names are UTF-8 is seen when they are read.
 impl<'a> FromReader<'a> for Imports<'a> {
-    ghost use Rattle.wasm_items.specs.Imports.{group_parts, group_at};
+    ghost use Rattle.wasm_items.specs.Imports.{bundle_parts, bundle_at};
 
-    ghost meaning = { ReadsAs group_parts group_at };
+    ghost meaning = { ReadsAs bundle_parts bundle_at };
 
-    #[tactic(auto, unfolding(crate::specs::Imports::group_at, crate::specs::Imports::single_at))]
+    #[tactic(auto, unfolding(crate::specs::Imports::bundle_at))]
     fn from_reader(reader: &mut BinaryReader<'a>) -> Result<Self> {
         let start = reader.original_position();
         let module = reader.read_string()?;
         let name = reader.read_string()?;
-        match form_after(name, reader.peek()?) {
-            Form::OneImport => {
-                let ty = reader.read()?;
-                Ok(Imports::Single(start, Import { module, name, ty }))
-            }
-            Form::ModuleGroup => {
-                if !has_groups(reader) {
-                    return Err(Error::new(Fault::Compact7F, reader.original_position()));
-                }
-                reader.read_u8()?;
-                read_module_group(module, reader)
-            }
-            Form::TypeGroup => {
-                if !has_groups(reader) {
-                    return Err(Error::new(Fault::Compact7E, reader.original_position()));
-                }
-                reader.read_u8()?;
-                read_type_group(module, reader)
-            }
+        match reader.peek()? {
+            0x7f if name.is_empty() => read_module_bundle(module, reader),
+            0x7e if name.is_empty() => read_type_bundle(module, reader),
+            _ => read_single(start, module, name, reader),
         }
     }
 }

@@ -4,11 +4,15 @@ ghost use Rattle.wasm_base.specs.Hints.{TakesNoMemory};
 ghost use Rattle.wasm_base.specs.Item.{ReadsAs};
 ghost use Rattle.wasm_base.specs.Outcome.{GivesBy};
 ghost use Rattle.wasm_base.specs.Window.{place, KeepsWindow, range_of};
+ghost use Rattle.wasm_base.specs.Name.{bytes_at};
 ghost use Rattle.wasm_items.specs.Init.{after_opcode, aggregate_operands_of, vector_operands_of, numbered_operands_at, end_of_expression};
+ghost use Rattle.wasm_items.specs.Windows.{bytes_of_vector};
 
 use crate::types::HeapType;
 use std::ops::Range;
-use wasm_base::{BinaryReader, Error, Fault, FromReader, Result, SkipItem, passed_since};
+use wasm_base::{
+    BinaryReader, Error, Fault, FromReader, Ieee32, Ieee64, Result, SkipItem, passed_since,
+};
 
 /// The window of a constant expression, its end instruction included (core specification, Binary format, Instructions,
 /// Expressions).
@@ -42,64 +46,205 @@ impl<'a> ConstExpr<'a> {
     }
 }
 
-// Passes over what an instruction, which begins at this offset, has after its opcode.
-#[tactic(auto, unfolding(crate::specs::Init::after_opcode))]
-fn pass_operands(start: u64, opcode: u8, reader: &mut BinaryReader<'_>) -> Result<()>
-    ensures gives { GivesBy (λ nothing. nothing) result reader.old reader.new (after_opcode start opcode) }
+/// A vector of 128 bits, as its bytes (core specification, Binary format, Instructions, Vector Instructions).
+#[derive(Clone, Copy, Debug, PartialEq, Eq)]
+pub struct V128(pub(crate) [u8; 16]);
+
+impl V128 {
+    /// Its bytes, the lowest first.
+    pub fn bytes(&self) -> &[u8; 16]
+        ensures { result.now ≡ bytes_of_vector self.now }
+    {
+        &self.0
+    }
+}
+
+/// The operator of a constant instruction, with its operands (core specification, Validation, Instructions, Constant
+/// Expressions). Each has the name that it has among all operators.
+#[derive(Clone, Copy, Debug, PartialEq, Eq)]
+pub enum ConstOperator {
+    /// `end`: the expression has no more instructions.
+    End,
+    /// `global.get`: the value of a global.
+    GlobalGet {
+        /// The index of the global.
+        global_index: u32,
+    },
+    /// `i32.const`: an integer of 32 bits.
+    I32Const {
+        /// The integer, with a sign.
+        value: i32,
+    },
+    /// `i64.const`: an integer of 64 bits.
+    I64Const {
+        /// The integer, with a sign.
+        value: i64,
+    },
+    /// `f32.const`: a float of 32 bits.
+    F32Const {
+        /// The float.
+        value: Ieee32,
+    },
+    /// `f64.const`: a float of 64 bits.
+    F64Const {
+        /// The float.
+        value: Ieee64,
+    },
+    /// `v128.const`: a vector of 128 bits.
+    V128Const {
+        /// The vector.
+        value: V128,
+    },
+    /// `i32.add`: a sum of 32 bits.
+    I32Add,
+    /// `i32.sub`: a difference of 32 bits.
+    I32Sub,
+    /// `i32.mul`: a product of 32 bits.
+    I32Mul,
+    /// `i64.add`: a sum of 64 bits.
+    I64Add,
+    /// `i64.sub`: a difference of 64 bits.
+    I64Sub,
+    /// `i64.mul`: a product of 64 bits.
+    I64Mul,
+    /// `ref.null`: a reference to nothing.
+    RefNull {
+        /// What it would refer to.
+        hty: HeapType,
+    },
+    /// `ref.func`: a reference to a function.
+    RefFunc {
+        /// The index of the function.
+        function_index: u32,
+    },
+    /// `struct.new`: a structure of the values before it.
+    StructNew {
+        /// The index of its type.
+        struct_type_index: u32,
+    },
+    /// `struct.new_default`: a structure of default values.
+    StructNewDefault {
+        /// The index of its type.
+        struct_type_index: u32,
+    },
+    /// `array.new`: an array of as many copies of a value as the number before it says.
+    ArrayNew {
+        /// The index of its type.
+        array_type_index: u32,
+    },
+    /// `array.new_default`: an array of as many default values as the number before it says.
+    ArrayNewDefault {
+        /// The index of its type.
+        array_type_index: u32,
+    },
+    /// `array.new_fixed`: an array of the values before it.
+    ArrayNewFixed {
+        /// The index of its type.
+        array_type_index: u32,
+        /// How many values.
+        array_size: u32,
+    },
+    /// `any.convert_extern`: a value of the host as one of the module.
+    AnyConvertExtern,
+    /// `extern.convert_any`: a value of the module as one of the host.
+    ExternConvertAny,
+    /// `ref.i31`: an integer of 31 bits.
+    RefI31,
+}
+
+// Reads so many bytes as a vector has.
+fn read_vector(reader: &mut BinaryReader<'_>) -> Result<V128>
+    ensures gives { GivesBy bytes_of_vector result reader.old reader.new (bytes_at 16) }
     ensures keeps { KeepsWindow reader.old reader.new }
     ensures memory { TakesNoMemory result }
 {
-    match opcode {
-        0x23 | 0xd2 => {
-            reader.read_var_u32()?;
-        }
-        0x41 => {
-            reader.read_var_i32()?;
-        }
-        0x42 => {
-            reader.read_var_i64()?;
-        }
-        0x43 => {
-            reader.read_bytes(4)?;
-        }
-        0x44 => {
-            reader.read_bytes(8)?;
-        }
-        0x6a..=0x6c | 0x7c..=0x7e => {}
-        0xd0 => {
-            HeapType::from_reader(reader)?;
-        }
-        0xfb => pass_aggregate_operands(start, reader)?,
-        0xfd => pass_vector_operands(start, reader)?,
+    let mut bytes = [0; 16];
+    bytes.copy_from_slice(reader.read_bytes(16)?);
+    Ok(V128(bytes))
+}
+
+/// Reads what an instruction, which begins at this offset, has after its opcode.
+#[tactic(auto, unfolding(crate::specs::Init::after_opcode))]
+pub(crate) fn read_operands(
+    start: u64,
+    opcode: u8,
+    reader: &mut BinaryReader<'_>,
+) -> Result<ConstOperator>
+    ensures gives { GivesBy (λ operator. operator) result reader.old reader.new
+        (after_opcode start opcode) }
+    ensures keeps { KeepsWindow reader.old reader.new }
+    ensures memory { TakesNoMemory result }
+{
+    let operator = match opcode {
+        0x23 => ConstOperator::GlobalGet {
+            global_index: reader.read_var_u32()?,
+        },
+        0x41 => ConstOperator::I32Const {
+            value: reader.read_var_i32()?,
+        },
+        0x42 => ConstOperator::I64Const {
+            value: reader.read_var_i64()?,
+        },
+        0x43 => ConstOperator::F32Const {
+            value: reader.read_f32()?,
+        },
+        0x44 => ConstOperator::F64Const {
+            value: reader.read_f64()?,
+        },
+        0x6a => ConstOperator::I32Add,
+        0x6b => ConstOperator::I32Sub,
+        0x6c => ConstOperator::I32Mul,
+        0x7c => ConstOperator::I64Add,
+        0x7d => ConstOperator::I64Sub,
+        0x7e => ConstOperator::I64Mul,
+        0xd0 => ConstOperator::RefNull {
+            hty: HeapType::from_reader(reader)?,
+        },
+        0xd2 => ConstOperator::RefFunc {
+            function_index: reader.read_var_u32()?,
+        },
+        0xfb => read_aggregate(start, reader)?,
+        0xfd => read_vector_constant(start, reader)?,
         _ => return Err(Error::new(Fault::NotConstant, start)),
-    }
-    Ok(())
+    };
+    Ok(operator)
 }
 
 // The same where the opcode is that of structures, arrays and references, and a number follows.
-fn pass_aggregate_operands(start: u64, reader: &mut BinaryReader<'_>) -> Result<()>
-    ensures gives { GivesBy (λ nothing. nothing) result reader.old reader.new
+fn read_aggregate(start: u64, reader: &mut BinaryReader<'_>) -> Result<ConstOperator>
+    ensures gives { GivesBy (λ operator. operator) result reader.old reader.new
         (numbered_operands_at start aggregate_operands_of) }
     ensures keeps { KeepsWindow reader.old reader.new }
     ensures memory { TakesNoMemory result }
 {
-    match reader.read_var_u32()? {
-        0 | 1 | 6 | 7 => {
-            reader.read_var_u32()?;
-        }
-        8 => {
-            reader.read_var_u32()?;
-            reader.read_var_u32()?;
-        }
-        26..=28 => {}
+    let operator = match reader.read_var_u32()? {
+        0 => ConstOperator::StructNew {
+            struct_type_index: reader.read_var_u32()?,
+        },
+        1 => ConstOperator::StructNewDefault {
+            struct_type_index: reader.read_var_u32()?,
+        },
+        6 => ConstOperator::ArrayNew {
+            array_type_index: reader.read_var_u32()?,
+        },
+        7 => ConstOperator::ArrayNewDefault {
+            array_type_index: reader.read_var_u32()?,
+        },
+        8 => ConstOperator::ArrayNewFixed {
+            array_type_index: reader.read_var_u32()?,
+            array_size: reader.read_var_u32()?,
+        },
+        26 => ConstOperator::AnyConvertExtern,
+        27 => ConstOperator::ExternConvertAny,
+        28 => ConstOperator::RefI31,
         _ => return Err(Error::new(Fault::NotConstant, start)),
-    }
-    Ok(())
+    };
+    Ok(operator)
 }
 
 // The same where the opcode is that of vectors, and a number follows.
-fn pass_vector_operands(start: u64, reader: &mut BinaryReader<'_>) -> Result<()>
-    ensures gives { GivesBy (λ nothing. nothing) result reader.old reader.new
+fn read_vector_constant(start: u64, reader: &mut BinaryReader<'_>) -> Result<ConstOperator>
+    ensures gives { GivesBy (λ operator. operator) result reader.old reader.new
         (numbered_operands_at start vector_operands_of) }
     ensures keeps { KeepsWindow reader.old reader.new }
     ensures memory { TakesNoMemory result }
@@ -107,8 +252,9 @@ fn pass_vector_operands(start: u64, reader: &mut BinaryReader<'_>) -> Result<()>
     if reader.read_var_u32()? != 12 {
         return Err(Error::new(Fault::NotConstant, start));
     }
-    reader.read_bytes(16)?;
-    Ok(())
+    Ok(ConstOperator::V128Const {
+        value: read_vector(reader)?,
+    })
 }
 
 /// Passes over instructions up to the end, which is passed too.
@@ -123,7 +269,7 @@ fn pass_expression(reader: &mut BinaryReader<'_>) -> Result<()>
         if opcode == 0x0b {
             return Ok(());
         }
-        pass_operands(start, opcode, reader)?;
+        read_operands(start, opcode, reader)?;
     }
 }
 

@@ -8,6 +8,7 @@ ghost use Rattle.wasm_items.specs.Announced.{ElementsAreGiven};
 ghost use Rattle.wasm_items.specs.Flattened.{GivesAll, found_at, found};
 ghost use Rattle.wasm_items.specs.Hashed.{hash_of_value, hash_of_reference, hash_of_heap, hash_of_field, hash_of_storage, hash_of_table, hash_of_memory, hash_of_global, hash_of_tag, hash_of_kind};
 ghost use Rattle.wasm_items.specs.Init.{IsEndOrInstruction};
+ghost use Rattle.wasm_items.specs.Instructions.{GivesItsInstructions};
 ghost use Rattle.wasm_items.specs.Same.{IsSameImport, IsSameItem, IsSameExport, IsSameFunction, IsSameComposite, IsSameSubtype, IsSameGroup};
 
 use crate::code::FunctionBody;
@@ -18,6 +19,7 @@ use crate::flattened::{ImportsIter, IntoImports, IntoImportsWithOffsets};
 use crate::globals::Global;
 use crate::imports::{Import, ImportItemCompact, Imports, TypeRef};
 use crate::init::ConstExpr;
+use crate::instructions::ConstInstructions;
 use crate::tables::{Table, TableInit};
 use crate::types::{
     CompositeType, FieldType, FuncType, GlobalType, HeapType, MemoryType, RecGroup, RefType,
@@ -135,7 +137,7 @@ pub fn all_imports_come<'a>()
     ensures alone { GivesAll found ⟦<IntoImports<'a> as Iterator>⟧.next_gives }
 {}
 
-/// Wherever an import of a group or a constant expression is read, passing over it takes the bytes that reading it takes.
+/// Wherever an import of a bundle or a constant expression is read, passing over it takes the bytes that reading it takes.
 pub fn passing_over_takes_what_reading_takes<'a>()
     ensures item { PassesAsRead
         ⟦<ImportItemCompact<'a> as FromReader<'a>>⟧.meaning
@@ -210,4 +212,12 @@ pub fn segments_and_types_allow_one_outcome<'a>()
 /// sets no limit on how many there are.
 pub fn expressions_are_instructions_and_the_end()
     ensures { (p : Place) → IsEndOrInstruction p }
+{}
+
+/// The instructions of an expression that was read come without a fault. They tile its window, each beginning where the one
+/// before it ends, and the last one, and no other, is the end.
+pub fn instructions_tile_their_expression<'a>()
+    ensures { (before after : Place) (expression : ConstExpr) →
+        ⟦<ConstExpr<'a> as FromReader<'a>>⟧.meaning before (Ok (expression, after)) →
+        GivesItsInstructions ⟦<ConstInstructions<'a> as Iterator>⟧.next_gives expression }
 {}

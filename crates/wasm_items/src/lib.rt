@@ -11,6 +11,7 @@ mod functions;
 mod globals;
 mod imports;
 mod init;
+mod instructions;
 pub mod laws;
 mod limits;
 mod memories;
@@ -28,7 +29,8 @@ pub use flattened::{ImportSection, ImportsIter, IntoImports, IntoImportsWithOffs
 pub use functions::FunctionSectionReader;
 pub use globals::{Global, GlobalSectionReader};
 pub use imports::{Import, ImportItemCompact, ImportSectionReader, Imports, TypeRef};
-pub use init::ConstExpr;
+pub use init::{ConstExpr, ConstOperator, V128};
+pub use instructions::{ConstInstruction, ConstInstructions};
 pub use memories::MemorySectionReader;
 pub use tables::{Table, TableInit, TableSectionReader};
 pub use tags::TagSectionReader;

@@ -1,20 +1,24 @@
 // Limits of tables and memories.
 ghost use Rattle.std.specs.Prelude.{◌≡◌};
+ghost use Rattle.wasm_base.specs.Bits.{has_flag};
 ghost use Rattle.wasm_base.specs.Hints.{TakesNoMemory};
 ghost use Rattle.wasm_base.specs.Outcome.{GivesBy};
 ghost use Rattle.wasm_base.specs.Window.{place, KeepsWindow};
-ghost use Rattle.wasm_items.specs.Limits.{has_flag, limit_at, maximum_at, limits_at};
+ghost use Rattle.wasm_items.specs.Limits.{limit_at, maximum_at, limits_at};
 
 use wasm_base::{BinaryReader, Result};
 
-/// A minimum, and a maximum if there is one (core specification, Binary format, Types, Limits).
-#[derive(Drop)]
-pub(crate) struct Limits {
-    /// The minimum.
-    pub(crate) initial: u64,
-    /// The maximum.
-    pub(crate) maximum: Option<u64>,
-}
+/// The flag of limits with a maximum.
+pub(crate) const HAS_MAXIMUM: u8 = 1;
+
+/// The flag of a memory or table that is shared.
+pub(crate) const IS_SHARED: u8 = 2;
+
+/// The flag of indices of 64 bits.
+pub(crate) const IS_WIDE: u8 = 4;
+
+/// The flag of a memory whose size of pages is written.
+pub(crate) const HAS_PAGE_SIZE: u8 = 8;
 
 /// Whether a flag, a power of two, is set.
 pub(crate) fn has_flag(flags: u8, flag: u8) -> bool
@@ -37,28 +41,29 @@ fn read_limit(reader: &mut BinaryReader<'_>) -> Result<u64>
     }
 }
 
-// The maximum, which a flag says is there.
+// The maximum, if it is there.
 #[tactic(auto, unfolding(crate::specs::Limits::maximum_at))]
 fn read_maximum(flags: u8, reader: &mut BinaryReader<'_>) -> Result<Option<u64>>
     ensures gives { GivesBy (λ n. n) result reader.old reader.new (maximum_at flags) }
     ensures keeps { KeepsWindow reader.old reader.new }
     ensures memory { TakesNoMemory result }
 {
-    if has_flag(flags, 1) {
+    if has_flag(flags, HAS_MAXIMUM) {
         Ok(Some(read_limit(reader)?))
     } else {
         Ok(None)
     }
 }
 
-/// Reads limits after their flags.
+/// Reads limits after their flags: a minimum, and a maximum if there is one (core specification, Binary format, Types,
+/// Limits).
 #[tactic(auto, unfolding(crate::specs::Limits::limits_at))]
-pub(crate) fn read_limits(flags: u8, reader: &mut BinaryReader<'_>) -> Result<Limits>
+pub(crate) fn read_limits(flags: u8, reader: &mut BinaryReader<'_>) -> Result<(u64, Option<u64>)>
     ensures gives { GivesBy (λ limits. limits) result reader.old reader.new (limits_at flags) }
     ensures keeps { KeepsWindow reader.old reader.new }
     ensures memory { TakesNoMemory result }
 {
     let initial = read_limit(reader)?;
     let maximum = read_maximum(flags, reader)?;
-    Ok(Limits { initial, maximum })
+    Ok((initial, maximum))
 }

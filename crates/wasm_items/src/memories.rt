@@ -6,7 +6,7 @@ ghost use Rattle.wasm_base.specs.Outcome.{GivesBy};
 ghost use Rattle.wasm_base.specs.Window.{place, KeepsWindow};
 ghost use Rattle.wasm_items.specs.Memories.{page_size_at};
 
-use crate::limits::{has_flag, read_limits};
+use crate::limits::{HAS_PAGE_SIZE, IS_SHARED, IS_WIDE, has_flag, read_limits};
 use crate::types::MemoryType;
 use wasm_base::{BinaryReader, Error, Fault, FromReader, Result, SectionLimited};
 
@@ -20,7 +20,7 @@ fn read_page_size(start: u64, flags: u8, reader: &mut BinaryReader<'_>) -> Resul
     ensures keeps { KeepsWindow reader.old reader.new }
     ensures memory { TakesNoMemory result }
 {
-    if !has_flag(flags, 8) {
+    if !has_flag(flags, HAS_PAGE_SIZE) {
         return Ok(None);
     }
     let size = reader.read_var_u32()?;
@@ -46,13 +46,13 @@ impl<'a> FromReader<'a> for MemoryType {
         if flags > 15 {
             return Err(Error::new(Fault::MemoryFlags, start));
         }
-        let limits = read_limits(flags, reader)?;
+        let (initial, maximum) = read_limits(flags, reader)?;
         let page_size_log2 = read_page_size(start, flags, reader)?;
         Ok(MemoryType {
-            memory64: has_flag(flags, 4),
-            shared: has_flag(flags, 2),
-            initial: limits.initial,
-            maximum: limits.maximum,
+            memory64: has_flag(flags, IS_WIDE),
+            shared: has_flag(flags, IS_SHARED),
+            initial,
+            maximum,
             page_size_log2,
         })
     }

@@ -38,17 +38,19 @@ impl<'a> FromReader<'a> for StorageType {
 }
 
 // Whether a field can be changed.
-#[tactic(auto, unfolding(crate::specs::RecGroups::mutability_at))]
+#[tactic(auto, unfolding(wasm_base::specs::Leading::in_table))]
 fn read_mutability(reader: &mut BinaryReader<'_>) -> Result<bool>
     ensures gives { GivesBy (λ mutable. mutable) result reader.old reader.new mutability_at }
     ensures keeps { KeepsWindow reader.old reader.new }
     ensures memory { TakesNoMemory result }
 {
-    let start = reader.original_position();
     match reader.read_u8()? {
         0 => Ok(false),
         1 => Ok(true),
-        byte => Err(leading_byte_error(Lead::Mutability, byte, start)),
+        byte => {
+            let offset = reader.original_position() - 1;
+            Err(leading_byte_error(Lead::Mutability, byte, offset))
+        }
     }
 }
 

@@ -7,7 +7,7 @@ ghost use Rattle.wasm_base.specs.Window.{place, KeepsWindow};
 ghost use Rattle.wasm_items.specs.Tables.{filled_table_at};
 
 use crate::init::ConstExpr;
-use crate::limits::{has_flag, read_limits};
+use crate::limits::{IS_SHARED, IS_WIDE, has_flag, read_limits};
 use crate::types::{RefType, TableType};
 use wasm_base::{BinaryReader, Error, Fault, FromReader, Result, SectionLimited};
 
@@ -48,13 +48,13 @@ impl<'a> FromReader<'a> for TableType {
         if flags > 7 {
             return Err(Error::new(Fault::TableFlags, start));
         }
-        let limits = read_limits(flags, reader)?;
+        let (initial, maximum) = read_limits(flags, reader)?;
         Ok(TableType {
             element_type,
-            table64: has_flag(flags, 4),
-            initial: limits.initial,
-            maximum: limits.maximum,
-            shared: has_flag(flags, 2),
+            table64: has_flag(flags, IS_WIDE),
+            initial,
+            maximum,
+            shared: has_flag(flags, IS_SHARED),
         })
     }
 }

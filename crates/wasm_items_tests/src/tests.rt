@@ -4,6 +4,7 @@ mod expressions;
 mod groups;
 mod imports;
 mod indices;
+mod instructions;
 mod lines;
 mod reading;
 mod sections;

@@ -13,10 +13,10 @@ use Rattle.wasm_feed.specs.declared.listing.Ended.{Ended}
 use Rattle.wasm_feed.specs.declared.listing.Ended.TheVariants.{End, Fault}
 use Rattle.wasm_feed.specs.declared.devices.ListError.{ListError}
 
-lists_kept : (left rest taken written kept : Option (List ℕ)) (how : Ended) → Lists (from_to left rest) (from_to taken written) (Ok how)
+lists_kept : (source rest taken written kept : Option (List ℕ)) (how : Ended) → Lists (from_to source rest) (from_to taken written) (Ok how)
     → Keeps written kept
-    → Lists (from_to left rest) (from_to taken kept) (Ok how)
-lists_kept left rest taken written kept how h k = record {
+    → Lists (from_to source rest) (from_to taken kept) (Ok how)
+lists_kept source rest taken written kept how h k = record {
   given = h.given;
   first = h.first;
   end = h.end;

@@ -6,15 +6,15 @@ use Rattle.wasm_feed.specs.declared.devices.ListError.{ListError}
 use Rattle.wasm_feed.specs.declared.devices.ListError.TheVariants.{Input, Output, Memory}
 use Rattle.wasm_list_run.specs.Strips.{ReadsPiece, ReadsAll}
 
-refused : (A : Type 0) (left mid rest : Option (List ℕ)) (given before after : List ℕ) (why : ListError) → Consumes left mid given
-    → ReadsPiece mid rest before (Err why) after → ReadsAll {A = A} left rest (Err why)
-refused A left mid rest given before after Input g r = (given, Consumes-kept left mid rest given g r)
-refused A left mid rest given before after Memory g (piece, r) = (given ++ piece, Consumes-trans left mid rest given piece g r)
-refused A left mid rest given before after Output g r = absurd r
+refused : (A : Type 0) (source mid rest : Option (List ℕ)) (given before after : List ℕ) (why : ListError) → Consumes source mid given
+    → ReadsPiece mid rest before (Err why) after → ReadsAll {A = A} source rest (Err why)
+refused A source mid rest given before after Input g r = (given, Consumes-kept source mid rest given g r)
+refused A source mid rest given before after Memory g (piece, r) = (given ++ piece, Consumes-trans source mid rest given piece g r)
+refused A source mid rest given before after Output g r = absurd r
 
 -- a read after others was given up
-pub given_up : {A : Type 0} (left mid rest : Option (List ℕ)) (given before after : List ℕ) (why : ListError) → Consumes left mid given
+pub given_up : {A : Type 0} (source mid rest : Option (List ℕ)) (given before after : List ℕ) (why : ListError) → Consumes source mid given
     → ReadsPiece mid rest before (Err why) after
-    → (r : Result (Vec ℕ A) ListError) → r ≡ Err why → ReadsAll left rest r
-given_up {A} left mid rest given before after why g p r e = subst (λ (x : Result (Vec ℕ A) ListError). ReadsAll left rest x) (sym e)
-    (refused A left mid rest given before after why g p)
+    → (r : Result (Vec ℕ A) ListError) → r ≡ Err why → ReadsAll source rest r
+given_up {A} source mid rest given before after why g p r e = subst (λ (x : Result (Vec ℕ A) ListError). ReadsAll source rest x) (sym e)
+    (refused A source mid rest given before after why g p)

@@ -15,21 +15,21 @@ use Rattle.wasm_run.specs.Devices.{IsUntouched, Says}
 use Rattle.wasm_run.specs.Endings.{GivesUpAs, WritesAll, WritesSome}
 
 -- what one read gave, which was put after the bytes before; nothing at the end of the source
-abbrev pub ReadsPiece : (left rest : Option (List ℕ)) (before : List ℕ) → Result Bool ListError → (after : List ℕ)
+abbrev pub ReadsPiece : (source rest : Option (List ℕ)) (before : List ℕ) → Result Bool ListError → (after : List ℕ)
     → Type 0
-ReadsPiece left rest before (Ok true) after =
-    (piece : List ℕ) × Consumes left rest piece × (0 < length piece) × (after ≡ before ++ piece)
-ReadsPiece left rest before (Ok false) after = Consumes left rest [] × IsAtEnd rest × (after ≡ before)
-ReadsPiece left rest before (Err Input) after = Keeps left rest
-ReadsPiece left rest before (Err Memory) after = (piece : List ℕ) × Consumes left rest piece
-ReadsPiece left rest before (Err Output) after = ⊥
+ReadsPiece source rest before (Ok true) after =
+    (piece : List ℕ) × Consumes source rest piece × (0 < length piece) × (after ≡ before ++ piece)
+ReadsPiece source rest before (Ok false) after = Consumes source rest [] × IsAtEnd rest × (after ≡ before)
+ReadsPiece source rest before (Err Input) after = Keeps source rest
+ReadsPiece source rest before (Err Memory) after = (piece : List ℕ) × Consumes source rest piece
+ReadsPiece source rest before (Err Output) after = ⊥
 
 -- what the source gave: all that it had left, or some of it before it failed or memory was refused
-abbrev pub ReadsAll : {A : Type 0} → (left rest : Option (List ℕ)) → Result (Vec ℕ A) ListError → Type 0
-ReadsAll left rest (Ok bytes) = Consumes left rest bytes.items × IsAtEnd rest
-ReadsAll left rest (Err Input) = (given : List ℕ) × Consumes left rest given
-ReadsAll left rest (Err Memory) = (given : List ℕ) × Consumes left rest given
-ReadsAll left rest (Err Output) = ⊥
+abbrev pub ReadsAll : {A : Type 0} → (source rest : Option (List ℕ)) → Result (Vec ℕ A) ListError → Type 0
+ReadsAll source rest (Ok bytes) = Consumes source rest bytes.items × IsAtEnd rest
+ReadsAll source rest (Err Input) = (given : List ℕ) × Consumes source rest given
+ReadsAll source rest (Err Memory) = (given : List ℕ) × Consumes source rest given
+ReadsAll source rest (Err Output) = ⊥
 
 -- The run says what the fault of the stream is.
 pub record TellsFault (f : FaultAt) (errors : Device) (status : ℕ) : Type 0 where
@@ -50,8 +50,8 @@ pub record WritesNothing (stream : List ℕ) (e : Error) (output errors : Device
 -- What is left of the stream was written, as far as the output took it; or it was refused.
 abbrev pub WritesStripped : (stream : List ℕ) (output errors : Device) (status : ℕ) → Type 0
 WritesStripped stream output errors status =
-    ((left : List ℕ) × IsStripped false stream left × (WritesAll left output errors status
-    ⊎ WritesSome left output errors status))
+    ((kept : List ℕ) × IsStripped false stream kept × (WritesAll kept output errors status
+    ⊎ WritesSome kept output errors status))
     ⊎ ((e : Error) × WritesNothing stream e output errors status)
 
 -- The source gave all that it had left, which was stripped.

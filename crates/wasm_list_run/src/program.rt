@@ -43,7 +43,7 @@ pub fn run_program<R: Source, W: Write, E: Sink>(
     ensures { RunsProgram
         (command_if_any (λ args. map string_bytes (into_iter_items args)) arguments)
         output.new.handed_on
-        (device_of R.left R.has_failed input.old input.new)
+        (device_of R.remaining R.has_failed input.old input.new)
         (writer_device W.contents output.old output.new)
         (device_of E.taken E.has_failed errors.old errors.new) (exit_status result) }
 {
@@ -67,7 +67,7 @@ pub fn run<R: Source, W: Sink, E: Sink>(
     errors: &mut E,
 ) -> u8
     ensures { Runs (command_by (map string_bytes args.now))
-        (device_of R.left R.has_failed input.old input.new)
+        (device_of R.remaining R.has_failed input.old input.new)
         (device_of W.taken W.has_failed output.old output.new)
         (device_of E.taken E.has_failed errors.old errors.new) result }
 {
@@ -83,7 +83,7 @@ fn run_command<R: Source, W: Sink, E: Sink>(
     errors: &mut E,
 ) -> u8
     ensures { Runs command
-        (device_of R.left R.has_failed input.old input.new)
+        (device_of R.remaining R.has_failed input.old input.new)
         (device_of W.taken W.has_failed output.old output.new)
         (device_of E.taken E.has_failed errors.old errors.new) result }
 {
@@ -105,7 +105,7 @@ fn list_input<R: Source, W: Sink, E: Sink>(
     errors: &mut E,
 ) -> u8
     ensures { RunsListing
-        (device_of R.left R.has_failed input.old input.new)
+        (device_of R.remaining R.has_failed input.old input.new)
         (device_of W.taken W.has_failed output.old output.new)
         (device_of E.taken E.has_failed errors.old errors.new) result }
 {

@@ -7,23 +7,23 @@ ghost use Rattle.std.specs.Prelude.{◌≡◌, ◌<◌, length};
 use std::alloc::Global;
 use wasm_feed::{ListError, Sink, Source, strip_in_place, write_all};
 use wasm_parser::Error;
-use wasm_run::{complain, give_up, room};
+use wasm_run::{complain, give_up, read_buffer};
 
 // Reads once, and puts what came after these bytes. Answers whether anything came.
 fn read_piece<R: Source>(
     input: &mut R,
-    room: &mut [u8],
+    buffer: &mut [u8],
     bytes: &mut Vec<u8>,
 ) -> Result<bool, ListError>
-    requires { length room.old ≡ 65536 }
-    ensures reads { ReadsPiece (R.left input.old) (R.left input.new)
+    requires { length buffer.old ≡ 65536 }
+    ensures reads { ReadsPiece (R.remaining input.old) (R.remaining input.new)
         bytes.old.items result bytes.new.items }
     ensures failed { R.has_failed input.new ≡ input_failed result (R.has_failed input.old) }
 {
-    match input.read(room) {
+    match input.read(buffer) {
         Ok(0) => Ok(false),
         Ok(count) => {
-            bytes.extend_from_slice(&room[..count])?;
+            bytes.extend_from_slice(&buffer[..count])?;
             Ok(true)
         }
         Err(_) => Err(ListError::Input),
@@ -32,13 +32,13 @@ fn read_piece<R: Source>(
 
 // All bytes that the source gives.
 fn read_all<R: Source>(alloc: Global, input: &mut R) -> Result<Vec<u8>, ListError>
-    ensures reads { ReadsAll (R.left input.old) (R.left input.new) result }
+    ensures reads { ReadsAll (R.remaining input.old) (R.remaining input.new) result }
     ensures failed { R.has_failed input.new ≡ input_failed result (R.has_failed input.old) }
 {
-    let mut room = room(alloc)?;
+    let mut buffer = read_buffer(alloc)?;
     let mut bytes = Vec::new(alloc);
     'pieces: loop {
-        if !read_piece(input, room.as_mut_slice(), &mut bytes)? {
+        if !read_piece(input, buffer.as_mut_slice(), &mut bytes)? {
             return Ok(bytes);
         }
     }
@@ -88,7 +88,7 @@ pub(crate) fn strip_input<R: Source, W: Sink, E: Sink>(
     errors: &mut E,
 ) -> u8
     ensures { RunsStripping
-        (device_of R.left R.has_failed input.old input.new)
+        (device_of R.remaining R.has_failed input.old input.new)
         (device_of W.taken W.has_failed output.old output.new)
         (device_of E.taken E.has_failed errors.old errors.new) result }
 {

@@ -158,49 +158,49 @@ module _ (start features : ℕ) (given : List ℕ) (p : ParserState) (held : Lis
   event_here t = event_of features (start + length (bytes_of a.is_after.tiles)) t
 
   -- the parser after the tile that comes next
-  along_tile : (t : Tile) (bytes left : List ℕ) (new : ParserState) → verdict (grammar_of p) held ≡ tile t → length bytes ≡ length t.bytes
-      → held ≡ bytes ++ left → new ≡ state_after_tile p t
-      → Along start features given new left (events ++ event_here t ∷ []) × (t.bytes ≡ bytes) × (0 < length bytes)
-  along_tile t bytes left new v n w s =
+  along_tile : (t : Tile) (bytes rest : List ℕ) (new : ParserState) → verdict (grammar_of p) held ≡ tile t → length bytes ≡ length t.bytes
+      → held ≡ bytes ++ rest → new ≡ state_after_tile p t
+      → Along start features given new rest (events ++ event_here t ∷ []) × (t.bytes ≡ bytes) × (0 < length bytes)
+  along_tile t bytes rest new v n w s =
       let v' : verdict (grammar start a.is_after.tiles) held ≡ tile t = sym (verdict_same start features given p held events a held) ∙ v in
       let g : Grown start a.is_after.tiles held t = grows start a.is_after.tiles held t a.is_after.faultless v' in
-      let (b, r) = split_same bytes left t.bytes g.rest (sym w ∙ g.split) n in
+      let (b, r) = split_same bytes rest t.bytes g.rest (sym w ∙ g.split) n in
       let some : 0 < length t.bytes = g.some in
-      let after : Along start features given (state_after_tile p t) left (events ++ event_here t ∷ []) = record {
+      let after : Along start features given (state_after_tile p t) rest (events ++ event_here t ∷ []) = record {
         prefix = a.prefix ++ t.bytes;
         is_after = state_goes_on p start a.prefix a.is_after held t v;
-        whole = a.whole ∙ (ap (λ (x : List ℕ). a.prefix ++ x) (w ∙ ap (λ (x : List ℕ). x ++ left) b)
-            ∙ sym (append_assoc a.prefix t.bytes left));
+        whole = a.whole ∙ (ap (λ (x : List ℕ). a.prefix ++ x) (w ∙ ap (λ (x : List ℕ). x ++ rest) b)
+            ∙ sym (append_assoc a.prefix t.bytes rest));
         has_features = a.has_features;
         listed = ap (λ (x : List Event). x ++ event_here t ∷ []) a.listed
             ∙ ap (events_of start features) (sym (state_goes_on-tiles p start a.prefix a.is_after held t v));
       } in (
-        subst (λ (x : ParserState). Along start features given x left (events ++ event_here t ∷ [])) (sym s) after,
+        subst (λ (x : ParserState). Along start features given x rest (events ++ event_here t ∷ [])) (sym s) after,
         sym b,
         omega (arith, n, some),
       )
 
-  tile_came : (eof : Bool) (t : Tile) (bytes left : List ℕ) (payload : Payload) (new : ParserState) → verdict (grammar_of p) held ≡ tile t
-      → length bytes ≡ length t.bytes → held ≡ bytes ++ left → new ≡ state_after_tile p t
+  tile_came : (eof : Bool) (t : Tile) (bytes rest : List ℕ) (payload : Payload) (new : ParserState) → verdict (grammar_of p) held ≡ tile t
+      → length bytes ≡ length t.bytes → held ≡ bytes ++ rest → new ≡ state_after_tile p t
       → IsPayload (tile_report p.features p.offset (p.offset + length t.bytes) t.shape) payload
-      → Came start features eof given events bytes payload new left
-  tile_came eof t bytes left payload new v n w s i =
-      let z = along_tile t bytes left new v n w s in
+      → Came start features eof given events bytes payload new rest
+  tile_came eof t bytes rest payload new v n w s i =
+      let z = along_tile t bytes rest new v n w s in
       let more : is_end (report_of payload) ≡ false = ap is_end i.0 ∙ goes_on p.features p.offset (p.offset + length t.bytes) t.shape in
       record {
         event = event_here t;
         is_payload = subst₂ (λ (f o : ℕ). IsPayload (tile_report f o (o + length t.bytes) t.shape) payload) a.has_features offset_is i;
         consumed = z.1;
-        begins = events_begin start features given new left (events ++ event_here t ∷ []) z.0 eof;
+        begins = events_begin start features given new rest (events ++ event_here t ∷ []) z.0 eof;
         goes_on = λ e. (z.0, z.2);
         ends = λ e. let no : true ≡ false = sym e ∙ more in cc;
         last = λ e. let no : true ≡ false = sym e ∙ more in cc;
       }
 
-  end_came : (eof : Bool) (offset : ℕ) (bytes left : List ℕ) (payload : Payload) (new : ParserState) → (eof ≡ true)
+  end_came : (eof : Bool) (offset : ℕ) (bytes rest : List ℕ) (payload : Payload) (new : ParserState) → (eof ≡ true)
       ⊎ (waiting (grammar_of p) held ≡ enough) → verdict (grammar_of p) held ≡ final (ended offset) → length bytes ≡ 0
-      → IsPayload (stream_end (ended offset)) payload → Came start features eof given events bytes payload new left
-  end_came eof offset bytes left payload new d v n i =
+      → IsPayload (stream_end (ended offset)) payload → Came start features eof given events bytes payload new rest
+  end_came eof offset bytes rest payload new d v n i =
       let r = reads_each start features given p held events a eof (ended offset) d v in
       record {
         event = last_event (ended offset);
@@ -213,31 +213,31 @@ module _ (start features : ℕ) (given : List ℕ) (p : ParserState) (held : Lis
       }
 
   -- where nothing is passed
-  along_same : (new : ParserState) (left : List ℕ) → new ≡ p → held ≡ left → Along start features given new left events
-  along_same new left s w = subst₂ (λ (x : ParserState) (y : List ℕ). Along start features given x y events) (sym s) w a
+  along_same : (new : ParserState) (rest : List ℕ) → new ≡ p → held ≡ rest → Along start features given new rest events
+  along_same new rest s w = subst₂ (λ (x : ParserState) (y : List ℕ). Along start features given x y events) (sym s) w a
 
-  answered : (eof : Bool) (x : Result Chunk Error) (bytes : List ℕ) (new : ParserState) (left : List ℕ) (v : Verdict) → (eof ≡ true)
-      ⊎ (waiting (grammar_of p) held ≡ enough) → verdict (grammar_of p) held ≡ v → Answers p v x new → held ≡ bytes ++ left → length bytes
+  answered : (eof : Bool) (x : Result Chunk Error) (bytes : List ℕ) (new : ParserState) (rest : List ℕ) (v : Verdict) → (eof ≡ true)
+      ⊎ (waiting (grammar_of p) held ≡ enough) → verdict (grammar_of p) held ≡ v → Answers p v x new → held ≡ bytes ++ rest → length bytes
       ≡ taken_by x
-      → GoesAlong start features eof given events x bytes new left
-  answered eof (Ok (NeedMoreData hint)) bytes new left v d e r w n = absurd (asks_never p new hint v r)
-  answered eof (Ok (Parsed consumed payload)) bytes new left (tile t) d e r w n =
-      tile_came eof t bytes left payload new e (n ∙ r.0) w r.2 r.1
-  answered eof (Ok (Parsed consumed payload)) bytes new left (final (ended offset)) d e r w n =
-      end_came eof offset bytes left payload new d e (n ∙ r.0) r.1
-  answered eof (Ok (Parsed consumed payload)) bytes new left (final (fault f)) d e r w n = absurd r
-  answered eof (Err error) bytes new left (tile t) d e r w n = absurd r
-  answered eof (Err error) bytes new left (final (ended offset)) d e r w n = absurd r
-  answered eof (Err error) bytes new left (final (fault f)) d e r w n = (
+      → GoesAlong start features eof given events x bytes new rest
+  answered eof (Ok (NeedMoreData hint)) bytes new rest v d e r w n = absurd (asks_never p new hint v r)
+  answered eof (Ok (Parsed consumed payload)) bytes new rest (tile t) d e r w n =
+      tile_came eof t bytes rest payload new e (n ∙ r.0) w r.2 r.1
+  answered eof (Ok (Parsed consumed payload)) bytes new rest (final (ended offset)) d e r w n =
+      end_came eof offset bytes rest payload new d e (n ∙ r.0) r.1
+  answered eof (Ok (Parsed consumed payload)) bytes new rest (final (fault f)) d e r w n = absurd r
+  answered eof (Err error) bytes new rest (tile t) d e r w n = absurd r
+  answered eof (Err error) bytes new rest (final (ended offset)) d e r w n = absurd r
+  answered eof (Err error) bytes new rest (final (fault f)) d e r w n = (
     reads_each start features given p held events a eof (fault (fault_at error)) d (e ∙ ap (λ (y : FaultAt). final (fault y)) (sym r.0)),
-    along_same new left r.1 (w ∙ ap (λ (y : List ℕ). y ++ left) (nil_from_length bytes n)),
+    along_same new rest r.1 (w ∙ ap (λ (y : List ℕ). y ++ rest) (nil_from_length bytes n)),
   )
 
-  asked : (need hint : ℕ) (x : Result Chunk Error) (bytes : List ℕ) (new : ParserState) (left : List ℕ) → waiting (grammar_of p) held
-      ≡ wants need hint → AsksFor hint p x new → held ≡ bytes ++ left → length bytes ≡ taken_by x
-      → GoesAlong start features false given events x bytes new left
-  asked need hint (Ok (NeedMoreData some)) bytes new left e r w n =
-      let same : held ≡ left = w ∙ ap (λ (y : List ℕ). y ++ left) (nil_from_length bytes n) in (
+  asked : (need hint : ℕ) (x : Result Chunk Error) (bytes : List ℕ) (new : ParserState) (rest : List ℕ) → waiting (grammar_of p) held
+      ≡ wants need hint → AsksFor hint p x new → held ≡ bytes ++ rest → length bytes ≡ taken_by x
+      → GoesAlong start features false given events x bytes new rest
+  asked need hint (Ok (NeedMoreData some)) bytes new rest e r w n =
+      let same : held ≡ rest = w ∙ ap (λ (y : List ℕ). y ++ rest) (nil_from_length bytes n) in (
         (
           refl,
           (
@@ -246,25 +246,25 @@ module _ (start features : ℕ) (given : List ℕ) (p : ParserState) (held : Lis
                 (e ∙ ap (wants need) (sym r.0)),
           ),
         ),
-        along_same new left r.1 same,
+        along_same new rest r.1 same,
       )
-  asked need hint (Ok (Parsed consumed payload)) bytes new left e r w n = absurd r
-  asked need hint (Err error) bytes new left e r w n = absurd r
+  asked need hint (Ok (Parsed consumed payload)) bytes new rest e r w n = absurd r
+  asked need hint (Err error) bytes new rest e r w n = absurd r
 
-  answered_on : (eof : Bool) (x : Result Chunk Error) (bytes : List ℕ) (new : ParserState) (left : List ℕ) (u : Waiting)
-      → waiting (grammar_of p) held ≡ u → AnswersOn eof u p (verdict (grammar_of p) held) x new → held ≡ bytes ++ left → length bytes
+  answered_on : (eof : Bool) (x : Result Chunk Error) (bytes : List ℕ) (new : ParserState) (rest : List ℕ) (u : Waiting)
+      → waiting (grammar_of p) held ≡ u → AnswersOn eof u p (verdict (grammar_of p) held) x new → held ≡ bytes ++ rest → length bytes
       ≡ taken_by x
-      → GoesAlong start features eof given events x bytes new left
-  answered_on true x bytes new left u e r w n = answered true x bytes new left (verdict (grammar_of p) held) (inl refl) refl r w n
-  answered_on false x bytes new left enough e r w n = answered false x bytes new left (verdict (grammar_of p) held) (inr e) refl r w n
-  answered_on false x bytes new left (wants need hint) e r w n = asked need hint x bytes new left e r w n
+      → GoesAlong start features eof given events x bytes new rest
+  answered_on true x bytes new rest u e r w n = answered true x bytes new rest (verdict (grammar_of p) held) (inl refl) refl r w n
+  answered_on false x bytes new rest enough e r w n = answered false x bytes new rest (verdict (grammar_of p) held) (inr e) refl r w n
+  answered_on false x bytes new rest (wants need hint) e r w n = asked need hint x bytes new rest e r w n
 
-  pub goes_along : (eof : Bool) (x : Result Chunk Error) (bytes : List ℕ) (new : ParserState) (left : List ℕ)
-      → start + length given < 2 ^ 64 → ParseAnswer p eof held x new → held ≡ bytes ++ left → length bytes ≡ taken_by x
-      → GoesAlong start features eof given events x bytes new left
-  goes_along eof x bytes new left l r w n =
+  pub goes_along : (eof : Bool) (x : Result Chunk Error) (bytes : List ℕ) (new : ParserState) (rest : List ℕ)
+      → start + length given < 2 ^ 64 → ParseAnswer p eof held x new → held ≡ bytes ++ rest → length bytes ≡ taken_by x
+      → GoesAlong start features eof given events x bytes new rest
+  goes_along eof x bytes new rest l r w n =
       let o = ends_at start features given p held events a in
-      answered_on eof x bytes new left (waiting (grammar_of p) held) refl
+      answered_on eof x bytes new rest (waiting (grammar_of p) held) refl
       ((as_table p new eof held x r).within (omega (arith, o, l))) w n
 
 -- ---- the same is answered
@@ -331,8 +331,8 @@ answers_go_along = record {
   more = pushed;
   ends = ends_at;
   first = λ start features given p held events eof a. events_begin start features given p held events a eof;
-  answers = λ start features given p held events eof answer bytes new left a l r w n.
-      goes_along start features given p held events a eof answer bytes new left l r w n;
+  answers = λ start features given p held events eof answer bytes new rest a l r w n.
+      goes_along start features given p held events a eof answer bytes new rest l r w n;
   cut_short = λ start features given p held events eof hint a u. undecided_ends start features given p held events a eof hint u;
   consumed = consumed;
   consumes = consumes;

@@ -35,17 +35,17 @@ pub record Takes (xs : List ℕ) (t : Tile) : Type 0 where
   pub split : xs ≡ t.bytes ++ rest
 
 takes_at : (h : Bool) (p : ParserState) (xs : List ℕ) (t : Tile)
-    → verdict (cond h (header_grammar p.offset) (inside (known_context p) p.bodies p.left p.offset)) xs ≡ tile t → Takes xs t
+    → verdict (cond h (header_grammar p.offset) (inside (known_context p) p.bodies p.code_bytes p.offset)) xs ≡ tile t → Takes xs t
 takes_at true p xs t e =
     let c : Cut (header_grammar p.offset) xs t = verdict-cut (header_grammar p.offset) (Guarded-header p.offset) xs t e in
     record { some = least_header p.offset xs t e; rest = c.rest; split = c.split }
 takes_at false p xs t e =
-    let b : Bool = nat_eq (p.bodies + p.left) 0 in
-    let c : Cut (inside (known_context p) p.bodies p.left p.offset) xs t =
-    verdict-cut (inside (known_context p) p.bodies p.left p.offset)
-    (Guarded-inside_at (nat_eq (p.bodies + p.left) 0) (known_context p) p.bodies p.left p.offset) xs t e in
+    let b : Bool = nat_eq (p.bodies + p.code_bytes) 0 in
+    let c : Cut (inside (known_context p) p.bodies p.code_bytes p.offset) xs t =
+    verdict-cut (inside (known_context p) p.bodies p.code_bytes p.offset)
+    (Guarded-inside_at (nat_eq (p.bodies + p.code_bytes) 0) (known_context p) p.bodies p.code_bytes p.offset) xs t e in
     record {
-      some = least_inside (nat_eq (p.bodies + p.left) 0) (known_context p) p.bodies p.left p.offset xs t e;
+      some = least_inside (nat_eq (p.bodies + p.code_bytes) 0) (known_context p) p.bodies p.code_bytes p.offset xs t e;
       rest = c.rest;
       split = c.split;
     }

@@ -77,9 +77,9 @@ code_read context size p q count payload h l w report =
     let o : q.offset ≡ p.offset + m.used = ap (λ (x : Place). x.offset) m.after in
     let from : p.offset ≡ p.offset + m.used - m.used = omega arith in
     let to : p.offset + size ≡ p.offset + m.used + (size - m.used) = omega arith in
-    let left : p.offset + size - q.offset ≡ size - m.used = omega arith in
+    let code_bytes : p.offset + size - q.offset ≡ size - m.used = omega arith in
     let said : IsPayload (code_start count (p.offset + m.used - m.used) (p.offset + m.used + (size - m.used)) (size - m.used)) payload =
-    (report.0 ∙ (λ i. code_start count (from i) (to i) (left i)), report.1) in
+    (report.0 ∙ (λ i. code_start count (from i) (to i) (code_bytes i)), report.1) in
     counted_right context size p q count (Ok payload) q m l (λ s.
     report_right s (advanced m.used p) (wrong_count context p.offset count) _ (Ok payload) q w
     (report_whole s (advanced m.used p) (Grammar.code_start count m.used (size - m.used)) payload q m.after said))
@@ -111,66 +111,71 @@ right_count context offset count d n = rw (← d, ← lacks_one context count fa
 -- ---- a body
 
 -- where a body is left
-a_body : (bodies left offset : ℕ) → 0 < bodies → body_grammar bodies left offset
-    ≡ u32_field offset (λ size width. body_of offset left size width)
+a_body : (bodies code_bytes offset : ℕ) → 0 < bodies → body_grammar bodies code_bytes offset
+    ≡ u32_field offset (λ size width. body_of offset code_bytes size width)
 unfolding body_grammar
-a_body zero left offset l = absurd (omega arith)
-a_body (suc n) left offset l = refl
+a_body zero code_bytes offset l = absurd (omega arith)
+a_body (suc n) code_bytes offset l = refl
 
-body_there : (bodies left : ℕ) (p : Place) (r : Result Payload Error) (a : Place) → 0 < bodies
-    → ReadsByGrammar (u32_field p.offset (λ size width. body_of p.offset left size width)) p r a
-    → ReadsByGrammar (body_grammar bodies left p.offset) p r a
-body_there bodies left p r a l h = subst (λ (g : Grammar). ReadsByGrammar g p r a) (sym (a_body bodies left p.offset l)) h
+body_there : (bodies code_bytes : ℕ) (p : Place) (r : Result Payload Error) (a : Place) → 0 < bodies
+    → ReadsByGrammar (u32_field p.offset (λ size width. body_of p.offset code_bytes size width)) p r a
+    → ReadsByGrammar (body_grammar bodies code_bytes p.offset) p r a
+body_there bodies code_bytes p r a l h = subst (λ (g : Grammar). ReadsByGrammar g p r a) (sym (a_body bodies code_bytes p.offset l)) h
 
 -- none is left
-pub no_body_left : (bodies left : ℕ) (p : Place) (e : Error) (a : Place) → bodies ≡ 0 → fault_at e ≡ at_offset TrailingCode p.offset
-    → hint_of e ≡ None → ReadsByGrammar (body_grammar bodies left p.offset) p (Err e) a
+pub no_body_left : (bodies code_bytes : ℕ) (p : Place) (e : Error) (a : Place) → bodies ≡ 0 → fault_at e ≡ at_offset TrailingCode p.offset
+    → hint_of e ≡ None → ReadsByGrammar (body_grammar bodies code_bytes p.offset) p (Err e) a
 unfolding body_grammar
-no_body_left zero left p e a z f hint = λ s. report_stops s p (at_offset TrailingCode p.offset) e a f hint
-no_body_left (suc n) left p e a z f hint = absurd (omega arith)
+no_body_left zero code_bytes p e a z f hint = λ s. report_stops s p (at_offset TrailingCode p.offset) e a f hint
+no_body_left (suc n) code_bytes p e a z f hint = absurd (omega arith)
 
 -- a size that is not read
-pub body_no_size : (bodies left : ℕ) (p : Place) (e : Error) (a : Place) → 0 < bodies → unsigned_at VarU32 p ≡ Err (fault_at e) → hint_of e
-    ≡ hint_at 1 (fault_at e).fault → ReadsByGrammar (body_grammar bodies left p.offset) p (Err e) a
-body_no_size bodies left p e a l h hint = body_there bodies left p (Err e) a l
-    (λ s. report_no_number s p (λ size width. body_of p.offset left size width) e a h hint)
+pub body_no_size : (bodies code_bytes : ℕ) (p : Place) (e : Error) (a : Place) → 0 < bodies → unsigned_at VarU32 p ≡ Err (fault_at e)
+    → hint_of e
+    ≡ hint_at 1 (fault_at e).fault → ReadsByGrammar (body_grammar bodies code_bytes p.offset) p (Err e) a
+body_no_size bodies code_bytes p e a l h hint = body_there bodies code_bytes p (Err e) a l
+    (λ s. report_no_number s p (λ size width. body_of p.offset code_bytes size width) e a h hint)
 
 -- after a size, by whether the body passes its section
-body_sized : (bodies left : ℕ) (p q : Place) (size : ℕ) (past : Bool) (r : Result Payload Error) (a : Place) (m : ReadNumber p size q)
-    → 0 < bodies → nat_lt left (q.offset - p.offset + size) ≡ past
+body_sized : (bodies code_bytes : ℕ) (p q : Place) (size : ℕ) (past : Bool) (r : Result Payload Error) (a : Place) (m : ReadNumber p size q)
+    → 0 < bodies → nat_lt code_bytes (q.offset - p.offset + size) ≡ past
     → ((s : ℕ) → MatchesGrammar s (advanced m.used p) (check (when past (at_offset UnexpectedEof p.offset))
     (bytes size (p.offset + m.used) (λ content. accept (Grammar.code_entry content)))) r a)
-    → ReadsByGrammar (body_grammar bodies left p.offset) p r a
-body_sized bodies left p q size past r a m l h next =
+    → ReadsByGrammar (body_grammar bodies code_bytes p.offset) p r a
+body_sized bodies code_bytes p q size past r a m l h next =
     let o : q.offset ≡ p.offset + m.used = ap (λ (x : Place). x.offset) m.after in
     let n : q.offset - p.offset + size ≡ m.used + size = omega arith in
-    let w : nat_lt left (m.used + size) ≡ past = subst (λ (x : ℕ). nat_lt left x ≡ past) n h in
-    body_there bodies left p r a l (λ s. report_number s p p.offset (λ size width. body_of p.offset left size width) r a size m.used m.reads
+    let w : nat_lt code_bytes (m.used + size) ≡ past = subst (λ (x : ℕ). nat_lt code_bytes x ≡ past) n h in
+    body_there bodies code_bytes p r a l
+    (λ s. report_number s p p.offset (λ size width. body_of p.offset code_bytes size width) r a size m.used m.reads
     (rw w (next s)))
 
 -- whether a body passes its section, by the same numbers
-pub past_same : {l left b q a p : ℕ} {found past : Bool} (size : ℕ) → l ≡ left → b ≡ q → a ≡ p → found ≡ nat_lt l (b - a + size) → found
-    ≡ past → nat_lt left (q - p + size) ≡ past
+pub past_same : {l code_bytes b q a p : ℕ} {found past : Bool} (size : ℕ) → l ≡ code_bytes → b ≡ q → a ≡ p
+    → found ≡ nat_lt l (b - a + size) → found
+    ≡ past → nat_lt code_bytes (q - p + size) ≡ past
 past_same size x y z e f = (λ i. nat_lt (sym x i) (sym y i - sym z i + size)) ∙ (sym e ∙ f)
 
 -- a body that passes its section
-pub body_past : (bodies left : ℕ) (p q : Place) (size : ℕ) (e : Error) (a : Place) → 0 < bodies → unsigned_at VarU32 p ≡ Ok (size, q)
-    → nat_lt left (q.offset - p.offset + size) ≡ true
-    → fault_at e ≡ at_offset UnexpectedEof p.offset → hint_of e ≡ None → ReadsByGrammar (body_grammar bodies left p.offset) p (Err e) a
-body_past bodies left p q size e a l h past f hint =
+pub body_past : (bodies code_bytes : ℕ) (p q : Place) (size : ℕ) (e : Error) (a : Place) → 0 < bodies → unsigned_at VarU32 p ≡ Ok (size, q)
+    → nat_lt code_bytes (q.offset - p.offset + size) ≡ true
+    → fault_at e ≡ at_offset UnexpectedEof p.offset → hint_of e ≡ None
+    → ReadsByGrammar (body_grammar bodies code_bytes p.offset) p (Err e) a
+body_past bodies code_bytes p q size e a l h past f hint =
     let m : ReadNumber p size q = read_number p size q h in
-    body_sized bodies left p q size true (Err e) a m l past (λ s.
+    body_sized bodies code_bytes p q size true (Err e) a m l past (λ s.
     report_wrong s (advanced m.used p) (Some (at_offset UnexpectedEof p.offset)) _ e a (ap Some (sym f)) hint)
 
 -- bytes that are missing of a body that lies in its section
-pub body_missing : (bodies left : ℕ) (p q : Place) (size : ℕ) (e : Error) (a : Place) → 0 < bodies → unsigned_at VarU32 p ≡ Ok (size, q)
-    → nat_lt left (q.offset - p.offset + size) ≡ false
+pub body_missing : (bodies code_bytes : ℕ) (p q : Place) (size : ℕ) (e : Error) (a : Place) → 0 < bodies
+    → unsigned_at VarU32 p ≡ Ok (size, q)
+    → nat_lt code_bytes (q.offset - p.offset + size) ≡ false
     → content_at size q ≡ Err (fault_at e) → hint_of e ≡ hint_at (missing_at size q) (fault_at e).fault
-    → ReadsByGrammar (body_grammar bodies left p.offset) p (Err e) a
-body_missing bodies left p q size e a l h past c hint =
+    → ReadsByGrammar (body_grammar bodies code_bytes p.offset) p (Err e) a
+body_missing bodies code_bytes p q size e a l h past c hint =
     let m : ReadNumber p size q = read_number p size q h in
     let t = too_few size (advanced m.used p) (fault_at e) (subst (λ (x : Place). content_at size x ≡ Err (fault_at e)) m.after c) in
-    body_sized bodies left p q size false (Err e) a m l past (λ s. report_right s (advanced m.used p) None _ (Err e) a refl (
+    body_sized bodies code_bytes p q size false (Err e) a m l past (λ s. report_right s (advanced m.used p) None _ (Err e) a refl (
     report_missing s (advanced m.used p) size (p.offset + m.used) _ e a t.0 t.1
     (subst (λ (x : Place). hint_of e ≡ hint_at (missing_at size x) (fault_at e).fault) m.after hint)))
 
@@ -180,10 +185,12 @@ body_content : (p q : Place) (size : ℕ) (w : Window) (b : Place) (m : ReadNumb
 body_content p q size w b m h = has_content size (advanced m.used p) w b (subst (λ (x : Place). content_at size x ≡ Ok (w, b)) m.after h)
 
 -- a body
-pub body_read : (bodies left : ℕ) (p q : Place) (size : ℕ) (w : Window) (b : Place) (payload : Payload) → 0 < bodies → unsigned_at VarU32 p
-    ≡ Ok (size, q) → nat_lt left (q.offset - p.offset + size) ≡ false
-    → content_at size q ≡ Ok (w, b) → IsPayload (code_entry w) payload → ReadsByGrammar (body_grammar bodies left p.offset) p (Ok payload) b
-body_read bodies left p q size w b payload l h past k report =
+pub body_read : (bodies code_bytes : ℕ) (p q : Place) (size : ℕ) (w : Window) (b : Place) (payload : Payload) → 0 < bodies
+    → unsigned_at VarU32 p
+    ≡ Ok (size, q) → nat_lt code_bytes (q.offset - p.offset + size) ≡ false
+    → content_at size q ≡ Ok (w, b) → IsPayload (code_entry w) payload
+    → ReadsByGrammar (body_grammar bodies code_bytes p.offset) p (Ok payload) b
+body_read bodies code_bytes p q size w b payload l h past k report =
     let m : ReadNumber p size q = read_number p size q h in
     let c : HasContent size (advanced m.used p) w b = body_content p q size w b m k in
     let n : length (take size (drop m.used p.rest)) ≡ size = length-take-le size (drop m.used p.rest) c.there in
@@ -193,6 +200,7 @@ body_read bodies left p q size w b payload l h past k report =
       report.0 ∙ (ap code_entry c.window ∙ ap (λ (x : ℕ). code_entry (window_over p.features x (take size (drop m.used p.rest)))) from),
       report.1,
     ) in
-    body_sized bodies left p q size false (Ok payload) b m l past (λ s. report_right s (advanced m.used p) None _ (Ok payload) b refl (
+    body_sized bodies code_bytes p q size false (Ok payload) b m l past
+    (λ s. report_right s (advanced m.used p) None _ (Ok payload) b refl (
     report_bytes s (advanced m.used p) size (p.offset + m.used) _ (Ok payload) b c.there (
     report_whole s (advanced size (advanced m.used p)) (Grammar.code_entry (take size (drop m.used p.rest))) payload b c.after said)))

@@ -10,4 +10,4 @@ use Rattle.wasm_grammar.proofs.parts.Bounds.{Between, verdict_lies, Within-any}
 pub parser_fault_lies : (p : ParserState) (rest : List ℕ) (f : FaultAt) → verdict (grammar_of p) rest ≡ final (fault f)
     → Between p.offset (p.offset + length rest) f.offset
 parser_fault_lies p rest f v = verdict_lies p.offset p.offset (grammar_of p) rest f
-    (Within-any p.expects_header (nat_eq (p.bodies + p.left) 0) (known_context p) p.bodies p.left p.offset) v
+    (Within-any p.expects_header (nat_eq (p.bodies + p.code_bytes) 0) (known_context p) p.bodies p.code_bytes p.offset) v

@@ -112,9 +112,9 @@ inside_fits true p m l o = section_fits p o
 inside_fits false p m l o = body_fits m l o
 
 parser_fits : (h : Bool) (p : ParserState) → AllFit p.offset (cond h (header_grammar p.offset)
-    (inside (known_context p) p.bodies p.left p.offset))
+    (inside (known_context p) p.bodies p.code_bytes p.offset))
 parser_fits true p = header_fits p.offset
-parser_fits false p = inside_fits _ (known_context p) p.bodies p.left p.offset
+parser_fits false p = inside_fits _ (known_context p) p.bodies p.code_bytes p.offset
 
 -- what a tile begins that comes next ends below the top
 pub tile_fits : (p : ParserState) (xs : List ℕ) (t : Tile) → verdict (grammar_of p) xs ≡ tile t → Fits (p.offset + length t.bytes) t.shape

@@ -44,53 +44,55 @@ number_good p v q (read w k) h =
 number_good p v q (bad f i) h = cc
 number_good p v q short h = cc
 
-single_unread : (left : Fault) (p : Place) (f : FaultAt) (n : Number) → in_window p n ≡ Err f → wrong_single left p.offset p.rest n ≡ Some f
-single_unread left p f (read v k) h = cc
-single_unread left p f (bad g i) h = ap Some (refused_as (at_offset g (p.offset + i)) f h)
-single_unread left p f short h = ap Some (refused_as (at_offset UnexpectedEof (p.offset + length p.rest)) f h)
+single_unread : (trailing : Fault) (p : Place) (f : FaultAt) (n : Number) → in_window p n ≡ Err f
+    → wrong_single trailing p.offset p.rest n ≡ Some f
+single_unread trailing p f (read v k) h = cc
+single_unread trailing p f (bad g i) h = ap Some (refused_as (at_offset g (p.offset + i)) f h)
+single_unread trailing p f short h = ap Some (refused_as (at_offset UnexpectedEof (p.offset + length p.rest)) f h)
 
-single_good : (left : Fault) (p : Place) (v : ℕ) (q : Place) (n : Number) → in_window p n ≡ Ok (v, q) → length q.rest ≡ 0
-    → (wrong_single left p.offset p.rest n ≡ None) × (value_of n ≡ v)
-single_good left p v q (read w k) h l =
+single_good : (trailing : Fault) (p : Place) (v : ℕ) (q : Place) (n : Number) → in_window p n ≡ Ok (v, q) → length q.rest ≡ 0
+    → (wrong_single trailing p.offset p.rest n ≡ None) × (value_of n ≡ v)
+single_good trailing p v q (read w k) h l =
     let a : ℕ × Place = (w, advanced k p) in
     let z : a ≡ (v, q) = cc in
     let r : length (drop k p.rest) ≡ length q.rest = ap (λ (x : ℕ × Place). length x.1.rest) z in
     let t : nat_lt k (length p.rest) ≡ false = le-ltb k (length p.rest) (omega (arith, length-drop k p.rest)) in
     (rw t refl, ap (λ (x : ℕ × Place). x.0) z)
-single_good left p v q (bad f i) h l = cc
-single_good left p v q short h l = cc
+single_good trailing p v q (bad f i) h l = cc
+single_good trailing p v q short h l = cc
 
-single_more : (left : Fault) (p : Place) (v : ℕ) (q : Place) (f : FaultAt) (n : Number) → in_window p n ≡ Ok (v, q) → 0 < length q.rest → f
-    ≡ at_offset left q.offset → wrong_single left p.offset p.rest n ≡ Some f
-single_more left p v q f (read w k) h l e =
+single_more : (trailing : Fault) (p : Place) (v : ℕ) (q : Place) (f : FaultAt) (n : Number) → in_window p n ≡ Ok (v, q) → 0 < length q.rest
+    → f
+    ≡ at_offset trailing q.offset → wrong_single trailing p.offset p.rest n ≡ Some f
+single_more trailing p v q f (read w k) h l e =
     let a : ℕ × Place = (w, advanced k p) in
     let z : a ≡ (v, q) = cc in
     let r : length (drop k p.rest) ≡ length q.rest = ap (λ (x : ℕ × Place). length x.1.rest) z in
     let o : p.offset + k ≡ q.offset = ap (λ (x : ℕ × Place). x.1.offset) z in
     let t : nat_lt k (length p.rest) ≡ true = lt-ltb k (length p.rest) (omega (arith, length-drop k p.rest)) in
-    rw t (ap Some (ap (at_offset left) o ∙ sym e))
-single_more left p v q f (bad g i) h l e = cc
-single_more left p v q f short h l e = cc
+    rw t (ap Some (ap (at_offset trailing) o ∙ sym e))
+single_more trailing p v q f (bad g i) h l e = cc
+single_more trailing p v q f short h l e = cc
 
 -- ---- what a call that wants one number answers
 
-pub single_refused : (left : Fault) (p : Place) (f : FaultAt) → unsigned_at VarU32 p ≡ Err f
-    → wrong_single left p.offset p.rest (number VarU32 p.rest) ≡ Some f
+pub single_refused : (trailing : Fault) (p : Place) (f : FaultAt) → unsigned_at VarU32 p ≡ Err f
+    → wrong_single trailing p.offset p.rest (number VarU32 p.rest) ≡ Some f
 unfolding unsigned_at
-single_refused left p f h = single_unread left p f (number VarU32 p.rest) h
+single_refused trailing p f h = single_unread trailing p f (number VarU32 p.rest) h
 
 not_zero : (n : ℕ) → false ≡ nat_eq n 0 → 0 < n
 not_zero n e = grind (arith, nat_tests)
 
-pub single_left : (left : Fault) (p : Place) (v : ℕ) (q : Place) (e : Error) → unsigned_at VarU32 p ≡ Ok (v, q) → false
-    ≡ nat_eq (length q.rest) 0 → fault_at e ≡ at_offset left q.offset → ReadsSingleNumber left p (Err e)
+pub single_trailing : (trailing : Fault) (p : Place) (v : ℕ) (q : Place) (e : Error) → unsigned_at VarU32 p ≡ Ok (v, q) → false
+    ≡ nat_eq (length q.rest) 0 → fault_at e ≡ at_offset trailing q.offset → ReadsSingleNumber trailing p (Err e)
 unfolding unsigned_at
-single_left left p v q e h l f = single_more left p v q (fault_at e) (number VarU32 p.rest) h (not_zero (length q.rest) l) f
+single_trailing trailing p v q e h l f = single_more trailing p v q (fault_at e) (number VarU32 p.rest) h (not_zero (length q.rest) l) f
 
-pub single_read : (left : Fault) (p : Place) (v : ℕ) (q : Place) → unsigned_at VarU32 p ≡ Ok (v, q) → length q.rest ≡ 0
-    → ReadsSingleNumber left p (Ok v)
+pub single_read : (trailing : Fault) (p : Place) (v : ℕ) (q : Place) → unsigned_at VarU32 p ≡ Ok (v, q) → length q.rest ≡ 0
+    → ReadsSingleNumber trailing p (Ok v)
 unfolding unsigned_at
-single_read left p v q h l = single_good left p v q (number VarU32 p.rest) h l
+single_read trailing p v q h l = single_good trailing p v q (number VarU32 p.rest) h l
 
 -- ---- contents
 
@@ -220,8 +222,9 @@ items_refused context id size p w q e a h n hint =
     (subst (λ (x : Place). in_window x (number VarU32 x.rest) ≡ Err (fault_at e)) at n)) hint
 
 -- a form whose content is one number: what is wrong with it, and what is reported of it
-pub record IsSingle (left : Fault) (form : Form) (says : (value from to : ℕ) → Report) : Type 0 where
-  pub wrong : (offset : ℕ) (content : List ℕ) → wrong_content form offset content ≡ wrong_single left offset content (number VarU32 content)
+pub record IsSingle (trailing : Fault) (form : Form) (says : (value from to : ℕ) → Report) : Type 0 where
+  pub wrong : (offset : ℕ) (content : List ℕ)
+      → wrong_content form offset content ≡ wrong_single trailing offset content (number VarU32 content)
   pub counts : (context : SectionContext) (id offset : ℕ) (content : List ℕ) → wrong_data context form id offset content ≡ None
   pub report : (features from to id : ℕ) (content : List ℕ) → section_report features from to form id content
       ≡ says (count_of content) from to
@@ -242,16 +245,16 @@ data_count_single = record {
   report = λ features from to id content. refl;
 }
 
-module _ (left : Fault) (form : Form) (says : (value from to : ℕ) → Report) (f : IsSingle left form says) where
+module _ (trailing : Fault) (form : Form) (says : (value from to : ℕ) → Report) (f : IsSingle trailing form says) where
   pub single_section : (context : SectionContext) (id size : ℕ) (p : Place) (w : Window) (q : Place) (v : ℕ) (payload : Payload)
-      → content_at size p ≡ Ok (w, q) → ReadsSingleNumber left (place w) (Ok v)
+      → content_at size p ≡ Ok (w, q) → ReadsSingleNumber trailing (place w) (Ok v)
       → IsPayload (says v w.start (w.start + length w.bytes)) payload
       → ReadsByGrammar (whole_grammar context form id p.offset size) p (Ok payload) q
   single_section context id size p w q v payload h n report =
       let k : HasContent size p w q = has_content size p w q h in
       let l : length (take size p.rest) ≡ size = length-take-le size p.rest k.there in
-      let g : ReadsSingleNumber left (content_place size p) (Ok v) =
-      subst (λ (x : Place). ReadsSingleNumber left x (Ok v)) (at_content size p w k.window) n in
+      let g : ReadsSingleNumber trailing (content_place size p) (Ok v) =
+      subst (λ (x : Place). ReadsSingleNumber trailing x (Ok v)) (at_content size p w k.window) n in
       let at_w : IsPayload (says v p.offset (p.offset + length (take size p.rest))) payload =
       subst (λ (x : Window). IsPayload (says v x.start (x.start + length x.bytes)) payload) k.window report in
       whole_good context form id size p w q payload h (f.wrong p.offset (take size p.rest) ∙ g.0)
@@ -262,9 +265,9 @@ module _ (left : Fault) (form : Form) (says : (value from to : ℕ) → Report) 
       )
 
   pub single_section_refused : (context : SectionContext) (id size : ℕ) (p : Place) (w : Window) (q : Place) (e : Error) (a : Place)
-      → content_at size p ≡ Ok (w, q) → ReadsSingleNumber left (place w) (Err e)
+      → content_at size p ≡ Ok (w, q) → ReadsSingleNumber trailing (place w) (Err e)
       → hint_of e ≡ None → ReadsByGrammar (whole_grammar context form id p.offset size) p (Err e) a
   single_section_refused context id size p w q e a h n hint =
       let k : HasContent size p w q = has_content size p w q h in
       whole_bad context form id size p w q e a h (f.wrong p.offset (take size p.rest)
-      ∙ subst (λ (x : Place). ReadsSingleNumber left x (Err e)) (at_content size p w k.window) n) hint
+      ∙ subst (λ (x : Place). ReadsSingleNumber trailing x (Err e)) (at_content size p w k.window) n) hint

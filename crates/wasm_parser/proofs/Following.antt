@@ -54,17 +54,17 @@ gives_tile p new eof start prefix bytes s t v (Ok (Parsed consumed payload)) a =
 gives_tile p new eof start prefix bytes s t v (Err e) a = absurd a
 
 -- where a stream ends nothing of a code section is left
-ended_at : (h b : Bool) (p : ParserState) (bytes : List ℕ) (o : ℕ) → nat_eq (p.bodies + p.left) 0 ≡ b
+ended_at : (h b : Bool) (p : ParserState) (bytes : List ℕ) (o : ℕ) → nat_eq (p.bodies + p.code_bytes) 0 ≡ b
     → verdict (cond h (header_grammar p.offset) (cond b (section_grammar (known_context p) p.offset)
-    (body_grammar p.bodies p.left p.offset))) bytes ≡ final (ended o) → p.bodies + p.left ≡ 0
+    (body_grammar p.bodies p.code_bytes p.offset))) bytes ≡ final (ended o) → p.bodies + p.code_bytes ≡ 0
 ended_at true b p bytes o n v = absurd (header_end p.offset bytes o v)
-ended_at false b p bytes o n v = eqb-true _ _ (n ∙ (inside_end b (known_context p) p.bodies p.left p.offset bytes o v).0)
+ended_at false b p bytes o n v = eqb-true _ _ (n ∙ (inside_end b (known_context p) p.bodies p.code_bytes p.offset bytes o v).0)
 
-ended_code : (p : ParserState) (bytes : List ℕ) (o : ℕ) → verdict (grammar_of p) bytes ≡ final (ended o) → p.bodies + p.left ≡ 0
-ended_code p bytes o v = ended_at p.expects_header (nat_eq (p.bodies + p.left) 0) p bytes o refl v
+ended_code : (p : ParserState) (bytes : List ℕ) (o : ℕ) → verdict (grammar_of p) bytes ≡ final (ended o) → p.bodies + p.code_bytes ≡ 0
+ended_code p bytes o v = ended_at p.expects_header (nat_eq (p.bodies + p.code_bytes) 0) p bytes o refl v
 
 -- a parser that reported the end is where it was
-at_the_end : (p : ParserState) (start : ℕ) (prefix : List ℕ) → IsStateAfter p start prefix → p.bodies + p.left ≡ 0
+at_the_end : (p : ParserState) (start : ℕ) (prefix : List ℕ) → IsStateAfter p start prefix → p.bodies + p.code_bytes ≡ 0
     → IsStateAfter (ended_state p) start prefix
 at_the_end p start prefix s z = record {
   tiles = s.tiles;
@@ -79,9 +79,9 @@ at_the_end p start prefix s z = record {
   datas = s.datas;
   data_counts = s.data_counts;
   bodies = s.bodies;
-  left = s.left;
+  code_bytes = s.code_bytes;
   in_code = λ e. cc;
-  open_code = λ l. let a = s.bodies in let b = s.left in absurd (omega (arith, a, b, z, l));
+  open_code = λ l. let a = s.bodies in let b = s.code_bytes in absurd (omega (arith, a, b, z, l));
 }
 
 gives_last : (p new : ParserState) (eof : Bool) (start : ℕ) (prefix bytes : List ℕ) → IsStateAfter p start prefix → (end : Ending)

@@ -43,13 +43,14 @@ pub next_header : (p : ParserState) (here after : Place) (r : Result Payload Err
 next_header p here after r h o m = matches p here after r (header_grammar p.offset) (rw h refl)
     (subst (λ (x : ℕ). MatchesGrammar x here (header_grammar x) r after) o m)
 
-pub next_body : (p : ParserState) (here after : Place) (r : Result Payload Error) → p.expects_header ≡ false → nat_eq (p.bodies + p.left) 0
+pub next_body : (p : ParserState) (here after : Place) (r : Result Payload Error) → p.expects_header ≡ false
+    → nat_eq (p.bodies + p.code_bytes) 0
     ≡ false → here.offset ≡ p.offset → ReadsBody p here r after → ReadsNext p here r after
-next_body p here after r h c o m = matches p here after r (body_grammar p.bodies p.left p.offset) (rw (h, c) refl)
-    (subst (λ (x : ℕ). MatchesGrammar p.offset here (body_grammar p.bodies p.left x) r after) o (m p.offset))
+next_body p here after r h c o m = matches p here after r (body_grammar p.bodies p.code_bytes p.offset) (rw (h, c) refl)
+    (subst (λ (x : ℕ). MatchesGrammar p.offset here (body_grammar p.bodies p.code_bytes x) r after) o (m p.offset))
 
 pub next_section : (p : ParserState) (here after : Place) (r : Result Payload Error) → p.expects_header ≡ false
-    → nat_eq (p.bodies + p.left) 0 ≡ true → here.offset ≡ p.offset → ReadsNextSection p here r after → ReadsNext p here r after
+    → nat_eq (p.bodies + p.code_bytes) 0 ≡ true → here.offset ≡ p.offset → ReadsNextSection p here r after → ReadsNext p here r after
 next_section p here after r h c o m =
     let e : section_grammar (known_context p) here.offset ≡ grammar_of p = ap (section_grammar (known_context p)) o
     ∙ sym (rw (h, c) refl) in
@@ -62,7 +63,8 @@ next_section p here after r h c o m =
 
 -- what is left of a code section after a tile ends below the top
 left_fits : (p : ParserState) (xs : List ℕ) (t : Tile) (shape : Shape) → Fits (p.offset + length t.bytes) shape
-    → p.offset + length t.bytes < 2 ^ 64 → p.offset + p.left < 2 ^ 64 → p.offset + length t.bytes + bytes_after t shape p.left < 2 ^ 64
+    → p.offset + length t.bytes < 2 ^ 64 → p.offset + p.code_bytes < 2 ^ 64
+    → p.offset + length t.bytes + bytes_after t shape p.code_bytes < 2 ^ 64
 left_fits p xs t (version num encoding) f l m = omega arith
 left_fits p xs t (section form id content) f l m = omega arith
 left_fits p xs t (code_start count width size) f l m = f
@@ -73,44 +75,45 @@ custom_misses : (f from to a : ℕ) (content : List ℕ) (n : Name) (b : ℕ) �
 custom_misses f from to a content (named text used) b = refl
 custom_misses f from to a content (refused x place) b = refl
 
-missing_same : (f g s from to : ℕ) (shape : Shape) (taken left : ℕ) → missing_bytes (tile_report f s from shape) taken left
-    ≡ missing_bytes (tile_report g s to shape) taken left
-missing_same f g s from to (version num encoding) taken left = refl
-missing_same f g s from to (section custom id content) taken left =
-    custom_misses f (from - length content) from taken content (name (Some name_limit) content) left
-    ∙ sym (custom_misses g (to - length content) to taken content (name (Some name_limit) content) left)
-missing_same f g s from to (section items id content) taken left = refl
-missing_same f g s from to (section index id content) taken left = refl
-missing_same f g s from to (section data_count id content) taken left = refl
-missing_same f g s from to (section unknown id content) taken left = refl
-missing_same f g s from to (code_start count width size) taken left = refl
-missing_same f g s from to (code_entry content) taken left = refl
+missing_same : (f g s from to : ℕ) (shape : Shape) (taken code_bytes : ℕ) → missing_bytes (tile_report f s from shape) taken code_bytes
+    ≡ missing_bytes (tile_report g s to shape) taken code_bytes
+missing_same f g s from to (version num encoding) taken code_bytes = refl
+missing_same f g s from to (section custom id content) taken code_bytes =
+    custom_misses f (from - length content) from taken content (name (Some name_limit) content) code_bytes
+    ∙ sym (custom_misses g (to - length content) to taken content (name (Some name_limit) content) code_bytes)
+missing_same f g s from to (section items id content) taken code_bytes = refl
+missing_same f g s from to (section index id content) taken code_bytes = refl
+missing_same f g s from to (section data_count id content) taken code_bytes = refl
+missing_same f g s from to (section unknown id content) taken code_bytes = refl
+missing_same f g s from to (code_start count width size) taken code_bytes = refl
+missing_same f g s from to (code_entry content) taken code_bytes = refl
 
 fits_at : (p : ParserState) (here after : Place) (payload : Payload) (end : ℕ) (v : Verdict) → verdict (grammar_of p) here.rest ≡ v
     → MatchesVerdict p.offset here v (Ok payload) after → here.offset ≡ p.offset → end ≡ after.offset → end < 2 ^ 64
-    → p.offset + p.left < 2 ^ 64
-    → end + missing_bytes (report_of payload) (end - p.offset) p.left < 2 ^ 64
+    → p.offset + p.code_bytes < 2 ^ 64
+    → end + missing_bytes (report_of payload) (end - p.offset) p.code_bytes < 2 ^ 64
 fits_at p here after payload end (tile t) e m o at l k =
     let a : after.offset ≡ here.offset + length t.bytes = ap (λ (x : Place). x.offset) m.0 in
     let to : end ≡ p.offset + length t.bytes = at ∙ (a ∙ ap (λ (x : ℕ). x + length t.bytes) o) in
     let r : report_of payload ≡ tile_report here.features p.offset (here.offset + length t.bytes) t.shape = m.1.0 in
     let s : missing_bytes (tile_report p.features p.offset (p.offset + length t.bytes) t.shape) (p.offset + length t.bytes - p.offset)
-    p.left ≡ bytes_after t t.shape p.left = ap (λ (x : ParserState). x.left) (state_same p here.rest t e) in
+    p.code_bytes ≡ bytes_after t t.shape p.code_bytes = ap (λ (x : ParserState). x.code_bytes) (state_same p here.rest t e) in
     let fits = left_fits p here.rest t t.shape (tile_fits p here.rest t e) (omega arith) k in
-    let same : missing_bytes (report_of payload) (end - p.offset) p.left
+    let same : missing_bytes (report_of payload) (end - p.offset) p.code_bytes
     ≡ missing_bytes (tile_report p.features p.offset (p.offset + length t.bytes) t.shape) (p.offset + length t.bytes - p.offset)
-    p.left =
-    ap (λ x. missing_bytes x (end - p.offset) p.left) r ∙ (missing_same here.features p.features p.offset (here.offset + length t.bytes)
-    (p.offset + length t.bytes) t.shape (end - p.offset) p.left
-    ∙ ap (λ (x : ℕ). missing_bytes (tile_report p.features p.offset (p.offset + length t.bytes) t.shape) (x - p.offset) p.left) to) in
+    p.code_bytes =
+    ap (λ x. missing_bytes x (end - p.offset) p.code_bytes) r
+    ∙ (missing_same here.features p.features p.offset (here.offset + length t.bytes)
+    (p.offset + length t.bytes) t.shape (end - p.offset) p.code_bytes
+    ∙ ap (λ (x : ℕ). missing_bytes (tile_report p.features p.offset (p.offset + length t.bytes) t.shape) (x - p.offset) p.code_bytes) to) in
     let both = same ∙ s in
     omega (arith, fits, both, to)
 fits_at p here after payload end (final (fault f)) e m o at l k = absurd m
 fits_at p here after payload end (final (ended x)) e m o at l k = absurd m
 
 pub advance_fits : (p : ParserState) (here after : Place) (payload : Payload) (end : ℕ) → ReadsNext p here (Ok payload) after → here.offset
-    ≡ p.offset → end ≡ after.offset → end < 2 ^ 64 → p.offset + p.left < 2 ^ 64
-    → end + missing_bytes (report_of payload) (end - p.offset) p.left < 2 ^ 64
+    ≡ p.offset → end ≡ after.offset → end < 2 ^ 64 → p.offset + p.code_bytes < 2 ^ 64
+    → end + missing_bytes (report_of payload) (end - p.offset) p.code_bytes < 2 ^ 64
 advance_fits p here after payload end m o at l k = fits_at p here after payload end (verdict (grammar_of p) here.rest) refl m.0 o at l k
 
 answers_at : (p q : ParserState) (eof : Bool) (here after : Place) (payload : Payload) (end : ℕ) (v : Verdict)
@@ -144,8 +147,8 @@ at_window p w bytes r after e m = subst (λ (x : Window). ReadsNext p (place x) 
 
 pub window_fits : (p : ParserState) (w : Window) (bytes : List ℕ) (after : Place) (payload : Payload) (end : ℕ) → w
     ≡ window_over p.features p.offset bytes → ReadsNext p (place w) (Ok payload) after → end ≡ after.offset → end < 2 ^ 64
-    → p.offset + p.left < 2 ^ 64
-    → end + missing_bytes (report_of payload) (end - p.offset) p.left < 2 ^ 64
+    → p.offset + p.code_bytes < 2 ^ 64
+    → end + missing_bytes (report_of payload) (end - p.offset) p.code_bytes < 2 ^ 64
 window_fits p w bytes after payload end e m at l k =
     advance_fits p (place (window_over p.features p.offset bytes)) after payload end (at_window p w bytes (Ok payload) after e m)
     (add-zero p.offset) at l k

@@ -33,7 +33,7 @@ at_section_parts false false e = cc
 at_section_parts true c e = cc
 
 -- the whole rest is nothing
-at_end : (p : ParserState) → p.expects_header ≡ false → nat_eq (p.bodies + p.left) 0 ≡ true → verdict (grammar_of p) []
+at_end : (p : ParserState) → p.expects_header ≡ false → nat_eq (p.bodies + p.code_bytes) 0 ≡ true → verdict (grammar_of p) []
     ≡ final (end_at_section (known_context p) p.offset)
 unfolding section_grammar verdict
 at_end p h c = rw (h, c) refl
@@ -42,7 +42,7 @@ at_end p h c = rw (h, c) refl
 ends_as : (p q : ParserState) (e : Ending) (r : Result Chunk Error) → p.offset < 2 ^ 64 → is_at_section p ≡ true
     → end_at_section (known_context p) p.offset ≡ e → Answers p (final e) r q → ParseAnswer p true [] r q
 ends_as p q e r l h x a =
-    let t = at_section_parts p.expects_header (nat_eq (p.bodies + p.left) 0) h in
+    let t = at_section_parts p.expects_header (nat_eq (p.bodies + p.code_bytes) 0) h in
     from_table p q true [] r (record {
       past_the_top = λ k. absurd (omega arith);
       within = λ k. subst (λ (v : Verdict). Answers p v r q) (sym (at_end p t.0 t.1 ∙ ap final x)) a;
@@ -93,7 +93,7 @@ asks_at (id ∷ rest) p o hint h = by_magic (agree (id ∷ rest) magic) (nat_lt 
 
 grammar_at_section : (p : ParserState) → is_at_section p ≡ true → grammar_of p ≡ section_grammar (known_context p) p.offset
 grammar_at_section p h =
-    let t = at_section_parts p.expects_header (nat_eq (p.bodies + p.left) 0) h in
+    let t = at_section_parts p.expects_header (nat_eq (p.bodies + p.code_bytes) 0) h in
     rw (t.0, t.1) refl
 
 -- what is asked for is what is wanted
@@ -133,9 +133,10 @@ begun_elsewhere p eof rest h = record { some = λ a. cc; begun = λ e a. cc }
 -- ---- what was read is answered
 
 -- a tile that was read does not wait
-guarded_at : (h : Bool) (p : ParserState) → Guarded (cond h (header_grammar p.offset) (inside (known_context p) p.bodies p.left p.offset))
+guarded_at : (h : Bool) (p : ParserState)
+    → Guarded (cond h (header_grammar p.offset) (inside (known_context p) p.bodies p.code_bytes p.offset))
 guarded_at true p = Guarded-header p.offset
-guarded_at false p = Guarded-inside_at (nat_eq (p.bodies + p.left) 0) (known_context p) p.bodies p.left p.offset
+guarded_at false p = Guarded-inside_at (nat_eq (p.bodies + p.code_bytes) 0) (known_context p) p.bodies p.code_bytes p.offset
 
 pub decided_tile : (p : ParserState) (rest : List ℕ) (t : Tile) → verdict (grammar_of p) rest ≡ tile t → waiting (grammar_of p) rest
     ≡ enough

@@ -12,7 +12,8 @@ use Rattle.wasm_grammar.specs.EventRanges.{consumed_by}
 use Rattle.wasm_grammar.specs.Grammar.{Shape, version, section, code_start, code_entry, Tile, tile, SectionContext, verdict}
 use Rattle.wasm_grammar.specs.Grammar.{section_grammar, body_grammar}
 use Rattle.wasm_parser.specs.ParserState.{ParserState, IsStateAfter, greatest, ends_in_code, skippable_of, skipped_state}
-use Rattle.wasm_grammar.specs.Tiling.{is_start, bytes_of, encoding_of, counts, bodies_left, bytes_left, context_of, grammar, Faultless}
+use Rattle.wasm_grammar.specs.Tiling.{is_start, bytes_of, encoding_of, counts, bodies_to_come, bytes_to_come, context_of}
+use Rattle.wasm_grammar.specs.Tiling.{grammar, Faultless}
 use Rattle.wasm_grammar.specs.Reading as reading
 use Rattle.wasm_grammar.specs.Reading.{Event, tile_report, event_of, events_of}
 use Rattle.wasm_grammar.specs.Sections.{ReportsBody}
@@ -25,16 +26,18 @@ use Rattle.wasm_grammar.proofs.parts.Guarded.{tile_least}
 use Rattle.wasm_grammar.specs.Ids.{code_id, data_count_id, data_id, function_id}
 
 -- where bytes of a code section are left, a body comes
-body_at : (b : Bool) (context : SectionContext) (bodies left offset : ℕ) (d : List ℕ) (t : Tile) → nat_eq (bodies + left) 0 ≡ b → 0 < left
-    → verdict (cond b (section_grammar context offset) (body_grammar bodies left offset)) d ≡ tile t → IsBody t.shape
-body_at true context bodies left offset d t e l v = let z : bodies + left ≡ 0 = eqb-true _ _ e in absurd (omega (arith, z, l))
-body_at false context bodies left offset d t e l v = bodied bodies left offset d t v
+body_at : (b : Bool) (context : SectionContext) (bodies code_bytes offset : ℕ) (d : List ℕ) (t : Tile) → nat_eq (bodies + code_bytes) 0 ≡ b
+    → 0 < code_bytes
+    → verdict (cond b (section_grammar context offset) (body_grammar bodies code_bytes offset)) d ≡ tile t → IsBody t.shape
+body_at true context bodies code_bytes offset d t e l v = let z : bodies + code_bytes ≡ 0 = eqb-true _ _ e in absurd (omega (arith, z, l))
+body_at false context bodies code_bytes offset d t e l v = bodied bodies code_bytes offset d t v
 
-body_next : (start : ℕ) (ts : List Tile) (d : List ℕ) (t : Tile) → 0 < bytes_left ts → verdict (grammar start ts) d ≡ tile t
+body_next : (start : ℕ) (ts : List Tile) (d : List ℕ) (t : Tile) → 0 < bytes_to_come ts → verdict (grammar start ts) d ≡ tile t
     → IsBody t.shape
 body_next start [] d t l v = absurd (omega (arith, l))
 body_next start (u ∷ us) d t l v =
-    body_at (nat_eq (bodies_left (u ∷ us) + bytes_left (u ∷ us)) 0) (context_of (u ∷ us)) (bodies_left (u ∷ us)) (bytes_left (u ∷ us))
+    body_at (nat_eq (bodies_to_come (u ∷ us) + bytes_to_come (u ∷ us)) 0) (context_of (u ∷ us)) (bodies_to_come (u ∷ us))
+    (bytes_to_come (u ∷ us))
     (start + length (bytes_of (u ∷ us))) d t refl l v
 
 -- tiles after which a parser knows the same as after others but for what is left of a code section
@@ -44,10 +47,10 @@ record KnowsSame (ts us : List Tile) : Type 0 where
   same_counts : (n : ℕ) → counts n ts ≡ counts n us
   in_code : ends_in_code ts ≡ true
   not_start : is_start ts ≡ is_start us
-  left : bytes_left ts + length (bytes_of ts) ≡ bytes_left us + length (bytes_of us)
+  code_bytes : bytes_to_come ts + length (bytes_of ts) ≡ bytes_to_come us + length (bytes_of us)
 
 -- one more body
-after_body : (ts us : List Tile) (shape : Shape) (bytes : List ℕ) → IsBody shape → length bytes ≤ bytes_left ts → is_start us ≡ false
+after_body : (ts us : List Tile) (shape : Shape) (bytes : List ℕ) → IsBody shape → length bytes ≤ bytes_to_come ts → is_start us ≡ false
     → KnowsSame ts us → KnowsSame (record { shape = shape; bytes = bytes } ∷ ts) us
 after_body ts us (code_entry content) bytes b l s k = record {
   encoding = k.encoding;
@@ -55,7 +58,7 @@ after_body ts us (code_entry content) bytes b l s k = record {
   same_counts = λ n. k.same_counts n;
   in_code = refl;
   not_start = sym s;
-  left = let e = k.left in omega (arith, e, length-append (bytes_of ts) bytes);
+  code_bytes = let e = k.code_bytes in omega (arith, e, length-append (bytes_of ts) bytes);
 }
 after_body ts us (version num encoding) bytes b l s k = absurd b
 after_body ts us (section form id content) bytes b l s k = absurd b
@@ -63,19 +66,19 @@ after_body ts us (code_start count width size) bytes b l s k = absurd b
 
 -- tiles that take no more than what is left of a code section are its bodies
 only_bodies : (start : ℕ) (us later : List Tile) → ends_in_code us ≡ true → is_start us ≡ false → Faultless start (later ++ us)
-    → length (bytes_of (later ++ us)) ≤ length (bytes_of us) + bytes_left us → KnowsSame (later ++ us) us
+    → length (bytes_of (later ++ us)) ≤ length (bytes_of us) + bytes_to_come us → KnowsSame (later ++ us) us
 only_bodies start us [] c s f l = record {
   encoding = refl;
   rank = refl;
   same_counts = λ n. refl;
   in_code = c;
   not_start = refl;
-  left = refl;
+  code_bytes = refl;
 }
 only_bodies start us (t ∷ later) c s f l =
     let n = length-append (bytes_of (later ++ us)) t.bytes in
     let k : KnowsSame (later ++ us) us = only_bodies start us later c s f.0 (omega (arith, l, n)) in
-    let e = k.left in
+    let e = k.code_bytes in
     let some : 0 < length t.bytes = tile_least start (later ++ us) t.bytes t f.1 in
     let b : IsBody t.shape = body_next start (later ++ us) t.bytes t (omega (arith, l, n, e, some)) f.1 in
     after_body (later ++ us) us t.shape t.bytes b (omega (arith, l, n, e)) s k
@@ -86,13 +89,13 @@ some_tile [] c = cc
 some_tile (t ∷ ts) c = refl
 
 skipped_at : (p : ParserState) (start : ℕ) (prefix bodies : List ℕ) (s : IsStateAfter p start prefix)
-    (k : CompletesCode start prefix bodies) → p.in_code ≡ true → length bodies ≡ p.left → KnowsSame k.tiles s.tiles
+    (k : CompletesCode start prefix bodies) → p.in_code ≡ true → length bodies ≡ p.code_bytes → KnowsSame k.tiles s.tiles
     → IsStateAfter (skipped_state p) start (prefix ++ bodies)
 skipped_at p start prefix bodies s k c l same =
     let n = length-append prefix bodies in
     let o = s.offset in
-    let left = same.left in
-    let a = s.left in
+    let code_bytes = same.code_bytes in
+    let a = s.code_bytes in
     let b : length (bytes_of k.tiles) ≡ length (prefix ++ bodies) = ap (λ (x : List ℕ). length x) k.whole in
     let d : length (bytes_of s.tiles) ≡ length prefix = ap (λ (x : List ℕ). length x) s.is_prefix in
     record {
@@ -108,7 +111,7 @@ skipped_at p start prefix bodies s k c l same =
       datas = s.datas ∙ sym (same.same_counts data_id);
       data_counts = s.data_counts ∙ sym (same.same_counts data_count_id);
       bodies = sym k.no_body_left;
-      left = omega (arith, n, left, a, b, d, l);
+      code_bytes = omega (arith, n, code_bytes, a, b, d, l);
       in_code = λ e. same.in_code;
       open_code = λ e. absurd (omega (arith, e));
     }
@@ -120,21 +123,21 @@ skips_section p q c e start prefix bodies s l k =
     (stops_at start k.tiles k.faultless (verdict (grammar start k.tiles) []) refl) s.faultless w in
     let n : length (bytes_of (later ++ s.tiles)) ≡ length (bytes_of s.tiles) + length bodies =
     ap (λ (x : List Tile). length (bytes_of x)) (sym z) ∙ (ap (λ (x : List ℕ). length x) w ∙ length-append (bytes_of s.tiles) bodies) in
-    let a = s.left in
+    let a = s.code_bytes in
     let ends : ends_in_code s.tiles ≡ true = s.in_code c in
     let same : KnowsSame (later ++ s.tiles) s.tiles = only_bodies start s.tiles later ends (some_tile s.tiles ends)
     (subst (Faultless start) z k.faultless) (omega (arith, n, a, l)) in
     subst (λ (x : ParserState). IsStateAfter x start (prefix ++ bodies)) (sym e)
     (skipped_at p start prefix bodies s k c l (subst (λ (x : List Tile). KnowsSame x s.tiles) (sym z) same))
 
-pub in_code_where_skippable : (b : Bool) (left : ℕ) → is_some (cond b (Some left) None) ≡ true → b ≡ true
-in_code_where_skippable true left e = refl
-in_code_where_skippable false left e = cc
+pub in_code_where_skippable : (b : Bool) (code_bytes : ℕ) → is_some (cond b (Some code_bytes) None) ≡ true → b ≡ true
+in_code_where_skippable true code_bytes e = refl
+in_code_where_skippable false code_bytes e = cc
 
 -- ---- the reading without the bodies that are passed
 
 skipped_at-tiles : (p : ParserState) (start : ℕ) (prefix bodies : List ℕ) (s : IsStateAfter p start prefix)
-    (k : CompletesCode start prefix bodies) (c : p.in_code ≡ true) (l : length bodies ≡ p.left) (same : KnowsSame k.tiles s.tiles)
+    (k : CompletesCode start prefix bodies) (c : p.in_code ≡ true) (l : length bodies ≡ p.code_bytes) (same : KnowsSame k.tiles s.tiles)
     → (skipped_at p start prefix bodies s k c l same).tiles ≡ k.tiles
 unfolding skipped_at
 skipped_at-tiles p start prefix bodies s k c l same = refl
@@ -153,7 +156,7 @@ record Bodies (start features : ℕ) (us later : List Tile) : Type 0 where
   parts : events_of start features (later ++ us) ≡ events_of start features us ++ events
 
 bodies_later : (start features : ℕ) (us later : List Tile) → ends_in_code us ≡ true → is_start us ≡ false → Faultless start (later ++ us)
-    → length (bytes_of (later ++ us)) ≤ length (bytes_of us) + bytes_left us → Bodies start features us later
+    → length (bytes_of (later ++ us)) ≤ length (bytes_of us) + bytes_to_come us → Bodies start features us later
 bodies_later start features us [] c s f l = record {
   events = [];
   each = All-nil ReportsBody;
@@ -162,7 +165,7 @@ bodies_later start features us [] c s f l = record {
 bodies_later start features us (t ∷ later) c s f l =
     let n = length-append (bytes_of (later ++ us)) t.bytes in
     let k : KnowsSame (later ++ us) us = only_bodies start us later c s f.0 (omega (arith, l, n)) in
-    let e = k.left in
+    let e = k.code_bytes in
     let some : 0 < length t.bytes = tile_least start (later ++ us) t.bytes t f.1 in
     let b : IsBody t.shape = body_next start (later ++ us) t.bytes t (omega (arith, l, n, e, some)) f.1 in
     let r : Bodies start features us later = bodies_later start features us later c s f.0 (omega (arith, l, n)) in
@@ -176,7 +179,7 @@ bodies_later start features us (t ∷ later) c s f l =
     }
 
 module _ (start features : ℕ) (prefix bodies : List ℕ) (p : ParserState) (events : List Event) (a : Along start features prefix p [] events)
-    (c : p.in_code ≡ true) (l : length bodies ≡ p.left) (k : CompletesCode start a.prefix bodies) where
+    (c : p.in_code ≡ true) (l : length bodies ≡ p.code_bytes) (k : CompletesCode start a.prefix bodies) where
   us : List Tile
   us = a.is_after.tiles
 
@@ -188,11 +191,11 @@ module _ (start features : ℕ) (prefix bodies : List ℕ) (p : ParserState) (ev
       let n : length (bytes_of (later ++ a.is_after.tiles)) ≡ length (bytes_of a.is_after.tiles) + length bodies =
       ap (λ (x : List Tile). length (bytes_of x)) (sym z) ∙ (ap (λ (x : List ℕ). length x) w
       ∙ length-append (bytes_of a.is_after.tiles) bodies) in
-      let at = a.is_after.left in
+      let at = a.is_after.code_bytes in
       let ends : ends_in_code a.is_after.tiles ≡ true = a.is_after.in_code c in
       let begun = some_tile a.is_after.tiles ends in
       let f : Faultless start (later ++ a.is_after.tiles) = subst (Faultless start) z k.faultless in
-      let fits : length (bytes_of (later ++ a.is_after.tiles)) ≤ length (bytes_of a.is_after.tiles) + bytes_left a.is_after.tiles =
+      let fits : length (bytes_of (later ++ a.is_after.tiles)) ≤ length (bytes_of a.is_after.tiles) + bytes_to_come a.is_after.tiles =
       omega (arith, n, at, l) in
       let same : KnowsSame k.tiles a.is_after.tiles = subst (λ (x : List Tile). KnowsSame x a.is_after.tiles) (sym z)
       (only_bodies start a.is_after.tiles later ends begun f fits) in
@@ -226,5 +229,5 @@ module _ (start features : ℕ) (prefix bodies : List ℕ) (p : ParserState) (ev
 
 pub skipping_leaves_out_bodies : SkippingLeavesOutBodies
 skipping_leaves_out_bodies start features prefix bodies p events a some l k =
-    left_out start features prefix bodies p events a (in_code_where_skippable p.in_code p.left some) l
+    left_out start features prefix bodies p events a (in_code_where_skippable p.in_code p.code_bytes some) l
     (subst (λ (x : List ℕ). CompletesCode start x bodies) (a.whole ∙ append-nil a.prefix) k)

@@ -11,7 +11,7 @@ use Rattle.wasm_grammar.specs.Content.{Kind, items, data_count, custom, index, c
 use Rattle.wasm_grammar.specs.Grammar.{Shape, version, section, code_start, code_entry, Tile, tile, SectionContext, Grammar, bytes, verdict}
 use Rattle.wasm_grammar.specs.Grammar.{header_grammar, section_grammar, body_grammar, content_grammar}
 use Rattle.wasm_grammar.specs.Tiling.{bytes_of, grammar, context_of, inside, encoding_of, encoding_in, tile_rank, count_in, counts}
-use Rattle.wasm_grammar.specs.Tiling.{bodies_left, bytes_left, bodies_after, bytes_after, is_start}
+use Rattle.wasm_grammar.specs.Tiling.{bodies_to_come, bytes_to_come, bodies_after, bytes_after, is_start}
 use Rattle.wasm_grammar.specs.Reading.{custom_report}
 use Rattle.wasm_parser.specs.StateAfter.{known_rank, state_after, state_after_tile}
 use Rattle.wasm_parser.specs.ParserState.{ParserState, initial_state, greatest, is_of_code, IsStateAfter, known_context, grammar_of}
@@ -58,8 +58,8 @@ grammar_at p start prefix s (t ∷ ts) z =
     let h : p.expects_header ≡ false = s.expects_header ∙ ap is_start z in
     let o : p.offset ≡ start + length (bytes_of (t ∷ ts)) = s.offset
     ∙ ap (λ (x : List ℕ). start + length x) (sym s.is_prefix ∙ ap bytes_of z) in
-    let m : p.bodies ≡ bodies_left (t ∷ ts) = s.bodies ∙ ap bodies_left z in
-    let l : p.left ≡ bytes_left (t ∷ ts) = s.left ∙ ap bytes_left z in
+    let m : p.bodies ≡ bodies_to_come (t ∷ ts) = s.bodies ∙ ap bodies_to_come z in
+    let l : p.code_bytes ≡ bytes_to_come (t ∷ ts) = s.code_bytes ∙ ap bytes_to_come z in
     let q : known_context p ≡ context_of (t ∷ ts) = context_same p start prefix s t ts z in
     rw h (λ i. inside (q i) (m i) (l i) (o i))
 
@@ -157,7 +157,7 @@ after_shape p t = record {
   datas = count_after data_id t.shape p.datas;
   data_counts = count_after data_count_id t.shape p.data_counts;
   bodies = bodies_after t.shape p.bodies;
-  left = bytes_after t t.shape p.left;
+  code_bytes = bytes_after t t.shape p.code_bytes;
   in_code = is_of_code t.shape;
 }
 
@@ -205,9 +205,9 @@ inside_id true p m l o xs t e = section_id p o xs t e
 inside_id false p m l o xs t e = body_id t.shape (bodied m l o xs t e)
 
 tile_id : (h : Bool) (p : ParserState) (xs : List ℕ) (t : Tile)
-    → verdict (cond h (header_grammar p.offset) (inside (known_context p) p.bodies p.left p.offset)) xs ≡ tile t → HasItsId t.shape
+    → verdict (cond h (header_grammar p.offset) (inside (known_context p) p.bodies p.code_bytes p.offset)) xs ≡ tile t → HasItsId t.shape
 tile_id true p xs t e = header_id t.shape (headed p.offset xs t e)
-tile_id false p xs t e = inside_id (nat_eq (p.bodies + p.left) 0) (known_context p) p.bodies p.left p.offset xs t e
+tile_id false p xs t e = inside_id (nat_eq (p.bodies + p.code_bytes) 0) (known_context p) p.bodies p.code_bytes p.offset xs t e
 
 -- ---- the state after a tile, by what is reported of it
 
@@ -216,7 +216,7 @@ abbrev tile_of : Shape → List ℕ → Tile
 tile_of shape b = record { shape = shape; bytes = b }
 
 after_custom : (p : ParserState) (from to : ℕ) (content : List ℕ) (n : Name) → state_after p to (custom_report p.features from to content n)
-    ≡ record p { offset = to; expects_header = false; bodies = 0; left = 0; in_code = false }
+    ≡ record p { offset = to; expects_header = false; bodies = 0; code_bytes = 0; in_code = false }
 after_custom p from to content (named text used) = refl
 after_custom p from to content (refused f place) = refl
 
@@ -253,18 +253,19 @@ nothing_passed start features = record {
   datas = refl;
   data_counts = refl;
   bodies = refl;
-  left = refl;
+  code_bytes = refl;
   in_code = λ e. e;
   open_code = λ l. absurd (omega (arith, l));
 }
 
 -- bodies or bytes of a code section are left only after its start, or a body
-code_is_left : (t : Tile) (bodies left : ℕ) (shape : Shape) → 0 < bodies_after shape bodies + bytes_after t shape left → is_of_code shape
+code_is_open : (t : Tile) (bodies code_bytes : ℕ) (shape : Shape) → 0 < bodies_after shape bodies + bytes_after t shape code_bytes
+    → is_of_code shape
     ≡ true
-code_is_left t bodies left (code_start count width size) l = refl
-code_is_left t bodies left (code_entry content) l = refl
-code_is_left t bodies left (version num encoding) l = absurd (omega (arith, l))
-code_is_left t bodies left (section form id content) l = absurd (omega (arith, l))
+code_is_open t bodies code_bytes (code_start count width size) l = refl
+code_is_open t bodies code_bytes (code_entry content) l = refl
+code_is_open t bodies code_bytes (version num encoding) l = absurd (omega (arith, l))
+code_is_open t bodies code_bytes (section form id content) l = absurd (omega (arith, l))
 
 -- a parser whose state is that after the tile that comes next knows what the tiles say, with that one
 pub state_goes_on : (p : ParserState) (start : ℕ) (prefix : List ℕ) (s : IsStateAfter p start prefix) (d : List ℕ) (t : Tile)
@@ -291,9 +292,9 @@ state_goes_on p start prefix s d t e =
       data_counts = ap (λ (x : ParserState). option_to_list x.data_counts) q
           ∙ count_same data_count_id t.shape p.data_counts s.tiles (lit< tt) s.data_counts f;
       bodies = ap (λ (x : ParserState). x.bodies) q ∙ ap (bodies_after t.shape) s.bodies;
-      left = ap (λ (x : ParserState). x.left) q ∙ ap (bytes_after t t.shape) s.left;
+      code_bytes = ap (λ (x : ParserState). x.code_bytes) q ∙ ap (bytes_after t t.shape) s.code_bytes;
       in_code = λ h. sym (ap (λ (x : ParserState). x.in_code) q) ∙ h;
-      open_code = λ l. ap (λ (x : ParserState). x.in_code) q ∙ code_is_left t (bodies_left s.tiles) (bytes_left s.tiles) t.shape l;
+      open_code = λ l. ap (λ (x : ParserState). x.in_code) q ∙ code_is_open t (bodies_to_come s.tiles) (bytes_to_come s.tiles) t.shape l;
     }
 
 -- its tiles are one more

@@ -47,12 +47,12 @@ ReadsEach start features eof given events =
 
 -- An event came next, by this payload that consumed these bytes: the parser is after it, or it is the last one.
 pub record Came (start features : ℕ) (eof : Bool) (given : List ℕ) (events : List Event) (bytes : List ℕ)
-    (payload : Payload) (new : ParserState) (left : List ℕ) : Type 0 where
+    (payload : Payload) (new : ParserState) (rest : List ℕ) : Type 0 where
   pub event : Event
   pub is_payload : IsPayload event.report payload
   pub consumed : event.consumed ≡ bytes
   pub begins : BeginsEach start features eof given (events ++ event ∷ [])
-  pub goes_on : is_end (report_of payload) ≡ false → Along start features given new left (events ++ event ∷ [])
+  pub goes_on : is_end (report_of payload) ≡ false → Along start features given new rest (events ++ event ∷ [])
       × (0 < length bytes)
   pub ends : is_end (report_of payload) ≡ true → ReadsEach start features eof given (events ++ event ∷ [])
   pub last : is_end (report_of payload) ≡ true → (offset : ℕ) × (event ≡ last_event (ended offset))
@@ -60,14 +60,14 @@ pub record Came (start features : ℕ) (eof : Bool) (given : List ℕ) (events :
 -- what an answer that consumed these bytes says of each of those streams: more is asked for, the next event came, or
 -- the fault is the last one
 abbrev pub GoesAlong : (start features : ℕ) (eof : Bool) (given : List ℕ) (events : List Event) → Result Chunk Error
-    → (bytes : List ℕ) (new : ParserState) (left : List ℕ) → Type 0
-GoesAlong start features eof given events (Ok (NeedMoreData hint)) bytes new left =
-    IsUndecided new eof left hint × Along start features given new left events
-GoesAlong start features eof given events (Ok (Parsed consumed payload)) bytes new left =
-    Came start features eof given events bytes payload new left
-GoesAlong start features eof given events (Err e) bytes new left =
+    → (bytes : List ℕ) (new : ParserState) (rest : List ℕ) → Type 0
+GoesAlong start features eof given events (Ok (NeedMoreData hint)) bytes new rest =
+    IsUndecided new eof rest hint × Along start features given new rest events
+GoesAlong start features eof given events (Ok (Parsed consumed payload)) bytes new rest =
+    Came start features eof given events bytes payload new rest
+GoesAlong start features eof given events (Err e) bytes new rest =
     ReadsEach start features eof given (events ++ last_event (fault (fault_at e)) ∷ [])
-    × Along start features given new left events
+    × Along start features given new rest events
 
 -- how many bytes an answer consumes
 abbrev pub taken_by : Result Chunk Error → ℕ
@@ -102,10 +102,10 @@ pub record AnswersGoAlong : Type 0 where
       → Along start features given p held events → BeginsEach start features eof given events
   -- an answer is the next one of each of them
   pub answers : (start features : ℕ) (given : List ℕ) (p : ParserState) (held : List ℕ) (events : List Event)
-      (eof : Bool) (answer : Result Chunk Error) (bytes : List ℕ) (new : ParserState) (left : List ℕ)
+      (eof : Bool) (answer : Result Chunk Error) (bytes : List ℕ) (new : ParserState) (rest : List ℕ)
       → Along start features given p held events → start + length given < 2 ^ 64
-      → ParseAnswer p eof held answer new → held ≡ bytes ++ left → length bytes ≡ taken_by answer
-      → GoesAlong start features eof given events answer bytes new left
+      → ParseAnswer p eof held answer new → held ≡ bytes ++ rest → length bytes ≡ taken_by answer
+      → GoesAlong start features eof given events answer bytes new rest
   -- a stream that ends where more is asked for has one event more
   pub cut_short : (start features : ℕ) (given : List ℕ) (p : ParserState) (held : List ℕ) (events : List Event)
       (eof : Bool) (hint : ℕ) → Along start features given p held events → IsUndecided p eof held hint → (end : Ending)

@@ -1,5 +1,6 @@
 pub mod Along
 pub mod AsksWhereOpen
+pub mod Checkpoint
 pub mod GivesNextEvent
 pub mod ParseAll
 pub mod ParseAnswer

@@ -4,8 +4,8 @@ use Rattle.std.specs.Prelude.{Some, None, not, ◌&&◌, nat_lt, nat_eq, if◌th
 use Rattle.wasm_grammar.specs.declared.encoding.Encoding.{Encoding}
 use Rattle.wasm_grammar.specs.declared.encoding.Encoding.TheVariants.{Module}
 use Rattle.wasm_grammar.specs.Grammar.{Shape, code_start, code_entry, Tile, SectionContext, Grammar, header_grammar}
-use Rattle.wasm_grammar.specs.Tiling.{bytes_of, Faultless, inside, encoding_of, tile_rank, counts, bodies_left}
-use Rattle.wasm_grammar.specs.Tiling.{bytes_left, is_start}
+use Rattle.wasm_grammar.specs.Tiling.{bytes_of, Faultless, inside, encoding_of, tile_rank, counts, bodies_to_come}
+use Rattle.wasm_grammar.specs.Tiling.{bytes_to_come, is_start}
 use Rattle.wasm_grammar.specs.Ids.{function_id, code_id, data_id, data_count_id}
 
 -- the greatest rank of these tiles
@@ -39,7 +39,7 @@ pub record ParserState : Type 0 where
   pub data_counts : Option ℕ
   -- the bodies and bytes that a code section still misses
   pub bodies : ℕ
-  pub left : ℕ
+  pub code_bytes : ℕ
   -- whether the start of a code section was the last that came, or a body
   pub in_code : Bool
 
@@ -56,7 +56,7 @@ initial_state offset features = record {
   datas = None;
   data_counts = None;
   bodies = 0;
-  left = 0;
+  code_bytes = 0;
   in_code = false;
 }
 
@@ -73,11 +73,11 @@ pub record IsStateAfter (p : ParserState) (start : ℕ) (prefix : List ℕ) : Ty
   pub codes : option_to_list p.codes ≡ counts code_id tiles
   pub datas : option_to_list p.datas ≡ counts data_id tiles
   pub data_counts : option_to_list p.data_counts ≡ counts data_count_id tiles
-  pub bodies : p.bodies ≡ bodies_left tiles
-  pub left : p.left ≡ bytes_left tiles
+  pub bodies : p.bodies ≡ bodies_to_come tiles
+  pub code_bytes : p.code_bytes ≡ bytes_to_come tiles
   -- it knows where a code section is not at its end; it may have forgotten one that is
   pub in_code : p.in_code ≡ true → ends_in_code tiles ≡ true
-  pub open_code : 0 < bodies_left tiles + bytes_left tiles → p.in_code ≡ true
+  pub open_code : 0 < bodies_to_come tiles + bytes_to_come tiles → p.in_code ≡ true
 
 -- what a parser knows of the tiles before
 abbrev pub known_context : ParserState → SectionContext
@@ -92,11 +92,12 @@ known_context p = record {
 
 -- what may come where the parser is
 abbrev pub grammar_of : ParserState → Grammar
-grammar_of p = if p.expects_header then header_grammar p.offset else inside (known_context p) p.bodies p.left p.offset
+grammar_of p = if p.expects_header then header_grammar p.offset else inside
+    (known_context p) p.bodies p.code_bytes p.offset
 
 -- whether a section may start where the parser is
 abbrev pub is_at_section : ParserState → Bool
-is_at_section p = not p.expects_header && nat_eq (p.bodies + p.left) 0
+is_at_section p = not p.expects_header && nat_eq (p.bodies + p.code_bytes) 0
 
 -- a parser that has reported the stream's end
 abbrev pub ended_state : ParserState → ParserState
@@ -104,8 +105,8 @@ ended_state p = record p { in_code = false }
 
 -- how many bytes of a code section are left, from its start until something follows that is no body
 abbrev pub skippable_of : ParserState → Option ℕ
-skippable_of p = if p.in_code then Some p.left else None
+skippable_of p = if p.in_code then Some p.code_bytes else None
 
 -- a parser that has passed them
 abbrev pub skipped_state : ParserState → ParserState
-skipped_state p = record p { offset = p.offset + p.left; bodies = 0; left = 0 }
+skipped_state p = record p { offset = p.offset + p.code_bytes; bodies = 0; code_bytes = 0 }

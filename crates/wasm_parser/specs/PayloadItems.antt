@@ -15,7 +15,7 @@ use Rattle.wasm_items.specs.Elements.{element_at}
 use Rattle.wasm_items.specs.Exports.{export_parts, export_at}
 use Rattle.wasm_items.specs.Globals.{global_at}
 use Rattle.wasm_items.specs.RecGroups.{rec_group_parts, rec_group_at}
-use Rattle.wasm_items.specs.Imports.{group_parts, group_at}
+use Rattle.wasm_items.specs.Imports.{bundle_parts, bundle_at}
 use Rattle.wasm_items.specs.Memories.{memory_type_at}
 use Rattle.wasm_items.specs.Tables.{table_at}
 use Rattle.wasm_items.specs.Tags.{tag_type_at}
@@ -59,7 +59,7 @@ GivesTypes next = GivesItsItems TypeSection next (UnlessMemory (ReadsAs rec_grou
 
 -- of all others, each at its offset in the stream
 abbrev pub GivesImports : NextOf (ℕ × Imports) → Type 0
-GivesImports next = GivesItsItems ImportSection next (AtItsOffset (ReadsAs group_parts group_at))
+GivesImports next = GivesItsItems ImportSection next (AtItsOffset (ReadsAs bundle_parts bundle_at))
 
 abbrev pub GivesFunctions : NextOf (ℕ × ℕ) → Type 0
 GivesFunctions next =

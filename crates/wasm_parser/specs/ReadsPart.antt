@@ -51,7 +51,7 @@ Refuses eof e result = RefusesBy eof (hint_of e) e result
 
 -- Bytes are left where a section may start.
 abbrev pub HasSection : ParserState → Place → Type 0
-HasSection p before = p.expects_header ≡ false → nat_eq (p.bodies + p.left) 0 ≡ true → 0 < length before.rest
+HasSection p before = p.expects_header ≡ false → nat_eq (p.bodies + p.code_bytes) 0 ≡ true → 0 < length before.rest
 
 -- a header
 abbrev pub ReadsHeader : (before : Place) → Result Payload Error → (after : Place) → Type 0
@@ -106,7 +106,7 @@ ReadsCodeStart functions size before result after = (context : SectionContext) �
 
 -- one body
 abbrev pub ReadsBody : ParserState → (before : Place) → Result Payload Error → (after : Place) → Type 0
-ReadsBody p before result after = ReadsByGrammar (body_grammar p.bodies p.left before.offset) before result after
+ReadsBody p before result after = ReadsByGrammar (body_grammar p.bodies p.code_bytes before.offset) before result after
 
 -- so many bytes as a window of their own
 unfoldable pub content_at : ℕ → Place → Outcome Window
@@ -117,9 +117,9 @@ content_at size p = do
 -- From here to the window's end there is nothing but the number, or this is wrong with it; a byte after it is the
 -- given fault.
 abbrev pub ReadsSingleNumber : Fault → Place → Result ℕ Error → Type 0
-ReadsSingleNumber left p (Ok value) =
-    (wrong_single left p.offset p.rest (number VarU32 p.rest) ≡ None) × (value_of (number VarU32 p.rest) ≡ value)
-ReadsSingleNumber left p (Err e) = wrong_single left p.offset p.rest (number VarU32 p.rest) ≡ Some (fault_at e)
+ReadsSingleNumber trailing p (Ok value) =
+    (wrong_single trailing p.offset p.rest (number VarU32 p.rest) ≡ None) × (value_of (number VarU32 p.rest) ≡ value)
+ReadsSingleNumber trailing p (Err e) = wrong_single trailing p.offset p.rest (number VarU32 p.rest) ≡ Some (fault_at e)
 
 -- the kind of a module's section with this id
 abbrev pub kind_of_module : ℕ → Kind

@@ -6,19 +6,20 @@ use Rattle.wasm_grammar.specs.Grammar.{Tile}
 use Rattle.wasm_parser.specs.ParserState.{ParserState, IsStateAfter, skippable_of, skipped_state}
 use Rattle.wasm_grammar.specs.Reading.{Event}
 use Rattle.wasm_grammar.specs.Sections.{ReportsBody}
-use Rattle.wasm_grammar.specs.Tiling.{bytes_of, bodies_left, Faultless}
+use Rattle.wasm_grammar.specs.Tiling.{bytes_of, bodies_to_come, Faultless}
 
 -- These bytes are the rest of a code section that is then at its end, with all its bodies.
 pub record CompletesCode (start : ℕ) (prefix bodies : List ℕ) : Type 0 where
   pub tiles : List Tile
   pub faultless : Faultless start tiles
   pub whole : bytes_of tiles ≡ prefix ++ bodies
-  pub no_body_left : bodies_left tiles ≡ 0
+  pub no_body_left : bodies_to_come tiles ≡ 0
 
 -- Wherever the parser is in a code section, it is then after as many bytes as the section has left, whatever they are,
 -- as long as some such bytes complete it.
 abbrev pub SkipsSection : ParserState → ParserState → Type 0
-SkipsSection old new = (start : ℕ) (prefix bodies : List ℕ) → IsStateAfter old start prefix → length bodies ≡ old.left
+SkipsSection old new = (start : ℕ) (prefix bodies : List ℕ) → IsStateAfter old start prefix
+    → length bodies ≡ old.code_bytes
     → CompletesCode start prefix bodies
     → IsStateAfter new start (prefix ++ bodies)
 
@@ -34,6 +35,6 @@ pub record LeavesOut (start features : ℕ) (prefix bodies : List ℕ) (events :
 -- A caller that passes the rest of a code section, whatever its bytes are, goes on with the reading without its bodies.
 abbrev pub SkippingLeavesOutBodies : Type 0
 SkippingLeavesOutBodies = (start features : ℕ) (prefix bodies : List ℕ) (p : ParserState) (events : List Event)
-    → Along start features prefix p [] events → IsSome (skippable_of p) → length bodies ≡ p.left
+    → Along start features prefix p [] events → IsSome (skippable_of p) → length bodies ≡ p.code_bytes
     → CompletesCode start prefix bodies
     → LeavesOut start features prefix bodies events (skipped_state p)

@@ -67,7 +67,7 @@ state_after p to report = record (knowing p report) {
   offset = to;
   expects_header = false;
   bodies = missing_bodies report p.bodies;
-  left = missing_bytes report (to - p.offset) p.left;
+  code_bytes = missing_bytes report (to - p.offset) p.code_bytes;
   in_code = reports_code report;
 }
 

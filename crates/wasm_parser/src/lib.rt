@@ -1,6 +1,7 @@
 //! The parser of WebAssembly modules and of components' headers.
 #![tactic(auto)]
 
+mod checkpoint;
 mod contents;
 mod header;
 pub mod laws;
@@ -9,6 +10,7 @@ mod parser;
 mod payload;
 mod state;
 
+pub use checkpoint::Checkpoint;
 pub use parse_all::ParseAll;
 pub use parser::Parser;
 pub use payload::Chunk;
@@ -116,6 +118,9 @@ pub use wasm_custom::SymbolInfoMap;
 pub use wasm_grammar::Encoding;
 pub use wasm_items::CompositeType;
 pub use wasm_items::ConstExpr;
+pub use wasm_items::ConstInstruction;
+pub use wasm_items::ConstInstructions;
+pub use wasm_items::ConstOperator;
 pub use wasm_items::Data;
 pub use wasm_items::DataKind;
 pub use wasm_items::DataSectionReader;
@@ -157,4 +162,5 @@ pub use wasm_items::TagSectionReader;
 pub use wasm_items::TagType;
 pub use wasm_items::TypeRef;
 pub use wasm_items::TypeSectionReader;
+pub use wasm_items::V128;
 pub use wasm_items::ValType;

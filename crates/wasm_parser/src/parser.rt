@@ -6,6 +6,7 @@ ghost use Rattle.wasm_base.specs.Window.{place, window_over};
 ghost use Rattle.wasm_grammar.specs.Accepted.{begins_with_header};
 ghost use Rattle.wasm_grammar.specs.Content.{kind_of};
 ghost use Rattle.wasm_grammar.specs.KindInCode.{kind_is};
+ghost use Rattle.wasm_parser.specs.Checkpoint.{state_of};
 ghost use Rattle.wasm_parser.specs.GivesNextEvent.{GivesNextEvent};
 ghost use Rattle.wasm_parser.specs.ParseAll.{walk_over, WalksWhole};
 ghost use Rattle.wasm_parser.specs.ParseAnswer.{Advances, AsksForSome, Consumes, ParseAnswer, FaultsWithin, IsUnchanged, report_of};
@@ -16,6 +17,7 @@ ghost use Rattle.wasm_parser.specs.StateAfter.{knowing, missing_bytes};
 ghost use Rattle.wasm_parser.specs.AsksWhereOpen.{AsksWhereOpen};
 ghost use Rattle.wasm_grammar.specs.declared.encoding.Encoding.TheVariants.{Module, Component};
 
+use crate::checkpoint::Checkpoint;
 use crate::contents::{code, custom, data_count, items, lacks, start, unknown, window};
 use crate::header::{magic_follows, missing_at_section, read_header};
 use crate::parse_all::ParseAll;
@@ -54,7 +56,7 @@ pub struct Parser {
     data_counts: Option<u32>,
     // The bodies and the bytes that a code section still misses.
     bodies: u32,
-    left: u32,
+    code_bytes: u32,
     // Whether the start of a code section came last, or a body.
     in_code: bool,
 }
@@ -75,7 +77,7 @@ impl Parser {
             datas: None,
             data_counts: None,
             bodies: 0,
-            left: 0,
+            code_bytes: 0,
             in_code: false,
         }
     }
@@ -144,7 +146,11 @@ impl Parser {
     pub fn skippable(&self) -> Option<u32>
         ensures { result ≡ skippable_of self.now }
     {
-        if self.in_code { Some(self.left) } else { None }
+        if self.in_code {
+            Some(self.code_bytes)
+        } else {
+            None
+        }
     }
 
     /// Passes what is left of a code section, as many bytes as `skippable` says: the caller hands in the bytes after
@@ -154,9 +160,52 @@ impl Parser {
         ensures state { self.new ≡ skipped_state self.old }
         ensures skips { SkipsSection self.old self.new }
     {
-        self.offset += u64::from(self.left);
+        self.offset += u64::from(self.code_bytes);
         self.bodies = 0;
-        self.left = 0;
+        self.code_bytes = 0;
+    }
+
+    /// All that the parser knows, as plain values: `resume` makes a parser of them that goes on as this one.
+    pub fn checkpoint(&self) -> Checkpoint
+        ensures state { state_of result ≡ self.now }
+        ensures fits { result.offset + result.code_bytes < 2 ^ 64 }
+    {
+        Checkpoint {
+            offset: self.offset,
+            features: self.features,
+            expects_header: self.expects_header,
+            encoding: self.encoding,
+            rank: self.rank,
+            functions: self.functions,
+            codes: self.codes,
+            datas: self.datas,
+            data_counts: self.data_counts,
+            bodies: self.bodies,
+            code_bytes: self.code_bytes,
+            in_code: self.in_code,
+        }
+    }
+
+    /// The parser whose checkpoint this is. What is left of a code section must end within the offsets of a stream, below
+    /// 2^64, as it does in each checkpoint that `checkpoint` gives.
+    pub fn resume(checkpoint: Checkpoint) -> Self
+        requires { checkpoint.offset + checkpoint.code_bytes < 2 ^ 64 }
+        ensures { result ≡ state_of checkpoint }
+    {
+        Parser {
+            offset: checkpoint.offset,
+            features: checkpoint.features,
+            expects_header: checkpoint.expects_header,
+            encoding: checkpoint.encoding,
+            rank: checkpoint.rank,
+            functions: checkpoint.functions,
+            codes: checkpoint.codes,
+            datas: checkpoint.datas,
+            data_counts: checkpoint.data_counts,
+            bodies: checkpoint.bodies,
+            code_bytes: checkpoint.code_bytes,
+            in_code: checkpoint.in_code,
+        }
     }
 
     /// The stream offset of what comes next.
@@ -222,11 +271,11 @@ impl Model for Parser {
       datas = p.datas;
       data_counts = p.data_counts;
       bodies = p.bodies;
-      left = p.left;
+      code_bytes = p.code_bytes;
       in_code = p.in_code;
     } };
 
-    ghost invariant = { λ p. p.offset + p.left < 2 ^ 64 };
+    ghost invariant = { λ p. p.offset + p.code_bytes < 2 ^ 64 };
 }
 
 impl Clone for Parser {
@@ -235,20 +284,7 @@ impl Clone for Parser {
     ghost is_infallible = { λ _. ⊤ };
 
     fn clone(&self) -> std::result::Result<Self, AllocError> {
-        Ok(Parser {
-            offset: self.offset,
-            features: self.features,
-            expects_header: self.expects_header,
-            encoding: self.encoding,
-            rank: self.rank,
-            functions: self.functions,
-            codes: self.codes,
-            datas: self.datas,
-            data_counts: self.data_counts,
-            bodies: self.bodies,
-            left: self.left,
-            in_code: self.in_code,
-        })
+        Ok(Parser::resume(self.checkpoint()))
     }
 }
 
@@ -275,17 +311,17 @@ impl Parser {
     }
 
     // Whether a code section isn't at its end.
-    fn is_code_left(&self) -> bool
-        ensures { result ≡ not (nat_eq (self.now.bodies + self.now.left) 0) }
+    fn is_code_open(&self) -> bool
+        ensures { result ≡ not (nat_eq (self.now.bodies + self.now.code_bytes) 0) }
     {
-        self.bodies > 0 || self.left > 0
+        self.bodies > 0 || self.code_bytes > 0
     }
 
     // Whether a section may start here.
     fn is_at_section(&self) -> bool
         ensures { result ≡ at_section self.now }
     {
-        !self.expects_header && !self.is_code_left()
+        !self.expects_header && !self.is_code_open()
     }
 
     // A reader of bytes that begin where the parser is.
@@ -381,7 +417,7 @@ impl Parser {
     {
         if self.expects_header {
             read_header(reader)
-        } else if self.is_code_left() {
+        } else if self.is_code_open() {
             self.body(reader)
         } else {
             self.section(reader)
@@ -409,7 +445,7 @@ impl Parser {
 
     // Goes on to the end of what was read, which is at this offset. A section that has a rank ranks above all earlier ones.
     fn advance(&mut self, payload: &Payload, end: u64)
-        requires { end + missing_bytes (report_of payload.now) (end - self.old.offset) self.old.left < 2 ^ 64 }
+        requires { end + missing_bytes (report_of payload.now) (end - self.old.offset) self.old.code_bytes < 2 ^ 64 }
         ensures { Advances self.old payload.now end self.new }
     {
         self.learn(payload);
@@ -417,7 +453,7 @@ impl Parser {
         self.offset = end;
         self.expects_header = false;
         self.bodies = missing_bodies(payload, self.bodies);
-        self.left = missing_bytes(payload, taken, self.left);
+        self.code_bytes = missing_bytes(payload, taken, self.code_bytes);
         self.in_code = is_of_code(payload);
     }
 
@@ -495,7 +531,7 @@ impl Parser {
             return Err(Error::new(Fault::TrailingCode, start));
         }
         let size = reader.read_var_u32()?;
-        if passes(self.left, reader.original_position() - start, size) {
+        if passes(self.code_bytes, reader.original_position() - start, size) {
             return Err(Error::new(Fault::UnexpectedEof, start));
         }
         let window = window(size, reader)?;
@@ -504,10 +540,10 @@ impl Parser {
 }
 
 // Whether a field of so many bytes, and the bytes that it counts, are more than are left.
-fn passes(left: u32, width: u64, size: u32) -> bool
-    ensures { result ≡ nat_lt left (width + size) }
+fn passes(code_bytes: u32, width: u64, size: u32) -> bool
+    ensures { result ≡ nat_lt code_bytes (width + size) }
 {
-    match u64::from(left).checked_sub(width) {
+    match u64::from(code_bytes).checked_sub(width) {
         Some(room) => u64::from(size) > room,
         None => true,
     }

@@ -9,4 +9,4 @@ mod pieces;
 pub use arguments::is_no_text;
 pub use ending::finish;
 pub use messages::{complain, give_up};
-pub use pieces::{PIECE, room};
+pub use pieces::{PIECE, read_buffer};

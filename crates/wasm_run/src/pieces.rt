@@ -7,8 +7,8 @@ use std::alloc::{AllocError, Global};
 pub const PIECE: usize = 65_536;
 
 /// Room for them.
-pub fn room(alloc: Global) -> Result<Vec<u8>, AllocError>
-    ensures { IfOk result (λ room. vec_len room ≡ 65536) }
+pub fn read_buffer(alloc: Global) -> Result<Vec<u8>, AllocError>
+    ensures { IfOk result (λ buffer. vec_len buffer ≡ 65536) }
 {
     vec![in alloc; 0u8; PIECE]
 }

@@ -1,12 +1,12 @@
 -- How far a dump has come. Its outline is what a listing by the lines that are shown would have written.
 use Rattle.std.proofs.Common.{◌≡◌, ℕ, ◌<◌, Bool, true, false, if◌then◌else◌, List, [], ◌++◌, Option, Some, None, Result, Ok, Err, refl, sym}
-use Rattle.std.proofs.Common.{ap, subst, ◌∙◌, append-nil, take}
+use Rattle.std.proofs.Common.{ap, subst, ◌∙◌, append-nil}
 use Rattle.std.specs.Io.KnownBytes.{Appends}
 use Rattle.std.proofs.KnownBytes.{Appends-nil, Consumes-nil}
 use Rattle.wasm_feed.specs.Calls.{from_to}
 use Rattle.wasm_feed.specs.Feed.{Feed, new_feed}
 use Rattle.wasm_feed.specs.Lists.{IsBeginning, Refills, input_failed}
-use Rattle.wasm_feed.specs.Page.{PutsLine}
+use Rattle.wasm_feed.specs.Page.{WritesBeginning, PutsBytes}
 use Rattle.wasm_base.specs.declared.error.Error.{Error}
 use Rattle.wasm_parser.specs.ParseAnswer.{report_of, is_end}
 use Rattle.wasm_feed.specs.Step.{is_request}
@@ -60,7 +60,7 @@ whole o w going out i =
     record { text = g.text; outlined = g.outlined; wrote = subst (Appends o.taken w.taken) all g.took }
 
 some_of : (o : Origin) (w : Writing) → WritesWhole o.taken w.taken o.outline → WritesSome o.taken w.taken o.outline
-some_of o w s = record { text = s.text; left = []; outlined = rw (append-nil s.text) s.outlined; wrote = s.wrote }
+some_of o w s = record { text = s.text; unwritten = []; outlined = rw (append-nil s.text) s.outlined; wrote = s.wrote }
 
 -- a dump that was cut short, or whose input failed
 cut_off : (only : Only) (left rest : Option (List ℕ)) (had has : Bool) → has ≡ had
@@ -72,7 +72,7 @@ cut_off only left rest had has h taken failed outline Output w b c = record {
   dumps = record {
     outline = outline;
     lists = b;
-    writes = record { text = c.written; left = c.left; outlined = c.outlined; wrote = c.took };
+    writes = record { text = c.written; unwritten = c.unwritten; outlined = c.outlined; wrote = c.took };
   };
   source = h;
   sink = c.failed;
@@ -81,7 +81,7 @@ cut_off only left rest had has h taken failed outline Memory w b c = record {
   dumps = record {
     outline = outline;
     lists = b;
-    writes = record { text = c.written; left = c.left; outlined = c.outlined; wrote = c.took };
+    writes = record { text = c.written; unwritten = c.unwritten; outlined = c.outlined; wrote = c.took };
   };
   source = h;
   sink = c.failed;
@@ -101,8 +101,8 @@ reads_where_asked (Ok (Parsed bytes payload)) t = by_end (is_end (report_of payl
     by_end false e = cc
 
 -- the lines of a listing by what is shown, all of which are written
-puts : (outline line : List ℕ) → PutsLine (Some outline) (Some (outline ++ line)) [] line []
-puts outline line = record { lines = line; writes = refl; waits = sym (append-nil line) }
+puts : (outline line : List ℕ) → PutsBytes (Some outline) (Some (outline ++ line)) [] line []
+puts outline line = record { moved = line; writes = refl; waits = sym (append-nil line) }
 
 module _ (only : Only) (left rest : Option (List ℕ)) (before : Writing) (f : Feed) (now : Writing) (d : Dumping only left rest before f now)
     (g : Feed) (new : Writing) (next : Turn) (s : ShowsStep only f g now new next) where
@@ -113,7 +113,7 @@ module _ (only : Only) (left rest : Option (List ℕ)) (before : Writing) (f : F
       → IsWritten (origin taken failed (d.outline ++ text_after (chosen_line only) s.answer)) new
   written taken failed i = s.shows (origin taken failed d.outline) (d.writing taken failed i)
 
-  put : PutsLine (Some d.outline) (Some (d.outline ++ text_after (chosen_line only) s.answer)) [] (text_after (chosen_line only) s.answer)
+  put : PutsBytes (Some d.outline) (Some (d.outline ++ text_after (chosen_line only) s.answer)) [] (text_after (chosen_line only) s.answer)
       []
   put = puts d.outline (text_after (chosen_line only) s.answer)
 
@@ -133,8 +133,8 @@ module _ (only : Only) (left rest : Option (List ℕ)) (before : Writing) (f : F
   wants t = s.steps.wants_more ∙ reads_where_asked s.answer (sym t ∙ s.turns)
 
   -- what was listed after a step is a beginning
-  nothing_cut : (outline : Option (List ℕ)) → (n : ℕ) × Appends outline outline (take n [])
-  nothing_cut outline = (0, Appends-nil outline)
+  nothing_cut : (outline : Option (List ℕ)) → WritesBeginning outline outline []
+  nothing_cut outline = record { moved = []; unwritten = []; parts = refl; wrote = Appends-nil outline }
 
   begins : (t : Turn) → next ≡ t → IsBeginning (chosen_line only) (from_to left rest)
       (from_to (Some []) (Some (d.outline ++ text_after (chosen_line only) s.answer)))
@@ -255,7 +255,7 @@ no_room only left had taken failed w e = subst (DumpsFrom only (record { before 
         outline = [];
         lists = progress.no_memory (chosen_line only) left left (Some []) (Some []) (new_feed 0 all_features) []
             (progress.begun (chosen_line only) left (Some [])) left [] (Consumes-nil left);
-        writes = record { text = []; left = []; outlined = nothing_outlined; wrote = Appends-nil taken };
+        writes = record { text = []; unwritten = []; outlined = nothing_outlined; wrote = Appends-nil taken };
       };
       source = refl;
       sink = refl;

@@ -1,11 +1,14 @@
--- Each line of a listing ends with a line feed.
-use Rattle.std.proofs.Common.{ℕ, ◌+◌, List, [], ◌++◌, length, codes, Option, Some, None, refl, sym, ap, ◌∙◌, append_assoc}
+-- Each line of an event ends with a line feed, and begins with its text in a listing.
+use Rattle.std.proofs.Common.{◌≡◌, ℕ, zero, suc, ◌+◌, ◌≤◌, List, [], ◌∷◌, ◌++◌, IfSome, option_map, slice_get, lit≤, length, codes}
+use Rattle.std.proofs.Common.{Option, Some, None, refl, sym, ap, ◌∙◌, append_assoc}
 use Rattle.std.specs.Fmt.{decimal}
 use Rattle.wasm_base.specs.Message.{message_of}
 use Rattle.wasm_grammar.specs.Content.{ended, fault}
+use Rattle.wasm_grammar.specs.Ids.{names, name_of}
 use Rattle.wasm_grammar.specs.Reading.{Report, version, counted, start_section, data_count_section, code_start, code_entry, custom_section}
 use Rattle.wasm_grammar.specs.Reading.{unknown_section, stream_end}
-use Rattle.wasm_feed.specs.Listing.{field, encoding_name, fault_number, line_of}
+use Rattle.wasm_feed.specs.Listing.{field, encoding_name, fault_number, text_before}
+use Rattle.wasm_show.specs.Chosen.{section_words, shown_line, BeginAlike}
 use Rattle.wasm_show.specs.Tree.{EndsLine}
 
 feed : EndsLine (codes "\n")
@@ -22,23 +25,96 @@ before first e = record {
 number : (n : ℕ) {rest : List ℕ} → EndsLine rest → EndsLine (field n rest)
 number n e = before (codes " ") (before (decimal n) e)
 
-if_any : (n : Option ℕ) → EndsLine (fault_number n (codes "\n"))
-if_any None = feed
-if_any (Some n) = before (codes ": ") (before (decimal n) feed)
+if_any : (n : Option ℕ) {rest : List ℕ} → EndsLine rest → EndsLine (fault_number n rest)
+if_any None e = e
+if_any (Some n) e = before (codes ": ") (before (decimal n) e)
 
-pub line_ends : (r : Report) → EndsLine (line_of r)
-unfolding line_of
-line_ends (version num encoding from to) = before (codes "version")
-    (number from (number to (number num (before (codes " ") (before (encoding_name encoding) feed)))))
-line_ends (counted id count window) = before (codes "section") (number id
-    (number window.start (number (window.start + length window.bytes) (number count feed))))
-line_ends (start_section func from to) = before (codes "start") (number from (number to (number func feed)))
-line_ends (data_count_section count from to) = before (codes "datacount") (number from (number to (number count feed)))
-line_ends (code_start count from to size) = before (codes "code") (number from (number to (number count (number size feed))))
-line_ends (code_entry window) = before (codes "body") (number window.start (number (window.start + length window.bytes) feed))
-line_ends (custom_section name data_offset window) = before (codes "custom")
-    (number window.start (number (window.start + length window.bytes) (number data_offset feed)))
-line_ends (unknown_section id contents from to) = before (codes "unknown") (number id (number from (number to feed)))
-line_ends (stream_end (fault f)) = before (codes "fault") (number f.offset
-    (before (codes " ") (before (message_of f.fault) (if_any f.number))))
-line_ends (stream_end (ended offset)) = before (codes "end") (number offset feed)
+text_ends : (r : Report) (rest : List ℕ) → EndsLine rest → EndsLine (text_before r rest)
+unfolding text_before
+text_ends (version num encoding from to) rest e = before (codes "version")
+    (number from (number to (number num (before (codes " ") (before (encoding_name encoding) e)))))
+text_ends (counted id count window) rest e = before (codes "section") (number id
+    (number window.start (number (window.start + length window.bytes) (number count e))))
+text_ends (start_section func from to) rest e = before (codes "start") (number from (number to (number func e)))
+text_ends (data_count_section count from to) rest e = before (codes "datacount") (number from (number to (number count e)))
+text_ends (code_start count from to size) rest e = before (codes "code") (number from (number to (number count (number size e))))
+text_ends (code_entry window) rest e = before (codes "body") (number window.start (number (window.start + length window.bytes) e))
+text_ends (custom_section name data_offset window) rest e = before (codes "custom")
+    (number window.start (number (window.start + length window.bytes) (number data_offset e)))
+text_ends (unknown_section id contents from to) rest e = before (codes "unknown") (number id (number from (number to e)))
+text_ends (stream_end (fault f)) rest e = before (codes "fault") (number f.offset
+    (before (codes " ") (before (message_of f.fault) (if_any f.number e))))
+text_ends (stream_end (ended offset)) rest e = before (codes "end") (number offset e)
+
+-- the line of an event ends with a line feed
+pub line_ends : (r : Report) → EndsLine (shown_line r)
+line_ends r = text_ends r (section_words r ++ codes "\n") (before (section_words r) feed)
+
+-- ---- the text of a line, and what comes after it
+
+abbrev Parts : Report → List ℕ → Type 0
+Parts r rest = text_before r rest ≡ text_before r [] ++ rest
+
+text_parts : (r : Report) (rest : List ℕ) → Parts r rest
+unfolding text_before
+text_parts (version num encoding from to) rest = simp append_assoc
+text_parts (counted id count window) rest = simp append_assoc
+text_parts (start_section func from to) rest = simp append_assoc
+text_parts (data_count_section count from to) rest = simp append_assoc
+text_parts (code_start count from to size) rest = simp append_assoc
+text_parts (code_entry window) rest = simp append_assoc
+text_parts (custom_section name data_offset window) rest = simp append_assoc
+text_parts (unknown_section id contents from to) rest = simp append_assoc
+text_parts (stream_end (fault f)) rest = by f.number
+  where
+    by : (n : Option ℕ) → codes "fault" ++ field f.offset (codes " " ++ (message_of f.fault ++ fault_number n rest))
+        ≡ (codes "fault" ++ field f.offset (codes " " ++ (message_of f.fault ++ fault_number n []))) ++ rest
+    by None = simp append_assoc
+    by (Some number) = simp append_assoc
+text_parts (stream_end (ended offset)) rest = simp append_assoc
+
+pub begin_alike : (r : Report) → BeginAlike r
+begin_alike r = (text_parts r (codes "\n"), text_parts r (section_words r ++ codes "\n"))
+
+-- ---- the names of sections are short
+
+abbrev AreShort : List (List ℕ) → Type 0
+AreShort [] = Unit {0}
+AreShort (x ∷ xs) = (length x ≤ 9) × AreShort xs
+
+short_at : (xs : List (List ℕ)) (i : ℕ) (name : List ℕ) → AreShort xs → slice_get xs i ≡ Some name → length name ≤ 9
+short_at [] i name s e = cc
+short_at (x ∷ xs) zero name s e = let same : x ≡ name = cc in rw (sym same) s.0
+short_at (x ∷ xs) (suc i) name s e = short_at xs i name s.1 e
+
+name_is_short : (id : ℕ) (name : List ℕ) → name_of id ≡ Some name → length name ≤ 9
+name_is_short id name e = short_at names id name (
+  lit≤ tt,
+  (
+    lit≤ tt,
+    (
+      lit≤ tt,
+      (
+        lit≤ tt,
+        (
+          lit≤ tt,
+          (
+            lit≤ tt,
+            (
+              lit≤ tt,
+              (
+                lit≤ tt,
+                (lit≤ tt, (lit≤ tt, (lit≤ tt, (lit≤ tt, (lit≤ tt, (lit≤ tt, tt)))))),
+              ),
+            ),
+          ),
+        ),
+      ),
+    ),
+  ),
+) e
+
+pub short_if_any : {X : Type 0} (view : X → List ℕ) (id : ℕ) (name : Option X) → option_map view name ≡ name_of id
+    → IfSome name (λ n. length (view n) ≤ 9)
+short_if_any view id None e = tt
+short_if_any view id (Some n) e = name_is_short id (view n) (sym e)

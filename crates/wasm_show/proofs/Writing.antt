@@ -1,16 +1,15 @@
 -- What a writer has written, after each call that writes.
 use Rattle.std.proofs.Common.{◌≡◌, ℕ, Bool, true, false, List, [], ◌∷◌, ◌++◌, codes, Option, Some, None, Err, if◌then◌else◌, refl, sym, ap}
-use Rattle.std.proofs.Common.{subst, ◌∙◌, append_assoc, append-nil, take, drop}
+use Rattle.std.proofs.Common.{subst, ◌∙◌, ◌≢◌, append_assoc, append-nil}
 use Rattle.std.specs.List.{flat_map}
 use Rattle.std.proofs.KnownBytes.{Appends-nil, Appends-trans}
 use Rattle.std.proofs.lemmas.Grind.{flat_map-append}
-use Rattle.std.specs.Io.KnownBytes.{Appends}
 use Rattle.std.specs.Option.{is_some}
-use Rattle.std.proofs.lemmas.List.{take-append-drop}
 use Rattle.std.proofs.lemmas.List.Folds.{list_all-append, list_any-append}
 use Rattle.wasm_feed.specs.Lists.{output_failed}
 use Rattle.wasm_feed.specs.declared.devices.ListError.{ListError}
-use Rattle.wasm_feed.specs.declared.devices.ListError.TheVariants.{Output, Memory}
+use Rattle.wasm_feed.specs.Page.{WritesBeginning, IsCut}
+use Rattle.wasm_feed.specs.declared.devices.ListError.TheVariants.{Input, Output, Memory}
 use Rattle.wasm_show.specs.Tree.{Line, first, under, has_line_feed, is_line, text_of, first_of, EndsLine, IsOutlined, Writing, Origin}
 use Rattle.wasm_show.specs.Tree.{IsGoing, IsCutShort, IsWrittenAs, IsWritten, with_line, IsPushed, IsStuck, PutsAs, Puts}
 
@@ -46,6 +45,18 @@ grown : (written waiting bytes moved waiting' : List ℕ) → waiting ++ bytes �
 grown written waiting bytes moved waiting' e = append_assoc written moved waiting'
     ∙ (ap (λ (x : List ℕ). written ++ x) (sym e) ∙ sym (append_assoc written waiting bytes))
 
+-- what was written of a page that was given up
+beginning : (taken written : Option (List ℕ)) (waiting : List ℕ) (why : ListError) → IsCut taken written waiting why
+    → WritesBeginning taken written waiting
+beginning taken written waiting Output w = w
+beginning taken written waiting Memory w = w
+beginning taken written waiting Input w = absurd w
+
+no_input : (taken written : Option (List ℕ)) (waiting : List ℕ) (why : ListError) → IsCut taken written waiting why → why ≢ Input
+no_input taken written waiting Output w = λ e. cc
+no_input taken written waiting Memory w = λ e. cc
+no_input taken written waiting Input w = absurd w
+
 no_line_feed : (part bytes : List ℕ) → has_line_feed part ≡ false → has_line_feed bytes ≡ false → has_line_feed (part ++ bytes) ≡ false
 no_line_feed part bytes p b = list_any-append _ part bytes ∙ rw (p, b) refl
 
@@ -66,7 +77,7 @@ from_short o w why e i = subst (λ (y : Option ListError). IsWrittenAs y o w) (s
 short_still : (o : Origin) (w : Writing) (why : ListError) (b : Bool) → IsCutShort o why w → IsCutShort o why (record w { is_begun = b })
 short_still o w why b c = record {
   written = c.written;
-  left = c.left;
+  unwritten = c.unwritten;
   outlined = c.outlined;
   took = c.took;
   failed = c.failed;
@@ -78,9 +89,9 @@ first_short : (o : Origin) (w : Writing) (why : ListError) (line : List ℕ) →
     → IsCutShort (with_line o line) why w
 first_short o w why line e c = record {
   written = c.written;
-  left = c.left ++ line;
-  outlined = subst (λ (x : List ℕ). IsOutlined x (o.outline ++ line)) (append_assoc c.written c.left line)
-      (first_more (c.written ++ c.left) o.outline line e c.outlined);
+  unwritten = c.unwritten ++ line;
+  outlined = subst (λ (x : List ℕ). IsOutlined x (o.outline ++ line)) (append_assoc c.written c.unwritten line)
+      (first_more (c.written ++ c.unwritten) o.outline line e c.outlined);
   took = c.took;
   failed = c.failed;
   no_input = c.no_input;
@@ -90,70 +101,71 @@ module _ (o : Origin) (old new : Writing) (i : IsGoing o old) where
   -- to a line that is begun
   part_grows : (bytes : List ℕ) → old.is_begun ≡ true → has_line_feed bytes ≡ false → IsPushed bytes old new → IsGoing o new
   part_grows bytes b none p = record {
-    written = i.written ++ p.moved;
+    written = i.written ++ p.puts.moved;
     text = i.text;
     part = i.part ++ bytes;
     outlined = i.outlined;
     one_line = no_line_feed i.part bytes i.one_line none;
-    parts = grown i.written old.waiting bytes p.moved new.waiting p.parts
+    parts = grown i.written old.waiting bytes p.puts.moved new.waiting p.puts.waits
         ∙ rw (p.begun, b) (ap (λ (x : List ℕ). x ++ bytes) (i.parts ∙ rw b refl) ∙ append_assoc i.text (codes "  " ++ i.part) bytes);
-    took = Appends-trans o.taken old.taken new.taken i.written p.moved i.took p.took;
+    took = Appends-trans o.taken old.taken new.taken i.written p.puts.moved i.took p.puts.writes;
     failed = p.failed ∙ i.failed;
   }
 
   -- a line is begun
   part_begins : old.is_begun ≡ false → IsPushed (codes "  ") old new → IsGoing o (record new { is_begun = true })
   part_begins b p = record {
-    written = i.written ++ p.moved;
+    written = i.written ++ p.puts.moved;
     text = i.text;
     part = [];
     outlined = i.outlined;
     one_line = refl;
-    parts = grown i.written old.waiting (codes "  ") p.moved new.waiting p.parts
+    parts = grown i.written old.waiting (codes "  ") p.puts.moved new.waiting p.puts.waits
         ∙ ap (λ (x : List ℕ). x ++ codes "  ") (i.parts ∙ rw b (append-nil i.text));
-    took = Appends-trans o.taken old.taken new.taken i.written p.moved i.took p.took;
+    took = Appends-trans o.taken old.taken new.taken i.written p.puts.moved i.took p.puts.writes;
     failed = p.failed ∙ i.failed;
   }
 
   -- it is ended
   part_ends : old.is_begun ≡ true → IsPushed (codes "\n") old new → IsGoing o (record new { is_begun = false })
   part_ends b p = record {
-    written = i.written ++ p.moved;
+    written = i.written ++ p.puts.moved;
     text = i.text ++ (codes "  " ++ (i.part ++ codes "\n"));
     part = [];
     outlined = under_more i.text o.outline i.part i.one_line i.outlined;
     one_line = refl;
-    parts = grown i.written old.waiting (codes "\n") p.moved new.waiting p.parts
+    parts = grown i.written old.waiting (codes "\n") p.puts.moved new.waiting p.puts.waits
         ∙ (ap (λ (x : List ℕ). x ++ codes "\n") (i.parts ∙ rw b refl)
         ∙ (append_assoc i.text (codes "  " ++ i.part) (codes "\n") ∙ sym (append-nil (i.text ++ (codes "  " ++ (i.part ++ codes "\n"))))));
-    took = Appends-trans o.taken old.taken new.taken i.written p.moved i.took p.took;
+    took = Appends-trans o.taken old.taken new.taken i.written p.puts.moved i.took p.puts.writes;
     failed = p.failed ∙ i.failed;
   }
 
   -- a line of the first level
   first_grows : (line : List ℕ) → EndsLine line → old.is_begun ≡ false → IsPushed line old new → IsGoing (with_line o line) new
   first_grows line e b p = record {
-    written = i.written ++ p.moved;
+    written = i.written ++ p.puts.moved;
     text = i.text ++ line;
     part = [];
     outlined = first_more i.text o.outline line e i.outlined;
     one_line = refl;
-    parts = grown i.written old.waiting line p.moved new.waiting p.parts
+    parts = grown i.written old.waiting line p.puts.moved new.waiting p.puts.waits
         ∙ rw (p.begun, b) (ap (λ (x : List ℕ). x ++ line) (i.parts ∙ rw b (append-nil i.text)) ∙ sym (append-nil (i.text ++ line)));
-    took = Appends-trans o.taken old.taken new.taken i.written p.moved i.took p.took;
+    took = Appends-trans o.taken old.taken new.taken i.written p.puts.moved i.took p.puts.writes;
     failed = p.failed ∙ i.failed;
   }
 
   -- all that waited is written
   all_moves : IsPushed [] old new → IsGoing o new
   all_moves p = record {
-    written = i.written ++ p.moved;
+    written = i.written ++ p.puts.moved;
     text = i.text;
     part = i.part;
     outlined = i.outlined;
     one_line = i.one_line;
-    parts = grown i.written old.waiting [] p.moved new.waiting p.parts ∙ (append-nil (i.written ++ old.waiting) ∙ rw p.begun i.parts);
-    took = Appends-trans o.taken old.taken new.taken i.written p.moved i.took p.took;
+    parts = grown i.written old.waiting [] p.puts.moved new.waiting p.puts.waits
+        ∙ (append-nil (i.written ++ old.waiting) ∙ rw p.begun i.parts);
+    took = Appends-trans o.taken old.taken new.taken i.written p.puts.moved i.took p.puts.writes;
     failed = p.failed ∙ i.failed;
   }
 
@@ -166,53 +178,38 @@ module _ (o : Origin) (old new : Writing) (i : IsGoing o old) where
       (sym (append-nil (i.written ++ old.waiting) ∙ (i.parts ∙ rw b (append-nil i.text)))) i.outlined
 
   -- of all that was written or waited, a beginning is written
-  cut_at : (moved left more : List ℕ) → old.waiting ≡ moved ++ left → (i.written ++ moved) ++ (left ++ more) ≡ (i.written ++ old.waiting)
-      ++ more
-  cut_at moved left more e = append_assoc i.written moved (left ++ more)
-      ∙ (ap (λ (x : List ℕ). i.written ++ x) (sym (append_assoc moved left more) ∙ ap (λ (x : List ℕ). x ++ more) (sym e))
+  cut_at : (moved unwritten more : List ℕ) → old.waiting ≡ moved ++ unwritten → (i.written ++ moved) ++ (unwritten ++ more)
+      ≡ (i.written ++ old.waiting) ++ more
+  cut_at moved unwritten more e = append_assoc i.written moved (unwritten ++ more)
+      ∙ (ap (λ (x : List ℕ). i.written ++ x) (sym (append_assoc moved unwritten more) ∙ ap (λ (x : List ℕ). x ++ more) (sym e))
       ∙ sym (append_assoc i.written old.waiting more))
 
   is_stuck : (why : ListError) → IsStuck why old new → IsCutShort o why new
-  is_stuck why s = record {
-    written = i.written ++ s.moved;
-    left = s.left ++ (if old.is_begun then codes "\n" else []);
-    outlined = subst (λ (x : List ℕ). IsOutlined x o.outline) (sym
-        (cut_at s.moved s.left (if old.is_begun then codes "\n" else []) s.parts)) (completed old.is_begun refl);
-    took = Appends-trans o.taken old.taken new.taken i.written s.moved i.took s.took;
-    failed = s.failed ∙ ap (λ (b : Bool). output_failed {A = Unit {0}} (Err why) b) i.failed;
-    no_input = s.no_input;
-  }
+  is_stuck why s =
+      let w = beginning old.taken new.taken old.waiting why s.cut in
+      record {
+        written = i.written ++ w.moved;
+        unwritten = w.unwritten ++ (if old.is_begun then codes "\n" else []);
+        outlined = subst (λ (x : List ℕ). IsOutlined x o.outline) (sym
+            (cut_at w.moved w.unwritten (if old.is_begun then codes "\n" else []) w.parts)) (completed old.is_begun refl);
+        took = Appends-trans o.taken old.taken new.taken i.written w.moved i.took w.wrote;
+        failed = s.failed ∙ ap (λ (b : Bool). output_failed {A = Unit {0}} (Err why) b) i.failed;
+        no_input = no_input old.taken new.taken old.waiting why s.cut;
+      }
 
 -- ---- the calls
 
 -- memory was refused before anything was put
 pub stops : (o : Origin) (w : Writing) → w.why ≡ None → IsWritten o w → IsWritten o (record w { why = Some Memory })
 stops o w e i = is_stuck o w (record w { why = Some Memory }) (as_going o w e i) Memory (record {
-  moved = [];
-  left = w.waiting;
-  took = Appends-nil w.taken;
-  parts = refl;
+  cut = record { moved = []; unwritten = w.waiting; parts = refl; wrote = Appends-nil w.taken };
   begun = refl;
   failed = refl;
-  no_input = λ z. cc;
 })
 
 pub none_there : (why : Option ListError) → is_some why ≡ false → why ≡ None
 none_there None e = refl
 none_there (Some why) e = let no : true ≡ false = e in cc
-
--- the sink took a beginning of what waited
-pub output_fails : (old new : Writing) (bytes : List ℕ) (n : ℕ) → bytes ≡ old.waiting → Appends old.taken new.taken (take n bytes)
-    → new.is_begun ≡ old.is_begun → new.has_failed ≡ true → IsStuck Output old new
-output_fails old new bytes n e a b f = record {
-  moved = take n old.waiting;
-  left = drop n old.waiting;
-  took = subst (λ (x : List ℕ). Appends old.taken new.taken (take n x)) e a;
-  parts = sym (take-append-drop n old.waiting);
-  begun = b;
-  failed = f;
-  no_input = λ z. cc;
-}
 
 module _ (o : Origin) (old new : Writing) where
   -- by whether the writer had stopped, and has: what goes on, and what was cut, with this outline

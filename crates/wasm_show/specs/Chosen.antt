@@ -1,10 +1,11 @@
--- Which events a dump shows.
-use Rattle.std.specs.Prelude.{option_map, ℕ, Bool, true, false, List, [], Option, Some, None, nat_eq, bytes_eq}
-use Rattle.std.specs.Prelude.{if◌then◌else◌}
-use Rattle.wasm_grammar.specs.Reading.{Report, code_entry, custom_section, stream_end}
+-- Which events a dump shows, and the line of each.
+use Rattle.std.specs.Prelude.{◌≡◌, option_map, ℕ, Bool, true, false, List, [], ◌++◌, Option, Some, None, nat_eq}
+use Rattle.std.specs.Prelude.{bytes_eq, codes, if◌then◌else◌}
+use Rattle.wasm_grammar.specs.Reading.{Report, counted, code_entry, custom_section, stream_end}
 use Rattle.wasm_grammar.specs.Ids.{code_id}
+use Rattle.wasm_grammar.specs.Ids.{name_of as section_name}
 use Rattle.wasm_grammar.specs.Sections.{section_of}
-use Rattle.wasm_feed.specs.Listing.{line_of}
+use Rattle.wasm_feed.specs.Listing.{line_of, text_before}
 use Rattle.wasm_show.specs.declared.only.Only.{Only}
 use Rattle.wasm_show.specs.declared.only.Only.TheVariants.{All, Id, Name}
 
@@ -37,6 +38,28 @@ is_chosen All report = true
 is_chosen (Id id) report = if is_last report then true else is_id id (id_of report)
 is_chosen (Name name) report = if is_last report then true else is_name name.now (name_of report)
 
+-- the name of the section that is reported with its id; the text of any other report begins with its name
+abbrev pub counted_name : Report → Option (List ℕ)
+counted_name (counted id count window) = section_name id
+counted_name other = None
+
+abbrev pub after_blank : Option (List ℕ) → List ℕ
+after_blank (Some name) = codes " " ++ name
+after_blank None = []
+
+abbrev pub section_words : Report → List ℕ
+section_words report = after_blank (counted_name report)
+
+-- the line of what is reported: its text in a listing, and then the name of the section
+abbrev pub shown_line : Report → List ℕ
+shown_line report = text_before report (section_words report ++ codes "\n")
+
 -- the line of what is reported, where it is shown
 abbrev pub chosen_line : Only → Report → List ℕ
-chosen_line only report = if is_chosen only report then line_of report else []
+chosen_line only report = if is_chosen only report then shown_line report else []
+
+-- The lines of a listing and of a dump begin with the same text. A listing's has nothing after it, a dump's the name of
+-- the section.
+abbrev pub BeginAlike : Report → Type 0
+BeginAlike report = (line_of report ≡ text_before report [] ++ codes "\n")
+    × (shown_line report ≡ text_before report [] ++ (section_words report ++ codes "\n"))

@@ -25,8 +25,8 @@ pub record WritesWhole (taken written : Option (List ℕ)) (outline : List ℕ) 
 -- A beginning of one was written.
 pub record WritesSome (taken written : Option (List ℕ)) (outline : List ℕ) : Type 0 where
   pub text : List ℕ
-  pub left : List ℕ
-  pub outlined : IsOutlined (text ++ left) outline
+  pub unwritten : List ℕ
+  pub outlined : IsOutlined (text ++ unwritten) outline
   pub wrote : Appends taken written text
 
 -- what was written of a text with this outline, by how the dump ended

@@ -1,9 +1,10 @@
 -- Lines of text, some of them under others, and what a writer has written of them.
-use Rattle.std.specs.Prelude.{◌≡◌, ◌≢◌, ℕ, Bool, true, false, List, [], ◌++◌, codes, Option, Some, None, Result, Ok}
+use Rattle.std.specs.Prelude.{◌≡◌, ◌≢◌, ℕ, Bool, true, false, List, [], ◌++◌, codes, Option, Some, None}
 use Rattle.std.specs.Prelude.{Err, nat_eq, if◌then◌else◌}
 use Rattle.std.specs.List.{flat_map, list_all, list_any}
 use Rattle.std.specs.Io.KnownBytes.{Appends}
 use Rattle.wasm_feed.specs.Lists.{output_failed}
+use Rattle.wasm_feed.specs.Page.{IsCut, PutsBytes}
 use Rattle.wasm_feed.specs.declared.devices.ListError.{ListError}
 use Rattle.wasm_feed.specs.declared.devices.ListError.TheVariants.{Input}
 
@@ -80,8 +81,8 @@ pub record IsGoing (o : Origin) (w : Writing) : Type 0 where
 -- A beginning of such lines was written, and no more could be.
 pub record IsCutShort (o : Origin) (why : ListError) (w : Writing) : Type 0 where
   pub written : List ℕ
-  pub left : List ℕ
-  pub outlined : IsOutlined (written ++ left) o.outline
+  pub unwritten : List ℕ
+  pub outlined : IsOutlined (written ++ unwritten) o.outline
   pub took : Appends o.taken w.taken written
   pub failed : w.has_failed ≡ output_failed {A = Unit {0}} (Err why) o.has_failed
   pub no_input : why ≢ Input
@@ -110,29 +111,18 @@ AddsFirst line old new = (o : Origin) → IsWritten o old → IsWritten (with_li
 
 -- Bytes were put after those that wait, of which some may have been written.
 pub record IsPushed (bytes : List ℕ) (old new : Writing) : Type 0 where
-  pub moved : List ℕ
-  pub took : Appends old.taken new.taken moved
-  pub parts : old.waiting ++ bytes ≡ moved ++ new.waiting
+  pub puts : PutsBytes old.taken new.taken old.waiting bytes new.waiting
   pub begun : new.is_begun ≡ old.is_begun
   pub failed : new.has_failed ≡ old.has_failed
   pub why : new.why ≡ old.why
 
 -- A beginning of those that waited was written, and no more could be.
 pub record IsStuck (why : ListError) (old new : Writing) : Type 0 where
-  pub moved : List ℕ
-  pub left : List ℕ
-  pub took : Appends old.taken new.taken moved
-  pub parts : old.waiting ≡ moved ++ left
+  pub cut : IsCut old.taken new.taken old.waiting why
   pub begun : new.is_begun ≡ old.is_begun
   pub failed : new.has_failed ≡ output_failed {A = Unit {0}} (Err why) old.has_failed
-  pub no_input : why ≢ Input
 
--- what becomes of bytes that are put after those that wait
-abbrev pub Pushes : (bytes : List ℕ) (old new : Writing) → Result (Unit {0}) ListError → Type 0
-Pushes bytes old new (Ok done) = IsPushed bytes old new
-Pushes bytes old new (Err why) = IsStuck why old new
-
--- the same of a writer that stops where it is stuck
+-- what becomes of bytes that are put by a writer, which stops where it is stuck
 abbrev pub PutsAs : (before after : Option ListError) (bytes : List ℕ) (old new : Writing) → Type 0
 PutsAs (Some why) after bytes old new = new ≡ old
 PutsAs None None bytes old new = IsPushed bytes old new

@@ -1,13 +1,14 @@
 // Texts of the items of a module's sections.
 ghost use Rattle.wasm_show.specs.Tree.{Adds};
 
+use crate::expressions::show_expr;
 use crate::lists::{show_extent, show_list, show_section, under};
 use crate::show::Show;
 use crate::tree::Tree;
 use wasm_feed::Sink;
 use wasm_items::{
-    ConstExpr, Data, DataKind, Element, ElementItems, ElementKind, Export, ExternalKind,
-    Global as GlobalItem, Import, ImportItemCompact, Imports, Table, TableInit, TypeRef,
+    Data, DataKind, Element, ElementItems, ElementKind, Export, ExternalKind, Global as GlobalItem,
+    Import, ImportItemCompact, Imports, Table, TableInit, TypeRef,
 };
 
 // The word of what is imported or exported.
@@ -66,7 +67,7 @@ impl Show for ImportItemCompact<'_> {
     }
 }
 
-/// A group's imports are under its line.
+/// A bundle's imports are under its line.
 impl Show for Imports<'_> {
     fn show<W: Sink>(&self, level: usize, out: &mut Tree<W>) {
         match self {
@@ -84,20 +85,6 @@ impl Show for Imports<'_> {
                 show_list("names", level, names, out);
             }
         }
-    }
-}
-
-// Writes the offsets of an expression as a field.
-fn show_expr<W: Sink>(name: &str, expr: &ConstExpr<'_>, out: &mut Tree<W>)
-    ensures { Adds out.old out.new }
-{
-    let range = expr.range();
-    out.range(name, range.start, range.end);
-}
-
-impl Show for ConstExpr<'_> {
-    fn show<W: Sink>(&self, _level: usize, out: &mut Tree<W>) {
-        show_expr("expr", self, out);
     }
 }
 

@@ -3,7 +3,10 @@
 
 mod coredumps;
 mod custom;
+mod expressions;
+mod heading;
 mod items;
+pub mod laws;
 mod linking;
 mod lists;
 mod names;

@@ -24,6 +24,12 @@ impl Text for u32 {
     }
 }
 
+impl Text for i64 {
+    fn text<W: Sink>(&self, out: &mut Tree<W>) {
+        out.integer(*self);
+    }
+}
+
 /// An index.
 impl Show for u32 {
     fn show<W: Sink>(&self, _level: usize, out: &mut Tree<W>) {

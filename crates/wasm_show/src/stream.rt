@@ -7,13 +7,12 @@ ghost use Rattle.wasm_show.specs.Chosen.{chosen_line};
 ghost use Rattle.wasm_show.specs.Dump.{DumpsByTree, DumpsInto, ShowsStep};
 ghost use Rattle.wasm_show.specs.Tree.{AddsFirst};
 
+use crate::heading::shown_line;
 use crate::only::{Only, chooses};
 use crate::payload::show_payload;
 use crate::tree::Tree;
 use std::alloc::Global;
-use wasm_feed::{
-    Ended, Feeder, Line, ListError, Sink, Source, Step, Turn, fault_line, payload_line,
-};
+use wasm_feed::{Ended, Feeder, Line, ListError, Sink, Source, Step, Turn, fault_line};
 use wasm_parser::{Parser, Payload, Result as ParserResult};
 
 // Writes the line of a payload and what it holds, if it is shown.
@@ -28,7 +27,7 @@ fn show_chosen<W: Sink>(
     ensures { AddsFirst (chosen_line only.now (report_of payload.now)) out.old out.new }
 {
     if chooses(only, payload) {
-        payload_line(line, payload);
+        shown_line(line, payload);
         out.first(line.as_bytes());
         show_payload(alloc, payload, out);
     }
@@ -88,16 +87,16 @@ fn go_on<W: Sink>(out: &Tree<W>) -> Result<(), ListError>
     }
 }
 
-// The same as `dump`, by a tree over the output that has written nothing yet, and with room to read into.
+// The same as `dump`, by a tree over the output that has written nothing yet, and with a buffer to read into.
 fn dump_into<R: Source, W: Sink>(
     alloc: Global,
     only: &Only<'_>,
     input: &mut R,
     out: &mut Tree<W>,
-    room: &mut [u8],
+    buffer: &mut [u8],
 ) -> Result<Ended, ListError>
-    requires { 0 < length room.old }
-    ensures { DumpsInto only.now (device_of R.left R.has_failed input.old input.new)
+    requires { 0 < length buffer.old }
+    ensures { DumpsInto only.now (device_of R.remaining R.has_failed input.old input.new)
         out.old result out.new }
 {
     let mut line = Line::new();
@@ -110,7 +109,7 @@ fn dump_into<R: Source, W: Sink>(
             Turn::Read => {
                 out.write_out();
                 go_on(out)?;
-                feeder.read_from(input, room)?;
+                feeder.read_from(input, buffer)?;
             }
             Turn::End(ended) => {
                 out.write_out();
@@ -122,10 +121,10 @@ fn dump_into<R: Source, W: Sink>(
 }
 
 /// Reads the input, at most `piece` bytes at once and at least one, and writes what it holds as text. Each event that is shown
-/// has its line, as `list` writes it, and under it a line for each item, indented by two blanks a level. Offsets count bytes
-/// from the start of the stream, which is at 0. The tree must be one that has written nothing.
+/// has its line, as `list` writes it and with the name of its section, and under it a line for each item, indented by two blanks
+/// a level. Offsets count bytes from the start of the stream, which is at 0. The tree must be one that has written nothing.
 ///
-/// It keeps what the parser has not decided, the piece that came last, the room that it was read into, and the lines that wait,
+/// It keeps what the parser has not decided, the piece that came last, the buffer that it was read into, and the lines that wait,
 /// of which the tree's invariant bounds the bytes.
 ///
 /// A fault of the stream ends it; a fault of an item is a line at its place. An error leaves a beginning of the dump written:
@@ -139,9 +138,9 @@ pub fn dump<R: Source, W: Sink>(
     piece: usize,
 ) -> Result<Ended, ListError>
     requires { 1 ≤ piece }
-    ensures { DumpsByTree only.now (device_of R.left R.has_failed input.old input.new)
+    ensures { DumpsByTree only.now (device_of R.remaining R.has_failed input.old input.new)
         out.old result out.new }
 {
-    let mut room = vec![in alloc; 0u8; piece]?;
-    dump_into(alloc, only, input, out, room.as_mut_slice())
+    let mut buffer = vec![in alloc; 0u8; piece]?;
+    dump_into(alloc, only, input, out, buffer.as_mut_slice())
 }

@@ -1,15 +1,15 @@
 // Lines of text, some of them under others.
-ghost use Rattle.std.specs.Prelude.{◌≡◌, ◌≤◌, [], None, true, false, OnOk, length, vec_len};
+ghost use Rattle.std.specs.Prelude.{◌≡◌, ◌≤◌, [], None, true, false, length};
 ghost use Rattle.std.specs.Option.{is_some};
-ghost use Rattle.wasm_show.specs.Tree.{Adds, AddsFirst, EndsLine, IsOut, Puts, Pushes, starts};
+ghost use Rattle.wasm_show.specs.Tree.{Adds, AddsFirst, EndsLine, IsOut, Puts, starts};
 
 use std::alloc::Global;
 use std::marker::Model;
 use wasm_base::Error;
-use wasm_feed::{Line, ListError, Sink, write_all};
+use wasm_feed::{Line, ListError, Page, Sink};
 
-/// How many bytes wait at most.
-const ROOM: usize = 65_536;
+/// How many bytes are put at once at most.
+const PAGE_BYTES: usize = 65_536;
 
 /// How many bytes stand for a byte string.
 const SHOWN: usize = 16;
@@ -21,10 +21,9 @@ const SHOWN: usize = 16;
 /// or by the next one. Where the sink fails, or memory is refused, the tree stops and writes nothing more: `stopped` says why.
 pub struct Tree<W: Sink> {
     output: W,
-    waiting: Vec<u8>,
+    page: Page,
     is_begun: bool,
     why: Option<ListError>,
-    ghost within: { vec_len waiting ≤ 65536 },
 }
 
 impl<W: Sink> Model for Tree<W> {
@@ -32,7 +31,7 @@ impl<W: Sink> Model for Tree<W> {
 
     ghost Value = { Writing };
 
-    ghost view = { λ t. record { taken = W.taken t.output; waiting = t.waiting.items; is_begun = t.is_begun; has_failed = W.has_failed t.output; why = t.why } };
+    ghost view = { λ t. record { taken = W.taken t.output; waiting = t.page; is_begun = t.is_begun; has_failed = W.has_failed t.output; why = t.why } };
 }
 
 impl<W: Sink> Tree<W> {
@@ -42,7 +41,7 @@ impl<W: Sink> Tree<W> {
     {
         Tree {
             output,
-            waiting: Vec::new(alloc),
+            page: Page::new(alloc),
             is_begun: false,
             why: None,
         }
@@ -55,7 +54,7 @@ impl<W: Sink> Tree<W> {
     {
         let Tree {
             output,
-            waiting: _,
+            page: _,
             is_begun: _,
             why: _,
         } = self;
@@ -76,35 +75,7 @@ impl<W: Sink> Tree<W> {
         self.why.is_some()
     }
 
-    // Writes what waits.
-    fn move_out(&mut self) -> Result<(), ListError>
-        ensures pushes { Pushes [] self.old self.new result }
-        ensures all { OnOk result (self.new.waiting ≡ []) }
-    {
-        match write_all(&mut self.output, &self.waiting) {
-            Ok(()) => {
-                self.waiting.clear();
-                Ok(())
-            }
-            Err(_) => Err(ListError::Output),
-        }
-    }
-
-    // Puts bytes after those that wait, which are written first where there is no room.
-    fn try_push(&mut self, bytes: &[u8]) -> Result<(), ListError>
-        requires { length bytes.now ≤ 65536 }
-        ensures { Pushes bytes.now self.old self.new result }
-    {
-        if bytes.len() > ROOM - self.waiting.len() {
-            self.move_out()?;
-        }
-        match self.waiting.extend_from_slice(bytes) {
-            Ok(()) => Ok(()),
-            Err(_) => Err(ListError::Memory),
-        }
-    }
-
-    // The same, unless the tree has stopped; it stops where this can't be.
+    // Puts bytes after those that wait, unless the tree has stopped; it stops where this can't be.
     fn push(&mut self, bytes: &[u8])
         requires { length bytes.now ≤ 65536 }
         ensures { Puts bytes.now self.old self.new }
@@ -112,7 +83,7 @@ impl<W: Sink> Tree<W> {
         if self.why.is_some() {
             return;
         }
-        if let Err(why) = self.try_push(bytes) {
+        if let Err(why) = self.page.put(bytes, &mut self.output) {
             self.why = Some(why);
         }
     }
@@ -125,7 +96,7 @@ impl<W: Sink> Tree<W> {
         if self.why.is_some() {
             return;
         }
-        if let Err(why) = self.move_out() {
+        if let Err(why) = self.page.write_out(&mut self.output) {
             self.why = Some(why);
         }
     }
@@ -153,7 +124,7 @@ impl<W: Sink> Tree<W> {
         ensures waits { result ≡ length self.now.waiting }
         ensures bounded { result ≤ 65536 }
     {
-        self.waiting.len()
+        self.page.len()
     }
 
     /// Writes a line of the first level, which has its line feed, and at most 65,536 bytes.
@@ -235,8 +206,8 @@ impl<W: Sink> Tree<W> {
         ensures { Adds self.old self.new }
     {
         let mut rest = bytes;
-        'pieces: while rest.len() > ROOM {
-            let (first, later) = rest.split_at(ROOM);
+        'pieces: while rest.len() > PAGE_BYTES {
+            let (first, later) = rest.split_at(PAGE_BYTES);
             self.piece(first);
             rest = later;
         }
@@ -288,6 +259,13 @@ impl<W: Sink> Tree<W> {
         ensures { Adds self.old self.new }
     {
         self.field(name);
+        self.integer(number);
+    }
+
+    /// Writes a number in decimal digits, with a sign where it is below 0.
+    pub fn integer(&mut self, number: i64)
+        ensures { Adds self.old self.new }
+    {
         if number < 0 {
             self.text("-");
         }
@@ -353,7 +331,14 @@ impl<W: Sink> Tree<W> {
     {
         self.number(name, bytes.len() as u64);
         self.text(":");
-        for byte in &bytes[..bytes.len().min(SHOWN)] {
+        self.hexadecimals(&bytes[..bytes.len().min(SHOWN)]);
+    }
+
+    /// Writes bytes, each as two hexadecimal digits.
+    pub fn hexadecimals(&mut self, bytes: &[u8])
+        ensures { Adds self.old self.new }
+    {
+        for byte in bytes {
             self.hexadecimal(*byte);
         }
     }
@@ -367,11 +352,19 @@ impl<W: Sink> Tree<W> {
         self.digits(end);
     }
 
-    /// Writes a line that is a fault: `fault`, its offset in the whole stream, its message, and its number, if it has one.
+    /// Writes a line that is a fault.
     pub fn fault(&mut self, level: usize, error: &Error)
         ensures { Adds self.old self.new }
     {
-        self.line(level, "fault ");
+        self.indent(level);
+        self.fault_text(error);
+    }
+
+    /// Writes a fault: `fault`, its offset in the whole stream, its message, and its number, if it has one.
+    pub fn fault_text(&mut self, error: &Error)
+        ensures { Adds self.old self.new }
+    {
+        self.text("fault ");
         self.digits(error.offset());
         self.word(error.message());
         if let Some(number) = error.number() {

@@ -47,7 +47,7 @@ pub fn check_in<'a, T: FromReaderIn<'a>>(
     Ok(())
 }
 
-/// Whether a module imports a memory, alone or in a group; or the first fault before one.
+/// Whether a module imports a memory, alone or in a bundle; or the first fault before one.
 pub fn imports_memory(section: ImportSectionReader<'_>) -> Result<bool>
     ensures { let found = memory_in (imports_of section.entry) in
         MatchResult result (λ some. found ≡ Ok some) (λ e. found ≡ Err (fault_at e)) }

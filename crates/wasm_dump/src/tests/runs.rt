@@ -10,7 +10,7 @@ use wasm_feed::{BoundedSink, Failed, ReadSource, Sink, SliceSource, Source, Writ
 const MODULE: &[u8] = b"\0asm\x01\0\0\0\x03\x02\x01\x05\x0a\x04\x01\x02\0\x0b\0\x06\x04type\xff";
 
 const DUMP: &[u8] = b"version 0 8 1 module
-section 3 10 12 1
+section 3 10 12 1 function
   11 index=5
 code 14 18 1 3
 body 16 18
@@ -19,7 +19,7 @@ custom 20 26 25
 end 26
 ";
 
-const USAGE: &[u8] = b"usage: wasm_dump [--help] [--section ID|NAME]\n";
+const USAGE: &[u8] = b"usage: wasm_dump [--help] [--version] [--section ID|NAME] [FILE]...\n";
 
 // The program's own name, and these arguments.
 fn arguments(alloc: Global, words: &[&str]) -> Result<Args, Fail> {
@@ -37,7 +37,7 @@ fn run_over<R: Source, W: Write + Drop>(
     input: &mut R,
     writer: W,
 ) -> Result<(ExitCode, BoundedSink), Fail> {
-    let mut errors = BoundedSink::new(alloc, 60)?;
+    let mut errors = BoundedSink::new(alloc, 100)?;
     let output = WriteSink::new(writer);
     let (status, _output) = run_program(alloc, given, input, output, &mut errors);
     Ok((status, errors))
@@ -61,7 +61,7 @@ fn runs(
 
 #[test]
 fn shows_what_is_asked_for(rt: HostRuntime) -> Result<(), Fail> {
-    let third = b"section 3 10 12 1\n  11 index=5\nend 26\n".as_slice();
+    let third = b"section 3 10 12 1 function\n  11 index=5\nend 26\n".as_slice();
     let code = b"code 14 18 1 3\nbody 16 18\nend 26\n".as_slice();
     let custom = b"custom 20 26 25\n  section name=\"type\" unknown\nend 26\n".as_slice();
     let end = b"end 26\n".as_slice();
@@ -112,19 +112,19 @@ fn knows_the_names_of_the_standard(rt: HostRuntime) -> Result<(), Fail> {
     let stream =
         b"\0asm\x01\0\0\0\x01\x01\0\x02\x01\0\x03\x01\0\x04\x01\0\x05\x01\0\x0d\x01\0\x06\x01\0\x07\x01\0\x08\x01\0\x09\x01\0\x0c\x01\0\x0a\x01\0\x0b\x01\0";
     let rows: [(&str, &[u8]); 13] = [
-        ("type", b"section 1 10 11 0\nend 47\n"),
-        ("import", b"section 2 13 14 0\nend 47\n"),
-        ("function", b"section 3 16 17 0\nend 47\n"),
-        ("table", b"section 4 19 20 0\nend 47\n"),
-        ("memory", b"section 5 22 23 0\nend 47\n"),
-        ("tag", b"section 13 25 26 0\nend 47\n"),
-        ("global", b"section 6 28 29 0\nend 47\n"),
-        ("export", b"section 7 31 32 0\nend 47\n"),
+        ("type", b"section 1 10 11 0 type\nend 47\n"),
+        ("import", b"section 2 13 14 0 import\nend 47\n"),
+        ("function", b"section 3 16 17 0 function\nend 47\n"),
+        ("table", b"section 4 19 20 0 table\nend 47\n"),
+        ("memory", b"section 5 22 23 0 memory\nend 47\n"),
+        ("tag", b"section 13 25 26 0 tag\nend 47\n"),
+        ("global", b"section 6 28 29 0 global\nend 47\n"),
+        ("export", b"section 7 31 32 0 export\nend 47\n"),
         ("start", b"start 34 35 0\nend 47\n"),
-        ("element", b"section 9 37 38 0\nend 47\n"),
+        ("element", b"section 9 37 38 0 element\nend 47\n"),
         ("datacount", b"datacount 40 41 0\nend 47\n"),
         ("code", b"code 43 44 0 0\nend 47\n"),
-        ("data", b"section 11 46 47 0\nend 47\n"),
+        ("data", b"section 11 46 47 0 data\nend 47\n"),
     ];
     for (word, text) in rows {
         let given = Ok(arguments(rt.alloc(), &["--section", word])?);
@@ -176,11 +176,23 @@ fn says_how_it_is_used(rt: HostRuntime) -> Result<(), Fail> {
     assert!(rt;
         written
             .as_slice()
-            .starts_with(b"usage: wasm_dump [--section ID|NAME] < FILE\n\n")
+            .starts_with(b"usage: wasm_dump [--section ID|NAME] [FILE]...\n\n")
     );
     assert!(rt; written.as_slice().ends_with(b"or memory failed.\n"));
     assert_eq!(rt; errors.written(), b"".as_slice());
     Ok(())
+}
+
+#[test]
+fn says_which_version_it_is(rt: HostRuntime) -> Result<(), Fail> {
+    let given = Ok(arguments(rt.alloc(), &["--version"])?);
+    runs(
+        &rt,
+        rt.alloc(),
+        given,
+        MODULE,
+        (0, b"wasm_dump 0.263.0\n", b""),
+    )
 }
 
 /// A reader that fails.
@@ -230,7 +242,7 @@ fn says_which_device_failed(rt: HostRuntime) -> Result<(), Fail> {
     Ok(())
 }
 
-/// A source of the bytes of a slice that notes the smallest and the largest room that it was given.
+/// A source of the bytes of a slice that notes the smallest and the largest buffer that it was given.
 #[derive(Drop)]
 struct Measuring<'a> {
     inner: SliceSource<'a>,
@@ -241,7 +253,7 @@ struct Measuring<'a> {
 impl Source for Measuring<'_> {
     ghost use Rattle.std.specs.Prelude.{Some, false};
 
-    ghost left = { λ s. Some s.inner.rest.now };
+    ghost remaining = { λ s. Some s.inner.rest.now };
 
     ghost has_failed = { λ _. false };
 

@@ -42,10 +42,13 @@ pub fn write_all<W: Sink>(output: &mut W, bytes: &[u8]) -> Result<(), Failed>
     Ok(())
 }
 
-// An empty list with room for so many bytes.
-pub(crate) fn room<A: Allocator>(alloc: A, size: usize) -> Result<Vec<u8, A>, AllocError>
+// An empty list that may have so many bytes without growing.
+pub(crate) fn list_of_capacity<A: Allocator>(
+    alloc: A,
+    size: usize,
+) -> Result<Vec<u8, A>, AllocError>
     ensures empty { IfOk result (λ bytes. bytes.items ≡ []) }
-    ensures room { IfOk result (λ bytes. size ≤ vec_capacity bytes) }
+    ensures capacity { IfOk result (λ bytes. size ≤ vec_capacity bytes) }
 {
     Vec::with_capacity(alloc, size)
 }
@@ -56,7 +59,7 @@ pub struct BoundedSink<A: Allocator = Global> {
     bytes: Vec<u8, A>,
     size: usize,
     failed: bool,
-    ghost room: { size ≤ vec_capacity bytes },
+    ghost capacity: { size ≤ vec_capacity bytes },
     ghost within: { vec_len bytes ≤ size },
 }
 
@@ -79,7 +82,7 @@ impl<A: Allocator> BoundedSink<A> {
         ensures failed { IfOk result (λ s. s.failed ≡ false) }
     {
         Ok(BoundedSink {
-            bytes: room(alloc, size)?,
+            bytes: list_of_capacity(alloc, size)?,
             size,
             failed: false,
         })

@@ -8,7 +8,7 @@ use std::io::Read;
 /// Gives bytes, a few at a time.
 pub trait Source {
     /// The bytes that it has left, where these are known.
-    ghost left: { Self → Option (List ℕ) } = { λ _. None };
+    ghost remaining: { Self → Option (List ℕ) } = { λ _. None };
 
     /// Whether a read has failed.
     ghost has_failed: { Self → Bool };
@@ -17,7 +17,7 @@ pub trait Source {
     /// moves none.
     fn read(&mut self, buf: &mut [u8]) -> Result<usize, Failed>
         ensures bound { IfOk result (λ n. n ≤ length buf.new) }
-        ensures bytes { ReadConsumes (left self.old) (left self.new) result buf.new }
+        ensures bytes { ReadConsumes (remaining self.old) (remaining self.new) result buf.new }
         ensures failed { has_failed self.new
             ≡ (if is_ok result then has_failed self.old else true) };
 
@@ -42,7 +42,7 @@ impl<'a> SliceSource<'a> {
 }
 
 impl Source for SliceSource<'_> {
-    ghost left = { λ s. Some s.rest.now };
+    ghost remaining = { λ s. Some s.rest.now };
 
     ghost has_failed = { λ _. false };
 
@@ -85,7 +85,7 @@ impl<R: Read> ReadSource<R> {
 }
 
 impl<R: Read> Source for ReadSource<R> {
-    ghost left = { λ s. R.remaining s.reader };
+    ghost remaining = { λ s. R.remaining s.reader };
 
     ghost has_failed = { λ s. s.failed };
 

@@ -34,7 +34,7 @@ impl<'a> Failing<'a> {
 impl Source for Failing<'_> {
     ghost use Rattle.std.specs.Prelude.{Some};
 
-    ghost left = { λ s. Some s.rest.now };
+    ghost remaining = { λ s. Some s.rest.now };
 
     ghost has_failed = { λ s. s.failed };
 
@@ -277,7 +277,7 @@ struct Measuring<'a> {
 impl Source for Measuring<'_> {
     ghost use Rattle.std.specs.Prelude.{Some};
 
-    ghost left = { λ s. Some s.inner.rest.now };
+    ghost remaining = { λ s. Some s.inner.rest.now };
 
     ghost has_failed = { λ _. false };
 

@@ -16,20 +16,20 @@ const MODULE: &[u8] =
 
 /// Its dump.
 const DUMP: &[u8] = b"version 0 8 1 module
-section 1 10 15 1
+section 1 10 15 1 type
   11 explicit=false type=(sub final (func (param i32)))
-section 2 17 27 1
+section 2 17 27 1 import
   18 module=\"env\" name=\"m\" ty=memory memory64=false shared=false initial=1 maximum=none page_size_log2=none
-section 3 29 31 1
+section 3 29 31 1 function
   30 index=0
-section 7 33 38 1
+section 7 33 38 1 export
   34 name=\"f\" kind=func index=0
-section 9 40 45 1
+section 9 40 45 1 element
   41 kind=passive functions=43..45 count=1 range=41..45
     44 index=0
 code 47 51 1 3
 body 49 51
-section 11 53 59 1
+section 11 53 59 1 data
   54 kind=passive data=3:6122ff range=54..59
 custom 61 75 66
   section name=\"name\"
@@ -80,7 +80,10 @@ fn shows_every_item(rt: HostRuntime) -> Result<(), Fail> {
 #[test]
 fn shows_chosen_sections(rt: HostRuntime) -> Result<(), Fail> {
     let rows: [(Only<'_>, &[u8]); 5] = [
-        (Only::Id(3), b"section 3 29 31 1\n  30 index=0\nend 75\n"),
+        (
+            Only::Id(3),
+            b"section 3 29 31 1 function\n  30 index=0\nend 75\n",
+        ),
         (Only::Id(10), b"code 47 51 1 3\nbody 49 51\nend 75\n"),
         (Only::Id(13), b"end 75\n"),
         (
@@ -101,7 +104,7 @@ fn shows_faults_at_their_place(rt: HostRuntime) -> Result<(), Fail> {
     let stream = b"\0asm\x01\0\0\0\x03\x03\x02\x85\x80";
     let how = Ok(Ended::Fault(Error::new(Fault::FunctionWithoutCode, 13)));
     let text =
-        b"version 0 8 1 module\nsection 3 10 13 2\n  fault 13 unexpected end-of-file\nfault 13 function section has non-zero count but code section is absent\n";
+        b"version 0 8 1 module\nsection 3 10 13 2 function\n  fault 13 unexpected end-of-file\nfault 13 function section has non-zero count but code section is absent\n";
     dumps(&rt, rt.alloc(), &Only::All, stream, how, text)
 }
 
@@ -110,7 +113,7 @@ fn writes_texts_in_quotes(rt: HostRuntime) -> Result<(), Fail> {
     // The name is `a"\` and a letter of two bytes, and then a line feed.
     let stream = b"\0asm\x01\0\0\0\x07\x0a\x01\x06a\"\\\xc3\xa9\n\x03\x07";
     let text =
-        b"version 0 8 1 module\nsection 7 10 20 1\n  11 name=\"a\\22\\5c\\c3\\a9\\0a\" kind=global index=7\nend 20\n";
+        b"version 0 8 1 module\nsection 7 10 20 1 export\n  11 name=\"a\\22\\5c\\c3\\a9\\0a\" kind=global index=7\nend 20\n";
     dumps(&rt, rt.alloc(), &Only::All, stream, Ok(Ended::End), text)
 }
 
@@ -162,7 +165,7 @@ fn shows_what_came_before_the_source_failed(rt: HostRuntime) -> Result<(), Fail>
     assert!(rt; ended == Err(ListError::Input));
     assert!(rt; input.failed());
     let text =
-        b"version 0 8 1 module\nsection 1 10 15 1\n  11 explicit=false type=(sub final (func (param i32)))\nsection 2 17 27 1\n  18 module=\"env\" name=\"m\" ty=memory memory64=false shared=false initial=1 maximum=none page_size_log2=none\n";
+        b"version 0 8 1 module\nsection 1 10 15 1 type\n  11 explicit=false type=(sub final (func (param i32)))\nsection 2 17 27 1 import\n  18 module=\"env\" name=\"m\" ty=memory memory64=false shared=false initial=1 maximum=none page_size_log2=none\n";
     assert_eq!(rt; output.written(), text.as_slice());
     Ok(())
 }

@@ -26,7 +26,7 @@ fn is_end(payload: Payload<'_>) -> bool {
 // How many reads, and how many steps without a request, it takes to read these bytes into room for so many, and how many bytes
 // were stored at most. Bytes are asked for where a step asks, and nowhere else.
 fn read_by(alloc: Global, bytes: &[u8], size: usize) -> Result<(u32, u32, usize), Fail> {
-    let mut room = vec![in alloc; 0u8; size.max(1)]?;
+    let mut buffer = vec![in alloc; 0u8; size.max(1)]?;
     let mut source = SliceSource::new(bytes);
     let mut feeder = Feeder::new(alloc, 0, WasmFeatures::all());
     let mut reads = 0u32;
@@ -40,8 +40,8 @@ fn read_by(alloc: Global, bytes: &[u8], size: usize) -> Result<(u32, u32, usize)
         if is_last {
             return Ok((reads, steps, most));
         }
-        if feeder.wants_more() && room.len() > 0 {
-            feeder.read_from(&mut source, room.as_mut_slice())?;
+        if feeder.wants_more() && buffer.len() > 0 {
+            feeder.read_from(&mut source, buffer.as_mut_slice())?;
             reads = reads.wrapping_add(1);
             most = feeder.stored().max(most);
         }
@@ -60,11 +60,11 @@ fn a_source_is_read_where_more_is_asked_for(rt: HostRuntime) -> Result<(), Fail>
 
 #[test]
 fn a_source_with_nothing_is_at_its_end(rt: HostRuntime) -> Result<(), Fail> {
-    let mut room = [0u8; 4];
+    let mut buffer = [0u8; 4];
     let mut source = SliceSource::new(b"");
     let mut feeder = Feeder::new(rt.alloc(), 0, WasmFeatures::all());
     if feeder.wants_more() {
-        feeder.read_from(&mut source, &mut room)?;
+        feeder.read_from(&mut source, &mut buffer)?;
     }
     assert_eq!(rt;
         (feeder.held(), feeder.stored(), feeder.wants_more()),

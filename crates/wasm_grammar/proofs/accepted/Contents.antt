@@ -13,8 +13,9 @@ use Rattle.wasm_grammar.specs.Accepted.{IsNumber, IsFormed}
 use Rattle.wasm_grammar.proofs.parts.Placed.{none_when}
 
 -- nothing is wrong with content that is one number
-single_to : (left : Fault) (o n : ℕ) (content : List ℕ) → IsNumber content n → wrong_single left o content (number VarU32 content) ≡ None
-single_to left o n content e = rw e (rw (le-ltb (length content) (length content) (omega arith)) refl)
+single_to : (trailing : Fault) (o n : ℕ) (content : List ℕ) → IsNumber content n
+    → wrong_single trailing o content (number VarU32 content) ≡ None
+single_to trailing o n content e = rw e (rw (le-ltb (length content) (length content) (omega arith)) refl)
 
 -- good content has no fault
 pub good_to : (form : Form) (o : ℕ) (content : List ℕ) → IsFormed form content → wrong_content form o content ≡ None
@@ -37,15 +38,16 @@ read_from o content (bad f place) e h = cc
 read_from o content short e h = cc
 
 -- content with no fault as one number is one number
-single_from : (left : Fault) (o : ℕ) (content : List ℕ) (n : Number) → number VarU32 content ≡ n → wrong_single left o content n ≡ None
+single_from : (trailing : Fault) (o : ℕ) (content : List ℕ) (n : Number) → number VarU32 content ≡ n
+    → wrong_single trailing o content n ≡ None
     → (v : ℕ) × IsNumber content v
-single_from left o content (read v k) e h =
+single_from trailing o content (read v k) e h =
     let u : Used VarU32 content v k = number-used VarU32 content v k e in
-    let l : length content ≤ k = ltb-false k (length content) (none_when (nat_lt k (length content)) (at_offset left (o + k)) h) in
+    let l : length content ≤ k = ltb-false k (length content) (none_when (nat_lt k (length content)) (at_offset trailing (o + k)) h) in
     let z : k ≡ length content = omega (arith, u.there) in
     (v, subst (λ (x : ℕ). number VarU32 content ≡ read v x) z e)
-single_from left o content (bad f place) e h = cc
-single_from left o content short e h = cc
+single_from trailing o content (bad f place) e h = cc
+single_from trailing o content short e h = cc
 
 -- content with no fault is good
 pub good_from : (form : Form) (o : ℕ) (content : List ℕ) → wrong_content form o content ≡ None → IsFormed form content

@@ -11,7 +11,7 @@ use Rattle.wasm_grammar.specs.Content.{Kind, code, kind_of, ended}
 use Rattle.wasm_grammar.specs.FrameEvents.{header_event, section_event, code_events, KindEvents, FrameEvents, FramesEvents, body_events}
 use Rattle.wasm_grammar.specs.Grammar.{version, section, code_start, Tile, tile, final, SectionContext, Grammar, verdict, end_at_section}
 use Rattle.wasm_grammar.specs.Grammar.{section_grammar}
-use Rattle.wasm_grammar.specs.Tiling.{bytes_of, grammar, Faultless, context_of, bodies_left, bytes_left, is_start}
+use Rattle.wasm_grammar.specs.Tiling.{bytes_of, grammar, Faultless, context_of, bodies_to_come, bytes_to_come, is_start}
 use Rattle.wasm_grammar.specs.Reading.{Event, events_of, Reads}
 use Rattle.wasm_grammar.specs.Accepted.{sized_bytes, SectionFrame, frame_bytes, IsFrame, IsGood, FitsAfter, CodeDivision, IsAccepted}
 use Rattle.wasm_grammar.specs.Accepted.{header_bytes}
@@ -40,7 +40,7 @@ pub record Closed (start : ℕ) (encoding : Encoding) (fs : List SectionFrame) (
   pub faultless : Faultless start tiles
   pub joined : bytes_of tiles ≡ stream_of encoding fs
   pub knows : Knows encoding fs (context_of tiles)
-  pub closed : nat_eq (bodies_left tiles + bytes_left tiles) 0 ≡ true
+  pub closed : nat_eq (bodies_to_come tiles + bytes_to_come tiles) 0 ≡ true
   pub told : (features : ℕ) → Told start features encoding fs tiles
 
 -- some tiles are

@@ -23,7 +23,7 @@ use Rattle.wasm_grammar.specs.Grammar.{Shape, section, code_entry, Tile, Verdict
 use Rattle.wasm_grammar.specs.Grammar.{accept, reject, check, u32_field, bytes, section_start, verdict, version_of, header_of}
 use Rattle.wasm_grammar.specs.Grammar.{header_grammar, end_at_section, wrong_data, content_grammar, after_length, after_id, section_grammar}
 use Rattle.wasm_grammar.specs.Grammar.{body_grammar}
-use Rattle.wasm_grammar.specs.Tiling.{context_of, grammar, bodies_left, bytes_left, bytes_of}
+use Rattle.wasm_grammar.specs.Tiling.{context_of, grammar, bodies_to_come, bytes_to_come, bytes_of}
 use Rattle.wasm_grammar.specs.Undecided.{ending_of_number, deciding_ending}
 use Rattle.wasm_grammar.specs.Waiting.{enough, wants, later, later_number, waiting}
 use Rattle.wasm_grammar.specs.declared.encoding.Encoding.{Encoding}
@@ -382,5 +382,5 @@ Differs-inside false p m l o = Differs-body m l o
 
 pub Differs-grammar : (start : ℕ) (ts : List Tile) → Differs (grammar start ts)
 Differs-grammar start [] = Differs-header start
-Differs-grammar start (t ∷ ts) = Differs-inside (nat_eq (bodies_left (t ∷ ts) + bytes_left (t ∷ ts)) 0) (context_of (t ∷ ts))
-    (bodies_left (t ∷ ts)) (bytes_left (t ∷ ts)) (start + length (bytes_of (t ∷ ts)))
+Differs-grammar start (t ∷ ts) = Differs-inside (nat_eq (bodies_to_come (t ∷ ts) + bytes_to_come (t ∷ ts)) 0) (context_of (t ∷ ts))
+    (bodies_to_come (t ∷ ts)) (bytes_to_come (t ∷ ts)) (start + length (bytes_of (t ∷ ts)))

@@ -14,7 +14,7 @@ use Rattle.wasm_base.proofs.Numbers.{sum_below}
 use Rattle.wasm_grammar.specs.Content.{Kind, code, whole, kind_of}
 use Rattle.wasm_grammar.specs.Grammar.{Tile, SectionContext, Grammar, accept, reject, check, u32_field, bytes, section_start, header_of}
 use Rattle.wasm_grammar.specs.Grammar.{header_grammar, content_grammar, section_grammar, body_grammar}
-use Rattle.wasm_grammar.specs.Tiling.{context_of, grammar, bodies_left, bytes_left, bytes_of}
+use Rattle.wasm_grammar.specs.Tiling.{context_of, grammar, bodies_to_come, bytes_to_come, bytes_of}
 use Rattle.wasm_grammar.specs.Undecided.{ending_of_number, deciding_ending}
 use Rattle.wasm_grammar.specs.declared.encoding.Encoding.{Encoding}
 
@@ -142,8 +142,8 @@ Bounded-inside false p m l o = Bounded-body m l o
 
 Bounded-grammar : (start : ℕ) (ts : List Tile) → Bounded (grammar start ts)
 Bounded-grammar start [] = Bounded-header start
-Bounded-grammar start (t ∷ ts) = Bounded-inside (nat_eq (bodies_left (t ∷ ts) + bytes_left (t ∷ ts)) 0) (context_of (t ∷ ts))
-    (bodies_left (t ∷ ts)) (bytes_left (t ∷ ts)) (start + length (bytes_of (t ∷ ts)))
+Bounded-grammar start (t ∷ ts) = Bounded-inside (nat_eq (bodies_to_come (t ∷ ts) + bytes_to_come (t ∷ ts)) 0) (context_of (t ∷ ts))
+    (bodies_to_come (t ∷ ts)) (bytes_to_come (t ∷ ts)) (start + length (bytes_of (t ∷ ts)))
 
 pub ending_is_small : (start : ℕ) (ts : List Tile) (xs : List ℕ) → IsSmall (deciding_ending (grammar start ts) xs)
 ending_is_small start ts xs = small_ending (grammar start ts) (Bounded-grammar start ts) xs

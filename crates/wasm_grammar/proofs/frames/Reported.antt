@@ -12,7 +12,7 @@ use Rattle.wasm_grammar.specs.Grammar.{Shape, version, section, code_start, code
 use Rattle.wasm_grammar.specs.Grammar.{section_grammar, body_grammar, content_grammar}
 use Rattle.wasm_grammar.specs.Reading.{Event, custom_report, section_report, tile_report, event_of, last_event, events_of}
 use Rattle.wasm_grammar.specs.Sections.{section_of, sections_of}
-use Rattle.wasm_grammar.specs.Tiling.{bytes_of, context_of, grammar, encoding_of, bodies_left, bytes_left}
+use Rattle.wasm_grammar.specs.Tiling.{bytes_of, context_of, grammar, encoding_of, bodies_to_come, bytes_to_come}
 use Rattle.wasm_grammar.proofs.readings.EndToEnd.{Closes, tile_closes}
 use Rattle.wasm_grammar.proofs.parts.Placed.{Each, each_tile, IsBody, bodied, IsHeader, headed}
 use Rattle.wasm_grammar.proofs.accepted.KindIds.{IdOf, id_as, code_has_its_id}
@@ -52,7 +52,8 @@ kinded_at false p m l o xs t e = kinded_body p.encoding t.shape (bodied m l o xs
 pub kinded : (start : ℕ) (u : Tile) (ts : List Tile) (xs : List ℕ) (t : Tile) → verdict (grammar start (u ∷ ts)) xs ≡ tile t
     → Kinded (encoding_of (u ∷ ts)) t.shape
 kinded start u ts xs t e =
-    kinded_at (nat_eq (bodies_left (u ∷ ts) + bytes_left (u ∷ ts)) 0) (context_of (u ∷ ts)) (bodies_left (u ∷ ts)) (bytes_left (u ∷ ts))
+    kinded_at (nat_eq (bodies_to_come (u ∷ ts) + bytes_to_come (u ∷ ts)) 0) (context_of (u ∷ ts)) (bodies_to_come (u ∷ ts))
+    (bytes_to_come (u ∷ ts))
     (start + length (bytes_of (u ∷ ts))) xs t e
 
 encoding_kept : (t : Tile) (ts : List Tile) (s : Shape) → t.shape ≡ s → Kinded (encoding_of ts) s → encoding_of (t ∷ ts) ≡ encoding_of ts

@@ -16,7 +16,7 @@ use Rattle.wasm_grammar.specs.Reading.{Report, code_entry, custom_report, sectio
 use Rattle.wasm_grammar.specs.SectionEvents.{bytes_of_bodies, SaysContent, IsSectionEvent, SaysItsBytes}
 use Rattle.wasm_grammar.specs.Sections.{section_of}
 use Rattle.wasm_grammar.specs.EventRanges.{AtOffsets}
-use Rattle.wasm_grammar.specs.Tiling.{bytes_of, context_of, grammar, bodies_left, bytes_left, Faultless}
+use Rattle.wasm_grammar.specs.Tiling.{bytes_of, context_of, grammar, bodies_to_come, bytes_to_come, Faultless}
 use Rattle.wasm_grammar.proofs.readings.BodyCounts.{body_in_section}
 use Rattle.wasm_grammar.proofs.readings.EndToEnd.{at_offsets_more, tiles_consume}
 use Rattle.wasm_grammar.proofs.parts.Placed.{IsHeader, headed}
@@ -230,8 +230,9 @@ tile_says : (start features : ℕ) (ts : List Tile) (t : Tile) → verdict (gram
 tile_says start features [] t v = header_says features (start + 0) t t.shape refl (headed start t.bytes t v)
 tile_says start features (u ∷ ts) t v =
     let us : List Tile = u ∷ ts in
-    inside_says features (start + length (bytes_of us)) (nat_eq (bodies_left us + bytes_left us) 0) (context_of us) (bodies_left us)
-    (bytes_left us) t (report_after start features (start + length (bytes_of us)) u ts t v) v
+    inside_says features (start + length (bytes_of us)) (nat_eq (bodies_to_come us + bytes_to_come us) 0) (context_of us)
+    (bodies_to_come us)
+    (bytes_to_come us) t (report_after start features (start + length (bytes_of us)) u ts t v) v
 
 -- ---- all events
 

@@ -12,7 +12,7 @@ use Rattle.wasm_grammar.specs.Grammar.{section, code_start, Tile, tile, verdict,
 use Rattle.wasm_grammar.specs.Reading.{events_of, Reads}
 use Rattle.wasm_grammar.specs.SectionLaws.{SectionsTile}
 use Rattle.wasm_grammar.specs.Sections.{sections_of, bytes_in, id_and_bytes, id_and_content, places_of}
-use Rattle.wasm_grammar.specs.Tiling.{bytes_of, context_of, grammar, encoding_of, bodies_left, bytes_left, bytes_after}
+use Rattle.wasm_grammar.specs.Tiling.{bytes_of, context_of, grammar, encoding_of, bodies_to_come, bytes_to_come, bytes_after}
 use Rattle.wasm_grammar.specs.declared.encoding.Encoding.{Encoding}
 use Rattle.wasm_grammar.proofs.readings.Endings.{header_end, inside_end}
 use Rattle.wasm_grammar.proofs.frames.Same.{frames_same, headers_same}
@@ -82,7 +82,7 @@ record Closed (start features : ℕ) (ts : List Tile) : Type 0 where
   sized : All (λ f. IsSized f.sized) frames
   joined : bytes_of ts ≡ stream_of encoding frames
   places : sections_of (events_of start features ts) ≡ places_of (start + length (header_bytes encoding)) frames
-  whole : bodies_left ts + bytes_left ts ≡ 0
+  whole : bodies_to_come ts + bytes_to_come ts ≡ 0
 
 -- The tiles are a header, these sections, and a beginning of a code section, which is reported with all its length.
 record Open (start features : ℕ) (ts : List Tile) : Type 0 where
@@ -93,7 +93,7 @@ record Open (start features : ℕ) (ts : List Tile) : Type 0 where
   field : List ℕ
   long : IsNumber field size
   inner : List ℕ
-  misses : size ≡ length inner + bytes_left ts
+  misses : size ≡ length inner + bytes_to_come ts
   joined : bytes_of ts ≡ stream_of encoding frames ++ 10 ∷ (field ++ inner)
   places : sections_of (events_of start features ts)
       ≡ places_of (start + length (header_bytes encoding)) frames
@@ -132,11 +132,12 @@ header_closed start features t a h =
       sized = All-nil (λ f. IsSized f.sized);
       joined = ap (λ (x : Tile). x.bytes) p.is ∙ sym (append-nil (header_bytes p.encoding));
       places = sections_first start features t h;
-      whole = ap (λ (x : Tile). bodies_left (x ∷ []) + bytes_left (x ∷ [])) p.is;
+      whole = ap (λ (x : Tile). bodies_to_come (x ∷ []) + bytes_to_come (x ∷ [])) p.is;
     }
 
 -- a code section that misses nothing is whole
-closes : (start features : ℕ) (ts : List Tile) → Open start features ts → bodies_left ts + bytes_left ts ≡ 0 → Closed start features ts
+closes : (start features : ℕ) (ts : List Tile) → Open start features ts → bodies_to_come ts + bytes_to_come ts ≡ 0
+    → Closed start features ts
 closes start features ts q z =
     let f : SectionFrame = record { id = 10; sized = record { field = q.field; content = q.inner } } in
     let n : q.size ≡ length q.inner = omega (arith, q.misses) in
@@ -180,7 +181,7 @@ closed_whole start features u ts o t h q s w =
       ) ∷ []) q.places
           ∙ push_places start q.encoding q.frames f (low + length (frame_bytes f) - length c.content) (low + length (frame_bytes f))
           (omega arith) (omega arith));
-      whole = ap (λ (x : Tile). bodies_left (x ∷ u ∷ ts) + bytes_left (x ∷ u ∷ ts)) z;
+      whole = ap (λ (x : Tile). bodies_to_come (x ∷ u ∷ ts) + bytes_to_come (x ∷ u ∷ ts)) z;
     }
 
 -- after whole sections, the head of a code section
@@ -194,22 +195,22 @@ closed_code start features u ts o t h q s e =
     ≡ tile s.rest = subst (λ (x : Kind). verdict (content_grammar (context_of (u ∷ ts)) x s.id at s.size) s.others ≡ tile s.rest) e
     s.goes_on in
     let c : HeadParts (context_of (u ∷ ts)) at s.size s.rest = head_parts (context_of (u ∷ ts)) at s.size s.others s.rest v in
-    let left : ℕ = s.size - length c.head in
+    let code_bytes : ℕ = s.size - length c.head in
     let bytes : List ℕ = 10 ∷ (s.field ++ c.head) in
-    let z : t ≡ made (code_start c.count (length c.head) left) bytes =
+    let z : t ≡ made (code_start c.count (length c.head) code_bytes) bytes =
     s.is ∙ (ap (λ (x : Tile). made x.shape (s.id ∷ (s.field ++ x.bytes))) c.is
-    ∙ ap (λ (x : ℕ). made (code_start c.count (length c.head) left) (x ∷ (s.field ++ c.head))) i) in
+    ∙ ap (λ (x : ℕ). made (code_start c.count (length c.head) code_bytes) (x ∷ (s.field ++ c.head))) i) in
     let low : ℕ = start + length (bytes_of (u ∷ ts)) in
     let n : length (bytes_of (u ∷ ts)) ≡ length (stream_of q.encoding q.frames) = ap (λ (x : List ℕ). length x) q.joined in
     let m : length (s.field ++ c.head) ≡ length s.field + length c.head = length-append s.field c.head in
     let from : ℕ = start + length (stream_of q.encoding q.frames) + 1 + length s.field in
     let a : low + length bytes - length c.head ≡ from = omega arith in
-    let b : low + length bytes + left ≡ from + s.size = omega (arith, c.fits) in
+    let b : low + length bytes + code_bytes ≡ from + s.size = omega (arith, c.fits) in
     let p : sections_of (events_of start features (t ∷ u ∷ ts)) ≡ sections_of (events_of start features (u ∷ ts))
-    ++ (10, record { start = low + length bytes - length c.head; end = low + length bytes + left }) ∷ [] =
+    ++ (10, record { start = low + length bytes - length c.head; end = low + length bytes + code_bytes }) ∷ [] =
     sections_more start features u ts t h ∙ ap (λ (x : Tile). sections_of (events_of start features (u ∷ ts))
     ++ option_to_list (section_at (low + length x.bytes) x.shape)) z in
-    let l : bytes_left (t ∷ u ∷ ts) ≡ left = ap (λ (x : Tile). bytes_after x x.shape (bytes_left (u ∷ ts))) z in
+    let l : bytes_to_come (t ∷ u ∷ ts) ≡ code_bytes = ap (λ (x : Tile). bytes_after x x.shape (bytes_to_come (u ∷ ts))) z in
     record {
       encoding = q.encoding;
       frames = q.frames;
@@ -225,11 +226,11 @@ closed_code start features u ts o t h q s e =
 
 -- within a code section, one more body
 open_body : (start features : ℕ) (u : Tile) (ts : List Tile) (t : Tile) → verdict (grammar start (u ∷ ts)) t.bytes ≡ tile t
-    → Open start features (u ∷ ts) → BodyParts (bodies_left (u ∷ ts)) (bytes_left (u ∷ ts)) t → Open start features (t ∷ u ∷ ts)
+    → Open start features (u ∷ ts) → BodyParts (bodies_to_come (u ∷ ts)) (bytes_to_come (u ∷ ts)) t → Open start features (t ∷ u ∷ ts)
 open_body start features u ts t h q c =
     let low : ℕ = start + length (bytes_of (u ∷ ts)) in
-    let l : bytes_left (t ∷ u ∷ ts) ≡ bytes_left (u ∷ ts) - length (c.field ++ c.content) =
-    ap (λ (x : Tile). bytes_after x x.shape (bytes_left (u ∷ ts))) c.is in
+    let l : bytes_to_come (t ∷ u ∷ ts) ≡ bytes_to_come (u ∷ ts) - length (c.field ++ c.content) =
+    ap (λ (x : Tile). bytes_after x x.shape (bytes_to_come (u ∷ ts))) c.is in
     let b : length t.bytes ≡ length (c.field ++ c.content) = ap (λ (x : Tile). length x.bytes) c.is in
     let p : sections_of (events_of start features (t ∷ u ∷ ts)) ≡ sections_of (events_of start features (u ∷ ts)) =
     sections_more start features u ts t h
@@ -269,7 +270,7 @@ closed_end : (stream : List ℕ) (start features p : ℕ) (ts : List Tile) → A
 closed_end stream start features p [] a r = absurd (header_end start r.rest p r.stops)
 closed_end stream start features p (t ∷ ts) a r =
     let us : List Tile = t ∷ ts in
-    let (b, d, e) = inside_end (nat_eq (bodies_left us + bytes_left us) 0) (context_of us) (bodies_left us) (bytes_left us)
+    let (b, d, e) = inside_end (nat_eq (bodies_to_come us + bytes_to_come us) 0) (context_of us) (bodies_to_come us) (bytes_to_come us)
     (start + length (bytes_of us)) r.rest p r.stops in
     let f : All (λ b. b < 256) (bytes_of us) = all_prefix (λ b. b < 256) (bytes_of us) r.rest (subst (All (λ b. b < 256)) r.whole a) in (
       closed_at start (Closed start features) (Open start features) (places_go start features) us

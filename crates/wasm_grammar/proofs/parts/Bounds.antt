@@ -18,7 +18,7 @@ use Rattle.wasm_grammar.specs.Grammar.{after_number, verdict, SectionContext, he
 use Rattle.wasm_grammar.specs.Grammar.{code_grammar, wrong_data, whole_grammar, content_grammar, after_length, section_grammar}
 use Rattle.wasm_grammar.specs.Grammar.{body_grammar}
 use Rattle.wasm_grammar.specs.Laws.{FaultLiesWithin}
-use Rattle.wasm_grammar.specs.Tiling.{context_of, grammar, bodies_left, bytes_left, bytes_of}
+use Rattle.wasm_grammar.specs.Tiling.{context_of, grammar, bodies_to_come, bytes_to_come, bytes_of}
 use Rattle.wasm_grammar.specs.declared.encoding.Encoding.{Encoding}
 use Rattle.wasm_grammar.proofs.readings.Endings.{after_final}
 use Rattle.wasm_grammar.proofs.parts.Places.{number_place, name_place}
@@ -141,16 +141,16 @@ number_wrong offset content (bad g p) e =
     (omega arith, omega arith)
 number_wrong offset content short e = (omega arith, omega arith)
 
-single_wrong : (left : Fault) (offset : ℕ) (content : List ℕ) (n : Number) → number VarU32 content ≡ n
-    → MayLie offset (offset + length content) (wrong_single left offset content n)
-single_wrong left offset content (read v k) e =
+single_wrong : (code_bytes : Fault) (offset : ℕ) (content : List ℕ) (n : Number) → number VarU32 content ≡ n
+    → MayLie offset (offset + length content) (wrong_single code_bytes offset content n)
+single_wrong code_bytes offset content (read v k) e =
     let u : Used VarU32 content v k = number-used VarU32 content v k e in
     let l : k ≤ length content = u.there in
-    when_lies offset (offset + length content) (nat_lt k (length content)) (at_offset left (offset + k)) (omega arith, omega arith)
-single_wrong left offset content (bad g p) e =
+    when_lies offset (offset + length content) (nat_lt k (length content)) (at_offset code_bytes (offset + k)) (omega arith, omega arith)
+single_wrong code_bytes offset content (bad g p) e =
     let l : p < length content = number_place VarU32 content g p e in
     (omega arith, omega arith)
-single_wrong left offset content short e = (omega arith, omega arith)
+single_wrong code_bytes offset content short e = (omega arith, omega arith)
 
 name_wrong : (offset : ℕ) (content : List ℕ) (n : Name) → name (Some name_limit) content ≡ n
     → MayLie offset (offset + length content) (wrong_name offset n)
@@ -252,10 +252,10 @@ Within-section p o = (
   ),
 )
 
-Within-body : (bodies left o : ℕ) → Within o o (body_grammar bodies left o)
+Within-body : (bodies code_bytes o : ℕ) → Within o o (body_grammar bodies code_bytes o)
 unfolding body_grammar
-Within-body zero left o = (le_refl o, le_refl o)
-Within-body (suc bodies) left o = (
+Within-body zero code_bytes o = (le_refl o, le_refl o)
+Within-body (suc bodies) code_bytes o = (
   (le_refl o, le_refl o),
   λ size width. (
     when_lies o (o + width) _ _ (omega arith, omega arith),
@@ -277,14 +277,15 @@ Within-header o = (
   ),
 )
 
-Within-inside : (b : Bool) (p : SectionContext) (bodies left o : ℕ) → Within o o (cond b (section_grammar p o) (body_grammar bodies left o))
-Within-inside true p bodies left o = Within-section p o
-Within-inside false p bodies left o = Within-body bodies left o
+Within-inside : (b : Bool) (p : SectionContext) (bodies code_bytes o : ℕ)
+    → Within o o (cond b (section_grammar p o) (body_grammar bodies code_bytes o))
+Within-inside true p bodies code_bytes o = Within-section p o
+Within-inside false p bodies code_bytes o = Within-body bodies code_bytes o
 
 pub Within-grammar : (start : ℕ) (ts : List Tile) → Within (start + length (bytes_of ts)) (start + length (bytes_of ts)) (grammar start ts)
 Within-grammar start [] = subst (λ (o : ℕ). Within o o (header_grammar start)) (omega arith) (Within-header start)
-Within-grammar start (t ∷ ts) = Within-inside (nat_eq (bodies_left (t ∷ ts) + bytes_left (t ∷ ts)) 0) (context_of (t ∷ ts))
-    (bodies_left (t ∷ ts)) (bytes_left (t ∷ ts)) (start + length (bytes_of (t ∷ ts)))
+Within-grammar start (t ∷ ts) = Within-inside (nat_eq (bodies_to_come (t ∷ ts) + bytes_to_come (t ∷ ts)) 0) (context_of (t ∷ ts))
+    (bodies_to_come (t ∷ ts)) (bytes_to_come (t ∷ ts)) (start + length (bytes_of (t ∷ ts)))
 
 pub fault_lies_within : FaultLiesWithin
 fault_lies_within stream start tiles f r =
@@ -293,7 +294,7 @@ fault_lies_within stream start tiles f r =
     ∙ length-append (bytes_of tiles) r.rest in
     (a, omega arith)
 
-pub Within-any : (h b : Bool) (p : SectionContext) (bodies left o : ℕ)
-    → Within o o (cond h (header_grammar o) (cond b (section_grammar p o) (body_grammar bodies left o)))
-Within-any true b p bodies left o = Within-header o
-Within-any false b p bodies left o = Within-inside b p bodies left o
+pub Within-any : (h b : Bool) (p : SectionContext) (bodies code_bytes o : ℕ)
+    → Within o o (cond h (header_grammar o) (cond b (section_grammar p o) (body_grammar bodies code_bytes o)))
+Within-any true b p bodies code_bytes o = Within-header o
+Within-any false b p bodies code_bytes o = Within-inside b p bodies code_bytes o

@@ -11,7 +11,7 @@ use Rattle.wasm_base.specs.Header.{magic, agree}
 use Rattle.wasm_grammar.specs.Grammar.{Tile, Verdict, tile, final, after, after_number, Grammar, check, u32_field, bytes, section_start}
 use Rattle.wasm_grammar.specs.Grammar.{verdict, SectionContext, header_of, header_grammar, content_grammar, after_length, after_id}
 use Rattle.wasm_grammar.specs.Grammar.{section_grammar, body_of, body_grammar}
-use Rattle.wasm_grammar.specs.Tiling.{context_of, grammar, bodies_left, bytes_left, bytes_of}
+use Rattle.wasm_grammar.specs.Tiling.{context_of, grammar, bodies_to_come, bytes_to_come, bytes_of}
 use Rattle.wasm_base.specs.declared.fault.NumberKind.TheVariants.{VarU32}
 use Rattle.wasm_base.specs.declared.fault.Fault.TheVariants.{MagicAtSection}
 use Rattle.wasm_grammar.specs.declared.encoding.Encoding.{Encoding}
@@ -84,12 +84,12 @@ first_is : (k : ℕ) (xs ys : List ℕ) → 0 < k → 0 < length xs → agree (t
 first_is zero xs ys h l e = absurd (omega arith)
 first_is (suc k) [] ys h l e = absurd (omega arith)
 first_is (suc k) (x ∷ xs) ys h l e =
-    let z : x ≡ 0x61 = eqb-true x 0x61 (left (nat_eq x 0x61) _ e) in
+    let z : x ≡ 0x61 = eqb-true x 0x61 (code_bytes (nat_eq x 0x61) _ e) in
     (xs, ap (λ (y : ℕ). y ∷ xs) z)
   where
-    left : (a b : Bool) → (a && b) ≡ true → a ≡ true
-    left true b e = refl
-    left false b e = e
+    code_bytes : (a b : Bool) → (a && b) ≡ true → a ≡ true
+    code_bytes true b e = refl
+    code_bytes false b e = e
 
 custom_long : (p : SectionContext) (en : Encoding) (f o : ℕ) (xs : List ℕ) (t : Tile)
     → verdict (after_length p (kind_of en 0) 0 f o 0x61) xs ≡ tile t → 0x61 ≤ length t.bytes
@@ -143,8 +143,8 @@ Guarded-inside_at false p m l o = Guarded-body m l o
 
 pub Guarded-grammar : (start : ℕ) (ts : List Tile) → Guarded (grammar start ts)
 Guarded-grammar start [] = Guarded-header start
-Guarded-grammar start (t ∷ ts) = Guarded-inside_at (nat_eq (bodies_left (t ∷ ts) + bytes_left (t ∷ ts)) 0) (context_of (t ∷ ts))
-    (bodies_left (t ∷ ts)) (bytes_left (t ∷ ts)) (start + length (bytes_of (t ∷ ts)))
+Guarded-grammar start (t ∷ ts) = Guarded-inside_at (nat_eq (bodies_to_come (t ∷ ts) + bytes_to_come (t ∷ ts)) 0) (context_of (t ∷ ts))
+    (bodies_to_come (t ∷ ts)) (bytes_to_come (t ∷ ts)) (start + length (bytes_of (t ∷ ts)))
 
 least_start_at : (b : Bool) (o id : ℕ) (v : Verdict) (t : Tile) → cond b (final (fault (at_offset MagicAtSection o))) (after (id ∷ []) v)
     ≡ tile t → 0 < length t.bytes
@@ -181,5 +181,5 @@ least_inside false p m l o xs t e = least_body m l o xs t e
 -- each tile has a byte
 pub tile_least : (start : ℕ) (ts : List Tile) (xs : List ℕ) (t : Tile) → verdict (grammar start ts) xs ≡ tile t → 0 < length t.bytes
 tile_least start [] xs t e = least_header start xs t e
-tile_least start (u ∷ ts) xs t e = least_inside (nat_eq (bodies_left (u ∷ ts) + bytes_left (u ∷ ts)) 0) (context_of (u ∷ ts))
-    (bodies_left (u ∷ ts)) (bytes_left (u ∷ ts)) (start + length (bytes_of (u ∷ ts))) xs t e
+tile_least start (u ∷ ts) xs t e = least_inside (nat_eq (bodies_to_come (u ∷ ts) + bytes_to_come (u ∷ ts)) 0) (context_of (u ∷ ts))
+    (bodies_to_come (u ∷ ts)) (bytes_to_come (u ∷ ts)) (start + length (bytes_of (u ∷ ts))) xs t e

@@ -9,7 +9,7 @@ use Rattle.wasm_grammar.specs.Content.{Kind, items, data_count, custom, index, c
 use Rattle.wasm_grammar.specs.Grammar.{Shape, version, section, code_start, code_entry, Tile, Verdict, tile, final, after, after_number}
 use Rattle.wasm_grammar.specs.Grammar.{SectionContext, Grammar, accept, reject, check, u32_field, bytes, section_start, verdict}
 use Rattle.wasm_grammar.specs.Grammar.{header_grammar, section_grammar, body_grammar, content_grammar, header_of}
-use Rattle.wasm_grammar.specs.Tiling.{bytes_of, grammar, context_of, tile_rank, bodies_left, bytes_left}
+use Rattle.wasm_grammar.specs.Tiling.{bytes_of, grammar, context_of, tile_rank, bodies_to_come, bytes_to_come}
 use Rattle.wasm_base.specs.declared.fault.NumberKind.TheVariants.{VarU32}
 use Rattle.wasm_grammar.proofs.parts.Verdicts.{after-tile}
 
@@ -147,5 +147,5 @@ fresh_at false ts m l o d t e = fresh_body ts t.shape (bodied m l o d t e)
 
 pub fresh : (start : ℕ) (ts : List Tile) (d : List ℕ) (t : Tile) → verdict (grammar start ts) d ≡ tile t → Fresh ts t.shape
 fresh start [] d t e = λ h. refl
-fresh start (u ∷ ts) d t e = fresh_at (nat_eq (bodies_left (u ∷ ts) + bytes_left (u ∷ ts)) 0) (u ∷ ts) (bodies_left (u ∷ ts))
-    (bytes_left (u ∷ ts)) (start + length (bytes_of (u ∷ ts))) d t e
+fresh start (u ∷ ts) d t e = fresh_at (nat_eq (bodies_to_come (u ∷ ts) + bytes_to_come (u ∷ ts)) 0) (u ∷ ts) (bodies_to_come (u ∷ ts))
+    (bytes_to_come (u ∷ ts)) (start + length (bytes_of (u ∷ ts))) d t e

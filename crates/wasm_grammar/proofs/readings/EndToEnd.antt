@@ -21,7 +21,7 @@ use Rattle.wasm_grammar.specs.Laws.{EventsLieEndToEnd}
 use Rattle.wasm_grammar.specs.Reading.{Event, custom_report, section_report, tile_report, event_of, stream_end, last_event, events_of}
 use Rattle.wasm_grammar.specs.Reading.{Reads}
 use Rattle.wasm_grammar.specs.EventRanges.{consumed_by, IsPart, LiesIn, LiesBetween, AtOffsets, EndToEnd}
-use Rattle.wasm_grammar.specs.Tiling.{context_of, grammar, bodies_left, bytes_left, bytes_of, Faultless}
+use Rattle.wasm_grammar.specs.Tiling.{context_of, grammar, bodies_to_come, bytes_to_come, bytes_of, Faultless}
 use Rattle.wasm_grammar.specs.declared.encoding.Encoding.{Encoding}
 use Rattle.wasm_grammar.proofs.readings.Endings.{header_end, inside_end}
 use Rattle.wasm_grammar.proofs.parts.Verdicts.{after-tile}
@@ -127,8 +127,8 @@ Closing-inside false p m l o = Closing-body m l o
 
 Closing-grammar : (start : ℕ) (ts : List Tile) → Closing [] (grammar start ts)
 Closing-grammar start [] = Closing-header start
-Closing-grammar start (t ∷ ts) = Closing-inside (nat_eq (bodies_left (t ∷ ts) + bytes_left (t ∷ ts)) 0) (context_of (t ∷ ts))
-    (bodies_left (t ∷ ts)) (bytes_left (t ∷ ts)) (start + length (bytes_of (t ∷ ts)))
+Closing-grammar start (t ∷ ts) = Closing-inside (nat_eq (bodies_to_come (t ∷ ts) + bytes_to_come (t ∷ ts)) 0) (context_of (t ∷ ts))
+    (bodies_to_come (t ∷ ts)) (bytes_to_come (t ∷ ts)) (start + length (bytes_of (t ∷ ts)))
 
 -- a tile's bytes end with its content
 pub tile_closes : (start : ℕ) (ts : List Tile) (xs : List ℕ) (t : Tile) → verdict (grammar start ts) xs ≡ tile t → Closes t.shape t.bytes
@@ -156,8 +156,8 @@ end_at : (start : ℕ) (ts : List Tile) (xs : List ℕ) (x : ℕ) → verdict (g
     → IsEndAt (start + length (bytes_of ts)) xs x
 end_at start [] xs x h = absurd (header_end start xs x h)
 end_at start (t ∷ ts) xs x h =
-    let e = inside_end (nat_eq (bodies_left (t ∷ ts) + bytes_left (t ∷ ts)) 0) (context_of (t ∷ ts)) (bodies_left (t ∷ ts))
-    (bytes_left (t ∷ ts)) (start + length (bytes_of (t ∷ ts))) xs x h in
+    let e = inside_end (nat_eq (bodies_to_come (t ∷ ts) + bytes_to_come (t ∷ ts)) 0) (context_of (t ∷ ts)) (bodies_to_come (t ∷ ts))
+    (bytes_to_come (t ∷ ts)) (start + length (bytes_of (t ∷ ts))) xs x h in
     (e.1, end_report (context_of (t ∷ ts)) (start + length (bytes_of (t ∷ ts))) x e.2)
 
 -- a reading that doesn't stop at a fault ends after the whole stream

@@ -27,7 +27,7 @@ use Rattle.wasm_grammar.specs.Laws.{StartOnlyMoves}
 use Rattle.wasm_grammar.specs.Shifted.{shifted_fault, shifted_ending, shifted_report, shifted_event, shifted_events, PassesTheTop}
 use Rattle.wasm_grammar.specs.Reading.{code_start, code_entry, custom_section, custom_report, section_report, tile_report, event_of}
 use Rattle.wasm_grammar.specs.Reading.{last_event, events_of, Reads}
-use Rattle.wasm_grammar.specs.Tiling.{inside, context_of, grammar, bodies_left, bytes_left, bytes_of, Faultless}
+use Rattle.wasm_grammar.specs.Tiling.{inside, context_of, grammar, bodies_to_come, bytes_to_come, bytes_of, Faultless}
 use Rattle.wasm_grammar.specs.declared.encoding.Encoding.{Encoding}
 use Rattle.wasm_grammar.proofs.readings.EndToEnd.{Closes, tile_closes}
 use Rattle.wasm_grammar.proofs.readings.Readings.{reads_same}
@@ -146,11 +146,11 @@ number_wrong by o content (read v k) = inl refl
 number_wrong by o content (bad kind p) = some_moves by kind o p
 number_wrong by o content short = some_moves by UnexpectedEof o (length content)
 
-single_wrong : (by : ℕ) (left : Fault) (o : ℕ) (content : List ℕ) (n : Number)
-    → MovesFault by (wrong_single left o content n) (wrong_single left (o + by) content n)
-single_wrong by left o content (read v k) = when_moves by (nat_lt k (length content)) _ _ (moved_same left o k by)
-single_wrong by left o content (bad kind p) = some_moves by kind o p
-single_wrong by left o content short = some_moves by UnexpectedEof o (length content)
+single_wrong : (by : ℕ) (code_bytes : Fault) (o : ℕ) (content : List ℕ) (n : Number)
+    → MovesFault by (wrong_single code_bytes o content n) (wrong_single code_bytes (o + by) content n)
+single_wrong by code_bytes o content (read v k) = when_moves by (nat_lt k (length content)) _ _ (moved_same code_bytes o k by)
+single_wrong by code_bytes o content (bad kind p) = some_moves by kind o p
+single_wrong by code_bytes o content short = some_moves by UnexpectedEof o (length content)
 
 name_wrong : (by o : ℕ) (n : Name) → MovesFault by (wrong_name o n) (wrong_name (o + by) n)
 name_wrong by o (named text used) = inl refl
@@ -278,19 +278,19 @@ Like-section by p o = (
       Like-framed by p o id,
 )
 
-Like-body_of : (by o left n width : ℕ) → Like by (body_of o left n width) (body_of (o + by) left n width)
-Like-body_of by o left n width = (
+Like-body_of : (by o code_bytes n width : ℕ) → Like by (body_of o code_bytes n width) (body_of (o + by) code_bytes n width)
+Like-body_of by o code_bytes n width = (
   _,
   _,
   refl,
-  when_moves by (nat_lt left (width + n)) (at_offset UnexpectedEof o) (at_offset UnexpectedEof (o + by)) refl,
+  when_moves by (nat_lt code_bytes (width + n)) (at_offset UnexpectedEof o) (at_offset UnexpectedEof (o + by)) refl,
   (_, ap (λ (x : ℕ). bytes n x (λ content. accept (Grammar.code_entry content))) (omega arith), λ content. refl),
 )
 
-Like-body : (by bodies left o : ℕ) → Like by (body_grammar bodies left o) (body_grammar bodies left (o + by))
+Like-body : (by bodies code_bytes o : ℕ) → Like by (body_grammar bodies code_bytes o) (body_grammar bodies code_bytes (o + by))
 unfolding body_grammar
-Like-body by zero left o = refl
-Like-body by (suc bodies) left o = (_, refl, λ n width. Like-body_of by o left n width)
+Like-body by zero code_bytes o = refl
+Like-body by (suc bodies) code_bytes o = (_, refl, λ n width. Like-body_of by o code_bytes n width)
 
 Like-header_of : (by o bits : ℕ) (e : Option Encoding) → Like by (header_of o bits e) (header_of (o + by) bits e)
 Like-header_of by o bits (Some e) = refl
@@ -314,19 +314,19 @@ Like-header by o = (
   ),
 )
 
-Like-inside : (by : ℕ) (b : Bool) (p : SectionContext) (bodies left o : ℕ)
-    → Like by (cond b (section_grammar p o) (body_grammar bodies left o))
-    (cond b (section_grammar p (o + by)) (body_grammar bodies left (o + by)))
-Like-inside by true p bodies left o = Like-section by p o
-Like-inside by false p bodies left o = Like-body by bodies left o
+Like-inside : (by : ℕ) (b : Bool) (p : SectionContext) (bodies code_bytes o : ℕ)
+    → Like by (cond b (section_grammar p o) (body_grammar bodies code_bytes o))
+    (cond b (section_grammar p (o + by)) (body_grammar bodies code_bytes (o + by)))
+Like-inside by true p bodies code_bytes o = Like-section by p o
+Like-inside by false p bodies code_bytes o = Like-body by bodies code_bytes o
 
 Like-grammar : (by start : ℕ) (ts : List Tile) → Like by (grammar start ts) (grammar (start + by) ts)
 Like-grammar by start [] = Like-header by start
 Like-grammar by start (t ∷ ts) =
-    subst (λ (o : ℕ). Like by (inside (context_of (t ∷ ts)) (bodies_left (t ∷ ts)) (bytes_left (t ∷ ts))
-    (start + length (bytes_of (t ∷ ts)))) (inside (context_of (t ∷ ts)) (bodies_left (t ∷ ts)) (bytes_left (t ∷ ts)) o)) (omega arith)
-    (Like-inside by (nat_eq (bodies_left (t ∷ ts) + bytes_left (t ∷ ts)) 0) (context_of (t ∷ ts)) (bodies_left (t ∷ ts))
-    (bytes_left (t ∷ ts)) (start + length (bytes_of (t ∷ ts))))
+    subst (λ (o : ℕ). Like by (inside (context_of (t ∷ ts)) (bodies_to_come (t ∷ ts)) (bytes_to_come (t ∷ ts))
+    (start + length (bytes_of (t ∷ ts)))) (inside (context_of (t ∷ ts)) (bodies_to_come (t ∷ ts)) (bytes_to_come (t ∷ ts)) o)) (omega arith)
+    (Like-inside by (nat_eq (bodies_to_come (t ∷ ts) + bytes_to_come (t ∷ ts)) 0) (context_of (t ∷ ts)) (bodies_to_come (t ∷ ts))
+    (bytes_to_come (t ∷ ts)) (start + length (bytes_of (t ∷ ts))))
 
 -- ---- readings
 

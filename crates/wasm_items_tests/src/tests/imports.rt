@@ -1,4 +1,4 @@
-// Imports, and the groups of them.
+// Imports, and the bundles of them.
 use super::reading::{leading, read, reads, refuses};
 use super::same;
 use bitflags::Flags;
@@ -132,7 +132,7 @@ fn external_types(rt: HostRuntime) {
 }
 
 #[test]
-fn imports_of_groups(rt: HostRuntime) {
+fn imports_of_bundles(rt: HostRuntime) {
     let by_module = b"\x01\x01m\x00\x7f\x02\x01a\x00\x03\x01b\x00\x04";
     flattens(
         &rt,
@@ -199,7 +199,7 @@ fn imports_after_faults(rt: HostRuntime) {
 }
 
 #[test]
-fn refused_groups(rt: HostRuntime) {
+fn refused_bundles(rt: HostRuntime) {
     let by_module = b"\x01\x01m\x00\x7f\x02\x01a\x00\x03\x01b\x00\x04";
     flattens(
         &rt,
@@ -216,13 +216,13 @@ fn refused_groups(rt: HostRuntime) {
         WasmFeatures::MEMORY64,
         &[fault(Fault::Compact7E, 13)],
     );
-    let groups = WasmFeatures::COMPACT_IMPORTS;
-    let no_group = b"\x01\x01m\x01a\x7f";
+    let bundles = WasmFeatures::COMPACT_IMPORTS;
+    let no_bundle = b"\x01\x01m\x01a\x7f";
     flattens(
         &rt,
-        no_group,
+        no_bundle,
         7,
-        groups,
+        bundles,
         &[Err(leading(Lead::External, 127, 12))],
     );
     let nothing_there = b"\x01\x01m\x00\x7f\xff\xff\xff\xff\x0f";
@@ -230,23 +230,23 @@ fn refused_groups(rt: HostRuntime) {
         &rt,
         nothing_there,
         7,
-        groups,
+        bundles,
         &[fault(Fault::UnexpectedEof, 17)],
     );
     let long_name = b"\x01\x01m\x00\x7f\x01\xa1\x8d\x06a";
-    flattens(&rt, long_name, 7, groups, &[fault(Fault::StringSize, 15)]);
+    flattens(&rt, long_name, 7, bundles, &[fault(Fault::StringSize, 15)]);
     let no_kind = b"\x01\x01m\x00\x7e\x09\x01";
     flattens(
         &rt,
         no_kind,
         7,
-        groups,
+        bundles,
         &[Err(leading(Lead::External, 9, 12))],
     );
     refuses::<Imports<'_>>(
         &rt,
         0,
-        groups,
+        bundles,
         &[(
             b"\x01m\x00\x7e\x00\x05\xff\xff\xff\xff\x0f",
             Error::new(Fault::UnexpectedEof, 11),
@@ -255,11 +255,11 @@ fn refused_groups(rt: HostRuntime) {
 }
 
 #[test]
-fn windows_of_groups(rt: HostRuntime) -> std::result::Result<(), Fail> {
+fn windows_of_bundles(rt: HostRuntime) -> std::result::Result<(), Fail> {
     let bytes = b"\x01m\x00\x7f\x82\x00\x81\x00a\x00\x03\x01b\x00\x04\x09";
-    let (group, after) = read::<Imports<'_>>(&rt, bytes, 40, WasmFeatures::COMPACT_IMPORTS);
+    let (bundle, after) = read::<Imports<'_>>(&rt, bytes, 40, WasmFeatures::COMPACT_IMPORTS);
     same(&rt, after, 55);
-    match group? {
+    match bundle? {
         Imports::Compact1 { module, items } => {
             same(&rt, module, "m");
             same(&rt, items.count(), 2);
@@ -269,9 +269,9 @@ fn windows_of_groups(rt: HostRuntime) -> std::result::Result<(), Fail> {
         _other => assert!(rt; false),
     }
     let bytes = b"\x01m\x00\x7e\x02\x00\x01\x82\x00\x81\x00a\x01b\x09";
-    let (group, after) = read::<Imports<'_>>(&rt, bytes, 40, WasmFeatures::COMPACT_IMPORTS);
+    let (bundle, after) = read::<Imports<'_>>(&rt, bytes, 40, WasmFeatures::COMPACT_IMPORTS);
     same(&rt, after, 54);
-    match group? {
+    match bundle? {
         Imports::Compact2 { module, ty, names } => {
             same(&rt, module, "m");
             let memory = MemoryType {

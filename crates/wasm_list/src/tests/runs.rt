@@ -150,7 +150,7 @@ fn says_which_device_failed_in_stripping(rt: HostRuntime) -> Result<(), Fail> {
     Ok(())
 }
 
-/// A source of the bytes of a slice that notes the smallest and the largest room that it was given.
+/// A source of the bytes of a slice that notes the smallest and the largest buffer that it was given.
 #[derive(Drop)]
 struct Measuring<'a> {
     inner: SliceSource<'a>,
@@ -161,7 +161,7 @@ struct Measuring<'a> {
 impl Source for Measuring<'_> {
     ghost use Rattle.std.specs.Prelude.{Some, false};
 
-    ghost left = { λ s. Some s.inner.rest.now };
+    ghost remaining = { λ s. Some s.inner.rest.now };
 
     ghost has_failed = { λ _. false };
 

@@ -4,7 +4,7 @@ use wasm_parser::{
     Error, Fault, Import, ImportSection, Parser, Payload, Result, TypeRef, WasmFeatures,
 };
 
-// A module whose import section has a group of two functions.
+// A module whose import section has a bundle of two functions.
 const GROUP: &[u8] = b"\0asm\x01\0\0\0\x02\x0e\x01\x01m\0\x7f\x02\x01a\0\x03\x01b\0\x04";
 
 // The imports of the stream's import section, by a parser with these features, are these and then nothing.
@@ -42,7 +42,7 @@ fn function(offset: u64, name: &'static str, index: u32) -> Result<(u64, Import<
 }
 
 #[test]
-fn groups_want_their_feature(rt: HostRuntime) {
+fn bundles_want_their_feature(rt: HostRuntime) {
     imports_are(
         &rt,
         WasmFeatures::COMPACT_IMPORTS,

@@ -5,7 +5,7 @@ use bitflags::Flags;
 use std::ops::Range;
 use std::process::Abort;
 use std::test::Fail;
-use wasm_parser::{Chunk, Error, Fault, Parser, Payload, WasmFeatures};
+use wasm_parser::{Chunk, Encoding, Error, Fault, Parser, Payload, WasmFeatures};
 
 #[test]
 fn headers_are_distinguished(rt: HostRuntime) -> Result<(), Fail> {
@@ -60,6 +60,53 @@ fn a_copy_goes_its_own_way(rt: HostRuntime) -> Result<(), Fail> {
     same(
         &rt,
         refusal(&mut parser, b""),
+        Some(Error::new(Fault::FunctionWithoutCode, 12)),
+    );
+    Ok(())
+}
+
+// What a parser knows after a function section and the start of a code section whose one body is to come.
+#[test]
+fn a_checkpoint_in_a_code_section(rt: HostRuntime) -> Result<(), Fail> {
+    let mut parser = after_header(100)?;
+    pass(&mut parser, b"\x03\x02\x01\0")?;
+    pass(&mut parser, b"\x0a\x04\x01\x02\0\x0b")?;
+    let checkpoint = parser.checkpoint();
+    same(&rt, (checkpoint.offset, checkpoint.bodies), (115, 1));
+    same(&rt, (checkpoint.code_bytes, checkpoint.in_code), (3, true));
+    same(
+        &rt,
+        (checkpoint.functions, checkpoint.codes),
+        (Some(1), Some(1)),
+    );
+    same(
+        &rt,
+        (checkpoint.datas, checkpoint.data_counts),
+        (None, None),
+    );
+    same(&rt, checkpoint.expects_header, false);
+    same(&rt, checkpoint.encoding, Encoding::Module);
+    Ok(())
+}
+
+#[test]
+fn a_parser_goes_on_from_its_checkpoint(rt: HostRuntime) -> Result<(), Fail> {
+    let mut parser = after_header(0)?;
+    pass(&mut parser, b"\x03\x02\x01\0")?;
+    let checkpoint = parser.checkpoint();
+    pass(&mut parser, b"\x0a\x03\x01\x01")?;
+    pass(&mut parser, b"\x01\0")?;
+    same(&rt, end(&mut parser)?, Some(17));
+    let mut resumed = Parser::resume(checkpoint);
+    same(&rt, resumed.checkpoint() == checkpoint, true);
+    same(
+        &rt,
+        refusal(&mut resumed, b"\x03\x02\x01\0"),
+        Some(Error::new(Fault::OutOfOrder, 14)),
+    );
+    same(
+        &rt,
+        refusal(&mut resumed, b""),
         Some(Error::new(Fault::FunctionWithoutCode, 12)),
     );
     Ok(())

@@ -53,7 +53,7 @@ fn items_after_their_end(rt: HostRuntime) -> Result<(), Fail> {
     Ok(())
 }
 
-// Both imports of a group; one and a fault; both of a section, one by one.
+// Both imports of a bundle; one and a fault; both of a section, one by one.
 #[test]
 fn imports_after_their_end(rt: HostRuntime) -> Result<(), Fail> {
     let sections: [&[u8]; 2] = [
@@ -62,8 +62,8 @@ fn imports_after_their_end(rt: HostRuntime) -> Result<(), Fail> {
     ];
     for bytes in sections {
         let section = SectionLimited::<Imports>::new(reader(bytes))?;
-        if let Some(group) = section.clone()?.into_iter().next() {
-            assert!(rt; ends_after_two(group?.into_iter()), "{bytes:?}");
+        if let Some(bundle) = section.clone()?.into_iter().next() {
+            assert!(rt; ends_after_two(bundle?.into_iter()), "{bytes:?}");
         }
     }
     let section = SectionLimited::<Imports>::new(reader(

@@ -5,7 +5,7 @@ use std::test::Fail;
 use wasm_base::{Error, Fault};
 use wasm_items::{Export, ExternalKind, Import, TypeRef};
 
-// A function and a global are imported, the function by a group; a function, a table and a tag are its own.
+// A function and a global are imported, the function by a bundle; a function, a table and a tag are its own.
 const HEAD: &[u8] =
     b"\0asm\x01\0\0\0\x01\x04\x01\x60\0\0\x02\x11\x02\x01m\0\x7f\x01\x01f\0\0\x01m\x01g\x03\x7f\0\x03\x02\x01\0\x04\x04\x01\x70\0\x01\x0d\x03\x01\0\0";
 

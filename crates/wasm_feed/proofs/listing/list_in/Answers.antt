@@ -4,27 +4,23 @@ use Rattle.std.proofs.lemmas.Result.{err_from_is_err_and}
 use Rattle.std.proofs.KnownBytes.{Consumes-nil}
 use Rattle.wasm_feed.specs.Cursors.{feed_of}
 use Rattle.wasm_feed.specs.Listing.{line_of}
+use Rattle.wasm_feed.proofs.Cut.{cut_of}
 use Rattle.wasm_feed.proofs.Progress.{begun, no_memory, cut, wants_written, steps_by, advanced, asked, listed_all, end_cut, filled}
 use Rattle.wasm_feed.proofs.Progress.{not_filled}
 use Rattle.wasm_feed.proofs.listing.list_in.Goals as goal
 
-pub returns-in_err-room-clause-lists : goal.returns-in_err-room-clause-lists
-returns-in_err-room-clause-lists g c =
+pub returns-in_err-buffer-clause-lists : goal.returns-in_err-buffer-clause-lists
+returns-in_err-buffer-clause-lists g c =
     let e = err_from_is_err_and c.from_residual.result c.from_residual.ensures.1 in
-    rw (e.1, e.2) (no_memory line_of _ _ _ _ _ _ (begun line_of _ _) _ _ (Consumes-nil _))
-
-pub returns-in_err-page-clause-lists : goal.returns-in_err-page-clause-lists
-returns-in_err-page-clause-lists g c =
-    let e = err_from_is_err_and c.from_residual-in_err-page.result c.from_residual-in_err-page.ensures.1 in
     rw (e.1, e.2) (no_memory line_of _ _ _ _ _ _ (begun line_of _ _) _ _ (Consumes-nil _))
 
 pub events-init : goal.events-init
 events-init g c = record {
-  progress = rw (c.new-stored.ensures.items, c.new-cursor.ensures, c.new-2.ensures, c.in_ok-page.ensures)
+  progress = rw (c.new-stored.ensures.items, c.new-cursor.ensures, c.new.ensures, c.new-page.ensures)
       (begun line_of _ _);
   input = refl;
   output = refl;
-  room = grind (arith, common_steps);
+  buffer = grind (arith, common_steps);
 }
 
 pub returns-in_err-turn-clause-lists : goal.returns-in_err-turn-clause-lists
@@ -48,7 +44,7 @@ events-preserved-in-Advance g c =
       progress = (advanced line_of _ _ _ _ _ _ c.events.invariant.progress _ _ s _ _ t.0 (sym c.in-Advance.is ∙ t.1)).0;
       input = c.events.invariant.input;
       output = grind (arith, common_steps);
-      room = c.events.invariant.room;
+      buffer = c.events.invariant.buffer;
     }
 
 pub returns-in_err-write_out-in-Read-clause-lists : goal.returns-in_err-write_out-in-Read-clause-lists
@@ -58,7 +54,7 @@ returns-in_err-write_out-in-Read-clause-lists g c =
     let t = c.in_ok-turn.ensures.takes in
     let asks = (asked line_of _ _ _ _ _ _ c.events.invariant.progress _ _ s _ _ t.0 (sym c.in-Read.is ∙ t.1)).0 in
     let e = err_from_is_err_and c.from_residual-in_err-write_out-in-Read.result c.from_residual-in_err-write_out-in-Read.ensures.1 in
-    rw (e.1, e.2) (cut line_of _ _ _ _ _ _ asks.progress _ _ c.in_err-write_out-in-Read.ensures.writes)
+    rw (e.1, e.2) (cut line_of _ _ _ _ _ _ asks.progress _ _ (cut_of _ _ _ _ c.in_err-write_out-in-Read.ensures.writes))
 
 pub returns-in_err-read_more-in-Read-clause-lists : goal.returns-in_err-read_more-in-Read-clause-lists
 returns-in_err-read_more-in-Read-clause-lists g c =
@@ -94,7 +90,7 @@ events-preserved g c =
       progress = rw none after;
       input = grind (arith, common_steps);
       output = grind (arith, common_steps);
-      room = grind (arith, common_steps);
+      buffer = grind (arith, common_steps);
     }
 
 pub returns-in_err-write_out-in-End-clause-lists : goal.returns-in_err-write_out-in-End-clause-lists
@@ -104,7 +100,7 @@ returns-in_err-write_out-in-End-clause-lists g c =
     let t = c.in_ok-turn.ensures.takes in
     let e = err_from_is_err_and c.from_residual-in_err-write_out-in-End.result c.from_residual-in_err-write_out-in-End.ensures.1 in
     rw (e.1, e.2) (end_cut line_of _ _ _ _ _ _ c.events.invariant.progress _ _ s _ _ t.0 _ (sym c.in-End.is ∙ t.1) _ _
-    c.in_err-write_out-in-End.ensures.writes)
+    (cut_of _ _ _ _ c.in_err-write_out-in-End.ensures.writes))
 
 pub returns-in-End-clause-lists : goal.returns-in-End-clause-lists
 returns-in-End-clause-lists g c =

@@ -11,12 +11,12 @@ invariant-events g l =
     let source = g.R.Source in
     let sink = g.W.Sink in
     record {
-      progress : Progress line_of (from_to (source.left l.initial.input) (source.left l.input))
+      progress : Progress line_of (from_to (source.remaining l.initial.input) (source.remaining l.input))
           (from_to (sink.taken l.initial.output) (sink.taken l.output))
-          (feed_of l.stored.items l.cursor) l.page.bytes.items;
+          (feed_of l.stored.items l.cursor) l.page;
       input : source.has_failed l.input ≡ source.has_failed l.initial.input;
       output : sink.has_failed l.output ≡ sink.has_failed l.initial.output;
-      room : 0 < vec_len l.room;
+      buffer : 0 < vec_len l.buffer;
     }
 
 abbrev pub decreases-events : goal.decreases-events

@@ -1,5 +1,5 @@
 use Rattle.std.proofs.Common.{◌≡◌, sym, arith}
-use Rattle.wasm_feed.proofs.LeftInPlace.{stays_there}
+use Rattle.wasm_feed.proofs.KeptInPlace.{stays_there}
 use Rattle.wasm_feed.proofs.stripping.move_down.Goals as goal
 
 pub returns-else-to-start-clause-items : goal.returns-else-to-start-clause-items

@@ -4,7 +4,7 @@ use Rattle.wasm_feed.specs.Cursors.{feed_of}
 use Rattle.wasm_feed.specs.Step.{Steps}
 use Rattle.wasm_feed.specs.declared.feeder.Step.{Step}
 use Rattle.wasm_feed.proofs.Adding.{steps_in}
-use Rattle.wasm_feed.proofs.LeftParts.{fault_comes, part_comes, part_goes_on}
+use Rattle.wasm_feed.proofs.KeptParts.{fault_comes, part_comes, part_goes_on}
 use Rattle.wasm_feed.proofs.stripping.next_part.Goals as goal
 
 pub returns-in_err-parse_next-clause-takes : goal.returns-in_err-parse_next-clause-takes

@@ -1,6 +1,6 @@
 use Rattle.std.proofs.Common.{◌≡◌, ◌∙◌, List, ◌++◌, ℕ, sym, ap, subst}
 use Rattle.std.proofs.lemmas.Result.{err_from_is_err_and}
-use Rattle.wasm_feed.specs.Strips.{ReadsLeft}
+use Rattle.wasm_feed.specs.Strips.{ReadsKept}
 use Rattle.wasm_feed.proofs.StripLaws.{refused_fault, refused_memory, refused_copy, strips_so}
 use Rattle.wasm_feed.proofs.stripping.strip_in.Goals as goal
 
@@ -13,20 +13,20 @@ returns-in_err-count g c =
 pub returns-in_default : goal.returns-in_default
 returns-in_default g c =
     let counted = c.in_ok-count.ensures in
-    let (left, reads, count) = counted.counts in
-    refused_memory c.args.keep_names c.args.bytes.now left c.new.result counted.stream reads c.new.ensures.report
+    let (kept, reads, count) = counted.counts in
+    refused_memory c.args.keep_names c.args.bytes.now kept c.new.result counted.stream reads c.new.ensures.report
 
-pub returns-in_err-copy_left : goal.returns-in_err-copy_left
-returns-in_err-copy_left g c =
+pub returns-in_err-copy_kept : goal.returns-in_err-copy_kept
+returns-in_err-copy_kept g c =
     let counted = c.in_ok-count.ensures in
-    let (left, reads, count) = counted.counts in
-    let e = err_from_is_err_and c.from_residual-in_err-copy_left.result c.from_residual-in_err-copy_left.ensures.1 in
-    rw (e.1, e.2) (refused_copy c.args.keep_names c.args.bytes.now left c.in_err-copy_left.field-0.0 counted.stream reads
-    c.in_err-copy_left.ensures)
+    let (kept, reads, count) = counted.counts in
+    let e = err_from_is_err_and c.from_residual-in_err-copy_kept.result c.from_residual-in_err-copy_kept.ensures.1 in
+    rw (e.1, e.2) (refused_copy c.args.keep_names c.args.bytes.now kept c.in_err-copy_kept.field-0.0 counted.stream reads
+    c.in_err-copy_kept.ensures)
 
 pub returns : goal.returns
 returns g c =
-    let (left, reads, all) = c.in_ok-copy_left.ensures in
-    let same : c.copy_left.new.left.items ≡ left = all ∙ ap (λ (x : List ℕ). x ++ left) c.in-Ok.ensures.empty in
-    strips_so c.args.keep_names c.args.bytes.now c.copy_left.new.left.items c.in_ok-count.ensures.stream
-    (subst (ReadsLeft c.args.keep_names c.args.bytes.now) (sym same) reads)
+    let (kept, reads, all) = c.in_ok-copy_kept.ensures in
+    let same : c.copy_kept.new.kept.items ≡ kept = all ∙ ap (λ (x : List ℕ). x ++ kept) c.in-Ok.ensures.empty in
+    strips_so c.args.keep_names c.args.bytes.now c.copy_kept.new.kept.items c.in_ok-count.ensures.stream
+    (subst (ReadsKept c.args.keep_names c.args.bytes.now) (sym same) reads)

@@ -1,10 +1,10 @@
 use Rattle.std.proofs.Common.{◌≡◌, ◌++◌}
-use Rattle.wasm_items.specs.Flattened.{imports_of_groups}
+use Rattle.wasm_items.specs.Flattened.{imports_of_bundles}
 use Rattle.wasm_items.proofs.flattened.next_import.Given as goal
 
 -- what is to come is what was to come at first
 abbrev pub invariant-left : goal.invariant-left
-invariant-left l = l.group ++ imports_of_groups l.groups ≡ l.fn.group ++ imports_of_groups l.fn.groups
+invariant-left l = l.bundle ++ imports_of_bundles l.bundles ≡ l.fn.bundle ++ imports_of_bundles l.fn.bundles
 
 abbrev pub decreases-left : goal.decreases-left
-decreases-left l = l.groups.left
+decreases-left l = l.bundles.left

@@ -2,7 +2,7 @@ use Rattle.wasm_base.proofs.OneOutcome.{reads_as_one}
 use Rattle.wasm_items.specs.Exports.{export_parts, export_at}
 use Rattle.wasm_items.specs.Externals.{kind_at}
 use Rattle.wasm_items.specs.Globals.{global_at, global_type_at}
-use Rattle.wasm_items.specs.Imports.{type_ref_at, import_parts, import_at, item_parts, item_at, group_parts, group_at}
+use Rattle.wasm_items.specs.Imports.{type_ref_at, import_parts, import_at, item_parts, item_at, bundle_parts, bundle_at}
 use Rattle.wasm_items.specs.Init.{expression_at}
 use Rattle.wasm_items.specs.Memories.{memory_type_at}
 use Rattle.wasm_items.specs.Tables.{table_at, table_type_at}
@@ -24,7 +24,7 @@ pub returns-clause-item : goal.returns-clause-item
 returns-clause-item c = reads_as_one item_parts item_at
 
 pub returns-clause-imports : goal.returns-clause-imports
-returns-clause-imports c = reads_as_one group_parts group_at
+returns-clause-imports c = reads_as_one bundle_parts bundle_at
 
 pub returns-clause-table : goal.returns-clause-table
 returns-clause-table c = reads_as_one (λ table. table) table_at

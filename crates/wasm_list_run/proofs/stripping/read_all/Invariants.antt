@@ -7,9 +7,9 @@ abbrev pub invariant-pieces : goal.invariant-pieces
 invariant-pieces g l =
     let source = g.R.Source in
     record {
-      gave : Consumes (source.left l.fn.input) (source.left l.input) l.bytes.items;
+      gave : Consumes (source.remaining l.fn.input) (source.remaining l.input) l.bytes.items;
       failed : source.has_failed l.input ≡ source.has_failed l.fn.input;
-      room : vec_len l.room ≡ 65536;
+      buffer : vec_len l.buffer ≡ 65536;
     }
 
 abbrev pub decreases-pieces : goal.decreases-pieces

@@ -1,7 +1,7 @@
 use Rattle.std.proofs.Common.{Err, sym, eqb-true, ap, ◌∙◌}
 use Rattle.wasm_base.specs.FaultAt.{at_offset}
 use Rattle.wasm_base.specs.Window.{place}
-use Rattle.wasm_parser.proofs.Counted.{single_refused, single_left, single_read}
+use Rattle.wasm_parser.proofs.Counted.{single_refused, single_trailing, single_read}
 use Rattle.wasm_parser.proofs.contents.only_u32.Goals as goal
 
 pub returns-in-Err-clause-reads : goal.returns-in-Err-clause-reads
@@ -11,7 +11,7 @@ returns-in-Err-clause-reads c =
 
 pub returns-then-not-eof-clause-reads : goal.returns-then-not-eof-clause-reads
 returns-then-not-eof-clause-reads c =
-    single_left c.args.trailing (place c.args.window) c.in-Ok.number (place c.read_var_u32.new.self) c.new.result c.in-Ok.ensures.gives
+    single_trailing c.args.trailing (place c.args.window) c.in-Ok.number (place c.read_var_u32.new.self) c.new.result c.in-Ok.ensures.gives
     c.if-not-eof.ensures
     (c.new.ensures.report ∙ ap (at_offset c.args.trailing) c.original_position.ensures.offset)
 

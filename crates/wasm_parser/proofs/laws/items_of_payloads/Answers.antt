@@ -7,7 +7,7 @@ use Rattle.wasm_items.specs.Data.{data_parts, data_at}
 use Rattle.wasm_items.specs.Elements.{element_at}
 use Rattle.wasm_items.specs.Exports.{export_parts, export_at}
 use Rattle.wasm_items.specs.Globals.{global_at}
-use Rattle.wasm_items.specs.Imports.{group_parts, group_at}
+use Rattle.wasm_items.specs.Imports.{bundle_parts, bundle_at}
 use Rattle.wasm_items.specs.Memories.{memory_type_at}
 use Rattle.wasm_items.specs.Tables.{table_at}
 use Rattle.wasm_items.specs.Tags.{tag_type_at}
@@ -18,7 +18,7 @@ pub returns-clause-types : goal.returns-clause-types
 returns-clause-types c = gives_types
 
 pub returns-clause-imports : goal.returns-clause-imports
-returns-clause-imports c id count w s (e, b) = gives (AtItsOffset (ReadsAs group_parts group_at)) import_id id count w s e b
+returns-clause-imports c id count w s (e, b) = gives (AtItsOffset (ReadsAs bundle_parts bundle_at)) import_id id count w s e b
 
 pub returns-clause-functions : goal.returns-clause-functions
 returns-clause-functions c id count w s (e, b) = gives (AtItsOffset (ReadsAs (λ index. index) (unsigned_at VarU32))) function_id id count w

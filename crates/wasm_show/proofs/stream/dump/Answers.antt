@@ -2,8 +2,8 @@ use Rattle.std.proofs.lemmas.Result.{err_from_is_err_and}
 use Rattle.wasm_show.proofs.Dumping.{fresh, no_room}
 use Rattle.wasm_show.proofs.stream.dump.Goals as goal
 
-pub returns-in_err-room : goal.returns-in_err-room
-returns-in_err-room g c taken failed s =
+pub returns-in_err-buffer : goal.returns-in_err-buffer
+returns-in_err-buffer g c taken failed s =
     let e = err_from_is_err_and c.from_residual.result c.from_residual.ensures.1 in
     rw (e.1, e.2) (no_room _ _ _ taken failed _ s)
 

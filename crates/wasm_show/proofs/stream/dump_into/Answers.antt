@@ -8,7 +8,7 @@ pub events-init : goal.events-init
 events-init g c = record {
   dumping = rw (c.new-feeder.ensures, c.features.ensures, c.new.ensures) (starts _ _ _);
   input = refl;
-  room = c.requires;
+  buffer = c.requires;
 }
 
 pub returns-in_err-go_on : goal.returns-in_err-go_on
@@ -24,7 +24,7 @@ pub events-preserved-in-Advance : goal.events-preserved-in-Advance
 events-preserved-in-Advance g c = record {
   dumping = (advanced _ _ _ _ _ _ c.events.invariant.dumping _ _ _ c.show_step-turn.ensures c.in-Advance.is).0;
   input = c.events.invariant.input;
-  room = c.events.invariant.room;
+  buffer = c.events.invariant.buffer;
 }
 
 pub returns-in_err-go_on-in-Read : goal.returns-in_err-go_on-in-Read
@@ -54,7 +54,7 @@ events-preserved g c =
       dumping = (filled _ _ _ _ _ _ _ wanting c.write_out.ensures.adds c.write_out.ensures.out c.in_ok-go_on-in-Read.ensures.ok _ _
           c.in_ok-read_from-in-Read.ensures.refills).0;
       input = c.in_ok-read_from-in-Read.ensures.failed ∙ c.events.invariant.input;
-      room = grind (arith, common_steps);
+      buffer = grind (arith, common_steps);
     }
 
 pub returns-in_err-read_from-in-Read : goal.returns-in_err-read_from-in-Read

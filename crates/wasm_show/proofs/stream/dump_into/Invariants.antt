@@ -8,9 +8,9 @@ abbrev pub invariant-events : goal.invariant-events
 invariant-events g l =
     let source = g.R.Source in
     record {
-      dumping : Dumping l.only (source.left l.initial.input) (source.left l.input) l.initial.out l.feeder l.out;
+      dumping : Dumping l.only (source.remaining l.initial.input) (source.remaining l.input) l.initial.out l.feeder l.out;
       input : source.has_failed l.input ≡ source.has_failed l.initial.input;
-      room : 0 < length l.room;
+      buffer : 0 < length l.buffer;
     }
 
 abbrev pub decreases-events : goal.decreases-events

@@ -10,7 +10,8 @@ pub returns : goal.returns
 returns c =
     let p = c.self.inside in
     let report = report_of c.args.payload.now in
-    let left = c.missing_bytes-self-inside.ensures ∙ ap (λ (taken : ℕ). missing_bytes report taken p.left) c.saturating_sub-taken.ensures in
+    let code_bytes = c.missing_bytes-self-inside.ensures
+    ∙ ap (λ (taken : ℕ). missing_bytes report taken p.code_bytes) c.saturating_sub-taken.ensures in
     advances c.args.self.now _ c.args.payload.now c.args.end (
     (λ i. record {
       offset = c.args.end;
@@ -23,12 +24,12 @@ returns c =
       datas = p.datas;
       data_counts = p.data_counts;
       bodies = c.missing_bodies-self-inside.ensures i;
-      left = left i;
+      code_bytes = code_bytes i;
       in_code = c.is_of_code-self-inside.ensures i;
     }) ∙ ap (λ (s : ParserState). record s {
       offset = c.args.end;
       expects_header = false;
       bodies = missing_bodies report s.bodies;
-      left = missing_bytes report (c.args.end - s.offset) s.left;
+      code_bytes = missing_bytes report (c.args.end - s.offset) s.code_bytes;
       in_code = reports_code report;
     }) (c.self.view_is ∙ c.learn.ensures))

@@ -9,7 +9,7 @@ returns-then-self c =
     next_header c.args.self.now (place c.args.reader.now) _ _ (sym (ap (λ (s : ParserState). s.expects_header) c.self.view_is)
     ∙ c.if-self.true) c.requires.starts c.read_header.ensures
 
-pub returns-then-is_code_left : goal.returns-then-is_code_left
-returns-then-is_code_left c =
+pub returns-then-is_code_open : goal.returns-then-is_code_open
+returns-then-is_code_open c =
     next_body c.args.self.now (place c.args.reader.now) _ _ (sym (ap (λ (s : ParserState). s.expects_header) c.self.view_is)
-    ∙ c.if-self.false) (not_true _ c.if-is_code_left.ensures) c.requires.starts c.body.ensures
+    ∙ c.if-self.false) (not_true _ c.if-is_code_open.ensures) c.requires.starts c.body.ensures

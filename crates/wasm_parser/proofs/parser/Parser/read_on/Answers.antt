@@ -7,7 +7,7 @@ use Rattle.wasm_parser.proofs.parser.Parser.read_on.Goals as goal
 pub advance-requires : goal.advance-requires
 advance-requires c =
     let o = ap (λ (s : ParserState). s.offset) c.self.view_is in
-    let l = ap (λ (s : ParserState). s.left) c.self.view_is in
+    let l = ap (λ (s : ParserState). s.code_bytes) c.self.view_is in
     window_fits c.args.self.now c.reader-reader.result c.args.bytes.now (place c.read.new.reader) c.in-Ok.payload
     c.original_position-end.result c.reader-reader.ensures c.in-Ok.ensures c.original_position-end.ensures.offset
     c.original_position-end.type_inv (omega (arith, o, l, c.self.invariant))

@@ -7,7 +7,7 @@ use Rattle.wasm_parser.proofs.parser.Parser.skip_section.Goals as goal
 pub returns-clause-skips : goal.returns-clause-skips
 returns-clause-skips c =
     let p = c.self.inside in
-    skips_section c.args.self.now _ (in_code_where_skippable c.args.self.now.in_code c.args.self.now.left c.requires)
+    skips_section c.args.self.now _ (in_code_where_skippable c.args.self.now.in_code c.args.self.now.code_bytes c.requires)
     ((λ i. record {
       offset = p.offset + c.from.ensures i;
       features = feature_bits p.features;
@@ -19,6 +19,6 @@ returns-clause-skips c =
       datas = p.datas;
       data_counts = p.data_counts;
       bodies = 0;
-      left = 0;
+      code_bytes = 0;
       in_code = p.in_code;
     }) ∙ ap skipped_state c.self.view_is)

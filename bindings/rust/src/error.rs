@@ -1,0 +1,74 @@
+//! Faults.
+use crate::ffi;
+use core::fmt;
+
+/// What a call answers.
+pub type Result<T, E = BinaryReaderError> = core::result::Result<T, E>;
+
+/// A fault of a stream: what it is, and where.
+#[derive(Clone, Copy)]
+pub struct BinaryReaderError {
+    fault: ffi::Fault,
+    text: [u8; 80],
+    size: usize,
+}
+
+impl BinaryReaderError {
+    pub(crate) fn new(fault: ffi::Fault) -> Self {
+        let mut text = [0; 80];
+        // SAFETY: the declaration is made from the sources; pointer and length are those of an array of our own.
+        let size = unsafe { ffi::pulleynavy_fault_message(fault.kind, text.as_mut_ptr(), text.len()) };
+        BinaryReaderError { fault, text, size: size.min(80) }
+    }
+
+    /// That bytes come after the announced items of a section, at this offset.
+    pub(crate) fn size_mismatch(offset: u64) -> Self {
+        BinaryReaderError::new(ffi::Fault { kind: 24, has_number: 0, number: 0, offset })
+    }
+
+    /// The text of the fault.
+    pub fn message(&self) -> &str {
+        core::str::from_utf8(&self.text[..self.size]).unwrap_or_default()
+    }
+
+    /// Where it is, in bytes from the start of the whole stream.
+    pub fn offset(&self) -> u64 {
+        self.fault.offset
+    }
+
+    /// The number that belongs to it, if there is one.
+    pub fn number(&self) -> Option<u64> {
+        (self.fault.has_number != 0).then_some(self.fault.number)
+    }
+
+    /// The number of its kind, which never changes.
+    pub fn code(&self) -> u32 {
+        self.fault.kind
+    }
+}
+
+impl PartialEq for BinaryReaderError {
+    fn eq(&self, other: &Self) -> bool {
+        (self.code(), self.offset(), self.number()) == (other.code(), other.offset(), other.number())
+    }
+}
+
+impl Eq for BinaryReaderError {}
+
+impl fmt::Debug for BinaryReaderError {
+    fn fmt(&self, f: &mut fmt::Formatter<'_>) -> fmt::Result {
+        f.debug_struct("BinaryReaderError").field("message", &self.message()).field("number", &self.number()).field("offset", &self.offset()).finish()
+    }
+}
+
+impl fmt::Display for BinaryReaderError {
+    fn fmt(&self, f: &mut fmt::Formatter<'_>) -> fmt::Result {
+        f.write_str(self.message())?;
+        if let Some(number) = self.number() {
+            write!(f, ": {number}")?;
+        }
+        write!(f, " (at offset 0x{:x})", self.offset())
+    }
+}
+
+impl core::error::Error for BinaryReaderError {}

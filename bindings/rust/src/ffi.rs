@@ -1,0 +1,599 @@
+//! The declarations of the library, written by `tools/c_header` from its sources.
+
+#[repr(C)]
+#[derive(Clone, Copy, Debug)]
+pub struct Fault {
+    pub kind: u32,
+    pub has_number: u32,
+    pub number: u64,
+    pub offset: u64,
+}
+
+#[repr(C)]
+#[derive(Clone, Copy, Debug)]
+pub struct Event {
+    pub kind: u32,
+    pub id: u32,
+    pub count: u32,
+    pub size: u32,
+    pub start: u64,
+    pub end: u64,
+    pub consumed: u64,
+    pub hint: u64,
+    pub data_offset: u64,
+    pub name_size: u64,
+    pub fault: Fault,
+}
+
+#[repr(C)]
+#[derive(Clone, Copy, Debug)]
+pub struct Parser {
+    pub offset: u64,
+    pub features: u32,
+    pub functions: u32,
+    pub codes: u32,
+    pub datas: u32,
+    pub data_counts: u32,
+    pub bodies: u32,
+    pub code_bytes: u32,
+    pub is_begun: u8,
+    pub is_component: u8,
+    pub rank: u8,
+    pub has_functions: u8,
+    pub has_codes: u8,
+    pub has_datas: u8,
+    pub has_data_counts: u8,
+    pub in_code: u8,
+}
+
+#[repr(C)]
+#[derive(Clone, Copy, Debug)]
+pub struct Feed {
+    pub parser: Parser,
+    pub mark: usize,
+    pub end: usize,
+    pub is_finished: u8,
+}
+
+#[repr(C)]
+#[derive(Clone, Copy, Debug)]
+pub struct Span {
+    pub at: u64,
+    pub size: u64,
+}
+
+#[repr(C)]
+#[derive(Clone, Copy, Debug)]
+pub struct Type {
+    pub kind: u32,
+    pub nullable: u32,
+    pub heap: u32,
+    pub index: u32,
+}
+
+#[repr(C)]
+#[derive(Clone, Copy, Debug)]
+pub struct Number {
+    pub fault: Fault,
+    pub consumed: u64,
+    pub value: u64,
+}
+
+#[repr(C)]
+#[derive(Clone, Copy, Debug)]
+pub struct Value {
+    pub fault: Fault,
+    pub consumed: u64,
+    pub ty: Type,
+}
+
+#[repr(C)]
+#[derive(Clone, Copy, Debug)]
+pub struct Field {
+    pub fault: Fault,
+    pub consumed: u64,
+    pub ty: Type,
+    pub is_mutable: u32,
+}
+
+#[repr(C)]
+#[derive(Clone, Copy, Debug)]
+pub struct TypeGroup {
+    pub fault: Fault,
+    pub consumed: u64,
+    pub is_explicit: u32,
+    pub count: u32,
+}
+
+#[repr(C)]
+#[derive(Clone, Copy, Debug)]
+pub struct Subtype {
+    pub fault: Fault,
+    pub consumed: u64,
+    pub is_final: u32,
+    pub has_supertype: u32,
+    pub supertype: u32,
+    pub kind: u32,
+    pub count: u32,
+}
+
+#[repr(C)]
+#[derive(Clone, Copy, Debug)]
+pub struct TableType {
+    pub element: Type,
+    pub table64: u32,
+    pub shared: u32,
+    pub has_maximum: u32,
+    pub initial: u64,
+    pub maximum: u64,
+}
+
+#[repr(C)]
+#[derive(Clone, Copy, Debug)]
+pub struct MemoryType {
+    pub memory64: u32,
+    pub shared: u32,
+    pub has_maximum: u32,
+    pub has_page_size: u32,
+    pub page_size_log2: u32,
+    pub initial: u64,
+    pub maximum: u64,
+}
+
+#[repr(C)]
+#[derive(Clone, Copy, Debug)]
+pub struct GlobalType {
+    pub content: Type,
+    pub is_mutable: u32,
+    pub shared: u32,
+}
+
+#[repr(C)]
+#[derive(Clone, Copy, Debug)]
+pub struct Table {
+    pub fault: Fault,
+    pub consumed: u64,
+    pub ty: TableType,
+    pub init: Span,
+    pub has_init: u32,
+}
+
+#[repr(C)]
+#[derive(Clone, Copy, Debug)]
+pub struct Memory {
+    pub fault: Fault,
+    pub consumed: u64,
+    pub ty: MemoryType,
+}
+
+#[repr(C)]
+#[derive(Clone, Copy, Debug)]
+pub struct Tag {
+    pub fault: Fault,
+    pub consumed: u64,
+    pub func_type_index: u32,
+}
+
+#[repr(C)]
+#[derive(Clone, Copy, Debug)]
+pub struct Global {
+    pub fault: Fault,
+    pub consumed: u64,
+    pub ty: GlobalType,
+    pub init: Span,
+}
+
+#[repr(C)]
+#[derive(Clone, Copy, Debug)]
+pub struct ImportType {
+    pub kind: u32,
+    pub index: u32,
+    pub table: TableType,
+    pub memory: MemoryType,
+    pub global: GlobalType,
+}
+
+#[repr(C)]
+#[derive(Clone, Copy, Debug)]
+pub struct Import {
+    pub fault: Fault,
+    pub consumed: u64,
+    pub module_name: Span,
+    pub name: Span,
+    pub ty: ImportType,
+    pub items: Span,
+    pub kind: u32,
+    pub count: u32,
+}
+
+#[repr(C)]
+#[derive(Clone, Copy, Debug)]
+pub struct ImportItem {
+    pub fault: Fault,
+    pub consumed: u64,
+    pub name: Span,
+    pub ty: ImportType,
+}
+
+#[repr(C)]
+#[derive(Clone, Copy, Debug)]
+pub struct Name {
+    pub fault: Fault,
+    pub consumed: u64,
+    pub name: Span,
+}
+
+#[repr(C)]
+#[derive(Clone, Copy, Debug)]
+pub struct Export {
+    pub fault: Fault,
+    pub consumed: u64,
+    pub name: Span,
+    pub kind: u32,
+    pub index: u32,
+}
+
+#[repr(C)]
+#[derive(Clone, Copy, Debug)]
+pub struct Expression {
+    pub fault: Fault,
+    pub consumed: u64,
+}
+
+#[repr(C)]
+#[derive(Clone, Copy, Debug)]
+pub struct Element {
+    pub fault: Fault,
+    pub consumed: u64,
+    pub kind: u32,
+    pub has_table: u32,
+    pub table: u32,
+    pub has_expressions: u32,
+    pub offset_expression: Span,
+    pub ty: Type,
+    pub items: Span,
+    pub count: u32,
+}
+
+#[repr(C)]
+#[derive(Clone, Copy, Debug)]
+pub struct Data {
+    pub fault: Fault,
+    pub consumed: u64,
+    pub kind: u32,
+    pub memory: u32,
+    pub offset_expression: Span,
+    pub bytes: Span,
+}
+
+#[repr(C)]
+#[derive(Clone, Copy, Debug)]
+pub struct Subsection {
+    pub fault: Fault,
+    pub consumed: u64,
+    pub id: u32,
+    pub contents: Span,
+}
+
+#[repr(C)]
+#[derive(Clone, Copy, Debug)]
+pub struct Naming {
+    pub fault: Fault,
+    pub consumed: u64,
+    pub index: u32,
+    pub name: Span,
+}
+
+#[repr(C)]
+#[derive(Clone, Copy, Debug)]
+pub struct ProducersField {
+    pub fault: Fault,
+    pub consumed: u64,
+    pub name: Span,
+    pub count: u32,
+    pub values: Span,
+}
+
+#[repr(C)]
+#[derive(Clone, Copy, Debug)]
+pub struct ProducersValue {
+    pub fault: Fault,
+    pub consumed: u64,
+    pub name: Span,
+    pub version: Span,
+}
+
+#[repr(C)]
+#[derive(Clone, Copy, Debug)]
+pub struct HintedFunction {
+    pub fault: Fault,
+    pub consumed: u64,
+    pub func: u32,
+    pub count: u32,
+    pub hints: Span,
+}
+
+#[repr(C)]
+#[derive(Clone, Copy, Debug)]
+pub struct BranchHint {
+    pub fault: Fault,
+    pub consumed: u64,
+    pub func_offset: u32,
+    pub taken: u32,
+}
+
+#[repr(C)]
+#[derive(Clone, Copy, Debug)]
+pub struct DylinkMemory {
+    pub fault: Fault,
+    pub consumed: u64,
+    pub memory_size: u32,
+    pub memory_alignment: u32,
+    pub table_size: u32,
+    pub table_alignment: u32,
+}
+
+#[repr(C)]
+#[derive(Clone, Copy, Debug)]
+pub struct DylinkExport {
+    pub fault: Fault,
+    pub consumed: u64,
+    pub name: Span,
+    pub flags: u32,
+}
+
+#[repr(C)]
+#[derive(Clone, Copy, Debug)]
+pub struct DylinkImport {
+    pub fault: Fault,
+    pub consumed: u64,
+    pub module_name: Span,
+    pub field: Span,
+    pub flags: u32,
+}
+
+#[repr(C)]
+#[derive(Clone, Copy, Debug)]
+pub struct LinkingSegment {
+    pub fault: Fault,
+    pub consumed: u64,
+    pub name: Span,
+    pub alignment: u32,
+    pub flags: u32,
+}
+
+#[repr(C)]
+#[derive(Clone, Copy, Debug)]
+pub struct InitFunction {
+    pub fault: Fault,
+    pub consumed: u64,
+    pub priority: u32,
+    pub symbol: u32,
+}
+
+#[repr(C)]
+#[derive(Clone, Copy, Debug)]
+pub struct Comdat {
+    pub fault: Fault,
+    pub consumed: u64,
+    pub name: Span,
+    pub flags: u32,
+    pub count: u32,
+    pub symbols: Span,
+}
+
+#[repr(C)]
+#[derive(Clone, Copy, Debug)]
+pub struct ComdatSymbol {
+    pub fault: Fault,
+    pub consumed: u64,
+    pub kind: u32,
+    pub index: u32,
+}
+
+#[repr(C)]
+#[derive(Clone, Copy, Debug)]
+pub struct Relocation {
+    pub fault: Fault,
+    pub consumed: u64,
+    pub kind: u32,
+    pub extent: u32,
+    pub offset: u32,
+    pub index: u32,
+    pub addend: i64,
+}
+
+unsafe extern "C" {
+    pub fn pulleynavy_fault_message(kind: u32, out: *mut u8, out_size: usize) -> usize;
+    pub fn pulleynavy_parser(offset: u64, features: u32) -> Parser;
+    pub fn pulleynavy_parse(
+        stored: &mut Parser,
+        bytes: *const u8,
+        bytes_size: usize,
+        is_all: bool,
+    ) -> Event;
+    pub fn pulleynavy_skip_section(stored: &mut Parser) -> u32;
+    pub fn pulleynavy_fault_text(
+        stored: &Parser,
+        bytes: *const u8,
+        bytes_size: usize,
+        is_all: bool,
+        out: *mut u8,
+        out_size: usize,
+    ) -> usize;
+    pub fn pulleynavy_feed(offset: u64, features: u32) -> Feed;
+    pub fn pulleynavy_step(feed: &mut Feed, storage: *const u8, storage_size: usize) -> Event;
+    pub fn pulleynavy_finish(feed: &mut Feed);
+    pub fn pulleynavy_push(
+        feed: &mut Feed,
+        storage: *mut u8,
+        storage_size: usize,
+        piece: *const u8,
+        piece_size: usize,
+    ) -> bool;
+    pub fn pulleynavy_number(
+        bytes: *const u8,
+        bytes_size: usize,
+        offset: u64,
+        features: u32,
+    ) -> Number;
+    pub fn pulleynavy_value_type(
+        bytes: *const u8,
+        bytes_size: usize,
+        offset: u64,
+        features: u32,
+    ) -> Value;
+    pub fn pulleynavy_field_type(
+        bytes: *const u8,
+        bytes_size: usize,
+        offset: u64,
+        features: u32,
+    ) -> Field;
+    pub fn pulleynavy_type_group(
+        bytes: *const u8,
+        bytes_size: usize,
+        offset: u64,
+        features: u32,
+    ) -> TypeGroup;
+    pub fn pulleynavy_subtype(
+        bytes: *const u8,
+        bytes_size: usize,
+        offset: u64,
+        features: u32,
+    ) -> Subtype;
+    pub fn pulleynavy_table(
+        bytes: *const u8,
+        bytes_size: usize,
+        offset: u64,
+        features: u32,
+    ) -> Table;
+    pub fn pulleynavy_memory(
+        bytes: *const u8,
+        bytes_size: usize,
+        offset: u64,
+        features: u32,
+    ) -> Memory;
+    pub fn pulleynavy_tag(bytes: *const u8, bytes_size: usize, offset: u64, features: u32) -> Tag;
+    pub fn pulleynavy_global(
+        bytes: *const u8,
+        bytes_size: usize,
+        offset: u64,
+        features: u32,
+    ) -> Global;
+    pub fn pulleynavy_import(
+        bytes: *const u8,
+        bytes_size: usize,
+        offset: u64,
+        features: u32,
+    ) -> Import;
+    pub fn pulleynavy_import_item(
+        bytes: *const u8,
+        bytes_size: usize,
+        offset: u64,
+        features: u32,
+    ) -> ImportItem;
+    pub fn pulleynavy_name(bytes: *const u8, bytes_size: usize, offset: u64, features: u32) -> Name;
+    pub fn pulleynavy_export(
+        bytes: *const u8,
+        bytes_size: usize,
+        offset: u64,
+        features: u32,
+    ) -> Export;
+    pub fn pulleynavy_expression(
+        bytes: *const u8,
+        bytes_size: usize,
+        offset: u64,
+        features: u32,
+    ) -> Expression;
+    pub fn pulleynavy_element(
+        bytes: *const u8,
+        bytes_size: usize,
+        offset: u64,
+        features: u32,
+    ) -> Element;
+    pub fn pulleynavy_data(bytes: *const u8, bytes_size: usize, offset: u64, features: u32) -> Data;
+    pub fn pulleynavy_subsection(
+        bytes: *const u8,
+        bytes_size: usize,
+        offset: u64,
+        features: u32,
+    ) -> Subsection;
+    pub fn pulleynavy_naming(
+        bytes: *const u8,
+        bytes_size: usize,
+        offset: u64,
+        features: u32,
+    ) -> Naming;
+    pub fn pulleynavy_producers_field(
+        bytes: *const u8,
+        bytes_size: usize,
+        offset: u64,
+        features: u32,
+    ) -> ProducersField;
+    pub fn pulleynavy_producers_value(
+        bytes: *const u8,
+        bytes_size: usize,
+        offset: u64,
+        features: u32,
+    ) -> ProducersValue;
+    pub fn pulleynavy_hinted_function(
+        bytes: *const u8,
+        bytes_size: usize,
+        offset: u64,
+        features: u32,
+    ) -> HintedFunction;
+    pub fn pulleynavy_branch_hint(
+        bytes: *const u8,
+        bytes_size: usize,
+        offset: u64,
+        features: u32,
+    ) -> BranchHint;
+    pub fn pulleynavy_dylink_memory(
+        bytes: *const u8,
+        bytes_size: usize,
+        offset: u64,
+        features: u32,
+    ) -> DylinkMemory;
+    pub fn pulleynavy_dylink_export(
+        bytes: *const u8,
+        bytes_size: usize,
+        offset: u64,
+        features: u32,
+    ) -> DylinkExport;
+    pub fn pulleynavy_dylink_import(
+        bytes: *const u8,
+        bytes_size: usize,
+        offset: u64,
+        features: u32,
+    ) -> DylinkImport;
+    pub fn pulleynavy_linking_segment(
+        bytes: *const u8,
+        bytes_size: usize,
+        offset: u64,
+        features: u32,
+    ) -> LinkingSegment;
+    pub fn pulleynavy_init_function(
+        bytes: *const u8,
+        bytes_size: usize,
+        offset: u64,
+        features: u32,
+    ) -> InitFunction;
+    pub fn pulleynavy_comdat(
+        bytes: *const u8,
+        bytes_size: usize,
+        offset: u64,
+        features: u32,
+    ) -> Comdat;
+    pub fn pulleynavy_comdat_symbol(
+        bytes: *const u8,
+        bytes_size: usize,
+        offset: u64,
+        features: u32,
+    ) -> ComdatSymbol;
+    pub fn pulleynavy_relocation(
+        bytes: *const u8,
+        bytes_size: usize,
+        offset: u64,
+        features: u32,
+    ) -> Relocation;
+}

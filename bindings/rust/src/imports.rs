@@ -1,0 +1,163 @@
+//! Imports.
+use crate::ffi;
+use crate::section::{SectionLimitedIntoIter, SectionLimitedIntoIterWithOffsets, Window, call};
+use crate::types::{global_type, memory_type, table_type};
+use crate::{FromReader, GlobalType, MemoryType, Result, SectionLimited, TableType, TagType};
+
+/// What is imported, with its type.
+#[derive(Clone, Copy, Debug, PartialEq, Eq, Hash)]
+pub enum TypeRef {
+    /// A function, with the index of its type.
+    Func(u32),
+    /// A table.
+    Table(TableType),
+    /// A memory.
+    Memory(MemoryType),
+    /// A global.
+    Global(GlobalType),
+    /// A tag.
+    Tag(TagType),
+    /// A function of exactly the type with this index.
+    FuncExact(u32),
+}
+
+/// An import.
+#[derive(Clone, Copy, Debug, PartialEq, Eq, Hash)]
+pub struct Import<'a> {
+    /// The module that it comes from.
+    pub module: &'a str,
+    /// Its name there.
+    pub name: &'a str,
+    /// What it is.
+    pub ty: TypeRef,
+}
+
+/// An import whose module is that of its group.
+#[derive(Clone, Copy, Debug, PartialEq, Eq, Hash)]
+pub struct ImportItemCompact<'a> {
+    /// The import's name in the group's module.
+    pub name: &'a str,
+    /// What it is.
+    pub ty: TypeRef,
+}
+
+/// An item of an import section: an import, or a group of imports.
+#[derive(Clone, Debug)]
+pub enum Imports<'a> {
+    /// One import, and the offset at which it begins.
+    Single(u64, Import<'a>),
+    /// Imports of one module.
+    Compact1 {
+        /// The module that they come from.
+        module: &'a str,
+        /// Their names and types.
+        items: SectionLimited<'a, ImportItemCompact<'a>>,
+    },
+    /// Imports of one module and one type.
+    Compact2 {
+        /// The module that they come from.
+        module: &'a str,
+        /// What each of them is.
+        ty: TypeRef,
+        /// Their names.
+        names: SectionLimited<'a, &'a str>,
+    },
+}
+
+fn type_ref(ty: &ffi::ImportType) -> TypeRef {
+    match ty.kind {
+        0 => TypeRef::Func(ty.index),
+        1 => TypeRef::Table(table_type(ty.table)),
+        2 => TypeRef::Memory(memory_type(ty.memory)),
+        3 => TypeRef::Global(global_type(ty.global)),
+        4 => TypeRef::Tag(TagType { func_type_idx: ty.index }),
+        _ => TypeRef::FuncExact(ty.index),
+    }
+}
+
+impl<'a> FromReader<'a> for Imports<'a> {
+    fn from_window(window: Window<'a>) -> Result<(Self, u64)> {
+        let plain = call!(pulleynavy_import, window);
+        let (module, ty, items) = (window.text(plain.module_name), type_ref(&plain.ty), window.part(plain.items));
+        let group = match plain.kind {
+            0 => Imports::Single(window.offset, Import { module, name: window.text(plain.name), ty }),
+            1 => Imports::Compact1 { module, items: SectionLimited::of(items, plain.count) },
+            _ => Imports::Compact2 { module, ty, names: SectionLimited::of(items, plain.count) },
+        };
+        Ok((group, plain.consumed))
+    }
+}
+
+impl<'a> FromReader<'a> for ImportItemCompact<'a> {
+    fn from_window(window: Window<'a>) -> Result<(Self, u64)> {
+        let plain = call!(pulleynavy_import_item, window);
+        Ok((ImportItemCompact { name: window.text(plain.name), ty: type_ref(&plain.ty) }, plain.consumed))
+    }
+}
+
+/// What is left of a group.
+#[derive(Clone, Debug)]
+enum Group<'a> {
+    One(Option<(u64, Import<'a>)>),
+    OfModule(&'a str, SectionLimitedIntoIterWithOffsets<'a, ImportItemCompact<'a>>),
+    OfType(&'a str, TypeRef, SectionLimitedIntoIterWithOffsets<'a, &'a str>),
+}
+
+impl<'a> Group<'a> {
+    fn of(group: Imports<'a>) -> Self {
+        match group {
+            Imports::Single(offset, one) => Group::One(Some((offset, one))),
+            Imports::Compact1 { module, items } => Group::OfModule(module, items.into_iter_with_offsets()),
+            Imports::Compact2 { module, ty, names } => Group::OfType(module, ty, names.into_iter_with_offsets()),
+        }
+    }
+
+    fn next(&mut self) -> Option<Result<(u64, Import<'a>)>> {
+        match self {
+            Group::One(one) => one.take().map(Ok),
+            Group::OfModule(module, items) => {
+                let module = *module;
+                Some(items.next()?.map(|(offset, item)| (offset, Import { module, name: item.name, ty: item.ty })))
+            }
+            Group::OfType(module, ty, names) => {
+                let (module, ty) = (*module, *ty);
+                Some(names.next()?.map(|(offset, name)| (offset, Import { module, name, ty })))
+            }
+        }
+    }
+}
+
+/// The imports of a section one by one, whatever groups they are in, each with its offset.
+#[derive(Clone, Debug)]
+pub struct IntoImports<'a> {
+    groups: SectionLimitedIntoIter<'a, Imports<'a>>,
+    group: Group<'a>,
+}
+
+impl<'a> Iterator for IntoImports<'a> {
+    type Item = Result<(u64, Import<'a>)>;
+
+    fn next(&mut self) -> Option<Self::Item> {
+        loop {
+            if let Some(import) = self.group.next() {
+                return Some(import);
+            }
+            match self.groups.next()? {
+                Ok(group) => self.group = Group::of(group),
+                Err(error) => return Some(Err(error)),
+            }
+        }
+    }
+}
+
+impl<'a> SectionLimited<'a, Imports<'a>> {
+    /// The imports one by one, whatever groups they are in.
+    pub fn into_imports(self) -> impl Iterator<Item = Result<Import<'a>>> {
+        self.into_imports_with_offsets().map(|import| import.map(|(_, import)| import))
+    }
+
+    /// The same, each with its offset. After a fault inside a group the next group follows.
+    pub fn into_imports_with_offsets(self) -> IntoImports<'a> {
+        IntoImports { groups: self.into_iter(), group: Group::One(None) }
+    }
+}

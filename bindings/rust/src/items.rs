@@ -1,0 +1,210 @@
+//! Tables, globals, exports and segments.
+use crate::section::{Window, call};
+use crate::types::{global_type, ref_type, table_type};
+use crate::{FromReader, GlobalType, RefType, Result, SectionLimited, TableType};
+use core::ops::Range;
+
+/// A constant expression: its instructions, with the end.
+#[derive(Clone, Copy, Debug)]
+pub struct ConstExpr<'a> {
+    window: Window<'a>,
+}
+
+impl<'a> ConstExpr<'a> {
+    /// Its offsets.
+    pub fn range(&self) -> Range<u64> {
+        self.window.range()
+    }
+
+    /// Its bytes.
+    pub fn as_bytes(&self) -> &'a [u8] {
+        self.window.bytes
+    }
+}
+
+impl<'a> FromReader<'a> for ConstExpr<'a> {
+    fn from_window(window: Window<'a>) -> Result<(Self, u64)> {
+        let plain = call!(pulleynavy_expression, window);
+        let window = Window { bytes: &window.bytes[..plain.consumed as usize], ..window };
+        Ok((ConstExpr { window }, plain.consumed))
+    }
+}
+
+/// A table.
+#[derive(Clone, Debug)]
+pub struct Table<'a> {
+    /// Its type.
+    pub ty: TableType,
+    /// What each of its elements is at first.
+    pub init: TableInit<'a>,
+}
+
+/// What each element of a table is at first.
+#[derive(Clone, Debug)]
+pub enum TableInit<'a> {
+    /// A null reference.
+    RefNull,
+    /// The value of this expression.
+    Expr(ConstExpr<'a>),
+}
+
+impl<'a> FromReader<'a> for Table<'a> {
+    fn from_window(window: Window<'a>) -> Result<(Self, u64)> {
+        let plain = call!(pulleynavy_table, window);
+        let init = if plain.has_init == 0 { TableInit::RefNull } else { TableInit::Expr(ConstExpr { window: window.part(plain.init) }) };
+        Ok((Table { ty: table_type(plain.ty), init }, plain.consumed))
+    }
+}
+
+/// A global.
+#[derive(Clone, Debug)]
+pub struct Global<'a> {
+    /// Its type.
+    pub ty: GlobalType,
+    /// The expression of its first value.
+    pub init_expr: ConstExpr<'a>,
+}
+
+impl<'a> FromReader<'a> for Global<'a> {
+    fn from_window(window: Window<'a>) -> Result<(Self, u64)> {
+        let plain = call!(pulleynavy_global, window);
+        Ok((Global { ty: global_type(plain.ty), init_expr: ConstExpr { window: window.part(plain.init) } }, plain.consumed))
+    }
+}
+
+/// What can be imported or exported.
+#[derive(Clone, Copy, Debug, PartialEq, Eq, Hash)]
+pub enum ExternalKind {
+    /// A function.
+    Func,
+    /// A table.
+    Table,
+    /// A memory.
+    Memory,
+    /// A global.
+    Global,
+    /// A tag.
+    Tag,
+    /// A function of exactly the given type.
+    FuncExact,
+}
+
+/// An export.
+#[derive(Clone, Copy, Debug, PartialEq, Eq, Hash)]
+pub struct Export<'a> {
+    /// Its name.
+    pub name: &'a str,
+    /// What it is.
+    pub kind: ExternalKind,
+    /// Its index among those of its kind.
+    pub index: u32,
+}
+
+impl<'a> FromReader<'a> for Export<'a> {
+    fn from_window(window: Window<'a>) -> Result<(Self, u64)> {
+        let plain = call!(pulleynavy_export, window);
+        let kind = match plain.kind {
+            0 => ExternalKind::Func,
+            1 => ExternalKind::Table,
+            2 => ExternalKind::Memory,
+            3 => ExternalKind::Global,
+            4 => ExternalKind::Tag,
+            _ => ExternalKind::FuncExact,
+        };
+        Ok((Export { name: window.text(plain.name), kind, index: plain.index }, plain.consumed))
+    }
+}
+
+/// An element segment.
+#[derive(Clone, Debug)]
+pub struct Element<'a> {
+    /// What becomes of it.
+    pub kind: ElementKind<'a>,
+    /// Its elements.
+    pub items: ElementItems<'a>,
+    /// The offsets of the whole segment.
+    pub range: Range<u64>,
+}
+
+/// What becomes of an element segment.
+#[derive(Clone, Debug)]
+pub enum ElementKind<'a> {
+    /// Instructions copy it to tables.
+    Passive,
+    /// It is copied to a table at first.
+    Active {
+        /// The table's index, where it is written.
+        table_index: Option<u32>,
+        /// The place in the table of the first element.
+        offset_expr: ConstExpr<'a>,
+    },
+    /// It only declares functions that are referred to.
+    Declared,
+}
+
+/// The elements of a segment.
+#[derive(Clone, Debug)]
+pub enum ElementItems<'a> {
+    /// The indices of functions.
+    Functions(SectionLimited<'a, u32>),
+    /// The type of the elements, and an expression for each.
+    Expressions(RefType, SectionLimited<'a, ConstExpr<'a>>),
+}
+
+impl<'a> FromReader<'a> for Element<'a> {
+    fn from_window(window: Window<'a>) -> Result<(Self, u64)> {
+        let plain = call!(pulleynavy_element, window);
+        let kind = match plain.kind {
+            0 => ElementKind::Passive,
+            1 => ElementKind::Active {
+                table_index: (plain.has_table != 0).then_some(plain.table),
+                offset_expr: ConstExpr { window: window.part(plain.offset_expression) },
+            },
+            _ => ElementKind::Declared,
+        };
+        let items = window.part(plain.items);
+        let items = if plain.has_expressions == 0 {
+            ElementItems::Functions(SectionLimited::of(items, plain.count))
+        } else {
+            ElementItems::Expressions(ref_type(plain.ty), SectionLimited::of(items, plain.count))
+        };
+        Ok((Element { kind, items, range: window.offset..window.offset + plain.consumed }, plain.consumed))
+    }
+}
+
+/// A data segment.
+#[derive(Clone, Debug)]
+pub struct Data<'a> {
+    /// What becomes of it.
+    pub kind: DataKind<'a>,
+    /// Its bytes.
+    pub data: &'a [u8],
+    /// The offsets of the whole segment.
+    pub range: Range<u64>,
+}
+
+/// What becomes of a data segment.
+#[derive(Clone, Debug)]
+pub enum DataKind<'a> {
+    /// Instructions copy it to memories.
+    Passive,
+    /// It is copied to a memory at first.
+    Active {
+        /// The memory's index.
+        memory_index: u32,
+        /// The address in the memory of the first byte.
+        offset_expr: ConstExpr<'a>,
+    },
+}
+
+impl<'a> FromReader<'a> for Data<'a> {
+    fn from_window(window: Window<'a>) -> Result<(Self, u64)> {
+        let plain = call!(pulleynavy_data, window);
+        let kind = match plain.kind {
+            0 => DataKind::Passive,
+            _ => DataKind::Active { memory_index: plain.memory, offset_expr: ConstExpr { window: window.part(plain.offset_expression) } },
+        };
+        let range = window.offset..window.offset + plain.consumed;
+        Ok((Data { kind, data: window.part(plain.bytes).bytes, range }, plain.consumed))
+    }
+}

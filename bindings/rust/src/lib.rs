@@ -1,0 +1,44 @@
+//! Reads WebAssembly modules by a proved parser, which is linked as a static library.
+//!
+//! The names are those of `wasmparser`, where it has them, and so are the ways to use them:
+//!
+//! ```
+//! use pulleynavy::{Parser, Payload};
+//!
+//! let module = b"\0asm\x01\0\0\0\x03\x02\x01\0\x0a\x04\x01\x02\0\x0b";
+//! for payload in Parser::new(0).parse_all(module) {
+//!     if let Payload::FunctionSection(functions) = payload? {
+//!         for index in functions {
+//!             assert_eq!(index?, 0);
+//!         }
+//!     }
+//! }
+//! # Ok::<(), pulleynavy::BinaryReaderError>(())
+//! ```
+//!
+//! What each call of the library answers is proved; this crate, which makes Rust's types of it, is tested. It takes no memory. Offsets
+//! count bytes from the start of the whole stream.
+#![no_std]
+#![warn(missing_docs)]
+
+mod custom;
+mod error;
+#[allow(missing_docs, dead_code)]
+#[rustfmt::skip]
+mod ffi;
+mod imports;
+mod items;
+mod parser;
+mod section;
+mod types;
+
+pub use custom::{CustomSectionReader, Naming, Subsection, Subsections};
+pub use error::{BinaryReaderError, Result};
+pub use imports::{Import, ImportItemCompact, Imports, IntoImports, TypeRef};
+pub use items::{ConstExpr, Data, DataKind, Element, ElementItems, ElementKind, Export, ExternalKind, Global, Table, TableInit};
+pub use parser::{Chunk, Encoding, FunctionBody, ParseAll, Parser, Payload, WasmFeatures};
+pub use section::{FromReader, SectionLimited, SectionLimitedIntoIter, SectionLimitedIntoIterWithOffsets, Window};
+pub use types::{
+    CompositeType, FieldType, FieldTypes, FuncType, GlobalType, HeapType, MemoryType, RecGroup, RefType, StorageType, SubType, SubTypes, TableType, TagType,
+    ValType, ValTypes,
+};

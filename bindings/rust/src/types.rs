@@ -1,0 +1,365 @@
+//! Types.
+use crate::section::{Window, call};
+use crate::{FromReader, Result, ffi};
+
+/// The type of a value.
+#[derive(Clone, Copy, Debug, PartialEq, Eq, Hash)]
+pub enum ValType {
+    /// A 32-bit integer.
+    I32,
+    /// A 64-bit integer.
+    I64,
+    /// A 32-bit float.
+    F32,
+    /// A 64-bit float.
+    F64,
+    /// A vector of 128 bits.
+    V128,
+    /// A reference.
+    Ref(RefType),
+}
+
+/// The type of a reference.
+#[derive(Clone, Copy, Debug, PartialEq, Eq, Hash)]
+pub struct RefType {
+    nullable: bool,
+    heap: HeapType,
+}
+
+impl RefType {
+    /// Whether the reference may be null.
+    pub fn is_nullable(&self) -> bool {
+        self.nullable
+    }
+
+    /// What it refers to.
+    pub fn heap_type(&self) -> HeapType {
+        self.heap
+    }
+}
+
+/// What a reference refers to.
+#[derive(Clone, Copy, Debug, PartialEq, Eq, Hash)]
+pub enum HeapType {
+    /// Any function.
+    Func,
+    /// Any value of the host.
+    Extern,
+    /// Any value of the module.
+    Any,
+    /// Any value that can be compared.
+    Eq,
+    /// An integer of 31 bits.
+    I31,
+    /// Any structure.
+    Struct,
+    /// Any array.
+    Array,
+    /// An exception.
+    Exn,
+    /// No value: the least type below `Any`.
+    None,
+    /// No value: the least type below `Extern`.
+    NoExtern,
+    /// No value: the least type below `Func`.
+    NoFunc,
+    /// No value: the least type below `Exn`.
+    NoExn,
+    /// The type with this index.
+    Concrete(u32),
+}
+
+/// What a field holds.
+#[derive(Clone, Copy, Debug, PartialEq, Eq, Hash)]
+pub enum StorageType {
+    /// An integer of 8 bits.
+    I8,
+    /// An integer of 16 bits.
+    I16,
+    /// A value.
+    Val(ValType),
+}
+
+/// A field of a structure, or the element of an array.
+#[derive(Clone, Copy, Debug, PartialEq, Eq, Hash)]
+pub struct FieldType {
+    /// What it holds.
+    pub element_type: StorageType,
+    /// Whether it can be changed.
+    pub mutable: bool,
+}
+
+pub(crate) fn ref_type(ty: ffi::Type) -> RefType {
+    let heap = match ty.heap {
+        0 => HeapType::Func,
+        1 => HeapType::Extern,
+        2 => HeapType::Any,
+        3 => HeapType::Eq,
+        4 => HeapType::I31,
+        5 => HeapType::Struct,
+        6 => HeapType::Array,
+        7 => HeapType::Exn,
+        8 => HeapType::None,
+        9 => HeapType::NoExtern,
+        10 => HeapType::NoFunc,
+        11 => HeapType::NoExn,
+        _ => HeapType::Concrete(ty.index),
+    };
+    RefType { nullable: ty.nullable != 0, heap }
+}
+
+pub(crate) fn val_type(ty: ffi::Type) -> ValType {
+    match ty.kind {
+        0 => ValType::I32,
+        1 => ValType::I64,
+        2 => ValType::F32,
+        3 => ValType::F64,
+        4 => ValType::V128,
+        _ => ValType::Ref(ref_type(ty)),
+    }
+}
+
+impl<'a> FromReader<'a> for ValType {
+    fn from_window(window: Window<'a>) -> Result<(Self, u64)> {
+        let plain = call!(pulleynavy_value_type, window);
+        Ok((val_type(plain.ty), plain.consumed))
+    }
+}
+
+impl<'a> FromReader<'a> for FieldType {
+    fn from_window(window: Window<'a>) -> Result<(Self, u64)> {
+        let plain = call!(pulleynavy_field_type, window);
+        let element_type = match plain.ty.kind {
+            6 => StorageType::I8,
+            7 => StorageType::I16,
+            _ => StorageType::Val(val_type(plain.ty)),
+        };
+        Ok((FieldType { element_type, mutable: plain.is_mutable != 0 }, plain.consumed))
+    }
+}
+
+/// So many items, which were read before and have no fault.
+macro_rules! iterator {
+    ($(#[$doc:meta])* $name:ident, $item:ty) => {
+        $(#[$doc])*
+        #[derive(Clone, Debug)]
+        pub struct $name<'a> {
+            rest: Window<'a>,
+            left: u32,
+        }
+
+        impl<'a> Iterator for $name<'a> {
+            type Item = $item;
+
+            fn next(&mut self) -> Option<$item> {
+                self.left = self.left.checked_sub(1)?;
+                let (item, consumed) = FromReader::from_window(self.rest).ok()?;
+                self.rest = self.rest.after(consumed);
+                Some(item)
+            }
+
+            fn size_hint(&self) -> (usize, Option<usize>) {
+                (self.left as usize, Some(self.left as usize))
+            }
+        }
+
+        impl ExactSizeIterator for $name<'_> {}
+    };
+}
+
+iterator!(/// The types of parameters or results.
+    ValTypes, ValType);
+iterator!(/// The fields of a structure.
+    FieldTypes, FieldType);
+iterator!(/// The types of a group.
+    SubTypes, SubType<'a>);
+
+/// Passes over so many items: what comes after them.
+fn passed<'a, T: FromReader<'a>>(mut window: Window<'a>, count: u32) -> Result<Window<'a>> {
+    for _ in 0..count {
+        window = window.after(T::from_window(window)?.1);
+    }
+    Ok(window)
+}
+
+/// The type of a function.
+#[derive(Clone, Debug)]
+pub struct FuncType<'a> {
+    params: ValTypes<'a>,
+    results: ValTypes<'a>,
+}
+
+impl<'a> FuncType<'a> {
+    /// The types of its parameters.
+    pub fn params(&self) -> ValTypes<'a> {
+        self.params.clone()
+    }
+
+    /// The types of its results.
+    pub fn results(&self) -> ValTypes<'a> {
+        self.results.clone()
+    }
+}
+
+/// The type of functions, arrays or structures.
+#[derive(Clone, Debug)]
+pub enum CompositeType<'a> {
+    /// Functions.
+    Func(FuncType<'a>),
+    /// Arrays of this element.
+    Array(FieldType),
+    /// Structures with these fields.
+    Struct(FieldTypes<'a>),
+}
+
+/// A type, and the type that it extends.
+#[derive(Clone, Debug)]
+pub struct SubType<'a> {
+    /// Whether no type may extend this one.
+    pub is_final: bool,
+    /// The index of the type that this one extends.
+    pub supertype_idx: Option<u32>,
+    /// What it is a type of.
+    pub composite_type: CompositeType<'a>,
+}
+
+fn function<'a>(rest: Window<'a>, left: u32) -> Result<(CompositeType<'a>, Window<'a>)> {
+    let results = passed::<ValType>(rest, left)?;
+    let (count, size) = u32::from_window(results)?;
+    let results = results.after(size);
+    let params = ValTypes { rest, left };
+    let function = FuncType { params, results: ValTypes { rest: results, left: count } };
+    Ok((CompositeType::Func(function), passed::<ValType>(results, count)?))
+}
+
+impl<'a> FromReader<'a> for SubType<'a> {
+    fn from_window(window: Window<'a>) -> Result<(Self, u64)> {
+        let head = call!(pulleynavy_subtype, window);
+        let rest = window.after(head.consumed);
+        let (composite_type, after) = match head.kind {
+            0 => function(rest, head.count)?,
+            1 => {
+                let (element, size) = FieldType::from_window(rest)?;
+                (CompositeType::Array(element), rest.after(size))
+            }
+            _ => (CompositeType::Struct(FieldTypes { rest, left: head.count }), passed::<FieldType>(rest, head.count)?),
+        };
+        let supertype_idx = (head.has_supertype != 0).then_some(head.supertype);
+        Ok((SubType { is_final: head.is_final != 0, supertype_idx, composite_type }, after.offset - window.offset))
+    }
+}
+
+/// Types that may refer to each other.
+#[derive(Clone, Debug)]
+pub struct RecGroup<'a> {
+    explicit: bool,
+    types: SubTypes<'a>,
+}
+
+impl<'a> RecGroup<'a> {
+    /// Whether the group is written as one. If not, it is a single type.
+    pub fn is_explicit_rec_group(&self) -> bool {
+        self.explicit
+    }
+
+    /// The types of the group, in their order.
+    pub fn types(&self) -> SubTypes<'a> {
+        self.types.clone()
+    }
+
+    /// The same.
+    pub fn into_types(self) -> SubTypes<'a> {
+        self.types
+    }
+}
+
+impl<'a> FromReader<'a> for RecGroup<'a> {
+    fn from_window(window: Window<'a>) -> Result<(Self, u64)> {
+        let head = call!(pulleynavy_type_group, window);
+        let rest = window.after(head.consumed);
+        let after = passed::<SubType>(rest, head.count)?;
+        let types = SubTypes { rest, left: head.count };
+        Ok((RecGroup { explicit: head.is_explicit != 0, types }, after.offset - window.offset))
+    }
+}
+
+/// The type of a table.
+#[derive(Clone, Copy, Debug, PartialEq, Eq, Hash)]
+pub struct TableType {
+    /// The type of its elements.
+    pub element_type: RefType,
+    /// Whether its indices have 64 bits.
+    pub table64: bool,
+    /// How many elements it begins with.
+    pub initial: u64,
+    /// The most elements that it may have.
+    pub maximum: Option<u64>,
+    /// Whether threads share it.
+    pub shared: bool,
+}
+
+/// The type of a memory.
+#[derive(Clone, Copy, Debug, PartialEq, Eq, Hash)]
+pub struct MemoryType {
+    /// Whether its addresses have 64 bits.
+    pub memory64: bool,
+    /// Whether threads share it.
+    pub shared: bool,
+    /// How many pages it begins with.
+    pub initial: u64,
+    /// The most pages that it may have.
+    pub maximum: Option<u64>,
+    /// The size of a page, as a power of two.
+    pub page_size_log2: Option<u32>,
+}
+
+/// The type of a global.
+#[derive(Clone, Copy, Debug, PartialEq, Eq, Hash)]
+pub struct GlobalType {
+    /// The type of its value.
+    pub content_type: ValType,
+    /// Whether its value can be changed.
+    pub mutable: bool,
+    /// Whether threads share it.
+    pub shared: bool,
+}
+
+/// The type of a tag of exceptions.
+#[derive(Clone, Copy, Debug, PartialEq, Eq, Hash)]
+pub struct TagType {
+    /// The index of the function type whose parameters the tag carries.
+    pub func_type_idx: u32,
+}
+
+pub(crate) fn table_type(ty: ffi::TableType) -> TableType {
+    let maximum = (ty.has_maximum != 0).then_some(ty.maximum);
+    TableType { element_type: ref_type(ty.element), table64: ty.table64 != 0, initial: ty.initial, maximum, shared: ty.shared != 0 }
+}
+
+pub(crate) fn memory_type(ty: ffi::MemoryType) -> MemoryType {
+    MemoryType {
+        memory64: ty.memory64 != 0,
+        shared: ty.shared != 0,
+        initial: ty.initial,
+        maximum: (ty.has_maximum != 0).then_some(ty.maximum),
+        page_size_log2: (ty.has_page_size != 0).then_some(ty.page_size_log2),
+    }
+}
+
+pub(crate) fn global_type(ty: ffi::GlobalType) -> GlobalType {
+    GlobalType { content_type: val_type(ty.content), mutable: ty.is_mutable != 0, shared: ty.shared != 0 }
+}
+
+impl<'a> FromReader<'a> for MemoryType {
+    fn from_window(window: Window<'a>) -> Result<(Self, u64)> {
+        let plain = call!(pulleynavy_memory, window);
+        Ok((memory_type(plain.ty), plain.consumed))
+    }
+}
+
+impl<'a> FromReader<'a> for TagType {
+    fn from_window(window: Window<'a>) -> Result<(Self, u64)> {
+        let plain = call!(pulleynavy_tag, window);
+        Ok((TagType { func_type_idx: plain.func_type_index }, plain.consumed))
+    }
+}

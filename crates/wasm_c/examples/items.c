@@ -1,0 +1,343 @@
+/* Lists the module on standard input, and under each section its items, each at its offset. */
+#include "show.h"
+#include <stdarg.h>
+#include <stdlib.h>
+
+/* What is left of a section, in the stream. */
+struct window {
+    uint64_t at, end;
+};
+
+static uint8_t *stream;
+static struct pulleynavy_fault fault;
+static char *line;
+static size_t used, room;
+
+#define READ(call, w) call(stream + (w)->at, (size_t)((w)->end - (w)->at), (w)->at, PULLEYNAVY_ALL_FEATURES)
+
+static void put(const char *format, ...) {
+    va_list arguments;
+    va_start(arguments, format);
+    int size = vsnprintf(line + used, room - used, format, arguments);
+    va_end(arguments);
+    if (used + (size_t)size < room) {
+        used += (size_t)size;
+        return;
+    }
+    line = realloc(line, room = 2 * (room + (size_t)size));
+    if (!line) exit(3);
+    va_start(arguments, format);
+    used += (size_t)vsnprintf(line + used, room - used, format, arguments);
+    va_end(arguments);
+}
+
+/* Goes on after an item, or keeps its fault. */
+static bool passed(struct window *w, struct pulleynavy_fault found, uint64_t consumed) {
+    fault = found;
+    w->at += consumed;
+    return !found.kind;
+}
+
+static const char *yes(uint32_t flag) { return flag ? "true" : "false"; }
+
+static void put_bytes(uint64_t from, struct pulleynavy_span span) {
+    put("x");
+    for (uint64_t i = 0; i < span.size; i++) put("%02x", stream[from + span.at + i]);
+}
+
+static void put_range(uint64_t from, struct pulleynavy_span span) {
+    put("%" PRIu64 "..%" PRIu64, from + span.at, from + span.at + span.size);
+}
+
+static void put_type(struct pulleynavy_type ty) {
+    static const char *kinds[] = {"i32", "i64", "f32", "f64", "v128", "", "i8", "i16"};
+    static const char *heaps[] = {"func", "extern", "any", "eq", "i31", "struct", "array", "exn", "none", "noextern", "nofunc", "noexn"};
+    if (ty.kind != 5) put("%s", kinds[ty.kind]);
+    else if (ty.heap == 12) put("%s:%" PRIu32, ty.nullable ? "null" : "ref", ty.index);
+    else put("%s:%s", ty.nullable ? "null" : "ref", heaps[ty.heap]);
+}
+
+static void put_limit(uint32_t is_there, uint64_t limit) {
+    if (is_there) put("%" PRIu64 " ", limit);
+    else put("- ");
+}
+
+static void put_table(struct pulleynavy_table_type ty) {
+    put("table(");
+    put_type(ty.element);
+    put(" %s %" PRIu64 " ", yes(ty.table64), ty.initial);
+    put_limit(ty.has_maximum, ty.maximum);
+    put("%s )", yes(ty.shared));
+}
+
+static void put_memory(struct pulleynavy_memory_type ty) {
+    put("memory(%s %s %" PRIu64 " ", yes(ty.memory64), yes(ty.shared), ty.initial);
+    put_limit(ty.has_maximum, ty.maximum);
+    put_limit(ty.has_page_size, ty.page_size_log2);
+    put(")");
+}
+
+static void put_global(struct pulleynavy_global_type ty) {
+    put("global(");
+    put_type(ty.content);
+    put(" %s %s )", yes(ty.is_mutable), yes(ty.shared));
+}
+
+static bool field(struct window *w) {
+    struct pulleynavy_field f = READ(pulleynavy_field_type, w);
+    if (!passed(w, f.fault, f.consumed)) return false;
+    put("field(");
+    put_type(f.ty);
+    put(" %s ) ", yes(f.is_mutable));
+    return true;
+}
+
+static bool value_types(struct window *w, uint64_t count) {
+    put("[");
+    for (uint64_t i = 0; i < count; i++) {
+        struct pulleynavy_value v = READ(pulleynavy_value_type, w);
+        if (!passed(w, v.fault, v.consumed)) return false;
+        put_type(v.ty);
+        put(" ");
+    }
+    put("] ");
+    return true;
+}
+
+static bool function_type(struct window *w, uint32_t params) {
+    put("func(");
+    if (!value_types(w, params)) return false;
+    struct pulleynavy_number results = READ(pulleynavy_number, w);
+    if (!passed(w, results.fault, results.consumed) || !value_types(w, results.value)) return false;
+    put(") ");
+    return true;
+}
+
+static bool fields(struct window *w, uint32_t kind, uint32_t count) {
+    put(kind == 1 ? "array " : "struct [");
+    for (uint32_t i = 0; i < count; i++)
+        if (!field(w)) return false;
+    put(kind == 1 ? "" : "] ");
+    return true;
+}
+
+static bool subtype(struct window *w) {
+    struct pulleynavy_subtype s = READ(pulleynavy_subtype, w);
+    if (!passed(w, s.fault, s.consumed)) return false;
+    put("sub(%s ", yes(s.is_final));
+    put_limit(s.has_supertype, s.supertype);
+    if (!(s.kind == 0 ? function_type(w, s.count) : fields(w, s.kind, s.count))) return false;
+    put(") ");
+    return true;
+}
+
+static bool type_group(struct window *w) {
+    struct pulleynavy_type_group g = READ(pulleynavy_type_group, w);
+    if (!passed(w, g.fault, g.consumed)) return false;
+    put("rec(%s [", yes(g.is_explicit));
+    for (uint32_t i = 0; i < g.count; i++)
+        if (!subtype(w)) return false;
+    put("] )");
+    return true;
+}
+
+static bool number(struct window *w) {
+    struct pulleynavy_number n = READ(pulleynavy_number, w);
+    put("%" PRIu64, n.value);
+    return passed(w, n.fault, n.consumed);
+}
+
+static bool table(struct window *w) {
+    struct pulleynavy_table t = READ(pulleynavy_table, w);
+    uint64_t from = w->at;
+    if (!passed(w, t.fault, t.consumed)) return false;
+    put("table(");
+    put_table(t.ty);
+    put(" ");
+    if (t.has_init) put_range(from, t.init);
+    else put("null");
+    put(" )");
+    return true;
+}
+
+static bool memory(struct window *w) {
+    struct pulleynavy_memory m = READ(pulleynavy_memory, w);
+    put_memory(m.ty);
+    return passed(w, m.fault, m.consumed);
+}
+
+static bool tag(struct window *w) {
+    struct pulleynavy_tag t = READ(pulleynavy_tag, w);
+    put("tag(exception %" PRIu32 " )", t.func_type_index);
+    return passed(w, t.fault, t.consumed);
+}
+
+static bool global(struct window *w) {
+    struct pulleynavy_global g = READ(pulleynavy_global, w);
+    put("global(");
+    put_global(g.ty);
+    put(" ");
+    put_range(w->at, g.init);
+    put(" )");
+    return passed(w, g.fault, g.consumed);
+}
+
+static bool export(struct window *w) {
+    static const char *kinds[] = {"func", "table", "memory", "global", "tag"};
+    struct pulleynavy_export e = READ(pulleynavy_export, w);
+    put("export(");
+    put_bytes(w->at, e.name);
+    put(" %s %" PRIu32 " )", kinds[e.kind], e.index);
+    return passed(w, e.fault, e.consumed);
+}
+
+/* The elements of a segment, which have no fault. */
+static void put_elements(uint64_t from, const struct pulleynavy_element *e) {
+    struct window w = {from + e->items.at, from + e->items.at + e->items.size};
+    put("#%" PRIu32 "[", e->count);
+    for (uint32_t i = 0; i < e->count; i++) {
+        uint64_t at = w.at;
+        if (e->has_expressions) {
+            struct pulleynavy_expression x = READ(pulleynavy_expression, &w);
+            passed(&w, x.fault, x.consumed);
+            put("%" PRIu64 ":%" PRIu64 "..%" PRIu64 " ", at, at, w.at);
+        } else {
+            struct pulleynavy_number n = READ(pulleynavy_number, &w);
+            passed(&w, n.fault, n.consumed);
+            put("%" PRIu64 ":%" PRIu64 " ", at, n.value);
+        }
+    }
+    put("]");
+}
+
+static bool element(struct window *w) {
+    static const char *kinds[] = {"passive ", "active ", "declared "};
+    struct pulleynavy_element e = READ(pulleynavy_element, w);
+    uint64_t from = w->at;
+    if (!passed(w, e.fault, e.consumed)) return false;
+    put("element(%s", kinds[e.kind]);
+    if (e.kind == 1) {
+        put_limit(e.has_table, e.table);
+        put_range(from, e.offset_expression);
+        put(" ");
+    }
+    if (e.has_expressions) {
+        put_type(e.ty);
+        put(" ");
+    }
+    put_elements(from, &e);
+    put(" %" PRIu64 "..%" PRIu64 " )", from, w->at);
+    return true;
+}
+
+static bool data(struct window *w) {
+    struct pulleynavy_data d = READ(pulleynavy_data, w);
+    uint64_t from = w->at;
+    if (!passed(w, d.fault, d.consumed)) return false;
+    put(d.kind ? "data(active %" PRIu32 " " : "data(passive ", d.memory);
+    if (d.kind) {
+        put_range(from, d.offset_expression);
+        put(" ");
+    }
+    put_bytes(from, d.bytes);
+    put(" %" PRIu64 "..%" PRIu64 " )", from, w->at);
+    return true;
+}
+
+static void put_import(uint64_t from, struct pulleynavy_span module_name, uint64_t name_from, struct pulleynavy_span name,
+                       const struct pulleynavy_import_type *ty) {
+    put("import(");
+    put_bytes(from, module_name);
+    put(" ");
+    put_bytes(name_from, name);
+    put(" ");
+    if (ty->kind == 0 || ty->kind == 5) put("%s %" PRIu32, ty->kind ? "funcexact" : "func", ty->index);
+    else if (ty->kind == 1) put_table(ty->table);
+    else if (ty->kind == 2) put_memory(ty->memory);
+    else if (ty->kind == 3) put_global(ty->global);
+    else put("tag(exception %" PRIu32 " )", ty->index);
+    put(" )");
+}
+
+static void tell(uint64_t at, bool is_read) {
+    if (is_read) printf("  %" PRIu64 " %.*s\n", at, (int)used, line);
+    else printf("  "), show_fault(fault);
+    used = 0;
+}
+
+/* The imports of a group, up to the first fault. */
+static void group(uint64_t from, const struct pulleynavy_import *g) {
+    struct window w = {from + g->items.at, from + g->items.at + g->items.size};
+    for (uint32_t i = 0; i < g->count; i++) {
+        uint64_t at = w.at;
+        bool is_read;
+        if (g->kind == 1) {
+            struct pulleynavy_import_item one = READ(pulleynavy_import_item, &w);
+            if ((is_read = passed(&w, one.fault, one.consumed))) put_import(from, g->module_name, at, one.name, &one.ty);
+        } else {
+            struct pulleynavy_name one = READ(pulleynavy_name, &w);
+            if ((is_read = passed(&w, one.fault, one.consumed))) put_import(from, g->module_name, at, one.name, &g->ty);
+        }
+        tell(at, is_read);
+        if (!is_read) return;
+    }
+}
+
+static bool import(struct window *w) {
+    struct pulleynavy_import i = READ(pulleynavy_import, w);
+    uint64_t from = w->at;
+    if (!passed(w, i.fault, i.consumed)) return false;
+    if (i.kind) {
+        group(from, &i);
+        return true;
+    }
+    put_import(from, i.module_name, from, i.name, &i.ty);
+    tell(from, true);
+    return true;
+}
+
+/* The items of a section, up to the first fault; bytes after them are one. */
+static void items(const struct pulleynavy_event *e) {
+    static bool (*const readers[])(struct window *) = {0, type_group, import, number, table, memory, global, export, 0, element, 0, data, 0, tag};
+    struct window w = {e->start, e->end};
+    struct pulleynavy_number count = READ(pulleynavy_number, &w);
+    if (!passed(&w, count.fault, count.consumed)) return;
+    for (uint64_t i = 0; i < count.value; i++) {
+        uint64_t at = w.at;
+        bool is_read = readers[e->id](&w);
+        if (!is_read || e->id != 2) tell(at, is_read);
+        if (!is_read) return;
+    }
+    if (w.at < w.end) {
+        fault = (struct pulleynavy_fault){PULLEYNAVY_FAULT_SIZE_MISMATCH, 0, 0, w.at};
+        tell(0, false);
+    }
+}
+
+/* Standard input, and how many bytes it has. */
+static size_t read_all(void) {
+    size_t size = 0, most = 1 << 16, got;
+    stream = malloc(most);
+    while (stream && (got = fread(stream + size, 1, most - size, stdin)) > 0) {
+        size += got;
+        if (size == most) stream = realloc(stream, most *= 2);
+    }
+    line = malloc(room = 4096);
+    if (!stream || !line) exit(3);
+    return size;
+}
+
+int main(void) {
+    size_t size = read_all();
+    struct pulleynavy_parser parser = pulleynavy_parser(0, PULLEYNAVY_ALL_FEATURES);
+    for (size_t at = 0;;) {
+        struct pulleynavy_event event = pulleynavy_parse(&parser, stream + at, size - at, true);
+        show_event(&event);
+        if (event.kind == PULLEYNAVY_SECTION) items(&event);
+        if (event.kind >= PULLEYNAVY_END) {
+            free(stream), free(line);
+            return event.kind == PULLEYNAVY_FAULT;
+        }
+        at += event.consumed;
+    }
+}

@@ -1,0 +1,910 @@
+/* Pulleynavy: the parts and items of WebAssembly modules, for C and C++. Written by tools/c_header from the sources of wasm_c.
+
+   Link libwasm_c.a and nothing else: no call takes memory, keeps a pointer, or fails to return. For x86-64 (v2) on Linux.
+
+       struct pulleynavy_parser parser = pulleynavy_parser(0, PULLEYNAVY_ALL_FEATURES);
+       for (size_t at = 0;;) {
+           struct pulleynavy_event event = pulleynavy_parse(&parser, bytes + at, size - at, true);
+           if (event.kind >= PULLEYNAVY_END) return event.kind == PULLEYNAVY_FAULT;
+           printf("%u at %llu\n", event.id, (unsigned long long)event.start);
+           at += event.consumed;
+       }
+
+   Offsets count bytes from the start of the whole stream, sizes count bytes, and a span is a place in the bytes that a call was given.
+   The caller owes: no pointer is null, not even with a size of 0; what a pointer leads to has the size that is given; what a call
+   writes overlaps nothing else that it is given; nobody writes the bytes during a call; a `bool` is 0 or 1. Nothing else is asked.
+
+   The numbers of kinds, faults and flags never change. */
+#ifndef PULLEYNAVY_H
+#define PULLEYNAVY_H
+#include <stdbool.h>
+#include <stddef.h>
+#include <stdint.h>
+#ifdef __cplusplus
+extern "C" {
+#endif
+
+/* What an event is. */
+enum pulleynavy_kind {
+    PULLEYNAVY_NEED_MORE = 0,
+    PULLEYNAVY_VERSION = 1,
+    PULLEYNAVY_SECTION = 2,
+    PULLEYNAVY_START = 3,
+    PULLEYNAVY_DATA_COUNT = 4,
+    PULLEYNAVY_CODE = 5,
+    PULLEYNAVY_BODY = 6,
+    PULLEYNAVY_CUSTOM = 7,
+    PULLEYNAVY_UNKNOWN = 8,
+    PULLEYNAVY_END = 9,
+    PULLEYNAVY_FAULT = 10
+};
+
+/* The features that a parser or a reader of items may take. */
+enum { PULLEYNAVY_MEMORY64 = 1, PULLEYNAVY_COMPACT_IMPORTS = 2, PULLEYNAVY_ALL_FEATURES = 3 };
+
+/* The kinds of faults: the lowest 8 bits of the number of a fault. 0 is that there is none. */
+enum pulleynavy_fault_kind {
+    PULLEYNAVY_FAULT_OUT_OF_MEMORY = 1,
+    PULLEYNAVY_FAULT_UNEXPECTED_EOF = 2,
+    PULLEYNAVY_FAULT_OFFSET_RANGE = 3,
+    PULLEYNAVY_FAULT_BAD_MAGIC = 4,
+    PULLEYNAVY_FAULT_UNKNOWN_VERSION = 5,
+    PULLEYNAVY_FAULT_MAGIC_AT_SECTION = 6,
+    PULLEYNAVY_FAULT_MALFORMED_SECTION_ID = 7,
+    PULLEYNAVY_FAULT_SECTION_TOO_LARGE = 8,
+    PULLEYNAVY_FAULT_OUT_OF_ORDER = 9,
+    PULLEYNAVY_FAULT_START_CONTENT = 10,
+    PULLEYNAVY_FAULT_DATA_COUNT_CONTENT = 11,
+    PULLEYNAVY_FAULT_FUNCTION_CODE_DIFFER = 12,
+    PULLEYNAVY_FAULT_FUNCTION_WITHOUT_CODE = 13,
+    PULLEYNAVY_FAULT_CODE_WITHOUT_FUNCTION = 14,
+    PULLEYNAVY_FAULT_DATA_COUNT_DIFFER = 15,
+    PULLEYNAVY_FAULT_DATA_COUNT_WITHOUT_DATA = 16,
+    PULLEYNAVY_FAULT_TRAILING_CODE = 17,
+    PULLEYNAVY_FAULT_NUMBER_TOO_LONG = 18,
+    PULLEYNAVY_FAULT_NUMBER_TOO_LARGE = 19,
+    PULLEYNAVY_FAULT_STRING_SIZE = 20,
+    PULLEYNAVY_FAULT_MALFORMED_UTF8 = 21,
+    PULLEYNAVY_FAULT_INVALID_U7 = 22,
+    PULLEYNAVY_FAULT_INVALID_BOOL = 23,
+    PULLEYNAVY_FAULT_SIZE_MISMATCH = 24,
+    PULLEYNAVY_FAULT_LEADING_BYTE = 25,
+    PULLEYNAVY_FAULT_DATA_FLAGS = 26,
+    PULLEYNAVY_FAULT_ELEMENT_FLAGS = 27,
+    PULLEYNAVY_FAULT_ELEMENT_FUNCTION_ONLY = 28,
+    PULLEYNAVY_FAULT_EXACT_EXPORT = 29,
+    PULLEYNAVY_FAULT_GLOBAL_FLAGS = 30,
+    PULLEYNAVY_FAULT_COMPACT_7F = 31,
+    PULLEYNAVY_FAULT_COMPACT_7E = 32,
+    PULLEYNAVY_FAULT_MEMORY_FLAGS = 33,
+    PULLEYNAVY_FAULT_PAGE_SIZE = 34,
+    PULLEYNAVY_FAULT_TABLE_ENCODING = 35,
+    PULLEYNAVY_FAULT_TABLE_FLAGS = 36,
+    PULLEYNAVY_FAULT_TAG_ATTRIBUTES = 37,
+    PULLEYNAVY_FAULT_NAMES_ORDER = 38,
+    PULLEYNAVY_FAULT_INDIRECT_ORDER = 39,
+    PULLEYNAVY_FAULT_NAME_SECTION_ORDER = 40,
+    PULLEYNAVY_FAULT_NAME_TRAILING = 41,
+    PULLEYNAVY_FAULT_PRODUCERS_FIELD = 42,
+    PULLEYNAVY_FAULT_LINKING_VERSION = 43,
+    PULLEYNAVY_FAULT_CORE_START_BYTE = 44,
+    PULLEYNAVY_FAULT_CORE_VALUE = 45,
+    PULLEYNAVY_FAULT_CUSTOM_TRAILING = 46,
+    PULLEYNAVY_FAULT_NOT_CONSTANT = 47,
+    PULLEYNAVY_FAULT_SUPERTYPES = 48
+};
+
+/* A fault as plain numbers, or that there is none. */
+struct pulleynavy_fault {
+    /* The number of the fault, or 0 where there is none: in its lowest 8 bits that of its kind, above them that of what it names. */
+    uint32_t kind;
+    /* 1 if a number belongs to the fault, or 0. */
+    uint32_t has_number;
+    /* The number that belongs to the fault, or 0. */
+    uint64_t number;
+    /* Where the fault is, in bytes from the start of the whole stream. */
+    uint64_t offset;
+};
+
+/* The text of the fault of this number, as far as there is room for it in `out`, without a zero byte. Answers how long the text is,
+   at most 80 bytes, or 0 where no fault has the number. */
+size_t pulleynavy_fault_message(uint32_t kind, uint8_t *out, size_t out_size);
+
+/* What a parser answered, as plain numbers: an event, a fault or a request for more bytes. Numbers that its kind doesn't name are 0.
+   Offsets and sizes are in bytes, offsets from the start of the whole stream (core specification, Binary format, Modules). */
+struct pulleynavy_event {
+    /* 0 a request for more bytes, 1 a header, 2 a section that begins with a count of items, 3 the start section, 4 the data count
+       section, 5 the start of a code section, 6 a body, 7 a custom section, 8 a section with an unknown id, 9 the end of the stream,
+       10 a fault. */
+    uint32_t kind;
+    /* The id of the section; of a header 0 for a module and 1 for a component. */
+    uint32_t id;
+    /* The count of items, bodies or segments; the index of the start function; the version. */
+    uint32_t count;
+    /* How many bytes of a code section come after its count. */
+    uint32_t size;
+    /* Where it begins: the header, the section's content, the body, the end, the fault. */
+    uint64_t start;
+    /* Where it ends. */
+    uint64_t end;
+    /* How many bytes were consumed. */
+    uint64_t consumed;
+    /* About how many more bytes are wanted, at least 1. */
+    uint64_t hint;
+    /* Where the data of a custom section begins, after its name. */
+    uint64_t data_offset;
+    /* How many bytes the name of a custom section has. It is just before the data. */
+    uint64_t name_size;
+    /* The fault. */
+    struct pulleynavy_fault fault;
+};
+
+/* A parser as C holds it. Whatever its bytes are, they are a parser; 48 zero bytes are a new one with no features. */
+struct pulleynavy_parser {
+    /* The stream offset of what comes next. */
+    uint64_t offset;
+    /* The features of the windows to come, as bits. */
+    uint32_t features;
+    /* The count of the function section, if `has_functions` isn't 0. */
+    uint32_t functions;
+    /* The count of the code section, if `has_codes` isn't 0. */
+    uint32_t codes;
+    /* The count of the data section, if `has_datas` isn't 0. */
+    uint32_t datas;
+    /* The count of the data count section, if `has_data_counts` isn't 0. */
+    uint32_t data_counts;
+    /* The bodies that a code section still misses. */
+    uint32_t bodies;
+    /* The bytes that a code section still misses. */
+    uint32_t code_bytes;
+    /* 0 before the header. */
+    uint8_t is_begun;
+    /* 0 in a module. */
+    uint8_t is_component;
+    /* The greatest rank of a section, or 0. */
+    uint8_t rank;
+    /* Whether a function section was passed. */
+    uint8_t has_functions;
+    /* Whether a code section was passed. */
+    uint8_t has_codes;
+    /* Whether a data section was passed. */
+    uint8_t has_datas;
+    /* Whether a data count section was passed. */
+    uint8_t has_data_counts;
+    /* Whether the start of a code section came last, or a body. */
+    uint8_t in_code;
+};
+
+/* A parser of a stream that begins at this offset, whose windows have these features. */
+struct pulleynavy_parser pulleynavy_parser(uint64_t offset, uint32_t features);
+
+/* Reads what comes next in the stream of which these bytes are the rest, or with `is_all` false the beginning of the rest. */
+struct pulleynavy_event pulleynavy_parse(
+    struct pulleynavy_parser *stored, const uint8_t *bytes, size_t bytes_size, bool is_all);
+
+/* Passes what is left of a code section, and answers how many bytes that is: the caller hands in the bytes after those next. Outside
+   a code section it passes nothing, and answers 0. */
+uint32_t pulleynavy_skip_section(struct pulleynavy_parser *stored);
+
+/* The text of the fault that `pulleynavy_parse` answers with the same arguments, as far as there is room for it. Answers how long the
+   text is, or 0 where there is no fault. */
+size_t pulleynavy_fault_text(
+    const struct pulleynavy_parser *stored, const uint8_t *bytes, size_t bytes_size, bool is_all, uint8_t *out, size_t out_size);
+
+/* A feeder as C holds it: its parser, and where in the caller's storage the bytes are that were pushed and not consumed. Whatever its
+   bytes are, they are a feeder. */
+struct pulleynavy_feed {
+    /* Where it is in the stream. */
+    struct pulleynavy_parser parser;
+    /* Where the bytes that are held begin, in bytes from the start of the storage. */
+    size_t mark;
+    /* Where they end. */
+    size_t end;
+    /* 0 while more bytes may come after them. */
+    uint8_t is_finished;
+};
+
+/* A feeder of a stream that begins at this offset, whose windows have these features. It holds nothing, and so it has no storage yet. */
+struct pulleynavy_feed pulleynavy_feed(uint64_t offset, uint32_t features);
+
+/* The next part of the stream, of the bytes that are held in the storage. A request for more changes nothing. */
+struct pulleynavy_event pulleynavy_step(struct pulleynavy_feed *feed, const uint8_t *storage, size_t storage_size);
+
+/* Says that no bytes come after those that were pushed. */
+void pulleynavy_finish(struct pulleynavy_feed *feed);
+
+/* Puts the next bytes of the stream after those that are held, which go to the front of the storage where they must. Where there is
+   no room for both it answers false and changes nothing: the caller goes on with more storage, which begins with the same bytes. */
+bool pulleynavy_push(
+    struct pulleynavy_feed *feed, uint8_t *storage, size_t storage_size, const uint8_t *piece, size_t piece_size);
+
+/* A run of the bytes that a call was given. */
+struct pulleynavy_span {
+    /* Where it begins, in bytes from the first of those that were given. */
+    uint64_t at;
+    /* How many bytes it has. */
+    uint64_t size;
+};
+
+/* A type of values, or of what a field holds, as plain numbers (core specification, Binary format, Types). */
+struct pulleynavy_type {
+    /* 0 a 32-bit integer, 1 a 64-bit integer, 2 a 32-bit float, 3 a 64-bit float, 4 a vector of 128 bits, 5 a reference, 6 an integer
+       of 8 bits and 7 one of 16 in a field. */
+    uint32_t kind;
+    /* 1 if a reference may be null, or 0. */
+    uint32_t nullable;
+    /* What a reference refers to: 0 `func`, 1 `extern`, 2 `any`, 3 `eq`, 4 `i31`, 5 `struct`, 6 `array`, 7 `exn`, 8 `none`, 9
+       `noextern`, 10 `nofunc`, 11 `noexn`, 12 the type with the index. */
+    uint32_t heap;
+    /* The index of the type that it refers to, or 0. */
+    uint32_t index;
+};
+
+/* A number, or its fault. */
+struct pulleynavy_number {
+    /* The fault, whose kind is 0 where there is none. */
+    struct pulleynavy_fault fault;
+    /* How many bytes it takes. */
+    uint64_t consumed;
+    /* The number. */
+    uint64_t value;
+};
+
+/* A value type, or its fault. */
+struct pulleynavy_value {
+    /* The fault, whose kind is 0 where there is none. */
+    struct pulleynavy_fault fault;
+    /* How many bytes it takes. */
+    uint64_t consumed;
+    /* The type. */
+    struct pulleynavy_type ty;
+};
+
+/* A field of a structure or the element of an array, or its fault. */
+struct pulleynavy_field {
+    /* The fault, whose kind is 0 where there is none. */
+    struct pulleynavy_fault fault;
+    /* How many bytes it takes. */
+    uint64_t consumed;
+    /* What it holds. */
+    struct pulleynavy_type ty;
+    /* 1 if it can be changed, or 0. */
+    uint32_t is_mutable;
+};
+
+/* The number with which these bytes begin, a u32: the count of a list, an index of a type in a function section or of a function in a
+   list of elements (core specification, Binary format, Values, Integers). The bytes are the rest of its section, and are at this
+   offset of the whole stream. */
+struct pulleynavy_number pulleynavy_number(
+    const uint8_t *bytes, size_t bytes_size, uint64_t offset, uint32_t features);
+
+/* The value type with which these bytes begin (core specification, Binary format, Types, Value Types): a parameter or a result of a
+   function's type. The bytes are the rest of its section, and are at this offset of the whole stream. */
+struct pulleynavy_value pulleynavy_value_type(
+    const uint8_t *bytes, size_t bytes_size, uint64_t offset, uint32_t features);
+
+/* The field with which these bytes begin, of a structure or an array (core specification, Binary format, Types, Composite Types). The
+   bytes are the rest of its section, and are at this offset of the whole stream. */
+struct pulleynavy_field pulleynavy_field_type(
+    const uint8_t *bytes, size_t bytes_size, uint64_t offset, uint32_t features);
+
+/* The beginning of a group of types, or its fault. */
+struct pulleynavy_type_group {
+    /* The fault, whose kind is 0 where there is none. */
+    struct pulleynavy_fault fault;
+    /* How many bytes it takes. */
+    uint64_t consumed;
+    /* 1 if the group is written as one, or 0 for a single type. */
+    uint32_t is_explicit;
+    /* How many subtypes come after it. */
+    uint32_t count;
+};
+
+/* The beginning of a subtype, or its fault. */
+struct pulleynavy_subtype {
+    /* The fault, whose kind is 0 where there is none. */
+    struct pulleynavy_fault fault;
+    /* How many bytes it takes. */
+    uint64_t consumed;
+    /* 1 if no type may extend it, or 0. */
+    uint32_t is_final;
+    /* 1 if it extends a type, or 0. */
+    uint32_t has_supertype;
+    /* The index of that type, or 0. */
+    uint32_t supertype;
+    /* 0 for functions, 1 for arrays, 2 for structures. */
+    uint32_t kind;
+    /* How many parameters or fields come after it. */
+    uint32_t count;
+};
+
+/* The beginning of the group of types with which these bytes begin (core specification, Binary format, Types, Recursive Types;
+   Modules, Type Section). After it come its subtypes, each by `pulleynavy_subtype`. The bytes are the rest of its section, and are at
+   this offset of the whole stream. */
+struct pulleynavy_type_group pulleynavy_type_group(
+    const uint8_t *bytes, size_t bytes_size, uint64_t offset, uint32_t features);
+
+/* The beginning of the subtype with which these bytes begin (core specification, Binary format, Types, Recursive Types and Composite
+   Types). After it come so many parameters, each by `pulleynavy_value_type`, then a count of results, by `pulleynavy_number`, and so
+   many results; or so many fields, each by `pulleynavy_field_type`. The bytes are the rest of its section, and are at this offset of
+   the whole stream. */
+struct pulleynavy_subtype pulleynavy_subtype(
+    const uint8_t *bytes, size_t bytes_size, uint64_t offset, uint32_t features);
+
+/* A table type as plain numbers (core specification, Binary format, Types, Table Types). */
+struct pulleynavy_table_type {
+    /* The type of its elements. */
+    struct pulleynavy_type element;
+    /* 1 if its indices have 64 bits, or 0. */
+    uint32_t table64;
+    /* 1 if threads share it, or 0. */
+    uint32_t shared;
+    /* 1 if there is a maximum, or 0. */
+    uint32_t has_maximum;
+    /* How many elements it begins with. */
+    uint64_t initial;
+    /* The most elements that it may have, or 0. */
+    uint64_t maximum;
+};
+
+/* A memory type as plain numbers (core specification, Binary format, Types, Memory Types). */
+struct pulleynavy_memory_type {
+    /* 1 if its addresses have 64 bits, or 0. */
+    uint32_t memory64;
+    /* 1 if threads share it, or 0. */
+    uint32_t shared;
+    /* 1 if there is a maximum, or 0. */
+    uint32_t has_maximum;
+    /* 1 if the size of a page is written, or 0. */
+    uint32_t has_page_size;
+    /* The size of a page as a power of two, or 0. A page has 65,536 bytes where none is written. */
+    uint32_t page_size_log2;
+    /* How many pages it begins with. */
+    uint64_t initial;
+    /* The most pages that it may have, or 0. */
+    uint64_t maximum;
+};
+
+/* A global type as plain numbers (core specification, Binary format, Types, Global Types). */
+struct pulleynavy_global_type {
+    /* The type of its value. */
+    struct pulleynavy_type content;
+    /* 1 if its value can be changed, or 0. */
+    uint32_t is_mutable;
+    /* 1 if threads share it, or 0. */
+    uint32_t shared;
+};
+
+/* A table, or its fault. */
+struct pulleynavy_table {
+    /* The fault, whose kind is 0 where there is none. */
+    struct pulleynavy_fault fault;
+    /* How many bytes it takes. */
+    uint64_t consumed;
+    /* Its type. */
+    struct pulleynavy_table_type ty;
+    /* The expression of its elements, with its end. */
+    struct pulleynavy_span init;
+    /* 1 if there is an expression, or 0 where its elements are null at first. */
+    uint32_t has_init;
+};
+
+/* A memory, or its fault. */
+struct pulleynavy_memory {
+    /* The fault, whose kind is 0 where there is none. */
+    struct pulleynavy_fault fault;
+    /* How many bytes it takes. */
+    uint64_t consumed;
+    /* Its type. */
+    struct pulleynavy_memory_type ty;
+};
+
+/* A tag of exceptions, or its fault. */
+struct pulleynavy_tag {
+    /* The fault, whose kind is 0 where there is none. */
+    struct pulleynavy_fault fault;
+    /* How many bytes it takes. */
+    uint64_t consumed;
+    /* The index of the function type whose parameters it carries. */
+    uint32_t func_type_index;
+};
+
+/* A global, or its fault. */
+struct pulleynavy_global {
+    /* The fault, whose kind is 0 where there is none. */
+    struct pulleynavy_fault fault;
+    /* How many bytes it takes. */
+    uint64_t consumed;
+    /* Its type. */
+    struct pulleynavy_global_type ty;
+    /* The expression of its first value, with its end. */
+    struct pulleynavy_span init;
+};
+
+/* The table with which these bytes begin (core specification, Binary format, Modules, Table Section). The bytes are the rest of its
+   section, and are at this offset of the whole stream. */
+struct pulleynavy_table pulleynavy_table(const uint8_t *bytes, size_t bytes_size, uint64_t offset, uint32_t features);
+
+/* The memory with which these bytes begin (core specification, Binary format, Modules, Memory Section). The bytes are the rest of its
+   section, and are at this offset of the whole stream. */
+struct pulleynavy_memory pulleynavy_memory(
+    const uint8_t *bytes, size_t bytes_size, uint64_t offset, uint32_t features);
+
+/* The tag with which these bytes begin (core specification, Binary format, Modules, Tag Section). The bytes are the rest of its
+   section, and are at this offset of the whole stream. */
+struct pulleynavy_tag pulleynavy_tag(const uint8_t *bytes, size_t bytes_size, uint64_t offset, uint32_t features);
+
+/* The global with which these bytes begin (core specification, Binary format, Modules, Global Section). The bytes are the rest of its
+   section, and are at this offset of the whole stream. */
+struct pulleynavy_global pulleynavy_global(
+    const uint8_t *bytes, size_t bytes_size, uint64_t offset, uint32_t features);
+
+/* What is imported, with its type. The types that its kind doesn't name are all 0. */
+struct pulleynavy_import_type {
+    /* 0 a function, 1 a table, 2 a memory, 3 a global, 4 a tag, 5 a function of exactly the given type. */
+    uint32_t kind;
+    /* The index of the type of a function or a tag, or 0. */
+    uint32_t index;
+    /* The type of a table. */
+    struct pulleynavy_table_type table;
+    /* The type of a memory. */
+    struct pulleynavy_memory_type memory;
+    /* The type of a global. */
+    struct pulleynavy_global_type global;
+};
+
+/* An import, or a bundle of imports, or its fault. */
+struct pulleynavy_import {
+    /* The fault, whose kind is 0 where there is none. */
+    struct pulleynavy_fault fault;
+    /* How many bytes it takes, those of a bundle's imports among them. */
+    uint64_t consumed;
+    /* The name of the module that it comes from, which is UTF-8. */
+    struct pulleynavy_span module_name;
+    /* The name of an import in its module, which is UTF-8. */
+    struct pulleynavy_span name;
+    /* What is imported, but for a bundle of several types. */
+    struct pulleynavy_import_type ty;
+    /* The imports of a bundle, after their count. */
+    struct pulleynavy_span items;
+    /* 0 an import, 1 a bundle of imports of one module, 2 a bundle of one module and one type. */
+    uint32_t kind;
+    /* How many imports it is. */
+    uint32_t count;
+};
+
+/* An import of a bundle of one module, or its fault. */
+struct pulleynavy_import_item {
+    /* The fault, whose kind is 0 where there is none. */
+    struct pulleynavy_fault fault;
+    /* How many bytes it takes. */
+    uint64_t consumed;
+    /* Its name in the bundle's module, which is UTF-8. */
+    struct pulleynavy_span name;
+    /* What it is. */
+    struct pulleynavy_import_type ty;
+};
+
+/* A name, or its fault. */
+struct pulleynavy_name {
+    /* The fault, whose kind is 0 where there is none. */
+    struct pulleynavy_fault fault;
+    /* How many bytes it takes. */
+    uint64_t consumed;
+    /* The name, which is UTF-8. */
+    struct pulleynavy_span name;
+};
+
+/* The import, or the bundle of imports, with which these bytes begin (core specification, Binary format, Modules, Import Section; the
+   bundles are of the proposal for compact imports). The imports of a bundle are read by `pulleynavy_import_item`, or by
+   `pulleynavy_name` where they have one type. The bytes are the rest of its section, and are at this offset of the whole stream. */
+struct pulleynavy_import pulleynavy_import(
+    const uint8_t *bytes, size_t bytes_size, uint64_t offset, uint32_t features);
+
+/* The import of a bundle of one module with which these bytes begin (the proposal for compact imports). The bytes are the rest of its
+   section, and are at this offset of the whole stream. */
+struct pulleynavy_import_item pulleynavy_import_item(
+    const uint8_t *bytes, size_t bytes_size, uint64_t offset, uint32_t features);
+
+/* The name with which these bytes begin, of at most 100,000 bytes (core specification, Binary format, Values, Names). The bytes are
+   the rest of its section, and are at this offset of the whole stream. */
+struct pulleynavy_name pulleynavy_name(const uint8_t *bytes, size_t bytes_size, uint64_t offset, uint32_t features);
+
+/* An export, or its fault. */
+struct pulleynavy_export {
+    /* The fault, whose kind is 0 where there is none. */
+    struct pulleynavy_fault fault;
+    /* How many bytes it takes. */
+    uint64_t consumed;
+    /* Its name, which is UTF-8. */
+    struct pulleynavy_span name;
+    /* 0 a function, 1 a table, 2 a memory, 3 a global, 4 a tag. */
+    uint32_t kind;
+    /* Its index among those of its kind. */
+    uint32_t index;
+};
+
+/* The export with which these bytes begin (core specification, Binary format, Modules, Export Section). The bytes are the rest of its
+   section, and are at this offset of the whole stream. */
+struct pulleynavy_export pulleynavy_export(
+    const uint8_t *bytes, size_t bytes_size, uint64_t offset, uint32_t features);
+
+/* A constant expression, or its fault. */
+struct pulleynavy_expression {
+    /* The fault, whose kind is 0 where there is none. */
+    struct pulleynavy_fault fault;
+    /* How many bytes it takes, its end among them. */
+    uint64_t consumed;
+};
+
+/* An element segment, or its fault. */
+struct pulleynavy_element {
+    /* The fault, whose kind is 0 where there is none. */
+    struct pulleynavy_fault fault;
+    /* How many bytes it takes. */
+    uint64_t consumed;
+    /* 0 a passive segment, 1 an active one, 2 a declared one. */
+    uint32_t kind;
+    /* 1 if the index of a table is written, or 0. */
+    uint32_t has_table;
+    /* The index of the table, or 0. */
+    uint32_t table;
+    /* 0 where the elements are indices of functions, 1 where they are expressions. */
+    uint32_t has_expressions;
+    /* The expression of an active segment's offset, with its end. */
+    struct pulleynavy_span offset_expression;
+    /* The type of the elements. */
+    struct pulleynavy_type ty;
+    /* The elements, after their count. */
+    struct pulleynavy_span items;
+    /* How many elements there are. */
+    uint32_t count;
+};
+
+/* A data segment, or its fault. */
+struct pulleynavy_data {
+    /* The fault, whose kind is 0 where there is none. */
+    struct pulleynavy_fault fault;
+    /* How many bytes it takes. */
+    uint64_t consumed;
+    /* 0 a passive segment, 1 an active one. */
+    uint32_t kind;
+    /* The index of an active segment's memory, or 0. */
+    uint32_t memory;
+    /* The expression of an active segment's offset, with its end. */
+    struct pulleynavy_span offset_expression;
+    /* Its bytes. */
+    struct pulleynavy_span bytes;
+};
+
+/* The constant expression with which these bytes begin (core specification, Binary format, Instructions, Expressions): an element of
+   a segment, for one. The bytes are the rest of its section, and are at this offset of the whole stream. */
+struct pulleynavy_expression pulleynavy_expression(
+    const uint8_t *bytes, size_t bytes_size, uint64_t offset, uint32_t features);
+
+/* The element segment with which these bytes begin (core specification, Binary format, Modules, Element Section). Its elements are
+   read by `pulleynavy_number` or `pulleynavy_expression`, and have no fault. The bytes are the rest of its section, and are at this
+   offset of the whole stream. */
+struct pulleynavy_element pulleynavy_element(
+    const uint8_t *bytes, size_t bytes_size, uint64_t offset, uint32_t features);
+
+/* The data segment with which these bytes begin (core specification, Binary format, Modules, Data Section). The bytes are the rest of
+   its section, and are at this offset of the whole stream. */
+struct pulleynavy_data pulleynavy_data(const uint8_t *bytes, size_t bytes_size, uint64_t offset, uint32_t features);
+
+/* A subsection, or its fault. */
+struct pulleynavy_subsection {
+    /* The fault, whose kind is 0 where there is none. */
+    struct pulleynavy_fault fault;
+    /* How many bytes it takes. */
+    uint64_t consumed;
+    /* Its id. */
+    uint32_t id;
+    /* Its bytes. */
+    struct pulleynavy_span contents;
+};
+
+/* An index and its name, or its fault. */
+struct pulleynavy_naming {
+    /* The fault, whose kind is 0 where there is none. */
+    struct pulleynavy_fault fault;
+    /* How many bytes it takes. */
+    uint64_t consumed;
+    /* The index of what is named. */
+    uint32_t index;
+    /* Its name, which is UTF-8. */
+    struct pulleynavy_span name;
+};
+
+/* The subsection with which these bytes begin: an id below 128, a size and so many bytes (core specification, Appendix, Custom
+   Sections, Name Section, Subsections; tool conventions, Linking). The bytes are the rest of its section, and are at this offset of
+   the whole stream. */
+struct pulleynavy_subsection pulleynavy_subsection(
+    const uint8_t *bytes, size_t bytes_size, uint64_t offset, uint32_t features);
+
+/* The index and the name with which these bytes begin (core specification, Appendix, Custom Sections, Name Section, Name Maps). That
+   indices ascend isn't looked at. The bytes are the rest of its section, and are at this offset of the whole stream. */
+struct pulleynavy_naming pulleynavy_naming(
+    const uint8_t *bytes, size_t bytes_size, uint64_t offset, uint32_t features);
+
+/* A field of the producers section, or its fault. */
+struct pulleynavy_producers_field {
+    /* The fault, whose kind is 0 where there is none. */
+    struct pulleynavy_fault fault;
+    /* How many bytes it takes. */
+    uint64_t consumed;
+    /* Its name: `language`, `sdk` or `processed-by`. */
+    struct pulleynavy_span name;
+    /* How many values it has. */
+    uint32_t count;
+    /* The values, after their count. */
+    struct pulleynavy_span values;
+};
+
+/* A value of a field of the producers section, or its fault. */
+struct pulleynavy_producers_value {
+    /* The fault, whose kind is 0 where there is none. */
+    struct pulleynavy_fault fault;
+    /* How many bytes it takes. */
+    uint64_t consumed;
+    /* The name of a tool, which is UTF-8. */
+    struct pulleynavy_span name;
+    /* Its version, which is UTF-8. */
+    struct pulleynavy_span version;
+};
+
+/* The field of a producers section with which these bytes begin (tool conventions, Producers Section). Its values are read by
+   `pulleynavy_producers_value`. The bytes are the rest of its section, and are at this offset of the whole stream. */
+struct pulleynavy_producers_field pulleynavy_producers_field(
+    const uint8_t *bytes, size_t bytes_size, uint64_t offset, uint32_t features);
+
+/* The value of a field of a producers section with which these bytes begin (tool conventions, Producers Section). The bytes are the
+   rest of its section, and are at this offset of the whole stream. */
+struct pulleynavy_producers_value pulleynavy_producers_value(
+    const uint8_t *bytes, size_t bytes_size, uint64_t offset, uint32_t features);
+
+/* A function that has branch hints, or its fault. */
+struct pulleynavy_hinted_function {
+    /* The fault, whose kind is 0 where there is none. */
+    struct pulleynavy_fault fault;
+    /* How many bytes it takes. */
+    uint64_t consumed;
+    /* The index of the function. */
+    uint32_t func;
+    /* How many hints it has. */
+    uint32_t count;
+    /* The hints, after their count. */
+    struct pulleynavy_span hints;
+};
+
+/* A branch hint, or its fault. */
+struct pulleynavy_branch_hint {
+    /* The fault, whose kind is 0 where there is none. */
+    struct pulleynavy_fault fault;
+    /* How many bytes it takes. */
+    uint64_t consumed;
+    /* How many bytes after the start of the function's body its instruction is. */
+    uint32_t func_offset;
+    /* 1 if the branch is likely to be taken, or 0. */
+    uint32_t taken;
+};
+
+/* The function with branch hints with which these bytes begin (tool conventions, Code Metadata, Branch Hints). Its hints are read by
+   `pulleynavy_branch_hint`, and have no fault. The bytes are the rest of its section, and are at this offset of the whole stream. */
+struct pulleynavy_hinted_function pulleynavy_hinted_function(
+    const uint8_t *bytes, size_t bytes_size, uint64_t offset, uint32_t features);
+
+/* The branch hint with which these bytes begin (tool conventions, Code Metadata, Branch Hints). The bytes are the rest of its
+   section, and are at this offset of the whole stream. */
+struct pulleynavy_branch_hint pulleynavy_branch_hint(
+    const uint8_t *bytes, size_t bytes_size, uint64_t offset, uint32_t features);
+
+/* How much memory and table a library needs, or the fault of it. */
+struct pulleynavy_dylink_memory {
+    /* The fault, whose kind is 0 where there is none. */
+    struct pulleynavy_fault fault;
+    /* How many bytes it takes. */
+    uint64_t consumed;
+    /* How many bytes of memory. */
+    uint32_t memory_size;
+    /* Their alignment, as a power of two. */
+    uint32_t memory_alignment;
+    /* How many elements of table. */
+    uint32_t table_size;
+    /* Their alignment, as a power of two. */
+    uint32_t table_alignment;
+};
+
+/* What is said of an export to a dynamic linker, or its fault. */
+struct pulleynavy_dylink_export {
+    /* The fault, whose kind is 0 where there is none. */
+    struct pulleynavy_fault fault;
+    /* How many bytes it takes. */
+    uint64_t consumed;
+    /* Its name, which is UTF-8. */
+    struct pulleynavy_span name;
+    /* Its flags, as those of a symbol. */
+    uint32_t flags;
+};
+
+/* What is said of an import to a dynamic linker, or its fault. */
+struct pulleynavy_dylink_import {
+    /* The fault, whose kind is 0 where there is none. */
+    struct pulleynavy_fault fault;
+    /* How many bytes it takes. */
+    uint64_t consumed;
+    /* The name of its module, which is UTF-8. */
+    struct pulleynavy_span module_name;
+    /* Its name there, which is UTF-8. */
+    struct pulleynavy_span field;
+    /* Its flags, as those of a symbol. */
+    uint32_t flags;
+};
+
+/* What a subsection 1 of the section `dylink.0` says (tool conventions, Dynamic Linking, The "dylink.0" Section). The bytes are the
+   rest of its section, and are at this offset of the whole stream. */
+struct pulleynavy_dylink_memory pulleynavy_dylink_memory(
+    const uint8_t *bytes, size_t bytes_size, uint64_t offset, uint32_t features);
+
+/* What is said of an export, in subsection 3 of the section `dylink.0` after its count (tool conventions, Dynamic Linking, The
+   "dylink.0" Section). The bytes are the rest of its section, and are at this offset of the whole stream. */
+struct pulleynavy_dylink_export pulleynavy_dylink_export(
+    const uint8_t *bytes, size_t bytes_size, uint64_t offset, uint32_t features);
+
+/* What is said of an import, in subsection 4 of the section `dylink.0` after its count (tool conventions, Dynamic Linking, The
+   "dylink.0" Section). The bytes are the rest of its section, and are at this offset of the whole stream. */
+struct pulleynavy_dylink_import pulleynavy_dylink_import(
+    const uint8_t *bytes, size_t bytes_size, uint64_t offset, uint32_t features);
+
+/* A data segment for linkers, or its fault. */
+struct pulleynavy_linking_segment {
+    /* The fault, whose kind is 0 where there is none. */
+    struct pulleynavy_fault fault;
+    /* How many bytes it takes. */
+    uint64_t consumed;
+    /* Its name, which is UTF-8. */
+    struct pulleynavy_span name;
+    /* Its alignment, as a power of two. */
+    uint32_t alignment;
+    /* Its flags: 1 for strings, 2 for thread-local data, 4 for one that is kept. */
+    uint32_t flags;
+};
+
+/* A function that is called at first, or its fault. */
+struct pulleynavy_init_function {
+    /* The fault, whose kind is 0 where there is none. */
+    struct pulleynavy_fault fault;
+    /* How many bytes it takes. */
+    uint64_t consumed;
+    /* Its priority. */
+    uint32_t priority;
+    /* The index of its symbol. */
+    uint32_t symbol;
+};
+
+/* A comdat, or its fault. */
+struct pulleynavy_comdat {
+    /* The fault, whose kind is 0 where there is none. */
+    struct pulleynavy_fault fault;
+    /* How many bytes it takes. */
+    uint64_t consumed;
+    /* Its name, which is UTF-8. */
+    struct pulleynavy_span name;
+    /* Its flags. */
+    uint32_t flags;
+    /* How many symbols it has. */
+    uint32_t count;
+    /* The symbols, after their count. */
+    struct pulleynavy_span symbols;
+};
+
+/* A symbol of a comdat, or its fault. */
+struct pulleynavy_comdat_symbol {
+    /* The fault, whose kind is 0 where there is none. */
+    struct pulleynavy_fault fault;
+    /* How many bytes it takes. */
+    uint64_t consumed;
+    /* 0 a data segment, 1 a function, 2 a global, 3 an event, 4 a table, 5 a section. */
+    uint32_t kind;
+    /* Its index among those of its kind. */
+    uint32_t index;
+};
+
+/* What is said of a data segment, in subsection 5 of the section `linking` after its count (tool conventions, Linking, Segment Info
+   Subsection). The bytes are the rest of its section, and are at this offset of the whole stream. */
+struct pulleynavy_linking_segment pulleynavy_linking_segment(
+    const uint8_t *bytes, size_t bytes_size, uint64_t offset, uint32_t features);
+
+/* The function to be called at first with which these bytes begin, in subsection 6 of the section `linking` after its count (tool
+   conventions, Linking, Init Functions Subsection). The bytes are the rest of its section, and are at this offset of the whole
+   stream. */
+struct pulleynavy_init_function pulleynavy_init_function(
+    const uint8_t *bytes, size_t bytes_size, uint64_t offset, uint32_t features);
+
+/* The comdat with which these bytes begin, in subsection 7 of the section `linking` after its count (tool conventions, Linking,
+   COMDAT Subsection). Its symbols are read by `pulleynavy_comdat_symbol`, and have no fault. The bytes are the rest of its section,
+   and are at this offset of the whole stream. */
+struct pulleynavy_comdat pulleynavy_comdat(
+    const uint8_t *bytes, size_t bytes_size, uint64_t offset, uint32_t features);
+
+/* The symbol of a comdat with which these bytes begin (tool conventions, Linking, COMDAT Subsection). The bytes are the rest of its
+   section, and are at this offset of the whole stream. */
+struct pulleynavy_comdat_symbol pulleynavy_comdat_symbol(
+    const uint8_t *bytes, size_t bytes_size, uint64_t offset, uint32_t features);
+
+/* A relocation, or its fault. */
+struct pulleynavy_relocation {
+    /* The fault, whose kind is 0 where there is none. */
+    struct pulleynavy_fault fault;
+    /* How many bytes it takes. */
+    uint64_t consumed;
+    /* The number of its type, from 0 to 26. */
+    uint32_t kind;
+    /* How many bytes it fills in: 4, 5, 8 or 10. */
+    uint32_t extent;
+    /* Where it fills them in, in bytes from the start of the content of its section. */
+    uint32_t offset;
+    /* The index of its symbol, or of its type. */
+    uint32_t index;
+    /* What is added to the value of the symbol, or 0. */
+    int64_t addend;
+};
+
+/* The relocation with which these bytes begin (tool conventions, Linking, Relocation Sections). A section of relocations begins with
+   the index of the section that they are of and their count, which `pulleynavy_number` reads. The bytes are the rest of its section,
+   and are at this offset of the whole stream. */
+struct pulleynavy_relocation pulleynavy_relocation(
+    const uint8_t *bytes, size_t bytes_size, uint64_t offset, uint32_t features);
+
+#ifdef __cplusplus
+#define PULLEYNAVY_ASSERT static_assert
+#else
+#define PULLEYNAVY_ASSERT _Static_assert
+#endif
+#if defined(__cplusplus) || __STDC_VERSION__ >= 201112L
+PULLEYNAVY_ASSERT(sizeof(struct pulleynavy_fault) == 24 && offsetof(struct pulleynavy_fault, offset) == 16, "layout");
+PULLEYNAVY_ASSERT(sizeof(struct pulleynavy_event) == 88 && offsetof(struct pulleynavy_event, fault) == 64, "layout");
+PULLEYNAVY_ASSERT(sizeof(struct pulleynavy_parser) == 48 && offsetof(struct pulleynavy_parser, in_code) == 43, "layout");
+PULLEYNAVY_ASSERT(sizeof(struct pulleynavy_feed) == 72 && offsetof(struct pulleynavy_feed, is_finished) == 64, "layout");
+PULLEYNAVY_ASSERT(sizeof(struct pulleynavy_span) == 16 && offsetof(struct pulleynavy_span, size) == 8, "layout");
+PULLEYNAVY_ASSERT(sizeof(struct pulleynavy_type) == 16 && offsetof(struct pulleynavy_type, index) == 12, "layout");
+PULLEYNAVY_ASSERT(sizeof(struct pulleynavy_number) == 40 && offsetof(struct pulleynavy_number, value) == 32, "layout");
+PULLEYNAVY_ASSERT(sizeof(struct pulleynavy_value) == 48 && offsetof(struct pulleynavy_value, ty) == 32, "layout");
+PULLEYNAVY_ASSERT(sizeof(struct pulleynavy_field) == 56 && offsetof(struct pulleynavy_field, is_mutable) == 48, "layout");
+PULLEYNAVY_ASSERT(sizeof(struct pulleynavy_type_group) == 40 && offsetof(struct pulleynavy_type_group, count) == 36, "layout");
+PULLEYNAVY_ASSERT(sizeof(struct pulleynavy_subtype) == 56 && offsetof(struct pulleynavy_subtype, count) == 48, "layout");
+PULLEYNAVY_ASSERT(sizeof(struct pulleynavy_table_type) == 48 && offsetof(struct pulleynavy_table_type, maximum) == 40, "layout");
+PULLEYNAVY_ASSERT(sizeof(struct pulleynavy_memory_type) == 40 && offsetof(struct pulleynavy_memory_type, maximum) == 32, "layout");
+PULLEYNAVY_ASSERT(sizeof(struct pulleynavy_global_type) == 24 && offsetof(struct pulleynavy_global_type, shared) == 20, "layout");
+PULLEYNAVY_ASSERT(sizeof(struct pulleynavy_table) == 104 && offsetof(struct pulleynavy_table, has_init) == 96, "layout");
+PULLEYNAVY_ASSERT(sizeof(struct pulleynavy_memory) == 72 && offsetof(struct pulleynavy_memory, ty) == 32, "layout");
+PULLEYNAVY_ASSERT(sizeof(struct pulleynavy_tag) == 40 && offsetof(struct pulleynavy_tag, func_type_index) == 32, "layout");
+PULLEYNAVY_ASSERT(sizeof(struct pulleynavy_global) == 72 && offsetof(struct pulleynavy_global, init) == 56, "layout");
+PULLEYNAVY_ASSERT(sizeof(struct pulleynavy_import_type) == 120 && offsetof(struct pulleynavy_import_type, global) == 96, "layout");
+PULLEYNAVY_ASSERT(sizeof(struct pulleynavy_import) == 208 && offsetof(struct pulleynavy_import, count) == 204, "layout");
+PULLEYNAVY_ASSERT(sizeof(struct pulleynavy_import_item) == 168 && offsetof(struct pulleynavy_import_item, ty) == 48, "layout");
+PULLEYNAVY_ASSERT(sizeof(struct pulleynavy_name) == 48 && offsetof(struct pulleynavy_name, name) == 32, "layout");
+PULLEYNAVY_ASSERT(sizeof(struct pulleynavy_export) == 56 && offsetof(struct pulleynavy_export, index) == 52, "layout");
+PULLEYNAVY_ASSERT(sizeof(struct pulleynavy_expression) == 32 && offsetof(struct pulleynavy_expression, consumed) == 24, "layout");
+PULLEYNAVY_ASSERT(sizeof(struct pulleynavy_element) == 104 && offsetof(struct pulleynavy_element, count) == 96, "layout");
+PULLEYNAVY_ASSERT(sizeof(struct pulleynavy_data) == 72 && offsetof(struct pulleynavy_data, bytes) == 56, "layout");
+PULLEYNAVY_ASSERT(sizeof(struct pulleynavy_subsection) == 56 && offsetof(struct pulleynavy_subsection, contents) == 40, "layout");
+PULLEYNAVY_ASSERT(sizeof(struct pulleynavy_naming) == 56 && offsetof(struct pulleynavy_naming, name) == 40, "layout");
+PULLEYNAVY_ASSERT(sizeof(struct pulleynavy_producers_field) == 72 && offsetof(struct pulleynavy_producers_field, values) == 56, "layout");
+PULLEYNAVY_ASSERT(sizeof(struct pulleynavy_producers_value) == 64 && offsetof(struct pulleynavy_producers_value, version) == 48, "layout");
+PULLEYNAVY_ASSERT(sizeof(struct pulleynavy_hinted_function) == 56 && offsetof(struct pulleynavy_hinted_function, hints) == 40, "layout");
+PULLEYNAVY_ASSERT(sizeof(struct pulleynavy_branch_hint) == 40 && offsetof(struct pulleynavy_branch_hint, taken) == 36, "layout");
+PULLEYNAVY_ASSERT(sizeof(struct pulleynavy_dylink_memory) == 48 && offsetof(struct pulleynavy_dylink_memory, table_alignment) == 44, "layout");
+PULLEYNAVY_ASSERT(sizeof(struct pulleynavy_dylink_export) == 56 && offsetof(struct pulleynavy_dylink_export, flags) == 48, "layout");
+PULLEYNAVY_ASSERT(sizeof(struct pulleynavy_dylink_import) == 72 && offsetof(struct pulleynavy_dylink_import, flags) == 64, "layout");
+PULLEYNAVY_ASSERT(sizeof(struct pulleynavy_linking_segment) == 56 && offsetof(struct pulleynavy_linking_segment, flags) == 52, "layout");
+PULLEYNAVY_ASSERT(sizeof(struct pulleynavy_init_function) == 40 && offsetof(struct pulleynavy_init_function, symbol) == 36, "layout");
+PULLEYNAVY_ASSERT(sizeof(struct pulleynavy_comdat) == 72 && offsetof(struct pulleynavy_comdat, symbols) == 56, "layout");
+PULLEYNAVY_ASSERT(sizeof(struct pulleynavy_comdat_symbol) == 40 && offsetof(struct pulleynavy_comdat_symbol, index) == 36, "layout");
+PULLEYNAVY_ASSERT(sizeof(struct pulleynavy_relocation) == 56 && offsetof(struct pulleynavy_relocation, addend) == 48, "layout");
+#endif
+#undef PULLEYNAVY_ASSERT
+#ifdef __cplusplus
+}
+#endif
+#endif

@@ -1,0 +1,11 @@
+use Rattle.std.proofs.Common.{sym}
+use Rattle.wasm_c.proofs.parsing.pulleynavy_fault_text.Goals as goal
+
+pub returns : goal.returns
+returns c =
+    rw (sym c.parser-parser.ensures) (record {
+      answer = c.parse.result;
+      after = _;
+      answers = c.parse.ensures.answers;
+      says = c.write_fault.ensures;
+    })

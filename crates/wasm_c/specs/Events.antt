@@ -1,0 +1,84 @@
+-- The answers of a parser as plain numbers.
+use Rattle.std.specs.Prelude.{◌≡◌, ℕ, Bool, List, length, Result, Ok, Err}
+use Rattle.wasm_base.specs.FaultAt.{FaultAt, fault_at}
+use Rattle.wasm_base.specs.Window.{range_of}
+use Rattle.wasm_base.specs.declared.error.Error.{Error}
+use Rattle.wasm_grammar.specs.Content.{fault, ended}
+use Rattle.wasm_grammar.specs.Ids.{start_id, data_count_id, code_id, custom_id}
+use Rattle.wasm_grammar.specs.Reading.{Report, version, counted, start_section, data_count_section, code_start}
+use Rattle.wasm_grammar.specs.Reading.{code_entry, custom_section, unknown_section, stream_end}
+use Rattle.wasm_grammar.specs.declared.encoding.Encoding.{Encoding}
+use Rattle.wasm_grammar.specs.declared.encoding.Encoding.TheVariants.{Module, Component}
+use Rattle.wasm_parser.specs.AsksWhereOpen.{AsksWhereOpen}
+use Rattle.wasm_parser.specs.GivesNextEvent.{GivesNextEvent}
+use Rattle.wasm_parser.specs.ParseAnswer.{ParseAnswer, Consumes, FaultsWithin, report_of}
+use Rattle.wasm_parser.specs.ParserState.{ParserState}
+use Rattle.wasm_parser.specs.declared.payload.Chunk.{Chunk}
+use Rattle.wasm_parser.specs.declared.payload.Chunk.TheVariants.{NeedMoreData, Parsed}
+use Rattle.wasm_c.specs.Faults.{no_fault, plain_fault}
+use Rattle.wasm_c.specs.declared.events.PlainEvent.{PlainEvent}
+
+-- an event that says nothing
+abbrev pub silent : PlainEvent
+silent = record {
+  kind = 0;
+  id = 0;
+  count = 0;
+  size = 0;
+  start = 0;
+  end = 0;
+  consumed = 0;
+  hint = 0;
+  data_offset = 0;
+  name_size = 0;
+  fault = no_fault;
+}
+
+-- an event of this kind with these offsets
+abbrev pub event_between : (kind id from to : ℕ) → PlainEvent
+event_between kind id from to = record silent { kind = kind; id = id; start = from; end = to }
+
+abbrev pub encoding_code : Encoding → ℕ
+encoding_code Module = 0
+encoding_code Component = 1
+
+-- a fault
+abbrev pub fault_event : FaultAt → PlainEvent
+fault_event f = record (event_between 10 0 f.offset f.offset) { fault = plain_fault f }
+
+-- what was reported
+abbrev pub report_event : Report → PlainEvent
+report_event (version num encoding from to) =
+    record (event_between 1 (encoding_code encoding) from to) { count = num }
+report_event (counted id count window) =
+    record (event_between 2 id (range_of window).start (range_of window).end) { count = count }
+report_event (start_section func from to) = record (event_between 3 start_id from to) { count = func }
+report_event (data_count_section count from to) = record (event_between 4 data_count_id from to) { count = count }
+report_event (code_start count from to size) =
+    record (event_between 5 code_id from to) { count = count; size = size }
+report_event (code_entry window) = event_between 6 code_id (range_of window).start (range_of window).end
+report_event (custom_section name data_offset window) =
+    record (event_between 7 custom_id (range_of window).start (range_of window).end) {
+      data_offset = data_offset;
+      name_size = length name;
+    }
+report_event (unknown_section id contents from to) = event_between 8 id from to
+report_event (stream_end (ended offset)) = event_between 9 0 offset offset
+report_event (stream_end (fault f)) = fault_event f
+
+-- what a parser answered
+abbrev pub answer_event : Result Chunk Error → PlainEvent
+answer_event (Ok (NeedMoreData hint)) = record silent { hint = hint }
+answer_event (Ok (Parsed consumed payload)) = record (report_event (report_of payload)) { consumed = consumed }
+answer_event (Err e) = fault_event (fault_at e)
+
+-- The parser answered this on these bytes, which are all of the rest of the stream or its beginning, and is then here.
+pub record ParsesPlain (old : ParserState) (eof : Bool) (bytes : List ℕ) (event : PlainEvent) (new : ParserState)
+    : Type 0 where
+  pub answer : Result Chunk Error
+  pub answers : ParseAnswer old eof bytes answer new
+  pub gives : GivesNextEvent old eof bytes answer new
+  pub consumes : Consumes bytes answer
+  pub waits : AsksWhereOpen old eof bytes answer
+  pub faults : FaultsWithin old bytes answer
+  pub is_event : event ≡ answer_event answer

@@ -1,0 +1,97 @@
+-- Imports as plain numbers.
+use Rattle.std.specs.Prelude.{ℕ, ◌-◌, List, length, Some, Ok, Err}
+use Rattle.wasm_base.specs.Name.{name_limit, text_at}
+use Rattle.wasm_base.specs.Outcome.{Outcome}
+use Rattle.wasm_base.specs.Window.{Place}
+use Rattle.wasm_items.specs.Imports.{Bundle, ItemParts, single, of_module, of_type}
+use Rattle.wasm_items.specs.declared.imports.TypeRef.{TypeRef}
+use Rattle.wasm_items.specs.declared.imports.TypeRef.TheVariants.{Func, Table, Memory, Global, Tag, FuncExact}
+use Rattle.wasm_c.specs.Faults.{no_fault, plain_fault}
+use Rattle.wasm_c.specs.Kinds.{no_global_type, no_memory_type, no_table_type, plain_global_type, plain_memory_type}
+use Rattle.wasm_c.specs.Kinds.{plain_table_type}
+use Rattle.wasm_c.specs.Spans.{items_span, no_span, text_after, text_span}
+use Rattle.wasm_c.specs.declared.imports.PlainImport.{PlainImport}
+use Rattle.wasm_c.specs.declared.imports.PlainImportItem.{PlainImportItem}
+use Rattle.wasm_c.specs.declared.imports.PlainImportType.{PlainImportType}
+use Rattle.wasm_c.specs.declared.imports.PlainName.{PlainName}
+
+-- what is imported, by its kind and an index
+abbrev pub indexed_type : (kind index : ℕ) → PlainImportType
+indexed_type kind index = record {
+  kind = kind;
+  index = index;
+  table = no_table_type;
+  memory = no_memory_type;
+  global = no_global_type;
+}
+
+abbrev pub plain_import_type : TypeRef → PlainImportType
+plain_import_type (Func index) = indexed_type 0 index
+plain_import_type (Table table) = record (indexed_type 1 0) { table = plain_table_type table }
+plain_import_type (Memory memory) = record (indexed_type 2 0) { memory = plain_memory_type memory }
+plain_import_type (Global global) = record (indexed_type 3 0) { global = plain_global_type global }
+plain_import_type (Tag tag) = indexed_type 4 tag.func_type_idx
+plain_import_type (FuncExact index) = indexed_type 5 index
+
+-- a fault in place of an import
+abbrev pub no_import : PlainImport
+no_import = record {
+  fault = no_fault;
+  consumed = 0;
+  module_name = no_span;
+  name = no_span;
+  ty = indexed_type 0 0;
+  items = no_span;
+  kind = 0;
+  count = 0;
+}
+
+-- an import, or the beginning of a bundle, that takes so many bytes from a place on
+abbrev pub import_from : Place → (consumed : ℕ) → Bundle → PlainImport
+import_from p consumed (single offset one) = record no_import {
+  consumed = consumed;
+  module_name = text_span p.offset p (length one.from);
+  name = text_after p.offset (length one.name) (text_at (Some name_limit) p);
+  ty = plain_import_type one.ty;
+  count = 1;
+}
+import_from p consumed (of_module from items) = record no_import {
+  consumed = consumed;
+  module_name = text_span p.offset p (length from);
+  items = items_span p.offset items;
+  kind = 1;
+  count = items.count;
+}
+import_from p consumed (of_type from ty names) = record no_import {
+  consumed = consumed;
+  module_name = text_span p.offset p (length from);
+  ty = plain_import_type ty;
+  items = items_span p.offset names;
+  kind = 2;
+  count = names.count;
+}
+
+-- an import, or a bundle of imports
+abbrev pub plain_import : Place → Outcome Bundle → PlainImport
+plain_import p (Ok x) = import_from p (x.1.offset - p.offset) x.0
+plain_import p (Err f) = record no_import { fault = plain_fault f }
+
+-- an import of a bundle of one module
+abbrev pub plain_import_item : Place → Outcome ItemParts → PlainImportItem
+plain_import_item p (Ok x) = record {
+  fault = no_fault;
+  consumed = x.1.offset - p.offset;
+  name = text_span p.offset p (length x.0.name);
+  ty = plain_import_type x.0.ty;
+}
+plain_import_item p (Err f) =
+    record { fault = plain_fault f; consumed = 0; name = no_span; ty = indexed_type 0 0 }
+
+-- a name
+abbrev pub plain_name : Place → Outcome (List ℕ) → PlainName
+plain_name p (Ok x) = record {
+  fault = no_fault;
+  consumed = x.1.offset - p.offset;
+  name = text_span p.offset p (length x.0);
+}
+plain_name p (Err f) = record { fault = plain_fault f; consumed = 0; name = no_span }

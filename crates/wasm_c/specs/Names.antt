@@ -1,0 +1,41 @@
+-- Names and subsections as plain numbers.
+use Rattle.std.specs.Prelude.{ℕ, ◌-◌, length, Ok, Err}
+use Rattle.wasm_base.specs.Outcome.{Outcome}
+use Rattle.wasm_base.specs.Window.{Place, Window}
+use Rattle.wasm_c.specs.Faults.{no_fault, plain_fault}
+use Rattle.wasm_base.specs.Number.{unsigned_at}
+use Rattle.wasm_base.specs.declared.fault.NumberKind.TheVariants.{VarU32}
+use Rattle.wasm_custom.specs.Names.{NamingParts}
+use Rattle.wasm_c.specs.Spans.{no_span, text_after, window_span}
+use Rattle.wasm_c.specs.declared.names.PlainSubsection.{PlainSubsection}
+use Rattle.wasm_c.specs.declared.names.PlainNaming.{PlainNaming}
+
+-- a subsection
+abbrev pub plain_subsection : Place → Outcome (ℕ × Window) → PlainSubsection
+plain_subsection p (Ok x) = record {
+  fault = no_fault;
+  consumed = x.1.offset - p.offset;
+  id = x.0.0;
+  contents = window_span p.offset x.0.1;
+}
+plain_subsection p (Err f) = record {
+  fault = plain_fault f;
+  consumed = 0;
+  id = 0;
+  contents = no_span;
+}
+
+-- an index and its name
+abbrev pub plain_naming : Place → Outcome NamingParts → PlainNaming
+plain_naming p (Ok x) = record {
+  fault = no_fault;
+  consumed = x.1.offset - p.offset;
+  index = x.0.index;
+  name = text_after p.offset (length x.0.name) (unsigned_at VarU32 p);
+}
+plain_naming p (Err f) = record {
+  fault = plain_fault f;
+  consumed = 0;
+  index = 0;
+  name = no_span;
+}

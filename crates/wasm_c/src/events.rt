@@ -1,0 +1,184 @@
+// The answers of a parser as plain numbers.
+ghost use Rattle.std.specs.Prelude.{◌≡◌};
+ghost use Rattle.wasm_base.specs.FaultAt.{fault_at};
+ghost use Rattle.wasm_base.specs.Window.{range_of};
+ghost use Rattle.wasm_grammar.specs.Reading.{counted};
+ghost use Rattle.wasm_parser.specs.ParseAnswer.{report_of, unread};
+ghost use Rattle.wasm_c.specs.Events.{answer_event, encoding_code, event_between, fault_event, report_event, silent};
+
+use crate::faults::{NO_FAULT, PlainFault, plain_fault};
+use wasm_grammar::{
+    CODE_SECTION, CUSTOM_SECTION, DATA_COUNT_SECTION, DATA_SECTION, ELEMENT_SECTION,
+    EXPORT_SECTION, FUNCTION_SECTION, GLOBAL_SECTION, IMPORT_SECTION, MEMORY_SECTION,
+    START_SECTION, TABLE_SECTION, TAG_SECTION, TYPE_SECTION,
+};
+use wasm_parser::{Chunk, Encoding, Error, Payload, Result, SectionLimited};
+
+/// What a parser answered, as plain numbers: an event, a fault or a request for more bytes. Numbers that its kind doesn't name are
+/// 0. Offsets and sizes are in bytes, offsets from the start of the whole stream (core specification, Binary format, Modules).
+#[repr(C)]
+#[derive(Clone, Copy, Debug, PartialEq, Eq)]
+pub struct PlainEvent {
+    /// 0 a request for more bytes, 1 a header, 2 a section that begins with a count of items, 3 the start section, 4 the data
+    /// count section, 5 the start of a code section, 6 a body, 7 a custom section, 8 a section with an unknown id, 9 the end of
+    /// the stream, 10 a fault.
+    pub kind: u32,
+    /// The id of the section; of a header 0 for a module and 1 for a component.
+    pub id: u32,
+    /// The count of items, bodies or segments; the index of the start function; the version.
+    pub count: u32,
+    /// How many bytes of a code section come after its count.
+    pub size: u32,
+    /// Where it begins: the header, the section's content, the body, the end, the fault.
+    pub start: u64,
+    /// Where it ends.
+    pub end: u64,
+    /// How many bytes were consumed.
+    pub consumed: u64,
+    /// About how many more bytes are wanted, at least 1.
+    pub hint: u64,
+    /// Where the data of a custom section begins, after its name.
+    pub data_offset: u64,
+    /// How many bytes the name of a custom section has. It is just before the data.
+    pub name_size: u64,
+    /// The fault.
+    pub fault: PlainFault,
+}
+
+const SILENT: PlainEvent = PlainEvent {
+    kind: 0,
+    id: 0,
+    count: 0,
+    size: 0,
+    start: 0,
+    end: 0,
+    consumed: 0,
+    hint: 0,
+    data_offset: 0,
+    name_size: 0,
+    fault: NO_FAULT,
+};
+
+// An event of this kind with these offsets.
+fn event_between(kind: u32, id: u32, from: u64, to: u64) -> PlainEvent
+    ensures { result ≡ event_between kind id from to }
+{
+    PlainEvent {
+        kind,
+        id,
+        start: from,
+        end: to,
+        ..SILENT
+    }
+}
+
+// A section with this id that begins with a count.
+fn counted_event<T>(id: u8, section: &SectionLimited<'_, T>) -> PlainEvent
+    ensures { result ≡ report_event (counted id section.now.count (unread section.now.reader)) }
+{
+    let range = section.range();
+    PlainEvent {
+        count: section.count(),
+        ..event_between(2, u32::from(id), range.start, range.end)
+    }
+}
+
+fn encoding_code(encoding: Encoding) -> u32
+    ensures { result ≡ encoding_code encoding }
+{
+    match encoding {
+        Encoding::Module => 0,
+        Encoding::Component => 1,
+    }
+}
+
+// A payload, without what it consumed.
+fn payload_event(payload: &Payload) -> PlainEvent
+    ensures { result ≡ report_event (report_of payload.now) }
+{
+    match payload {
+        Payload::Version {
+            num,
+            encoding,
+            range,
+        } => PlainEvent {
+            count: u32::from(*num),
+            ..event_between(1, encoding_code(*encoding), range.start, range.end)
+        },
+        Payload::TypeSection(section) => counted_event(TYPE_SECTION, section),
+        Payload::ImportSection(section) => counted_event(IMPORT_SECTION, section),
+        Payload::FunctionSection(section) => counted_event(FUNCTION_SECTION, section),
+        Payload::TableSection(section) => counted_event(TABLE_SECTION, section),
+        Payload::MemorySection(section) => counted_event(MEMORY_SECTION, section),
+        Payload::TagSection(section) => counted_event(TAG_SECTION, section),
+        Payload::GlobalSection(section) => counted_event(GLOBAL_SECTION, section),
+        Payload::ExportSection(section) => counted_event(EXPORT_SECTION, section),
+        Payload::ElementSection(section) => counted_event(ELEMENT_SECTION, section),
+        Payload::DataSection(section) => counted_event(DATA_SECTION, section),
+        Payload::StartSection { func, range } => PlainEvent {
+            count: *func,
+            ..event_between(3, u32::from(START_SECTION), range.start, range.end)
+        },
+        Payload::DataCountSection { count, range } => PlainEvent {
+            count: *count,
+            ..event_between(4, u32::from(DATA_COUNT_SECTION), range.start, range.end)
+        },
+        Payload::CodeSectionStart {
+            count,
+            unchecked_range,
+            size,
+        } => PlainEvent {
+            count: *count,
+            size: *size,
+            ..event_between(
+                5,
+                u32::from(CODE_SECTION),
+                unchecked_range.start,
+                unchecked_range.end,
+            )
+        },
+        Payload::CodeSectionEntry(body) => {
+            let range = body.range();
+            event_between(6, u32::from(CODE_SECTION), range.start, range.end)
+        }
+        Payload::CustomSection(section) => {
+            let range = section.range();
+            PlainEvent {
+                data_offset: section.data_offset(),
+                name_size: section.name().len() as u64,
+                ..event_between(7, u32::from(CUSTOM_SECTION), range.start, range.end)
+            }
+        }
+        Payload::UnknownSection { id, range, .. } => {
+            event_between(8, u32::from(*id), range.start, range.end)
+        }
+        Payload::End(offset) => event_between(9, 0, *offset, *offset),
+    }
+}
+
+// A fault.
+fn fault_event(error: Error) -> PlainEvent
+    ensures { result ≡ fault_event (fault_at error) }
+{
+    PlainEvent {
+        fault: plain_fault(error),
+        ..event_between(10, 0, error.offset(), error.offset())
+    }
+}
+
+/// What a parser answered.
+pub(crate) fn answer_event(answer: Result<Chunk<'_>>) -> PlainEvent
+    ensures { result ≡ answer_event answer.entry }
+{
+    match answer {
+        Ok(Chunk::NeedMoreData(hint)) => PlainEvent {
+            hint: hint as u64,
+            ..SILENT
+        },
+        Ok(Chunk::Parsed { consumed, payload }) => PlainEvent {
+            consumed: consumed as u64,
+            ..payload_event(&payload)
+        },
+        Err(error) => fault_event(error),
+    }
+}

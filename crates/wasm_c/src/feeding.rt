@@ -1,0 +1,154 @@
+// A feeder over memory of the caller.
+ghost use Rattle.std.specs.Prelude.{◌≡◌, ◌+◌, ◌++◌, ◌≤◌, ◌↔◌, IsTrue, drop, take, length};
+ghost use Rattle.wasm_parser.specs.ParserState.{initial_state};
+ghost use Rattle.wasm_c.specs.Feeds.{IsFinished, IsNewFeed, PushesPlain, StepsPlain};
+
+use crate::events::PlainEvent;
+use crate::parsing::{pulleynavy_parse, pulleynavy_parser};
+use crate::stored::StoredParser;
+
+/// A feeder as C holds it: its parser, and where in the caller's storage the bytes are that were pushed and not consumed. Whatever
+/// its bytes are, they are a feeder.
+#[repr(C)]
+#[derive(Clone, Copy, Debug)]
+pub struct StoredFeed {
+    /// Where it is in the stream.
+    pub parser: StoredParser,
+    /// Where the bytes that are held begin, in bytes from the start of the storage.
+    pub mark: usize,
+    /// Where they end.
+    pub end: usize,
+    /// 0 while more bytes may come after them.
+    pub is_finished: u8,
+}
+
+/// A feeder of a stream that begins at this offset, whose windows have these features. It holds nothing, and so it has no storage
+/// yet.
+#[unsafe(no_mangle)]
+pub extern "C" fn pulleynavy_feed(offset: u64, features: u32) -> StoredFeed
+    ensures { IsNewFeed result (initial_state offset features) }
+{
+    StoredFeed {
+        parser: pulleynavy_parser(offset, features),
+        mark: 0,
+        end: 0,
+        is_finished: 0,
+    }
+}
+
+// The first bytes.
+fn front(bytes: &[u8], end: usize) -> &[u8]
+    ensures { result.now ≡ take end bytes.now }
+{
+    if end <= bytes.len() {
+        &bytes[..end]
+    } else {
+        bytes
+    }
+}
+
+// The bytes after the first.
+fn after(bytes: &[u8], mark: usize) -> &[u8]
+    ensures { result.now ≡ drop mark bytes.now }
+{
+    if mark <= bytes.len() {
+        &bytes[mark..]
+    } else {
+        &[]
+    }
+}
+
+/// The next part of the stream, of the bytes that are held in the storage. A request for more changes nothing.
+#[unsafe(no_mangle)]
+pub extern "C" fn pulleynavy_step(feed: &mut StoredFeed, storage: &[u8]) -> PlainEvent
+    ensures { StepsPlain feed.old storage.now result feed.new }
+{
+    let held = after(front(storage, feed.end), feed.mark);
+    let event = pulleynavy_parse(&mut feed.parser, held, feed.is_finished != 0);
+    feed.mark = feed.mark.saturating_add(event.consumed as usize);
+    event
+}
+
+/// Says that no bytes come after those that were pushed.
+#[unsafe(no_mangle)]
+pub extern "C" fn pulleynavy_finish(feed: &mut StoredFeed)
+    ensures { IsFinished feed.old feed.new }
+{
+    feed.is_finished = 1;
+}
+
+/// Puts the next bytes of the stream after those that are held, which go to the front of the storage where they must. Where
+/// there is no room for both it answers false and changes nothing: the caller goes on with more storage, which begins with
+/// the same bytes.
+#[unsafe(no_mangle)]
+pub extern "C" fn pulleynavy_push(feed: &mut StoredFeed, storage: &mut [u8], piece: &[u8]) -> bool
+    ensures { PushesPlain feed.old storage.old piece.now result feed.new storage.new }
+{
+    let held = after(front(storage, feed.end), feed.mark).len();
+    if piece.len() > storage.len() - held {
+        return false;
+    }
+    if feed.mark <= feed.end && has_room(storage, feed.end, piece) {
+        put(storage, feed.end, piece);
+        feed.end += piece.len();
+        return true;
+    }
+    gather(storage, feed.mark, held, piece);
+    feed.mark = 0;
+    feed.end = held + piece.len();
+    true
+}
+
+// Whether the piece may be put there.
+fn has_room(storage: &[u8], end: usize, piece: &[u8]) -> bool
+    ensures { IsTrue result ↔ (end + length piece.now ≤ length storage.now) }
+{
+    end <= storage.len() && piece.len() <= storage.len() - end
+}
+
+// Puts a piece there.
+fn put(storage: &mut [u8], end: usize, piece: &[u8])
+    requires { end + length piece.now ≤ length storage.old }
+    ensures len { length storage.new ≡ length storage.old }
+    ensures holds { take (end + length piece.now) storage.new ≡ take end storage.old ++ piece.now }
+{
+    storage[end..end + piece.len()].copy_from_slice(piece);
+}
+
+// Moves so many bytes from the mark to the front, and puts a piece after them.
+fn gather(storage: &mut [u8], mark: usize, held: usize, piece: &[u8])
+    requires within { held ≤ length (drop mark storage.old) }
+    requires fits { held + length piece.now ≤ length storage.old }
+    ensures len { length storage.new ≡ length storage.old }
+    ensures holds { take (held + length piece.now) storage.new
+        ≡ take held (drop mark storage.old) ++ piece.now }
+{
+    move_front(storage, mark, held);
+    put(storage, held, piece);
+}
+
+// Moves so many bytes from the mark to the front. Where they don't overlap their new place, they are copied at once.
+fn move_front(storage: &mut [u8], mark: usize, held: usize)
+    requires within { held ≤ length (drop mark storage.old) }
+    ensures len { length storage.new ≡ length storage.old }
+    ensures holds { take held storage.new ≡ take held (drop mark storage.old) }
+{
+    if held == 0 {
+        return;
+    }
+    if held <= mark {
+        copy_front(storage, mark, held);
+    } else {
+        storage.copy_within(mark..mark + held, 0);
+    }
+}
+
+fn copy_front(storage: &mut [u8], mark: usize, held: usize)
+    requires within { mark + held ≤ length storage.old }
+    requires apart { held ≤ mark }
+    ensures len { length storage.new ≡ length storage.old }
+    ensures holds { take held storage.new ≡ take held (drop mark storage.old) }
+{
+    let (front, back) = storage.split_at_mut(mark);
+    front[..held].copy_from_slice(&back[..held]);
+}

@@ -1,0 +1,137 @@
+// Names and subsections as plain numbers.
+ghost use Rattle.std.specs.Prelude.{◌≡◌, []};
+ghost use Rattle.wasm_base.specs.FaultAt.{fault_at};
+ghost use Rattle.wasm_base.specs.Window.{place};
+ghost use Rattle.wasm_c.specs.Spans.{place_over, read_over};
+ghost use Rattle.wasm_base.specs.Hints.{TakesNoMemory};
+ghost use Rattle.wasm_base.specs.Outcome.{GivesBy};
+ghost use Rattle.wasm_base.specs.Subsections.{subsection_at};
+ghost use Rattle.wasm_base.specs.Window.{KeepsWindow};
+ghost use Rattle.wasm_custom.specs.Names.{naming_at};
+ghost use Rattle.wasm_c.specs.Names.{plain_naming, plain_subsection};
+
+use crate::faults::{NO_FAULT, PlainFault, plain_fault};
+use crate::spans::{
+    NO_SPAN, PlainSpan, distance, out_of_range, reader_over, text_after_number, window_span,
+};
+use wasm_parser::{BinaryReader, Error, FromReader, Naming, Result, fits};
+
+/// A subsection, or its fault.
+#[repr(C)]
+#[derive(Clone, Copy, Debug, PartialEq, Eq)]
+pub struct PlainSubsection {
+    /// The fault, whose kind is 0 where there is none.
+    pub fault: PlainFault,
+    /// How many bytes it takes.
+    pub consumed: u64,
+    /// Its id.
+    pub id: u32,
+    /// Its bytes.
+    pub contents: PlainSpan,
+}
+
+/// An index and its name, or its fault.
+#[repr(C)]
+#[derive(Clone, Copy, Debug, PartialEq, Eq)]
+pub struct PlainNaming {
+    /// The fault, whose kind is 0 where there is none.
+    pub fault: PlainFault,
+    /// How many bytes it takes.
+    pub consumed: u64,
+    /// The index of what is named.
+    pub index: u32,
+    /// Its name, which is UTF-8.
+    pub name: PlainSpan,
+}
+
+// An id, and the window of a subsection's bytes.
+#[tactic(auto, unfolding(wasm_base::specs::Subsections::subsection_at))]
+fn read_subsection<'a>(reader: &mut BinaryReader<'a>) -> Result<(u8, BinaryReader<'a>)>
+    ensures gives { GivesBy (λ x. (x.0, x.1)) result reader.old reader.new subsection_at }
+    ensures keeps { KeepsWindow reader.old reader.new }
+{
+    let id = reader.read_u7()?;
+    let window = reader.read_reader()?;
+    Ok((id, window))
+}
+
+fn refused_subsection(error: Error) -> PlainSubsection
+    ensures { result ≡ plain_subsection (place_over 0 0 []) (Err (fault_at error)) }
+{
+    PlainSubsection {
+        fault: plain_fault(error),
+        consumed: 0,
+        id: 0,
+        contents: NO_SPAN,
+    }
+}
+
+fn next_subsection(mut reader: BinaryReader<'_>) -> PlainSubsection
+    ensures { result ≡ plain_subsection (place reader.entry) (subsection_at (place reader.entry)) }
+{
+    let from = reader.original_position();
+    match read_subsection(&mut reader) {
+        Ok((id, window)) => PlainSubsection {
+            fault: NO_FAULT,
+            consumed: distance(from, reader.original_position()),
+            id: u32::from(id),
+            contents: window_span(from, &window),
+        },
+        Err(error) => refused_subsection(error),
+    }
+}
+
+/// The subsection with which these bytes begin: an id below 128, a size and so many bytes (core specification, Appendix, Custom
+/// Sections, Name Section, Subsections; tool conventions, Linking). The bytes are the rest of
+/// its section, and are at this offset of the whole stream.
+#[unsafe(no_mangle)]
+pub extern "C" fn pulleynavy_subsection(bytes: &[u8], offset: u64, features: u32) -> PlainSubsection
+    ensures { result ≡ plain_subsection (place_over features offset bytes.now)
+        (read_over subsection_at features offset bytes.now) }
+{
+    if !fits(offset, bytes.len()) {
+        return refused_subsection(out_of_range(offset));
+    }
+    next_subsection(reader_over(bytes, offset, features))
+}
+
+fn refused_naming(error: Error) -> PlainNaming
+    ensures { result ≡ plain_naming (place_over 0 0 []) (Err (fault_at error)) }
+{
+    PlainNaming {
+        fault: plain_fault(error),
+        consumed: 0,
+        index: 0,
+        name: NO_SPAN,
+    }
+}
+
+fn next_naming(mut reader: BinaryReader<'_>) -> PlainNaming
+    ensures { result ≡ plain_naming (place reader.entry) (naming_at (place reader.entry)) }
+{
+    let from = reader.original_position();
+    let before = reader.clone().unwrap();
+    match Naming::from_reader(&mut reader) {
+        Ok(naming) => PlainNaming {
+            fault: NO_FAULT,
+            consumed: distance(from, reader.original_position()),
+            index: naming.index,
+            name: text_after_number(from, before, naming.name.len()),
+        },
+        Err(error) => refused_naming(error),
+    }
+}
+
+/// The index and the name with which these bytes begin (core specification, Appendix, Custom Sections, Name Section, Name Maps). That
+/// indices ascend isn't looked at. The bytes are the rest of
+/// its section, and are at this offset of the whole stream.
+#[unsafe(no_mangle)]
+pub extern "C" fn pulleynavy_naming(bytes: &[u8], offset: u64, features: u32) -> PlainNaming
+    ensures { result ≡ plain_naming (place_over features offset bytes.now)
+        (read_over naming_at features offset bytes.now) }
+{
+    if !fits(offset, bytes.len()) {
+        return refused_naming(out_of_range(offset));
+    }
+    next_naming(reader_over(bytes, offset, features))
+}

@@ -1,0 +1,78 @@
+// A parser for programs in C: each call takes plain numbers and bytes of the caller, and none has a condition.
+ghost use Rattle.std.specs.Prelude.{◌≡◌, ◌+◌, Some, IfSome};
+ghost use Rattle.wasm_parser.specs.ParserState.{initial_state, skippable_of};
+ghost use Rattle.wasm_c.specs.Events.{ParsesPlain};
+ghost use Rattle.wasm_c.specs.Stored.{parser_of, skipped_of};
+ghost use Rattle.wasm_c.specs.Texts.{Says, SaysFault};
+
+use crate::events::{PlainEvent, answer_event};
+use crate::stored::StoredParser;
+use crate::text::write_text;
+use bitflags::Flags;
+use wasm_parser::{Chunk, Parser, Result, WasmFeatures};
+
+/// A parser of a stream that begins at this offset, whose windows have these features.
+#[unsafe(no_mangle)]
+pub extern "C" fn pulleynavy_parser(offset: u64, features: u32) -> StoredParser
+    ensures { parser_of result ≡ initial_state offset features }
+{
+    let mut parser = Parser::new(offset);
+    parser.set_features(WasmFeatures::from_bits_retain(features));
+    StoredParser::of(&parser)
+}
+
+/// Reads what comes next in the stream of which these bytes are the rest, or with `is_all` false the beginning of the rest.
+#[unsafe(no_mangle)]
+pub extern "C" fn pulleynavy_parse(
+    stored: &mut StoredParser,
+    bytes: &[u8],
+    is_all: bool,
+) -> PlainEvent
+    ensures { ParsesPlain (parser_of stored.old) is_all bytes.now result (parser_of stored.new) }
+{
+    let mut parser = stored.parser();
+    let event = answer_event(parser.parse(bytes, is_all));
+    *stored = StoredParser::of(&parser);
+    event
+}
+
+/// Passes what is left of a code section, and answers how many bytes that is: the caller hands in the bytes after those
+/// next. Outside a code section it passes nothing, and answers 0.
+#[unsafe(no_mangle)]
+pub extern "C" fn pulleynavy_skip_section(stored: &mut StoredParser) -> u32
+    ensures { skipped_of (parser_of stored.old) ≡ (result, parser_of stored.new) }
+{
+    let mut parser = stored.parser();
+    match parser.skippable() {
+        Some(left) => {
+            parser.skip_section();
+            *stored = StoredParser::of(&parser);
+            left
+        }
+        None => 0,
+    }
+}
+
+/// The text of the fault that `pulleynavy_parse` answers with the same arguments, as far as there is room for it. Answers how
+/// long the text is, or 0 where there is no fault.
+#[unsafe(no_mangle)]
+pub extern "C" fn pulleynavy_fault_text(
+    stored: &StoredParser,
+    bytes: &[u8],
+    is_all: bool,
+    out: &mut [u8],
+) -> usize
+    ensures { SaysFault (parser_of stored.now) is_all bytes.now out.old result out.new }
+{
+    let mut parser = stored.parser();
+    write_fault(parser.parse(bytes, is_all), out)
+}
+
+fn write_fault(answer: Result<Chunk<'_>>, out: &mut [u8]) -> usize
+    ensures { Says answer.entry out.old result out.new }
+{
+    match answer {
+        Ok(_) => 0,
+        Err(error) => write_text(error.message().as_bytes(), out),
+    }
+}

@@ -1,0 +1,119 @@
+// Relocations as plain numbers.
+ghost use Rattle.std.specs.Prelude.{◌≡◌, []};
+ghost use Rattle.wasm_base.specs.FaultAt.{fault_at};
+ghost use Rattle.wasm_base.specs.Window.{place};
+ghost use Rattle.wasm_c.specs.Spans.{place_over, read_over};
+ghost use Rattle.std.specs.Prelude.{◌<◌};
+ghost use Rattle.wasm_custom.specs.Reloc.{extent_of, number_of, relocation_at};
+ghost use Rattle.wasm_c.specs.Relocations.{plain_relocation};
+
+use crate::faults::{NO_FAULT, PlainFault, plain_fault};
+use crate::spans::{distance, out_of_range, reader_over};
+use wasm_parser::{BinaryReader, Error, FromReader, RelocationEntry, RelocationType, fits};
+
+/// A relocation, or its fault.
+#[repr(C)]
+#[derive(Clone, Copy, Debug, PartialEq, Eq)]
+pub struct PlainRelocation {
+    /// The fault, whose kind is 0 where there is none.
+    pub fault: PlainFault,
+    /// How many bytes it takes.
+    pub consumed: u64,
+    /// The number of its type, from 0 to 26.
+    pub kind: u32,
+    /// How many bytes it fills in: 4, 5, 8 or 10.
+    pub extent: u32,
+    /// Where it fills them in, in bytes from the start of the content of its section.
+    pub offset: u32,
+    /// The index of its symbol, or of its type.
+    pub index: u32,
+    /// What is added to the value of the symbol, or 0.
+    pub addend: i64,
+}
+
+fn relocation_number(ty: RelocationType) -> u32
+    ensures { result ≡ number_of ty }
+{
+    match ty {
+        RelocationType::FunctionIndexLeb => 0,
+        RelocationType::TableIndexSleb => 1,
+        RelocationType::TableIndexI32 => 2,
+        RelocationType::MemoryAddrLeb => 3,
+        RelocationType::MemoryAddrSleb => 4,
+        RelocationType::MemoryAddrI32 => 5,
+        RelocationType::TypeIndexLeb => 6,
+        RelocationType::GlobalIndexLeb => 7,
+        RelocationType::FunctionOffsetI32 => 8,
+        RelocationType::SectionOffsetI32 => 9,
+        RelocationType::EventIndexLeb => 10,
+        RelocationType::MemoryAddrRelSleb => 11,
+        RelocationType::TableIndexRelSleb => 12,
+        RelocationType::GlobalIndexI32 => 13,
+        RelocationType::MemoryAddrLeb64 => 14,
+        RelocationType::MemoryAddrSleb64 => 15,
+        RelocationType::MemoryAddrI64 => 16,
+        RelocationType::MemoryAddrRelSleb64 => 17,
+        RelocationType::TableIndexSleb64 => 18,
+        RelocationType::TableIndexI64 => 19,
+        RelocationType::TableNumberLeb => 20,
+        RelocationType::MemoryAddrTlsSleb => 21,
+        RelocationType::FunctionOffsetI64 => 22,
+        RelocationType::MemoryAddrLocrelI32 => 23,
+        RelocationType::TableIndexRelSleb64 => 24,
+        RelocationType::MemoryAddrTlsSleb64 => 25,
+        RelocationType::FunctionIndexI32 => 26,
+    }
+}
+
+// How many bytes a relocation fills in.
+fn extent(ty: RelocationType) -> u32
+    ensures { result ≡ extent_of ty }
+{
+    u32::try_from(ty.extent()).unwrap_or(0)
+}
+
+fn refused_relocation(error: Error) -> PlainRelocation
+    ensures { result ≡ plain_relocation (place_over 0 0 []) (Err (fault_at error)) }
+{
+    PlainRelocation {
+        fault: plain_fault(error),
+        consumed: 0,
+        kind: 0,
+        extent: 0,
+        offset: 0,
+        index: 0,
+        addend: 0,
+    }
+}
+
+fn next_relocation(mut reader: BinaryReader<'_>) -> PlainRelocation
+    ensures { result ≡ plain_relocation (place reader.entry) (relocation_at (place reader.entry)) }
+{
+    let from = reader.original_position();
+    match RelocationEntry::from_reader(&mut reader) {
+        Ok(entry) => PlainRelocation {
+            fault: NO_FAULT,
+            consumed: distance(from, reader.original_position()),
+            kind: relocation_number(entry.ty),
+            extent: extent(entry.ty),
+            offset: entry.offset,
+            index: entry.index,
+            addend: entry.addend,
+        },
+        Err(error) => refused_relocation(error),
+    }
+}
+
+/// The relocation with which these bytes begin (tool conventions, Linking, Relocation Sections). A section of relocations begins with
+/// the index of the section that they are of and their count, which `pulleynavy_number` reads. The bytes are the rest of
+/// its section, and are at this offset of the whole stream.
+#[unsafe(no_mangle)]
+pub extern "C" fn pulleynavy_relocation(bytes: &[u8], offset: u64, features: u32) -> PlainRelocation
+    ensures { result ≡ plain_relocation (place_over features offset bytes.now)
+        (read_over relocation_at features offset bytes.now) }
+{
+    if !fits(offset, bytes.len()) {
+        return refused_relocation(out_of_range(offset));
+    }
+    next_relocation(reader_over(bytes, offset, features))
+}

@@ -1,0 +1,321 @@
+// Expressions and segments as plain numbers.
+ghost use Rattle.std.specs.Prelude.{◌≡◌, ◌-◌, [], length};
+ghost use Rattle.wasm_base.specs.FaultAt.{fault_at};
+ghost use Rattle.wasm_base.specs.Window.{place};
+ghost use Rattle.wasm_items.specs.Data.{data_at};
+ghost use Rattle.wasm_items.specs.Elements.{element_at};
+ghost use Rattle.wasm_items.specs.Init.{expression_at};
+ghost use Rattle.wasm_c.specs.Segments.{data_code, data_memory, data_offset, element_code, element_from, element_offset, element_table, elements_section, elements_type, has_expressions, plain_data, plain_element, plain_expression};
+ghost use Rattle.wasm_c.specs.Spans.{items_span, place_over, read_over};
+
+use crate::faults::{NO_FAULT, PlainFault, plain_fault};
+use crate::kinds::{expression_span, small_parts};
+use crate::spans::{NO_SPAN, PlainSpan, distance, items_span, out_of_range, reader_over};
+use crate::values::{PlainType, SIMPLE, plain_ref};
+use wasm_parser::{
+    BinaryReader, ConstExpr, Data, DataKind, Element, ElementItems, ElementKind, Error, FromReader,
+    RefType, fits,
+};
+
+/// A constant expression, or its fault.
+#[repr(C)]
+#[derive(Clone, Copy, Debug, PartialEq, Eq)]
+pub struct PlainExpression {
+    /// The fault, whose kind is 0 where there is none.
+    pub fault: PlainFault,
+    /// How many bytes it takes, its end among them.
+    pub consumed: u64,
+}
+
+/// An element segment, or its fault.
+#[repr(C)]
+#[derive(Clone, Copy, Debug, PartialEq, Eq)]
+pub struct PlainElement {
+    /// The fault, whose kind is 0 where there is none.
+    pub fault: PlainFault,
+    /// How many bytes it takes.
+    pub consumed: u64,
+    /// 0 a passive segment, 1 an active one, 2 a declared one.
+    pub kind: u32,
+    /// 1 if the index of a table is written, or 0.
+    pub has_table: u32,
+    /// The index of the table, or 0.
+    pub table: u32,
+    /// 0 where the elements are indices of functions, 1 where they are expressions.
+    pub has_expressions: u32,
+    /// The expression of an active segment's offset, with its end.
+    pub offset_expression: PlainSpan,
+    /// The type of the elements.
+    pub ty: PlainType,
+    /// The elements, after their count.
+    pub items: PlainSpan,
+    /// How many elements there are.
+    pub count: u32,
+}
+
+/// A data segment, or its fault.
+#[repr(C)]
+#[derive(Clone, Copy, Debug, PartialEq, Eq)]
+pub struct PlainData {
+    /// The fault, whose kind is 0 where there is none.
+    pub fault: PlainFault,
+    /// How many bytes it takes.
+    pub consumed: u64,
+    /// 0 a passive segment, 1 an active one.
+    pub kind: u32,
+    /// The index of an active segment's memory, or 0.
+    pub memory: u32,
+    /// The expression of an active segment's offset, with its end.
+    pub offset_expression: PlainSpan,
+    /// Its bytes.
+    pub bytes: PlainSpan,
+}
+
+fn refused_expression(error: Error) -> PlainExpression
+    ensures { result ≡ plain_expression (place_over 0 0 []) (Err (fault_at error)) }
+{
+    PlainExpression {
+        fault: plain_fault(error),
+        consumed: 0,
+    }
+}
+
+fn next_expression(mut reader: BinaryReader<'_>) -> PlainExpression
+    ensures { result ≡ plain_expression (place reader.entry) (expression_at (place reader.entry)) }
+{
+    let from = reader.original_position();
+    match ConstExpr::from_reader(&mut reader) {
+        Ok(_) => PlainExpression {
+            fault: NO_FAULT,
+            consumed: distance(from, reader.original_position()),
+        },
+        Err(error) => refused_expression(error),
+    }
+}
+
+/// The constant expression with which these bytes begin (core specification, Binary format, Instructions, Expressions): an element
+/// of a segment, for one. The bytes are the rest of
+/// its section, and are at this offset of the whole stream.
+#[unsafe(no_mangle)]
+pub extern "C" fn pulleynavy_expression(bytes: &[u8], offset: u64, features: u32) -> PlainExpression
+    ensures { result ≡ plain_expression (place_over features offset bytes.now)
+        (read_over expression_at features offset bytes.now) }
+{
+    if !fits(offset, bytes.len()) {
+        return refused_expression(out_of_range(offset));
+    }
+    next_expression(reader_over(bytes, offset, features))
+}
+
+fn refused_element(error: Error) -> PlainElement
+    ensures { result ≡ plain_element (place_over 0 0 []) (Err (fault_at error)) }
+{
+    PlainElement {
+        fault: plain_fault(error),
+        consumed: 0,
+        kind: 0,
+        has_table: 0,
+        table: 0,
+        has_expressions: 0,
+        offset_expression: NO_SPAN,
+        ty: SIMPLE,
+        items: NO_SPAN,
+        count: 0,
+    }
+}
+
+fn element_code(kind: &ElementKind) -> u32
+    ensures { result ≡ element_code kind.now }
+{
+    match kind {
+        ElementKind::Passive => 0,
+        ElementKind::Active { .. } => 1,
+        ElementKind::Declared => 2,
+    }
+}
+
+// The table of an active segment, where it is written.
+fn element_table(kind: &ElementKind) -> Option<u32>
+    ensures { result ≡ element_table kind.now }
+{
+    match kind {
+        ElementKind::Active { table_index, .. } => *table_index,
+        ElementKind::Passive | ElementKind::Declared => None,
+    }
+}
+
+// The expression of an active segment's offset.
+fn element_offset(from: u64, kind: &ElementKind) -> PlainSpan
+    ensures { result ≡ element_offset from kind.now }
+{
+    match kind {
+        ElementKind::Active { offset_expr, .. } => expression_span(from, offset_expr),
+        ElementKind::Passive | ElementKind::Declared => NO_SPAN,
+    }
+}
+
+fn has_expressions(items: &ElementItems) -> u32
+    ensures { result ≡ has_expressions items.now }
+{
+    match items {
+        ElementItems::Functions(_) => 0,
+        ElementItems::Expressions(..) => 1,
+    }
+}
+
+// The type of the elements.
+fn elements_type(items: &ElementItems) -> RefType
+    ensures { result ≡ elements_type items.now }
+{
+    match items {
+        ElementItems::Functions(_) => RefType::FUNCREF,
+        ElementItems::Expressions(ty, _) => *ty,
+    }
+}
+
+// Where the elements are.
+fn elements_span(from: u64, items: &ElementItems) -> PlainSpan
+    ensures { result ≡ items_span from (elements_section items.now) }
+{
+    match items {
+        ElementItems::Functions(indices) => items_span(from, indices),
+        ElementItems::Expressions(_, expressions) => items_span(from, expressions),
+    }
+}
+
+fn elements_count(items: &ElementItems) -> u32
+    ensures { result ≡ (elements_section items.now).count }
+{
+    match items {
+        ElementItems::Functions(indices) => indices.count(),
+        ElementItems::Expressions(_, expressions) => expressions.count(),
+    }
+}
+
+// A segment, which takes so many bytes from this offset on.
+fn whole_element(from: u64, consumed: u64, element: &Element) -> PlainElement
+    ensures { result ≡ element_from from consumed element.now }
+{
+    let (has_table, table) = small_parts(element_table(&element.kind));
+    PlainElement {
+        fault: NO_FAULT,
+        consumed,
+        kind: element_code(&element.kind),
+        has_table,
+        table,
+        has_expressions: has_expressions(&element.items),
+        offset_expression: element_offset(from, &element.kind),
+        ty: plain_ref(elements_type(&element.items)),
+        items: elements_span(from, &element.items),
+        count: elements_count(&element.items),
+    }
+}
+
+fn next_element(mut reader: BinaryReader<'_>) -> PlainElement
+    ensures { result ≡ plain_element (place reader.entry) (element_at (place reader.entry)) }
+{
+    let from = reader.original_position();
+    match Element::from_reader(&mut reader) {
+        Ok(element) => whole_element(from, distance(from, reader.original_position()), &element),
+        Err(error) => refused_element(error),
+    }
+}
+
+/// The element segment with which these bytes begin (core specification, Binary format, Modules, Element Section). Its elements
+/// are read by `pulleynavy_number` or `pulleynavy_expression`, and have no fault. The bytes are the rest of
+/// its section, and are at this offset of the whole stream.
+#[unsafe(no_mangle)]
+pub extern "C" fn pulleynavy_element(bytes: &[u8], offset: u64, features: u32) -> PlainElement
+    ensures { result ≡ plain_element (place_over features offset bytes.now)
+        (read_over element_at features offset bytes.now) }
+{
+    if !fits(offset, bytes.len()) {
+        return refused_element(out_of_range(offset));
+    }
+    next_element(reader_over(bytes, offset, features))
+}
+
+fn refused_data(error: Error) -> PlainData
+    ensures { result ≡ plain_data (place_over 0 0 []) (Err (fault_at error)) }
+{
+    PlainData {
+        fault: plain_fault(error),
+        consumed: 0,
+        kind: 0,
+        memory: 0,
+        offset_expression: NO_SPAN,
+        bytes: NO_SPAN,
+    }
+}
+
+fn data_code(kind: &DataKind) -> u32
+    ensures { result ≡ data_code kind.now }
+{
+    match kind {
+        DataKind::Passive => 0,
+        DataKind::Active { .. } => 1,
+    }
+}
+
+fn data_memory(kind: &DataKind) -> u32
+    ensures { result ≡ data_memory kind.now }
+{
+    match kind {
+        DataKind::Passive => 0,
+        DataKind::Active { memory_index, .. } => *memory_index,
+    }
+}
+
+// The expression of an active segment's offset.
+fn data_offset(from: u64, kind: &DataKind) -> PlainSpan
+    ensures { result ≡ data_offset from kind.now }
+{
+    match kind {
+        DataKind::Passive => NO_SPAN,
+        DataKind::Active { offset_expr, .. } => expression_span(from, offset_expr),
+    }
+}
+
+// The bytes of a segment, which come last.
+fn data_bytes(segment: &Data) -> PlainSpan
+    ensures at { result.at ≡ segment.now.range.end - segment.now.range.start
+        - length segment.now.bytes.now }
+    ensures size { result.size ≡ length segment.now.bytes.now }
+{
+    let size = segment.bytes.len() as u64;
+    let whole = distance(segment.range.start, segment.range.end);
+    PlainSpan {
+        at: distance(size, whole),
+        size,
+    }
+}
+
+fn next_data(mut reader: BinaryReader<'_>) -> PlainData
+    ensures { result ≡ plain_data (place reader.entry) (data_at (place reader.entry)) }
+{
+    let from = reader.original_position();
+    match Data::from_reader(&mut reader) {
+        Ok(segment) => PlainData {
+            fault: NO_FAULT,
+            consumed: distance(from, reader.original_position()),
+            kind: data_code(&segment.kind),
+            memory: data_memory(&segment.kind),
+            offset_expression: data_offset(from, &segment.kind),
+            bytes: data_bytes(&segment),
+        },
+        Err(error) => refused_data(error),
+    }
+}
+
+/// The data segment with which these bytes begin (core specification, Binary format, Modules, Data Section). The bytes are the rest of
+/// its section, and are at this offset of the whole stream.
+#[unsafe(no_mangle)]
+pub extern "C" fn pulleynavy_data(bytes: &[u8], offset: u64, features: u32) -> PlainData
+    ensures { result ≡ plain_data (place_over features offset bytes.now)
+        (read_over data_at features offset bytes.now) }
+{
+    if !fits(offset, bytes.len()) {
+        return refused_data(out_of_range(offset));
+    }
+    next_data(reader_over(bytes, offset, features))
+}

@@ -1,0 +1,131 @@
+// Places in the caller's bytes.
+ghost use Rattle.std.specs.Prelude.{◌≡◌, ◌+◌, ◌-◌, ◌<◌, ◌^◌, Some, None, length};
+ghost use Rattle.wasm_base.specs.FaultAt.{at_offset, fault_at};
+ghost use Rattle.wasm_base.specs.Number.{unsigned_at};
+ghost use Rattle.wasm_base.specs.declared.fault.NumberKind.TheVariants.{VarU32};
+ghost use Rattle.wasm_base.specs.Window.{place, window_over};
+ghost use Rattle.wasm_base.specs.Name.{name_limit, text_at};
+ghost use Rattle.wasm_c.specs.Spans.{flag, items_span, text_after, text_span, window_span};
+ghost use Rattle.wasm_base.specs.declared.fault.Fault.TheVariants.{OffsetRange};
+
+use bitflags::Flags;
+use wasm_parser::{BinaryReader, Error, Fault, SectionLimited, WasmFeatures};
+
+/// A run of the bytes that a call was given.
+#[repr(C)]
+#[derive(Clone, Copy, Debug, PartialEq, Eq)]
+pub struct PlainSpan {
+    /// Where it begins, in bytes from the first of those that were given.
+    pub at: u64,
+    /// How many bytes it has.
+    pub size: u64,
+}
+
+/// No bytes.
+pub(crate) const NO_SPAN: PlainSpan = PlainSpan { at: 0, size: 0 };
+
+/// A reader of these bytes, which are at this offset of the stream.
+pub(crate) fn reader_over<'a>(bytes: &'a [u8], offset: u64, features: u32) -> BinaryReader<'a>
+    requires { offset + length bytes.now < 2 ^ 64 }
+    ensures { result ≡ window_over features offset bytes.now }
+{
+    BinaryReader::new_features(bytes, offset, WasmFeatures::from_bits_retain(features))
+}
+
+/// That bytes at this offset pass the greatest offset of a stream.
+pub(crate) fn out_of_range(offset: u64) -> Error
+    ensures { fault_at result ≡ at_offset OffsetRange offset }
+{
+    Error::new(Fault::OffsetRange, offset)
+}
+
+/// How many bytes there are from one offset to another, which isn't before it.
+pub(crate) fn distance(from: u64, to: u64) -> u64
+    ensures { result ≡ to - from }
+{
+    to.saturating_sub(from)
+}
+
+/// 1 for what holds.
+pub(crate) fn flag(holds: bool) -> u32
+    ensures { result ≡ flag holds }
+{
+    if holds { 1 } else { 0 }
+}
+
+/// Where a text of so many bytes is, from this offset on: after its size, with which the reader begins.
+pub(crate) fn text_span(from: u64, mut reader: BinaryReader<'_>, size: usize) -> PlainSpan
+    ensures { result ≡ text_span from (place reader.entry) size }
+{
+    let at = match reader.read_var_u32() {
+        Ok(_) => distance(from, reader.original_position()),
+        Err(_) => 0,
+    };
+    PlainSpan {
+        at,
+        size: size as u64,
+    }
+}
+
+/// The same of the text after the name with which the reader begins.
+pub(crate) fn text_after_name(from: u64, mut reader: BinaryReader<'_>, size: usize) -> PlainSpan
+    ensures { result ≡ text_after from size (text_at (Some name_limit) (place reader.entry)) }
+{
+    match reader.read_string() {
+        Ok(_) => text_span(from, reader, size),
+        Err(_) => unknown_span(size),
+    }
+}
+
+/// The same after a text of any size.
+pub(crate) fn text_after_text(from: u64, mut reader: BinaryReader<'_>, size: usize) -> PlainSpan
+    ensures { result ≡ text_after from size (text_at None (place reader.entry)) }
+{
+    match reader.read_unlimited_string() {
+        Ok(_) => text_span(from, reader, size),
+        Err(_) => unknown_span(size),
+    }
+}
+
+/// The same after a number.
+pub(crate) fn text_after_number(from: u64, mut reader: BinaryReader<'_>, size: usize) -> PlainSpan
+    ensures { result ≡ text_after from size (unsigned_at VarU32 (place reader.entry)) }
+{
+    match reader.read_var_u32() {
+        Ok(_) => text_span(from, reader, size),
+        Err(_) => unknown_span(size),
+    }
+}
+
+// A text whose place isn't known.
+fn unknown_span(size: usize) -> PlainSpan
+    ensures at { result.at ≡ 0 }
+    ensures size { result.size ≡ size }
+{
+    PlainSpan {
+        at: 0,
+        size: size as u64,
+    }
+}
+
+/// Where the window of a reader is, from this offset on.
+pub(crate) fn window_span(from: u64, window: &BinaryReader<'_>) -> PlainSpan
+    ensures { result ≡ window_span from window.now }
+{
+    let range = window.range();
+    PlainSpan {
+        at: distance(from, range.start),
+        size: distance(range.start, range.end),
+    }
+}
+
+/// Where the items of a section are, from this offset on.
+pub(crate) fn items_span<T>(from: u64, section: &SectionLimited<'_, T>) -> PlainSpan
+    ensures { result ≡ items_span from section.now }
+{
+    let begin = section.original_position();
+    PlainSpan {
+        at: distance(from, begin),
+        size: distance(begin, section.range().end),
+    }
+}

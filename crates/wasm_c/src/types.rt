@@ -1,0 +1,250 @@
+// The beginnings of groups of types and of subtypes.
+ghost use Rattle.std.specs.Prelude.{◌≡◌, []};
+ghost use Rattle.wasm_base.specs.FaultAt.{fault_at};
+ghost use Rattle.wasm_base.specs.Window.{place};
+ghost use Rattle.wasm_c.specs.Spans.{place_over, read_over};
+ghost use Rattle.std.specs.Prelude.{Option};
+ghost use Rattle.wasm_base.specs.Hints.{TakesNoMemory};
+ghost use Rattle.wasm_base.specs.Outcome.{GivesBy};
+ghost use Rattle.wasm_base.specs.Window.{KeepsWindow};
+ghost use Rattle.wasm_items.specs.RecGroups.{supertypes_at};
+ghost use Rattle.wasm_c.specs.TypeHeads.{composite_head_at, extending_head_at, group_head_at, plain_subtype, plain_type_group, subtype_head_at};
+ghost use Rattle.wasm_c.specs.TypeParts.{composite_parts, group_parts, subtype_parts};
+
+use crate::faults::{NO_FAULT, PlainFault, plain_fault};
+use crate::kinds::small_parts;
+use crate::spans::{distance, flag, out_of_range, reader_over};
+use wasm_base::leading_byte_error;
+use wasm_parser::{BinaryReader, Error, Fault, Lead, Result, fits};
+
+/// The beginning of a group of types, or its fault.
+#[repr(C)]
+#[derive(Clone, Copy, Debug, PartialEq, Eq)]
+pub struct PlainTypeGroup {
+    /// The fault, whose kind is 0 where there is none.
+    pub fault: PlainFault,
+    /// How many bytes it takes.
+    pub consumed: u64,
+    /// 1 if the group is written as one, or 0 for a single type.
+    pub is_explicit: u32,
+    /// How many subtypes come after it.
+    pub count: u32,
+}
+
+/// The beginning of a subtype, or its fault.
+#[repr(C)]
+#[derive(Clone, Copy, Debug, PartialEq, Eq)]
+pub struct PlainSubtype {
+    /// The fault, whose kind is 0 where there is none.
+    pub fault: PlainFault,
+    /// How many bytes it takes.
+    pub consumed: u64,
+    /// 1 if no type may extend it, or 0.
+    pub is_final: u32,
+    /// 1 if it extends a type, or 0.
+    pub has_supertype: u32,
+    /// The index of that type, or 0.
+    pub supertype: u32,
+    /// 0 for functions, 1 for arrays, 2 for structures.
+    pub kind: u32,
+    /// How many parameters or fields come after it.
+    pub count: u32,
+}
+
+#[derive(Clone, Copy)]
+struct GroupParts {
+    explicit: bool,
+    count: u32,
+}
+
+#[derive(Clone, Copy)]
+struct CompositeParts {
+    kind: u32,
+    count: u32,
+}
+
+#[derive(Clone, Copy)]
+struct SubtypeParts {
+    is_final: bool,
+    supertype: Option<u32>,
+    composite: CompositeParts,
+}
+
+// The beginning of a group.
+#[tactic(auto, unfolding(crate::specs::TypeHeads::group_head_at))]
+fn read_group(reader: &mut BinaryReader<'_>) -> Result<GroupParts>
+    ensures gives { GivesBy group_parts result reader.old reader.new group_head_at }
+    ensures keeps { KeepsWindow reader.old reader.new }
+{
+    if reader.peek()? != 0x4e {
+        return Ok(GroupParts {
+            explicit: false,
+            count: 1,
+        });
+    }
+    reader.read_u8()?;
+    Ok(GroupParts {
+        explicit: true,
+        count: reader.read_var_u32()?,
+    })
+}
+
+// The beginning of a composite type.
+#[tactic(auto, unfolding(crate::specs::TypeHeads::composite_head_at))]
+fn read_composite(reader: &mut BinaryReader<'_>) -> Result<CompositeParts>
+    ensures gives { GivesBy composite_parts result reader.old reader.new composite_head_at }
+    ensures keeps { KeepsWindow reader.old reader.new }
+{
+    let start = reader.original_position();
+    match reader.read_u8()? {
+        0x60 => Ok(CompositeParts {
+            kind: 0,
+            count: reader.read_var_u32()?,
+        }),
+        0x5f => Ok(CompositeParts {
+            kind: 2,
+            count: reader.read_var_u32()?,
+        }),
+        0x5e => Ok(CompositeParts { kind: 1, count: 1 }),
+        byte => Err(leading_byte_error(Lead::Composite, byte, start)),
+    }
+}
+
+// The supertypes of a subtype, of which there is one at most.
+#[tactic(auto, unfolding(wasm_items::specs::RecGroups::supertypes_at))]
+fn read_supertype(reader: &mut BinaryReader<'_>) -> Result<Option<u32>>
+    ensures gives { GivesBy (λ supertype. supertype) result reader.old reader.new supertypes_at }
+    ensures keeps { KeepsWindow reader.old reader.new }
+{
+    let start = reader.original_position();
+    match reader.read_var_u32()? {
+        0 => Ok(None),
+        1 => Ok(Some(reader.read_var_u32()?)),
+        _ => Err(Error::new(Fault::Supertypes, start)),
+    }
+}
+
+// The beginning of a subtype after its first byte.
+#[tactic(auto, unfolding(crate::specs::TypeHeads::extending_head_at))]
+fn read_extending(is_final: bool, reader: &mut BinaryReader<'_>) -> Result<SubtypeParts>
+    ensures gives { GivesBy subtype_parts result reader.old reader.new (extending_head_at is_final) }
+    ensures keeps { KeepsWindow reader.old reader.new }
+{
+    let supertype = read_supertype(reader)?;
+    let composite = read_composite(reader)?;
+    Ok(SubtypeParts {
+        is_final,
+        supertype,
+        composite,
+    })
+}
+
+// The beginning of a subtype.
+#[tactic(auto, unfolding(crate::specs::TypeHeads::subtype_head_at))]
+fn read_subtype(reader: &mut BinaryReader<'_>) -> Result<SubtypeParts>
+    ensures gives { GivesBy subtype_parts result reader.old reader.new subtype_head_at }
+    ensures keeps { KeepsWindow reader.old reader.new }
+{
+    match reader.peek()? {
+        0x50 => {
+            reader.read_u8()?;
+            read_extending(false, reader)
+        }
+        0x4f => {
+            reader.read_u8()?;
+            read_extending(true, reader)
+        }
+        _ => Ok(SubtypeParts {
+            is_final: true,
+            supertype: None,
+            composite: read_composite(reader)?,
+        }),
+    }
+}
+
+fn refused_type_group(error: Error) -> PlainTypeGroup
+    ensures { result ≡ plain_type_group (place_over 0 0 []) (Err (fault_at error)) }
+{
+    PlainTypeGroup {
+        fault: plain_fault(error),
+        consumed: 0,
+        is_explicit: 0,
+        count: 0,
+    }
+}
+
+fn next_type_group(mut reader: BinaryReader<'_>) -> PlainTypeGroup
+    ensures { result ≡ plain_type_group (place reader.entry) (group_head_at (place reader.entry)) }
+{
+    let from = reader.original_position();
+    match read_group(&mut reader) {
+        Ok(group) => PlainTypeGroup {
+            fault: NO_FAULT,
+            consumed: distance(from, reader.original_position()),
+            is_explicit: flag(group.explicit),
+            count: group.count,
+        },
+        Err(error) => refused_type_group(error),
+    }
+}
+
+/// The beginning of the group of types with which these bytes begin (core specification, Binary format, Types, Recursive Types; Modules,
+/// Type Section). After it come its subtypes, each by `pulleynavy_subtype`. The bytes are the rest of
+/// its section, and are at this offset of the whole stream.
+#[unsafe(no_mangle)]
+pub extern "C" fn pulleynavy_type_group(bytes: &[u8], offset: u64, features: u32) -> PlainTypeGroup
+    ensures { result ≡ plain_type_group (place_over features offset bytes.now)
+        (read_over group_head_at features offset bytes.now) }
+{
+    if !fits(offset, bytes.len()) {
+        return refused_type_group(out_of_range(offset));
+    }
+    next_type_group(reader_over(bytes, offset, features))
+}
+
+fn refused_subtype(error: Error) -> PlainSubtype
+    ensures { result ≡ plain_subtype (place_over 0 0 []) (Err (fault_at error)) }
+{
+    PlainSubtype {
+        fault: plain_fault(error),
+        consumed: 0,
+        is_final: 0,
+        has_supertype: 0,
+        supertype: 0,
+        kind: 0,
+        count: 0,
+    }
+}
+
+fn next_subtype(mut reader: BinaryReader<'_>) -> PlainSubtype
+    ensures { result ≡ plain_subtype (place reader.entry) (subtype_head_at (place reader.entry)) }
+{
+    let from = reader.original_position();
+    match read_subtype(&mut reader) {
+        Ok(subtype) => PlainSubtype {
+            fault: NO_FAULT,
+            consumed: distance(from, reader.original_position()),
+            is_final: flag(subtype.is_final),
+            has_supertype: small_parts(subtype.supertype).0,
+            supertype: small_parts(subtype.supertype).1,
+            kind: subtype.composite.kind,
+            count: subtype.composite.count,
+        },
+        Err(error) => refused_subtype(error),
+    }
+}
+
+/// The beginning of the subtype with which these bytes begin (core specification, Binary format, Types, Recursive Types and Composite
+/// Types). After it come so many parameters, each by `pulleynavy_value_type`, then a count of results, by `pulleynavy_number`, and so many
+/// results; or so many fields, each by `pulleynavy_field_type`. The bytes are the rest of
+/// its section, and are at this offset of the whole stream.
+#[unsafe(no_mangle)]
+pub extern "C" fn pulleynavy_subtype(bytes: &[u8], offset: u64, features: u32) -> PlainSubtype
+    ensures { result ≡ plain_subtype (place_over features offset bytes.now)
+        (read_over subtype_head_at features offset bytes.now) }
+{
+    if !fits(offset, bytes.len()) {
+        return refused_subtype(out_of_range(offset));
+    }
+    next_subtype(reader_over(bytes, offset, features))
+}

@@ -1,0 +1,15 @@
+use Rattle.std.proofs.Common.{◌≡◌, true, ℕ, List, ◌++◌, length}
+use Rattle.wasm_feed.specs.Cursors.{feed_of}
+use Rattle.wasm_feed.specs.Strips.{HasKept}
+use Rattle.wasm_feed.proofs.stripping.copy_kept.Given as goal
+
+-- what is left of the parts that came was put after the bytes
+abbrev pub invariant-parts : goal.invariant-parts
+invariant-parts g l = record {
+  comes : (more : List ℕ) × HasKept l.fn.keep_names l.fn.bytes (feed_of l.fn.bytes l.cursor) more
+      × (l.kept.items ≡ l.fn.kept.items ++ more);
+  finished : l.cursor.is_finished ≡ true;
+}
+
+abbrev pub decreases-parts : goal.decreases-parts
+decreases-parts g l = length (feed_of l.fn.bytes l.cursor).held

@@ -1,0 +1,117 @@
+// The instructions of constant expressions.
+ghost use Rattle.std.specs.Iterator.{at_most};
+ghost use Rattle.std.specs.Prelude.{◌≡◌, length};
+ghost use Rattle.wasm_base.specs.Hints.{TakesNoMemory};
+ghost use Rattle.wasm_base.specs.Outcome.{GivesBy};
+ghost use Rattle.wasm_base.specs.Window.{place, KeepsWindow};
+ghost use Rattle.wasm_items.specs.Instructions.{NextInstruction, instruction_at, instructions_in, is_end, is_last, operator_at};
+ghost use Rattle.wasm_items.specs.Windows.{expression_window};
+
+use crate::init::{ConstExpr, ConstOperator, read_operands};
+use std::marker::Model;
+use wasm_base::{BinaryReader, Result};
+
+/// An instruction of a constant expression (core specification, Binary format, Instructions).
+#[derive(Clone, Copy, Debug, PartialEq, Eq)]
+pub struct ConstInstruction {
+    /// The offset of its opcode in the whole stream, in bytes.
+    pub offset: u64,
+    /// Its operator, with its operands.
+    pub operator: ConstOperator,
+}
+
+/// The instructions of a constant expression in order, the end among them, up to it or the first fault.
+///
+/// Those of an expression that was read have no fault. One that was made of other bytes ends at the first `NotConstant`, at
+/// the offset of that instruction, or at another fault of an operand; bytes after the end are not looked at.
+#[derive(Drop)]
+pub struct ConstInstructions<'a> {
+    reader: BinaryReader<'a>,
+    ended: bool,
+}
+
+impl<'a> Model for ConstInstructions<'a> {
+    ghost use Rattle.std.specs.Prelude.{List, Result};
+    ghost use Rattle.wasm_base.specs.FaultAt.{FaultAt};
+    ghost use Rattle.wasm_base.specs.Window.{place};
+    ghost use Rattle.wasm_items.specs.Instructions.{instructions_to_come};
+    ghost use Rattle.wasm_items.specs.declared.instructions.ConstInstruction.{ConstInstruction};
+
+    ghost Value = { List (Result ConstInstruction FaultAt) };
+
+    ghost view = { λ s. instructions_to_come s.ended (place s.reader) };
+}
+
+impl<'a> ConstExpr<'a> {
+    /// The instructions of the expression, in order.
+    pub fn instructions(&self) -> ConstInstructions<'a>
+        ensures { result ≡ instructions_in (place (expression_window self.now)) }
+    {
+        ConstInstructions {
+            reader: self.get_binary_reader(),
+            ended: false,
+        }
+    }
+}
+
+// Whether an operator is the end.
+fn ends(operator: &ConstOperator) -> bool
+    ensures { result ≡ is_end operator.now }
+{
+    match operator {
+        ConstOperator::End => true,
+        _ => false,
+    }
+}
+
+// Whether nothing comes after what was read.
+fn ends_with(read: &Result<ConstInstruction>) -> bool
+    ensures { result ≡ is_last read.now }
+{
+    match read {
+        Ok(instruction) => ends(&instruction.operator),
+        Err(_) => true,
+    }
+}
+
+// Reads what comes after the opcode of an instruction, which begins at this offset.
+fn read_operator(start: u64, opcode: u8, reader: &mut BinaryReader<'_>) -> Result<ConstOperator>
+    ensures gives { GivesBy (λ operator. operator) result reader.old reader.new
+        (operator_at start opcode) }
+    ensures keeps { KeepsWindow reader.old reader.new }
+    ensures memory { TakesNoMemory result }
+{
+    if opcode == 0x0b {
+        return Ok(ConstOperator::End);
+    }
+    read_operands(start, opcode, reader)
+}
+
+// Reads an instruction.
+#[tactic(auto, unfolding(crate::specs::Instructions::instruction_at))]
+fn read_instruction(reader: &mut BinaryReader<'_>) -> Result<ConstInstruction>
+    ensures gives { GivesBy (λ instruction. instruction) result reader.old reader.new instruction_at }
+    ensures memory { TakesNoMemory result }
+{
+    let offset = reader.original_position();
+    let opcode = reader.read_u8()?;
+    let operator = read_operator(offset, opcode, reader)?;
+    Ok(ConstInstruction { offset, operator })
+}
+
+impl<'a> Iterator for ConstInstructions<'a> {
+    type Item = Result<ConstInstruction>;
+
+    ghost next_gives = { NextInstruction };
+
+    ghost remaining = { λ instructions. at_most (length instructions) };
+
+    fn next(&mut self) -> Option<Result<ConstInstruction>> {
+        if self.ended {
+            return None;
+        }
+        let read = read_instruction(&mut self.reader);
+        self.ended = ends_with(&read);
+        Some(read)
+    }
+}

@@ -1,0 +1,132 @@
+// Texts of constant expressions, by the names of the text format.
+ghost use Rattle.wasm_show.specs.Tree.{Adds};
+
+use crate::show::{Show, Text};
+use crate::tree::Tree;
+use wasm_feed::Sink;
+use wasm_items::{ConstExpr, ConstInstruction, ConstOperator};
+use wasm_parser::Result;
+
+// The name of an operator.
+fn operator_word(operator: &ConstOperator) -> &'static str {
+    match operator {
+        ConstOperator::End => "end",
+        ConstOperator::GlobalGet { .. } => "global.get",
+        ConstOperator::I32Const { .. } => "i32.const",
+        ConstOperator::I64Const { .. } => "i64.const",
+        ConstOperator::F32Const { .. } => "f32.const",
+        ConstOperator::F64Const { .. } => "f64.const",
+        ConstOperator::V128Const { .. } => "v128.const",
+        ConstOperator::I32Add => "i32.add",
+        ConstOperator::I32Sub => "i32.sub",
+        ConstOperator::I32Mul => "i32.mul",
+        ConstOperator::I64Add => "i64.add",
+        ConstOperator::I64Sub => "i64.sub",
+        ConstOperator::I64Mul => "i64.mul",
+        ConstOperator::RefNull { .. } => "ref.null",
+        ConstOperator::RefFunc { .. } => "ref.func",
+        ConstOperator::StructNew { .. } => "struct.new",
+        ConstOperator::StructNewDefault { .. } => "struct.new_default",
+        ConstOperator::ArrayNew { .. } => "array.new",
+        ConstOperator::ArrayNewDefault { .. } => "array.new_default",
+        ConstOperator::ArrayNewFixed { .. } => "array.new_fixed",
+        ConstOperator::AnyConvertExtern => "any.convert_extern",
+        ConstOperator::ExternConvertAny => "extern.convert_any",
+        ConstOperator::RefI31 => "ref.i31",
+    }
+}
+
+// Writes a blank and what an operand is.
+fn write_operand<T: Text, W: Sink>(operand: &T, out: &mut Tree<W>)
+    ensures { Adds out.old out.new }
+{
+    out.text(" ");
+    operand.text(out);
+}
+
+// Writes the operands of an operator, each after a blank.
+fn write_operands<W: Sink>(operator: &ConstOperator, out: &mut Tree<W>)
+    ensures { Adds out.old out.new }
+{
+    match operator {
+        ConstOperator::GlobalGet { global_index } => write_operand(global_index, out),
+        ConstOperator::I32Const { value } => write_operand(&i64::from(*value), out),
+        ConstOperator::I64Const { value } => write_operand(value, out),
+        ConstOperator::F32Const { value } => out.number("bits", u64::from(value.bits())),
+        ConstOperator::F64Const { value } => out.number("bits", value.bits()),
+        ConstOperator::V128Const { value } => {
+            out.text(" ");
+            out.hexadecimals(value.bytes());
+        }
+        ConstOperator::RefNull { hty } => write_operand(hty, out),
+        ConstOperator::RefFunc { function_index } => write_operand(function_index, out),
+        ConstOperator::StructNew { struct_type_index }
+        | ConstOperator::StructNewDefault { struct_type_index } => {
+            write_operand(struct_type_index, out);
+        }
+        ConstOperator::ArrayNew { array_type_index }
+        | ConstOperator::ArrayNewDefault { array_type_index } => {
+            write_operand(array_type_index, out);
+        }
+        ConstOperator::ArrayNewFixed {
+            array_type_index,
+            array_size,
+        } => {
+            write_operand(array_type_index, out);
+            write_operand(array_size, out);
+        }
+        _ => {}
+    }
+}
+
+// Writes an instruction, or the fault in its place, in parentheses, and before it a blank, unless it is the first one.
+fn write_instruction<W: Sink>(is_first: bool, read: &Result<ConstInstruction>, out: &mut Tree<W>)
+    ensures { Adds out.old out.new }
+{
+    out.text(if is_first { "(" } else { " (" });
+    match read {
+        Ok(instruction) => {
+            out.text(operator_word(&instruction.operator));
+            write_operands(&instruction.operator, out);
+        }
+        Err(error) => out.fault_text(error),
+    }
+    out.text(")");
+}
+
+// Whether what was read is the end of an expression.
+fn is_end(read: &Result<ConstInstruction>) -> bool {
+    match read {
+        Ok(instruction) => matches!(&instruction.operator, ConstOperator::End),
+        Err(_) => false,
+    }
+}
+
+/// Writes an expression as a field: its instructions without the end, each in parentheses, with a blank between two. One that
+/// has no other is `()`.
+pub(crate) fn show_expr<W: Sink>(name: &str, expr: &ConstExpr<'_>, out: &mut Tree<W>)
+    ensures { Adds out.old out.new }
+{
+    out.field(name);
+    let mut instructions = expr.instructions();
+    let mut is_first = true;
+    for _ in 0..u64::MAX {
+        let Some(read) = instructions.next() else {
+            break;
+        };
+        if is_end(&read) {
+            break;
+        }
+        write_instruction(is_first, &read, out);
+        is_first = false;
+    }
+    if is_first {
+        out.text("()");
+    }
+}
+
+impl Show for ConstExpr<'_> {
+    fn show<W: Sink>(&self, _level: usize, out: &mut Tree<W>) {
+        show_expr("expr", self, out);
+    }
+}

@@ -1,0 +1,63 @@
+// The line of an event: its text in a listing, and then the name of the section.
+ghost use Rattle.std.specs.Prelude.{◌≡◌, ◌≤◌, ◌++◌, IfSome, length, option_map};
+ghost use Rattle.wasm_grammar.specs.Ids.{name_of};
+ghost use Rattle.wasm_parser.specs.ParseAnswer.{report_of};
+ghost use Rattle.wasm_show.specs.Chosen.{after_blank, counted_name as name_counted, shown_line as line_shown};
+
+use wasm_feed::{Line, payload_text};
+use wasm_grammar::section_name;
+use wasm_parser::Payload;
+
+// The name of the sections with this id, which fits a line.
+fn short_name(id: u8) -> Option<&'static str>
+    ensures name { option_map (λ name. name.now) result ≡ name_of id }
+    ensures short { IfSome result (λ name. length name.now ≤ 9) }
+{
+    section_name(id)
+}
+
+// The name of a section that a listing tells by its id.
+fn counted_name(payload: &Payload<'_>) -> Option<&'static str>
+    ensures name { option_map (λ name. name.now) result ≡ name_counted (report_of payload.now) }
+    ensures short { IfSome result (λ name. length name.now ≤ 9) }
+{
+    match payload {
+        Payload::Version { .. }
+        | Payload::StartSection { .. }
+        | Payload::DataCountSection { .. }
+        | Payload::CodeSectionStart { .. }
+        | Payload::CodeSectionEntry(_)
+        | Payload::CustomSection(_)
+        | Payload::UnknownSection { .. }
+        | Payload::End(_) => None,
+        _ => match payload.section_parts() {
+            Some((id, _, _)) => short_name(id),
+            None => None,
+        },
+    }
+}
+
+// Puts a blank and a name, if there is one, before what the line has.
+fn put_name(line: &mut Line, name: Option<&'static str>)
+    requires line { length line.old ≤ 1 }
+    requires short { IfSome name (λ name. length name.now ≤ 9) }
+    ensures line { line.new ≡ after_blank (option_map (λ name. name.now) name.entry) ++ line.old }
+    ensures short { length line.new ≤ 11 }
+{
+    match name {
+        Some(name) => {
+            line.word(name);
+            line.word(" ");
+        }
+        None => {}
+    }
+}
+
+/// The line of a payload.
+pub(crate) fn shown_line(line: &mut Line, payload: &Payload<'_>)
+    ensures { line.new ≡ line_shown (report_of payload.now) }
+{
+    line.feed();
+    put_name(line, counted_name(payload));
+    payload_text(line, payload);
+}
