@@ -393,6 +393,21 @@ class ComdatSymbol(ctypes.Structure):
     ]
 
 
+class Symbol(ctypes.Structure):
+    _fields_ = [
+        ("fault", Fault),
+        ("consumed", ctypes.c_uint64),
+        ("name", Span),
+        ("kind", ctypes.c_uint32),
+        ("flags", ctypes.c_uint32),
+        ("index", ctypes.c_uint32),
+        ("has_name", ctypes.c_uint32),
+        ("is_defined", ctypes.c_uint32),
+        ("data_offset", ctypes.c_uint32),
+        ("data_size", ctypes.c_uint32),
+    ]
+
+
 class Relocation(ctypes.Structure):
     _fields_ = [
         ("fault", Fault),
@@ -402,6 +417,58 @@ class Relocation(ctypes.Structure):
         ("offset", ctypes.c_uint32),
         ("index", ctypes.c_uint32),
         ("addend", ctypes.c_int64),
+    ]
+
+
+class CoreProcess(ctypes.Structure):
+    _fields_ = [
+        ("fault", Fault),
+        ("consumed", ctypes.c_uint64),
+        ("name", Span),
+    ]
+
+
+class CoreModule(ctypes.Structure):
+    _fields_ = [
+        ("fault", Fault),
+        ("consumed", ctypes.c_uint64),
+        ("name", Span),
+    ]
+
+
+class CoreInstance(ctypes.Structure):
+    _fields_ = [
+        ("fault", Fault),
+        ("consumed", ctypes.c_uint64),
+        ("module_index", ctypes.c_uint32),
+    ]
+
+
+class CoreThread(ctypes.Structure):
+    _fields_ = [
+        ("fault", Fault),
+        ("consumed", ctypes.c_uint64),
+        ("name", Span),
+    ]
+
+
+class CoreFrame(ctypes.Structure):
+    _fields_ = [
+        ("fault", Fault),
+        ("consumed", ctypes.c_uint64),
+        ("instance", ctypes.c_uint32),
+        ("func", ctypes.c_uint32),
+        ("code_offset", ctypes.c_uint32),
+    ]
+
+
+class CoreValue(ctypes.Structure):
+    _fields_ = [
+        ("fault", Fault),
+        ("consumed", ctypes.c_uint64),
+        ("kind", ctypes.c_uint32),
+        ("integer", ctypes.c_int64),
+        ("bits", ctypes.c_uint64),
     ]
 
 
@@ -445,7 +512,16 @@ CALLS = {
     "pulleynavy_init_function": (InitFunction, [ctypes.c_void_p, ctypes.c_size_t, ctypes.c_uint64, ctypes.c_uint32]),
     "pulleynavy_comdat": (Comdat, [ctypes.c_void_p, ctypes.c_size_t, ctypes.c_uint64, ctypes.c_uint32]),
     "pulleynavy_comdat_symbol": (ComdatSymbol, [ctypes.c_void_p, ctypes.c_size_t, ctypes.c_uint64, ctypes.c_uint32]),
+    "pulleynavy_linking_version": (Number, [ctypes.c_void_p, ctypes.c_size_t, ctypes.c_uint64, ctypes.c_uint32]),
+    "pulleynavy_symbol": (Symbol, [ctypes.c_void_p, ctypes.c_size_t, ctypes.c_uint64, ctypes.c_uint32]),
     "pulleynavy_relocation": (Relocation, [ctypes.c_void_p, ctypes.c_size_t, ctypes.c_uint64, ctypes.c_uint32]),
+    "pulleynavy_core_process": (CoreProcess, [ctypes.c_void_p, ctypes.c_size_t, ctypes.c_uint64, ctypes.c_uint32]),
+    "pulleynavy_core_module": (CoreModule, [ctypes.c_void_p, ctypes.c_size_t, ctypes.c_uint64, ctypes.c_uint32]),
+    "pulleynavy_core_instance": (CoreInstance, [ctypes.c_void_p, ctypes.c_size_t, ctypes.c_uint64, ctypes.c_uint32]),
+    "pulleynavy_core_thread": (CoreThread, [ctypes.c_void_p, ctypes.c_size_t, ctypes.c_uint64, ctypes.c_uint32]),
+    "pulleynavy_core_frame": (CoreFrame, [ctypes.c_void_p, ctypes.c_size_t, ctypes.c_uint64, ctypes.c_uint32]),
+    "pulleynavy_core_value": (CoreValue, [ctypes.c_void_p, ctypes.c_size_t, ctypes.c_uint64, ctypes.c_uint32]),
+    "pulleynavy_custom_kind": (ctypes.c_uint32, [ctypes.c_void_p, ctypes.c_size_t]),
 }
 
 FAULTS = {

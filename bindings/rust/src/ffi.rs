@@ -393,6 +393,21 @@ pub struct ComdatSymbol {
 
 #[repr(C)]
 #[derive(Clone, Copy, Debug)]
+pub struct Symbol {
+    pub fault: Fault,
+    pub consumed: u64,
+    pub name: Span,
+    pub kind: u32,
+    pub flags: u32,
+    pub index: u32,
+    pub has_name: u32,
+    pub is_defined: u32,
+    pub data_offset: u32,
+    pub data_size: u32,
+}
+
+#[repr(C)]
+#[derive(Clone, Copy, Debug)]
 pub struct Relocation {
     pub fault: Fault,
     pub consumed: u64,
@@ -401,6 +416,58 @@ pub struct Relocation {
     pub offset: u32,
     pub index: u32,
     pub addend: i64,
+}
+
+#[repr(C)]
+#[derive(Clone, Copy, Debug)]
+pub struct CoreProcess {
+    pub fault: Fault,
+    pub consumed: u64,
+    pub name: Span,
+}
+
+#[repr(C)]
+#[derive(Clone, Copy, Debug)]
+pub struct CoreModule {
+    pub fault: Fault,
+    pub consumed: u64,
+    pub name: Span,
+}
+
+#[repr(C)]
+#[derive(Clone, Copy, Debug)]
+pub struct CoreInstance {
+    pub fault: Fault,
+    pub consumed: u64,
+    pub module_index: u32,
+}
+
+#[repr(C)]
+#[derive(Clone, Copy, Debug)]
+pub struct CoreThread {
+    pub fault: Fault,
+    pub consumed: u64,
+    pub name: Span,
+}
+
+#[repr(C)]
+#[derive(Clone, Copy, Debug)]
+pub struct CoreFrame {
+    pub fault: Fault,
+    pub consumed: u64,
+    pub instance: u32,
+    pub func: u32,
+    pub code_offset: u32,
+}
+
+#[repr(C)]
+#[derive(Clone, Copy, Debug)]
+pub struct CoreValue {
+    pub fault: Fault,
+    pub consumed: u64,
+    pub kind: u32,
+    pub integer: i64,
+    pub bits: u64,
 }
 
 unsafe extern "C" {
@@ -590,10 +657,59 @@ unsafe extern "C" {
         offset: u64,
         features: u32,
     ) -> ComdatSymbol;
+    pub fn pulleynavy_linking_version(
+        bytes: *const u8,
+        bytes_size: usize,
+        offset: u64,
+        features: u32,
+    ) -> Number;
+    pub fn pulleynavy_symbol(
+        bytes: *const u8,
+        bytes_size: usize,
+        offset: u64,
+        features: u32,
+    ) -> Symbol;
     pub fn pulleynavy_relocation(
         bytes: *const u8,
         bytes_size: usize,
         offset: u64,
         features: u32,
     ) -> Relocation;
+    pub fn pulleynavy_core_process(
+        bytes: *const u8,
+        bytes_size: usize,
+        offset: u64,
+        features: u32,
+    ) -> CoreProcess;
+    pub fn pulleynavy_core_module(
+        bytes: *const u8,
+        bytes_size: usize,
+        offset: u64,
+        features: u32,
+    ) -> CoreModule;
+    pub fn pulleynavy_core_instance(
+        bytes: *const u8,
+        bytes_size: usize,
+        offset: u64,
+        features: u32,
+    ) -> CoreInstance;
+    pub fn pulleynavy_core_thread(
+        bytes: *const u8,
+        bytes_size: usize,
+        offset: u64,
+        features: u32,
+    ) -> CoreThread;
+    pub fn pulleynavy_core_frame(
+        bytes: *const u8,
+        bytes_size: usize,
+        offset: u64,
+        features: u32,
+    ) -> CoreFrame;
+    pub fn pulleynavy_core_value(
+        bytes: *const u8,
+        bytes_size: usize,
+        offset: u64,
+        features: u32,
+    ) -> CoreValue;
+    pub fn pulleynavy_custom_kind(name: *const u8, name_size: usize) -> u32;
 }

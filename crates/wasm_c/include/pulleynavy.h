@@ -832,6 +832,42 @@ struct pulleynavy_comdat pulleynavy_comdat(
 struct pulleynavy_comdat_symbol pulleynavy_comdat_symbol(
     const uint8_t *bytes, size_t bytes_size, uint64_t offset, uint32_t features);
 
+/* A symbol, or its fault. */
+struct pulleynavy_symbol {
+    /* The fault, whose kind is 0 where there is none. */
+    struct pulleynavy_fault fault;
+    /* How many bytes it takes. */
+    uint64_t consumed;
+    /* Its name, which is UTF-8. */
+    struct pulleynavy_span name;
+    /* 0 a function, 1 data, 2 a global, 3 a section, 4 an event, 5 a table. */
+    uint32_t kind;
+    /* Its flags: 1 weak, 2 local, 4 hidden, 16 undefined, 32 exported, 64 a name of its own, 128 kept, 256 thread-local, 512
+       absolute. */
+    uint32_t flags;
+    /* The index of the function, global, section, event or table, or of the segment of data that is defined. */
+    uint32_t index;
+    /* 1 if its name is written, or 0. */
+    uint32_t has_name;
+    /* 1 if it is data that is defined, or 0. */
+    uint32_t is_defined;
+    /* Where data is in its segment, in bytes. */
+    uint32_t data_offset;
+    /* How many bytes data has. */
+    uint32_t data_size;
+};
+
+/* The version with which the data of a section `linking` begin, which is 2 (tool conventions, Linking, Linking Metadata Section).
+   After it come its subsections, each by `pulleynavy_subsection`. The bytes are the rest of its section, and are at this offset of
+   the whole stream. */
+struct pulleynavy_number pulleynavy_linking_version(
+    const uint8_t *bytes, size_t bytes_size, uint64_t offset, uint32_t features);
+
+/* The symbol with which these bytes begin, in subsection 8 of the section `linking` after its count (tool conventions, Linking,
+   Symbol Table Subsection). The bytes are the rest of its section, and are at this offset of the whole stream. */
+struct pulleynavy_symbol pulleynavy_symbol(
+    const uint8_t *bytes, size_t bytes_size, uint64_t offset, uint32_t features);
+
 /* A relocation, or its fault. */
 struct pulleynavy_relocation {
     /* The fault, whose kind is 0 where there is none. */
@@ -855,6 +891,111 @@ struct pulleynavy_relocation {
    and are at this offset of the whole stream. */
 struct pulleynavy_relocation pulleynavy_relocation(
     const uint8_t *bytes, size_t bytes_size, uint64_t offset, uint32_t features);
+
+/* The name of the process of a core dump, or its fault. */
+struct pulleynavy_core_process {
+    /* The fault, whose kind is 0 where there is none. */
+    struct pulleynavy_fault fault;
+    /* How many bytes it takes. */
+    uint64_t consumed;
+    /* The name, which is UTF-8. */
+    struct pulleynavy_span name;
+};
+
+/* The name of a module of a core dump, or its fault. */
+struct pulleynavy_core_module {
+    /* The fault, whose kind is 0 where there is none. */
+    struct pulleynavy_fault fault;
+    /* How many bytes it takes. */
+    uint64_t consumed;
+    /* The name, which is UTF-8. */
+    struct pulleynavy_span name;
+};
+
+/* The beginning of an instance of a core dump, or its fault. */
+struct pulleynavy_core_instance {
+    /* The fault, whose kind is 0 where there is none. */
+    struct pulleynavy_fault fault;
+    /* How many bytes it takes. */
+    uint64_t consumed;
+    /* The index of its module. */
+    uint32_t module_index;
+};
+
+/* The name of a thread of a core dump, or its fault. */
+struct pulleynavy_core_thread {
+    /* The fault, whose kind is 0 where there is none. */
+    struct pulleynavy_fault fault;
+    /* How many bytes it takes. */
+    uint64_t consumed;
+    /* The name, which is UTF-8. */
+    struct pulleynavy_span name;
+};
+
+/* The beginning of a frame of a core dump, or its fault. */
+struct pulleynavy_core_frame {
+    /* The fault, whose kind is 0 where there is none. */
+    struct pulleynavy_fault fault;
+    /* How many bytes it takes. */
+    uint64_t consumed;
+    /* The index of its instance. */
+    uint32_t instance;
+    /* The index of its function. */
+    uint32_t func;
+    /* Where its instruction is, in bytes from the start of the function's body. */
+    uint32_t code_offset;
+};
+
+/* A value of a core dump, or its fault. */
+struct pulleynavy_core_value {
+    /* The fault, whose kind is 0 where there is none. */
+    struct pulleynavy_fault fault;
+    /* How many bytes it takes. */
+    uint64_t consumed;
+    /* 0 a missing value, 1 a 32-bit integer, 2 a 64-bit integer, 3 a 32-bit float, 4 a 64-bit float. */
+    uint32_t kind;
+    /* The integer, or 0. */
+    int64_t integer;
+    /* The bits of a float, or 0. */
+    uint64_t bits;
+};
+
+/* The name of the process of a core dump with which these bytes begin, after a byte 0 (tool conventions, Coredump, Process
+   Information). The bytes are the rest of its section, and are at this offset of the whole stream. */
+struct pulleynavy_core_process pulleynavy_core_process(
+    const uint8_t *bytes, size_t bytes_size, uint64_t offset, uint32_t features);
+
+/* The name of a module of a core dump with which these bytes begin, after a byte 0 (tool conventions, Coredump, Modules and
+   Instances). The bytes are the rest of its section, and are at this offset of the whole stream. */
+struct pulleynavy_core_module pulleynavy_core_module(
+    const uint8_t *bytes, size_t bytes_size, uint64_t offset, uint32_t features);
+
+/* The beginning of the instance of a core dump with which these bytes begin (tool conventions, Coredump, Modules and Instances).
+   After it come a count of memories and so many indices, each by `pulleynavy_number`, and then the same of globals. The bytes are the
+   rest of its section, and are at this offset of the whole stream. */
+struct pulleynavy_core_instance pulleynavy_core_instance(
+    const uint8_t *bytes, size_t bytes_size, uint64_t offset, uint32_t features);
+
+/* The name of a thread of a core dump with which these bytes begin, after a byte 0 (tool conventions, Coredump, Thread(s) and Stack
+   Frames). The bytes are the rest of its section, and are at this offset of the whole stream. */
+struct pulleynavy_core_thread pulleynavy_core_thread(
+    const uint8_t *bytes, size_t bytes_size, uint64_t offset, uint32_t features);
+
+/* The beginning of the frame of a core dump with which these bytes begin (tool conventions, Coredump, Thread(s) and Stack Frames).
+   After it come a count of locals, by `pulleynavy_number`, and so many values, each by `pulleynavy_core_value`, and then the same of
+   the stack. The bytes are the rest of its section, and are at this offset of the whole stream. */
+struct pulleynavy_core_frame pulleynavy_core_frame(
+    const uint8_t *bytes, size_t bytes_size, uint64_t offset, uint32_t features);
+
+/* The value of a core dump with which these bytes begin, of a frame's locals or its stack (tool conventions, Coredump, Thread(s) and
+   Stack Frames). The bytes are the rest of its section, and are at this offset of the whole stream. */
+struct pulleynavy_core_value pulleynavy_core_value(
+    const uint8_t *bytes, size_t bytes_size, uint64_t offset, uint32_t features);
+
+/* Which known section has these bytes as its name (core specification, Appendix, Custom Sections; tool conventions): 0 none, 1
+   `name`, 2 `metadata.code.branch_hint`, 3 `producers`, 4 `dylink.0`, 5 `linking`, 6 a name that begins with `reloc.`, 7 `core`, 8
+   `coremodules`, 9 `coreinstances`, 10 `corestack`. */
+uint32_t pulleynavy_custom_kind(const uint8_t *name, size_t name_size);
 
 #ifdef __cplusplus
 #define PULLEYNAVY_ASSERT static_assert
@@ -901,7 +1042,14 @@ PULLEYNAVY_ASSERT(sizeof(struct pulleynavy_linking_segment) == 56 && offsetof(st
 PULLEYNAVY_ASSERT(sizeof(struct pulleynavy_init_function) == 40 && offsetof(struct pulleynavy_init_function, symbol) == 36, "layout");
 PULLEYNAVY_ASSERT(sizeof(struct pulleynavy_comdat) == 72 && offsetof(struct pulleynavy_comdat, symbols) == 56, "layout");
 PULLEYNAVY_ASSERT(sizeof(struct pulleynavy_comdat_symbol) == 40 && offsetof(struct pulleynavy_comdat_symbol, index) == 36, "layout");
+PULLEYNAVY_ASSERT(sizeof(struct pulleynavy_symbol) == 80 && offsetof(struct pulleynavy_symbol, data_size) == 72, "layout");
 PULLEYNAVY_ASSERT(sizeof(struct pulleynavy_relocation) == 56 && offsetof(struct pulleynavy_relocation, addend) == 48, "layout");
+PULLEYNAVY_ASSERT(sizeof(struct pulleynavy_core_process) == 48 && offsetof(struct pulleynavy_core_process, name) == 32, "layout");
+PULLEYNAVY_ASSERT(sizeof(struct pulleynavy_core_module) == 48 && offsetof(struct pulleynavy_core_module, name) == 32, "layout");
+PULLEYNAVY_ASSERT(sizeof(struct pulleynavy_core_instance) == 40 && offsetof(struct pulleynavy_core_instance, module_index) == 32, "layout");
+PULLEYNAVY_ASSERT(sizeof(struct pulleynavy_core_thread) == 48 && offsetof(struct pulleynavy_core_thread, name) == 32, "layout");
+PULLEYNAVY_ASSERT(sizeof(struct pulleynavy_core_frame) == 48 && offsetof(struct pulleynavy_core_frame, code_offset) == 40, "layout");
+PULLEYNAVY_ASSERT(sizeof(struct pulleynavy_core_value) == 56 && offsetof(struct pulleynavy_core_value, bits) == 48, "layout");
 #endif
 #undef PULLEYNAVY_ASSERT
 #ifdef __cplusplus

@@ -1,3 +1,7 @@
+pub mod CoreHeads
+pub mod CoreParts
+pub mod Coredumps
+pub mod Customs
 pub mod Dylink
 pub mod Events
 pub mod Exports
@@ -13,6 +17,7 @@ pub mod Relocations
 pub mod Segments
 pub mod Spans
 pub mod Stored
+pub mod Symbols
 pub mod Texts
 pub mod TypeHeads
 pub mod TypeParts

@@ -1,6 +1,8 @@
 //! The parser for programs in C and other languages: plain structs, and functions that C can call.
 #![tactic(auto)]
 
+mod coredumps;
+mod customs;
 mod dylink;
 mod events;
 mod exports;
@@ -19,10 +21,17 @@ mod relocations;
 mod segments;
 mod spans;
 mod stored;
+mod symbols;
 mod text;
 mod types;
 mod values;
 
+pub use coredumps::{
+    PlainCoreFrame, PlainCoreInstance, PlainCoreModule, PlainCoreProcess, PlainCoreThread,
+    PlainCoreValue, pulleynavy_core_frame, pulleynavy_core_instance, pulleynavy_core_module,
+    pulleynavy_core_process, pulleynavy_core_thread, pulleynavy_core_value,
+};
+pub use customs::pulleynavy_custom_kind;
 pub use dylink::{
     PlainDylinkExport, PlainDylinkImport, PlainDylinkMemory, pulleynavy_dylink_export,
     pulleynavy_dylink_import, pulleynavy_dylink_memory,
@@ -64,6 +73,7 @@ pub use segments::{
 };
 pub use spans::PlainSpan;
 pub use stored::StoredParser;
+pub use symbols::{PlainSymbol, pulleynavy_linking_version, pulleynavy_symbol};
 pub use types::{PlainSubtype, PlainTypeGroup, pulleynavy_subtype, pulleynavy_type_group};
 pub use values::{
     PlainField, PlainNumber, PlainType, PlainValue, pulleynavy_field_type, pulleynavy_number,

@@ -97,8 +97,8 @@ pub(crate) fn text_after_number(from: u64, mut reader: BinaryReader<'_>, size: u
     }
 }
 
-// A text whose place isn't known.
-fn unknown_span(size: usize) -> PlainSpan
+/// A text whose place isn't known.
+pub(crate) fn unknown_span(size: usize) -> PlainSpan
     ensures at { result.at ≡ 0 }
     ensures size { result.size ≡ size }
 {

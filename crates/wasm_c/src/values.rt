@@ -148,7 +148,8 @@ fn plain_storage(ty: StorageType) -> PlainType
     }
 }
 
-fn refused_number(error: Error) -> PlainNumber
+/// That a number has a fault.
+pub(crate) fn refused_number(error: Error) -> PlainNumber
     ensures { result ≡ plain_number (place_over 0 0 []) (Err (fault_at error)) }
 {
     PlainNumber {
