@@ -20,5 +20,6 @@ pub mod Stored
 pub mod Symbols
 pub mod Texts
 pub mod TypeHeads
+pub mod TypeLaws
 pub mod TypeParts
 pub mod Values
