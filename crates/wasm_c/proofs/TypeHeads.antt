@@ -39,6 +39,13 @@ by_test : {B C : Type 0} (b : Bool) (left right : Result C FaultAt) (there elsew
 by_test true left right there elsewhere k same other = same
 by_test false left right there elsewhere k same other = other
 
+-- the same where what is read by a test is read at a place
+by_row : {B C : Type 0} (b : Bool) (left right : Place → Result C FaultAt) (p : Place) (there elsewhere : Result B FaultAt)
+    (k : B → Result C FaultAt) → left p ≡ (there >>= k) → right p ≡ (elsewhere >>= k)
+    → (if b then left else right) p ≡ ((if b then there else elsewhere) >>= k)
+by_row true left right p there elsewhere k same other = same
+by_row false left right p there elsewhere k same other = other
+
 pub groups : GroupsHaveHeads
 unfolding rec_group_at group_head_at
 groups p = same_after (peeked_byte_at p) _ _ _ (λ first. by_test (first.0 == 0x4E) _ _ _ _ _
@@ -56,8 +63,8 @@ structure p = two_after (unsigned_at VarU32 p) _ _ _ _ (λ count. refl)
 
 composites : (p : Place) → composite_type_at p ≡ (composite_head_at p >>= λ head. composite_after head.0.kind head.0.count head.1)
 unfolding composite_type_at composite_head_at
-composites p = same_after (byte_at p) _ _ _ (λ first. by_test (first.0 == 0x60) _ _ _ _ _ (function first.1)
-    (by_test (first.0 == 0x5F) _ _ _ _ _ (structure first.1) (by_test (first.0 == 0x5E) _ _ _ _ _ refl refl)))
+composites p = same_after (byte_at p) _ _ _ (λ first. by_row (first.0 == 0x60) _ _ first.1 _ _ _ (function first.1)
+    (by_row (first.0 == 0x5F) _ _ first.1 _ _ _ (structure first.1) (by_row (first.0 == 0x5E) _ _ first.1 _ _ _ refl refl)))
 
 abbrev as_subtype : Bool → Option ℕ → CompositeParts × Place → Outcome SubtypeParts
 as_subtype final supertype c = Ok (record { final = final; supertype = supertype; composite = c.0 }, c.1)
