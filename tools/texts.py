@@ -5,6 +5,7 @@ stream, as the program `wasm_dump` writes them; `shortened(text)` gives a model'
 The models say nothing of where subsections and names begin: these offsets are compared with the bytes themselves.
 """
 import re
+from collections import Counter
 
 import sections as S
 from expressions import instructions, range_of
@@ -126,6 +127,54 @@ def unnamed(line):
     event = line.rsplit(" ", 1)[0] if line.startswith("section ") else line
     assert named(event) == line, line
     return event
+
+
+# ---- numbers in index spaces
+
+# The index space of each kind of import, and of what each section defines.
+IMPORTED = {"func": "func", "func_exact": "func", "table": "table", "memory": "memory", "tag": "tag", "global": "global"}
+DEFINED = {S.TYPE_SECTION: "type", S.FUNCTION_SECTION: "func", S.TABLE_SECTION: "table", S.MEMORY_SECTION: "memory", S.TAG_SECTION: "tag",
+           S.GLOBAL_SECTION: "global", S.ELEMENT_SECTION: "elem", S.DATA_SECTION: "data"}
+
+
+def space_of(ident, node):
+    """The index space of an item of a section, if it has one. A group of types that is explicit has none: its types have."""
+    if node.text.startswith("fault ") or node.fields.get("explicit") == "true":
+        return None
+    return IMPORTED[node["ty"]] if ident == S.IMPORT_SECTION else DEFINED.get(ident)
+
+
+def numbered(lines):
+    """Lines of a dump without numbers, with the number of each item: how many came before it in its index space."""
+    came, imported, bodies, ident, told = Counter(), 0, 0, None, []
+
+    def number(space):
+        came[space] += 1
+        return "%s[%d]" % (space, came[space] - 1)
+
+    for line in lines:
+        words = line.split(" ")
+        if not line.startswith(" "):
+            ident = int(words[1]) if words[0] == "section" else None
+            if words[0] == "body":
+                line, bodies = "%s func[%d]" % (line, imported + bodies), bodies + 1
+        elif ident == S.TYPE_SECTION and line.startswith("    type="):
+            line = "    %s %s" % (number("type"), line.lstrip(" "))
+        elif not line.startswith("    ") and ident is not None:
+            space = space_of(ident, Node(line.lstrip(" ")))
+            if space:
+                imported += ident == S.IMPORT_SECTION and space == "func"
+                line = "  %s %s %s" % (words[2], number(space), " ".join(words[3:]))
+        told.append(line)
+    return told
+
+
+def unnumbered(lines):
+    """Lines of a dump without numbers, which are looked at."""
+    plain = [re.sub(r"^(body \d+ \d+) func\[\d+\]$|^(  \d+) [a-z]+\[\d+\](?= )|^(   ) type\[\d+\](?= type=)",
+                    lambda found: found[1] or found[2] or found[3], line) for line in lines]
+    assert numbered(plain) == lines, next(pair for pair in zip(numbered(plain), lines) if pair[0] != pair[1])
+    return plain
 
 
 def nodes_of(lines):
@@ -629,6 +678,7 @@ def custom_text(node, data, offset):
 
 def listing_texts(lines, data):
     """The lines of this stream as a model has them: each event's line, and under it a line an item."""
+    lines = unnumbered(lines)
     texts, place = [], 0
     while place < len(lines):
         event = lines[place]

@@ -93,3 +93,13 @@ def items(call, stream, event, features=ALL_FEATURES, library=None):
         one = read(call, at)
         yield at, one
         at += one.consumed
+
+
+def strip(stream, keep_names=False, library=None):
+    """A stream without its custom sections, but the section of names if that is kept; a fault is raised."""
+    library = library or load()
+    held = ctypes.create_string_buffer(stream, max(1, len(stream)))
+    stripped = library.pulleynavy_strip(held, len(stream), keep_names)
+    if stripped.fault.kind:
+        raise Fault(library, stripped.fault)
+    return held.raw[: stripped.size]

@@ -472,6 +472,13 @@ class CoreValue(ctypes.Structure):
     ]
 
 
+class Strip(ctypes.Structure):
+    _fields_ = [
+        ("fault", Fault),
+        ("size", ctypes.c_size_t),
+    ]
+
+
 # What each call answers and takes.
 CALLS = {
     "pulleynavy_fault_message": (ctypes.c_size_t, [ctypes.c_uint32, ctypes.c_void_p, ctypes.c_size_t]),
@@ -522,6 +529,7 @@ CALLS = {
     "pulleynavy_core_frame": (CoreFrame, [ctypes.c_void_p, ctypes.c_size_t, ctypes.c_uint64, ctypes.c_uint32]),
     "pulleynavy_core_value": (CoreValue, [ctypes.c_void_p, ctypes.c_size_t, ctypes.c_uint64, ctypes.c_uint32]),
     "pulleynavy_custom_kind": (ctypes.c_uint32, [ctypes.c_void_p, ctypes.c_size_t]),
+    "pulleynavy_strip": (Strip, [ctypes.c_void_p, ctypes.c_size_t, ctypes.c_bool]),
 }
 
 FAULTS = {

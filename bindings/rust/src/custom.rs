@@ -24,6 +24,10 @@ impl<'a> CustomSectionReader<'a> {
         self.name
     }
 
+    pub(crate) fn window(&self) -> Window<'a> {
+        self.data
+    }
+
     /// Its data, after the name.
     pub fn data(&self) -> &'a [u8] {
         self.data.bytes
@@ -41,7 +45,7 @@ impl<'a> CustomSectionReader<'a> {
 
     /// Its data as subsections, as those of the sections `name`, `linking` (after the version) and `dylink.0` are.
     pub fn subsections(&self) -> Subsections<'a> {
-        Subsections { rest: self.data, ended: false }
+        Subsections::of(self.data)
     }
 }
 
@@ -72,6 +76,10 @@ pub struct Subsections<'a> {
 }
 
 impl<'a> Subsections<'a> {
+    pub(crate) fn of(rest: Window<'a>) -> Self {
+        Subsections { rest, ended: false }
+    }
+
     fn read(&mut self) -> Result<Subsection<'a>> {
         let plain = call!(pulleynavy_subsection, self.rest);
         let contents = self.rest.part(plain.contents);

@@ -470,6 +470,13 @@ pub struct CoreValue {
     pub bits: u64,
 }
 
+#[repr(C)]
+#[derive(Clone, Copy, Debug)]
+pub struct Strip {
+    pub fault: Fault,
+    pub size: usize,
+}
+
 unsafe extern "C" {
     pub fn pulleynavy_fault_message(kind: u32, out: *mut u8, out_size: usize) -> usize;
     pub fn pulleynavy_parser(offset: u64, features: u32) -> Parser;
@@ -712,4 +719,5 @@ unsafe extern "C" {
         features: u32,
     ) -> CoreValue;
     pub fn pulleynavy_custom_kind(name: *const u8, name_size: usize) -> u32;
+    pub fn pulleynavy_strip(bytes: *mut u8, bytes_size: usize, keep_names: bool) -> Strip;
 }

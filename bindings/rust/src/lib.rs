@@ -21,6 +21,7 @@
 #![no_std]
 #![warn(missing_docs)]
 
+mod cores;
 mod custom;
 mod error;
 #[allow(missing_docs, dead_code)]
@@ -28,16 +29,29 @@ mod error;
 mod ffi;
 mod imports;
 mod items;
+mod known;
+mod linking;
 mod parser;
 mod section;
+mod strip;
 mod types;
 
+pub use cores::{CoreDumpInstance, CoreDumpSection, CoreDumpStackFrame, CoreDumpStackSection, CoreDumpValue, CoreModule};
 pub use custom::{CustomSectionReader, Naming, Subsection, Subsections};
 pub use error::{BinaryReaderError, Result};
 pub use imports::{Import, ImportItemCompact, Imports, IntoImports, TypeRef};
 pub use items::{ConstExpr, Data, DataKind, Element, ElementItems, ElementKind, Export, ExternalKind, Global, Table, TableInit};
+pub use known::{
+    BranchHint, BranchHintFunction, BranchHintSectionReader, Dylink0SectionReader, Dylink0Subsection, ExportInfo, ImportInfo, IndirectNameMap, IndirectNaming,
+    KnownCustom, MemInfo, Name, NameMap, NameSectionReader, ProducersField, ProducersFieldValue, ProducersSectionReader,
+};
+pub use linking::{
+    Comdat, ComdatSymbol, ComdatSymbolKind, DefinedDataSymbol, InitFunc, Linking, LinkingSectionReader, LinkingSubsections, RelocSectionReader,
+    RelocationEntry, Segment, SymbolInfo,
+};
 pub use parser::{Chunk, Encoding, FunctionBody, ParseAll, Parser, Payload, WasmFeatures};
 pub use section::{FromReader, SectionLimited, SectionLimitedIntoIter, SectionLimitedIntoIterWithOffsets, Window};
+pub use strip::strip;
 pub use types::{
     CompositeType, FieldType, FieldTypes, FuncType, GlobalType, HeapType, MemoryType, RecGroup, RefType, StorageType, SubType, SubTypes, TableType, TagType,
     ValType, ValTypes,

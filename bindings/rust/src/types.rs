@@ -175,7 +175,7 @@ iterator!(/// The types of a group.
     SubTypes, SubType<'a>);
 
 /// Passes over so many items: what comes after them.
-fn passed<'a, T: FromReader<'a>>(mut window: Window<'a>, count: u32) -> Result<Window<'a>> {
+pub(crate) fn passed<'a, T: FromReader<'a>>(mut window: Window<'a>, count: u32) -> Result<Window<'a>> {
     for _ in 0..count {
         window = window.after(T::from_window(window)?.1);
     }

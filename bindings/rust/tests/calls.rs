@@ -69,3 +69,12 @@ fn names_of_functions() {
         .unwrap();
     assert_eq!(names, [(0, "a".to_owned()), (3, String::new())]);
 }
+
+#[test]
+fn a_stream_is_stripped_in_its_own_bytes() {
+    let mut module = MODULE.to_vec();
+    assert_eq!(pulleynavy::strip(&mut module, true).unwrap(), &MODULE[..18]);
+    let mut cut = *b"\0asm\x01\0\0\0\x03\x02\x01\0";
+    assert_eq!(pulleynavy::strip(&mut cut, false).unwrap_err().offset(), 12);
+    assert_eq!(&cut, &MODULE[..12]);
+}

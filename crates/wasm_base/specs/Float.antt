@@ -19,3 +19,10 @@ unfoldable pub u64_at : Place → Outcome ℕ
 u64_at p = do
   bytes ← bytes_at 8 p
   Ok (of_four (take 4 bytes.0) + 2 ^ 32 * of_four (drop 4 bytes.0), bytes.1)
+
+-- the floats that have these bits
+abbrev pub of_bits_32 : ℕ → Ieee32
+of_bits_32 bits = record { 0 = bits }
+
+abbrev pub of_bits_64 : ℕ → Ieee64
+of_bits_64 bits = record { 0 = bits }

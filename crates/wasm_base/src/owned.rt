@@ -1,10 +1,13 @@
 // Items that own lists.
+ghost use Rattle.std.specs.Prelude.{◌≡◌, ◌++◌, ◌∷◌, [], OnOk, IfErr};
+ghost use Rattle.wasm_base.specs.FaultAt.{fault_at};
 ghost use Rattle.wasm_base.specs.Item.{Means};
 ghost use Rattle.wasm_base.specs.Outcome.{Outcome};
-ghost use Rattle.wasm_base.specs.Owned.{MeansAs, UnlessMemory, InTurn, ListOf};
+ghost use Rattle.wasm_base.specs.Owned.{MeansAs, UnlessMemory, InTurn, ListOf, out_of_memory};
 ghost use Rattle.wasm_base.specs.Window.{Place, place, KeepsWindow};
 
-use crate::error::Result;
+use crate::error::{Error, Result};
+use crate::fault::Fault;
 use crate::item::FromReader;
 use crate::reader::BinaryReader;
 use std::alloc::{Allocator, Global};
@@ -24,6 +27,22 @@ pub trait FromReaderIn<'a>: Sized + Drop {
         ensures keeps { KeepsWindow reader.old reader.new };
 }
 
+// A list has room for so many items once it has one, if so many are announced.
+const FIRST_ROOM: usize = 4;
+
+// Puts an item after the others of a list that is to have so many.
+#[inline(always)]
+fn put<T: Drop, A: Allocator>(items: &mut Vec<T, A>, item: T, count: u32) -> Result<()>
+    ensures ok { OnOk result (items.new.items ≡ items.old.items ++ item ∷ []) }
+    ensures memory { IfErr result (λ e. fault_at e ≡ out_of_memory) }
+{
+    if items.is_empty() && items.reserve_exact(FIRST_ROOM.min(count as usize)).is_err() {
+        return Err(Error::new(Fault::OutOfMemory, 0));
+    }
+    items.push(item)?;
+    Ok(())
+}
+
 // Reads so many items, one after the other. The list grows as they are read.
 fn read_items<'a, T: FromReader<'a>, A: Allocator>(
     alloc: A,
@@ -37,7 +56,7 @@ fn read_items<'a, T: FromReader<'a>, A: Allocator>(
     let mut items = Vec::new(alloc);
     'items: for _ in 0..count {
         let item = T::from_reader(reader)?;
-        items.push(item)?;
+        put(&mut items, item, count)?;
     }
     Ok(items)
 }

@@ -239,6 +239,7 @@ impl<'a> BinaryReader<'a> {
     }
 
     /// Reads `len` bytes. `UnexpectedEof` where they begin, if they aren't all there.
+    #[inline(always)]
     pub fn read_bytes(&mut self, len: usize) -> Result<&'a [u8]>
         ensures gives { GivesBy (λ bytes. bytes.now) result self.old self.new (bytes_at len) }
         ensures keeps { KeepsWindow self.old self.new }
@@ -252,6 +253,7 @@ impl<'a> BinaryReader<'a> {
     }
 
     /// Reads a byte. `UnexpectedEof` here, where none is left.
+    #[inline(always)]
     pub fn read_u8(&mut self) -> Result<u8>
         ensures gives { GivesBy (λ b. b) result self.old self.new byte_at }
         ensures keeps { KeepsWindow self.old self.new }
@@ -352,6 +354,7 @@ impl<'a> BinaryReader<'a> {
     ///
     /// `NumberTooLong` and `NumberTooLarge` are at the last byte that it may take, `UnexpectedEof` where its next
     /// byte would be.
+    #[inline(always)]
     pub fn read_var_u32(&mut self) -> Result<u32>
         ensures gives { GivesBy (λ n. n) result self.old self.new (unsigned_at VarU32) }
         ensures keeps { KeepsWindow self.old self.new }
@@ -442,6 +445,7 @@ impl<'a> BinaryReader<'a> {
     }
 
     /// Reads a u64 in LEB128, with the faults of `read_var_u32` (core specification, Binary format, Values, Integers).
+    #[inline(always)]
     pub fn read_var_u64(&mut self) -> Result<u64>
         ensures gives { GivesBy (λ n. n) result self.old self.new (unsigned_at VarU64) }
         ensures keeps { KeepsWindow self.old self.new }
@@ -471,6 +475,7 @@ impl<'a> BinaryReader<'a> {
     }
 
     /// Reads an s32 in LEB128, with the faults of `read_var_u32` (core specification, Binary format, Values, Integers).
+    #[inline(always)]
     pub fn read_var_i32(&mut self) -> Result<i32>
         ensures gives { GivesBy (λ n. n) result self.old self.new (signed_at VarI32) }
         ensures keeps { KeepsWindow self.old self.new }
@@ -483,6 +488,7 @@ impl<'a> BinaryReader<'a> {
     }
 
     /// Reads an s64 in LEB128, with the faults of `read_var_u32` (core specification, Binary format, Values, Integers).
+    #[inline(always)]
     pub fn read_var_i64(&mut self) -> Result<i64>
         ensures gives { GivesBy (λ n. n) result self.old self.new (signed_at VarI64) }
         ensures keeps { KeepsWindow self.old self.new }
@@ -495,6 +501,7 @@ impl<'a> BinaryReader<'a> {
     }
 
     /// Reads an s33 in LEB128, with the faults of `read_var_u32` (core specification, Binary format, Values, Integers).
+    #[inline(always)]
     pub fn read_var_s33(&mut self) -> Result<i64>
         ensures gives { GivesBy (λ n. n) result self.old self.new (signed_at VarS33) }
         ensures keeps { KeepsWindow self.old self.new }
@@ -528,6 +535,7 @@ impl<'a> BinaryReader<'a> {
     /// After the faults of the size: `UnexpectedEof` after it, if the bytes aren't all there; `MalformedUtf8` at
     /// the text's last byte.
     #[tactic(auto, using(crate::proofs::Texts::text_steps))]
+    #[inline(always)]
     pub fn read_unlimited_string(&mut self) -> Result<&'a str>
         ensures gives { GivesBy (λ text. text.now) result self.old self.new (text_at None) }
         ensures keeps { KeepsWindow self.old self.new }
@@ -541,6 +549,7 @@ impl<'a> BinaryReader<'a> {
     /// Reads a name: a text of at most 100,000 bytes. A larger size is `StringSize` at the size's last byte, before
     /// its bytes are looked at.
     #[tactic(auto, using(crate::proofs::Texts::text_steps))]
+    #[inline(always)]
     pub fn read_string(&mut self) -> Result<&'a str>
         ensures gives { GivesBy (λ text. text.now) result self.old self.new (text_at (Some name_limit)) }
         ensures keeps { KeepsWindow self.old self.new }

@@ -997,6 +997,19 @@ struct pulleynavy_core_value pulleynavy_core_value(
    `coremodules`, 9 `coreinstances`, 10 `corestack`. */
 uint32_t pulleynavy_custom_kind(const uint8_t *name, size_t name_size);
 
+/* What became of a stream that was stripped. */
+struct pulleynavy_strip {
+    /* The fault of a stream that isn't accepted, or none. */
+    struct pulleynavy_fault fault;
+    /* How many bytes are left, from the first one on; 0 after a fault. */
+    size_t size;
+};
+
+/* Takes the custom sections out of a whole stream, which begins at offset 0, in its own bytes: what is left is then the first of
+   them, and the bytes after these mean nothing. With `keep_names` the sections with the name `name` stay. A stream that isn't
+   accepted is left as it was. */
+struct pulleynavy_strip pulleynavy_strip(uint8_t *bytes, size_t bytes_size, bool keep_names);
+
 #ifdef __cplusplus
 #define PULLEYNAVY_ASSERT static_assert
 #else
@@ -1050,6 +1063,7 @@ PULLEYNAVY_ASSERT(sizeof(struct pulleynavy_core_instance) == 40 && offsetof(stru
 PULLEYNAVY_ASSERT(sizeof(struct pulleynavy_core_thread) == 48 && offsetof(struct pulleynavy_core_thread, name) == 32, "layout");
 PULLEYNAVY_ASSERT(sizeof(struct pulleynavy_core_frame) == 48 && offsetof(struct pulleynavy_core_frame, code_offset) == 40, "layout");
 PULLEYNAVY_ASSERT(sizeof(struct pulleynavy_core_value) == 56 && offsetof(struct pulleynavy_core_value, bits) == 48, "layout");
+PULLEYNAVY_ASSERT(sizeof(struct pulleynavy_strip) == 32 && offsetof(struct pulleynavy_strip, size) == 24, "layout");
 #endif
 #undef PULLEYNAVY_ASSERT
 #ifdef __cplusplus

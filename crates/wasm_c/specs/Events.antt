@@ -14,6 +14,7 @@ use Rattle.wasm_parser.specs.GivesNextEvent.{GivesNextEvent}
 use Rattle.wasm_parser.specs.ParseAnswer.{ParseAnswer, Consumes, FaultsWithin, report_of}
 use Rattle.wasm_parser.specs.ParserState.{ParserState}
 use Rattle.wasm_parser.specs.declared.payload.Chunk.{Chunk}
+use Rattle.wasm_parser.specs.declared.payload.Payload.{Payload}
 use Rattle.wasm_parser.specs.declared.payload.Chunk.TheVariants.{NeedMoreData, Parsed}
 use Rattle.wasm_c.specs.Faults.{no_fault, plain_fault}
 use Rattle.wasm_c.specs.declared.events.PlainEvent.{PlainEvent}
@@ -66,10 +67,18 @@ report_event (unknown_section id contents from to) = event_between 8 id from to
 report_event (stream_end (ended offset)) = event_between 9 0 offset offset
 report_event (stream_end (fault f)) = fault_event f
 
+-- a payload, and what it consumed
+abbrev pub parsed_event : (consumed : ℕ) → Payload → PlainEvent
+parsed_event consumed payload = record (report_event (report_of payload)) { consumed = consumed }
+
+-- a request for more bytes
+abbrev pub request_event : (hint : ℕ) → PlainEvent
+request_event hint = record silent { hint = hint }
+
 -- what a parser answered
 abbrev pub answer_event : Result Chunk Error → PlainEvent
-answer_event (Ok (NeedMoreData hint)) = record silent { hint = hint }
-answer_event (Ok (Parsed consumed payload)) = record (report_event (report_of payload)) { consumed = consumed }
+answer_event (Ok (NeedMoreData hint)) = request_event hint
+answer_event (Ok (Parsed consumed payload)) = parsed_event consumed payload
 answer_event (Err e) = fault_event (fault_at e)
 
 -- The parser answered this on these bytes, which are all of the rest of the stream or its beginning, and is then here.

@@ -17,6 +17,7 @@ pub mod Relocations
 pub mod Segments
 pub mod Spans
 pub mod Stored
+pub mod Strips
 pub mod Symbols
 pub mod Texts
 pub mod TypeHeads

@@ -4,7 +4,7 @@ ghost use Rattle.wasm_base.specs.FaultAt.{fault_at};
 ghost use Rattle.wasm_base.specs.Window.{range_of};
 ghost use Rattle.wasm_grammar.specs.Reading.{counted};
 ghost use Rattle.wasm_parser.specs.ParseAnswer.{report_of, unread};
-ghost use Rattle.wasm_c.specs.Events.{answer_event, encoding_code, event_between, fault_event, report_event, silent};
+ghost use Rattle.wasm_c.specs.Events.{encoding_code, event_between, fault_event, parsed_event, report_event, request_event, silent};
 
 use crate::faults::{NO_FAULT, PlainFault, plain_fault};
 use wasm_grammar::{
@@ -12,7 +12,7 @@ use wasm_grammar::{
     EXPORT_SECTION, FUNCTION_SECTION, GLOBAL_SECTION, IMPORT_SECTION, MEMORY_SECTION,
     START_SECTION, TABLE_SECTION, TAG_SECTION, TYPE_SECTION,
 };
-use wasm_parser::{Chunk, Encoding, Error, Payload, Result, SectionLimited};
+use wasm_parser::{Encoding, Error, Payload, SectionLimited};
 
 /// What a parser answered, as plain numbers: an event, a fault or a request for more bytes. Numbers that its kind doesn't name are
 /// 0. Offsets and sizes are in bytes, offsets from the start of the whole stream (core specification, Binary format, Modules).
@@ -156,8 +156,8 @@ fn payload_event(payload: &Payload) -> PlainEvent
     }
 }
 
-// A fault.
-fn fault_event(error: Error) -> PlainEvent
+/// A fault.
+pub(crate) fn fault_event(error: Error) -> PlainEvent
     ensures { result ≡ fault_event (fault_at error) }
 {
     PlainEvent {
@@ -166,19 +166,22 @@ fn fault_event(error: Error) -> PlainEvent
     }
 }
 
-/// What a parser answered.
-pub(crate) fn answer_event(answer: Result<Chunk<'_>>) -> PlainEvent
-    ensures { result ≡ answer_event answer.entry }
+/// A request for more bytes.
+pub(crate) fn request_event(hint: usize) -> PlainEvent
+    ensures { result ≡ request_event hint }
 {
-    match answer {
-        Ok(Chunk::NeedMoreData(hint)) => PlainEvent {
-            hint: hint as u64,
-            ..SILENT
-        },
-        Ok(Chunk::Parsed { consumed, payload }) => PlainEvent {
-            consumed: consumed as u64,
-            ..payload_event(&payload)
-        },
-        Err(error) => fault_event(error),
+    PlainEvent {
+        hint: hint as u64,
+        ..SILENT
+    }
+}
+
+/// A payload, and what it consumed.
+pub(crate) fn parsed_event(consumed: usize, payload: &Payload) -> PlainEvent
+    ensures { result ≡ parsed_event consumed payload.now }
+{
+    PlainEvent {
+        consumed: consumed as u64,
+        ..payload_event(payload)
     }
 }

@@ -21,6 +21,7 @@ mod relocations;
 mod segments;
 mod spans;
 mod stored;
+mod strip;
 mod symbols;
 mod text;
 mod types;
@@ -73,6 +74,7 @@ pub use segments::{
 };
 pub use spans::PlainSpan;
 pub use stored::StoredParser;
+pub use strip::{PlainStrip, pulleynavy_strip};
 pub use symbols::{PlainSymbol, pulleynavy_linking_version, pulleynavy_symbol};
 pub use types::{PlainSubtype, PlainTypeGroup, pulleynavy_subtype, pulleynavy_type_group};
 pub use values::{

@@ -5,7 +5,7 @@ ghost use Rattle.wasm_c.specs.Events.{ParsesPlain};
 ghost use Rattle.wasm_c.specs.Stored.{parser_of, skipped_of};
 ghost use Rattle.wasm_c.specs.Texts.{Says, SaysFault};
 
-use crate::events::{PlainEvent, answer_event};
+use crate::events::{PlainEvent, fault_event, parsed_event, request_event};
 use crate::stored::StoredParser;
 use crate::text::write_text;
 use bitflags::Flags;
@@ -31,9 +31,15 @@ pub extern "C" fn pulleynavy_parse(
     ensures { ParsesPlain (parser_of stored.old) is_all bytes.now result (parser_of stored.new) }
 {
     let mut parser = stored.parser();
-    let event = answer_event(parser.parse(bytes, is_all));
-    *stored = StoredParser::of(&parser);
-    event
+    match parser.parse(bytes, is_all) {
+        Ok(Chunk::Parsed { consumed, payload }) => {
+            *stored = StoredParser::of(&parser);
+            parsed_event(consumed, &payload)
+        }
+        // The parser is what it was, so it needn't be stored again.
+        Ok(Chunk::NeedMoreData(hint)) => request_event(hint),
+        Err(error) => fault_event(error),
+    }
 }
 
 /// Passes what is left of a code section, and answers how many bytes that is: the caller hands in the bytes after those

@@ -1,6 +1,6 @@
 // The cases on standard input, and the lines of each.
 use crate::customs::show_row;
-use crate::pieces::{show_events, show_steps};
+use crate::pieces::{Shown, show_pieces};
 use bitflags::Flags;
 use std::alloc::{AllocError, Global};
 use std::io::{self, Read};
@@ -105,8 +105,8 @@ fn show_case<W: Sink>(
         "data" => show_read::<Data<'_>, W>(&mut reader, out),
         "recgroup" => show_read_in::<RecGroup, W>(alloc, &mut reader, out),
         "flatimports" => show_flattened(reader, out),
-        "events" => show_events(alloc, reader, offset, out)?,
-        "steps" => show_steps(alloc, reader, offset, out)?,
+        "events" => show_pieces(alloc, Shown::Events, reader, offset, out)?,
+        "steps" => show_pieces(alloc, Shown::Steps, reader, offset, out)?,
         "relocation" => show_read::<RelocationEntry, W>(&mut reader, out),
         "symbol" => show_read::<SymbolInfo<'_>, W>(&mut reader, out),
         "comdat" => show_read::<Comdat<'_>, W>(&mut reader, out),

@@ -56,15 +56,28 @@ fn write_line<W: Sink>(mut text: String, out: &mut Tree<W>) -> Result<(), Failed
     Ok(())
 }
 
-/// Writes the events of a stream in pieces that begins at this offset.
-pub(crate) fn show_events<W: Sink>(
+/// What is shown of a stream in pieces.
+pub(crate) enum Shown {
+    /// The events that are read.
+    Events,
+    /// The steps of a feeder that is given pieces as it asks for them, and one step after the last. Each with the bytes that are
+    /// then held and stored.
+    Steps,
+}
+
+/// Writes a line of a stream in pieces that begins at this offset.
+pub(crate) fn show_pieces<W: Sink>(
     alloc: Global,
+    shown: Shown,
     reader: BinaryReader<'_>,
     offset: u64,
     out: &mut Tree<W>,
 ) -> Result<(), Failed> {
     let mut text = String::new(alloc);
-    write_events(alloc, reader, offset, &mut text)?;
+    match shown {
+        Shown::Events => write_events(alloc, reader, offset, &mut text)?,
+        Shown::Steps => write_steps(alloc, reader, offset, &mut text)?,
+    }
     write_line(text, out)
 }
 
@@ -110,19 +123,6 @@ fn show_event(event: &Event, out: &mut String) -> Result<(), AllocError> {
     show_range(event.range.start..event.range.end, out)?;
     write!(out, " ")?;
     show_bytes(&event.bytes, out)
-}
-
-/// Writes the steps of a feeder that is given pieces as it asks for them, and one step after the last. Each with the
-/// bytes that are then held and stored.
-pub(crate) fn show_steps<W: Sink>(
-    alloc: Global,
-    reader: BinaryReader<'_>,
-    offset: u64,
-    out: &mut Tree<W>,
-) -> Result<(), Failed> {
-    let mut text = String::new(alloc);
-    write_steps(alloc, reader, offset, &mut text)?;
-    write_line(text, out)
 }
 
 fn write_steps(

@@ -2,9 +2,10 @@
 -- functions, locals, types, fields and tags. Those of labels, tables, memories, globals, element and data segments are
 -- of the extended name section proposal; those of parameters are this project's profile.
 use Rattle.std.specs.declared.ops.Range.{Range}
-use Rattle.std.specs.Prelude.{ℕ, ◌≤◌, ◌==◌, List, length, Some, None, Result, Ok, Err, nat_lt, if◌then◌else◌}
+use Rattle.std.specs.Prelude.{ℕ, ◌≤◌, List, [], ◌∷◌, length, Some, None, Result, Ok, Err, nat_lt, if◌then◌else◌}
 use Rattle.wasm_base.specs.FaultAt.{FaultAt, at_offset}
 use Rattle.wasm_base.specs.Inner.{inner_section_at}
+use Rattle.wasm_base.specs.Leading.{lookup_or}
 use Rattle.wasm_base.specs.Name.{name_limit, text_at}
 use Rattle.wasm_base.specs.Number.{unsigned_at}
 use Rattle.wasm_base.specs.Outcome.{Outcome, ◌>>=◌}
@@ -123,19 +124,7 @@ indirect_in id w = do
 
 -- a subsection of names, by its id (Subsections)
 unfoldable pub name_in : (id : ℕ) → Window → Result NameParts FaultAt
-name_in id w =
-    if id == 0 then module_name_in w
-    else if id == 1 then direct_in 1 w
-    else if id == 2 then indirect_in 2 w
-    else if id == 3 then indirect_in 3 w
-    else if id == 4 then direct_in 4 w
-    else if id == 5 then direct_in 5 w
-    else if id == 6 then direct_in 6 w
-    else if id == 7 then direct_in 7 w
-    else if id == 8 then direct_in 8 w
-    else if id == 9 then direct_in 9 w
-    else if id == 10 then indirect_in 10 w
-    else if id == 11 then direct_in 11 w
-    else if id == 12 then indirect_in 12 w
-    else if id == 13 then indirect_in 13 w
-    else Ok (unknown id (place w).rest (rest_range w))
+name_in id = lookup_or (λ w. Ok (unknown id (place w).rest (rest_range w)))
+    ((0, module_name_in) ∷ (1, direct_in 1) ∷ (2, indirect_in 2) ∷ (3, indirect_in 3) ∷ (4, direct_in 4)
+    ∷ (5, direct_in 5) ∷ (6, direct_in 6) ∷ (7, direct_in 7) ∷ (8, direct_in 8) ∷ (9, direct_in 9)
+    ∷ (10, indirect_in 10) ∷ (11, direct_in 11) ∷ (12, indirect_in 12) ∷ (13, indirect_in 13) ∷ []) id

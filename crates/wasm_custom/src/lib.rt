@@ -27,7 +27,9 @@ pub use linking::{
     Comdat, ComdatMap, ComdatSymbol, ComdatSymbolKind, DefinedDataSymbol, InitFunc, InitFuncMap,
     Linking, LinkingIntoIter, LinkingSectionReader, Segment, SegmentMap, SymbolInfo, SymbolInfoMap,
 };
-pub use names::{IndirectNameMap, IndirectNaming, Name, NameMap, NameSectionReader, Naming};
+pub use names::{
+    IndexedMap, IndirectNameMap, IndirectNaming, MapEntry, Name, NameMap, NameSectionReader, Naming,
+};
 pub use producers::{ProducersField, ProducersFieldValue, ProducersSectionReader};
 pub use reloc::{
     RelocAddendKind, RelocSectionReader, RelocationEntry, RelocationEntryReader, RelocationType,

@@ -292,6 +292,7 @@ impl<'a> FromReader<'a> for DefinedDataSymbol {
 
 // The name of a symbol, where it is written.
 #[tactic(auto, unfolding(crate::specs::Linking::symbol_name_at))]
+#[inline(always)]
 fn read_name<'a>(flags: SymbolFlags, reader: &mut BinaryReader<'a>) -> Result<Option<&'a str>>
     ensures gives { GivesBy (λ name. text_if_any name (λ text. text.now)) result reader.old reader.new
         (symbol_name_at (symbol_bits flags)) }

@@ -1,7 +1,7 @@
 // Names.
-ghost use Rattle.std.specs.Prelude.{⊤, ◌≡◌, length};
+ghost use Rattle.std.specs.Prelude.{⊤, ◌≡◌, ℕ, false, length, refl};
 ghost use Rattle.std.specs.Iterator.{at_most};
-ghost use Rattle.wasm_base.specs.Hints.{Hints, TakesNoMemory};
+ghost use Rattle.wasm_base.specs.Hints.{Hints, TakesNoMemory, is_want_of_memory};
 ghost use Rattle.wasm_base.specs.Item.{ReadsAs};
 ghost use Rattle.wasm_base.specs.Outcome.{GivesResult};
 ghost use Rattle.wasm_base.specs.Section.{NextItem, all_items, most_items};
@@ -12,6 +12,7 @@ ghost use Rattle.wasm_custom.specs.Names.{naming_parts, naming_at, passed_naming
 
 use crate::ascending::in_order;
 use std::alloc::{AllocError, Global};
+use std::fmt;
 use std::marker::Model;
 use std::ops::Range;
 use wasm_base::{
@@ -51,18 +52,64 @@ impl<'a> SkipItem<'a> for Naming<'a> {
     }
 }
 
-/// Names by index, which ascend (core specification, Appendix, Custom Sections, Name Section, Name Maps).
+/// An entry of a map: what an index stands for, and the fault where indices don't ascend.
+pub trait MapEntry<'a>: FromReader<'a> {
+    ghost use Rattle.wasm_base.specs.declared.fault.Fault.{Fault};
+
+    ghost index_of: { Self → ℕ };
+
+    ghost order_fault: { Fault };
+
+    ghost takes_no_memory: { is_want_of_memory order_fault ≡ false };
+
+    /// The fault of an entry whose index isn't above every index that was given before.
+    fn order_fault() -> Fault
+        ensures { result ≡ order_fault };
+
+    /// The index of what is named.
+    fn index(&self) -> u32
+        ensures { result ≡ index_of self.now };
+}
+
+impl<'a> MapEntry<'a> for Naming<'a> {
+    ghost use Rattle.wasm_base.specs.declared.fault.Fault.TheVariants.{NamesOrder};
+
+    ghost index_of = { index_of };
+
+    ghost order_fault = { NamesOrder };
+
+    ghost takes_no_memory = { refl };
+
+    fn order_fault() -> Fault
+        ensures { result ≡ NamesOrder }
+    {
+        Fault::NamesOrder
+    }
+
+    fn index(&self) -> u32 {
+        self.index
+    }
+}
+
+/// Entries by index, which ascend (core specification, Appendix, Custom Sections, Name Section, Name Maps).
 ///
-/// The names come in order, up to the first that can't be read. One whose index isn't above every index that was given
-/// before is `NamesOrder` at its start, and the next one follows.
-#[derive(Debug, Drop)]
-pub struct NameMap<'a> {
-    /// The names as they stand, in whatever order.
-    pub names: SectionLimitedIntoIter<'a, Naming<'a>>,
+/// They come in order, up to the first that can't be read. One whose index isn't above every index that was given before is
+/// its `order_fault` at its start, and the next one follows.
+#[derive(Drop)]
+pub struct IndexedMap<'a, T> {
+    /// The entries as they stand, in whatever order.
+    pub names: SectionLimitedIntoIter<'a, T>,
     last: Option<u32>,
 }
 
-impl<'a> Model for NameMap<'a> {
+/// Names by index. One whose index isn't above the last is `NamesOrder`.
+pub type NameMap<'a> = IndexedMap<'a, Naming<'a>>;
+
+/// Names of what indices have, by index (core specification, Appendix, Custom Sections, Name Section, Indirect Name Maps). One
+/// whose index isn't above the last is `IndirectOrder`.
+pub type IndirectNameMap<'a> = IndexedMap<'a, IndirectNaming<'a>>;
+
+impl<'a, T> Model for IndexedMap<'a, T> {
     ghost use Rattle.wasm_base.specs.Section.{Items};
     ghost use Rattle.wasm_custom.specs.Ascending.{Ascending};
 
@@ -71,58 +118,63 @@ impl<'a> Model for NameMap<'a> {
     ghost view = { λ s. record { entries = s.names; last = s.last } };
 }
 
-impl<'a> Clone for NameMap<'a> {
+impl<'a> fmt::Debug for IndexedMap<'a, Naming<'a>> {
+    fn fmt<W: fmt::Write>(&self, f: &mut fmt::Formatter<W>) -> fmt::Result {
+        f.debug_struct("NameMap")
+            .field("names", &self.names)
+            .field("last", &self.last)
+            .finish()
+    }
+}
+
+impl<'a, T: Clone> Clone for IndexedMap<'a, T> {
     ghost is_clone = { λ names copy. copy ≡ names };
 
     ghost is_infallible = { λ _. ⊤ };
 
     fn clone(&self) -> std::result::Result<Self, AllocError> {
-        Ok(NameMap {
+        Ok(IndexedMap {
             names: self.names.clone()?,
             last: self.last,
         })
     }
 }
 
-impl<'a> NameMap<'a> {
-    /// Reads the count, a u32, with the faults of `read_var_u32`. No name is looked at.
+impl<'a, T: FromReader<'a>> IndexedMap<'a, T> {
+    /// Reads the count, a u32, with the faults of `read_var_u32`. No entry is looked at.
     #[tactic(auto, unfolding(crate::specs::Names::entries_in))]
     pub fn new(reader: BinaryReader<'a>) -> Result<Self>
         ensures gives { GivesResult (λ names. names) result (entries_in reader.entry) }
         ensures hints { Hints 1 result }
         ensures memory { TakesNoMemory result }
     {
-        Ok(NameMap::over(SectionLimited::new(reader)?))
+        Ok(IndexedMap::over(SectionLimited::new(reader)?))
     }
 
-    // The names of a section.
-    fn over(section: SectionLimited<'a, Naming<'a>>) -> Self
+    // The entries of a section.
+    fn over(section: SectionLimited<'a, T>) -> Self
         ensures { result ≡ none_given (all_items section.entry) }
     {
-        NameMap {
+        IndexedMap {
             names: section.into_iter(),
             last: None,
         }
     }
 }
 
-impl<'a> Iterator for NameMap<'a> {
-    ghost use Rattle.wasm_base.specs.declared.fault.Fault.TheVariants.{NamesOrder};
+impl<'a, T: MapEntry<'a>> Iterator for IndexedMap<'a, T> {
+    type Item = Result<T>;
 
-    type Item = Result<Naming<'a>>;
-
-    ghost next_gives = { NextAscending (NextItem (ReadsAs naming_parts naming_at))
-        offset_of_entry index_of NamesOrder };
+    ghost next_gives = { NextAscending (NextItem T.meaning) offset_of_entry T.index_of T.order_fault };
 
     ghost remaining = { λ names. at_most (most_items names.entries) };
 
-    fn next(&mut self) -> Option<Result<Naming<'a>>> {
+    fn next(&mut self) -> Option<Result<T>> {
         let start = self.names.original_position();
         match self.names.next() {
-            Some(Ok(naming)) => {
-                let index = naming.index;
-                let fault = Fault::NamesOrder;
-                Some(in_order(&mut self.last, index, naming, fault, start))
+            Some(Ok(entry)) => {
+                let index = entry.index();
+                Some(in_order(&mut self.last, index, entry, T::order_fault(), start))
             }
             Some(Err(e)) => Some(Err(e)),
             None => None,
@@ -152,77 +204,23 @@ impl<'a> FromReader<'a> for IndirectNaming<'a> {
     }
 }
 
-/// Names of what indices have, by index, which ascend (core specification, Appendix, Custom Sections, Name Section, Indirect Name
-/// Maps).
-///
-/// They come in order, up to the first that can't be read. One whose index isn't above every index that was given before is
-/// `IndirectOrder` at its start, and the next one follows.
-#[derive(Drop)]
-pub struct IndirectNameMap<'a> {
-    /// The names as they stand, in whatever order.
-    pub names: SectionLimitedIntoIter<'a, IndirectNaming<'a>>,
-    last: Option<u32>,
-}
-
-impl<'a> Model for IndirectNameMap<'a> {
-    ghost use Rattle.wasm_base.specs.Section.{Items};
-    ghost use Rattle.wasm_custom.specs.Ascending.{Ascending};
-
-    ghost Value = { Ascending Items };
-
-    ghost view = { λ s. record { entries = s.names; last = s.last } };
-}
-
-impl<'a> Clone for IndirectNameMap<'a> {
-    ghost is_clone = { λ names copy. copy ≡ names };
-
-    ghost is_infallible = { λ _. ⊤ };
-
-    fn clone(&self) -> std::result::Result<Self, AllocError> {
-        Ok(IndirectNameMap {
-            names: self.names.clone()?,
-            last: self.last,
-        })
-    }
-}
-
-impl<'a> IndirectNameMap<'a> {
-    /// Reads the count, a u32, with the faults of `read_var_u32`. No name is looked at.
-    #[tactic(auto, unfolding(crate::specs::Names::entries_in))]
-    pub fn new(reader: BinaryReader<'a>) -> Result<Self>
-        ensures gives { GivesResult (λ names. names) result (entries_in reader.entry) }
-        ensures hints { Hints 1 result }
-        ensures memory { TakesNoMemory result }
-    {
-        let section: SectionLimited<'a, IndirectNaming<'a>> = SectionLimited::new(reader)?;
-        Ok(IndirectNameMap {
-            names: section.into_iter(),
-            last: None,
-        })
-    }
-}
-
-impl<'a> Iterator for IndirectNameMap<'a> {
+impl<'a> MapEntry<'a> for IndirectNaming<'a> {
     ghost use Rattle.wasm_base.specs.declared.fault.Fault.TheVariants.{IndirectOrder};
 
-    type Item = Result<IndirectNaming<'a>>;
+    ghost index_of = { index_of_indirect };
 
-    ghost next_gives = { NextAscending (NextItem (ReadsAs (λ naming. naming) indirect_naming_at))
-        offset_of_entry index_of_indirect IndirectOrder };
+    ghost order_fault = { IndirectOrder };
 
-    ghost remaining = { λ names. at_most (most_items names.entries) };
+    ghost takes_no_memory = { refl };
 
-    fn next(&mut self) -> Option<Result<IndirectNaming<'a>>> {
-        let start = self.names.original_position();
-        match self.names.next() {
-            Some(Ok(naming)) => {
-                let index = naming.index;
-                let fault = Fault::IndirectOrder;
-                Some(in_order(&mut self.last, index, naming, fault, start))
-            }
-            Some(Err(e)) => Some(Err(e)),
-            None => None,
-        }
+    fn order_fault() -> Fault
+        ensures { result ≡ IndirectOrder }
+    {
+        Fault::IndirectOrder
+    }
+
+    fn index(&self) -> u32 {
+        self.index
     }
 }
 

@@ -6,35 +6,40 @@ use Rattle.wasm_feed.specs.Calls.{from_to}
 use Rattle.wasm_feed.specs.declared.listing.Ended.{Ended}
 use Rattle.wasm_feed.specs.declared.devices.ListError.{ListError}
 use Rattle.wasm_feed.specs.declared.devices.ListError.TheVariants.{Input, Output, Memory}
+use Rattle.wasm_show.specs.Numbers.{Number}
 use Rattle.wasm_show.specs.Dump.{WritesWhole, WritesSome, Writes, Dumps}
 use Rattle.wasm_show.specs.declared.only.Only.{Only}
 use Rattle.wasm_feed.specs.declared.devices.Failed.{Failed}
 
-whole_kept : (a b c : Option (List ℕ)) (outline : List ℕ) → WritesWhole a b outline → Keeps b c → WritesWhole a c outline
-whole_kept a b c outline w k = record { text = w.text; outlined = w.outlined; wrote = appends_kept a b c w.text w.wrote k }
+whole_kept : (a b c : Option (List ℕ)) (outline : List ℕ) (numbers : List Number) → WritesWhole a b outline numbers → Keeps b c
+    → WritesWhole a c outline numbers
+whole_kept a b c outline numbers w k = record { text = w.text; outlined = w.outlined; wrote = appends_kept a b c w.text w.wrote k }
 
-some_kept : (a b c : Option (List ℕ)) (outline : List ℕ) → WritesSome a b outline → Keeps b c → WritesSome a c outline
-some_kept a b c outline w k = record {
+some_kept : (a b c : Option (List ℕ)) (outline : List ℕ) (numbers : List Number) → WritesSome a b outline numbers → Keeps b c
+    → WritesSome a c outline numbers
+some_kept a b c outline numbers w k = record {
   text = w.text;
   unwritten = w.unwritten;
   outlined = w.outlined;
   wrote = appends_kept a b c w.text w.wrote k;
 }
 
-writes_kept : (how : Result Ended ListError) (a b c : Option (List ℕ)) (outline : List ℕ) → Writes how a b outline → Keeps b c
-    → Writes how a c outline
-writes_kept (Ok ended) a b c outline w k = whole_kept a b c outline w k
-writes_kept (Err Input) a b c outline w k = whole_kept a b c outline w k
-writes_kept (Err Output) a b c outline w k = some_kept a b c outline w k
-writes_kept (Err Memory) a b c outline w k = some_kept a b c outline w k
+writes_kept : (how : Result Ended ListError) (a b c : Option (List ℕ)) (outline : List ℕ) (numbers : List Number)
+    → Writes how a b outline numbers → Keeps b c → Writes how a c outline numbers
+writes_kept (Ok ended) a b c outline numbers w k = whole_kept a b c outline numbers w k
+writes_kept (Err Input) a b c outline numbers w k = whole_kept a b c outline numbers w k
+writes_kept (Err Output) a b c outline numbers w k = some_kept a b c outline numbers w k
+writes_kept (Err Memory) a b c outline numbers w k = some_kept a b c outline numbers w k
 
 pub dumps_kept : (only : Only) (source rest a b c : Option (List ℕ)) (how : Result Ended ListError)
     → Dumps only (from_to source rest) (from_to a b) how → Keeps b c
     → Dumps only (from_to source rest) (from_to a c) how
 dumps_kept only source rest a b c how d k = record {
   outline = d.outline;
+  numbers = d.numbers;
   lists = d.lists;
-  writes = writes_kept how a b c d.outline d.writes k;
+  counts = d.counts;
+  writes = writes_kept how a b c d.outline d.numbers d.writes k;
 }
 
 -- all of a text was written, and then the output failed to hand it on

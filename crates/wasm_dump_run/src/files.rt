@@ -1,14 +1,15 @@
 // Runs over files.
 ghost use Rattle.std.specs.Prelude.{◌≡◌, option_map, drop, map, string_bytes};
 ghost use Rattle.std.specs.Vec.Iter.{into_iter_items};
+ghost use Rattle.wasm_run.specs.Endings.{status_of};
 ghost use Rattle.wasm_dump_run.specs.Files.{is_option, named_after, named_by, named_if_any, named_of};
 
 use crate::command::sections_named;
-use crate::program::show_input;
+use crate::program::{answer, dump_input, show_input};
 use std::env::Args;
 use std::fs;
 use std::io::{self, Error, Write};
-use wasm_feed::{Failed, ListError, ReadSource, Sink, WriteSink, write_all};
+use wasm_feed::{Ended, Failed, ListError, ReadSource, Sink, WriteSink, write_all};
 use wasm_run::{complain, give_up};
 use wasm_show::Only;
 
@@ -100,6 +101,17 @@ fn complain_of<R: AllocGlobal, E: Sink>(rt: &R, name: &str, error: &Error, error
     }
 }
 
+// The status of the dump of a file that ended so. A message says why it was given up, and names the file where that can't be read.
+fn answer_for<E: Sink>(name: &str, how: Result<Ended, ListError>, errors: &mut E) -> u8
+    ensures { result ≡ status_of how }
+{
+    if let Err(ListError::Input) = how {
+        complain(errors, name.as_bytes());
+        complain(errors, b": ");
+    }
+    answer(how, errors)
+}
+
 // Dumps a file, or standard input where its name is `-`, and answers the status.
 fn dump_file<W: Write, E: Sink>(
     rt: &HostRuntime,
@@ -118,7 +130,10 @@ fn dump_file<W: Write, E: Sink>(
         );
     }
     match fs::open(rt, name) {
-        Ok(file) => show_input(rt.alloc(), only, &mut ReadSource::new(file), output, errors),
+        Ok(file) => {
+            let (how, output) = dump_input(rt.alloc(), only, &mut ReadSource::new(file), output);
+            (answer_for(name, how, errors), output)
+        }
         Err(error) => (complain_of(rt, name, &error, errors), output),
     }
 }

@@ -179,8 +179,8 @@ pub(crate) fn show_input<R: Source, W: Write, E: Sink>(
     (answer(how, errors), output)
 }
 
-// The status of a dump that ended so, of which a message says why it was given up.
-fn answer<E: Sink>(how: Result<Ended, ListError>, errors: &mut E) -> u8
+/// The status of a dump that ended so, of which a message says why it was given up.
+pub(crate) fn answer<E: Sink>(how: Result<Ended, ListError>, errors: &mut E) -> u8
     ensures status { result ≡ status_of how }
     ensures reports { Reports how (device_of E.taken E.has_failed errors.old errors.new) }
 {

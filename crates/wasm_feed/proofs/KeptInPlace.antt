@@ -1,13 +1,13 @@
 -- What is left of a stream, moved to the front of its bytes.
-use Rattle.std.proofs.Common.{◌≡◌, ℕ, Bool, ◌+◌, ◌-◌, ◌≤◌, List, ◌++◌, length, take, drop, refl, sym, ap, subst, ◌∙◌, arith, length-append}
-use Rattle.std.proofs.Common.{append_assoc}
+use Rattle.std.proofs.Common.{◌≡◌, ℕ, Bool, ◌+◌, ◌-◌, ◌≤◌, ◌<◌, List, ◌++◌, length, take, drop, refl, sym, ap, subst, ◌∙◌, arith}
+use Rattle.std.proofs.Common.{length-append, append_assoc}
 use Rattle.std.specs.List.{copy_within}
 use Rattle.std.proofs.lemmas.List.{take_at, drop-drop, length-drop, take-append-drop}
 use Rattle.std.proofs.lemmas.List.Edits.{take-paste, drop-paste}
 use lib.Seq.{paste}
 use Rattle.wasm_parser.specs.Along.{Along}
 use Rattle.wasm_feed.specs.Cursors.{feed_of}
-use Rattle.wasm_feed.specs.Strips.{HasKept}
+use Rattle.wasm_feed.specs.Strips.{HasKept, EndsAtMark}
 use Rattle.wasm_feed.specs.declared.feeder.Cursor.{Cursor}
 use Rattle.wasm_base.specs.Features.{all_features}
 
@@ -57,18 +57,28 @@ mark_within bytes part old new within (size, parts) =
     ∙ length-append part (drop new bytes) in
     omega (arith, within, size, n, length-drop old bytes)
 
+-- a part after which fewer bytes are held isn't empty
+pub not_empty : (bytes part : List ℕ) (old new : ℕ) → drop old bytes ≡ part ++ drop new bytes
+    → length (drop new bytes) < length (drop old bytes) → 0 < length part
+not_empty bytes part old new parts fewer =
+    let n : length (drop old bytes) ≡ length part + length (drop new bytes) = ap (λ (x : List ℕ). length x) parts
+    ∙ length-append part (drop new bytes) in
+    omega (arith, n, fewer)
+
 -- so what is left goes on with it
-pub moves_on : (keep : Bool) (stream bytes items part : List ℕ) (kept start : ℕ) (old new : Cursor) → start ≡ old.mark → kept ≤ old.mark
-    → old.mark ≤ length bytes
-    → (new.mark ≡ old.mark + length part) × (drop old.mark bytes ≡ part ++ drop new.mark bytes) → items
-    ≡ copy_within bytes start (start + length part) kept
+pub moves_on : (keep : Bool) (stream bytes items part : List ℕ) (kept old : ℕ) (new : Cursor) → kept ≤ old
+    → (at : EndsAtMark bytes old part new.mark)
+    → items ≡ copy_within bytes (new.mark - length part) (new.mark - length part + length part) kept
     → HasKept keep stream (feed_of bytes new) (take kept bytes ++ part)
     → HasKept keep stream (feed_of items new) (take (kept + length part) items)
-moves_on keep stream bytes items part kept start old new e order within (size, parts) i (events, a, b) =
-    let m : items ≡ copy_within bytes old.mark (old.mark + length part) kept = i
-    ∙ ap (λ (n : ℕ). copy_within bytes n (n + length part) kept) e in
+moves_on keep stream bytes items part kept old new before at i (events, a, b) =
+    let order : kept ≤ at.start = omega (arith, before, at.order) in
+    let within : at.start ≤ length bytes = omega (arith, at.within, at.size) in
+    let start : new.mark - length part ≡ at.start = omega (arith, at.size) in
+    let m : items ≡ copy_within bytes at.start (at.start + length part) kept = i
+    ∙ ap (λ (n : ℕ). copy_within bytes n (n + length part) kept) start in
     let held : drop new.mark items ≡ drop new.mark bytes = ap (drop new.mark) m
-    ∙ moved_rest bytes part kept old.mark new.mark order within size parts in
+    ∙ moved_rest bytes part kept at.start new.mark order within at.size at.parts in
     let front : take (kept + length part) items ≡ take kept bytes ++ part = ap (take (kept + length part)) m
-    ∙ moved_front bytes part kept old.mark new.mark order within size parts in
+    ∙ moved_front bytes part kept at.start new.mark order within at.size at.parts in
     (events, subst (λ (x : List ℕ). Along 0 all_features stream new.parser x events) (sym held) a, front ∙ b)

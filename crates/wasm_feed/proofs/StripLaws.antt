@@ -1,6 +1,6 @@
 -- What is left of a stream is accepted, and is read as the stream is but for what was dropped.
 use Rattle.std.proofs.Common.{◌≡◌, ℕ, ◌+◌, ◌<◌, ◌≤◌, ◌^◌, ◌⊎◌, inl, inr, Bool, true, false, cond, List, [], ◌∷◌, ◌++◌, length, nat_eq}
-use Rattle.std.proofs.Common.{Result, Ok, Err, refl, sym, ap, subst, subst₂, ◌∙◌, arith, length-append, eqb-true}
+use Rattle.std.proofs.Common.{take, Result, Ok, Err, refl, sym, ap, subst, subst₂, ◌∙◌, arith, length-append, eqb-true}
 use Rattle.std.specs.List.{All, filter, flat_map}
 use Rattle.std.proofs.lemmas.List.Elements.{All-append, All-tail}
 use Rattle.wasm_base.specs.FaultAt.{fault_at}
@@ -17,7 +17,7 @@ use Rattle.wasm_grammar.specs.declared.encoding.Encoding.TheVariants.{Module, Co
 use Rattle.wasm_parser.proofs.ForCallers.{reads_accepted, fault_ends, rankless_may_go, one_division, frames_give_events}
 use Rattle.wasm_grammar.proofs.PlainLists.{all_prefix, Spares, filter_twice, each_of}
 use Rattle.wasm_feed.specs.Stripped.{frame_stays, stripped, kept_bytes, AreKept, IsStripped, EndsWithFault, RefusesToStrip, LeavesStream}
-use Rattle.wasm_feed.specs.Stripped.{StripsInPlace, StrippingTwiceIsOnce}
+use Rattle.wasm_feed.specs.Stripped.{StripsToFront, StrippingTwiceIsOnce}
 use Rattle.wasm_feed.specs.Strips.{MovesKept, ReadsKept}
 use Rattle.wasm_feed.proofs.KeptFrames.{bytes_of_frames, KeptOf, KeptAfter, kept_of}
 use Rattle.wasm_base.specs.Features.{all_features}
@@ -216,11 +216,11 @@ strips_so keep stream kept s r =
     let a : IsAccepted stream = accepted_of keep stream kept s r in
     subst (IsStripped keep stream) (sym (kept_is keep stream kept a s r)) (is_stripped keep stream a s)
 
--- in place: what is left was moved to the front, which cannot end with a fault where the stream is accepted
-pub strips_in_place : (keep : Bool) (stream kept after : List ℕ) (r : Result (Unit {0}) Error) → Stream stream 0
-    → ReadsKept keep stream kept → MovesKept keep stream r after → StripsInPlace keep stream r after
-strips_in_place keep stream kept after (Ok done) s reads m = strips_so keep stream after s m
-strips_in_place keep stream kept after (Err e) s reads m = absurd (not_accepted stream e s m (accepted_of keep stream kept s reads))
+-- what is left was moved to the front, which cannot end with a fault where the stream is accepted
+pub strips_to_front : (keep : Bool) (stream kept after : List ℕ) (r : Result ℕ Error) → Stream stream 0
+    → ReadsKept keep stream kept → MovesKept keep stream r after → StripsToFront keep stream r after
+strips_to_front keep stream kept after (Ok size) s reads m = (strips_so keep stream (take size after) s m.0, m.1, m.2)
+strips_to_front keep stream kept after (Err e) s reads m = absurd (not_accepted stream e s m (accepted_of keep stream kept s reads))
 
 -- ---- twice
 

@@ -8,7 +8,7 @@ use Rattle.wasm_grammar.specs.Content.{Ending, fault, ended}
 use Rattle.wasm_grammar.specs.EventRanges.{consumed_by}
 use Rattle.wasm_grammar.specs.Reading.{Report, Event, last_event, Reading}
 use Rattle.wasm_parser.specs.Along.{ReadingBegins}
-use Rattle.wasm_feed.specs.Calls.{Change}
+use Rattle.wasm_feed.specs.Calls.{Change, Device, bytes_of}
 use Rattle.wasm_feed.specs.Feed.{Feed, pushed, finished}
 use Rattle.wasm_feed.specs.Listing.{line_of, listing_by}
 use Rattle.wasm_feed.specs.declared.listing.Ended.{Ended}
@@ -106,3 +106,9 @@ output_failed (Err Output) before = true
 output_failed (Err Input) before = before
 output_failed (Err Memory) before = before
 output_failed (Ok a) before = before
+
+-- A whole listing: what it wrote of what the source gave, and whether each device has failed.
+pub record ListsSource (input output : Device) (how : Result Ended ListError) : Type 0 where
+  pub lists : Lists (bytes_of input) (bytes_of output) how
+  pub source : input.has_failed ≡ input_failed how input.had_failed
+  pub sink : output.has_failed ≡ output_failed how output.had_failed

@@ -1,5 +1,6 @@
 -- A stream without its custom sections. Core specification, Binary format, Modules, Custom Section.
-use Rattle.std.specs.Prelude.{◌≡◌, ℕ, ◌+◌, Bool, true, false, ◌&&◌, ◌||◌, not, List, [], ◌∷◌, ◌++◌, length, filter}
+use Rattle.std.specs.Prelude.{◌≡◌, ◌≤◌, ℕ, ◌+◌, Bool, true, false, ◌&&◌, ◌||◌, not, List, [], ◌∷◌, ◌++◌, length, take}
+use Rattle.std.specs.Prelude.{filter}
 use Rattle.std.specs.Prelude.{flat_map, codes, bytes_eq, nat_eq, Vec, Some, Result, Ok, Err, if◌then◌else◌}
 use Rattle.std.specs.List.{AllZip}
 use Rattle.wasm_base.specs.FaultAt.{fault_at}
@@ -89,6 +90,12 @@ pub record LeavesStream (stream : List ℕ) (e : Error) (after : List ℕ) : Typ
   pub refused : ¬ IsAccepted stream
   pub fault : EndsWithFault stream e
   pub unchanged : after ≡ stream
+
+-- The same in the stream's own bytes: what is left is the first of them, so many.
+abbrev pub StripsToFront : (keep : Bool) (stream : List ℕ) → Result ℕ Error → (after : List ℕ) → Type 0
+StripsToFront keep stream (Ok size) after = IsStripped keep stream (take size after) × (size ≤ length after)
+    × (length after ≡ length stream)
+StripsToFront keep stream (Err e) after = LeavesStream stream e after
 
 -- The same in the stream's own memory.
 abbrev pub StripsInPlace : (keep : Bool) (stream : List ℕ) → Result (Unit {0}) Error → (after : List ℕ) → Type 0

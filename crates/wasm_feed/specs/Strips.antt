@@ -1,6 +1,7 @@
 -- One pass over a stream that is stripped.
-use Rattle.std.specs.Prelude.{◌≡◌, ◌⊎◌, ℕ, ◌+◌, ◌<◌, ◌^◌, Bool, true, false, List, ◌∷◌, [], ◌++◌, length, drop, Result}
-use Rattle.std.specs.Prelude.{Ok, Err, if◌then◌else◌}
+use Rattle.std.specs.Prelude.{◌≡◌, ◌⊎◌, ℕ, ◌+◌, ◌<◌, ◌≤◌, ◌^◌, Bool, true, false, List, ◌∷◌, [], ◌++◌, length}
+use Rattle.std.specs.Prelude.{take, drop, Option, Some, None, Result, Ok, Err, if◌then◌else◌}
+use Rattle.std.specs.Borrow.{Bor}
 use Rattle.wasm_base.specs.FaultAt.{fault_at}
 use Rattle.wasm_base.specs.Owned.{out_of_memory}
 use Rattle.wasm_base.specs.declared.error.Error.{Error}
@@ -80,9 +81,10 @@ abbrev pub CopiesKept : (keep : Bool) (stream before : List ℕ) → Result (Uni
 CopiesKept keep stream before (Ok done) after = (kept : List ℕ) × ReadsKept keep stream kept × (after ≡ before ++ kept)
 CopiesKept keep stream before (Err e) after = EndsWithFault stream e ⊎ (fault_at e ≡ out_of_memory)
 
--- what is left of a stream was moved to the front of its bytes, and is all of them, if it has no fault
-abbrev pub MovesKept : (keep : Bool) (stream : List ℕ) → Result (Unit {0}) Error → (after : List ℕ) → Type 0
-MovesKept keep stream (Ok done) after = ReadsKept keep stream after
+-- what is left of a stream was moved to the front of its bytes, and is so many of them, if it has no fault
+abbrev pub MovesKept : (keep : Bool) (stream : List ℕ) → Result ℕ Error → (after : List ℕ) → Type 0
+MovesKept keep stream (Ok size) after = ReadsKept keep stream (take size after) × (size ≤ length after)
+    × (length after ≡ length stream)
 MovesKept keep stream (Err e) after = EndsWithFault stream e
 
 -- a part is the bytes between two marks
@@ -90,3 +92,29 @@ abbrev pub Passes : (bytes : List ℕ) (old : ℕ) → Result Part Error → (ne
 Passes bytes old (Ok part) new = (new ≡ old + length part.bytes.now)
     × (drop old bytes ≡ part.bytes.now ++ drop new bytes)
 Passes bytes old (Err e) new = Unit {0}
+
+-- These bytes were kept of a stream, and this came next: a part that stays, which is kept too; the end; or a fault.
+abbrev pub KeptComes : (keep : Bool) (stream kept : List ℕ) → Result (Option (Bor (List ℕ))) Error → Feed → Type 0
+KeptComes keep stream kept (Ok (Some part)) new = HasKept keep stream new (kept ++ part.now)
+KeptComes keep stream kept (Ok None) new = ReadsKept keep stream kept
+KeptComes keep stream kept (Err e) new = EndsWithFault stream e
+
+-- the same wherever the feeder was
+abbrev pub TakesKept : (keep : Bool) → (old : Feed) → Result (Option (Bor (List ℕ))) Error → (new : Feed) → Type 0
+TakesKept keep old result new = (stream kept : List ℕ) → HasKept keep stream old kept → length stream < 2 ^ 64
+    → KeptComes keep stream kept result new
+
+-- A part of some bytes ends at the second mark, and begins at the first one or after it.
+pub record EndsAtMark (bytes : List ℕ) (old : ℕ) (part : List ℕ) (new : ℕ) : Type 0 where
+  pub start : ℕ
+  pub order : old ≤ start
+  pub size : new ≡ start + length part
+  pub parts : drop start bytes ≡ part ++ drop new bytes
+  pub within : new ≤ length bytes
+  pub some : 0 < length part
+
+-- if one stays
+abbrev pub PassesKept : (bytes : List ℕ) (old : ℕ) → Result (Option (Bor (List ℕ))) Error → (new : ℕ) → Type 0
+PassesKept bytes old (Ok (Some part)) new = old ≤ length bytes → EndsAtMark bytes old part.now new
+PassesKept bytes old (Ok None) new = Unit {0}
+PassesKept bytes old (Err e) new = Unit {0}

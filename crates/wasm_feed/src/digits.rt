@@ -2,6 +2,11 @@
 ghost use Rattle.std.specs.Prelude.{◌≡◌, ◌+◌, ◌/◌, ◌%◌, ◌<◌, ◌≤◌, ◌∷◌, ◌++◌, length, drop};
 ghost use Rattle.std.specs.Fmt.{decimal};
 
+// The two digits of each number below 100, one pair after the other.
+static PAIRS: [u8; 200] =
+    *b"0001020304050607080910111213141516171819202122232425262728293031323334353637383940414243444546474849\
+    5051525354555657585960616263646566676869707172737475767778798081828384858687888990919293949596979899";
+
 /// Writes the digits of a number so that they end here, and says where they start.
 pub(crate) fn write_digits(number: u64, bytes: &mut [u8], end: usize) -> usize
     requires { (length (decimal number) ≤ end) × (end ≤ length bytes.old) }
@@ -32,12 +37,14 @@ fn write_first(number: u64, bytes: &mut [u8], end: usize) -> usize
     end - 2
 }
 
-// Writes two digits.
+// Writes two digits, which the table has side by side.
+#[inline(always)]
 fn write_pair(number: u64, bytes: &mut [u8], at: usize)
     requires { (number < 100) × (at + 2 ≤ length bytes.old) }
     ensures { drop at bytes.new
         ≡ (48 + number / 10) ∷ (48 + number % 10) ∷ drop (at + 2) bytes.old }
 {
-    bytes[at] = b'0' + (number / 10) as u8;
-    bytes[at + 1] = b'0' + (number % 10) as u8;
+    let first = 2 * number as usize;
+    bytes[at] = PAIRS[first];
+    bytes[at + 1] = PAIRS[first + 1];
 }

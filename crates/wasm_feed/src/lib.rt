@@ -25,4 +25,4 @@ pub use lines::{fault_line, payload_line, payload_text};
 pub use listing::{Ended, Turn, list, list_in};
 pub use page::Page;
 pub use pieces::{fits_pieces, read_pieces, read_pieces_in};
-pub use stripping::{strip, strip_in, strip_in_place};
+pub use stripping::{strip, strip_in, strip_in_place, strip_to_front};

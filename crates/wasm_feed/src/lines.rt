@@ -26,7 +26,7 @@ fn encoding_name(encoding: Encoding) -> &'static str
 // The text of a section with this id.
 #[tactic(auto, unfolding(crate::specs::Listing::text_before))]
 fn counted_text<T>(line: &mut Line, id: u8, section: &SectionLimited<'_, T>)
-    requires { length line.old ≤ 20 }
+    requires { length line.old ≤ 30 }
     ensures { line.new ≡ text_before
         (counted id section.now.count section.now.reader) line.old }
 {
@@ -38,10 +38,11 @@ fn counted_text<T>(line: &mut Line, id: u8, section: &SectionLimited<'_, T>)
     line.word("section");
 }
 
-// The text of what has this word, a range and a number.
+// The text of what has this word, a range and a number. Inlined, so that the word's length is known.
+#[inline(always)]
 fn number_text(line: &mut Line, word: &str, range: &Range<u64>, number: u64)
     requires word { length word.now ≤ 9 }
-    requires short { length line.old ≤ 20 }
+    requires short { length line.old ≤ 30 }
     ensures { line.new ≡ word.now
         ++ field range.now.start (field range.now.end (field number line.old)) }
 {
@@ -54,7 +55,7 @@ fn number_text(line: &mut Line, word: &str, range: &Range<u64>, number: u64)
 // The text of the start of a code section.
 #[tactic(auto, unfolding(crate::specs::Listing::text_before))]
 fn code_text(line: &mut Line, range: &Range<u64>, count: u32, size: u32)
-    requires { length line.old ≤ 20 }
+    requires { length line.old ≤ 30 }
     ensures { line.new ≡ text_before
         (code_start count range.now.start range.now.end size) line.old }
 {
@@ -67,7 +68,7 @@ fn code_text(line: &mut Line, range: &Range<u64>, count: u32, size: u32)
 
 // The text of a header.
 fn version_text(line: &mut Line, version: u16, encoding: Encoding, range: &Range<u64>)
-    requires { length line.old ≤ 20 }
+    requires { length line.old ≤ 30 }
     ensures { line.new ≡ codes "version" ++ field range.now.start (field range.now.end
         (field version (codes " " ++ (name_of encoding ++ line.old)))) }
 {
@@ -81,7 +82,7 @@ fn version_text(line: &mut Line, version: u16, encoding: Encoding, range: &Range
 
 // The text of a body.
 fn body_text(line: &mut Line, range: &Range<u64>)
-    requires { length line.old ≤ 20 }
+    requires { length line.old ≤ 30 }
     ensures { line.new ≡ codes "body"
         ++ field range.now.start (field range.now.end line.old) }
 {
@@ -92,7 +93,7 @@ fn body_text(line: &mut Line, range: &Range<u64>)
 
 // The text of an unknown section.
 fn unknown_text(line: &mut Line, id: u8, range: &Range<u64>)
-    requires { length line.old ≤ 20 }
+    requires { length line.old ≤ 30 }
     ensures { line.new ≡ codes "unknown"
         ++ field id (field range.now.start (field range.now.end line.old)) }
 {
@@ -104,7 +105,7 @@ fn unknown_text(line: &mut Line, id: u8, range: &Range<u64>)
 
 // The text of the end.
 fn end_text(line: &mut Line, offset: u64)
-    requires { length line.old ≤ 20 }
+    requires { length line.old ≤ 30 }
     ensures { line.new ≡ codes "end" ++ field offset line.old }
 {
     line.field(offset);
@@ -119,10 +120,10 @@ pub fn payload_line(line: &mut Line, payload: &Payload)
     payload_text(line, payload);
 }
 
-/// Puts the text of a payload before what the line has, which is at most 20 bytes.
+/// Puts the text of a payload before what the line has, which is at most 30 bytes.
 #[tactic(auto, unfolding(crate::specs::Listing::text_before))]
 pub fn payload_text(line: &mut Line, payload: &Payload)
-    requires { length line.old ≤ 20 }
+    requires { length line.old ≤ 30 }
     ensures { line.new ≡ text_before (report_of payload.now) line.old }
 {
     match payload {

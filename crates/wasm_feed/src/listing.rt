@@ -1,7 +1,7 @@
 // The listing of a stream.
 ghost use Rattle.std.specs.Prelude.{◌≡◌, ◌≤◌};
-ghost use Rattle.wasm_feed.specs.Calls.{change_of};
-ghost use Rattle.wasm_feed.specs.Lists.{Lists, input_failed, output_failed};
+ghost use Rattle.wasm_feed.specs.Calls.{device_of};
+ghost use Rattle.wasm_feed.specs.Lists.{ListsSource, output_failed};
 ghost use Rattle.wasm_feed.specs.Turns.{TakesTurn};
 
 use crate::devices::{ListError, Sink, Source};
@@ -70,10 +70,8 @@ pub fn list_in<A: Allocator + Copy, R: Source, W: Sink>(
     piece: usize,
 ) -> Result<Ended, ListError>
     requires { 1 ≤ piece }
-    ensures lists { Lists (change_of R.remaining input.old input.new)
-        (change_of W.taken output.old output.new) result }
-    ensures input { R.has_failed input.new ≡ input_failed result (R.has_failed input.old) }
-    ensures output { W.has_failed output.new ≡ output_failed result (W.has_failed output.old) }
+    ensures { ListsSource (device_of R.remaining R.has_failed input.old input.new)
+        (device_of W.taken W.has_failed output.old output.new) result }
 {
     let mut buffer = vec![in alloc; 0u8; piece]?;
     let mut page = Page::new(alloc);
@@ -113,10 +111,8 @@ pub fn list<R: Source, W: Sink>(
     piece: usize,
 ) -> Result<Ended, ListError>
     requires { 1 ≤ piece }
-    ensures lists { Lists (change_of R.remaining input.old input.new)
-        (change_of W.taken output.old output.new) result }
-    ensures input { R.has_failed input.new ≡ input_failed result (R.has_failed input.old) }
-    ensures output { W.has_failed output.new ≡ output_failed result (W.has_failed output.old) }
+    ensures { ListsSource (device_of R.remaining R.has_failed input.old input.new)
+        (device_of W.taken W.has_failed output.old output.new) result }
 {
     list_in(alloc, input, output, piece)
 }

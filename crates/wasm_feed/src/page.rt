@@ -46,6 +46,7 @@ impl<A: Allocator> Page<A> {
 
     /// Puts at most 65,536 bytes after those that wait, which are written first where there is no room. `Output` where the sink
     /// fails, and `Memory` where a growth is refused: a beginning of what waited is then written, and no more is known.
+    #[inline(always)]
     pub fn put<W: Sink>(&mut self, bytes: &[u8], output: &mut W) -> Result<(), ListError>
         requires { length bytes.now ≤ 65536 }
         ensures puts { Puts (W.taken output.old) (W.taken output.new)

@@ -1,9 +1,9 @@
 // A stream without its custom sections.
-ghost use Rattle.std.specs.Prelude.{◌≡◌, ◌+◌, ◌<◌, ◌≤◌, ◌^◌, true, length, vec_len};
+ghost use Rattle.std.specs.Prelude.{◌≡◌, ◌+◌, ◌<◌, ◌≤◌, ◌^◌, true, length};
 ghost use Rattle.std.specs.List.{copy_within};
 ghost use Rattle.wasm_feed.specs.Cursors.{feed_of};
-ghost use Rattle.wasm_feed.specs.Stripped.{custom_stays, Strips, StripsInPlace};
-ghost use Rattle.wasm_feed.specs.Strips.{CountsKept, CopiesKept, custom_fate, GoesOn, IsFateOf, MovesKept, Passes, TakesPart};
+ghost use Rattle.wasm_feed.specs.Stripped.{custom_stays, Strips, StripsInPlace, StripsToFront};
+ghost use Rattle.wasm_feed.specs.Strips.{CountsKept, CopiesKept, custom_fate, GoesOn, IsFateOf, MovesKept, Passes, PassesKept, TakesKept, TakesPart};
 ghost use Rattle.wasm_parser.specs.ParseAnswer.{report_of};
 ghost use Rattle.wasm_grammar.specs.Reading.{Stream};
 
@@ -71,6 +71,24 @@ fn next_part<'a>(cursor: &mut Cursor, bytes: &'a [u8], keep_names: bool) -> Resu
     }
 }
 
+// The next part of these bytes that stays, after those that go; none at the end of the stream, which they are all of.
+fn next_kept<'a>(cursor: &mut Cursor, bytes: &'a [u8], keep_names: bool) -> Result<Option<&'a [u8]>>
+    requires { cursor.old.is_finished ≡ true }
+    ensures takes { TakesKept keep_names (feed_of bytes.now cursor.old) result
+        (feed_of bytes.now cursor.new) }
+    ensures finished { cursor.new.is_finished ≡ true }
+    ensures passes { PassesKept bytes.now cursor.old.mark result cursor.new.mark }
+{
+    'parts: loop {
+        let part = next_part(cursor, bytes, keep_names)?;
+        match part.fate {
+            Fate::Stays => return Ok(Some(part.bytes)),
+            Fate::Goes => {}
+            Fate::End => return Ok(None),
+        }
+    }
+}
+
 // How many bytes are left of a stream.
 fn count_kept(bytes: &[u8], keep_names: bool) -> Result<usize>
     requires { length bytes.now < 2 ^ 64 }
@@ -79,14 +97,10 @@ fn count_kept(bytes: &[u8], keep_names: bool) -> Result<usize>
 {
     let mut cursor = Cursor::over_all(Parser::new(0));
     let mut count = 0;
-    'parts: loop {
-        let part = next_part(&mut cursor, bytes, keep_names)?;
-        match part.fate {
-            Fate::Stays => count += part.bytes.len(),
-            Fate::Goes => {}
-            Fate::End => return Ok(count),
-        }
+    'parts: while let Some(part) = next_kept(&mut cursor, bytes, keep_names)? {
+        count += part.len();
     }
+    Ok(count)
 }
 
 // Puts what is left of a stream after these bytes.
@@ -95,66 +109,60 @@ fn copy_kept<A: Allocator>(bytes: &[u8], keep_names: bool, kept: &mut Vec<u8, A>
     ensures { CopiesKept keep_names bytes.now kept.old.items result kept.new.items }
 {
     let mut cursor = Cursor::over_all(Parser::new(0));
-    'parts: loop {
-        let part = next_part(&mut cursor, bytes, keep_names)?;
-        match part.fate {
-            Fate::Stays => {
-                if kept.extend_from_slice(part.bytes).is_err() {
-                    return Err(Error::new(Fault::OutOfMemory, 0));
-                }
-            }
-            Fate::Goes => {}
-            Fate::End => return Ok(()),
+    'parts: while let Some(part) = next_kept(&mut cursor, bytes, keep_names)? {
+        if kept.extend_from_slice(part).is_err() {
+            return Err(Error::new(Fault::OutOfMemory, 0));
         }
     }
+    Ok(())
 }
 
 // Moves so many bytes down from their start to another place; those that are there already are not touched.
-fn move_down<A: Allocator>(bytes: &mut Vec<u8, A>, start: usize, size: usize, to: usize)
+fn move_down(bytes: &mut [u8], start: usize, size: usize, to: usize)
     requires order { to ≤ start }
-    requires within { start + size ≤ vec_len bytes.old }
-    ensures items { bytes.new.items ≡ copy_within bytes.old.items start (start + size) to }
-    ensures len { vec_len bytes.new ≡ vec_len bytes.old }
+    requires within { start + size ≤ length bytes.old }
+    ensures items { bytes.new ≡ copy_within bytes.old start (start + size) to }
+    ensures len { length bytes.new ≡ length bytes.old }
 {
     if to < start {
         bytes.copy_within(start..start + size, to);
     }
 }
 
-// Moves what is left of a stream to the front of its bytes, and lets go of the rest.
-fn move_kept<A: Allocator>(bytes: &mut Vec<u8, A>, keep_names: bool) -> Result<()>
-    requires { length bytes.old.items < 2 ^ 64 }
-    ensures { MovesKept keep_names bytes.old.items result bytes.new.items }
+// Moves what is left of a stream to the front of its bytes, and answers how many bytes that is.
+fn move_kept(bytes: &mut [u8], keep_names: bool) -> Result<usize>
+    requires { length bytes.old < 2 ^ 64 }
+    ensures { MovesKept keep_names bytes.old result bytes.new }
 {
     let mut cursor = Cursor::over_all(Parser::new(0));
     let mut kept = 0;
-    'parts: loop {
-        let start = cursor.mark();
-        let part = next_part(&mut cursor, bytes, keep_names)?;
-        let size = part.bytes.len();
-        match part.fate {
-            Fate::Stays => {
-                move_down(bytes, start, size, kept);
-                kept += size;
-            }
-            Fate::Goes => {}
-            Fate::End => {
-                bytes.truncate(kept);
-                return Ok(());
-            }
-        }
+    'parts: while let Some(part) = next_kept(&mut cursor, bytes, keep_names)? {
+        let size = part.len();
+        move_down(bytes, cursor.mark() - size, size, kept);
+        kept += size;
     }
+    Ok(kept)
 }
 
-/// Takes the custom sections out of a stream, as `strip` does, in its own memory: it takes none, and there is no other error than
-/// the fault of a stream that isn't accepted, which is left as it was.
-pub fn strip_in_place<A: Allocator>(bytes: &mut Vec<u8, A>, keep_names: bool) -> Result<()>
-    ensures { StripsInPlace keep_names bytes.old.items result bytes.new.items }
+/// Takes the custom sections out of a stream, as `strip` does, in its own bytes: what is left is then the first of them, and the
+/// answer is how many. What the bytes after these are then is not said. It takes no memory, and there is no other error than the
+/// fault of a stream that isn't accepted, which is left as it was.
+pub fn strip_to_front(bytes: &mut [u8], keep_names: bool) -> Result<usize>
+    ensures { StripsToFront keep_names bytes.old result bytes.new }
 {
-    // A list is shorter than 2^64 bytes, which the functions below want to know.
+    // A slice is shorter than 2^64 bytes, which the functions below want to know.
     let _length = bytes.len();
     count_kept(bytes, keep_names)?;
     move_kept(bytes, keep_names)
+}
+
+/// The same of the bytes of a vector, which is what is left and nothing else then.
+pub fn strip_in_place<A: Allocator>(bytes: &mut Vec<u8, A>, keep_names: bool) -> Result<()>
+    ensures { StripsInPlace keep_names bytes.old.items result bytes.new.items }
+{
+    let kept = strip_to_front(bytes.as_mut_slice(), keep_names)?;
+    bytes.truncate(kept);
+    Ok(())
 }
 
 /// The same as `strip`, with memory from any allocator: of an accepted stream `OutOfMemory`, at offset 0, where it refuses the

@@ -1,15 +1,17 @@
 -- Constant expressions. Core specification, Binary format, Instructions, Expressions, with the instructions of
 -- Validation, Instructions, Constant Expressions.
-use Rattle.std.specs.Prelude.{◌≡◌, ℕ, zero, suc, ◌==◌, List, length, Option, Some, None, Ok, Err}
+use Rattle.std.specs.Prelude.{◌≡◌, ℕ, zero, suc, ◌==◌, List, [], ◌∷◌, length, Option, Some, None, Ok, Err}
 use Rattle.std.specs.Prelude.{ℤ, if◌then◌else◌}
 use Rattle.wasm_base.specs.FaultAt.{at_offset}
 use Rattle.wasm_base.specs.Float.{u64_at}
+use Rattle.wasm_base.specs.Leading.{lookup}
 use Rattle.wasm_base.specs.Name.{bytes_at, byte_at, u32_at}
 use Rattle.wasm_base.specs.Number.{unsigned_at}
 use Rattle.wasm_base.specs.Signed.{signed_at}
 use Rattle.wasm_base.specs.Outcome.{Outcome, ◌>>=◌}
 use Rattle.wasm_base.specs.Window.{Window, Place, window_between}
 use Rattle.wasm_base.specs.declared.fault.Fault.TheVariants.{UnexpectedEof, NotConstant}
+use Rattle.wasm_base.specs.Float.{of_bits_32, of_bits_64}
 use Rattle.wasm_base.specs.declared.float.Ieee32.{Ieee32}
 use Rattle.wasm_base.specs.declared.float.Ieee64.{Ieee64}
 use Rattle.wasm_base.specs.declared.fault.NumberKind.{NumberKind}
@@ -46,40 +48,24 @@ index operator = u32_index (λ n. done (operator n))
 
 -- the operands of the constant instruction with each opcode of one byte
 abbrev pub operands_of : (opcode : ℕ) → Option Operands
-operands_of opcode =
-    if opcode == 0x23 then Some (index (λ n. GlobalGet n))
-    else if opcode == 0x41 then Some (signed VarI32 (λ n. done (I32Const n)))
-    else if opcode == 0x42 then Some (signed VarI64 (λ n. done (I64Const n)))
-    else if opcode == 0x43 then Some (float_32 (λ float. done (F32Const float)))
-    else if opcode == 0x44 then Some (float_64 (λ float. done (F64Const float)))
-    else if opcode == 0x6A then Some (done I32Add)
-    else if opcode == 0x6B then Some (done I32Sub)
-    else if opcode == 0x6C then Some (done I32Mul)
-    else if opcode == 0x7C then Some (done I64Add)
-    else if opcode == 0x7D then Some (done I64Sub)
-    else if opcode == 0x7E then Some (done I64Mul)
-    else if opcode == 0xD0 then Some (heap (λ ty. done (RefNull ty)))
-    else if opcode == 0xD2 then Some (index (λ n. RefFunc n))
-    else None
+operands_of = lookup (
+    (0x23, index (λ n. GlobalGet n)) ∷ (0x41, signed VarI32 (λ n. done (I32Const n)))
+    ∷ (0x42, signed VarI64 (λ n. done (I64Const n))) ∷ (0x43, float_32 (λ float. done (F32Const float)))
+    ∷ (0x44, float_64 (λ float. done (F64Const float)))
+    ∷ (0x6A, done I32Add) ∷ (0x6B, done I32Sub) ∷ (0x6C, done I32Mul)
+    ∷ (0x7C, done I64Add) ∷ (0x7D, done I64Sub) ∷ (0x7E, done I64Mul)
+    ∷ (0xD0, heap (λ ty. done (RefNull ty))) ∷ (0xD2, index (λ n. RefFunc n)) ∷ [])
 
 -- the operands of the constant instruction with opcode 0xFB and each number after it
 abbrev pub aggregate_operands_of : ℕ → Option Operands
-aggregate_operands_of number =
-    if number == 0 then Some (index (λ n. StructNew n))
-    else if number == 1 then Some (index (λ n. StructNewDefault n))
-    else if number == 6 then Some (index (λ n. ArrayNew n))
-    else if number == 7 then Some (index (λ n. ArrayNewDefault n))
-    else if number == 8 then Some (u32_index (λ n. index (λ size. ArrayNewFixed n size)))
-    else if number == 26 then Some (done AnyConvertExtern)
-    else if number == 27 then Some (done ExternConvertAny)
-    else if number == 28 then Some (done RefI31)
-    else None
+aggregate_operands_of = lookup (
+    (0, index (λ n. StructNew n)) ∷ (1, index (λ n. StructNewDefault n)) ∷ (6, index (λ n. ArrayNew n))
+    ∷ (7, index (λ n. ArrayNewDefault n)) ∷ (8, u32_index (λ n. index (λ size. ArrayNewFixed n size)))
+    ∷ (26, done AnyConvertExtern) ∷ (27, done ExternConvertAny) ∷ (28, done RefI31) ∷ [])
 
 -- the operands of the constant instruction with opcode 0xFD and each number after it
 abbrev pub vector_operands_of : ℕ → Option Operands
-vector_operands_of number =
-    if number == 12 then Some (raw 16 (λ bytes. done (V128Const (record { 0 = bytes }))))
-    else None
+vector_operands_of = lookup ((12, raw 16 (λ bytes. done (V128Const (record { 0 = bytes })))) ∷ [])
 
 -- the operator that is after operands
 abbrev pub operands_at : Operands → Place → Outcome ConstOperator
@@ -89,10 +75,10 @@ operands_at (signed kind more) p = do
   operands_at (more number.0) number.1
 operands_at (float_32 more) p = do
   bits ← u32_at p
-  operands_at (more (record { 0 = bits.0 })) bits.1
+  operands_at (more (of_bits_32 bits.0)) bits.1
 operands_at (float_64 more) p = do
   bits ← u64_at p
-  operands_at (more (record { 0 = bits.0 })) bits.1
+  operands_at (more (of_bits_64 bits.0)) bits.1
 operands_at (raw n more) p = do
   bytes ← bytes_at n p
   operands_at (more bytes.0) bytes.1

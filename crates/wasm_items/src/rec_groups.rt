@@ -118,6 +118,7 @@ impl<'a> FromReaderIn<'a> for CompositeType {
     ghost meaning = { ReadsAs composite_parts composite_type_at };
 
     #[tactic(auto, unfolding(crate::specs::RecGroups::composite_type_at))]
+    #[inline(always)]
     fn from_reader(alloc: Global, reader: &mut BinaryReader<'a>) -> Result<Self> {
         let start = reader.original_position();
         match reader.read_u8()? {
@@ -168,6 +169,7 @@ impl<'a> FromReaderIn<'a> for SubType {
     ghost meaning = { ReadsAs subtype_parts subtype_at };
 
     #[tactic(auto, unfolding(crate::specs::RecGroups::subtype_at))]
+    #[inline(always)]
     fn from_reader(alloc: Global, reader: &mut BinaryReader<'a>) -> Result<Self> {
         match reader.peek()? {
             0x50 => {

@@ -84,9 +84,9 @@ listed_all : (input first second first_errors second_errors : Device) (handed_on
     → ListsAll handed_on input (over first second) (over first_errors second_errors) result
 listed_all input first second first_errors second_errors handed_on status result f fe (Ok how) r finish = record {
   how = Ok how;
-  lists = lists_kept _ _ _ _ _ how r.lists (subst (λ (b : Option (List ℕ)). Keeps b second.after) f.bytes finish.keeps);
-  source = r.source;
-  ends = handed first second first_errors second_errors how handed_on status result f fe r.sink r.reports r.answers
+  lists = lists_kept _ _ _ _ _ how r.lists.lists (subst (λ (b : Option (List ℕ)). Keeps b second.after) f.bytes finish.keeps);
+  source = r.lists.source;
+  ends = handed first second first_errors second_errors how handed_on status result f fe r.lists.sink r.reports r.answers
       (finish.ended (subst (λ (n : ℕ). n < 2) (sym r.answers) (below_two how)));
 }
 listed_all input first second first_errors second_errors handed_on status result f fe (Err why) r finish =
@@ -95,11 +95,11 @@ listed_all input first second first_errors second_errors handed_on status result
     record {
       how = Err why;
       lists = subst (λ (a : Option (List ℕ)). Lists (from_to input.before input.after) (from_to first.before a) (Err why)) (sym kept)
-          r.lists;
-      source = r.source;
+          r.lists.lists;
+      source = r.lists.source;
       ends = record {
         answers = alone.answers ∙ r.answers;
-        sink = alone.sink.failed ∙ (f.failed ∙ r.sink);
+        sink = alone.sink.failed ∙ (f.failed ∙ r.lists.sink);
         says = said_before first_errors second_errors _ fe r.reports alone.silent;
       };
     }

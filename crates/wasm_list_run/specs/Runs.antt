@@ -3,7 +3,7 @@ use Rattle.std.specs.Prelude.{◌≡◌, ◌⊎◌, ℕ, Bool, List, drop, codes
 use Rattle.std.specs.IoError.{error_kind}
 use Rattle.std.specs.declared.io.Error.{Error}
 use Rattle.wasm_feed.specs.Calls.{Device, bytes_of}
-use Rattle.wasm_feed.specs.Lists.{Lists, input_failed, output_failed}
+use Rattle.wasm_feed.specs.Lists.{Lists, ListsSource, input_failed, output_failed}
 use Rattle.wasm_feed.specs.declared.listing.Ended.{Ended}
 use Rattle.wasm_feed.specs.declared.devices.ListError.{ListError}
 use Rattle.wasm_run.specs.Arguments.{is_no_text}
@@ -19,10 +19,8 @@ usage = codes "usage: wasm_list [strip]\n"
 
 -- a run whose listing ended so
 pub record RunsListingAs (how : Result Ended ListError) (input output errors : Device) (status : ℕ) : Type 0 where
-  pub lists : Lists (bytes_of input) (bytes_of output) how
+  pub lists : ListsSource input output how
   pub answers : status ≡ status_of how
-  pub source : input.has_failed ≡ input_failed how input.had_failed
-  pub sink : output.has_failed ≡ output_failed how output.had_failed
   pub reports : Reports how errors
 
 -- a run that listed its input

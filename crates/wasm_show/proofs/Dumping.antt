@@ -1,15 +1,22 @@
 -- How far a dump has come. Its outline is what a listing by the lines that are shown would have written.
-use Rattle.std.proofs.Common.{◌≡◌, ℕ, ◌<◌, Bool, true, false, if◌then◌else◌, List, [], ◌++◌, Option, Some, None, Result, Ok, Err, refl, sym}
-use Rattle.std.proofs.Common.{ap, subst, ◌∙◌, append-nil}
-use Rattle.std.specs.Io.KnownBytes.{Appends}
-use Rattle.std.proofs.KnownBytes.{Appends-nil, Consumes-nil}
+use Rattle.std.proofs.Common.{◌≡◌, ℕ, ◌<◌, Bool, true, false, if◌then◌else◌, List, [], ◌++◌, Option, Some, None, Result, Ok, Err, refl}
+use Rattle.std.proofs.Common.{sym}
+use Rattle.std.proofs.Common.{◌∷◌, ◌^◌, ap, subst, subst₂, ◌∙◌, append-nil, length, inl, inr, arith}
+use Rattle.std.specs.Io.KnownBytes.{Appends, Consumes}
+use Rattle.std.proofs.KnownBytes.{Appends-nil, Consumes-nil, Consumes-trans, Consumes-kept}
 use Rattle.wasm_feed.specs.Calls.{from_to}
 use Rattle.wasm_feed.specs.Feed.{Feed, new_feed}
-use Rattle.wasm_feed.specs.Lists.{IsBeginning, Refills, input_failed}
+use Rattle.wasm_feed.specs.Lists.{IsBeginning, Fills, Refills, input_failed}
+use Rattle.wasm_feed.specs.FeedersLaws.{IsAlong}
+use Rattle.wasm_parser.specs.Along.{Came}
+use Rattle.wasm_parser.specs.declared.payload.Payload.{Payload}
+use Rattle.wasm_parser.proofs.ForCallers.{answers_go_along}
+use Rattle.wasm_grammar.specs.Reading.{Report, Event}
+use Rattle.wasm_feed.proofs.ForCallers.{feeders_go_along}
 use Rattle.wasm_feed.specs.Page.{WritesBeginning, PutsBytes}
 use Rattle.wasm_base.specs.declared.error.Error.{Error}
 use Rattle.wasm_parser.specs.ParseAnswer.{report_of, is_end}
-use Rattle.wasm_feed.specs.Step.{is_request}
+use Rattle.wasm_feed.specs.Step.{chunk_of, is_request, Steps}
 use Rattle.wasm_feed.specs.Turns.{text_after, turn_after}
 use Rattle.wasm_feed.specs.declared.feeder.Step.{Step}
 use Rattle.wasm_feed.specs.declared.feeder.Step.TheVariants.{NeedMoreData, Parsed}
@@ -22,73 +29,228 @@ use Rattle.wasm_feed.specs.declared.listing.Turn.TheVariants as turn
 use Rattle.wasm_feed.specs.Progress.{weight, Progress, Wants}
 use Rattle.wasm_feed.proofs.ForCallers as progress
 use Rattle.wasm_show.specs.Chosen.{chosen_line}
-use Rattle.wasm_show.specs.Dump.{WritesWhole, WritesSome, ShowsStep, origin, DumpsFrom}
+use Rattle.wasm_show.specs.Numbers.{Number, after, after_all, no_counts, AreOf, AreOfEvents}
+use Rattle.wasm_show.specs.declared.numbers.Counts.{Counts}
+use Rattle.wasm_show.proofs.Numbering.{all_more, events_more, end_none}
+use Rattle.wasm_show.specs.Dump.{AreOfSource, WritesWhole, WritesSome, AreOfAnswer, after_answer, ShowsStep, origin, DumpsFrom}
 use Rattle.wasm_show.specs.Tree as Tree
-use Rattle.wasm_show.specs.Tree.{IsOutlined, Writing, Origin, begun, IsGoing, IsCutShort, IsWritten, Adds, IsOut}
+use Rattle.wasm_show.specs.Tree.{IsOutlined, Part, Writing, Origin, begun, begun_numbers, IsGoing, IsCutShort, IsWritten, Adds, IsOut}
 use Rattle.wasm_show.specs.declared.only.Only.{Only}
 use Rattle.wasm_show.proofs.Writing.{as_going, as_short}
 use Rattle.wasm_base.specs.Features.{all_features}
 
--- the outline so far, the listing that has written it, and what was written with it
-pub record Dumping (only : Only) (left rest : Option (List ℕ)) (before : Writing) (f : Feed) (now : Writing) : Type 0 where
+-- what was written with these events, and their numbers
+abbrev pub WrittenWith : List Event → (taken : Option (List ℕ)) (failed : Bool) (outline : List ℕ) → Writing → Type 0
+WrittenWith events taken failed outline now = (numbers : List Number) × AreOfEvents no_counts events numbers
+    × IsWritten (origin taken failed outline numbers) now
+
+-- where the feeder is along what the source gave, and what is counted of its events
+pub record Counting (full rest : Option (List ℕ)) (f : Feed) (c : Counts) : Type 0 where
+  pub given : List ℕ
+  pub events : List Event
+  pub gave : Consumes full rest given
+  pub along : IsAlong 0 all_features given f events
+  pub counted : c ≡ after_all no_counts events
+
+-- the outline so far, the listing that has written it, what is counted, and what was written with it
+pub record Dumping (only : Only) (full rest : Option (List ℕ)) (before : Writing) (f : Feed) (c : Counts) (now : Writing) : Type 0 where
   pub outline : List ℕ
-  pub listing : Progress (chosen_line only) (from_to left rest) (from_to (Some []) (Some outline)) f []
-  pub writing : (taken : Option (List ℕ)) (failed : Bool) → IsWritten (origin taken failed []) before
-      → IsWritten (origin taken failed outline) now
+  pub listing : Progress (chosen_line only) (from_to full rest) (from_to (Some []) (Some outline)) f []
+  pub counting : Counting full rest f c
+  pub writing : (taken : Option (List ℕ)) (failed : Bool) → IsWritten (origin taken failed [] []) before
+      → WrittenWith counting.events taken failed outline now
 
 -- the same where the feeder is asked for more
-pub record Wanting (only : Only) (left rest : Option (List ℕ)) (before : Writing) (f : Feed) (now : Writing) : Type 0 where
+pub record Wanting (only : Only) (full rest : Option (List ℕ)) (before : Writing) (f : Feed) (c : Counts) (now : Writing) : Type 0 where
   pub outline : List ℕ
-  pub listing : Wants (chosen_line only) (from_to left rest) (from_to (Some []) (Some outline)) f []
-  pub writing : (taken : Option (List ℕ)) (failed : Bool) → IsWritten (origin taken failed []) before
-      → IsWritten (origin taken failed outline) now
+  pub listing : Wants (chosen_line only) (from_to full rest) (from_to (Some []) (Some outline)) f []
+  pub counting : Counting full rest f c
+  pub writing : (taken : Option (List ℕ)) (failed : Bool) → IsWritten (origin taken failed [] []) before
+      → WrittenWith counting.events taken failed outline now
 
-pub starts : (only : Only) (left : Option (List ℕ)) (w : Writing) → Dumping only left left w (new_feed 0 all_features) w
-starts only left w = record { outline = []; listing = progress.begun (chosen_line only) left (Some []); writing = λ taken failed i. i }
+-- nothing came
+abbrev counts_nothing : (full : Option (List ℕ)) → Counting full full (new_feed 0 all_features) no_counts
+counts_nothing full = record {
+  given = [];
+  events = [];
+  gave = Consumes-nil full;
+  along = feeders_go_along.begins 0 all_features;
+  counted = refl;
+}
+
+pub starts : (only : Only) (full : Option (List ℕ)) (w : Writing) → Dumping only full full w (new_feed 0 all_features) no_counts w
+starts only full w = record {
+  outline = [];
+  listing = progress.begun (chosen_line only) full (Some []);
+  counting = counts_nothing full;
+  writing = λ taken failed i. ([], refl, i);
+}
+
+-- ---- what is counted
+
+-- the numbers of what the source gave
+numbers_at : (full rest : Option (List ℕ)) (f : Feed) (c : Counts) (k : Counting full rest f c) (numbers : List Number)
+    → AreOfEvents no_counts k.events numbers → AreOfSource (from_to full rest) numbers
+numbers_at full rest f c k numbers a = record {
+  given = k.given;
+  events = k.events;
+  gave = k.gave;
+  begins = answers_go_along.first 0 all_features k.given f.state f.held k.events true k.along k.given refl;
+  are_of = a;
+}
+
+-- where more bytes came that were not pushed
+numbers_after : (full rest rest' : Option (List ℕ)) (f : Feed) (c : Counts) (k : Counting full rest f c) (piece : List ℕ)
+    → Consumes rest rest' piece → (numbers : List Number) → AreOfEvents no_counts k.events numbers
+    → AreOfSource (from_to full rest') numbers
+numbers_after full rest rest' f c k piece more numbers a = record {
+  given = k.given ++ piece;
+  events = k.events;
+  gave = Consumes-trans full rest rest' k.given piece k.gave more;
+  begins = answers_go_along.first 0 all_features k.given f.state f.held k.events false k.along (k.given ++ piece) (piece, refl);
+  are_of = a;
+}
+
+module _ (full rest : Option (List ℕ)) (f : Feed) (c : Counts) (k : Counting full rest f c) (g : Feed) where
+  below : (step : Step) → Steps f (Ok step) g → length k.given < 2 ^ 64
+  below step s =
+      let o = answers_go_along.below f.state g.state f.eof f.held (chunk_of step) s.parses in
+      let e = answers_go_along.ends 0 all_features k.given f.state f.held k.events k.along in
+      omega (arith, o, e)
+
+  -- a payload that isn't the end is the next event
+  next_event : (bytes : _) (payload : Payload) → Steps f (Ok (Parsed bytes payload)) g → is_end (report_of payload) ≡ false
+      → (e : Event) × (report_of payload ≡ e.report) × IsAlong 0 all_features k.given g (k.events ++ e ∷ [])
+  next_event bytes payload s n =
+      let came : Came 0 all_features f.eof k.given k.events bytes.now payload g.state g.held =
+      feeders_go_along.steps 0 all_features k.given f g k.events (Ok (Parsed bytes payload)) k.along
+      (omega (arith, below (Parsed bytes payload) s)) s in
+      let (after, some) = came.goes_on n in
+      (came.event, came.is_payload.0, after)
+
+  -- what is counted after a step that goes on
+  counted_on : (x : Result Step Error) → turn.Advance ≡ turn_after x → Steps f x g
+      → (k' : Counting full rest g (after_answer c x))
+      × ((numbers shown : List Number) → AreOfEvents no_counts k.events numbers → AreOfAnswer c x shown
+      → AreOfEvents no_counts k'.events (numbers ++ shown))
+  counted_on (Ok (NeedMoreData hint)) t s = cc
+  counted_on (Err e) t s = cc
+  counted_on (Ok (Parsed bytes payload)) t s =
+      let (e, same, along) = next_event bytes payload s (goes_on (is_end (report_of payload)) t) in (
+        record {
+          given = k.given;
+          events = k.events ++ e ∷ [];
+          gave = k.gave;
+          along = along;
+          counted = ap (λ (r : Report). after c r) same ∙ (ap (λ (d : Counts). after d e.report) k.counted
+              ∙ sym (all_more no_counts k.events e));
+        },
+        λ numbers shown a b. events_more no_counts k.events numbers e shown a
+            (subst₂ (λ (d : Counts) (r : Report). AreOf d r shown) k.counted same b),
+      )
+    where
+      goes_on : (b : Bool) → turn.Advance ≡ (if b then turn.End End else turn.Advance) → b ≡ false
+      goes_on true e = cc
+      goes_on false e = refl
+
+  -- after a request
+  counted_still : (x : Result Step Error) → turn.Read ≡ turn_after x → Steps f x g
+      → (k' : Counting full rest g (after_answer c x))
+      × ((numbers shown : List Number) → AreOfEvents no_counts k.events numbers → AreOfAnswer c x shown
+      → AreOfEvents no_counts k'.events (numbers ++ shown))
+  counted_still (Ok (NeedMoreData hint)) t s = (
+    record {
+      given = k.given;
+      events = k.events;
+      gave = k.gave;
+      along = (feeders_go_along.steps 0 all_features k.given f g k.events (Ok (NeedMoreData hint)) k.along
+          (omega (arith, below (NeedMoreData hint) s)) s).1;
+      counted = k.counted;
+    },
+    λ numbers shown a b. subst (AreOfEvents no_counts k.events) (sym (ap (λ (y : List Number). numbers ++ y) b ∙ append-nil numbers)) a,
+  )
+  counted_still (Err e) t s = cc
+  counted_still (Ok (Parsed bytes payload)) t s = absurd (by_end (is_end (report_of payload)) t)
+    where
+      by_end : (b : Bool) → turn.Read ≡ (if b then turn.End End else turn.Advance) → ⊥
+      by_end true e = cc
+      by_end false e = cc
+
+  -- at an end
+  counted_last : (x : Result Step Error) (how : Ended) → turn.End how ≡ turn_after x → (numbers shown : List Number)
+      → AreOfEvents no_counts k.events numbers → AreOfAnswer c x shown → AreOfEvents no_counts k.events (numbers ++ shown)
+  counted_last x how t numbers shown a b = subst (AreOfEvents no_counts k.events)
+      (sym (ap (λ (y : List Number). numbers ++ y) (none x t b) ∙ append-nil numbers)) a
+    where
+      ends : (b : Bool) → turn.End how ≡ (if b then turn.End End else turn.Advance) → b ≡ true
+      ends true e = refl
+      ends false e = cc
+
+      none : (x : Result Step Error) → turn.End how ≡ turn_after x → AreOfAnswer c x shown → shown ≡ []
+      none (Ok (NeedMoreData hint)) t b = b
+      none (Err e) t b = b
+      none (Ok (Parsed bytes payload)) t b = end_none c (report_of payload) shown (ends (is_end (report_of payload)) t) b
 
 -- ---- what was written, at an end
 
-none_begun : (b : Bool) (part : List ℕ) → b ≡ false → begun b part ≡ []
-none_begun b part e = ap (λ (x : Bool). begun x part) e
+none_begun : (b : Bool) (line : List Part) → b ≡ false → begun b line ≡ []
+none_begun b line e = ap (λ (x : Bool). begun x line) e
+
+no_numbers_begun : (b : Bool) (line : List Part) → b ≡ false → begun_numbers b line ≡ []
+no_numbers_begun b line e = ap (λ (x : Bool). begun_numbers x line) e
 
 -- all of it
-whole : (o : Origin) (w : Writing) → w.why ≡ None → IsOut w → IsWritten o w → WritesWhole o.taken w.taken o.outline
+whole : (o : Origin) (w : Writing) → w.why ≡ None → IsOut w → IsWritten o w → WritesWhole o.taken w.taken o.outline o.numbers
 whole o w going out i =
     let g = as_going o w going i in
     let all : g.written ≡ g.text = sym (append-nil g.written) ∙ (ap (λ (x : List ℕ). g.written ++ x) (sym (out.none_waits going))
-    ∙ (g.parts ∙ (ap (λ (x : List ℕ). g.text ++ x) (none_begun w.is_begun g.part (out.none_begun going)) ∙ append-nil g.text))) in
-    record { text = g.text; outlined = g.outlined; wrote = subst (Appends o.taken w.taken) all g.took }
+    ∙ (g.parts ∙ (ap (λ (x : List ℕ). g.text ++ x) (none_begun w.is_begun g.line (out.none_begun going)) ∙ append-nil g.text))) in
+    let numbered : g.lined ≡ o.numbers = sym (g.numbered
+    ∙ (ap (λ (x : List Number). g.lined ++ x) (no_numbers_begun w.is_begun g.line (out.none_begun going)) ∙ append-nil g.lined)) in
+    record {
+      text = g.text;
+      outlined = subst (IsOutlined g.text o.outline) numbered g.outlined;
+      wrote = subst (Appends o.taken w.taken) all g.took;
+    }
 
-some_of : (o : Origin) (w : Writing) → WritesWhole o.taken w.taken o.outline → WritesSome o.taken w.taken o.outline
+some_of : (o : Origin) (w : Writing) → WritesWhole o.taken w.taken o.outline o.numbers → WritesSome o.taken w.taken o.outline o.numbers
 some_of o w s = record { text = s.text; unwritten = []; outlined = rw (append-nil s.text) s.outlined; wrote = s.wrote }
 
 -- a dump that was cut short, or whose input failed
-cut_off : (only : Only) (left rest : Option (List ℕ)) (had has : Bool) → has ≡ had
-    → (taken : Option (List ℕ)) (failed : Bool) (outline : List ℕ) (why : ListError) (w : Writing)
-    → IsBeginning (chosen_line only) (from_to left rest) (from_to (Some []) (Some outline))
-    → IsCutShort (origin taken failed outline) why w → DumpsFrom only
-    (record { before = left; after = rest; had_failed = had; has_failed = has }) taken failed (Err why) w
-cut_off only left rest had has h taken failed outline Output w b c = record {
+cut_off : (only : Only) (full rest : Option (List ℕ)) (had has : Bool) → has ≡ had
+    → (taken : Option (List ℕ)) (failed : Bool) (outline : List ℕ) (numbers : List Number) (why : ListError) (w : Writing)
+    → IsBeginning (chosen_line only) (from_to full rest) (from_to (Some []) (Some outline)) → AreOfSource (from_to full rest) numbers
+    → IsCutShort (origin taken failed outline numbers) why w → DumpsFrom only
+    (record { before = full; after = rest; had_failed = had; has_failed = has }) taken failed (Err why) w
+cut_off only full rest had has h taken failed outline numbers Output w b n c = record {
   dumps = record {
     outline = outline;
+    numbers = numbers;
     lists = b;
+    counts = n;
     writes = record { text = c.written; unwritten = c.unwritten; outlined = c.outlined; wrote = c.took };
   };
   source = h;
   sink = c.failed;
 }
-cut_off only left rest had has h taken failed outline Memory w b c = record {
+cut_off only full rest had has h taken failed outline numbers Memory w b n c = record {
   dumps = record {
     outline = outline;
+    numbers = numbers;
     lists = b;
+    counts = n;
     writes = record { text = c.written; unwritten = c.unwritten; outlined = c.outlined; wrote = c.took };
   };
   source = h;
   sink = c.failed;
 }
-cut_off only left rest had has h taken failed outline Input w b c = absurd (c.no_input refl)
+cut_off only full rest had has h taken failed outline numbers Input w b n c = absurd (c.no_input refl)
 
 -- ---- a step
+
+-- the same counts
+abbrev as_counted : (full rest : Option (List ℕ)) (f : Feed) (c d : Counts) → c ≡ d → Counting full rest f c → Counting full rest f d
+as_counted full rest f c d e k = record { given = k.given; events = k.events; gave = k.gave; along = k.along; counted = sym e ∙ k.counted }
 
 -- more is read only where it was asked for
 reads_where_asked : (x : Result Step Error) → turn.Read ≡ turn_after x → is_request x ≡ true
@@ -104,30 +266,53 @@ reads_where_asked (Ok (Parsed bytes payload)) t = by_end (is_end (report_of payl
 puts : (outline line : List ℕ) → PutsBytes (Some outline) (Some (outline ++ line)) [] line []
 puts outline line = record { moved = line; writes = refl; waits = sym (append-nil line) }
 
-module _ (only : Only) (left rest : Option (List ℕ)) (before : Writing) (f : Feed) (now : Writing) (d : Dumping only left rest before f now)
-    (g : Feed) (new : Writing) (next : Turn) (s : ShowsStep only f g now new next) where
+module _ (only : Only) (full rest : Option (List ℕ)) (before : Writing) (f : Feed) (c : Counts) (now : Writing)
+    (d : Dumping only full rest before f c now) (g : Feed) (c' : Counts) (new : Writing) (next : Turn)
+    (s : ShowsStep only c c' f g now new next) where
   line : List ℕ
   line = text_after (chosen_line only) s.answer
 
-  written : (taken : Option (List ℕ)) (failed : Bool) → IsWritten (origin taken failed []) before
-      → IsWritten (origin taken failed (d.outline ++ text_after (chosen_line only) s.answer)) new
-  written taken failed i = s.shows (origin taken failed d.outline) (d.writing taken failed i)
+  -- what was written, with the numbers of events that go on as these by what is shown
+  written : (events : List Event) → ((numbers shown : List Number) → AreOfEvents no_counts d.counting.events numbers
+      → AreOfAnswer c s.answer shown → AreOfEvents no_counts events (numbers ++ shown)) → (taken : Option (List ℕ)) (failed : Bool)
+      → IsWritten (origin taken failed [] []) before
+      → WrittenWith events taken failed (d.outline ++ text_after (chosen_line only) s.answer) new
+  written events more taken failed i =
+      let (numbers, are, going) = d.writing taken failed i in
+      let (shown, of, after) = s.shows (origin taken failed d.outline numbers) going in
+      (numbers ++ shown, more numbers shown are of, after)
 
   put : PutsBytes (Some d.outline) (Some (d.outline ++ text_after (chosen_line only) s.answer)) [] (text_after (chosen_line only) s.answer)
       []
   put = puts d.outline (text_after (chosen_line only) s.answer)
 
-  pub advanced : next ≡ turn.Advance → Dumping only left rest before g new × (weight g < weight f)
+  pub advanced : next ≡ turn.Advance → Dumping only full rest before g c' new × (weight g < weight f)
   advanced t =
-      let (listing, less) = progress.advanced (chosen_line only) left rest (Some []) (Some d.outline) f [] d.listing g s.answer s.steps _ _
+      let (listing, less) = progress.advanced (chosen_line only) full rest (Some []) (Some d.outline) f [] d.listing g s.answer s.steps _ _
       put (sym t ∙ s.turns) in
-      (record { outline = d.outline ++ text_after (chosen_line only) s.answer; listing = listing; writing = written }, less)
+      let (k, more) = counted_on full rest f c d.counting g s.answer (sym t ∙ s.turns) s.steps in (
+        record {
+          outline = d.outline ++ text_after (chosen_line only) s.answer;
+          listing = listing;
+          counting = as_counted full rest g (after_answer c s.answer) c' (sym s.counted) k;
+          writing = written k.events more;
+        },
+        less,
+      )
 
-  pub asked : next ≡ turn.Read → Wanting only left rest before g new × (weight g ≡ weight f)
+  pub asked : next ≡ turn.Read → Wanting only full rest before g c' new × (weight g ≡ weight f)
   asked t =
-      let (listing, same) = progress.asked (chosen_line only) left rest (Some []) (Some d.outline) f [] d.listing g s.answer s.steps _ _ put
+      let (listing, same) = progress.asked (chosen_line only) full rest (Some []) (Some d.outline) f [] d.listing g s.answer s.steps _ _ put
       (sym t ∙ s.turns) in
-      (record { outline = d.outline ++ text_after (chosen_line only) s.answer; listing = listing; writing = written }, same)
+      let (k, more) = counted_still full rest f c d.counting g s.answer (sym t ∙ s.turns) s.steps in (
+        record {
+          outline = d.outline ++ text_after (chosen_line only) s.answer;
+          listing = listing;
+          counting = as_counted full rest g (after_answer c s.answer) c' (sym s.counted) k;
+          writing = written k.events more;
+        },
+        same,
+      )
 
   pub wants : next ≡ turn.Read → g.wants_more ≡ true
   wants t = s.steps.wants_more ∙ reads_where_asked s.answer (sym t ∙ s.turns)
@@ -136,125 +321,196 @@ module _ (only : Only) (left rest : Option (List ℕ)) (before : Writing) (f : F
   nothing_cut : (outline : Option (List ℕ)) → WritesBeginning outline outline []
   nothing_cut outline = record { moved = []; unwritten = []; parts = refl; wrote = Appends-nil outline }
 
-  begins : (t : Turn) → next ≡ t → IsBeginning (chosen_line only) (from_to left rest)
+  begins : (t : Turn) → next ≡ t → IsBeginning (chosen_line only) (from_to full rest)
       (from_to (Some []) (Some (d.outline ++ text_after (chosen_line only) s.answer)))
   begins turn.Advance t =
-      let (listing, less) = progress.advanced (chosen_line only) left rest (Some []) (Some d.outline) f [] d.listing g s.answer s.steps _ _
+      let (listing, less) = progress.advanced (chosen_line only) full rest (Some []) (Some d.outline) f [] d.listing g s.answer s.steps _ _
       put (sym t ∙ s.turns) in
-      progress.cut (chosen_line only) left rest (Some []) (Some (d.outline ++ text_after (chosen_line only) s.answer)) g [] listing
+      progress.cut (chosen_line only) full rest (Some []) (Some (d.outline ++ text_after (chosen_line only) s.answer)) g [] listing
       (Some (d.outline ++ text_after (chosen_line only) s.answer)) Output
       (nothing_cut (Some (d.outline ++ text_after (chosen_line only) s.answer)))
   begins turn.Read t =
-      let (wants, same) = progress.asked (chosen_line only) left rest (Some []) (Some d.outline) f [] d.listing g s.answer s.steps _ _ put
+      let (wants, same) = progress.asked (chosen_line only) full rest (Some []) (Some d.outline) f [] d.listing g s.answer s.steps _ _ put
       (sym t ∙ s.turns) in
-      progress.cut (chosen_line only) left rest (Some []) (Some (d.outline ++ text_after (chosen_line only) s.answer)) g [] wants.progress
+      progress.cut (chosen_line only) full rest (Some []) (Some (d.outline ++ text_after (chosen_line only) s.answer)) g [] wants.progress
       (Some (d.outline ++ text_after (chosen_line only) s.answer)) Output
       (nothing_cut (Some (d.outline ++ text_after (chosen_line only) s.answer)))
-  begins (turn.End how) t = progress.end_cut (chosen_line only) left rest (Some []) (Some d.outline) f [] d.listing g s.answer s.steps _ _
+  begins (turn.End how) t = progress.end_cut (chosen_line only) full rest (Some []) (Some d.outline) f [] d.listing g s.answer s.steps _ _
       put how (sym t ∙ s.turns) (Some (d.outline ++ text_after (chosen_line only) s.answer)) Output
       (nothing_cut (Some (d.outline ++ text_after (chosen_line only) s.answer)))
 
+  -- what was written, with the numbers of what the source gave
+  all_written : (t : Turn) → next ≡ t → (taken : Option (List ℕ)) (failed : Bool) → IsWritten (origin taken failed [] []) before
+      → (numbers : List Number) × AreOfSource (from_to full rest) numbers
+      × IsWritten (origin taken failed (d.outline ++ text_after (chosen_line only) s.answer) numbers) new
+  all_written turn.Advance t taken failed i =
+      let (k, more) = counted_on full rest f c d.counting g s.answer (sym t ∙ s.turns) s.steps in
+      let (numbers, are, going) = written k.events more taken failed i in
+      (numbers, numbers_at full rest g (after_answer c s.answer) k numbers are, going)
+  all_written turn.Read t taken failed i =
+      let (k, more) = counted_still full rest f c d.counting g s.answer (sym t ∙ s.turns) s.steps in
+      let (numbers, are, going) = written k.events more taken failed i in
+      (numbers, numbers_at full rest g (after_answer c s.answer) k numbers are, going)
+  all_written (turn.End how) t taken failed i =
+      let last = counted_last full rest f c d.counting g s.answer how (sym t ∙ s.turns) in
+      let (numbers, are, going) = written d.counting.events last taken failed i in
+      (numbers, numbers_at full rest f c d.counting numbers are, going)
+
   -- the tree has stopped
   pub stopped : (had has : Bool) → has ≡ had → (why : ListError) → new.why ≡ Some why → (taken : Option (List ℕ)) (failed : Bool)
-      → IsWritten (origin taken failed []) before
-      → DumpsFrom only (record { before = left; after = rest; had_failed = had; has_failed = has }) taken failed (Err why) new
-  stopped had has h why w taken failed i = cut_off only left rest had has h taken failed _ why new (begins next refl)
-      (as_short _ new why w (written taken failed i))
+      → IsWritten (origin taken failed [] []) before
+      → DumpsFrom only (record { before = full; after = rest; had_failed = had; has_failed = has }) taken failed (Err why) new
+  stopped had has h why w taken failed i =
+      let (numbers, are, going) = all_written next refl taken failed i in
+      cut_off only full rest had has h taken failed _ numbers why new (begins next refl) are (as_short _ new why w going)
 
   -- it has after all was to be written
   pub stopped_at_last : (had has : Bool) → has ≡ had → (last : Writing) (why : ListError) → Adds new last → last.why ≡ Some why
-      → (taken : Option (List ℕ)) (failed : Bool) → IsWritten (origin taken failed []) before
-      → DumpsFrom only (record { before = left; after = rest; had_failed = had; has_failed = has }) taken failed (Err why) last
-  stopped_at_last had has h last why a w taken failed i = cut_off only left rest had has h taken failed _ why last (begins next refl)
-      (as_short _ last why w (a _ (written taken failed i)))
+      → (taken : Option (List ℕ)) (failed : Bool) → IsWritten (origin taken failed [] []) before
+      → DumpsFrom only (record { before = full; after = rest; had_failed = had; has_failed = has }) taken failed (Err why) last
+  stopped_at_last had has h last why a w taken failed i =
+      let (numbers, are, going) = all_written next refl taken failed i in
+      cut_off only full rest had has h taken failed _ numbers why last (begins next refl) are (as_short _ last why w (a _ going))
 
   -- all is written
   pub ended : (had has : Bool) → has ≡ had → (how : Ended) (last : Writing) → next ≡ turn.End how → Adds new last → IsOut last → last.why
-      ≡ None → (taken : Option (List ℕ)) (failed : Bool) → IsWritten (origin taken failed []) before
-      → DumpsFrom only (record { before = left; after = rest; had_failed = had; has_failed = has }) taken failed (Ok how) last
+      ≡ None → (taken : Option (List ℕ)) (failed : Bool) → IsWritten (origin taken failed [] []) before
+      → DumpsFrom only (record { before = full; after = rest; had_failed = had; has_failed = has }) taken failed (Ok how) last
   ended had has h how last t a out going taken failed i =
-      let all = a _ (written taken failed i) in
+      let (numbers, are, wrote) = all_written next refl taken failed i in
+      let o = origin taken failed (d.outline ++ text_after (chosen_line only) s.answer) numbers in
+      let all = a o wrote in
       record {
         dumps = record {
           outline = d.outline ++ text_after (chosen_line only) s.answer;
-          lists = progress.listed_all (chosen_line only) left rest (Some []) (Some d.outline) f [] d.listing g s.answer s.steps _ _ put how
+          numbers = numbers;
+          lists = progress.listed_all (chosen_line only) full rest (Some []) (Some d.outline) f [] d.listing g s.answer s.steps _ _ put how
               (sym t ∙ s.turns) (Some (d.outline ++ text_after (chosen_line only) s.answer))
               (Appends-nil (Some (d.outline ++ text_after (chosen_line only) s.answer)));
-          writes = whole (origin taken failed (d.outline ++ text_after (chosen_line only) s.answer)) last going out all;
+          counts = are;
+          writes = whole o last going out all;
         };
         source = h;
-        sink = (as_going (origin taken failed (d.outline ++ text_after (chosen_line only) s.answer)) last going all).failed;
+        sink = (as_going o last going all).failed;
       }
 
 -- ---- a read
 
-module _ (only : Only) (left rest : Option (List ℕ)) (before : Writing) (f : Feed) (now last : Writing)
-    (d : Wanting only left rest before f now) (a : Adds now last) (out : IsOut last) (going : last.why ≡ None) where
-  pub filled : (rest' : Option (List ℕ)) (g : Feed) → Refills rest rest' f g (Ok tt) → Dumping only left rest' before g last
+-- more bytes came, or the end
+module _ (full rest : Option (List ℕ)) (f : Feed) (c : Counts) (k : Counting full rest f c) where
+  counted_filled : (rest' : Option (List ℕ)) (g : Feed) → Fills rest rest' f g → (k' : Counting full rest' g c) × (k'.events ≡ k.events)
+  counted_filled rest' g (inl (nothing, at_end, same)) = (
+    record {
+      given = k.given ++ [];
+      events = k.events;
+      gave = Consumes-trans full rest rest' k.given [] k.gave nothing;
+      along = subst₂ (λ (given : List ℕ) (h : Feed). IsAlong 0 all_features given h k.events) (sym (append-nil k.given)) (sym same)
+          (feeders_go_along.finishes 0 all_features k.given f k.events k.along);
+      counted = k.counted;
+    },
+    refl,
+  )
+  counted_filled rest' g (inr (piece, more, some, same)) = (
+    record {
+      given = k.given ++ piece;
+      events = k.events;
+      gave = Consumes-trans full rest rest' k.given piece k.gave more;
+      along = subst (λ (h : Feed). IsAlong 0 all_features (k.given ++ piece) h k.events) (sym same)
+          (feeders_go_along.pushes 0 all_features k.given f k.events piece k.along);
+      counted = k.counted;
+    },
+    refl,
+  )
+
+module _ (only : Only) (full rest : Option (List ℕ)) (before : Writing) (f : Feed) (c : Counts) (now last : Writing)
+    (d : Wanting only full rest before f c now) (a : Adds now last) (out : IsOut last) (going : last.why ≡ None) where
+  all : (events : List Event) → events ≡ d.counting.events → (taken : Option (List ℕ)) (failed : Bool)
+      → IsWritten (origin taken failed [] []) before → WrittenWith events taken failed d.outline last
+  all events same taken failed i =
+      let (numbers, are, wrote) = d.writing taken failed i in
+      (numbers, subst (λ (es : List Event). AreOfEvents no_counts es numbers) (sym same) are, a _ wrote)
+
+  pub filled : (rest' : Option (List ℕ)) (g : Feed) → Refills rest rest' f g (Ok tt) → Dumping only full rest' before g c last
       × (weight g < weight f)
   filled rest' g r =
-      let (listing, less) = progress.filled (chosen_line only) left rest (Some []) (Some d.outline) f d.listing rest' g r in
-      (record { outline = d.outline; listing = listing; writing = λ taken failed i. a _ (d.writing taken failed i) }, less)
-
-  all : (taken : Option (List ℕ)) (failed : Bool) → IsWritten (origin taken failed []) before
-      → IsWritten (origin taken failed d.outline) last
-  all taken failed i = a _ (d.writing taken failed i)
+      let (listing, less) = progress.filled (chosen_line only) full rest (Some []) (Some d.outline) f d.listing rest' g r in
+      let (k, same) = counted_filled full rest f c d.counting rest' g r in
+      (record { outline = d.outline; listing = listing; counting = k; writing = all k.events same }, less)
 
   pub not_filled : (had mid has : Bool) → mid ≡ had → (rest' : Option (List ℕ)) (g : Feed) (e : ListError) → Refills rest rest' f g (Err e)
       → has ≡ input_failed {A = Unit {0}} (Err e) mid → (taken : Option (List ℕ)) (failed : Bool)
-      → IsWritten (origin taken failed []) before
-      → DumpsFrom only (record { before = left; after = rest'; had_failed = had; has_failed = has }) taken failed (Err e) last
-  not_filled had mid has m rest' g Input r h taken failed i = record {
-    dumps = record {
-      outline = d.outline;
-      lists = progress.not_filled (chosen_line only) left rest (Some []) (Some d.outline) f d.listing
-          rest' g Input r;
-      writes = whole (origin taken failed d.outline) last going out (all taken failed i);
-    };
-    source = h;
-    sink = (as_going (origin taken failed d.outline) last going (all taken failed i)).failed;
-  }
-  not_filled had mid has m rest' g Memory r h taken failed i = record {
-    dumps = record {
-      outline = d.outline;
-      lists = progress.not_filled (chosen_line only) left rest (Some []) (Some d.outline) f d.listing
-          rest' g Memory r;
-      writes = some_of (origin taken failed d.outline) last
-          (whole (origin taken failed d.outline) last going out (all taken failed i));
-    };
-    source = h ∙ m;
-    sink = (as_going (origin taken failed d.outline) last going (all taken failed i)).failed;
-  }
+      → IsWritten (origin taken failed [] []) before
+      → DumpsFrom only (record { before = full; after = rest'; had_failed = had; has_failed = has }) taken failed (Err e) last
+  not_filled had mid has m rest' g Input r h taken failed i =
+      let (numbers, are, wrote) = all d.counting.events refl taken failed i in
+      let o = origin taken failed d.outline numbers in
+      record {
+        dumps = record {
+          outline = d.outline;
+          numbers = numbers;
+          lists = progress.not_filled (chosen_line only) full rest (Some []) (Some d.outline) f d.listing
+              rest' g Input r;
+          counts = numbers_at full rest' f c (record {
+            given = d.counting.given;
+            events = d.counting.events;
+            gave = Consumes-kept full rest rest' d.counting.given d.counting.gave r;
+            along = d.counting.along;
+            counted = d.counting.counted;
+          }) numbers are;
+          writes = whole o last going out wrote;
+        };
+        source = h;
+        sink = (as_going o last going wrote).failed;
+      }
+  not_filled had mid has m rest' g Memory r h taken failed i =
+      let (numbers, are, wrote) = all d.counting.events refl taken failed i in
+      let o = origin taken failed d.outline numbers in
+      record {
+        dumps = record {
+          outline = d.outline;
+          numbers = numbers;
+          lists = progress.not_filled (chosen_line only) full rest (Some []) (Some d.outline) f d.listing
+              rest' g Memory r;
+          counts = numbers_after full rest rest' f c d.counting r.0 r.1 numbers are;
+          writes = some_of o last (whole o last going out wrote);
+        };
+        source = h ∙ m;
+        sink = (as_going o last going wrote).failed;
+      }
   not_filled had mid has m rest' g Output r h taken failed i = absurd r
 
 -- ---- the whole
 
-nothing_outlined : IsOutlined [] []
-nothing_outlined = record { lines = []; whole = refl; parts = refl; outlines = refl }
+nothing_outlined : IsOutlined [] [] []
+nothing_outlined = record { lines = []; whole = refl; parts = refl; outlines = refl; numbered = refl }
 
 -- a writer that has written nothing
-pub fresh : (taken : Option (List ℕ)) (failed : Bool) (w : Writing) → w ≡ Tree.starts taken failed → IsWritten (origin taken failed []) w
-fresh taken failed w e = subst (IsWritten (origin taken failed [])) (sym e) (record {
+pub fresh : (taken : Option (List ℕ)) (failed : Bool) (w : Writing) → w ≡ Tree.starts taken failed → IsWritten (origin taken failed [] []) w
+fresh taken failed w e = subst (IsWritten (origin taken failed [] [])) (sym e) (record {
   written = [];
   text = [];
-  part = [];
+  lined = [];
+  line = [];
   outlined = nothing_outlined;
   one_line = refl;
   parts = refl;
+  numbered = refl;
   took = Appends-nil taken;
   failed = refl;
 })
 
 -- no memory to begin with
-pub no_room : (only : Only) (left : Option (List ℕ)) (had : Bool) (taken : Option (List ℕ)) (failed : Bool) (w : Writing) → w
+pub no_room : (only : Only) (full : Option (List ℕ)) (had : Bool) (taken : Option (List ℕ)) (failed : Bool) (w : Writing) → w
     ≡ Tree.starts taken failed
-    → DumpsFrom only (record { before = left; after = left; had_failed = had; has_failed = had }) taken failed (Err Memory) w
-no_room only left had taken failed w e = subst (DumpsFrom only (record { before = left; after = left; had_failed = had; has_failed = had })
+    → DumpsFrom only (record { before = full; after = full; had_failed = had; has_failed = had }) taken failed (Err Memory) w
+no_room only full had taken failed w e = subst (DumpsFrom only (record { before = full; after = full; had_failed = had; has_failed = had })
     taken failed (Err Memory)) (sym e) (record {
       dumps = record {
         outline = [];
-        lists = progress.no_memory (chosen_line only) left left (Some []) (Some []) (new_feed 0 all_features) []
-            (progress.begun (chosen_line only) left (Some [])) left [] (Consumes-nil left);
+        numbers = [];
+        lists = progress.no_memory (chosen_line only) full full (Some []) (Some []) (new_feed 0 all_features) []
+            (progress.begun (chosen_line only) full (Some [])) full [] (Consumes-nil full);
+        counts = numbers_at full full (new_feed 0 all_features) no_counts (counts_nothing full) [] refl;
         writes = record { text = []; unwritten = []; outlined = nothing_outlined; wrote = Appends-nil taken };
       };
       source = refl;

@@ -1,3 +1,4 @@
 pub mod Dumping
 pub mod Lines
+pub mod Numbering
 pub mod Writing

@@ -1,4 +1,4 @@
--- Each line of an event ends with a line feed, and begins with its text in a listing.
+-- Each line of an event is one line of the first level, and begins with its text in a listing.
 use Rattle.std.proofs.Common.{◌≡◌, ℕ, zero, suc, ◌+◌, ◌≤◌, List, [], ◌∷◌, ◌++◌, IfSome, option_map, slice_get, lit≤, length, codes}
 use Rattle.std.proofs.Common.{Option, Some, None, refl, sym, ap, ◌∙◌, append_assoc}
 use Rattle.std.specs.Fmt.{decimal}
@@ -8,47 +8,10 @@ use Rattle.wasm_grammar.specs.Ids.{names, name_of}
 use Rattle.wasm_grammar.specs.Reading.{Report, version, counted, start_section, data_count_section, code_start, code_entry, custom_section}
 use Rattle.wasm_grammar.specs.Reading.{unknown_section, stream_end}
 use Rattle.wasm_feed.specs.Listing.{field, encoding_name, fault_number, text_before}
-use Rattle.wasm_show.specs.Chosen.{section_words, shown_line, BeginAlike}
-use Rattle.wasm_show.specs.Tree.{EndsLine}
-
-feed : EndsLine (codes "\n")
-feed = record { front = []; parts = refl }
-
--- what comes before changes nothing
-before : (first : List ℕ) {rest : List ℕ} → EndsLine rest → EndsLine (first ++ rest)
-before first e = record {
-  front = first ++ e.front;
-  parts = ap (λ (x : List ℕ). first ++ x) e.parts
-      ∙ sym (append_assoc first e.front (codes "\n"));
-}
-
-number : (n : ℕ) {rest : List ℕ} → EndsLine rest → EndsLine (field n rest)
-number n e = before (codes " ") (before (decimal n) e)
-
-if_any : (n : Option ℕ) {rest : List ℕ} → EndsLine rest → EndsLine (fault_number n rest)
-if_any None e = e
-if_any (Some n) e = before (codes ": ") (before (decimal n) e)
-
-text_ends : (r : Report) (rest : List ℕ) → EndsLine rest → EndsLine (text_before r rest)
-unfolding text_before
-text_ends (version num encoding from to) rest e = before (codes "version")
-    (number from (number to (number num (before (codes " ") (before (encoding_name encoding) e)))))
-text_ends (counted id count window) rest e = before (codes "section") (number id
-    (number window.start (number (window.start + length window.bytes) (number count e))))
-text_ends (start_section func from to) rest e = before (codes "start") (number from (number to (number func e)))
-text_ends (data_count_section count from to) rest e = before (codes "datacount") (number from (number to (number count e)))
-text_ends (code_start count from to size) rest e = before (codes "code") (number from (number to (number count (number size e))))
-text_ends (code_entry window) rest e = before (codes "body") (number window.start (number (window.start + length window.bytes) e))
-text_ends (custom_section name data_offset window) rest e = before (codes "custom")
-    (number window.start (number (window.start + length window.bytes) (number data_offset e)))
-text_ends (unknown_section id contents from to) rest e = before (codes "unknown") (number id (number from (number to e)))
-text_ends (stream_end (fault f)) rest e = before (codes "fault") (number f.offset
-    (before (codes " ") (before (message_of f.fault) (if_any f.number e))))
-text_ends (stream_end (ended offset)) rest e = before (codes "end") (number offset e)
-
--- the line of an event ends with a line feed
-pub line_ends : (r : Report) → EndsLine (shown_line r)
-line_ends r = text_ends r (section_words r ++ codes "\n") (before (section_words r) feed)
+use Rattle.wasm_show.specs.Chosen.{blank_numbers, numbered_line, section_words, shown_line, BeginAlike}
+use Rattle.wasm_show.specs.Numbers.{numbers_in_line}
+use Rattle.wasm_show.specs.Tree.{IsFirst}
+use Rattle.wasm_show.specs.declared.numbers.Counts.{Counts}
 
 -- ---- the text of a line, and what comes after it
 
@@ -74,7 +37,20 @@ text_parts (stream_end (fault f)) rest = by f.number
 text_parts (stream_end (ended offset)) rest = simp append_assoc
 
 pub begin_alike : (r : Report) → BeginAlike r
-begin_alike r = (text_parts r (codes "\n"), text_parts r (section_words r ++ codes "\n"))
+begin_alike r = (
+  text_parts r (codes "\n"),
+  text_parts r (section_words r ++ codes "\n"),
+  λ c. text_parts r (section_words r ++ blank_numbers (numbers_in_line c r) (codes "\n")),
+)
+
+-- the line of an event is one line of the first level, with its numbers after it
+pub line_is_first : (c : Counts) (r : Report) → IsFirst (numbered_line c r) (shown_line r) (numbers_in_line c r)
+line_is_first c r = record {
+  front = text_before r [] ++ section_words r;
+  parts = text_parts r (section_words r ++ blank_numbers (numbers_in_line c r) (codes "\n"))
+      ∙ sym (append_assoc (text_before r []) (section_words r) (blank_numbers (numbers_in_line c r) (codes "\n")));
+  outlines = text_parts r (section_words r ++ codes "\n") ∙ sym (append_assoc (text_before r []) (section_words r) (codes "\n"));
+}
 
 -- ---- the names of sections are short
 

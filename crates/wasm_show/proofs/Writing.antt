@@ -1,41 +1,52 @@
 -- What a writer has written, after each call that writes.
-use Rattle.std.proofs.Common.{◌≡◌, ℕ, Bool, true, false, List, [], ◌∷◌, ◌++◌, codes, Option, Some, None, Err, if◌then◌else◌, refl, sym, ap}
-use Rattle.std.proofs.Common.{subst, ◌∙◌, ◌≢◌, append_assoc, append-nil}
+use Rattle.std.proofs.Common.{◌≡◌, ℕ, Bool, true, false, List, [], ◌∷◌, ◌++◌, codes, Option, Some, None, Err, if◌then◌else◌, refl, sym}
+use Rattle.std.proofs.Common.{ap}
+use Rattle.std.proofs.Common.{subst, subst₂, ◌∙◌, ◌≢◌, append_assoc, append-nil}
+use Rattle.std.specs.List.{list_all}
 use Rattle.std.specs.List.{flat_map}
 use Rattle.std.proofs.KnownBytes.{Appends-nil, Appends-trans}
 use Rattle.std.proofs.lemmas.Grind.{flat_map-append}
 use Rattle.std.specs.Option.{is_some}
-use Rattle.std.proofs.lemmas.List.Folds.{list_all-append, list_any-append}
+use Rattle.std.proofs.lemmas.List.Folds.{list_all-append}
 use Rattle.wasm_feed.specs.Lists.{output_failed}
 use Rattle.wasm_feed.specs.declared.devices.ListError.{ListError}
 use Rattle.wasm_feed.specs.Page.{WritesBeginning, IsCut}
 use Rattle.wasm_feed.specs.declared.devices.ListError.TheVariants.{Input, Output, Memory}
-use Rattle.wasm_show.specs.Tree.{Line, first, under, has_line_feed, is_line, text_of, first_of, EndsLine, IsOutlined, Writing, Origin}
+use Rattle.wasm_show.specs.Numbers.{Number, number_text}
+use Rattle.wasm_show.specs.Tree.{Part, words, number, Line, first, under, has_line_feed, is_part, is_line, part_text, text_of, first_of}
+use Rattle.wasm_show.specs.Tree.{part_numbers, numbers_of, IsFirst, IsOutlined, Writing, Origin, with_numbers}
 use Rattle.wasm_show.specs.Tree.{IsGoing, IsCutShort, IsWrittenAs, IsWritten, with_line, IsPushed, IsStuck, PutsAs, Puts}
 
 -- ---- lines after lines
 
-outlined_more : (text outline : List ℕ) (l : Line) → is_line l ≡ true → IsOutlined text outline
-    → IsOutlined (text ++ text_of l) (outline ++ first_of l)
-outlined_more text outline l one i = record {
+more_lines : {A : Type 0} (f : Line → List A) (lines : List Line) (l : Line) (all : List A) → all ≡ flat_map f lines
+    → all ++ f l ≡ flat_map f (lines ++ l ∷ [])
+more_lines f lines l all e = ap (λ x. x ++ f l) e ∙ (ap (λ x. flat_map f lines ++ x) (sym (append-nil (f l)))
+    ∙ sym (flat_map-append f lines (l ∷ [])))
+
+outlined_more : (text outline : List ℕ) (numbers : List Number) (l : Line) → is_line l ≡ true → IsOutlined text outline numbers
+    → IsOutlined (text ++ text_of l) (outline ++ first_of l) (numbers ++ numbers_of l)
+outlined_more text outline numbers l one i = record {
   lines = i.lines ++ l ∷ [];
   whole = list_all-append is_line i.lines (l ∷ []) ∙ rw (i.whole, one) refl;
-  parts = ap (λ (x : List ℕ). x ++ text_of l) i.parts ∙ (ap (λ (x : List ℕ). flat_map text_of i.lines ++ x) (sym (append-nil (text_of l)))
-      ∙ sym (flat_map-append text_of i.lines (l ∷ [])));
-  outlines = ap (λ (x : List ℕ). x ++ first_of l) i.outlines ∙ (ap (λ (x : List ℕ). flat_map first_of i.lines ++ x)
-      (sym (append-nil (first_of l))) ∙ sym (flat_map-append first_of i.lines (l ∷ [])));
+  parts = more_lines text_of i.lines l text i.parts;
+  outlines = more_lines first_of i.lines l outline i.outlines;
+  numbered = more_lines numbers_of i.lines l numbers i.numbered;
 }
 
 -- a line under another
-under_more : (text outline line : List ℕ) → has_line_feed line ≡ false → IsOutlined text outline
-    → IsOutlined (text ++ (codes "  " ++ (line ++ codes "\n"))) outline
-under_more text outline line one i = subst (IsOutlined (text ++ text_of (under line))) (append-nil outline)
-    (outlined_more text outline (under line) (rw one refl) i)
+under_more : (text outline : List ℕ) (numbers : List Number) (line : List Part) → list_all is_part line ≡ true
+    → IsOutlined text outline numbers
+    → IsOutlined (text ++ (codes "  " ++ (flat_map part_text line ++ codes "\n"))) outline (numbers ++ flat_map part_numbers line)
+under_more text outline numbers line one i =
+    subst (λ (x : List ℕ). IsOutlined (text ++ text_of (under line)) x (numbers ++ flat_map part_numbers line)) (append-nil outline)
+    (outlined_more text outline numbers (under line) one i)
 
 -- a line of the first level
-first_more : (text outline line : List ℕ) → EndsLine line → IsOutlined text outline → IsOutlined (text ++ line) (outline ++ line)
-first_more text outline line e i = subst (λ (x : List ℕ). IsOutlined (text ++ x) (outline ++ x)) (sym e.parts)
-    (outlined_more text outline (first e.front) refl i)
+first_more : (text outline : List ℕ) (numbers : List Number) (line more : List ℕ) (after : List Number) → IsFirst line more after
+    → IsOutlined text outline numbers → IsOutlined (text ++ line) (outline ++ more) (numbers ++ after)
+first_more text outline numbers line more after e i = subst₂ (λ (x y : List ℕ). IsOutlined (text ++ x) (outline ++ y) (numbers ++ after))
+    (sym e.parts) (sym e.outlines) (outlined_more text outline numbers (first e.front after) refl i)
 
 -- ---- bytes put after those that wait
 
@@ -57,8 +68,9 @@ no_input taken written waiting Output w = λ e. cc
 no_input taken written waiting Memory w = λ e. cc
 no_input taken written waiting Input w = absurd w
 
-no_line_feed : (part bytes : List ℕ) → has_line_feed part ≡ false → has_line_feed bytes ≡ false → has_line_feed (part ++ bytes) ≡ false
-no_line_feed part bytes p b = list_any-append _ part bytes ∙ rw (p, b) refl
+-- a part more of a line
+more_parts : {A : Type 0} (f : Part → List A) (line : List Part) (p : Part) → flat_map f (line ++ p ∷ []) ≡ flat_map f line ++ f p
+more_parts f line p = flat_map-append f line (p ∷ []) ∙ ap (λ x. flat_map f line ++ x) (append-nil (f p))
 
 -- a writer that goes on, or has stopped
 pub as_going : (o : Origin) (w : Writing) → w.why ≡ None → IsWritten o w → IsGoing o w
@@ -85,31 +97,55 @@ short_still o w why b c = record {
 }
 
 -- a line of the first level, of which nothing could be written
-first_short : (o : Origin) (w : Writing) (why : ListError) (line : List ℕ) → EndsLine line → IsCutShort o why w
-    → IsCutShort (with_line o line) why w
-first_short o w why line e c = record {
+first_short : (o : Origin) (w : Writing) (why : ListError) (line outline : List ℕ) (numbers : List Number) → IsFirst line outline numbers
+    → IsCutShort o why w
+    → IsCutShort (with_numbers (with_line o outline) numbers) why w
+first_short o w why line outline numbers e c = record {
   written = c.written;
   unwritten = c.unwritten ++ line;
-  outlined = subst (λ (x : List ℕ). IsOutlined x (o.outline ++ line)) (append_assoc c.written c.unwritten line)
-      (first_more (c.written ++ c.unwritten) o.outline line e c.outlined);
+  outlined = subst (λ (x : List ℕ). IsOutlined x (o.outline ++ outline) (o.numbers ++ numbers)) (append_assoc c.written c.unwritten line)
+      (first_more (c.written ++ c.unwritten) o.outline o.numbers line outline numbers e c.outlined);
   took = c.took;
   failed = c.failed;
   no_input = c.no_input;
 }
 
+-- a part of a line under another, of which nothing could be written
+part_short : (o : Origin) (w : Writing) (why : ListError) (p : Part) → is_part p ≡ true → IsCutShort o why w
+    → IsCutShort (with_numbers o (part_numbers p)) why w
+part_short o w why p one c =
+    let line = codes "  " ++ (flat_map part_text (p ∷ []) ++ codes "\n") in
+    record {
+      written = c.written;
+      unwritten = c.unwritten ++ line;
+      outlined = subst₂ (λ (x : List ℕ) (y : List Number). IsOutlined x o.outline (o.numbers ++ y))
+          (append_assoc c.written c.unwritten line) (append-nil (part_numbers p))
+          (under_more (c.written ++ c.unwritten) o.outline o.numbers (p ∷ []) (rw one refl) c.outlined);
+      took = c.took;
+      failed = c.failed;
+      no_input = c.no_input;
+    }
+
 module _ (o : Origin) (old new : Writing) (i : IsGoing o old) where
   -- to a line that is begun
-  part_grows : (bytes : List ℕ) → old.is_begun ≡ true → has_line_feed bytes ≡ false → IsPushed bytes old new → IsGoing o new
-  part_grows bytes b none p = record {
-    written = i.written ++ p.puts.moved;
+  part_grows : (p : Part) → old.is_begun ≡ true → is_part p ≡ true → IsPushed (part_text p) old new
+      → IsGoing (with_numbers o (part_numbers p)) new
+  part_grows p b one h = record {
+    written = i.written ++ h.puts.moved;
     text = i.text;
-    part = i.part ++ bytes;
+    lined = i.lined;
+    line = i.line ++ p ∷ [];
     outlined = i.outlined;
-    one_line = no_line_feed i.part bytes i.one_line none;
-    parts = grown i.written old.waiting bytes p.puts.moved new.waiting p.puts.waits
-        ∙ rw (p.begun, b) (ap (λ (x : List ℕ). x ++ bytes) (i.parts ∙ rw b refl) ∙ append_assoc i.text (codes "  " ++ i.part) bytes);
-    took = Appends-trans o.taken old.taken new.taken i.written p.puts.moved i.took p.puts.writes;
-    failed = p.failed ∙ i.failed;
+    one_line = list_all-append is_part i.line (p ∷ []) ∙ rw (i.one_line, one) refl;
+    parts = grown i.written old.waiting (part_text p) h.puts.moved new.waiting h.puts.waits
+        ∙ rw (h.begun, b) (ap (λ (x : List ℕ). x ++ part_text p) (i.parts ∙ rw b refl)
+        ∙ (append_assoc i.text (codes "  " ++ flat_map part_text i.line) (part_text p)
+        ∙ ap (λ (x : List ℕ). i.text ++ (codes "  " ++ x)) (sym (more_parts part_text i.line p))));
+    numbered = rw (h.begun, b) (ap (λ (x : List Number). x ++ part_numbers p) (i.numbered ∙ rw b refl)
+        ∙ (append_assoc i.lined (flat_map part_numbers i.line) (part_numbers p)
+        ∙ ap (λ (x : List Number). i.lined ++ x) (sym (more_parts part_numbers i.line p))));
+    took = Appends-trans o.taken old.taken new.taken i.written h.puts.moved i.took h.puts.writes;
+    failed = h.failed ∙ i.failed;
   }
 
   -- a line is begun
@@ -117,11 +153,13 @@ module _ (o : Origin) (old new : Writing) (i : IsGoing o old) where
   part_begins b p = record {
     written = i.written ++ p.puts.moved;
     text = i.text;
-    part = [];
+    lined = i.lined;
+    line = [];
     outlined = i.outlined;
     one_line = refl;
     parts = grown i.written old.waiting (codes "  ") p.puts.moved new.waiting p.puts.waits
         ∙ ap (λ (x : List ℕ). x ++ codes "  ") (i.parts ∙ rw b (append-nil i.text));
+    numbered = i.numbered ∙ rw b refl;
     took = Appends-trans o.taken old.taken new.taken i.written p.puts.moved i.took p.puts.writes;
     failed = p.failed ∙ i.failed;
   }
@@ -130,27 +168,34 @@ module _ (o : Origin) (old new : Writing) (i : IsGoing o old) where
   part_ends : old.is_begun ≡ true → IsPushed (codes "\n") old new → IsGoing o (record new { is_begun = false })
   part_ends b p = record {
     written = i.written ++ p.puts.moved;
-    text = i.text ++ (codes "  " ++ (i.part ++ codes "\n"));
-    part = [];
-    outlined = under_more i.text o.outline i.part i.one_line i.outlined;
+    text = i.text ++ (codes "  " ++ (flat_map part_text i.line ++ codes "\n"));
+    lined = i.lined ++ flat_map part_numbers i.line;
+    line = [];
+    outlined = under_more i.text o.outline i.lined i.line i.one_line i.outlined;
     one_line = refl;
     parts = grown i.written old.waiting (codes "\n") p.puts.moved new.waiting p.puts.waits
         ∙ (ap (λ (x : List ℕ). x ++ codes "\n") (i.parts ∙ rw b refl)
-        ∙ (append_assoc i.text (codes "  " ++ i.part) (codes "\n") ∙ sym (append-nil (i.text ++ (codes "  " ++ (i.part ++ codes "\n"))))));
+        ∙ (append_assoc i.text (codes "  " ++ flat_map part_text i.line) (codes "\n")
+        ∙ sym (append-nil (i.text ++ (codes "  " ++ (flat_map part_text i.line ++ codes "\n"))))));
+    numbered = i.numbered ∙ (rw b refl ∙ sym (append-nil (i.lined ++ flat_map part_numbers i.line)));
     took = Appends-trans o.taken old.taken new.taken i.written p.puts.moved i.took p.puts.writes;
     failed = p.failed ∙ i.failed;
   }
 
   -- a line of the first level
-  first_grows : (line : List ℕ) → EndsLine line → old.is_begun ≡ false → IsPushed line old new → IsGoing (with_line o line) new
-  first_grows line e b p = record {
+  first_grows : (line outline : List ℕ) (numbers : List Number) → IsFirst line outline numbers → old.is_begun ≡ false
+      → IsPushed line old new → IsGoing (with_numbers (with_line o outline) numbers) new
+  first_grows line outline numbers e b p = record {
     written = i.written ++ p.puts.moved;
     text = i.text ++ line;
-    part = [];
-    outlined = first_more i.text o.outline line e i.outlined;
+    lined = i.lined ++ numbers;
+    line = [];
+    outlined = first_more i.text o.outline i.lined line outline numbers e i.outlined;
     one_line = refl;
     parts = grown i.written old.waiting line p.puts.moved new.waiting p.puts.waits
         ∙ rw (p.begun, b) (ap (λ (x : List ℕ). x ++ line) (i.parts ∙ rw b (append-nil i.text)) ∙ sym (append-nil (i.text ++ line)));
+    numbered = rw (p.begun, b) (ap (λ (x : List Number). x ++ numbers) (i.numbered ∙ rw b (append-nil i.lined))
+        ∙ sym (append-nil (i.lined ++ numbers)));
     took = Appends-trans o.taken old.taken new.taken i.written p.puts.moved i.took p.puts.writes;
     failed = p.failed ∙ i.failed;
   }
@@ -160,22 +205,26 @@ module _ (o : Origin) (old new : Writing) (i : IsGoing o old) where
   all_moves p = record {
     written = i.written ++ p.puts.moved;
     text = i.text;
-    part = i.part;
+    lined = i.lined;
+    line = i.line;
     outlined = i.outlined;
     one_line = i.one_line;
     parts = grown i.written old.waiting [] p.puts.moved new.waiting p.puts.waits
         ∙ (append-nil (i.written ++ old.waiting) ∙ rw p.begun i.parts);
+    numbered = rw p.begun i.numbered;
     took = Appends-trans o.taken old.taken new.taken i.written p.puts.moved i.took p.puts.writes;
     failed = p.failed ∙ i.failed;
   }
 
   -- the text that was cut, with what completes the line that was begun
-  completed : (b : Bool) → old.is_begun ≡ b → IsOutlined ((i.written ++ old.waiting) ++ (if b then codes "\n" else [])) o.outline
-  completed true b = subst (λ (x : List ℕ). IsOutlined x o.outline)
-      (sym (ap (λ (x : List ℕ). x ++ codes "\n") (i.parts ∙ rw b refl) ∙ append_assoc i.text (codes "  " ++ i.part) (codes "\n")))
-      (under_more i.text o.outline i.part i.one_line i.outlined)
-  completed false b = subst (λ (x : List ℕ). IsOutlined x o.outline)
-      (sym (append-nil (i.written ++ old.waiting) ∙ (i.parts ∙ rw b (append-nil i.text)))) i.outlined
+  completed : (b : Bool) → old.is_begun ≡ b → IsOutlined ((i.written ++ old.waiting) ++ (if b then codes "\n" else [])) o.outline o.numbers
+  completed true b = subst₂ (λ (x : List ℕ) (y : List Number). IsOutlined x o.outline y)
+      (sym (ap (λ (x : List ℕ). x ++ codes "\n") (i.parts ∙ rw b refl)
+      ∙ append_assoc i.text (codes "  " ++ flat_map part_text i.line) (codes "\n")))
+      (sym (i.numbered ∙ rw b refl)) (under_more i.text o.outline i.lined i.line i.one_line i.outlined)
+  completed false b = subst₂ (λ (x : List ℕ) (y : List Number). IsOutlined x o.outline y)
+      (sym (append-nil (i.written ++ old.waiting) ∙ (i.parts ∙ rw b (append-nil i.text))))
+      (sym (i.numbered ∙ rw b (append-nil i.lined))) i.outlined
 
   -- of all that was written or waited, a beginning is written
   cut_at : (moved unwritten more : List ℕ) → old.waiting ≡ moved ++ unwritten → (i.written ++ moved) ++ (unwritten ++ more)
@@ -190,7 +239,7 @@ module _ (o : Origin) (old new : Writing) (i : IsGoing o old) where
       record {
         written = i.written ++ w.moved;
         unwritten = w.unwritten ++ (if old.is_begun then codes "\n" else []);
-        outlined = subst (λ (x : List ℕ). IsOutlined x o.outline) (sym
+        outlined = subst (λ (x : List ℕ). IsOutlined x o.outline o.numbers) (sym
             (cut_at w.moved w.unwritten (if old.is_begun then codes "\n" else []) w.parts)) (completed old.is_begun refl);
         took = Appends-trans o.taken old.taken new.taken i.written w.moved i.took w.wrote;
         failed = s.failed ∙ ap (λ (b : Bool). output_failed {A = Unit {0}} (Err why) b) i.failed;
@@ -223,14 +272,24 @@ module _ (o : Origin) (old new : Writing) where
   by_why to bytes None (Some why) b a p i going short = from_short to new why a
       (short why new (is_stuck o old new (as_going o old b i) why p))
 
+  puts_of : (p : Part) → old.is_begun ≡ true → is_part p ≡ true → Puts (part_text p) old new → IsWritten o old
+      → IsWritten (with_numbers o (part_numbers p)) new
+  puts_of p b one h i = by_why (with_numbers o (part_numbers p)) (part_text p) old.why new.why refl refl h i
+      (λ g s. part_grows o old new g p b one s) (λ why w c. part_short o w why p one c)
+
   pub puts_part : (bytes : List ℕ) → old.is_begun ≡ true → has_line_feed bytes ≡ false → Puts bytes old new → IsWritten o old
       → IsWritten o new
-  puts_part bytes b none p i = by_why o bytes old.why new.why refl refl p i (λ g h. part_grows o old new g bytes b none h) (λ why w c. c)
+  puts_part bytes b none p i = subst (λ (x : List Number). IsWritten (record o { numbers = x }) new) (append-nil o.numbers)
+      (puts_of (words bytes) b (rw none refl) p i)
 
-  pub puts_first : (line : List ℕ) → EndsLine line → old.is_begun ≡ false → Puts line old new → IsWritten o old
-      → IsWritten (with_line o line) new
-  puts_first line e b p i = by_why (with_line o line) line old.why new.why refl refl p i (λ g h. first_grows o old new g line e b h)
-      (λ why w c. first_short o w why line e c)
+  pub puts_number : (n : Number) → old.is_begun ≡ true → Puts (number_text n []) old new → IsWritten o old
+      → IsWritten (with_numbers o (n ∷ [])) new
+  puts_number n b p i = puts_of (number n) b refl p i
+
+  pub puts_first : (line outline : List ℕ) (numbers : List Number) → IsFirst line outline numbers → old.is_begun ≡ false
+      → Puts line old new → IsWritten o old → IsWritten (with_numbers (with_line o outline) numbers) new
+  puts_first line outline numbers e b p i = by_why (with_numbers (with_line o outline) numbers) line old.why new.why refl refl p i
+      (λ g h. first_grows o old new g line outline numbers e b h) (λ why w c. first_short o w why line outline numbers e c)
 
   pub puts_all : Puts [] old new → IsWritten o old → IsWritten o new
   puts_all p i = by_why o [] old.why new.why refl refl p i (λ g h. all_moves o old new g h) (λ why w c. c)

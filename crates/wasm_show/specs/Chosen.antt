@@ -1,11 +1,13 @@
 -- Which events a dump shows, and the line of each.
-use Rattle.std.specs.Prelude.{◌≡◌, option_map, ℕ, Bool, true, false, List, [], ◌++◌, Option, Some, None, nat_eq}
+use Rattle.std.specs.Prelude.{◌≡◌, option_map, ℕ, Bool, true, false, List, [], ◌∷◌, ◌++◌, Option, Some, None, nat_eq}
 use Rattle.std.specs.Prelude.{bytes_eq, codes, if◌then◌else◌}
 use Rattle.wasm_grammar.specs.Reading.{Report, counted, code_entry, custom_section, stream_end}
 use Rattle.wasm_grammar.specs.Ids.{code_id}
 use Rattle.wasm_grammar.specs.Ids.{name_of as section_name}
 use Rattle.wasm_grammar.specs.Sections.{section_of}
 use Rattle.wasm_feed.specs.Listing.{line_of, text_before}
+use Rattle.wasm_show.specs.Numbers.{Number, number_text, numbers_in_line}
+use Rattle.wasm_show.specs.declared.numbers.Counts.{Counts}
 use Rattle.wasm_show.specs.declared.only.Only.{Only}
 use Rattle.wasm_show.specs.declared.only.Only.TheVariants.{All, Id, Name}
 
@@ -54,12 +56,24 @@ section_words report = after_blank (counted_name report)
 abbrev pub shown_line : Report → List ℕ
 shown_line report = text_before report (section_words report ++ codes "\n")
 
+-- the numbers that a line ends with, each after a blank, before the rest of it
+abbrev pub blank_numbers : List Number → (rest : List ℕ) → List ℕ
+blank_numbers [] rest = rest
+blank_numbers (n ∷ later) rest = codes " " ++ number_text n (blank_numbers later rest)
+
+-- the same line with the numbers of items that it has, after what came before
+abbrev pub numbered_line : Counts → Report → List ℕ
+numbered_line counts report =
+    text_before report (section_words report ++ blank_numbers (numbers_in_line counts report) (codes "\n"))
+
 -- the line of what is reported, where it is shown
 abbrev pub chosen_line : Only → Report → List ℕ
 chosen_line only report = if is_chosen only report then shown_line report else []
 
--- The lines of a listing and of a dump begin with the same text. A listing's has nothing after it, a dump's the name of
--- the section.
+-- The lines of a listing and of a dump begin with the same text. A listing's has nothing after it; a dump's the name
+-- of the section, and then the numbers of items that it shows.
 abbrev pub BeginAlike : Report → Type 0
 BeginAlike report = (line_of report ≡ text_before report [] ++ codes "\n")
     × (shown_line report ≡ text_before report [] ++ (section_words report ++ codes "\n"))
+    × ((counts : Counts) → numbered_line counts report ≡ text_before report []
+    ++ (section_words report ++ blank_numbers (numbers_in_line counts report) (codes "\n")))

@@ -1,59 +1,111 @@
 -- What a dump writes.
 use Rattle.std.specs.Prelude.{◌≡◌, ℕ, Bool, List, [], ◌++◌, Option, Some, Result, Ok, Err}
-use Rattle.std.specs.Io.KnownBytes.{Appends}
+use Rattle.std.specs.Io.KnownBytes.{Appends, Consumes}
+use Rattle.wasm_base.specs.Features.{all_features}
 use Rattle.wasm_base.specs.declared.error.Error.{Error}
+use Rattle.wasm_grammar.specs.Reading.{Report, Event}
+use Rattle.wasm_parser.specs.Along.{ReadingBegins}
+use Rattle.wasm_parser.specs.ParseAnswer.{report_of}
 use Rattle.wasm_feed.specs.Calls.{Change, Device, bytes_of, from_to}
 use Rattle.wasm_feed.specs.Feed.{Feed}
 use Rattle.wasm_feed.specs.Lists.{ListsBy, input_failed, output_failed}
 use Rattle.wasm_feed.specs.Step.{Steps}
 use Rattle.wasm_feed.specs.Turns.{text_after, turn_after}
 use Rattle.wasm_feed.specs.declared.feeder.Step.{Step}
+use Rattle.wasm_feed.specs.declared.feeder.Step.TheVariants.{NeedMoreData, Parsed}
 use Rattle.wasm_feed.specs.declared.listing.Ended.{Ended}
 use Rattle.wasm_feed.specs.declared.devices.ListError.{ListError}
 use Rattle.wasm_feed.specs.declared.devices.ListError.TheVariants.{Input, Output, Memory}
 use Rattle.wasm_feed.specs.declared.listing.Turn.{Turn}
 use Rattle.wasm_show.specs.Chosen.{chosen_line}
-use Rattle.wasm_show.specs.Tree.{IsOutlined, Writing, Origin, IsWritten, AddsFirst, starts}
+use Rattle.wasm_show.specs.Numbers.{Number, after, no_counts, AreOf, AreOfItems, AreOfEvents}
+use Rattle.wasm_show.specs.Tree.{IsOutlined, Writing, Origin, IsWritten, AddsNumbers, with_line, with_numbers, starts}
+use Rattle.wasm_show.specs.declared.numbers.Counts.{Counts}
 use Rattle.wasm_show.specs.declared.only.Only.{Only}
 
 -- A text with this outline was written.
-pub record WritesWhole (taken written : Option (List ℕ)) (outline : List ℕ) : Type 0 where
+pub record WritesWhole (taken written : Option (List ℕ)) (outline : List ℕ) (numbers : List Number) : Type 0 where
   pub text : List ℕ
-  pub outlined : IsOutlined text outline
+  pub outlined : IsOutlined text outline numbers
   pub wrote : Appends taken written text
 
 -- A beginning of one was written.
-pub record WritesSome (taken written : Option (List ℕ)) (outline : List ℕ) : Type 0 where
+pub record WritesSome (taken written : Option (List ℕ)) (outline : List ℕ) (numbers : List Number) : Type 0 where
   pub text : List ℕ
   pub unwritten : List ℕ
-  pub outlined : IsOutlined (text ++ unwritten) outline
+  pub outlined : IsOutlined (text ++ unwritten) outline numbers
   pub wrote : Appends taken written text
 
--- what was written of a text with this outline, by how the dump ended
-abbrev pub Writes : Result Ended ListError → (taken written : Option (List ℕ)) (outline : List ℕ) → Type 0
-Writes (Ok how) taken written outline = WritesWhole taken written outline
-Writes (Err Input) taken written outline = WritesWhole taken written outline
-Writes (Err Output) taken written outline = WritesSome taken written outline
-Writes (Err Memory) taken written outline = WritesSome taken written outline
+-- what was written of a text with this outline and these numbers, by how the dump ended
+abbrev pub Writes : Result Ended ListError → (taken written : Option (List ℕ)) (outline : List ℕ)
+    (numbers : List Number) → Type 0
+Writes (Ok how) taken written outline numbers = WritesWhole taken written outline numbers
+Writes (Err Input) taken written outline numbers = WritesWhole taken written outline numbers
+Writes (Err Output) taken written outline numbers = WritesSome taken written outline numbers
+Writes (Err Memory) taken written outline numbers = WritesSome taken written outline numbers
 
--- The lines of the first level are those of the source's listing that are shown; all others begin with two blanks.
+-- What the source gave is read as events that begin with these, and the numbers are theirs: each is how many items came
+-- before in its index space.
+pub record AreOfSource (input : Change) (numbers : List Number) : Type 0 where
+  pub given : List ℕ
+  pub events : List Event
+  pub gave : Consumes input.before input.after given
+  pub begins : ReadingBegins 0 all_features given events
+  pub are_of : AreOfEvents no_counts events numbers
+
+-- The lines of the first level are those of the source's listing that are shown; all others begin with two blanks. The
+-- numbers of items count what came before.
 pub record Dumps (only : Only) (input output : Change) (result : Result Ended ListError) : Type 0 where
   pub outline : List ℕ
+  pub numbers : List Number
   pub lists : ListsBy (chosen_line only) input (from_to (Some []) (Some outline)) result
-  pub writes : Writes result output.before output.after outline
+  pub counts : AreOfSource input numbers
+  pub writes : Writes result output.before output.after outline numbers
 
 -- ---- the parts of a dump
 
+-- The items of what is reported were shown, with their numbers after what came before.
+abbrev pub ShowsItems : Counts → Report → (old new : Writing) → Type 0
+ShowsItems counts report old new = AddsNumbers (AreOfItems counts report) old new
+
+-- These lines of the first level were written, if any, and what is under them, with numbers of which this holds.
+abbrev pub ShowsLine : (line : List ℕ) (allowed : List Number → Type 0) (old new : Writing) → Type 0
+ShowsLine line allowed old new = (o : Origin) → IsWritten o old
+    → (shown : List Number) × allowed shown × IsWritten (with_numbers (with_line o line) shown) new
+
+-- What is reported was shown, if it was chosen.
+abbrev pub ShowsReport : Only → Counts → Report → (old new : Writing) → Type 0
+ShowsReport only counts report old new = ShowsLine (chosen_line only report) (AreOf counts report) old new
+
+-- the numbers that are shown of an answer, and what came before what is after it
+abbrev pub AreOfAnswer : Counts → Result Step Error → List Number → Type 0
+AreOfAnswer counts (Ok (NeedMoreData hint)) shown = shown ≡ []
+AreOfAnswer counts (Ok (Parsed bytes payload)) shown = AreOf counts (report_of payload) shown
+AreOfAnswer counts (Err e) shown = shown ≡ []
+
+abbrev pub after_answer : Counts → Result Step Error → Counts
+after_answer counts (Ok (NeedMoreData hint)) = counts
+after_answer counts (Ok (Parsed bytes payload)) = after counts (report_of payload)
+after_answer counts (Err e) = counts
+
+-- An answer was shown, if it was chosen.
+abbrev pub ShowsAnswer : Only → Counts → Result Step Error → (old new : Writing) → Type 0
+ShowsAnswer only counts answer old new =
+    ShowsLine (text_after (chosen_line only) answer) (AreOfAnswer counts answer) old new
+
 -- A step of the feeder was shown, and this is done next.
-pub record ShowsStep (only : Only) (old new : Feed) (before after : Writing) (next : Turn) : Type 0 where
+pub record ShowsStep (only : Only) (counts counts' : Counts) (old new : Feed) (before after : Writing) (next : Turn) :
+    Type 0 where
   pub answer : Result Step Error
   pub steps : Steps old answer new
   pub turns : next ≡ turn_after answer
-  pub shows : AddsFirst (text_after (chosen_line only) answer) before after
+  pub shows : ShowsAnswer only counts answer before after
+  pub counted : counts' ≡ after_answer counts answer
 
 -- a dump's origin: what the sink had taken, and whether it had failed
-abbrev pub origin : (taken : Option (List ℕ)) (failed : Bool) (outline : List ℕ) → Origin
-origin taken failed outline = record { taken = taken; has_failed = failed; outline = outline }
+abbrev pub origin : (taken : Option (List ℕ)) (failed : Bool) (outline : List ℕ) (numbers : List Number) → Origin
+origin taken failed outline numbers =
+    record { taken = taken; has_failed = failed; outline = outline; numbers = numbers }
 
 -- A dump by a writer over a sink that had taken this.
 pub record DumpsFrom (only : Only) (input : Device) (taken : Option (List ℕ)) (failed : Bool)
@@ -65,8 +117,8 @@ pub record DumpsFrom (only : Only) (input : Device) (taken : Option (List ℕ)) 
 -- The same by a writer whose outline is empty.
 abbrev pub DumpsInto : (only : Only) (input : Device) (old : Writing) (result : Result Ended ListError) (new : Writing)
     → Type 0
-DumpsInto only input old result new = (taken : Option (List ℕ)) (failed : Bool) → IsWritten (origin taken failed []) old
-    → DumpsFrom only input taken failed result new
+DumpsInto only input old result new = (taken : Option (List ℕ)) (failed : Bool)
+    → IsWritten (origin taken failed [] []) old → DumpsFrom only input taken failed result new
 
 -- The same by a tree that has written nothing yet.
 abbrev pub DumpsByTree : (only : Only) (input : Device) (old : Writing) (result : Result Ended ListError)

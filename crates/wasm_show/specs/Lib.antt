@@ -1,3 +1,4 @@
 pub mod Chosen
 pub mod Dump
+pub mod Numbers
 pub mod Tree

@@ -1,47 +1,76 @@
 -- Lines of text, some of them under others, and what a writer has written of them.
-use Rattle.std.specs.Prelude.{◌≡◌, ◌≢◌, ℕ, Bool, true, false, List, [], ◌++◌, codes, Option, Some, None}
+use Rattle.std.specs.Prelude.{◌≡◌, ◌≢◌, ℕ, Bool, true, false, List, [], ◌∷◌, ◌++◌, codes, Option, Some, None}
 use Rattle.std.specs.Prelude.{Err, nat_eq, if◌then◌else◌}
 use Rattle.std.specs.List.{flat_map, list_all, list_any}
 use Rattle.std.specs.Io.KnownBytes.{Appends}
 use Rattle.wasm_feed.specs.Lists.{output_failed}
 use Rattle.wasm_feed.specs.Page.{IsCut, PutsBytes}
 use Rattle.wasm_feed.specs.declared.devices.ListError.{ListError}
+use Rattle.wasm_show.specs.Chosen.{blank_numbers}
+use Rattle.wasm_show.specs.Numbers.{Number, number_text, Begin, AreFrom, AreUpTo}
+use Rattle.wasm_show.specs.declared.numbers.Space.{Space}
 use Rattle.wasm_feed.specs.declared.devices.ListError.TheVariants.{Input}
 
--- a line of the first level, without its line feed; or one that is under another, without its first two blanks and its
--- line feed
+-- a part of a line under another: words, or the number of an item
+pub data Part : Type 0 where
+  words : List ℕ → Part
+  number : Number → Part
+
+-- a line of the first level, without its line feed, and the numbers of items that come after it; or one that is under
+-- another, by its parts, without its first two blanks and its line feed
 pub data Line : Type 0 where
-  first : List ℕ → Line
-  under : List ℕ → Line
+  first : List ℕ → List Number → Line
+  under : List Part → Line
 
 abbrev pub has_line_feed : List ℕ → Bool
 has_line_feed text = list_any (λ b. nat_eq b 10) text
 
+-- whether what is said to be a part of a line is; a number has no line feed
+abbrev pub is_part : Part → Bool
+is_part (words text) = if has_line_feed text then false else true
+is_part (number n) = true
+
 -- whether what is said to be under another is one line
 abbrev pub is_line : Line → Bool
-is_line (first text) = true
-is_line (under text) = if has_line_feed text then false else true
+is_line (first text numbers) = true
+is_line (under parts) = list_all is_part parts
+
+abbrev pub part_text : Part → List ℕ
+part_text (words text) = text
+part_text (number n) = number_text n []
 
 abbrev pub text_of : Line → List ℕ
-text_of (first text) = text ++ codes "\n"
-text_of (under text) = codes "  " ++ (text ++ codes "\n")
+text_of (first text numbers) = text ++ blank_numbers numbers (codes "\n")
+text_of (under parts) = codes "  " ++ (flat_map part_text parts ++ codes "\n")
 
 -- what it adds to the outline
 abbrev pub first_of : Line → List ℕ
-first_of (first text) = text ++ codes "\n"
-first_of (under text) = []
+first_of (first text numbers) = text ++ codes "\n"
+first_of (under parts) = []
 
--- The text ends with a line feed.
-pub record EndsLine (text : List ℕ) : Type 0 where
+-- the numbers that it shows
+abbrev pub part_numbers : Part → List Number
+part_numbers (words text) = []
+part_numbers (number n) = n ∷ []
+
+abbrev pub numbers_of : Line → List Number
+numbers_of (first text numbers) = numbers
+numbers_of (under parts) = flat_map part_numbers parts
+
+-- The text is one line of the first level with these numbers after it, which adds this to the outline.
+pub record IsFirst (text outline : List ℕ) (numbers : List Number) : Type 0 where
   pub front : List ℕ
-  pub parts : text ≡ front ++ codes "\n"
+  pub parts : text ≡ front ++ blank_numbers numbers (codes "\n")
+  pub outlines : outline ≡ front ++ codes "\n"
 
--- The text is made of lines, and its outline is those of the first level: the others begin with two blanks.
-pub record IsOutlined (text outline : List ℕ) : Type 0 where
+-- The text is made of lines, and its outline is those of the first level, without numbers: the others begin with two
+-- blanks. The numbers are those that its lines show, in order.
+pub record IsOutlined (text outline : List ℕ) (numbers : List Number) : Type 0 where
   pub lines : List Line
   pub whole : list_all is_line lines ≡ true
   pub parts : text ≡ flat_map text_of lines
   pub outlines : outline ≡ flat_map first_of lines
+  pub numbered : numbers ≡ flat_map numbers_of lines
 
 -- what a writer is: the bytes that its sink has taken, where these are known, those that wait, whether a line was begun
 -- and not ended, whether the sink has failed, and why the writer has stopped, if it has
@@ -56,25 +85,33 @@ pub record Writing : Type 0 where
 abbrev pub starts : (taken : Option (List ℕ)) (failed : Bool) → Writing
 starts taken failed = record { taken = taken; waiting = []; is_begun = false; has_failed = failed; why = None }
 
--- what there was at first, and the outline since
+-- what there was at first, and the outline and the numbers since
 pub record Origin : Type 0 where
   pub taken : Option (List ℕ)
   pub has_failed : Bool
   pub outline : List ℕ
+  pub numbers : List Number
 
--- a line under another that was begun
-abbrev pub begun : Bool → List ℕ → List ℕ
-begun true part = codes "  " ++ part
-begun false part = []
+-- a line under another that was begun, and its numbers
+abbrev pub begun : Bool → List Part → List ℕ
+begun true parts = codes "  " ++ flat_map part_text parts
+begun false parts = []
 
--- All that was written or waits is whole lines with this outline, and perhaps a line that was begun.
+abbrev pub begun_numbers : Bool → List Part → List Number
+begun_numbers true parts = flat_map part_numbers parts
+begun_numbers false parts = []
+
+-- All that was written or waits is whole lines with this outline, and perhaps a line that was begun, and shows these
+-- numbers.
 pub record IsGoing (o : Origin) (w : Writing) : Type 0 where
   pub written : List ℕ
   pub text : List ℕ
-  pub part : List ℕ
-  pub outlined : IsOutlined text o.outline
-  pub one_line : has_line_feed part ≡ false
-  pub parts : written ++ w.waiting ≡ text ++ begun w.is_begun part
+  pub lined : List Number
+  pub line : List Part
+  pub outlined : IsOutlined text o.outline lined
+  pub one_line : list_all is_part line ≡ true
+  pub parts : written ++ w.waiting ≡ text ++ begun w.is_begun line
+  pub numbered : o.numbers ≡ lined ++ begun_numbers w.is_begun line
   pub took : Appends o.taken w.taken written
   pub failed : w.has_failed ≡ o.has_failed
 
@@ -82,7 +119,7 @@ pub record IsGoing (o : Origin) (w : Writing) : Type 0 where
 pub record IsCutShort (o : Origin) (why : ListError) (w : Writing) : Type 0 where
   pub written : List ℕ
   pub unwritten : List ℕ
-  pub outlined : IsOutlined (written ++ unwritten) o.outline
+  pub outlined : IsOutlined (written ++ unwritten) o.outline o.numbers
   pub took : Appends o.taken w.taken written
   pub failed : w.has_failed ≡ output_failed {A = Unit {0}} (Err why) o.has_failed
   pub no_input : why ≢ Input
@@ -103,9 +140,39 @@ Adds old new = (o : Origin) → IsWritten o old → IsWritten o new
 abbrev pub with_line : Origin → List ℕ → Origin
 with_line o line = record o { outline = o.outline ++ line }
 
--- This line of the first level was written.
+-- with these numbers more
+abbrev pub with_numbers : Origin → List Number → Origin
+with_numbers o numbers = record o { numbers = o.numbers ++ numbers }
+
+-- This line of the first level was written, which may end with numbers.
 abbrev pub AddsFirst : (line : List ℕ) (old new : Writing) → Type 0
-AddsFirst line old new = (o : Origin) → IsWritten o old → IsWritten (with_line o line) new
+AddsFirst line old new = (outline : List ℕ) (numbers : List Number) → IsFirst line outline numbers → (o : Origin)
+    → IsWritten o old → IsWritten (with_numbers (with_line o outline) numbers) new
+
+-- What was written is under the lines before it, and shows these numbers.
+abbrev pub AddsThese : List Number → (old new : Writing) → Type 0
+AddsThese numbers old new = (o : Origin) → IsWritten o old → IsWritten (with_numbers o numbers) new
+
+-- It shows this one.
+abbrev pub AddsNumber : Space → (index : ℕ) → (old new : Writing) → Type 0
+AddsNumber space index old new = AddsThese (record { space = space; index = index } ∷ []) old new
+
+-- What was written is under the lines before it, and shows numbers of which this holds.
+abbrev pub AddsNumbers : (allowed : List Number → Type 0) (old new : Writing) → Type 0
+AddsNumbers allowed old new = (o : Origin) → IsWritten o old
+    → (shown : List Number) × allowed shown × IsWritten (with_numbers o shown) new
+
+-- They are a beginning of these.
+abbrev pub AddsBeginning : List Number → (old new : Writing) → Type 0
+AddsBeginning all old new = AddsNumbers (λ shown. Begin shown all) old new
+
+-- They are so many of an index space, from this one on.
+abbrev pub AddsNext : Space → (from : ℕ) (old new : Writing) → Type 0
+AddsNext space from old new = AddsNumbers (λ shown. AreFrom space from shown) old new
+
+-- The same, and this is the next number.
+abbrev pub AddsUpTo : Space → (from next : ℕ) (old new : Writing) → Type 0
+AddsUpTo space from next old new = AddsNumbers (λ shown. AreUpTo space from next shown) old new
 
 -- ---- bytes
 

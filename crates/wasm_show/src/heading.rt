@@ -1,9 +1,10 @@
-// The line of an event: its text in a listing, and then the name of the section.
+// The line of an event: its text in a listing, and then the name of the section, or the number of the function.
 ghost use Rattle.std.specs.Prelude.{◌≡◌, ◌≤◌, ◌++◌, IfSome, length, option_map};
 ghost use Rattle.wasm_grammar.specs.Ids.{name_of};
 ghost use Rattle.wasm_parser.specs.ParseAnswer.{report_of};
-ghost use Rattle.wasm_show.specs.Chosen.{after_blank, counted_name as name_counted, shown_line as line_shown};
+ghost use Rattle.wasm_show.specs.Chosen.{after_blank, counted_name as name_counted, numbered_line};
 
+use crate::numbers::{Counts, Space, put_number};
 use wasm_feed::{Line, payload_text};
 use wasm_grammar::section_name;
 use wasm_parser::Payload;
@@ -53,11 +54,17 @@ fn put_name(line: &mut Line, name: Option<&'static str>)
     }
 }
 
-/// The line of a payload.
-pub(crate) fn shown_line(line: &mut Line, payload: &Payload<'_>)
-    ensures { line.new ≡ line_shown (report_of payload.now) }
+/// The line of a payload: after the text of a body, the number of the function that it is of.
+pub(crate) fn shown_line(line: &mut Line, counts: &Counts, payload: &Payload<'_>)
+    ensures { line.new ≡ numbered_line counts.now (report_of payload.now) }
 {
     line.feed();
-    put_name(line, counted_name(payload));
+    match payload {
+        Payload::CodeSectionEntry(_) => {
+            put_number(line, Space::Functions, counts.bodies);
+            line.word(" ");
+        }
+        _ => put_name(line, counted_name(payload)),
+    }
     payload_text(line, payload);
 }

@@ -10,6 +10,8 @@ pub mod laws;
 mod linking;
 mod lists;
 mod names;
+mod numbered;
+mod numbers;
 mod only;
 mod payload;
 mod show;
@@ -18,6 +20,7 @@ mod tree;
 mod types;
 
 pub use lists::{Items, show_fault, show_items, show_list};
+pub use numbers::{Counts, Space};
 pub use only::Only;
 pub use payload::show_payload;
 pub use show::Show;

@@ -1,35 +1,37 @@
 // What payloads hold.
-ghost use Rattle.wasm_show.specs.Tree.{Adds};
+ghost use Rattle.wasm_parser.specs.ParseAnswer.{ItemsBegin, report_of};
+ghost use Rattle.wasm_show.specs.Dump.{ShowsItems};
 
 use crate::custom::show_custom;
-use crate::lists::{show_items, show_section};
+use crate::lists::show_section;
+use crate::numbered::{show_groups, show_imports, show_numbered};
+use crate::numbers::{Counts, Space};
 use crate::tree::Tree;
 use std::alloc::Global;
 use wasm_feed::Sink;
-use wasm_items::ImportSection;
 use wasm_parser::Payload;
 
-/// Writes what a payload holds, under its line.
-pub fn show_payload<W: Sink>(alloc: Global, payload: &Payload<'_>, out: &mut Tree<W>)
-    ensures { Adds out.old out.new }
+/// Writes what a payload holds, under its line, each item with its number after what came before.
+pub fn show_payload<W: Sink>(
+    alloc: Global,
+    counts: &Counts,
+    payload: &Payload<'_>,
+    out: &mut Tree<W>,
+)
+    ensures { ItemsBegin payload.now
+        → ShowsItems counts.now (report_of payload.now) out.old out.new }
 {
     match payload {
-        Payload::TypeSection(section) => show_items(
-            1,
-            section.clone().unwrap().into_iter_in(alloc),
-            out,
-        ),
-        Payload::ImportSection(section) => {
-            show_items(1, section.clone().unwrap().into_imports_with_offsets(), out);
-        }
-        Payload::FunctionSection(section) => show_section(1, section, out),
-        Payload::TableSection(section) => show_section(1, section, out),
-        Payload::MemorySection(section) => show_section(1, section, out),
-        Payload::TagSection(section) => show_section(1, section, out),
-        Payload::GlobalSection(section) => show_section(1, section, out),
+        Payload::TypeSection(section) => show_groups(alloc, section, out),
+        Payload::ImportSection(section) => show_imports(counts, section, out),
+        Payload::FunctionSection(section) => show_numbered(Space::Functions, counts, section, out),
+        Payload::TableSection(section) => show_numbered(Space::Tables, counts, section, out),
+        Payload::MemorySection(section) => show_numbered(Space::Memories, counts, section, out),
+        Payload::TagSection(section) => show_numbered(Space::Tags, counts, section, out),
+        Payload::GlobalSection(section) => show_numbered(Space::Globals, counts, section, out),
         Payload::ExportSection(section) => show_section(1, section, out),
-        Payload::ElementSection(section) => show_section(1, section, out),
-        Payload::DataSection(section) => show_section(1, section, out),
+        Payload::ElementSection(section) => show_numbered(Space::Elements, counts, section, out),
+        Payload::DataSection(section) => show_numbered(Space::DataSegments, counts, section, out),
         Payload::CustomSection(section) => show_custom(alloc, section, out),
         _ => {}
     }

@@ -1,13 +1,13 @@
 // The dump of a stream.
 ghost use Rattle.std.specs.Prelude.{◌≡◌, ◌≤◌, ◌<◌, length, Some, None, OnOk, IfErr};
-ghost use Rattle.wasm_parser.specs.ParseAnswer.{report_of};
+ghost use Rattle.wasm_parser.specs.ParseAnswer.{AnswerBegins, ItemsBegin, report_of};
 ghost use Rattle.wasm_feed.specs.Calls.{device_of};
-ghost use Rattle.wasm_feed.specs.Turns.{text_after, turn_after};
-ghost use Rattle.wasm_show.specs.Chosen.{chosen_line};
-ghost use Rattle.wasm_show.specs.Dump.{DumpsByTree, DumpsInto, ShowsStep};
-ghost use Rattle.wasm_show.specs.Tree.{AddsFirst};
+ghost use Rattle.wasm_feed.specs.Step.{answer_of};
+ghost use Rattle.wasm_feed.specs.Turns.{turn_after};
+ghost use Rattle.wasm_show.specs.Dump.{DumpsByTree, DumpsInto, ShowsAnswer, ShowsReport, ShowsStep, after_answer};
 
 use crate::heading::shown_line;
+use crate::numbers::Counts;
 use crate::only::{Only, chooses};
 use crate::payload::show_payload;
 use crate::tree::Tree;
@@ -16,39 +16,44 @@ use wasm_feed::{Ended, Feeder, Line, ListError, Sink, Source, Step, Turn, fault_
 use wasm_parser::{Parser, Payload, Result as ParserResult};
 
 // Writes the line of a payload and what it holds, if it is shown.
-#[tactic(auto, using(crate::proofs::Lines::line_ends))]
 fn show_chosen<W: Sink>(
     alloc: Global,
     only: &Only<'_>,
+    counts: &Counts,
     line: &mut Line,
     payload: &Payload<'_>,
     out: &mut Tree<W>,
 )
-    ensures { AddsFirst (chosen_line only.now (report_of payload.now)) out.old out.new }
+    ensures { ItemsBegin payload.now
+        → ShowsReport only.now counts.now (report_of payload.now) out.old out.new }
 {
     if chooses(only, payload) {
-        shown_line(line, payload);
+        shown_line(line, counts, payload);
         out.first(line.as_bytes());
-        show_payload(alloc, payload, out);
+        show_payload(alloc, counts, payload, out);
     }
 }
 
 // Writes what a step answered, and says what is to be done next.
-#[tactic(auto, using(crate::proofs::Lines::line_ends))]
 fn show_answer<W: Sink>(
     alloc: Global,
     only: &Only<'_>,
+    counts: &mut Counts,
     line: &mut Line,
     answer: &ParserResult<Step<'_>>,
     out: &mut Tree<W>,
 ) -> Turn
     ensures turns { result ≡ turn_after answer.now }
-    ensures shows { AddsFirst (text_after (chosen_line only.now) answer.now) out.old out.new }
+    ensures shows { AnswerBegins (answer_of answer.now)
+        → ShowsAnswer only.now counts.old answer.now out.old out.new }
+    ensures counts { AnswerBegins (answer_of answer.now)
+        → counts.new ≡ after_answer counts.old answer.now }
 {
     match answer {
         Ok(Step::NeedMoreData(_)) => Turn::Read,
         Ok(Step::Parsed { payload, .. }) => {
-            show_chosen(alloc, only, line, payload, out);
+            show_chosen(alloc, only, counts, line, payload, out);
+            counts.pass(payload);
             match payload {
                 Payload::End(_) => Turn::End(Ended::End),
                 _ => Turn::Advance,
@@ -66,14 +71,16 @@ fn show_answer<W: Sink>(
 fn show_step<W: Sink>(
     alloc: Global,
     only: &Only<'_>,
+    counts: &mut Counts,
     line: &mut Line,
     feeder: &mut Feeder,
     out: &mut Tree<W>,
 ) -> Turn
-    ensures { ShowsStep only.now feeder.old feeder.new out.old out.new result }
+    ensures { ShowsStep only.now counts.old counts.new feeder.old feeder.new
+        out.old out.new result }
 {
     let answer = feeder.open().step();
-    show_answer(alloc, only, line, &answer, out)
+    show_answer(alloc, only, counts, line, &answer, out)
 }
 
 // Whether the tree goes on, or why it has stopped.
@@ -100,9 +107,10 @@ fn dump_into<R: Source, W: Sink>(
         out.old result out.new }
 {
     let mut line = Line::new();
+    let mut counts = Counts::new();
     let mut feeder = Feeder::new(alloc, 0, Parser::new(0).features());
     'events: loop {
-        let turn = show_step(alloc, only, &mut line, &mut feeder, out);
+        let turn = show_step(alloc, only, &mut counts, &mut line, &mut feeder, out);
         go_on(out)?;
         match turn {
             Turn::Advance => {}
@@ -121,8 +129,8 @@ fn dump_into<R: Source, W: Sink>(
 }
 
 /// Reads the input, at most `piece` bytes at once and at least one, and writes what it holds as text. Each event that is shown
-/// has its line, as `list` writes it and with the name of its section, and under it a line for each item, indented by two blanks
-/// a level. Offsets count bytes from the start of the stream, which is at 0. The tree must be one that has written nothing.
+/// has its line, as `list` writes it and with the name of its section, or the number of its function, and under it a line for each
+/// item, indented by two blanks a level, with its number in its index space. Offsets count bytes from the start of the stream, which is at 0. The tree must be one that has written nothing.
 ///
 /// It keeps what the parser has not decided, the piece that came last, the buffer that it was read into, and the lines that wait,
 /// of which the tree's invariant bounds the bytes.

@@ -1,8 +1,9 @@
 // Lines of text, some of them under others.
 ghost use Rattle.std.specs.Prelude.{◌≡◌, ◌≤◌, [], None, true, false, length};
 ghost use Rattle.std.specs.Option.{is_some};
-ghost use Rattle.wasm_show.specs.Tree.{Adds, AddsFirst, EndsLine, IsOut, Puts, starts};
+ghost use Rattle.wasm_show.specs.Tree.{Adds, AddsFirst, AddsNumber, IsOut, Puts, starts};
 
+use crate::numbers::{Space, put_number};
 use std::alloc::Global;
 use std::marker::Model;
 use wasm_base::Error;
@@ -127,10 +128,9 @@ impl<W: Sink> Tree<W> {
         self.page.len()
     }
 
-    /// Writes a line of the first level, which has its line feed, and at most 65,536 bytes.
+    /// Writes a line of the first level, which has its line feed, and at most 65,536 bytes. It may end with numbers of items.
     pub fn first(&mut self, line: &[u8])
-        requires line { EndsLine line.now }
-        requires short { length line.now ≤ 65536 }
+        requires { length line.now ≤ 65536 }
         ensures { AddsFirst line.now self.old self.new }
     {
         self.end();
@@ -212,6 +212,16 @@ impl<W: Sink> Tree<W> {
             rest = later;
         }
         self.piece(rest);
+    }
+
+    /// Writes the number of an item: the word of its index space, and its index in brackets.
+    pub fn item_number(&mut self, space: Space, index: u64)
+        ensures { AddsNumber space index self.old self.new }
+    {
+        let mut line = Line::new();
+        put_number(&mut line, space, index);
+        self.begin();
+        self.push(line.as_bytes());
     }
 
     /// Writes a text, which has no line feed, as it is.

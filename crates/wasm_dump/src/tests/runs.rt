@@ -11,9 +11,9 @@ const MODULE: &[u8] = b"\0asm\x01\0\0\0\x03\x02\x01\x05\x0a\x04\x01\x02\0\x0b\0\
 
 const DUMP: &[u8] = b"version 0 8 1 module
 section 3 10 12 1 function
-  11 index=5
+  11 func[0] index=5
 code 14 18 1 3
-body 16 18
+body 16 18 func[0]
 custom 20 26 25
   section name=\"type\" unknown
 end 26
@@ -61,8 +61,8 @@ fn runs(
 
 #[test]
 fn shows_what_is_asked_for(rt: HostRuntime) -> Result<(), Fail> {
-    let third = b"section 3 10 12 1 function\n  11 index=5\nend 26\n".as_slice();
-    let code = b"code 14 18 1 3\nbody 16 18\nend 26\n".as_slice();
+    let third = b"section 3 10 12 1 function\n  11 func[0] index=5\nend 26\n".as_slice();
+    let code = b"code 14 18 1 3\nbody 16 18 func[0]\nend 26\n".as_slice();
     let custom = b"custom 20 26 25\n  section name=\"type\" unknown\nend 26\n".as_slice();
     let end = b"end 26\n".as_slice();
     // The standard's names come before those of custom sections, and ids before both.

@@ -17,20 +17,20 @@ const MODULE: &[u8] =
 /// Its dump.
 const DUMP: &[u8] = b"version 0 8 1 module
 section 1 10 15 1 type
-  11 explicit=false type=(sub final (func (param i32)))
+  11 type[0] explicit=false type=(sub final (func (param i32)))
 section 2 17 27 1 import
-  18 module=\"env\" name=\"m\" ty=memory memory64=false shared=false initial=1 maximum=none page_size_log2=none
+  18 memory[0] module=\"env\" name=\"m\" ty=memory memory64=false shared=false initial=1 maximum=none page_size_log2=none
 section 3 29 31 1 function
-  30 index=0
+  30 func[0] index=0
 section 7 33 38 1 export
   34 name=\"f\" kind=func index=0
 section 9 40 45 1 element
-  41 kind=passive functions=43..45 count=1 range=41..45
+  41 elem[0] kind=passive functions=43..45 count=1 range=41..45
     44 index=0
 code 47 51 1 3
-body 49 51
+body 49 51 func[0]
 section 11 53 59 1 data
-  54 kind=passive data=3:6122ff range=54..59
+  54 data[0] kind=passive data=3:6122ff range=54..59
 custom 61 75 66
   section name=\"name\"
     66 function
@@ -82,9 +82,9 @@ fn shows_chosen_sections(rt: HostRuntime) -> Result<(), Fail> {
     let rows: [(Only<'_>, &[u8]); 5] = [
         (
             Only::Id(3),
-            b"section 3 29 31 1 function\n  30 index=0\nend 75\n",
+            b"section 3 29 31 1 function\n  30 func[0] index=0\nend 75\n",
         ),
-        (Only::Id(10), b"code 47 51 1 3\nbody 49 51\nend 75\n"),
+        (Only::Id(10), b"code 47 51 1 3\nbody 49 51 func[0]\nend 75\n"),
         (Only::Id(13), b"end 75\n"),
         (
             Only::Name("name"),
@@ -165,7 +165,7 @@ fn shows_what_came_before_the_source_failed(rt: HostRuntime) -> Result<(), Fail>
     assert!(rt; ended == Err(ListError::Input));
     assert!(rt; input.failed());
     let text =
-        b"version 0 8 1 module\nsection 1 10 15 1 type\n  11 explicit=false type=(sub final (func (param i32)))\nsection 2 17 27 1 import\n  18 module=\"env\" name=\"m\" ty=memory memory64=false shared=false initial=1 maximum=none page_size_log2=none\n";
+        b"version 0 8 1 module\nsection 1 10 15 1 type\n  11 type[0] explicit=false type=(sub final (func (param i32)))\nsection 2 17 27 1 import\n  18 memory[0] module=\"env\" name=\"m\" ty=memory memory64=false shared=false initial=1 maximum=none page_size_log2=none\n";
     assert_eq!(rt; output.written(), text.as_slice());
     Ok(())
 }

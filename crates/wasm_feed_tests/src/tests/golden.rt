@@ -98,13 +98,13 @@ const MODULE_2: &[u8] =
 /// Its dump.
 const DUMP_2: &[u8] = b"version 0 8 1 module
 section 1 10 23 3 type
-  11 explicit=false type=(sub final (struct (field i32) (field (mut i64))))
-  17 explicit=false type=(sub final (array (mut i32)))
-  20 explicit=false type=(sub final (func))
+  11 type[0] explicit=false type=(sub final (struct (field i32) (field (mut i64))))
+  17 type[1] explicit=false type=(sub final (array (mut i32)))
+  20 type[2] explicit=false type=(sub final (func))
 section 3 25 27 1 function
-  26 index=2
+  26 func[0] index=2
 code 29 33 1 3
-body 31 33
+body 31 33 func[0]
 custom 35 45 40
   section name=\"name\"
     40 local
@@ -122,21 +122,21 @@ A\0\x0b\x03abc\0A\x04\x0b\0\x01\x07passive\0A\xe4\0\x0b\x02xy";
 /// Its dump.
 const DUMP_3: &[u8] = b"version 0 8 1 module
 section 1 14 18 1 type
-  15 explicit=false type=(sub final (func))
+  15 type[0] explicit=false type=(sub final (func))
 section 3 24 26 1 function
-  25 index=0
+  25 func[0] index=0
 section 5 32 36 1 memory
-  33 memory64=false shared=false initial=1 maximum=4 page_size_log2=none
+  33 memory[0] memory64=false shared=false initial=1 maximum=4 page_size_log2=none
 section 6 42 48 1 global
-  43 content_type=i32 shared=false init_expr=(i32.const 8)
+  43 global[0] content_type=i32 shared=false init_expr=(i32.const 8)
 datacount 54 55 4
 code 61 82 1 20
-body 67 82
+body 67 82 func[0]
 section 11 88 119 4 data
-  89 kind=active memory_index=0 offset_expr=(i32.const 0) data=3:616263 range=89..97
-  97 kind=active memory_index=0 offset_expr=(i32.const 4) data=0: range=97..102
-  102 kind=passive data=7:70617373697665 range=102..111
-  111 kind=active memory_index=0 offset_expr=(i32.const 100) data=2:7879 range=111..119
+  89 data[0] kind=active memory_index=0 offset_expr=(i32.const 0) data=3:616263 range=89..97
+  97 data[1] kind=active memory_index=0 offset_expr=(i32.const 4) data=0: range=97..102
+  102 data[2] kind=passive data=7:70617373697665 range=102..111
+  111 data[3] kind=active memory_index=0 offset_expr=(i32.const 100) data=2:7879 range=111..119
 end 119
 ";
 
@@ -153,23 +153,23 @@ const MODULE_4: &[u8] =
 /// Its dump.
 const DUMP_4: &[u8] = b"version 0 8 1 module
 section 1 10 22 2 type
-  11 explicit=false type=(sub final (func))
-  14 explicit=false type=(sub final (func (param i32 i64 f32 f64) (result f64)))
+  11 type[0] explicit=false type=(sub final (func))
+  14 type[1] explicit=false type=(sub final (func (param i32 i64 f32 f64) (result f64)))
 section 2 24 77 6 import
-  25 module=\"env\" name=\"f\" ty=func index=1
-  33 module=\"env\" name=\"t\" ty=table element_type=(ref null func) table64=false initial=1 maximum=10 shared=false
-  44 module=\"env\" name=\"m\" ty=memory memory64=false shared=false initial=1 maximum=100 page_size_log2=none
-  54 module=\"env\" name=\"g\" ty=global content_type=i32 shared=false
-  63 module=\"env\" name=\"mg\" ty=global content_type=(mut i64) shared=false
-  73 module=\"\" name=\"\" ty=func index=0
+  25 func[0] module=\"env\" name=\"f\" ty=func index=1
+  33 table[0] module=\"env\" name=\"t\" ty=table element_type=(ref null func) table64=false initial=1 maximum=10 shared=false
+  44 memory[0] module=\"env\" name=\"m\" ty=memory memory64=false shared=false initial=1 maximum=100 page_size_log2=none
+  54 global[0] module=\"env\" name=\"g\" ty=global content_type=i32 shared=false
+  63 global[1] module=\"env\" name=\"mg\" ty=global content_type=(mut i64) shared=false
+  73 func[1] module=\"\" name=\"\" ty=func index=0
 section 3 79 82 2 function
-  80 index=0
-  81 index=1
+  80 func[2] index=0
+  81 func[3] index=1
 section 6 84 124 4 global
-  85 content_type=i32 shared=false init_expr=(i32.const 5)
-  90 content_type=(mut f64) shared=false init_expr=(f64.const bits=4609434218613702656)
-  102 content_type=f32 shared=false init_expr=(f32.const bits=2147483648)
-  110 content_type=i64 shared=false init_expr=(i64.const -9223372036854775808)
+  85 global[2] content_type=i32 shared=false init_expr=(i32.const 5)
+  90 global[3] content_type=(mut f64) shared=false init_expr=(f64.const bits=4609434218613702656)
+  102 global[4] content_type=f32 shared=false init_expr=(f32.const bits=2147483648)
+  110 global[5] content_type=i64 shared=false init_expr=(i64.const -9223372036854775808)
 section 7 126 148 5 export
   127 name=\"two\" kind=func index=3
   133 name=\"m\" kind=memory index=0
@@ -178,14 +178,14 @@ section 7 126 148 5 export
   145 name=\"\" kind=func index=0
 start 150 151 2
 section 9 153 161 1 element
-  154 kind=active table_index=none offset_expr=(i32.const 0) functions=158..161 count=2 range=154..161
+  154 elem[0] kind=active table_index=none offset_expr=(i32.const 0) functions=158..161 count=2 range=154..161
     159 index=2
     160 index=3
 code 163 172 2 8
-body 165 167
-body 168 172
+body 165 167 func[2]
+body 168 172 func[3]
 section 11 174 187 1 data
-  175 kind=active memory_index=0 offset_expr=(i32.const 16) data=7:68656c6c6f00ff range=175..187
+  175 data[0] kind=active memory_index=0 offset_expr=(i32.const 16) data=7:68656c6c6f00ff range=175..187
 custom 189 252 197
   section name=\"linking\" version=2 range=197..252 subsections=198
     198 symbol_table=200..252 count=11
@@ -213,23 +213,23 @@ const MODULE_5: &[u8] =
 /// Its dump.
 const DUMP_5: &[u8] = b"version 0 8 1 module
 section 1 10 18 2 type
-  11 explicit=false type=(sub final (func))
-  14 explicit=false type=(sub final (func (param i32)))
+  11 type[0] explicit=false type=(sub final (func))
+  14 type[1] explicit=false type=(sub final (func (param i32)))
 section 3 20 22 1 function
-  21 index=1
+  21 func[0] index=1
 section 4 24 28 1 table
-  25 element_type=(ref null func) table64=false initial=1 maximum=none shared=false init=null
+  25 table[0] element_type=(ref null func) table64=false initial=1 maximum=none shared=false init=null
 section 5 30 33 1 memory
-  31 memory64=false shared=false initial=1 maximum=none page_size_log2=none
+  31 memory[0] memory64=false shared=false initial=1 maximum=none page_size_log2=none
 section 6 35 41 1 global
-  36 content_type=i32 shared=false init_expr=(i32.const 0)
+  36 global[0] content_type=i32 shared=false init_expr=(i32.const 0)
 section 9 43 48 1 element
-  44 kind=passive functions=46..48 count=1 range=44..48
+  44 elem[0] kind=passive functions=46..48 count=1 range=44..48
     47 index=0
 code 50 56 1 5
-body 52 56
+body 52 56 func[0]
 section 11 58 62 1 data
-  59 kind=passive data=1:78 range=59..62
+  59 data[0] kind=passive data=1:78 range=59..62
 custom 64 134 69
   section name=\"name\"
     69 module name=\"named\" range=71..77
@@ -264,22 +264,22 @@ const MODULE_6: &[u8] =
 /// Its dump.
 const DUMP_6: &[u8] = b"version 0 8 1 module
 section 1 10 27 4 type
-  11 explicit=false type=(sub final (func (param i32 i64)))
-  16 explicit=false type=(sub final (func (param i32)))
-  20 explicit=false type=(sub final (func (param f32)))
-  24 explicit=false type=(sub final (func))
+  11 type[0] explicit=false type=(sub final (func (param i32 i64)))
+  16 type[1] explicit=false type=(sub final (func (param i32)))
+  20 type[2] explicit=false type=(sub final (func (param f32)))
+  24 type[3] explicit=false type=(sub final (func))
 section 2 29 39 1 import
-  30 module=\"m\" name=\"tag\" ty=tag kind=exception func_type_idx=1
+  30 tag[0] module=\"m\" name=\"tag\" ty=tag kind=exception func_type_idx=1
 section 3 41 43 1 function
-  42 index=3
+  42 func[0] index=3
 section 13 45 50 2 tag
-  46 kind=exception func_type_idx=0
-  48 kind=exception func_type_idx=2
+  46 tag[1] kind=exception func_type_idx=0
+  48 tag[2] kind=exception func_type_idx=2
 section 7 52 61 2 export
   53 name=\"x\" kind=tag index=2
   57 name=\"f\" kind=func index=0
 code 63 80 1 16
-body 65 80
+body 65 80 func[0]
 custom 82 104 87
   section name=\"name\"
     87 local

@@ -2,7 +2,7 @@
 use std::alloc::Global;
 use std::process::Abort;
 use std::test::Fail;
-use wasm_feed::{strip, strip_in, strip_in_place};
+use wasm_feed::{strip, strip_in, strip_in_place, strip_to_front};
 use wasm_parser::{Error, Fault, Result};
 use wasm_test_heap::Sparing;
 
@@ -117,6 +117,11 @@ fn take_out(stream: &mut Vec<u8>, keep_names: bool) -> Result<()> {
     strip_in_place(stream, keep_names)
 }
 
+// The same, in the first of its own bytes.
+fn take_to_front(stream: &mut [u8], keep_names: bool) -> Result<usize> {
+    strip_to_front(stream, keep_names)
+}
+
 // What is left of a stream, with memory from this allocator.
 fn left_in<'a>(
     heap: &'a Sparing<Global>,
@@ -150,6 +155,18 @@ fn leaves_in_place(
 ) -> Result<()> {
     take_out(&mut bytes, keep_names)?;
     assert_eq!(rt; bytes.as_slice(), wanted, "{keep_names}");
+    Ok(())
+}
+
+// The same is left in the first bytes.
+fn leaves_at_front(
+    rt: &impl Abort,
+    mut bytes: Vec<u8>,
+    keep_names: bool,
+    wanted: &[u8],
+) -> Result<()> {
+    let size = take_to_front(bytes.as_mut_slice(), keep_names)?;
+    assert_eq!(rt; bytes.get(..size), Some(wanted), "{keep_names}");
     Ok(())
 }
 
@@ -192,6 +209,26 @@ fn strips_modules_in_place(rt: HostRuntime) -> std::result::Result<(), Fail> {
     for (stream, with_names, without) in rows() {
         leaves_in_place(&rt, stream.to_vec(rt.alloc())?, true, with_names)?;
         leaves_in_place(&rt, stream.to_vec(rt.alloc())?, false, without)?;
+    }
+    Ok(())
+}
+
+#[test]
+fn strips_modules_to_the_front(rt: HostRuntime) -> std::result::Result<(), Fail> {
+    for (stream, with_names, without) in rows() {
+        leaves_at_front(&rt, stream.to_vec(rt.alloc())?, true, with_names)?;
+        leaves_at_front(&rt, stream.to_vec(rt.alloc())?, false, without)?;
+    }
+    Ok(())
+}
+
+#[test]
+fn leaves_other_streams_at_the_front(rt: HostRuntime) -> std::result::Result<(), Fail> {
+    for (stream, fault, offset) in faults() {
+        let mut bytes = stream.to_vec(rt.alloc())?;
+        let answer = take_to_front(bytes.as_mut_slice(), true);
+        assert_eq!(rt; answer, Err(Error::new(*fault, *offset)), "{stream:?}");
+        assert_eq!(rt; bytes.as_slice(), *stream, "{stream:?}");
     }
     Ok(())
 }

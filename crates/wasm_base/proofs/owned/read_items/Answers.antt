@@ -11,7 +11,7 @@ returns-in_err-item-clause-means g c =
 
 pub items-preserved : goal.items-preserved
 items-preserved g c = record {
-  so_far = rw c.in_ok-push.ensures.items (more_at g.T.FromReader.meaning c.args.count c.items.counter _ _ _ _ _ c.items.invariant.so_far
+  so_far = rw c.in_ok-put.ensures.ok (more_at g.T.FromReader.meaning c.args.count c.items.counter _ _ _ _ _ c.items.invariant.so_far
       c.items-test.true c.in_ok-item.ensures.means);
   keeps = search rules;
 }

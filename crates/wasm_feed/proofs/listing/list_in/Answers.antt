@@ -9,10 +9,14 @@ use Rattle.wasm_feed.proofs.Progress.{begun, no_memory, cut, wants_written, step
 use Rattle.wasm_feed.proofs.Progress.{not_filled}
 use Rattle.wasm_feed.proofs.listing.list_in.Goals as goal
 
-pub returns-in_err-buffer-clause-lists : goal.returns-in_err-buffer-clause-lists
-returns-in_err-buffer-clause-lists g c =
+pub returns-in_err-buffer : goal.returns-in_err-buffer
+returns-in_err-buffer g c =
     let e = err_from_is_err_and c.from_residual.result c.from_residual.ensures.1 in
-    rw (e.1, e.2) (no_memory line_of _ _ _ _ _ _ (begun line_of _ _) _ _ (Consumes-nil _))
+    record {
+      lists = rw (e.1, e.2) (no_memory line_of _ _ _ _ _ _ (begun line_of _ _) _ _ (Consumes-nil _));
+      source = grind (arith, common_steps);
+      sink = grind (arith, common_steps);
+    }
 
 pub events-init : goal.events-init
 events-init g c = record {
@@ -23,10 +27,14 @@ events-init g c = record {
   buffer = grind (arith, common_steps);
 }
 
-pub returns-in_err-turn-clause-lists : goal.returns-in_err-turn-clause-lists
-returns-in_err-turn-clause-lists g c =
+pub returns-in_err-turn : goal.returns-in_err-turn
+returns-in_err-turn g c =
     let e = err_from_is_err_and c.from_residual-in_err-turn.result c.from_residual-in_err-turn.ensures.1 in
-    rw (e.1, e.2) (cut line_of _ _ _ _ _ _ c.events.invariant.progress _ _ c.in_err-turn.ensures.takes)
+    record {
+      lists = rw (e.1, e.2) (cut line_of _ _ _ _ _ _ c.events.invariant.progress _ _ c.in_err-turn.ensures.takes);
+      source = grind (arith, common_steps);
+      sink = grind (arith, common_steps);
+    }
 
 pub events-smaller-in-Advance : goal.events-smaller-in-Advance
 events-smaller-in-Advance g c =
@@ -47,25 +55,33 @@ events-preserved-in-Advance g c =
       buffer = c.events.invariant.buffer;
     }
 
-pub returns-in_err-write_out-in-Read-clause-lists : goal.returns-in_err-write_out-in-Read-clause-lists
-returns-in_err-write_out-in-Read-clause-lists g c =
+pub returns-in_err-write_out-in-Read : goal.returns-in_err-write_out-in-Read
+returns-in_err-write_out-in-Read g c =
     let a = c.parse_next-answer.ensures in
     let s = steps_by _ c.events.stored.items _ _ _ c.deref.ensures.value a.parses a.shows a.finished a.wants in
     let t = c.in_ok-turn.ensures.takes in
     let asks = (asked line_of _ _ _ _ _ _ c.events.invariant.progress _ _ s _ _ t.0 (sym c.in-Read.is ∙ t.1)).0 in
     let e = err_from_is_err_and c.from_residual-in_err-write_out-in-Read.result c.from_residual-in_err-write_out-in-Read.ensures.1 in
-    rw (e.1, e.2) (cut line_of _ _ _ _ _ _ asks.progress _ _ (cut_of _ _ _ _ c.in_err-write_out-in-Read.ensures.writes))
+    record {
+      lists = rw (e.1, e.2) (cut line_of _ _ _ _ _ _ asks.progress _ _ (cut_of _ _ _ _ c.in_err-write_out-in-Read.ensures.writes));
+      source = grind (arith, common_steps);
+      sink = grind (arith, common_steps);
+    }
 
-pub returns-in_err-read_more-in-Read-clause-lists : goal.returns-in_err-read_more-in-Read-clause-lists
-returns-in_err-read_more-in-Read-clause-lists g c =
+pub returns-in_err-read_more-in-Read : goal.returns-in_err-read_more-in-Read
+returns-in_err-read_more-in-Read g c =
     let a = c.parse_next-answer.ensures in
     let s = steps_by _ c.events.stored.items _ _ _ c.deref.ensures.value a.parses a.shows a.finished a.wants in
     let t = c.in_ok-turn.ensures.takes in
     let asks = (asked line_of _ _ _ _ _ _ c.events.invariant.progress _ _ s _ _ t.0 (sym c.in-Read.is ∙ t.1)).0 in
     let written = wants_written line_of _ _ _ _ _ _ _ asks c.in_ok-write_out-in-Read.ensures.writes.0 in
     let e = err_from_is_err_and c.from_residual-in_err-read_more-in-Read.result c.from_residual-in_err-read_more-in-Read.ensures.1 in
-    rw (e.1, e.2) (not_filled line_of _ _ _ _ _ written _ (feed_of c.read_more.new.stored.items c.read_more.new.cursor) _
-    c.in_err-read_more-in-Read.ensures.refills)
+    record {
+      lists = rw (e.1, e.2) (not_filled line_of _ _ _ _ _ written _ (feed_of c.read_more.new.stored.items c.read_more.new.cursor) _
+          c.in_err-read_more-in-Read.ensures.refills);
+      source = grind (arith, common_steps);
+      sink = grind (arith, common_steps);
+    }
 
 pub events-smaller : goal.events-smaller
 events-smaller g c =
@@ -93,19 +109,27 @@ events-preserved g c =
       buffer = grind (arith, common_steps);
     }
 
-pub returns-in_err-write_out-in-End-clause-lists : goal.returns-in_err-write_out-in-End-clause-lists
-returns-in_err-write_out-in-End-clause-lists g c =
+pub returns-in_err-write_out-in-End : goal.returns-in_err-write_out-in-End
+returns-in_err-write_out-in-End g c =
     let a = c.parse_next-answer.ensures in
     let s = steps_by _ c.events.stored.items _ _ _ c.deref.ensures.value a.parses a.shows a.finished a.wants in
     let t = c.in_ok-turn.ensures.takes in
     let e = err_from_is_err_and c.from_residual-in_err-write_out-in-End.result c.from_residual-in_err-write_out-in-End.ensures.1 in
-    rw (e.1, e.2) (end_cut line_of _ _ _ _ _ _ c.events.invariant.progress _ _ s _ _ t.0 _ (sym c.in-End.is ∙ t.1) _ _
-    (cut_of _ _ _ _ c.in_err-write_out-in-End.ensures.writes))
+    record {
+      lists = rw (e.1, e.2) (end_cut line_of _ _ _ _ _ _ c.events.invariant.progress _ _ s _ _ t.0 _ (sym c.in-End.is ∙ t.1) _ _
+          (cut_of _ _ _ _ c.in_err-write_out-in-End.ensures.writes));
+      source = grind (arith, common_steps);
+      sink = grind (arith, common_steps);
+    }
 
-pub returns-in-End-clause-lists : goal.returns-in-End-clause-lists
-returns-in-End-clause-lists g c =
+pub returns-in-End : goal.returns-in-End
+returns-in-End g c =
     let a = c.parse_next-answer.ensures in
     let s = steps_by _ c.events.stored.items _ _ _ c.deref.ensures.value a.parses a.shows a.finished a.wants in
     let t = c.in_ok-turn.ensures.takes in
-    listed_all line_of _ _ _ _ _ _ c.events.invariant.progress _ _ s _ _ t.0 _ (sym c.in-End.is ∙ t.1) _
-    c.in_ok-write_out-in-End.ensures.writes.0
+    record {
+      lists = listed_all line_of _ _ _ _ _ _ c.events.invariant.progress _ _ s _ _ t.0 _ (sym c.in-End.is ∙ t.1) _
+          c.in_ok-write_out-in-End.ensures.writes.0;
+      source = grind (arith, common_steps);
+      sink = grind (arith, common_steps);
+    }

@@ -1,4 +1,4 @@
-use Rattle.std.proofs.Common.{◌≡◌, true, ℕ, List, ◌++◌, length}
+use Rattle.std.proofs.Common.{◌≡◌, ◌≤◌, ◌-◌, true, ℕ, List, ◌++◌, length}
 use Rattle.wasm_feed.specs.Cursors.{feed_of}
 use Rattle.wasm_feed.specs.Strips.{HasKept}
 use Rattle.wasm_feed.proofs.stripping.copy_kept.Given as goal
@@ -9,7 +9,8 @@ invariant-parts g l = record {
   comes : (more : List ℕ) × HasKept l.fn.keep_names l.fn.bytes (feed_of l.fn.bytes l.cursor) more
       × (l.kept.items ≡ l.fn.kept.items ++ more);
   finished : l.cursor.is_finished ≡ true;
+  within : l.cursor.mark ≤ length l.fn.bytes;
 }
 
 abbrev pub decreases-parts : goal.decreases-parts
-decreases-parts g l = length (feed_of l.fn.bytes l.cursor).held
+decreases-parts g l = length l.fn.bytes - l.cursor.mark

@@ -1,4 +1,4 @@
-use Rattle.std.proofs.Common.{◌≡◌, true, ℕ, List, length}
+use Rattle.std.proofs.Common.{◌≡◌, ◌≤◌, ◌-◌, true, ℕ, List, length}
 use Rattle.wasm_feed.specs.Cursors.{feed_of}
 use Rattle.wasm_feed.specs.Strips.{HasKept}
 use Rattle.wasm_feed.proofs.stripping.count_kept.Given as goal
@@ -8,7 +8,8 @@ abbrev pub invariant-parts : goal.invariant-parts
 invariant-parts l = record {
   comes : (kept : List ℕ) × HasKept l.fn.keep_names l.fn.bytes (feed_of l.fn.bytes l.cursor) kept × (l.count ≡ length kept);
   finished : l.cursor.is_finished ≡ true;
+  within : l.cursor.mark ≤ length l.fn.bytes;
 }
 
 abbrev pub decreases-parts : goal.decreases-parts
-decreases-parts l = length (feed_of l.fn.bytes l.cursor).held
+decreases-parts l = length l.fn.bytes - l.cursor.mark

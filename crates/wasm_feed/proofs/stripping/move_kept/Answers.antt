@@ -1,15 +1,16 @@
-use Rattle.std.proofs.Common.{ℕ, List, Ok, Err, ◌∙◌, drop, take, refl, sym, ap, subst, arith}
+use Rattle.std.proofs.Common.{ℕ, ◌+◌, ◌-◌, List, length, Option, Ok, ◌∙◌, drop, take, refl, ap, subst, arith}
 use Rattle.std.proofs.lemmas.Result.{err_from_is_err_and}
+use Rattle.std.specs.Borrow.{Bor}
+use Rattle.std.specs.List.{copy_within}
 use Rattle.wasm_feed.specs.Cursors.{feed_of}
-use Rattle.wasm_feed.specs.Strips.{FateComes, Passes, ReadsKept, TakesPart}
-use Rattle.wasm_feed.specs.declared.stripping.Fate.{Fate}
-use Rattle.wasm_feed.proofs.KeptInPlace.{mark_within, moves_on}
-use Rattle.wasm_feed.proofs.KeptParts.{nothing_left, stays_kept, goes_kept, all_kept}
+use Rattle.wasm_feed.specs.Strips.{KeptComes, PassesKept}
+use Rattle.wasm_feed.proofs.KeptInPlace.{moves_on}
+use Rattle.wasm_feed.proofs.KeptParts.{nothing_left}
 use Rattle.wasm_feed.proofs.stripping.move_kept.Goals as goal
 
 pub parts-init : goal.parts-init
-parts-init g c =
-    let bytes = c.args.bytes.now.items in
+parts-init c =
+    let bytes = c.args.bytes.now in
     let cursor = c.over_all-cursor.result in
     record {
       comes = nothing_left c.args.keep_names bytes (feed_of bytes cursor) (c.over_all-cursor.ensures.parser ∙ c.new.ensures)
@@ -21,71 +22,41 @@ parts-init g c =
     }
 
 pub returns-in_err-part : goal.returns-in_err-part
-returns-in_err-part g c =
-    let h = c.parts.invariant.comes in
-    let cursor = c.parts.cursor in
-    let takes = subst (λ (x : List ℕ). TakesPart c.args.keep_names (feed_of x cursor) (Err c.in_err-part.field-0.0)
-    (feed_of x c.next_part.new.cursor)) c.deref.ensures.value c.in_err-part.ensures.takes in
+returns-in_err-part c =
     let e = err_from_is_err_and c.from_residual.result c.from_residual.ensures.1 in
-    rw (e.1, e.2) (takes c.args.bytes.now.items h.0 h.1 c.requires)
+    rw (e.1, e.2) (c.in_err-part.ensures.takes c.args.bytes.now _ c.parts.invariant.comes c.requires)
 
-pub parts-preserved-in-Stays : goal.parts-preserved-in-Stays
-parts-preserved-in-Stays g c =
-    let stream = c.args.bytes.now.items in
-    let bytes = c.parts.bytes.items in
-    let cursor = c.parts.cursor in
-    let next = c.next_part.new.cursor in
+pub parts-preserved : goal.parts-preserved
+parts-preserved c =
+    let stream = c.args.bytes.now in
+    let bytes = c.parts.bytes in
+    let old = c.parts.cursor.mark in
+    let next = c.next_kept.new.cursor in
     let loop = c.parts.invariant in
-    let part = c.in_ok-part.part in
-    let takes = subst (λ (x : List ℕ). TakesPart c.args.keep_names (feed_of x cursor) (Ok part) (feed_of x next)) c.deref.ensures.value
-    c.in_ok-part.ensures.takes in
-    let passes = subst (λ (x : List ℕ). Passes x cursor.mark (Ok part) next.mark) c.deref.ensures.value c.in_ok-part.ensures.passes in
-    let came = subst (λ (x : Fate). FateComes c.args.keep_names stream loop.comes.0 part.bytes.now x (feed_of bytes next)) c.in-Stays.is
-    (takes stream loop.comes.0 loop.comes.1 c.requires) in
-    let kept = stays_kept c.args.keep_names stream (take c.parts.kept bytes) (feed_of bytes cursor) (feed_of bytes next) loop.comes
-    part.bytes.now came in
+    let part = c.in-Some.part in
+    let kept = subst (λ (x : Option (Bor (List ℕ))). KeptComes c.args.keep_names stream (take c.parts.kept bytes) (Ok x)
+    (feed_of bytes next)) c.in-Some.is (c.in_ok-part.ensures.takes stream (take c.parts.kept bytes) loop.comes c.requires) in
+    let at = subst (λ (x : Option (Bor (List ℕ))). PassesKept bytes old (Ok x) next.mark) c.in-Some.is
+    c.in_ok-part.ensures.passes loop.within in
+    let n : ℕ = length part.now in
+    let moved = c.move_down.ensures.items
+    ∙ ap (λ (m : ℕ). copy_within bytes (m - n) (m - n + n) c.parts.kept) c.mark.ensures in
     record {
-      comes = moves_on c.args.keep_names stream bytes c.move_down.new.bytes.items part.bytes.now c.parts.kept c.mark-start.result cursor
-          next c.mark-start.ensures loop.order loop.within passes c.move_down.ensures.items kept;
+      comes = moves_on c.args.keep_names stream bytes c.move_down.new.bytes part.now c.parts.kept old next loop.order at moved kept;
       finished = c.in_ok-part.ensures.finished;
-      order = omega (arith, loop.order, passes.0);
-      within = omega (arith, c.move_down.ensures.len, mark_within bytes part.bytes.now cursor.mark next.mark loop.within passes);
+      order = omega (arith, loop.order, at.order, at.size);
+      within = omega (arith, c.move_down.ensures.len, at.within);
       long = omega (arith, c.move_down.ensures.len, loop.long);
     }
 
-pub parts-preserved : goal.parts-preserved
-parts-preserved g c =
-    let stream = c.args.bytes.now.items in
-    let bytes = c.parts.bytes.items in
-    let cursor = c.parts.cursor in
-    let next = c.next_part.new.cursor in
-    let loop = c.parts.invariant in
-    let part = c.in_ok-part.part in
-    let takes = subst (λ (x : List ℕ). TakesPart c.args.keep_names (feed_of x cursor) (Ok part) (feed_of x next)) c.deref.ensures.value
-    c.in_ok-part.ensures.takes in
-    let passes = subst (λ (x : List ℕ). Passes x cursor.mark (Ok part) next.mark) c.deref.ensures.value c.in_ok-part.ensures.passes in
-    let came = subst (λ (x : Fate). FateComes c.args.keep_names stream loop.comes.0 part.bytes.now x (feed_of bytes next)) c.in-Goes.is
-    (takes stream loop.comes.0 loop.comes.1 c.requires) in
-    record {
-      comes = goes_kept c.args.keep_names stream (take c.parts.kept bytes) (feed_of bytes cursor) (feed_of bytes next) loop.comes
-          part.bytes.now came;
-      finished = c.in_ok-part.ensures.finished;
-      order = omega (arith, loop.order, passes.0);
-      within = mark_within bytes part.bytes.now cursor.mark next.mark loop.within passes;
-      long = loop.long;
-    }
-
-pub returns-in-End : goal.returns-in-End
-returns-in-End g c =
-    let stream = c.args.bytes.now.items in
-    let bytes = c.parts.bytes.items in
-    let cursor = c.parts.cursor in
-    let next = c.next_part.new.cursor in
-    let loop = c.parts.invariant in
-    let part = c.in_ok-part.part in
-    let takes = subst (λ (x : List ℕ). TakesPart c.args.keep_names (feed_of x cursor) (Ok part) (feed_of x next)) c.deref.ensures.value
-    c.in_ok-part.ensures.takes in
-    let came = subst (λ (x : Fate). FateComes c.args.keep_names stream loop.comes.0 part.bytes.now x (feed_of bytes next)) c.in-End.is
-    (takes stream loop.comes.0 loop.comes.1 c.requires) in
-    subst (ReadsKept c.args.keep_names stream) (sym c.truncate.ensures.items)
-    (all_kept c.args.keep_names stream (take c.parts.kept bytes) (feed_of bytes cursor) (feed_of bytes next) loop.comes part.bytes.now came)
+pub returns : goal.returns
+returns c =
+    let stream = c.args.bytes.now in
+    let bytes = c.parts.bytes in
+    let loop = c.parts.invariant in (
+      subst (λ (x : Option (Bor (List ℕ))). KeptComes c.args.keep_names stream (take c.parts.kept bytes) (Ok x)
+          (feed_of bytes c.next_kept.new.cursor)) c.in_default.is
+          (c.in_ok-part.ensures.takes stream (take c.parts.kept bytes) loop.comes c.requires),
+      omega (arith, loop.order, loop.within),
+      loop.long,
+    )

@@ -26,46 +26,46 @@ f\0\x1f\x01t\x01\x20\x01m\x02\x21\x01g\x03\"\x01e\x04\x23\x01x\x20\x08\x01\x24\x
 const SECTIONS_DUMP: &[u8] = b"version 0 8 1 module
 section 1 10 71 3 type
   11 explicit=true
-    type=(sub final 5 (func (param i32 i64 f32) (result f64 v128)))
-    type=(sub (array (mut i8)))
-    type=(sub 132 (array i16))
-    type=(sub final (struct (field i8) (field (mut i16)) (field (mut (ref null 7))) (field (ref extern)) (field i64)))
-  52 explicit=false type=(sub final (func (param (ref null func) (ref null extern) (ref null any) (ref null eq) (ref null i31) (ref null struct) (ref null array) (ref null exn) (ref null none) (ref null noextern) (ref null nofunc) (ref null noexn)) (result (ref 200))))
+    type[0] type=(sub final 5 (func (param i32 i64 f32) (result f64 v128)))
+    type[1] type=(sub (array (mut i8)))
+    type[2] type=(sub 132 (array i16))
+    type[3] type=(sub final (struct (field i8) (field (mut i16)) (field (mut (ref null 7))) (field (ref extern)) (field i64)))
+  52 type[4] explicit=false type=(sub final (func (param (ref null func) (ref null extern) (ref null any) (ref null eq) (ref null i31) (ref null struct) (ref null array) (ref null exn) (ref null none) (ref null noextern) (ref null nofunc) (ref null noexn)) (result (ref 200))))
   fault 70 invalid leading byte for composite type: 64
 section 2 73 186 12 import
-  74 module=\"a\" name=\"b\" ty=func index=300
-  81 module=\"c\" name=\"\" ty=table element_type=(ref null extern) table64=true initial=3 maximum=9 shared=false
-  89 module=\"\" name=\"d\" ty=table element_type=(ref 4) table64=false initial=130 maximum=131 shared=true
-  100 module=\"e\" name=\"f\" ty=memory memory64=true shared=false initial=5 maximum=6 page_size_log2=7
-  109 module=\"g\" name=\"h\" ty=memory memory64=false shared=true initial=8 maximum=10 page_size_log2=none
-  117 module=\"i\" name=\"j\" ty=global content_type=(mut i32) shared=false
-  124 module=\"k\" name=\"l\" ty=global content_type=(ref null any) shared=true
-  131 module=\"m\" name=\"n\" ty=tag kind=exception func_type_idx=11
-  138 module=\"o\" name=\"p\" ty=func_exact index=12
-  149 module=\"q\" name=\"r\" ty=func index=13
-  153 module=\"q\" name=\"s\" ty=tag kind=exception func_type_idx=14
+  74 func[0] module=\"a\" name=\"b\" ty=func index=300
+  81 table[0] module=\"c\" name=\"\" ty=table element_type=(ref null extern) table64=true initial=3 maximum=9 shared=false
+  89 table[1] module=\"\" name=\"d\" ty=table element_type=(ref 4) table64=false initial=130 maximum=131 shared=true
+  100 memory[0] module=\"e\" name=\"f\" ty=memory memory64=true shared=false initial=5 maximum=6 page_size_log2=7
+  109 memory[1] module=\"g\" name=\"h\" ty=memory memory64=false shared=true initial=8 maximum=10 page_size_log2=none
+  117 global[0] module=\"i\" name=\"j\" ty=global content_type=(mut i32) shared=false
+  124 global[1] module=\"k\" name=\"l\" ty=global content_type=(ref null any) shared=true
+  131 tag[0] module=\"m\" name=\"n\" ty=tag kind=exception func_type_idx=11
+  138 func[1] module=\"o\" name=\"p\" ty=func_exact index=12
+  149 func[2] module=\"q\" name=\"r\" ty=func index=13
+  153 tag[1] module=\"q\" name=\"s\" ty=tag kind=exception func_type_idx=14
   fault 159 malformed UTF-8 encoding
-  171 module=\"t\" name=\"u\" ty=memory memory64=false shared=false initial=15 maximum=none page_size_log2=16
-  173 module=\"t\" name=\"v\" ty=memory memory64=false shared=false initial=15 maximum=none page_size_log2=16
-  175 module=\"w\\22\\5c\\0a\" name=\"x\\c3\\a9\" ty=func index=17
+  171 memory[2] module=\"t\" name=\"u\" ty=memory memory64=false shared=false initial=15 maximum=none page_size_log2=16
+  173 memory[3] module=\"t\" name=\"v\" ty=memory memory64=false shared=false initial=15 maximum=none page_size_log2=16
+  175 func[3] module=\"w\\22\\5c\\0a\" name=\"x\\c3\\a9\" ty=func index=17
 section 3 188 193 3 function
-  189 index=1
-  190 index=200
-  192 index=7
+  189 func[4] index=1
+  190 func[5] index=200
+  192 func[6] index=7
 section 4 195 209 2 table
-  196 element_type=(ref null func) table64=true initial=21 maximum=22 shared=false init=null
-  200 element_type=(ref null 24) table64=false initial=23 maximum=none shared=true init=(ref.null func)
+  196 table[2] element_type=(ref null func) table64=true initial=21 maximum=22 shared=false init=null
+  200 table[3] element_type=(ref null 24) table64=false initial=23 maximum=none shared=true init=(ref.null func)
 section 5 211 219 2 memory
-  212 memory64=true shared=false initial=25 maximum=26 page_size_log2=27
-  216 memory64=false shared=true initial=28 maximum=none page_size_log2=none
+  212 memory[4] memory64=true shared=false initial=25 maximum=26 page_size_log2=27
+  216 memory[5] memory64=false shared=true initial=28 maximum=none page_size_log2=none
   fault 218 section size mismatch: unexpected data at the end of the section
 section 13 221 227 2 tag
-  222 kind=exception func_type_idx=29
-  224 kind=exception func_type_idx=300
+  222 tag[2] kind=exception func_type_idx=29
+  224 tag[3] kind=exception func_type_idx=300
 section 6 229 264 3 global
-  230 content_type=(mut i64) shared=false init_expr=(i64.const 30)
-  235 content_type=f32 shared=true init_expr=(f32.const bits=0)
-  243 content_type=v128 shared=false init_expr=(v128.const 00000000000000000000000000000000)
+  230 global[2] content_type=(mut i64) shared=false init_expr=(i64.const 30)
+  235 global[3] content_type=f32 shared=true init_expr=(f32.const bits=0)
+  243 global[4] content_type=v128 shared=false init_expr=(v128.const 00000000000000000000000000000000)
 section 7 266 290 6 export
   267 name=\"f\" kind=func index=31
   271 name=\"t\" kind=table index=32
@@ -75,36 +75,36 @@ section 7 266 290 6 export
   fault 290 Exact type is not allowed in the exports
 start 292 293 36
 section 9 295 361 9 element
-  296 kind=active table_index=none offset_expr=(i32.const 1) functions=300..303 count=2 range=296..303
+  296 elem[0] kind=active table_index=none offset_expr=(i32.const 1) functions=300..303 count=2 range=296..303
     301 index=37
     302 index=38
-  303 kind=passive functions=305..307 count=1 range=303..307
+  303 elem[1] kind=passive functions=305..307 count=1 range=303..307
     306 index=39
-  307 kind=active table_index=40 offset_expr=(i32.const 2) functions=313..318 count=3 range=307..318
+  307 elem[2] kind=active table_index=40 offset_expr=(i32.const 2) functions=313..318 count=3 range=307..318
     314 index=41
     315 index=300
     317 index=42
-  318 kind=declared functions=320..321 count=0 range=318..321
-  321 kind=active table_index=none offset_expr=(i32.const 3) expressions=325..332 count=2 type=(ref null func) range=321..332
+  318 elem[3] kind=declared functions=320..321 count=0 range=318..321
+  321 elem[4] kind=active table_index=none offset_expr=(i32.const 3) expressions=325..332 count=2 type=(ref null func) range=321..332
     326 expr=(ref.null func)
     329 expr=(ref.func 43)
-  332 kind=passive expressions=334..338 count=1 type=(ref null extern) range=332..338
+  332 elem[5] kind=passive expressions=334..338 count=1 type=(ref null extern) range=332..338
     335 expr=(ref.null extern)
-  338 kind=active table_index=44 offset_expr=(i32.const 300) expressions=346..350 count=1 type=(ref 45) range=338..350
+  338 elem[6] kind=active table_index=44 offset_expr=(i32.const 300) expressions=346..350 count=1 type=(ref 45) range=338..350
     347 expr=(ref.func 46)
-  350 kind=declared expressions=353..360 count=2 type=(ref null any) range=350..360
+  350 elem[7] kind=declared expressions=353..360 count=2 type=(ref null any) range=350..360
     354 expr=(ref.null func)
     357 expr=(ref.null func)
   fault 360 invalid flags byte in element segment
 datacount 363 364 3
 code 366 379 3 12
-body 368 370
-body 371 374
-body 375 379
+body 368 370 func[4]
+body 371 374 func[5]
+body 375 379 func[6]
 section 11 381 431 3 data
-  382 kind=active memory_index=0 offset_expr=(i32.const 47) data=3:616263 range=382..390
-  390 kind=passive data=17:000102030405060708090a0b0c0d0e0f range=390..409
-  409 kind=active memory_index=48 offset_expr=(i32.const -1) data=16:f0f1f2f3f4f5f6f7f8f9fafbfcfdfeff range=409..431
+  382 data[0] kind=active memory_index=0 offset_expr=(i32.const 47) data=3:616263 range=382..390
+  390 data[1] kind=passive data=17:000102030405060708090a0b0c0d0e0f range=390..409
+  409 data[2] kind=active memory_index=48 offset_expr=(i32.const -1) data=16:f0f1f2f3f4f5f6f7f8f9fafbfcfdfeff range=409..431
 unknown 14 433 435
 fault 435 malformed section id
 ";

@@ -6,10 +6,8 @@ pub returns-in-Ok-End : goal.returns-in-Ok-End
 returns-in-Ok-End g c = record {
   how = Ok End;
   runs = record {
-    lists = rw c.in-Ok-End.field-0-is at c.in-Ok-End.ensures.lists;
+    lists = rw c.in-Ok-End.field-0-is at c.in-Ok-End.ensures;
     answers = refl;
-    source = rw c.in-Ok-End.field-0-is at c.in-Ok-End.ensures.input;
-    sink = rw c.in-Ok-End.field-0-is at c.in-Ok-End.ensures.output;
     reports = record { bytes = refl; failed = refl };
   };
 }
@@ -18,10 +16,8 @@ pub returns-in-Ok-Fault : goal.returns-in-Ok-Fault
 returns-in-Ok-Fault g c = record {
   how = Ok (Fault c.in-Ok-Fault.field-0-0);
   runs = record {
-    lists = rw c.in-Ok-Fault.field-0-is at c.in-Ok-Fault.ensures.lists;
+    lists = rw c.in-Ok-Fault.field-0-is at c.in-Ok-Fault.ensures;
     answers = refl;
-    source = rw c.in-Ok-Fault.field-0-is at c.in-Ok-Fault.ensures.input;
-    sink = rw c.in-Ok-Fault.field-0-is at c.in-Ok-Fault.ensures.output;
     reports = record { bytes = refl; failed = refl };
   };
 }

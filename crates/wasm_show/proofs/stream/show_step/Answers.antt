@@ -6,5 +6,6 @@ returns g c = record {
   answer = c.step-answer.result;
   steps = search rules;
   turns = c.show_answer.ensures.turns;
-  shows = c.show_answer.ensures.shows;
+  shows = c.show_answer.ensures.shows c.step-answer.ensures.parses.items;
+  counted = c.show_answer.ensures.counts c.step-answer.ensures.parses.items;
 }

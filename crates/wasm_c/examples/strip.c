@@ -1,0 +1,23 @@
+/* Takes the custom sections out of the module on standard input, in its own bytes, and writes what is left. With the argument `names` the
+   section of names stays. Of a module with a fault nothing is written. */
+#include <pulleynavy.h>
+#include <stdio.h>
+#include <stdlib.h>
+
+int main(int count, char **words) {
+    size_t room = 1 << 16, size = 0;
+    uint8_t *bytes = malloc(room);
+    while (bytes) {
+        size += fread(bytes + size, 1, room - size, stdin);
+        if (size < room) break;
+        uint8_t *grown = realloc(bytes, room *= 2);
+        if (!grown) free(bytes);
+        bytes = grown;
+    }
+    (void)words;
+    if (!bytes) return 3;
+    struct pulleynavy_strip strip = pulleynavy_strip(bytes, size, count > 1);
+    int failed = fwrite(bytes, 1, strip.size, stdout) != strip.size;
+    free(bytes);
+    return failed ? 3 : strip.fault.kind != 0;
+}

@@ -1,0 +1,17 @@
+use Rattle.std.proofs.Common.{◌≡◌, ◌≤◌, ◌<◌, ◌^◌, true, ℕ, List, length}
+use Rattle.wasm_feed.specs.Cursors.{feed_of}
+use Rattle.wasm_feed.specs.Strips.{HasKept}
+use Rattle.wasm_feed.proofs.stripping.next_kept.Given as goal
+
+-- the parts that came so far go
+abbrev pub invariant-parts : goal.invariant-parts
+invariant-parts l = record {
+  comes : (stream kept : List ℕ) → HasKept l.fn.keep_names stream (feed_of l.fn.bytes l.fn.cursor) kept → length stream < 2 ^ 64
+      → HasKept l.fn.keep_names stream (feed_of l.fn.bytes l.cursor) kept;
+  finished : l.cursor.is_finished ≡ true;
+  order : l.fn.cursor.mark ≤ l.cursor.mark;
+  within : l.fn.cursor.mark ≤ length l.fn.bytes → l.cursor.mark ≤ length l.fn.bytes;
+}
+
+abbrev pub decreases-parts : goal.decreases-parts
+decreases-parts l = length (feed_of l.fn.bytes l.cursor).held
