@@ -286,6 +286,16 @@ class Naming(ctypes.Structure):
     ]
 
 
+class IndirectNaming(ctypes.Structure):
+    _fields_ = [
+        ("fault", Fault),
+        ("consumed", ctypes.c_uint64),
+        ("index", ctypes.c_uint32),
+        ("count", ctypes.c_uint32),
+        ("names", Span),
+    ]
+
+
 class ProducersField(ctypes.Structure):
     _fields_ = [
         ("fault", Fault),
@@ -502,12 +512,14 @@ CALLS = {
     "pulleynavy_import": (Import, [ctypes.c_void_p, ctypes.c_size_t, ctypes.c_uint64, ctypes.c_uint32]),
     "pulleynavy_import_item": (ImportItem, [ctypes.c_void_p, ctypes.c_size_t, ctypes.c_uint64, ctypes.c_uint32]),
     "pulleynavy_name": (Name, [ctypes.c_void_p, ctypes.c_size_t, ctypes.c_uint64, ctypes.c_uint32]),
+    "pulleynavy_bundled_import": (ImportItem, [ctypes.POINTER(Import), ctypes.c_void_p, ctypes.c_size_t, ctypes.c_uint64, ctypes.c_uint32]),
     "pulleynavy_export": (Export, [ctypes.c_void_p, ctypes.c_size_t, ctypes.c_uint64, ctypes.c_uint32]),
     "pulleynavy_expression": (Expression, [ctypes.c_void_p, ctypes.c_size_t, ctypes.c_uint64, ctypes.c_uint32]),
     "pulleynavy_element": (Element, [ctypes.c_void_p, ctypes.c_size_t, ctypes.c_uint64, ctypes.c_uint32]),
     "pulleynavy_data": (Data, [ctypes.c_void_p, ctypes.c_size_t, ctypes.c_uint64, ctypes.c_uint32]),
     "pulleynavy_subsection": (Subsection, [ctypes.c_void_p, ctypes.c_size_t, ctypes.c_uint64, ctypes.c_uint32]),
     "pulleynavy_naming": (Naming, [ctypes.c_void_p, ctypes.c_size_t, ctypes.c_uint64, ctypes.c_uint32]),
+    "pulleynavy_indirect_naming": (IndirectNaming, [ctypes.c_void_p, ctypes.c_size_t, ctypes.c_uint64, ctypes.c_uint32]),
     "pulleynavy_producers_field": (ProducersField, [ctypes.c_void_p, ctypes.c_size_t, ctypes.c_uint64, ctypes.c_uint32]),
     "pulleynavy_producers_value": (ProducersValue, [ctypes.c_void_p, ctypes.c_size_t, ctypes.c_uint64, ctypes.c_uint32]),
     "pulleynavy_hinted_function": (HintedFunction, [ctypes.c_void_p, ctypes.c_size_t, ctypes.c_uint64, ctypes.c_uint32]),

@@ -286,6 +286,16 @@ pub struct Naming {
 
 #[repr(C)]
 #[derive(Clone, Copy, Debug)]
+pub struct IndirectNaming {
+    pub fault: Fault,
+    pub consumed: u64,
+    pub index: u32,
+    pub count: u32,
+    pub names: Span,
+}
+
+#[repr(C)]
+#[derive(Clone, Copy, Debug)]
 pub struct ProducersField {
     pub fault: Fault,
     pub consumed: u64,
@@ -567,6 +577,13 @@ unsafe extern "C" {
         features: u32,
     ) -> ImportItem;
     pub fn pulleynavy_name(bytes: *const u8, bytes_size: usize, offset: u64, features: u32) -> Name;
+    pub fn pulleynavy_bundled_import(
+        bundle: &Import,
+        bytes: *const u8,
+        bytes_size: usize,
+        offset: u64,
+        features: u32,
+    ) -> ImportItem;
     pub fn pulleynavy_export(
         bytes: *const u8,
         bytes_size: usize,
@@ -598,6 +615,12 @@ unsafe extern "C" {
         offset: u64,
         features: u32,
     ) -> Naming;
+    pub fn pulleynavy_indirect_naming(
+        bytes: *const u8,
+        bytes_size: usize,
+        offset: u64,
+        features: u32,
+    ) -> IndirectNaming;
     pub fn pulleynavy_producers_field(
         bytes: *const u8,
         bytes_size: usize,

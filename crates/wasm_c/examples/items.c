@@ -270,14 +270,10 @@ static void group(uint64_t from, const struct pulleynavy_import *g) {
     struct window w = {from + g->items.at, from + g->items.at + g->items.size};
     for (uint32_t i = 0; i < g->count; i++) {
         uint64_t at = w.at;
-        bool is_read;
-        if (g->kind == 1) {
-            struct pulleynavy_import_item one = READ(pulleynavy_import_item, &w);
-            if ((is_read = passed(&w, one.fault, one.consumed))) put_import(from, g->module_name, at, one.name, &one.ty);
-        } else {
-            struct pulleynavy_name one = READ(pulleynavy_name, &w);
-            if ((is_read = passed(&w, one.fault, one.consumed))) put_import(from, g->module_name, at, one.name, &g->ty);
-        }
+        struct pulleynavy_import_item one =
+            pulleynavy_bundled_import(g, stream + at, (size_t)(w.end - at), at, PULLEYNAVY_ALL_FEATURES);
+        bool is_read = passed(&w, one.fault, one.consumed);
+        if (is_read) put_import(from, g->module_name, at, one.name, &one.ty);
         tell(at, is_read);
         if (!is_read) return;
     }

@@ -496,8 +496,8 @@ struct pulleynavy_name {
 };
 
 /* The import, or the bundle of imports, with which these bytes begin (core specification, Binary format, Modules, Import Section; the
-   bundles are of the proposal for compact imports). The imports of a bundle are read by `pulleynavy_import_item`, or by
-   `pulleynavy_name` where they have one type. The bytes are the rest of its section, and are at this offset of the whole stream. */
+   bundles are of the proposal for compact imports). The imports of a bundle are read by `pulleynavy_bundled_import`. The bytes are
+   the rest of its section, and are at this offset of the whole stream. */
 struct pulleynavy_import pulleynavy_import(
     const uint8_t *bytes, size_t bytes_size, uint64_t offset, uint32_t features);
 
@@ -509,6 +509,12 @@ struct pulleynavy_import_item pulleynavy_import_item(
 /* The name with which these bytes begin, of at most 100,000 bytes (core specification, Binary format, Values, Names). The bytes are
    the rest of its section, and are at this offset of the whole stream. */
 struct pulleynavy_name pulleynavy_name(const uint8_t *bytes, size_t bytes_size, uint64_t offset, uint32_t features);
+
+/* The import of this bundle with which these bytes begin, whose module is the bundle's (the proposal for compact imports). Where the
+   bundle has one type its imports are names, and the type is the bundle's. The bytes are the rest of its section, and are at this
+   offset of the whole stream. */
+struct pulleynavy_import_item pulleynavy_bundled_import(
+    const struct pulleynavy_import *bundle, const uint8_t *bytes, size_t bytes_size, uint64_t offset, uint32_t features);
 
 /* An export, or its fault. */
 struct pulleynavy_export {
@@ -616,6 +622,20 @@ struct pulleynavy_naming {
     struct pulleynavy_span name;
 };
 
+/* An index and the names of what it has, or its fault. */
+struct pulleynavy_indirect_naming {
+    /* The fault, whose kind is 0 where there is none. */
+    struct pulleynavy_fault fault;
+    /* How many bytes it takes, those of the names among them. */
+    uint64_t consumed;
+    /* The index of what has the names, as a function. */
+    uint32_t index;
+    /* How many names it has. */
+    uint32_t count;
+    /* The names, after their count. */
+    struct pulleynavy_span names;
+};
+
 /* The subsection with which these bytes begin: an id below 128, a size and so many bytes (core specification, Appendix, Custom
    Sections, Name Section, Subsections; tool conventions, Linking). The bytes are the rest of its section, and are at this offset of
    the whole stream. */
@@ -625,6 +645,12 @@ struct pulleynavy_subsection pulleynavy_subsection(
 /* The index and the name with which these bytes begin (core specification, Appendix, Custom Sections, Name Section, Name Maps). That
    indices ascend isn't looked at. The bytes are the rest of its section, and are at this offset of the whole stream. */
 struct pulleynavy_naming pulleynavy_naming(
+    const uint8_t *bytes, size_t bytes_size, uint64_t offset, uint32_t features);
+
+/* The index with which these bytes begin, and the names of what it has (core specification, Appendix, Custom Sections, Name Section,
+   Indirect Name Maps), which are read by `pulleynavy_naming`. That indices ascend isn't looked at. The bytes are the rest of its
+   section, and are at this offset of the whole stream. */
+struct pulleynavy_indirect_naming pulleynavy_indirect_naming(
     const uint8_t *bytes, size_t bytes_size, uint64_t offset, uint32_t features);
 
 /* A field of the producers section, or its fault. */
@@ -1044,6 +1070,7 @@ PULLEYNAVY_ASSERT(sizeof(struct pulleynavy_element) == 104 && offsetof(struct pu
 PULLEYNAVY_ASSERT(sizeof(struct pulleynavy_data) == 72 && offsetof(struct pulleynavy_data, bytes) == 56, "layout");
 PULLEYNAVY_ASSERT(sizeof(struct pulleynavy_subsection) == 56 && offsetof(struct pulleynavy_subsection, contents) == 40, "layout");
 PULLEYNAVY_ASSERT(sizeof(struct pulleynavy_naming) == 56 && offsetof(struct pulleynavy_naming, name) == 40, "layout");
+PULLEYNAVY_ASSERT(sizeof(struct pulleynavy_indirect_naming) == 56 && offsetof(struct pulleynavy_indirect_naming, names) == 40, "layout");
 PULLEYNAVY_ASSERT(sizeof(struct pulleynavy_producers_field) == 72 && offsetof(struct pulleynavy_producers_field, values) == 56, "layout");
 PULLEYNAVY_ASSERT(sizeof(struct pulleynavy_producers_value) == 64 && offsetof(struct pulleynavy_producers_value, version) == 48, "layout");
 PULLEYNAVY_ASSERT(sizeof(struct pulleynavy_hinted_function) == 56 && offsetof(struct pulleynavy_hinted_function, hints) == 40, "layout");

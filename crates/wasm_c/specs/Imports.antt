@@ -1,15 +1,15 @@
 -- Imports as plain numbers.
-use Rattle.std.specs.Prelude.{ℕ, ◌-◌, List, length, Some, Ok, Err}
+use Rattle.std.specs.Prelude.{ℕ, ◌-◌, List, length, Some, Ok, Err, nat_eq, if◌then◌else◌}
 use Rattle.wasm_base.specs.Name.{name_limit, text_at}
 use Rattle.wasm_base.specs.Outcome.{Outcome}
 use Rattle.wasm_base.specs.Window.{Place}
-use Rattle.wasm_items.specs.Imports.{Bundle, ItemParts, single, of_module, of_type}
+use Rattle.wasm_items.specs.Imports.{Bundle, ItemParts, item_at, single, of_module, of_type}
 use Rattle.wasm_items.specs.declared.imports.TypeRef.{TypeRef}
 use Rattle.wasm_items.specs.declared.imports.TypeRef.TheVariants.{Func, Table, Memory, Global, Tag, FuncExact}
 use Rattle.wasm_c.specs.Faults.{no_fault, plain_fault}
 use Rattle.wasm_c.specs.Kinds.{no_global_type, no_memory_type, no_table_type, plain_global_type, plain_memory_type}
 use Rattle.wasm_c.specs.Kinds.{plain_table_type}
-use Rattle.wasm_c.specs.Spans.{items_span, no_span, text_after, text_span}
+use Rattle.wasm_c.specs.Spans.{items_span, no_span, place_over, read_over, text_after, text_span}
 use Rattle.wasm_c.specs.declared.imports.PlainImport.{PlainImport}
 use Rattle.wasm_c.specs.declared.imports.PlainImportItem.{PlainImportItem}
 use Rattle.wasm_c.specs.declared.imports.PlainImportType.{PlainImportType}
@@ -95,3 +95,21 @@ plain_name p (Ok x) = record {
   name = text_span p.offset p (length x.0);
 }
 plain_name p (Err f) = record { fault = plain_fault f; consumed = 0; name = no_span }
+
+-- an import that is a name, and has the type of its bundle
+abbrev pub plain_named : PlainImportType → Place → Outcome (List ℕ) → PlainImportItem
+plain_named ty p (Ok x) = record {
+  fault = no_fault;
+  consumed = x.1.offset - p.offset;
+  name = text_span p.offset p (length x.0);
+  ty = ty;
+}
+plain_named ty p (Err f) = plain_import_item p (Err f)
+
+-- an import of a bundle where these bytes begin: a name of one type's bundle, and else a name and what it is
+abbrev pub bundled_over : PlainImport → (features offset : ℕ) → List ℕ → PlainImportItem
+bundled_over bundle features offset bytes =
+    if nat_eq bundle.kind 2
+    then plain_named bundle.ty (place_over features offset bytes)
+    (read_over (text_at (Some name_limit)) features offset bytes)
+    else plain_import_item (place_over features offset bytes) (read_over item_at features offset bytes)

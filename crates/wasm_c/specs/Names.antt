@@ -5,9 +5,12 @@ use Rattle.wasm_base.specs.Window.{Place, Window}
 use Rattle.wasm_c.specs.Faults.{no_fault, plain_fault}
 use Rattle.wasm_base.specs.Number.{unsigned_at}
 use Rattle.wasm_base.specs.declared.fault.NumberKind.TheVariants.{VarU32}
+use Rattle.wasm_base.specs.Section.{Section}
 use Rattle.wasm_custom.specs.Names.{NamingParts}
-use Rattle.wasm_c.specs.Spans.{no_span, text_after, window_span}
+use Rattle.wasm_custom.specs.declared.names.IndirectNaming.{IndirectNaming}
+use Rattle.wasm_c.specs.Spans.{items_span, no_span, text_after, window_span}
 use Rattle.wasm_c.specs.declared.names.PlainSubsection.{PlainSubsection}
+use Rattle.wasm_c.specs.declared.names.PlainIndirectNaming.{PlainIndirectNaming}
 use Rattle.wasm_c.specs.declared.names.PlainNaming.{PlainNaming}
 
 -- a subsection
@@ -38,4 +41,26 @@ plain_naming p (Err f) = record {
   consumed = 0;
   index = 0;
   name = no_span;
+}
+
+-- an index, and the section of its names
+abbrev pub indirect_from : (from consumed index : ℕ) → Section → PlainIndirectNaming
+indirect_from from consumed index names = record {
+  fault = no_fault;
+  consumed = consumed;
+  index = index;
+  count = names.count;
+  names = items_span from names;
+}
+
+-- an index and the names of what it has
+abbrev pub plain_indirect : Place → Outcome IndirectNaming → PlainIndirectNaming
+plain_indirect p (Ok x) = indirect_from p.offset (x.1.offset - p.offset) x.0.index
+    (record { reader = x.0.names.entries.reader; count = x.0.names.entries.count })
+plain_indirect p (Err f) = record {
+  fault = plain_fault f;
+  consumed = 0;
+  index = 0;
+  count = 0;
+  names = no_span;
 }

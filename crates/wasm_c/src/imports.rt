@@ -4,7 +4,7 @@ ghost use Rattle.wasm_base.specs.FaultAt.{fault_at};
 ghost use Rattle.wasm_base.specs.Name.{name_limit, text_at};
 ghost use Rattle.wasm_base.specs.Window.{place};
 ghost use Rattle.wasm_items.specs.Imports.{bundle_at, bundle_parts, item_at};
-ghost use Rattle.wasm_c.specs.Imports.{import_from, indexed_type, no_import, plain_import, plain_import_item, plain_import_type, plain_name};
+ghost use Rattle.wasm_c.specs.Imports.{bundled_over, import_from, indexed_type, no_import, plain_import, plain_import_item, plain_import_type, plain_name, plain_named};
 ghost use Rattle.wasm_c.specs.Spans.{place_over, read_over};
 
 use crate::faults::{NO_FAULT, PlainFault, plain_fault};
@@ -80,6 +80,9 @@ pub struct PlainName {
     /// The name, which is UTF-8.
     pub name: PlainSpan,
 }
+
+/// The kind of a bundle of one module and one type.
+const OF_TYPE: u32 = 2;
 
 const NO_TYPE: PlainImportType = PlainImportType {
     kind: 0,
@@ -160,7 +163,7 @@ fn whole_import(before: BinaryReader<'_>, consumed: u64, bundle: &Imports) -> Pl
             module_name: text_span(from, before, module.len()),
             ty: plain_import_type(*ty),
             items: items_span(from, names),
-            kind: 2,
+            kind: OF_TYPE,
             count: names.count(),
             ..NO_IMPORT
         },
@@ -188,9 +191,8 @@ fn next_import(mut reader: BinaryReader<'_>) -> PlainImport
 }
 
 /// The import, or the bundle of imports, with which these bytes begin (core specification, Binary format, Modules, Import Section; the
-/// bundles are of the proposal for compact imports). The imports of a bundle are read by `pulleynavy_import_item`, or by
-/// `pulleynavy_name` where they have one type. The bytes are the rest of
-/// its section, and are at this offset of the whole stream.
+/// bundles are of the proposal for compact imports). The imports of a bundle are read by `pulleynavy_bundled_import`. The bytes are
+/// the rest of its section, and are at this offset of the whole stream.
 #[unsafe(no_mangle)]
 pub extern "C" fn pulleynavy_import(bytes: &[u8], offset: u64, features: u32) -> PlainImport
     ensures { result ≡ plain_import (place_over features offset bytes.now)
@@ -283,4 +285,43 @@ pub extern "C" fn pulleynavy_name(bytes: &[u8], offset: u64, features: u32) -> P
         return refused_name(out_of_range(offset));
     }
     next_name(reader_over(bytes, offset, features))
+}
+
+// The import of this type whose name comes next.
+fn next_named(ty: PlainImportType, mut reader: BinaryReader<'_>) -> PlainImportItem
+    ensures { result ≡ plain_named ty (place reader.entry)
+        (text_at (Some name_limit) (place reader.entry)) }
+{
+    let from = reader.original_position();
+    let before = reader.clone().unwrap();
+    match reader.read_string() {
+        Ok(name) => PlainImportItem {
+            fault: NO_FAULT,
+            consumed: distance(from, reader.original_position()),
+            name: text_span(from, before, name.len()),
+            ty,
+        },
+        Err(error) => refused_import_item(error),
+    }
+}
+
+/// The import of this bundle with which these bytes begin, whose module is the bundle's (the proposal for compact imports). Where
+/// the bundle has one type its imports are names, and the type is the bundle's. The bytes are the rest of
+/// its section, and are at this offset of the whole stream.
+#[unsafe(no_mangle)]
+pub extern "C" fn pulleynavy_bundled_import(
+    bundle: &PlainImport,
+    bytes: &[u8],
+    offset: u64,
+    features: u32,
+) -> PlainImportItem
+    ensures { result ≡ bundled_over bundle.now features offset bytes.now }
+{
+    if bundle.kind != OF_TYPE {
+        return pulleynavy_import_item(bytes, offset, features);
+    }
+    if !fits(offset, bytes.len()) {
+        return refused_import_item(out_of_range(offset));
+    }
+    next_named(bundle.ty, reader_over(bytes, offset, features))
 }

@@ -47,8 +47,8 @@ pub use hints::{
     PlainBranchHint, PlainHintedFunction, pulleynavy_branch_hint, pulleynavy_hinted_function,
 };
 pub use imports::{
-    PlainImport, PlainImportItem, PlainImportType, PlainName, pulleynavy_import,
-    pulleynavy_import_item, pulleynavy_name,
+    PlainImport, PlainImportItem, PlainImportType, PlainName, pulleynavy_bundled_import,
+    pulleynavy_import, pulleynavy_import_item, pulleynavy_name,
 };
 pub use kinds::{
     PlainGlobal, PlainGlobalType, PlainMemory, PlainMemoryType, PlainTable, PlainTableType,
@@ -59,7 +59,10 @@ pub use linking::{
     pulleynavy_comdat_symbol, pulleynavy_init_function, pulleynavy_linking_segment,
 };
 pub use messages::pulleynavy_fault_message;
-pub use names::{PlainNaming, PlainSubsection, pulleynavy_naming, pulleynavy_subsection};
+pub use names::{
+    PlainIndirectNaming, PlainNaming, PlainSubsection, pulleynavy_indirect_naming,
+    pulleynavy_naming, pulleynavy_subsection,
+};
 pub use parsing::{
     pulleynavy_fault_text, pulleynavy_parse, pulleynavy_parser, pulleynavy_skip_section,
 };

@@ -7,14 +7,17 @@ ghost use Rattle.wasm_base.specs.Hints.{TakesNoMemory};
 ghost use Rattle.wasm_base.specs.Outcome.{GivesBy};
 ghost use Rattle.wasm_base.specs.Subsections.{subsection_at};
 ghost use Rattle.wasm_base.specs.Window.{KeepsWindow};
-ghost use Rattle.wasm_custom.specs.Names.{naming_at};
-ghost use Rattle.wasm_c.specs.Names.{plain_naming, plain_subsection};
+ghost use Rattle.wasm_custom.specs.Names.{indirect_naming_at, naming_at};
+ghost use Rattle.wasm_c.specs.Names.{indirect_from, plain_indirect, plain_naming, plain_subsection};
 
 use crate::faults::{NO_FAULT, PlainFault, plain_fault};
 use crate::spans::{
-    NO_SPAN, PlainSpan, distance, out_of_range, reader_over, text_after_number, window_span,
+    NO_SPAN, PlainSpan, distance, items_span, out_of_range, reader_over, text_after_number,
+    window_span,
 };
-use wasm_parser::{BinaryReader, Error, FromReader, Naming, Result, fits};
+use wasm_parser::{
+    BinaryReader, Error, FromReader, IndirectNaming, Naming, Result, SectionLimited, fits,
+};
 
 /// A subsection, or its fault.
 #[repr(C)]
@@ -42,6 +45,22 @@ pub struct PlainNaming {
     pub index: u32,
     /// Its name, which is UTF-8.
     pub name: PlainSpan,
+}
+
+/// An index and the names of what it has, or its fault.
+#[repr(C)]
+#[derive(Clone, Copy, Debug, PartialEq, Eq)]
+pub struct PlainIndirectNaming {
+    /// The fault, whose kind is 0 where there is none.
+    pub fault: PlainFault,
+    /// How many bytes it takes, those of the names among them.
+    pub consumed: u64,
+    /// The index of what has the names, as a function.
+    pub index: u32,
+    /// How many names it has.
+    pub count: u32,
+    /// The names, after their count.
+    pub names: PlainSpan,
 }
 
 // An id, and the window of a subsection's bytes.
@@ -134,4 +153,65 @@ pub extern "C" fn pulleynavy_naming(bytes: &[u8], offset: u64, features: u32) ->
         return refused_naming(out_of_range(offset));
     }
     next_naming(reader_over(bytes, offset, features))
+}
+
+fn refused_indirect(error: Error) -> PlainIndirectNaming
+    ensures { result ≡ plain_indirect (place_over 0 0 []) (Err (fault_at error)) }
+{
+    PlainIndirectNaming {
+        fault: plain_fault(error),
+        consumed: 0,
+        index: 0,
+        count: 0,
+        names: NO_SPAN,
+    }
+}
+
+// An index and its names, which take so many bytes from this offset on.
+fn whole_indirect(
+    from: u64,
+    consumed: u64,
+    index: u32,
+    names: &SectionLimited<'_, Naming<'_>>,
+) -> PlainIndirectNaming
+    ensures { result ≡ indirect_from from consumed index names.now }
+{
+    PlainIndirectNaming {
+        fault: NO_FAULT,
+        consumed,
+        index,
+        count: names.count(),
+        names: items_span(from, names),
+    }
+}
+
+fn next_indirect(mut reader: BinaryReader<'_>) -> PlainIndirectNaming
+    ensures { result ≡ plain_indirect (place reader.entry) (indirect_naming_at (place reader.entry)) }
+{
+    let from = reader.original_position();
+    match IndirectNaming::from_reader(&mut reader) {
+        Ok(IndirectNaming { index, names }) => {
+            let consumed = distance(from, reader.original_position());
+            whole_indirect(from, consumed, index, &SectionLimited::from(names.names))
+        }
+        Err(error) => refused_indirect(error),
+    }
+}
+
+/// The index with which these bytes begin, and the names of what it has (core specification, Appendix, Custom Sections, Name Section,
+/// Indirect Name Maps), which are read by `pulleynavy_naming`. That indices ascend isn't looked at. The bytes are the rest of
+/// its section, and are at this offset of the whole stream.
+#[unsafe(no_mangle)]
+pub extern "C" fn pulleynavy_indirect_naming(
+    bytes: &[u8],
+    offset: u64,
+    features: u32,
+) -> PlainIndirectNaming
+    ensures { result ≡ plain_indirect (place_over features offset bytes.now)
+        (read_over indirect_naming_at features offset bytes.now) }
+{
+    if !fits(offset, bytes.len()) {
+        return refused_indirect(out_of_range(offset));
+    }
+    next_indirect(reader_over(bytes, offset, features))
 }
