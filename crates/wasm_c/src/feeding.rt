@@ -4,7 +4,7 @@ ghost use Rattle.wasm_parser.specs.ParserState.{initial_state};
 ghost use Rattle.wasm_c.specs.Feeds.{IsFinished, IsNewFeed, PushesPlain, StepsPlain};
 
 use crate::events::PlainEvent;
-use crate::parsing::{pulleynavy_parse, pulleynavy_parser};
+use crate::parsing::{parse_stored, pulleynavy_parser};
 use crate::stored::StoredParser;
 
 /// A feeder as C holds it: its parser, and where in the caller's storage the bytes are that were pushed and not consumed. Whatever
@@ -64,7 +64,7 @@ pub extern "C" fn pulleynavy_step(feed: &mut StoredFeed, storage: &[u8]) -> Plai
     ensures { StepsPlain feed.old storage.now result feed.new }
 {
     let held = after(front(storage, feed.end), feed.mark);
-    let event = pulleynavy_parse(&mut feed.parser, held, feed.is_finished != 0);
+    let event = parse_stored(&mut feed.parser, held, feed.is_finished != 0);
     feed.mark = feed.mark.saturating_add(event.consumed as usize);
     event
 }
@@ -84,14 +84,14 @@ pub extern "C" fn pulleynavy_finish(feed: &mut StoredFeed)
 pub extern "C" fn pulleynavy_push(feed: &mut StoredFeed, storage: &mut [u8], piece: &[u8]) -> bool
     ensures { PushesPlain feed.old storage.old piece.now result feed.new storage.new }
 {
-    let held = after(front(storage, feed.end), feed.mark).len();
-    if piece.len() > storage.len() - held {
-        return false;
-    }
     if feed.mark <= feed.end && has_room(storage, feed.end, piece) {
         put(storage, feed.end, piece);
         feed.end += piece.len();
         return true;
+    }
+    let held = after(front(storage, feed.end), feed.mark).len();
+    if piece.len() > storage.len() - held {
+        return false;
     }
     gather(storage, feed.mark, held, piece);
     feed.mark = 0;
@@ -115,7 +115,8 @@ fn put(storage: &mut [u8], end: usize, piece: &[u8])
     storage[end..end + piece.len()].copy_from_slice(piece);
 }
 
-// Moves so many bytes from the mark to the front, and puts a piece after them.
+// Moves so many bytes from the mark to the front, and puts a piece after them. It is seldom called, and stays out of the way.
+#[inline(never)]
 fn gather(storage: &mut [u8], mark: usize, held: usize, piece: &[u8])
     requires within { held ≤ length (drop mark storage.old) }
     requires fits { held + length piece.now ≤ length storage.old }

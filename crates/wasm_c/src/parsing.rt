@@ -21,13 +21,9 @@ pub extern "C" fn pulleynavy_parser(offset: u64, features: u32) -> StoredParser
     StoredParser::of(&parser)
 }
 
-/// Reads what comes next in the stream of which these bytes are the rest, or with `is_all` false the beginning of the rest.
-#[unsafe(no_mangle)]
-pub extern "C" fn pulleynavy_parse(
-    stored: &mut StoredParser,
-    bytes: &[u8],
-    is_all: bool,
-) -> PlainEvent
+// What the parser that is stored answers, which is then stored again.
+#[inline(always)]
+pub(crate) fn parse_stored(stored: &mut StoredParser, bytes: &[u8], is_all: bool) -> PlainEvent
     ensures { ParsesPlain (parser_of stored.old) is_all bytes.now result (parser_of stored.new) }
 {
     let mut parser = stored.parser();
@@ -40,6 +36,18 @@ pub extern "C" fn pulleynavy_parse(
         Ok(Chunk::NeedMoreData(hint)) => request_event(hint),
         Err(error) => fault_event(error),
     }
+}
+
+/// Reads what comes next in the stream of which these bytes are the rest, or with `is_all` false the beginning of the rest.
+#[unsafe(no_mangle)]
+pub extern "C" fn pulleynavy_parse(
+    stored: &mut StoredParser,
+    bytes: &[u8],
+    is_all: bool,
+) -> PlainEvent
+    ensures { ParsesPlain (parser_of stored.old) is_all bytes.now result (parser_of stored.new) }
+{
+    parse_stored(stored, bytes, is_all)
 }
 
 /// Passes what is left of a code section, and answers how many bytes that is: the caller hands in the bytes after those

@@ -5,7 +5,7 @@ use Rattle.wasm_parser.specs.ParseAnswer.{IsUnchanged, ParseAnswer}
 use Rattle.wasm_parser.specs.ParserState.{ParserState}
 use Rattle.wasm_parser.specs.declared.payload.Chunk.{Chunk}
 use Rattle.wasm_c.specs.Events.{answer_event}
-use Rattle.wasm_c.proofs.parsing.pulleynavy_parse.Goals as goal
+use Rattle.wasm_c.proofs.parsing.parse_stored.Goals as goal
 
 pub returns-in-Ok-Parsed : goal.returns-in-Ok-Parsed
 returns-in-Ok-Parsed c =
