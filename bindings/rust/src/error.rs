@@ -21,9 +21,14 @@ impl BinaryReaderError {
         BinaryReaderError { fault, text, size: size.min(80) }
     }
 
-    /// That bytes come after the announced items of a section, at this offset.
-    pub(crate) fn size_mismatch(offset: u64) -> Self {
-        BinaryReaderError::new(ffi::Fault { kind: 24, has_number: 0, number: 0, offset })
+    /// A fault of this kind at this offset, without a number.
+    pub(crate) fn of_kind(kind: u32, offset: u64) -> Self {
+        BinaryReaderError::new(ffi::Fault { kind, has_number: 0, number: 0, offset })
+    }
+
+    /// The same fault at another offset.
+    pub(crate) fn at(self, offset: u64) -> Self {
+        BinaryReaderError { fault: ffi::Fault { offset, ..self.fault }, ..self }
     }
 
     /// The text of the fault.
