@@ -1,11 +1,7 @@
 //! Core dumps.
+use crate::error::{CORE_START_BYTE, CUSTOM_TRAILING};
 use crate::section::{call, list};
 use crate::{BinaryReader, BinaryReaderError, FromReader, Result, SectionLimited};
-
-/// The kind of the fault that bytes come after the end of a custom section.
-const CUSTOM_TRAILING: u32 = 46;
-/// The kind of the fault of a byte with which a part of a core dump begins.
-const CORE_START_BYTE: u32 = 44;
 
 /// The section `core`.
 #[derive(Clone, Copy, Debug, PartialEq, Eq, Hash)]

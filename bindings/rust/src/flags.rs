@@ -1,10 +1,11 @@
 //! Sets of flags.
+use crate::{BinaryReader, FromReader, Result};
 
 /// A set of flags, which keeps bits that have no name.
 macro_rules! flags {
     ($(#[$doc:meta])* $name:ident { $($(#[$flag_doc:meta])* $flag:ident = $bits:expr;)* }) => {
         $(#[$doc])*
-        #[derive(Clone, Copy, Debug, Default, PartialEq, Eq, PartialOrd, Ord, Hash)]
+        #[derive(Clone, Copy, Debug, PartialEq, Eq, Hash)]
         pub struct $name(u32);
 
         impl $name {
@@ -60,6 +61,7 @@ flags! {
 
 flags! {
     /// What is said of a symbol, as a set of flags.
+    #[derive(Default, PartialOrd, Ord)]
     SymbolFlags {
         /// It gives way to another definition.
         BINDING_WEAK = 1;
@@ -84,10 +86,25 @@ flags! {
 
 flags! {
     /// What is said of a data segment, as a set of flags.
+    #[derive(Default)]
     SegmentFlags {
         /// It holds strings that end with a zero byte.
         STRINGS = 1;
         /// It is thread-local.
         TLS = 2;
+    }
+}
+
+/// The bits, as a number.
+impl<'a> FromReader<'a> for SymbolFlags {
+    fn from_reader(reader: &mut BinaryReader<'a>) -> Result<Self> {
+        reader.read_var_u32().map(SymbolFlags)
+    }
+}
+
+/// The bits, as a number.
+impl<'a> FromReader<'a> for SegmentFlags {
+    fn from_reader(reader: &mut BinaryReader<'a>) -> Result<Self> {
+        reader.read_var_u32().map(SegmentFlags)
     }
 }

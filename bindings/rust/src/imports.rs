@@ -1,7 +1,7 @@
 //! Imports.
 use crate::ffi;
 use crate::section::{SectionLimitedIntoIter, SectionLimitedIntoIterWithOffsets, call};
-use crate::types::{global_type, memory_type, table_type};
+use crate::types::{exception_tag, global_type, memory_type, table_type};
 use crate::{BinaryReader, FromReader, GlobalType, MemoryType, Result, SectionLimited, TableType, TagType};
 
 /// What is imported, with its type.
@@ -70,7 +70,7 @@ fn type_ref(ty: &ffi::ImportType) -> TypeRef {
         1 => TypeRef::Table(table_type(ty.table)),
         2 => TypeRef::Memory(memory_type(ty.memory)),
         3 => TypeRef::Global(global_type(ty.global)),
-        4 => TypeRef::Tag(TagType { func_type_idx: ty.index }),
+        4 => TypeRef::Tag(exception_tag(ty.index)),
         _ => TypeRef::FuncExact(ty.index),
     }
 }
@@ -140,12 +140,12 @@ impl<'a> Iterator for ImportsIter<'a> {
 
 /// The imports of a section one by one, whatever groups they are in, each with its offset.
 #[derive(Clone, Debug)]
-pub struct IntoImports<'a> {
+pub struct IntoImportsWithOffsets<'a> {
     groups: SectionLimitedIntoIter<'a, Imports<'a>>,
     group: ImportsIter<'a>,
 }
 
-impl<'a> Iterator for IntoImports<'a> {
+impl<'a> Iterator for IntoImportsWithOffsets<'a> {
     type Item = Result<(u64, Import<'a>)>;
 
     fn next(&mut self) -> Option<Self::Item> {
@@ -168,7 +168,7 @@ impl<'a> SectionLimited<'a, Imports<'a>> {
     }
 
     /// The same, each with its offset. After a fault inside a group the next group follows.
-    pub fn into_imports_with_offsets(self) -> IntoImports<'a> {
-        IntoImports { groups: self.into_iter(), group: ImportsIter(Left::One(None)) }
+    pub fn into_imports_with_offsets(self) -> IntoImportsWithOffsets<'a> {
+        IntoImportsWithOffsets { groups: self.into_iter(), group: ImportsIter(Left::One(None)) }
     }
 }

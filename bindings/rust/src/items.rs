@@ -1,4 +1,5 @@
 //! Tables, globals, exports and segments.
+use crate::error::Lead;
 use crate::section::{Window, call};
 use crate::types::{global_type, ref_type, table_type};
 use crate::{BinaryReader, FromReader, GlobalType, RefType, Result, SectionLimited, TableType, ffi};
@@ -98,6 +99,29 @@ pub enum ExternalKind {
     FuncExact,
 }
 
+impl<'a> FromReader<'a> for ExternalKind {
+    fn from_reader(reader: &mut BinaryReader<'a>) -> Result<Self> {
+        reader.read_kind(Lead::External, |byte| match byte {
+            0x20 => Some(ExternalKind::FuncExact),
+            byte => ExternalKind::of(byte.into()),
+        })
+    }
+}
+
+impl ExternalKind {
+    /// The kind with this number, which isn't that of an exact function.
+    fn of(number: u32) -> Option<Self> {
+        Some(match number {
+            0 => ExternalKind::Func,
+            1 => ExternalKind::Table,
+            2 => ExternalKind::Memory,
+            3 => ExternalKind::Global,
+            4 => ExternalKind::Tag,
+            _ => return None,
+        })
+    }
+}
+
 /// An export.
 #[derive(Clone, Copy, Debug, PartialEq, Eq, Hash)]
 pub struct Export<'a> {
@@ -112,14 +136,7 @@ pub struct Export<'a> {
 impl<'a> FromReader<'a> for Export<'a> {
     fn from_reader(reader: &mut BinaryReader<'a>) -> Result<Self> {
         let (window, plain) = call!(pulleynavy_export, reader);
-        let kind = match plain.kind {
-            0 => ExternalKind::Func,
-            1 => ExternalKind::Table,
-            2 => ExternalKind::Memory,
-            3 => ExternalKind::Global,
-            4 => ExternalKind::Tag,
-            _ => ExternalKind::FuncExact,
-        };
+        let kind = ExternalKind::of(plain.kind).unwrap_or(ExternalKind::FuncExact);
         Ok(Export { name: window.text(plain.name), kind, index: plain.index })
     }
 }

@@ -47,7 +47,7 @@ pub use cores::{
 pub use custom::{CustomSectionReader, Subsection, Subsections};
 pub use error::{BinaryReaderError, Result};
 pub use flags::{SegmentFlags, SymbolFlags, WasmFeatures};
-pub use imports::{Import, ImportItemCompact, Imports, ImportsIter, IntoImports, TypeRef};
+pub use imports::{Import, ImportItemCompact, Imports, ImportsIter, IntoImportsWithOffsets, TypeRef};
 pub use items::{ConstExpr, Data, DataKind, Element, ElementItems, ElementKind, Export, ExternalKind, Global, Table, TableInit};
 pub use known::{
     BranchHint, BranchHintFunction, BranchHintSectionReader, Dylink0SectionReader, Dylink0Subsection, ExportInfo, ImportInfo, KnownCustom, MemInfo,
@@ -68,6 +68,6 @@ pub use relocations::{RelocAddendKind, RelocSectionReader, RelocationEntry, Relo
 pub use section::{FromReader, SectionLimited, SectionLimitedIntoIter, SectionLimitedIntoIterWithOffsets};
 pub use strip::strip;
 pub use types::{
-    CompositeType, FieldType, FieldTypes, FuncType, GlobalType, HeapType, MemoryType, RecGroup, RefType, StorageType, SubType, SubTypes, TableType, TagType,
-    ValType, ValTypes,
+    CompositeType, FieldType, FieldTypes, FuncType, GlobalType, HeapType, MemoryType, RecGroup, RefType, StorageType, SubType, SubTypes, TableType, TagKind,
+    TagType, ValType, ValTypes,
 };

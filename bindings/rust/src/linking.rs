@@ -1,4 +1,5 @@
 //! Sections for linkers.
+use crate::error::Lead;
 use crate::section::call;
 use crate::{BinaryReader, FromReader, Result, SectionLimited, SegmentFlags, Subsection, Subsections, SymbolFlags};
 use core::ops::Range;
@@ -178,18 +179,31 @@ pub enum ComdatSymbolKind {
     Section,
 }
 
-impl<'a> FromReader<'a> for ComdatSymbol {
-    fn from_reader(reader: &mut BinaryReader<'a>) -> Result<Self> {
-        let (_, plain) = call!(pulleynavy_comdat_symbol, reader);
-        let kind = match plain.kind {
+impl ComdatSymbolKind {
+    /// The kind with this number.
+    fn of(number: u32) -> Option<Self> {
+        Some(match number {
             0 => ComdatSymbolKind::Data,
             1 => ComdatSymbolKind::Func,
             2 => ComdatSymbolKind::Global,
             3 => ComdatSymbolKind::Event,
             4 => ComdatSymbolKind::Table,
-            _ => ComdatSymbolKind::Section,
-        };
-        Ok(ComdatSymbol { kind, index: plain.index })
+            5 => ComdatSymbolKind::Section,
+            _ => return None,
+        })
+    }
+}
+
+impl<'a> FromReader<'a> for ComdatSymbolKind {
+    fn from_reader(reader: &mut BinaryReader<'a>) -> Result<Self> {
+        reader.read_kind(Lead::ComdatSymbol, |byte| ComdatSymbolKind::of(byte.into()))
+    }
+}
+
+impl<'a> FromReader<'a> for ComdatSymbol {
+    fn from_reader(reader: &mut BinaryReader<'a>) -> Result<Self> {
+        let (_, plain) = call!(pulleynavy_comdat_symbol, reader);
+        Ok(ComdatSymbol { kind: ComdatSymbolKind::of(plain.kind).expect("the library refuses other kinds"), index: plain.index })
     }
 }
 
@@ -220,6 +234,12 @@ pub struct DefinedDataSymbol {
     pub offset: u32,
     /// How many bytes it has.
     pub size: u32,
+}
+
+impl<'a> FromReader<'a> for DefinedDataSymbol {
+    fn from_reader(reader: &mut BinaryReader<'a>) -> Result<Self> {
+        Ok(DefinedDataSymbol { index: reader.read()?, offset: reader.read()?, size: reader.read()? })
+    }
 }
 
 impl<'a> FromReader<'a> for SymbolInfo<'a> {

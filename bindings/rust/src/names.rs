@@ -1,4 +1,5 @@
 //! The section `name`.
+use crate::error::{INDIRECT_ORDER, NAME_SECTION_ORDER, NAME_TRAILING, NAMES_ORDER};
 use crate::section::call;
 use crate::{BinaryReader, BinaryReaderError, FromReader, Result, SectionLimited, SectionLimitedIntoIter, Subsection, Subsections};
 use core::ops::Range;
@@ -97,11 +98,11 @@ macro_rules! ascending {
 
 ascending! {
     /// Names by index. An index that isn't above the last one is a fault, after which the next names follow.
-    NameMap, Naming, 38
+    NameMap, Naming, NAMES_ORDER
 }
 ascending! {
     /// Names of what indices have, by index. An index that isn't above the last one is a fault, after which the next ones follow.
-    IndirectNameMap, IndirectNaming, 39
+    IndirectNameMap, IndirectNaming, INDIRECT_ORDER
 }
 
 /// The subsections of the section `name`. An id that isn't above the last one is a fault, after which the next subsections follow.
@@ -134,7 +135,7 @@ impl<'a> Iterator for NameSectionReader<'a> {
     fn next(&mut self) -> Option<Self::Item> {
         let offset = self.sections.original_position();
         let part = self.sections.next()?;
-        Some(part.and_then(|(id, name)| self.last.then(id.into(), 40, offset).map(|()| name)))
+        Some(part.and_then(|(id, name)| self.last.then(id.into(), NAME_SECTION_ORDER, offset).map(|()| name)))
     }
 }
 
@@ -211,6 +212,6 @@ impl<'a> Subsection<'a> for Name<'a> {
 fn module(mut reader: BinaryReader<'_>) -> Result<Name<'_>> {
     let name_range = reader.remaining_range();
     let name = reader.read_string()?;
-    reader.expect_end(41)?;
+    reader.expect_end(NAME_TRAILING)?;
     Ok(Name::Module { name, name_range })
 }

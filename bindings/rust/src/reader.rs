@@ -1,9 +1,10 @@
 //! Reading of a run of bytes, part by part.
+use crate::error::{INVALID_U7, Lead, MALFORMED_UTF8, STRING_SIZE, UNEXPECTED_EOF};
 use crate::section::{Window, call};
 use crate::{BinaryReaderError, FromReader, MAX_WASM_STRING_SIZE, Result, WasmFeatures, ffi};
 use core::ops::Range;
 
-/// A place in a run of a stream's bytes. A call that answers a fault leaves it where it was, or behind parts that were read before.
+/// A place in a run of a stream's bytes. After a fault it is in these bytes, and not before where it was.
 #[derive(Clone, Debug)]
 pub struct BinaryReader<'a> {
     start: u64,
@@ -93,7 +94,7 @@ impl<'a> BinaryReader<'a> {
     /// Passes over so many bytes, or says that they aren't all there.
     fn take(&mut self, count: u64) -> Result<Window<'a>> {
         if count > self.rest.bytes.len() as u64 {
-            return Err(self.fault(2));
+            return Err(self.fault(UNEXPECTED_EOF));
         }
         Ok(self.pass(count))
     }
@@ -113,7 +114,7 @@ impl<'a> BinaryReader<'a> {
     /// # Errors
     /// The end of the bytes.
     pub fn peek(&self) -> Result<u8> {
-        self.rest.bytes.first().copied().ok_or_else(|| self.fault(2))
+        self.rest.bytes.first().copied().ok_or_else(|| self.fault(UNEXPECTED_EOF))
     }
 
     /// The next byte.
@@ -130,9 +131,16 @@ impl<'a> BinaryReader<'a> {
     /// The end of the bytes, or another byte.
     pub fn read_u7(&mut self) -> Result<u8> {
         if self.peek()? >= 128 {
-            return Err(self.fault(22));
+            return Err(self.fault(INVALID_U7));
         }
         self.read_u8()
+    }
+
+    /// What the next byte is a kind of.
+    pub(crate) fn read_kind<T>(&mut self, lead: Lead, of: impl FnOnce(u8) -> Option<T>) -> Result<T> {
+        let offset = self.original_position();
+        let byte = self.read_u8()?;
+        of(byte).ok_or(BinaryReaderError::leading_byte(lead, byte, offset))
     }
 
     /// The next bytes, so many.
@@ -177,7 +185,7 @@ impl<'a> BinaryReader<'a> {
     pub fn read_unlimited_string(&mut self) -> Result<&'a str> {
         let text = self.read_reader()?.rest;
         // Where it isn't UTF-8, the fault is at its last byte.
-        core::str::from_utf8(text.bytes).map_err(|_| BinaryReaderError::of_kind(21, text.range().end - 1))
+        core::str::from_utf8(text.bytes).map_err(|_| BinaryReaderError::of_kind(MALFORMED_UTF8, text.range().end - 1))
     }
 
     /// Passes over a name of at most 100,000 bytes, whatever they are.
@@ -187,7 +195,7 @@ impl<'a> BinaryReader<'a> {
     pub fn skip_string(&mut self) -> Result<()> {
         let size = u64::from(self.read_var_u32()?);
         if size > MAX_WASM_STRING_SIZE as u64 {
-            return Err(BinaryReaderError::of_kind(20, self.rest.offset - 1));
+            return Err(BinaryReaderError::of_kind(STRING_SIZE, self.rest.offset - 1));
         }
         self.take(size).map(drop)
     }

@@ -1,6 +1,7 @@
 //! Relocations.
+use crate::error::{Lead, OFFSET_RANGE};
 use crate::section::call;
-use crate::{BinaryReader, FromReader, Result, SectionLimited, ffi};
+use crate::{BinaryReader, BinaryReaderError, FromReader, Result, SectionLimited, ffi};
 use core::ops::Range;
 
 /// What is added to the value that a relocation fills in.
@@ -84,6 +85,12 @@ relocation_types! {
     26 FunctionIndexI32 None 4,
 }
 
+impl<'a> FromReader<'a> for RelocationType {
+    fn from_reader(reader: &mut BinaryReader<'a>) -> Result<Self> {
+        reader.read_kind(Lead::Reloc, |byte| RelocationType::try_from(byte).ok())
+    }
+}
+
 /// The relocations of a section.
 pub type RelocationEntryReader<'a> = SectionLimited<'a, RelocationEntry>;
 
@@ -137,8 +144,13 @@ pub struct RelocationEntry {
 
 impl RelocationEntry {
     /// Which bytes it fills in, from the start of the content of its section.
-    pub fn relocation_range(&self) -> Range<usize> {
-        self.offset as usize..self.offset as usize + self.ty.extent()
+    ///
+    /// # Errors
+    /// That they pass the greatest `usize`, which 64 bits have room for.
+    pub fn relocation_range(&self) -> Result<Range<usize>> {
+        let start = self.offset as usize;
+        let end = start.checked_add(self.ty.extent()).ok_or(BinaryReaderError::of_kind(OFFSET_RANGE, self.offset.into()))?;
+        Ok(start..end)
     }
 }
 

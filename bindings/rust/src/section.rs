@@ -1,4 +1,5 @@
 //! Counted items in a window.
+use crate::error::{INVALID_BOOL, SIZE_MISMATCH};
 use crate::{BinaryReader, BinaryReaderError, Result, ffi};
 use core::fmt;
 use core::marker::PhantomData;
@@ -80,7 +81,7 @@ impl<'a> FromReader<'a> for bool {
         match reader.read_u8()? {
             0 => Ok(false),
             1 => Ok(true),
-            _ => Err(BinaryReaderError::of_kind(23, offset)),
+            _ => Err(BinaryReaderError::of_kind(INVALID_BOOL, offset)),
         }
     }
 }
@@ -214,7 +215,7 @@ impl<'a, T: FromReader<'a>> Iterator for SectionLimitedIntoIter<'a, T> {
         let mut reader = BinaryReader::of(self.section.rest);
         let Some(left) = self.left.checked_sub(1) else {
             self.ended = true;
-            return reader.expect_end(24).err().map(Err);
+            return reader.expect_end(SIZE_MISMATCH).err().map(Err);
         };
         self.left = left;
         let item = reader.read();

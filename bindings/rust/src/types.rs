@@ -313,11 +313,25 @@ pub struct GlobalType {
     pub shared: bool,
 }
 
-/// The type of a tag of exceptions.
+/// What a tag is of.
+#[derive(Clone, Copy, Debug, PartialEq, Eq, Hash)]
+pub enum TagKind {
+    /// Exceptions.
+    Exception,
+}
+
+/// The type of a tag.
 #[derive(Clone, Copy, Debug, PartialEq, Eq, Hash)]
 pub struct TagType {
+    /// What it is a tag of.
+    pub kind: TagKind,
     /// The index of the function type whose parameters the tag carries.
     pub func_type_idx: u32,
+}
+
+/// The type of a tag of exceptions, by its function type.
+pub(crate) fn exception_tag(func_type_idx: u32) -> TagType {
+    TagType { kind: TagKind::Exception, func_type_idx }
 }
 
 pub(crate) fn table_type(ty: ffi::TableType) -> TableType {
@@ -349,6 +363,6 @@ impl<'a> FromReader<'a> for MemoryType {
 impl<'a> FromReader<'a> for TagType {
     fn from_reader(reader: &mut BinaryReader<'a>) -> Result<Self> {
         let (_, plain) = call!(pulleynavy_tag, reader);
-        Ok(TagType { func_type_idx: plain.func_type_index })
+        Ok(exception_tag(plain.func_type_index))
     }
 }
