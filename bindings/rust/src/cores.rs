@@ -1,7 +1,7 @@
 //! Core dumps.
-use crate::known::list;
-use crate::section::{Window, call};
-use crate::{FromReader, Result, SectionLimited};
+use crate::error::{CORE_START_BYTE, CUSTOM_TRAILING};
+use crate::section::{call, list};
+use crate::{BinaryReader, BinaryReaderError, FromReader, Result, SectionLimited};
 
 /// The section `core`.
 #[derive(Clone, Copy, Debug, PartialEq, Eq, Hash)]
@@ -10,11 +10,40 @@ pub struct CoreDumpSection<'a> {
     pub name: &'a str,
 }
 
-impl<'a> FromReader<'a> for CoreDumpSection<'a> {
-    fn from_window(window: Window<'a>) -> Result<(Self, u64)> {
-        let plain = call!(pulleynavy_core_process, window);
-        Ok((CoreDumpSection { name: window.text(plain.name) }, plain.consumed))
+impl<'a> CoreDumpSection<'a> {
+    /// The section that a reader has left.
+    ///
+    /// # Errors
+    /// The fault of the name, or of bytes after it.
+    pub fn new(mut reader: BinaryReader<'a>) -> Result<Self> {
+        let (window, plain) = call!(pulleynavy_core_process, reader);
+        reader.expect_end(CUSTOM_TRAILING)?;
+        Ok(CoreDumpSection { name: window.text(plain.name) })
     }
+}
+
+/// The section `coremodules`.
+#[derive(Clone, Debug)]
+pub struct CoreDumpModulesSection<'a> {
+    /// The modules.
+    pub modules: SectionLimited<'a, CoreModule<'a>>,
+}
+
+impl<'a> CoreDumpModulesSection<'a> {
+    /// The section that a reader has left.
+    ///
+    /// # Errors
+    /// The fault of a module, or of bytes after the last one. The byte with which a module begins is told at the start of the section.
+    pub fn new(mut reader: BinaryReader<'a>) -> Result<Self> {
+        let start = reader.original_position();
+        let modules = list(&mut reader).map_err(|error| if is_start_byte(&error) { error.at(start) } else { error })?;
+        reader.expect_end(CUSTOM_TRAILING)?;
+        Ok(CoreDumpModulesSection { modules })
+    }
+}
+
+fn is_start_byte(error: &BinaryReaderError) -> bool {
+    error.code() & 0xff == CORE_START_BYTE
 }
 
 /// A module of a core dump.
@@ -25,9 +54,28 @@ pub struct CoreModule<'a> {
 }
 
 impl<'a> FromReader<'a> for CoreModule<'a> {
-    fn from_window(window: Window<'a>) -> Result<(Self, u64)> {
-        let plain = call!(pulleynavy_core_module, window);
-        Ok((CoreModule { name: window.text(plain.name) }, plain.consumed))
+    fn from_reader(reader: &mut BinaryReader<'a>) -> Result<Self> {
+        let (window, plain) = call!(pulleynavy_core_module, reader);
+        Ok(CoreModule { name: window.text(plain.name) })
+    }
+}
+
+/// The section `coreinstances`.
+#[derive(Clone, Debug)]
+pub struct CoreDumpInstancesSection<'a> {
+    /// The instances.
+    pub instances: SectionLimited<'a, CoreDumpInstance<'a>>,
+}
+
+impl<'a> CoreDumpInstancesSection<'a> {
+    /// The section that a reader has left.
+    ///
+    /// # Errors
+    /// The fault of an instance, or of bytes after the last one.
+    pub fn new(mut reader: BinaryReader<'a>) -> Result<Self> {
+        let instances = list(&mut reader)?;
+        reader.expect_end(CUSTOM_TRAILING)?;
+        Ok(CoreDumpInstancesSection { instances })
     }
 }
 
@@ -43,11 +91,9 @@ pub struct CoreDumpInstance<'a> {
 }
 
 impl<'a> FromReader<'a> for CoreDumpInstance<'a> {
-    fn from_window(window: Window<'a>) -> Result<(Self, u64)> {
-        let plain = call!(pulleynavy_core_instance, window);
-        let (memories, at) = list(window.after(plain.consumed))?;
-        let (globals, size) = list(window.after(plain.consumed + at))?;
-        Ok((CoreDumpInstance { module_index: plain.module_index, memories, globals }, plain.consumed + at + size))
+    fn from_reader(reader: &mut BinaryReader<'a>) -> Result<Self> {
+        let (_, plain) = call!(pulleynavy_core_instance, reader);
+        Ok(CoreDumpInstance { module_index: plain.module_index, memories: list(reader)?, globals: list(reader)? })
     }
 }
 
@@ -61,9 +107,15 @@ pub struct CoreDumpStackSection<'a> {
 }
 
 impl<'a> CoreDumpStackSection<'a> {
-    pub(crate) fn new(window: Window<'a>) -> Result<Self> {
-        let plain = call!(pulleynavy_core_thread, window);
-        Ok(CoreDumpStackSection { name: window.text(plain.name), frames: SectionLimited::new(window.after(plain.consumed))? })
+    /// The section that a reader has left.
+    ///
+    /// # Errors
+    /// The fault of the name or of a frame, or of bytes after the last one.
+    pub fn new(mut reader: BinaryReader<'a>) -> Result<Self> {
+        let (window, plain) = call!(pulleynavy_core_thread, reader);
+        let frames = list(&mut reader)?;
+        reader.expect_end(CUSTOM_TRAILING)?;
+        Ok(CoreDumpStackSection { name: window.text(plain.name), frames })
     }
 }
 
@@ -83,12 +135,10 @@ pub struct CoreDumpStackFrame<'a> {
 }
 
 impl<'a> FromReader<'a> for CoreDumpStackFrame<'a> {
-    fn from_window(window: Window<'a>) -> Result<(Self, u64)> {
-        let plain = call!(pulleynavy_core_frame, window);
-        let (locals, at) = list(window.after(plain.consumed))?;
-        let (stack, size) = list(window.after(plain.consumed + at))?;
+    fn from_reader(reader: &mut BinaryReader<'a>) -> Result<Self> {
+        let (_, plain) = call!(pulleynavy_core_frame, reader);
         let (instanceidx, funcidx, codeoffset) = (plain.instance, plain.func, plain.code_offset);
-        Ok((CoreDumpStackFrame { instanceidx, funcidx, codeoffset, locals, stack }, plain.consumed + at + size))
+        Ok(CoreDumpStackFrame { instanceidx, funcidx, codeoffset, locals: list(reader)?, stack: list(reader)? })
     }
 }
 
@@ -108,15 +158,14 @@ pub enum CoreDumpValue {
 }
 
 impl<'a> FromReader<'a> for CoreDumpValue {
-    fn from_window(window: Window<'a>) -> Result<(Self, u64)> {
-        let plain = call!(pulleynavy_core_value, window);
-        let value = match plain.kind {
+    fn from_reader(reader: &mut BinaryReader<'a>) -> Result<Self> {
+        let (_, plain) = call!(pulleynavy_core_value, reader);
+        Ok(match plain.kind {
             1 => CoreDumpValue::I32(plain.integer as i32),
             2 => CoreDumpValue::I64(plain.integer),
             3 => CoreDumpValue::F32(plain.bits as u32),
             4 => CoreDumpValue::F64(plain.bits),
             _ => CoreDumpValue::Missing,
-        };
-        Ok((value, plain.consumed))
+        })
     }
 }

@@ -1,19 +1,37 @@
-//! Custom sections.
+//! Custom sections and subsections.
 use crate::section::{Window, call};
-use crate::{FromReader, Result, SectionLimited, ffi};
+use crate::{BinaryReader, Result, ffi};
+use core::fmt;
+use core::marker::PhantomData;
 use core::ops::Range;
 
 /// A custom section: its name and its data.
-#[derive(Clone, Copy, Debug)]
+#[derive(Clone, Copy)]
 pub struct CustomSectionReader<'a> {
     whole: Window<'a>,
     name: &'a str,
     data: Window<'a>,
 }
 
+impl fmt::Debug for CustomSectionReader<'_> {
+    fn fmt(&self, f: &mut fmt::Formatter<'_>) -> fmt::Result {
+        let mut parts = f.debug_struct("CustomSectionReader");
+        parts.field("name", &self.name).field("data_offset", &self.data_offset()).field("data", &"...").field("range", &self.range()).finish()
+    }
+}
+
 impl<'a> CustomSectionReader<'a> {
+    /// The section whose content a reader has left.
+    ///
+    /// # Errors
+    /// The fault of the name.
+    pub fn new(mut reader: BinaryReader<'a>) -> Result<Self> {
+        let whole = reader.rest;
+        Ok(CustomSectionReader { whole, name: reader.read_string()?, data: reader.rest })
+    }
+
     /// The section that a window is, by where its data begins and how long the name before them is.
-    pub(crate) fn new(whole: Window<'a>, data_offset: u64, name_size: u64) -> Self {
+    pub(crate) fn of(whole: Window<'a>, data_offset: u64, name_size: u64) -> Self {
         let at = data_offset - whole.offset;
         let name = whole.text(ffi::Span { at: at - name_size, size: name_size });
         CustomSectionReader { whole, name, data: whole.after(at) }
@@ -24,13 +42,14 @@ impl<'a> CustomSectionReader<'a> {
         self.name
     }
 
-    pub(crate) fn window(&self) -> Window<'a> {
-        self.data
-    }
-
     /// Its data, after the name.
     pub fn data(&self) -> &'a [u8] {
         self.data.bytes
+    }
+
+    /// A reader of its data.
+    pub fn data_reader(&self) -> BinaryReader<'a> {
+        BinaryReader::of(self.data)
     }
 
     /// The offset at which its data begins.
@@ -38,81 +57,85 @@ impl<'a> CustomSectionReader<'a> {
         self.data.offset
     }
 
+    /// The offsets of its data.
+    pub fn data_range(&self) -> Range<u64> {
+        self.data.range()
+    }
+
     /// The offsets of its content.
     pub fn range(&self) -> Range<u64> {
         self.whole.range()
     }
-
-    /// Its data as subsections, as those of the sections `name`, `linking` (after the version) and `dylink.0` are.
-    pub fn subsections(&self) -> Subsections<'a> {
-        Subsections::of(self.data)
-    }
 }
 
-/// A subsection: an id and its bytes.
-#[derive(Clone, Copy, Debug)]
-pub struct Subsection<'a> {
-    /// Its id.
-    pub id: u8,
-    /// Its bytes.
-    pub contents: Window<'a>,
-}
-
-impl<'a> Subsection<'a> {
-    /// Its bytes as a count of items, as those of names are.
+/// What a subsection can be read as.
+pub trait Subsection<'a>: Sized {
+    /// The subsection with this id and these bytes.
     ///
     /// # Errors
-    /// The fault of the count.
-    pub fn items<T: FromReader<'a>>(&self) -> Result<SectionLimited<'a, T>> {
-        SectionLimited::new(self.contents)
+    /// The fault of what the bytes say.
+    fn from_reader(id: u8, reader: BinaryReader<'a>) -> Result<Self>;
+}
+
+/// A subsection after its id.
+impl<'a, T: Subsection<'a>> Subsection<'a> for (u8, T) {
+    fn from_reader(id: u8, reader: BinaryReader<'a>) -> Result<Self> {
+        Ok((id, T::from_reader(id, reader)?))
     }
 }
 
-/// The subsections of a window, up to the first fault.
-#[derive(Clone, Debug)]
-pub struct Subsections<'a> {
+/// Subsections, up to the first fault of an id or a size. After a fault of what a subsection says the next one follows.
+pub struct Subsections<'a, T> {
+    start: u64,
     rest: Window<'a>,
     ended: bool,
+    item: PhantomData<fn() -> T>,
 }
 
-impl<'a> Subsections<'a> {
-    pub(crate) fn of(rest: Window<'a>) -> Self {
-        Subsections { rest, ended: false }
-    }
-
-    fn read(&mut self) -> Result<Subsection<'a>> {
-        let plain = call!(pulleynavy_subsection, self.rest);
-        let contents = self.rest.part(plain.contents);
-        self.rest = self.rest.after(plain.consumed);
-        Ok(Subsection { id: plain.id as u8, contents })
+impl<T> Clone for Subsections<'_, T> {
+    fn clone(&self) -> Self {
+        Subsections { ..*self }
     }
 }
 
-impl<'a> Iterator for Subsections<'a> {
-    type Item = Result<Subsection<'a>>;
+impl<T> fmt::Debug for Subsections<'_, T> {
+    fn fmt(&self, f: &mut fmt::Formatter<'_>) -> fmt::Result {
+        f.debug_struct("Subsections").field("range", &self.range()).finish()
+    }
+}
+
+impl<'a, T> Subsections<'a, T> {
+    /// The subsections that a reader has left.
+    pub fn new(reader: BinaryReader<'a>) -> Self {
+        Subsections { start: reader.range().start, rest: reader.rest, ended: false, item: PhantomData }
+    }
+
+    /// The offset at which the next subsection begins.
+    pub fn original_position(&self) -> u64 {
+        self.rest.offset
+    }
+
+    /// The offsets of all bytes, those that were read among them.
+    pub fn range(&self) -> Range<u64> {
+        self.start..self.rest.range().end
+    }
+
+    /// The id and the bytes of the next one.
+    fn read(&mut self) -> Result<(u8, BinaryReader<'a>)> {
+        let (window, plain) = call!(pulleynavy_subsection, self);
+        Ok((plain.id as u8, BinaryReader::of(window.part(plain.contents))))
+    }
+}
+
+impl<'a, T: Subsection<'a>> Iterator for Subsections<'a, T> {
+    type Item = Result<T>;
 
     fn next(&mut self) -> Option<Self::Item> {
         if self.ended || self.rest.bytes.is_empty() {
             return None;
         }
-        let subsection = self.read();
-        self.ended = subsection.is_err();
-        Some(subsection)
-    }
-}
-
-/// An index and its name. That indices ascend isn't looked at.
-#[derive(Clone, Copy, Debug, PartialEq, Eq, Hash)]
-pub struct Naming<'a> {
-    /// The index of what is named.
-    pub index: u32,
-    /// Its name.
-    pub name: &'a str,
-}
-
-impl<'a> FromReader<'a> for Naming<'a> {
-    fn from_window(window: Window<'a>) -> Result<(Self, u64)> {
-        let plain = call!(pulleynavy_naming, window);
-        Ok((Naming { index: plain.index, name: window.text(plain.name) }, plain.consumed))
+        let part = self.read();
+        self.ended = part.is_err();
+        Some(part.and_then(|(id, reader)| T::from_reader(id, reader)))
     }
 }

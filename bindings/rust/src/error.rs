@@ -5,6 +5,30 @@ use core::fmt;
 /// What a call answers.
 pub type Result<T, E = BinaryReaderError> = core::result::Result<T, E>;
 
+// The kinds of faults that are found here, by their numbers.
+pub(crate) const UNEXPECTED_EOF: u32 = 2;
+pub(crate) const OFFSET_RANGE: u32 = 3;
+pub(crate) const STRING_SIZE: u32 = 20;
+pub(crate) const MALFORMED_UTF8: u32 = 21;
+pub(crate) const INVALID_U7: u32 = 22;
+pub(crate) const INVALID_BOOL: u32 = 23;
+pub(crate) const SIZE_MISMATCH: u32 = 24;
+const LEADING_BYTE: u32 = 25;
+pub(crate) const NAMES_ORDER: u32 = 38;
+pub(crate) const INDIRECT_ORDER: u32 = 39;
+pub(crate) const NAME_SECTION_ORDER: u32 = 40;
+pub(crate) const NAME_TRAILING: u32 = 41;
+pub(crate) const CORE_START_BYTE: u32 = 44;
+pub(crate) const CUSTOM_TRAILING: u32 = 46;
+
+/// What a byte begins that is no such thing, by its number.
+#[derive(Clone, Copy)]
+pub(crate) enum Lead {
+    ComdatSymbol = 2,
+    Reloc = 4,
+    External = 5,
+}
+
 /// A fault of a stream: what it is, and where.
 #[derive(Clone, Copy)]
 pub struct BinaryReaderError {
@@ -21,9 +45,20 @@ impl BinaryReaderError {
         BinaryReaderError { fault, text, size: size.min(80) }
     }
 
-    /// That bytes come after the announced items of a section, at this offset.
-    pub(crate) fn size_mismatch(offset: u64) -> Self {
-        BinaryReaderError::new(ffi::Fault { kind: 24, has_number: 0, number: 0, offset })
+    /// A fault of this kind at this offset, without a number.
+    pub(crate) fn of_kind(kind: u32, offset: u64) -> Self {
+        BinaryReaderError::new(ffi::Fault { kind, has_number: 0, number: 0, offset })
+    }
+
+    /// That a byte at this offset begins no such thing.
+    pub(crate) fn leading_byte(lead: Lead, byte: u8, offset: u64) -> Self {
+        let kind = LEADING_BYTE | (lead as u32) << 8;
+        BinaryReaderError::new(ffi::Fault { kind, has_number: 1, number: byte.into(), offset })
+    }
+
+    /// The same fault at another offset.
+    pub(crate) fn at(self, offset: u64) -> Self {
+        BinaryReaderError { fault: ffi::Fault { offset, ..self.fault }, ..self }
     }
 
     /// The text of the fault.
@@ -41,7 +76,7 @@ impl BinaryReaderError {
         (self.fault.has_number != 0).then_some(self.fault.number)
     }
 
-    /// The number of its kind, which never changes.
+    /// The number of its kind, in the lowest 8 bits, and above them that of what it names. Neither changes.
     pub fn code(&self) -> u32 {
         self.fault.kind
     }

@@ -1,8 +1,8 @@
 //! Imports.
 use crate::ffi;
-use crate::section::{SectionLimitedIntoIter, SectionLimitedIntoIterWithOffsets, Window, call};
-use crate::types::{global_type, memory_type, table_type};
-use crate::{FromReader, GlobalType, MemoryType, Result, SectionLimited, TableType, TagType};
+use crate::section::{SectionLimitedIntoIter, SectionLimitedIntoIterWithOffsets, call};
+use crate::types::{exception_tag, global_type, memory_type, table_type};
+use crate::{BinaryReader, FromReader, GlobalType, MemoryType, Result, SectionLimited, TableType, TagType};
 
 /// What is imported, with its type.
 #[derive(Clone, Copy, Debug, PartialEq, Eq, Hash)]
@@ -70,56 +70,67 @@ fn type_ref(ty: &ffi::ImportType) -> TypeRef {
         1 => TypeRef::Table(table_type(ty.table)),
         2 => TypeRef::Memory(memory_type(ty.memory)),
         3 => TypeRef::Global(global_type(ty.global)),
-        4 => TypeRef::Tag(TagType { func_type_idx: ty.index }),
+        4 => TypeRef::Tag(exception_tag(ty.index)),
         _ => TypeRef::FuncExact(ty.index),
     }
 }
 
 impl<'a> FromReader<'a> for Imports<'a> {
-    fn from_window(window: Window<'a>) -> Result<(Self, u64)> {
-        let plain = call!(pulleynavy_import, window);
-        let (module, ty, items) = (window.text(plain.module_name), type_ref(&plain.ty), window.part(plain.items));
+    fn from_reader(reader: &mut BinaryReader<'a>) -> Result<Self> {
+        let (window, plain) = call!(pulleynavy_import, reader);
+        let (module, ty) = (window.text(plain.module_name), type_ref(&plain.ty));
         let group = match plain.kind {
             0 => Imports::Single(window.offset, Import { module, name: window.text(plain.name), ty }),
-            1 => Imports::Compact1 { module, items: SectionLimited::of(items, plain.count) },
-            _ => Imports::Compact2 { module, ty, names: SectionLimited::of(items, plain.count) },
+            1 => Imports::Compact1 { module, items: SectionLimited::list(window, plain.items, plain.count) },
+            _ => Imports::Compact2 { module, ty, names: SectionLimited::list(window, plain.items, plain.count) },
         };
-        Ok((group, plain.consumed))
+        Ok(group)
     }
 }
 
 impl<'a> FromReader<'a> for ImportItemCompact<'a> {
-    fn from_window(window: Window<'a>) -> Result<(Self, u64)> {
-        let plain = call!(pulleynavy_import_item, window);
-        Ok((ImportItemCompact { name: window.text(plain.name), ty: type_ref(&plain.ty) }, plain.consumed))
+    fn from_reader(reader: &mut BinaryReader<'a>) -> Result<Self> {
+        let (window, plain) = call!(pulleynavy_import_item, reader);
+        Ok(ImportItemCompact { name: window.text(plain.name), ty: type_ref(&plain.ty) })
     }
 }
 
 /// What is left of a group.
 #[derive(Clone, Debug)]
-enum Group<'a> {
+enum Left<'a> {
     One(Option<(u64, Import<'a>)>),
     OfModule(&'a str, SectionLimitedIntoIterWithOffsets<'a, ImportItemCompact<'a>>),
     OfType(&'a str, TypeRef, SectionLimitedIntoIterWithOffsets<'a, &'a str>),
 }
 
-impl<'a> Group<'a> {
-    fn of(group: Imports<'a>) -> Self {
-        match group {
-            Imports::Single(offset, one) => Group::One(Some((offset, one))),
-            Imports::Compact1 { module, items } => Group::OfModule(module, items.into_iter_with_offsets()),
-            Imports::Compact2 { module, ty, names } => Group::OfType(module, ty, names.into_iter_with_offsets()),
-        }
-    }
+/// The imports of a group one by one, each with its offset.
+#[derive(Clone, Debug)]
+pub struct ImportsIter<'a>(Left<'a>);
 
-    fn next(&mut self) -> Option<Result<(u64, Import<'a>)>> {
-        match self {
-            Group::One(one) => one.take().map(Ok),
-            Group::OfModule(module, items) => {
+impl<'a> IntoIterator for Imports<'a> {
+    type Item = Result<(u64, Import<'a>)>;
+    type IntoIter = ImportsIter<'a>;
+
+    fn into_iter(self) -> Self::IntoIter {
+        ImportsIter(match self {
+            Imports::Single(offset, one) => Left::One(Some((offset, one))),
+            Imports::Compact1 { module, items } => Left::OfModule(module, items.into_iter_with_offsets()),
+            Imports::Compact2 { module, ty, names } => Left::OfType(module, ty, names.into_iter_with_offsets()),
+        })
+    }
+}
+
+impl<'a> Iterator for ImportsIter<'a> {
+    type Item = Result<(u64, Import<'a>)>;
+
+    fn next(&mut self) -> Option<Self::Item> {
+        match &mut self.0 {
+            Left::One(one) => one.take().map(Ok),
+            Left::OfModule(module, items) => {
                 let module = *module;
                 Some(items.next()?.map(|(offset, item)| (offset, Import { module, name: item.name, ty: item.ty })))
             }
-            Group::OfType(module, ty, names) => {
+            Left::OfType(module, ty, names) => {
                 let (module, ty) = (*module, *ty);
                 Some(names.next()?.map(|(offset, name)| (offset, Import { module, name, ty })))
             }
@@ -129,12 +140,12 @@ impl<'a> Group<'a> {
 
 /// The imports of a section one by one, whatever groups they are in, each with its offset.
 #[derive(Clone, Debug)]
-pub struct IntoImports<'a> {
+pub struct IntoImportsWithOffsets<'a> {
     groups: SectionLimitedIntoIter<'a, Imports<'a>>,
-    group: Group<'a>,
+    group: ImportsIter<'a>,
 }
 
-impl<'a> Iterator for IntoImports<'a> {
+impl<'a> Iterator for IntoImportsWithOffsets<'a> {
     type Item = Result<(u64, Import<'a>)>;
 
     fn next(&mut self) -> Option<Self::Item> {
@@ -143,7 +154,7 @@ impl<'a> Iterator for IntoImports<'a> {
                 return Some(import);
             }
             match self.groups.next()? {
-                Ok(group) => self.group = Group::of(group),
+                Ok(group) => self.group = group.into_iter(),
                 Err(error) => return Some(Err(error)),
             }
         }
@@ -157,7 +168,7 @@ impl<'a> SectionLimited<'a, Imports<'a>> {
     }
 
     /// The same, each with its offset. After a fault inside a group the next group follows.
-    pub fn into_imports_with_offsets(self) -> IntoImports<'a> {
-        IntoImports { groups: self.into_iter(), group: Group::One(None) }
+    pub fn into_imports_with_offsets(self) -> IntoImportsWithOffsets<'a> {
+        IntoImportsWithOffsets { groups: self.into_iter(), group: ImportsIter(Left::One(None)) }
     }
 }

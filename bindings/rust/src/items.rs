@@ -1,7 +1,8 @@
 //! Tables, globals, exports and segments.
+use crate::error::Lead;
 use crate::section::{Window, call};
 use crate::types::{global_type, ref_type, table_type};
-use crate::{FromReader, GlobalType, RefType, Result, SectionLimited, TableType};
+use crate::{BinaryReader, FromReader, GlobalType, RefType, Result, SectionLimited, TableType, ffi};
 use core::ops::Range;
 
 /// A constant expression: its instructions, with the end.
@@ -11,6 +12,16 @@ pub struct ConstExpr<'a> {
 }
 
 impl<'a> ConstExpr<'a> {
+    /// The expression that a reader has left, which isn't looked at.
+    pub fn new(reader: BinaryReader<'a>) -> Self {
+        ConstExpr { window: reader.rest }
+    }
+
+    /// A reader of its bytes.
+    pub fn get_binary_reader(&self) -> BinaryReader<'a> {
+        BinaryReader::of(self.window)
+    }
+
     /// Its offsets.
     pub fn range(&self) -> Range<u64> {
         self.window.range()
@@ -23,10 +34,9 @@ impl<'a> ConstExpr<'a> {
 }
 
 impl<'a> FromReader<'a> for ConstExpr<'a> {
-    fn from_window(window: Window<'a>) -> Result<(Self, u64)> {
-        let plain = call!(pulleynavy_expression, window);
-        let window = Window { bytes: &window.bytes[..plain.consumed as usize], ..window };
-        Ok((ConstExpr { window }, plain.consumed))
+    fn from_reader(reader: &mut BinaryReader<'a>) -> Result<Self> {
+        let (window, plain) = call!(pulleynavy_expression, reader);
+        Ok(ConstExpr { window: window.part(ffi::Span { at: 0, size: plain.consumed }) })
     }
 }
 
@@ -49,10 +59,10 @@ pub enum TableInit<'a> {
 }
 
 impl<'a> FromReader<'a> for Table<'a> {
-    fn from_window(window: Window<'a>) -> Result<(Self, u64)> {
-        let plain = call!(pulleynavy_table, window);
+    fn from_reader(reader: &mut BinaryReader<'a>) -> Result<Self> {
+        let (window, plain) = call!(pulleynavy_table, reader);
         let init = if plain.has_init == 0 { TableInit::RefNull } else { TableInit::Expr(ConstExpr { window: window.part(plain.init) }) };
-        Ok((Table { ty: table_type(plain.ty), init }, plain.consumed))
+        Ok(Table { ty: table_type(plain.ty), init })
     }
 }
 
@@ -66,9 +76,9 @@ pub struct Global<'a> {
 }
 
 impl<'a> FromReader<'a> for Global<'a> {
-    fn from_window(window: Window<'a>) -> Result<(Self, u64)> {
-        let plain = call!(pulleynavy_global, window);
-        Ok((Global { ty: global_type(plain.ty), init_expr: ConstExpr { window: window.part(plain.init) } }, plain.consumed))
+    fn from_reader(reader: &mut BinaryReader<'a>) -> Result<Self> {
+        let (window, plain) = call!(pulleynavy_global, reader);
+        Ok(Global { ty: global_type(plain.ty), init_expr: ConstExpr { window: window.part(plain.init) } })
     }
 }
 
@@ -89,6 +99,29 @@ pub enum ExternalKind {
     FuncExact,
 }
 
+impl<'a> FromReader<'a> for ExternalKind {
+    fn from_reader(reader: &mut BinaryReader<'a>) -> Result<Self> {
+        reader.read_kind(Lead::External, |byte| match byte {
+            0x20 => Some(ExternalKind::FuncExact),
+            byte => ExternalKind::of(byte.into()),
+        })
+    }
+}
+
+impl ExternalKind {
+    /// The kind with this number, which isn't that of an exact function.
+    fn of(number: u32) -> Option<Self> {
+        Some(match number {
+            0 => ExternalKind::Func,
+            1 => ExternalKind::Table,
+            2 => ExternalKind::Memory,
+            3 => ExternalKind::Global,
+            4 => ExternalKind::Tag,
+            _ => return None,
+        })
+    }
+}
+
 /// An export.
 #[derive(Clone, Copy, Debug, PartialEq, Eq, Hash)]
 pub struct Export<'a> {
@@ -101,17 +134,10 @@ pub struct Export<'a> {
 }
 
 impl<'a> FromReader<'a> for Export<'a> {
-    fn from_window(window: Window<'a>) -> Result<(Self, u64)> {
-        let plain = call!(pulleynavy_export, window);
-        let kind = match plain.kind {
-            0 => ExternalKind::Func,
-            1 => ExternalKind::Table,
-            2 => ExternalKind::Memory,
-            3 => ExternalKind::Global,
-            4 => ExternalKind::Tag,
-            _ => ExternalKind::FuncExact,
-        };
-        Ok((Export { name: window.text(plain.name), kind, index: plain.index }, plain.consumed))
+    fn from_reader(reader: &mut BinaryReader<'a>) -> Result<Self> {
+        let (window, plain) = call!(pulleynavy_export, reader);
+        let kind = ExternalKind::of(plain.kind).unwrap_or(ExternalKind::FuncExact);
+        Ok(Export { name: window.text(plain.name), kind, index: plain.index })
     }
 }
 
@@ -152,8 +178,8 @@ pub enum ElementItems<'a> {
 }
 
 impl<'a> FromReader<'a> for Element<'a> {
-    fn from_window(window: Window<'a>) -> Result<(Self, u64)> {
-        let plain = call!(pulleynavy_element, window);
+    fn from_reader(reader: &mut BinaryReader<'a>) -> Result<Self> {
+        let (window, plain) = call!(pulleynavy_element, reader);
         let kind = match plain.kind {
             0 => ElementKind::Passive,
             1 => ElementKind::Active {
@@ -162,13 +188,12 @@ impl<'a> FromReader<'a> for Element<'a> {
             },
             _ => ElementKind::Declared,
         };
-        let items = window.part(plain.items);
         let items = if plain.has_expressions == 0 {
-            ElementItems::Functions(SectionLimited::of(items, plain.count))
+            ElementItems::Functions(SectionLimited::list(window, plain.items, plain.count))
         } else {
-            ElementItems::Expressions(ref_type(plain.ty), SectionLimited::of(items, plain.count))
+            ElementItems::Expressions(ref_type(plain.ty), SectionLimited::list(window, plain.items, plain.count))
         };
-        Ok((Element { kind, items, range: window.offset..window.offset + plain.consumed }, plain.consumed))
+        Ok(Element { kind, items, range: window.offset..reader.original_position() })
     }
 }
 
@@ -198,13 +223,13 @@ pub enum DataKind<'a> {
 }
 
 impl<'a> FromReader<'a> for Data<'a> {
-    fn from_window(window: Window<'a>) -> Result<(Self, u64)> {
-        let plain = call!(pulleynavy_data, window);
+    fn from_reader(reader: &mut BinaryReader<'a>) -> Result<Self> {
+        let (window, plain) = call!(pulleynavy_data, reader);
         let kind = match plain.kind {
             0 => DataKind::Passive,
             _ => DataKind::Active { memory_index: plain.memory, offset_expr: ConstExpr { window: window.part(plain.offset_expression) } },
         };
-        let range = window.offset..window.offset + plain.consumed;
-        Ok((Data { kind, data: window.part(plain.bytes).bytes, range }, plain.consumed))
+        let range = window.offset..reader.original_position();
+        Ok(Data { kind, data: window.part(plain.bytes).bytes, range })
     }
 }

@@ -1,9 +1,9 @@
 //! Custom sections that are known by their names.
-use crate::cores::{CoreDumpInstance, CoreDumpSection, CoreDumpStackSection, CoreModule};
-use crate::linking::{LinkingSectionReader, RelocSectionReader};
-use crate::section::{Window, call};
-use crate::types::passed;
-use crate::{CustomSectionReader, FromReader, Naming, Result, SectionLimited, Subsection, Subsections, ffi};
+use crate::cores::{CoreDumpInstancesSection, CoreDumpModulesSection, CoreDumpSection, CoreDumpStackSection};
+use crate::linking::LinkingSectionReader;
+use crate::relocations::RelocSectionReader;
+use crate::section::{call, list};
+use crate::{BinaryReader, CustomSectionReader, FromReader, NameSectionReader, Result, SectionLimited, Subsection, Subsections, SymbolFlags, ffi};
 use core::ops::Range;
 
 /// A custom section whose data is known, by its name.
@@ -22,9 +22,9 @@ pub enum KnownCustom<'a> {
     /// The section `corestack`.
     CoreDumpStack(CoreDumpStackSection<'a>),
     /// The section `coreinstances`.
-    CoreDumpInstances(SectionLimited<'a, CoreDumpInstance<'a>>),
+    CoreDumpInstances(CoreDumpInstancesSection<'a>),
     /// The section `coremodules`.
-    CoreDumpModules(SectionLimited<'a, CoreModule<'a>>),
+    CoreDumpModules(CoreDumpModulesSection<'a>),
     /// The section `linking`.
     Linking(LinkingSectionReader<'a>),
     /// A section whose name begins with `reloc.`.
@@ -40,143 +40,20 @@ impl<'a> CustomSectionReader<'a> {
     }
 
     fn known(&self) -> Result<KnownCustom<'a>> {
-        let (name, data) = (self.name(), self.window());
+        let (name, data) = (self.name(), self.data_reader());
         // SAFETY: the declaration is made from the sources; pointer and length are those of a text that is borrowed for the call.
         Ok(match unsafe { ffi::pulleynavy_custom_kind(name.as_ptr(), name.len()) } {
-            1 => KnownCustom::Name(NameSectionReader { subsections: self.subsections() }),
-            2 => KnownCustom::BranchHints(SectionLimited::new(data)?),
-            3 => KnownCustom::Producers(SectionLimited::new(data)?),
-            4 => KnownCustom::Dylink0(Dylink0SectionReader { subsections: self.subsections() }),
+            1 => KnownCustom::Name(NameSectionReader::new(data)),
+            2 => KnownCustom::BranchHints(BranchHintSectionReader::new(data)?),
+            3 => KnownCustom::Producers(ProducersSectionReader::new(data)?),
+            4 => KnownCustom::Dylink0(Dylink0SectionReader::new(data)),
             5 => KnownCustom::Linking(LinkingSectionReader::new(data)?),
             6 => KnownCustom::Reloc(RelocSectionReader::new(data)?),
-            7 => KnownCustom::CoreDump(CoreDumpSection::from_window(data)?.0),
-            8 => KnownCustom::CoreDumpModules(SectionLimited::new(data)?),
-            9 => KnownCustom::CoreDumpInstances(SectionLimited::new(data)?),
+            7 => KnownCustom::CoreDump(CoreDumpSection::new(data)?),
+            8 => KnownCustom::CoreDumpModules(CoreDumpModulesSection::new(data)?),
+            9 => KnownCustom::CoreDumpInstances(CoreDumpInstancesSection::new(data)?),
             10 => KnownCustom::CoreDumpStack(CoreDumpStackSection::new(data)?),
             _ => KnownCustom::Unknown,
-        })
-    }
-}
-
-/// A list inside an item, a count and so many items, and how many bytes it takes.
-pub(crate) fn list<'a, T: FromReader<'a>>(window: Window<'a>) -> Result<(SectionLimited<'a, T>, u64)> {
-    let count = call!(pulleynavy_number, window);
-    let items = window.after(count.consumed);
-    let size = passed::<T>(items, count.value as u32)?.offset - items.offset;
-    let part = items.part(ffi::Span { at: 0, size });
-    Ok((SectionLimited::of(part, count.value as u32), count.consumed + size))
-}
-
-/// What an iterator over subsections makes of each.
-macro_rules! subsections {
-    ($(#[$doc:meta])* $reader:ident, $item:ident) => {
-        $(#[$doc])*
-        #[derive(Clone, Debug)]
-        pub struct $reader<'a> {
-            subsections: Subsections<'a>,
-        }
-
-        impl<'a> Iterator for $reader<'a> {
-            type Item = Result<$item<'a>>;
-
-            fn next(&mut self) -> Option<Self::Item> {
-                Some(self.subsections.next()?.and_then($item::of))
-            }
-        }
-    };
-}
-
-pub(crate) use subsections;
-
-// ---- names
-
-/// Names by index. That indices ascend isn't looked at.
-pub type NameMap<'a> = SectionLimited<'a, Naming<'a>>;
-
-/// Names of what indices have, by index. That indices ascend isn't looked at.
-pub type IndirectNameMap<'a> = SectionLimited<'a, IndirectNaming<'a>>;
-
-subsections! {
-    /// The subsections of the section `name`, up to the first fault. That their ids ascend isn't looked at.
-    NameSectionReader, Name
-}
-
-/// An index and the names of what it has.
-#[derive(Clone, Debug)]
-pub struct IndirectNaming<'a> {
-    /// The index of what has the names, as a function.
-    pub index: u32,
-    /// The names of what it has, as of its locals.
-    pub names: NameMap<'a>,
-}
-
-impl<'a> FromReader<'a> for IndirectNaming<'a> {
-    fn from_window(window: Window<'a>) -> Result<(Self, u64)> {
-        let (index, at) = u32::from_window(window)?;
-        let (names, size) = list(window.after(at))?;
-        Ok((IndirectNaming { index, names }, at + size))
-    }
-}
-
-/// A subsection of names.
-#[derive(Clone, Debug)]
-pub enum Name<'a> {
-    /// The name of the module.
-    Module {
-        /// The name.
-        name: &'a str,
-        /// Its offsets, with its size.
-        name_range: Range<u64>,
-    },
-    /// The names of functions.
-    Function(NameMap<'a>),
-    /// The names of locals, by function.
-    Local(IndirectNameMap<'a>),
-    /// The names of labels, by function.
-    Label(IndirectNameMap<'a>),
-    /// The names of types.
-    Type(NameMap<'a>),
-    /// The names of tables.
-    Table(NameMap<'a>),
-    /// The names of memories.
-    Memory(NameMap<'a>),
-    /// The names of globals.
-    Global(NameMap<'a>),
-    /// The names of element segments.
-    Element(NameMap<'a>),
-    /// The names of data segments.
-    Data(NameMap<'a>),
-    /// The names of fields, by type.
-    Field(IndirectNameMap<'a>),
-    /// The names of tags.
-    Tag(NameMap<'a>),
-    /// A subsection with another id.
-    Unknown {
-        /// Its id.
-        ty: u8,
-        /// Its bytes.
-        data: &'a [u8],
-        /// The offsets of its bytes.
-        range: Range<u64>,
-    },
-}
-
-impl<'a> Name<'a> {
-    fn of(part: Subsection<'a>) -> Result<Self> {
-        Ok(match part.id {
-            0 => Name::Module { name: <&str>::from_window(part.contents)?.0, name_range: part.contents.range() },
-            1 => Name::Function(part.items()?),
-            2 => Name::Local(part.items()?),
-            3 => Name::Label(part.items()?),
-            4 => Name::Type(part.items()?),
-            5 => Name::Table(part.items()?),
-            6 => Name::Memory(part.items()?),
-            7 => Name::Global(part.items()?),
-            8 => Name::Element(part.items()?),
-            9 => Name::Data(part.items()?),
-            10 => Name::Field(part.items()?),
-            11 => Name::Tag(part.items()?),
-            ty => Name::Unknown { ty, data: part.contents.bytes, range: part.contents.range() },
         })
     }
 }
@@ -196,10 +73,10 @@ pub struct ProducersField<'a> {
 }
 
 impl<'a> FromReader<'a> for ProducersField<'a> {
-    fn from_window(window: Window<'a>) -> Result<(Self, u64)> {
-        let plain = call!(pulleynavy_producers_field, window);
-        let values = SectionLimited::of(window.part(plain.values), plain.count);
-        Ok((ProducersField { name: window.text(plain.name), values }, plain.consumed))
+    fn from_reader(reader: &mut BinaryReader<'a>) -> Result<Self> {
+        let (window, plain) = call!(pulleynavy_producers_field, reader);
+        let values = SectionLimited::list(window, plain.values, plain.count);
+        Ok(ProducersField { name: window.text(plain.name), values })
     }
 }
 
@@ -213,9 +90,9 @@ pub struct ProducersFieldValue<'a> {
 }
 
 impl<'a> FromReader<'a> for ProducersFieldValue<'a> {
-    fn from_window(window: Window<'a>) -> Result<(Self, u64)> {
-        let plain = call!(pulleynavy_producers_value, window);
-        Ok((ProducersFieldValue { name: window.text(plain.name), version: window.text(plain.version) }, plain.consumed))
+    fn from_reader(reader: &mut BinaryReader<'a>) -> Result<Self> {
+        let (window, plain) = call!(pulleynavy_producers_value, reader);
+        Ok(ProducersFieldValue { name: window.text(plain.name), version: window.text(plain.version) })
     }
 }
 
@@ -232,10 +109,10 @@ pub struct BranchHintFunction<'a> {
 }
 
 impl<'a> FromReader<'a> for BranchHintFunction<'a> {
-    fn from_window(window: Window<'a>) -> Result<(Self, u64)> {
-        let plain = call!(pulleynavy_hinted_function, window);
-        let hints = SectionLimited::of(window.part(plain.hints), plain.count);
-        Ok((BranchHintFunction { func: plain.func, hints }, plain.consumed))
+    fn from_reader(reader: &mut BinaryReader<'a>) -> Result<Self> {
+        let (window, plain) = call!(pulleynavy_hinted_function, reader);
+        let hints = SectionLimited::list(window, plain.hints, plain.count);
+        Ok(BranchHintFunction { func: plain.func, hints })
     }
 }
 
@@ -249,18 +126,16 @@ pub struct BranchHint {
 }
 
 impl<'a> FromReader<'a> for BranchHint {
-    fn from_window(window: Window<'a>) -> Result<(Self, u64)> {
-        let plain = call!(pulleynavy_branch_hint, window);
-        Ok((BranchHint { func_offset: plain.func_offset, taken: plain.taken != 0 }, plain.consumed))
+    fn from_reader(reader: &mut BinaryReader<'a>) -> Result<Self> {
+        let (_, plain) = call!(pulleynavy_branch_hint, reader);
+        Ok(BranchHint { func_offset: plain.func_offset, taken: plain.taken != 0 })
     }
 }
 
 // ---- dynamic linking
 
-subsections! {
-    /// The subsections of the section `dylink.0`, up to the first fault.
-    Dylink0SectionReader, Dylink0Subsection
-}
+/// The subsections of the section `dylink.0`.
+pub type Dylink0SectionReader<'a> = Subsections<'a, Dylink0Subsection<'a>>;
 
 /// A subsection of the section `dylink.0`.
 #[derive(Clone, Debug)]
@@ -275,6 +150,8 @@ pub enum Dylink0Subsection<'a> {
     ImportInfo(SectionLimited<'a, ImportInfo<'a>>),
     /// Where libraries are looked for.
     RuntimePath(SectionLimited<'a, &'a str>),
+    /// The architecture that a library is for.
+    TargetArch(&'a str),
     /// A subsection with another id.
     Unknown {
         /// Its id.
@@ -286,15 +163,18 @@ pub enum Dylink0Subsection<'a> {
     },
 }
 
-impl<'a> Dylink0Subsection<'a> {
-    fn of(part: Subsection<'a>) -> Result<Self> {
-        Ok(match part.id {
-            1 => Dylink0Subsection::MemInfo(MemInfo::from_window(part.contents)?.0),
-            2 => Dylink0Subsection::Needed(part.items()?),
-            3 => Dylink0Subsection::ExportInfo(part.items()?),
-            4 => Dylink0Subsection::ImportInfo(part.items()?),
-            5 => Dylink0Subsection::RuntimePath(part.items()?),
-            ty => Dylink0Subsection::Unknown { ty, data: part.contents.bytes, range: part.contents.range() },
+/// Bytes after what a subsection says are passed over.
+impl<'a> Subsection<'a> for Dylink0Subsection<'a> {
+    fn from_reader(id: u8, mut reader: BinaryReader<'a>) -> Result<Self> {
+        let reader = &mut reader;
+        Ok(match id {
+            1 => Dylink0Subsection::MemInfo(reader.read()?),
+            2 => Dylink0Subsection::Needed(list(reader)?),
+            3 => Dylink0Subsection::ExportInfo(list(reader)?),
+            4 => Dylink0Subsection::ImportInfo(list(reader)?),
+            5 => Dylink0Subsection::RuntimePath(list(reader)?),
+            6 => Dylink0Subsection::TargetArch(reader.read_unlimited_string()?),
+            ty => Dylink0Subsection::Unknown { ty, data: reader.remaining_buffer(), range: reader.remaining_range() },
         })
     }
 }
@@ -313,10 +193,10 @@ pub struct MemInfo {
 }
 
 impl<'a> FromReader<'a> for MemInfo {
-    fn from_window(window: Window<'a>) -> Result<(Self, u64)> {
-        let plain = call!(pulleynavy_dylink_memory, window);
+    fn from_reader(reader: &mut BinaryReader<'a>) -> Result<Self> {
+        let (_, plain) = call!(pulleynavy_dylink_memory, reader);
         let ffi::DylinkMemory { memory_size, memory_alignment, table_size, table_alignment, .. } = plain;
-        Ok((MemInfo { memory_size, memory_alignment, table_size, table_alignment }, plain.consumed))
+        Ok(MemInfo { memory_size, memory_alignment, table_size, table_alignment })
     }
 }
 
@@ -325,14 +205,14 @@ impl<'a> FromReader<'a> for MemInfo {
 pub struct ExportInfo<'a> {
     /// Its name.
     pub name: &'a str,
-    /// Its flags, as those of a symbol.
-    pub flags: u32,
+    /// Its flags.
+    pub flags: SymbolFlags,
 }
 
 impl<'a> FromReader<'a> for ExportInfo<'a> {
-    fn from_window(window: Window<'a>) -> Result<(Self, u64)> {
-        let plain = call!(pulleynavy_dylink_export, window);
-        Ok((ExportInfo { name: window.text(plain.name), flags: plain.flags }, plain.consumed))
+    fn from_reader(reader: &mut BinaryReader<'a>) -> Result<Self> {
+        let (window, plain) = call!(pulleynavy_dylink_export, reader);
+        Ok(ExportInfo { name: window.text(plain.name), flags: SymbolFlags::from_bits_retain(plain.flags) })
     }
 }
 
@@ -343,13 +223,13 @@ pub struct ImportInfo<'a> {
     pub module: &'a str,
     /// Its name there.
     pub field: &'a str,
-    /// Its flags, as those of a symbol.
-    pub flags: u32,
+    /// Its flags.
+    pub flags: SymbolFlags,
 }
 
 impl<'a> FromReader<'a> for ImportInfo<'a> {
-    fn from_window(window: Window<'a>) -> Result<(Self, u64)> {
-        let plain = call!(pulleynavy_dylink_import, window);
-        Ok((ImportInfo { module: window.text(plain.module_name), field: window.text(plain.field), flags: plain.flags }, plain.consumed))
+    fn from_reader(reader: &mut BinaryReader<'a>) -> Result<Self> {
+        let (window, plain) = call!(pulleynavy_dylink_import, reader);
+        Ok(ImportInfo { module: window.text(plain.module_name), field: window.text(plain.field), flags: SymbolFlags::from_bits_retain(plain.flags) })
     }
 }

@@ -27,32 +27,47 @@ mod error;
 #[allow(missing_docs, dead_code)]
 #[rustfmt::skip]
 mod ffi;
+mod flags;
 mod imports;
 mod items;
 mod known;
+mod limits;
 mod linking;
+mod names;
 mod parser;
+mod reader;
+mod relocations;
 mod section;
 mod strip;
 mod types;
 
-pub use cores::{CoreDumpInstance, CoreDumpSection, CoreDumpStackFrame, CoreDumpStackSection, CoreDumpValue, CoreModule};
-pub use custom::{CustomSectionReader, Naming, Subsection, Subsections};
+pub use cores::{
+    CoreDumpInstance, CoreDumpInstancesSection, CoreDumpModulesSection, CoreDumpSection, CoreDumpStackFrame, CoreDumpStackSection, CoreDumpValue, CoreModule,
+};
+pub use custom::{CustomSectionReader, Subsection, Subsections};
 pub use error::{BinaryReaderError, Result};
-pub use imports::{Import, ImportItemCompact, Imports, IntoImports, TypeRef};
+pub use flags::{SegmentFlags, SymbolFlags, WasmFeatures};
+pub use imports::{Import, ImportItemCompact, Imports, ImportsIter, IntoImportsWithOffsets, TypeRef};
 pub use items::{ConstExpr, Data, DataKind, Element, ElementItems, ElementKind, Export, ExternalKind, Global, Table, TableInit};
 pub use known::{
-    BranchHint, BranchHintFunction, BranchHintSectionReader, Dylink0SectionReader, Dylink0Subsection, ExportInfo, ImportInfo, IndirectNameMap, IndirectNaming,
-    KnownCustom, MemInfo, Name, NameMap, NameSectionReader, ProducersField, ProducersFieldValue, ProducersSectionReader,
+    BranchHint, BranchHintFunction, BranchHintSectionReader, Dylink0SectionReader, Dylink0Subsection, ExportInfo, ImportInfo, KnownCustom, MemInfo,
+    ProducersField, ProducersFieldValue, ProducersSectionReader,
 };
+pub use limits::*;
 pub use linking::{
-    Comdat, ComdatSymbol, ComdatSymbolKind, DefinedDataSymbol, InitFunc, Linking, LinkingSectionReader, LinkingSubsections, RelocSectionReader,
-    RelocationEntry, Segment, SymbolInfo,
+    Comdat, ComdatMap, ComdatSymbol, ComdatSymbolKind, DefinedDataSymbol, InitFunc, InitFuncMap, Linking, LinkingSectionReader, Segment, SegmentMap,
+    SymbolInfo, SymbolInfoMap,
 };
-pub use parser::{Chunk, Encoding, FunctionBody, ParseAll, Parser, Payload, WasmFeatures};
-pub use section::{FromReader, SectionLimited, SectionLimitedIntoIter, SectionLimitedIntoIterWithOffsets, Window};
+pub use names::{IndirectNameMap, IndirectNaming, Name, NameMap, NameSectionReader, Naming};
+pub use parser::{
+    Chunk, DataSectionReader, ElementSectionReader, Encoding, ExportSectionReader, FunctionBody, FunctionSectionReader, GlobalSectionReader,
+    ImportSectionReader, MemorySectionReader, ParseAll, Parser, Payload, TableSectionReader, TagSectionReader, TypeSectionReader,
+};
+pub use reader::BinaryReader;
+pub use relocations::{RelocAddendKind, RelocSectionReader, RelocationEntry, RelocationEntryReader, RelocationType};
+pub use section::{FromReader, SectionLimited, SectionLimitedIntoIter, SectionLimitedIntoIterWithOffsets};
 pub use strip::strip;
 pub use types::{
-    CompositeType, FieldType, FieldTypes, FuncType, GlobalType, HeapType, MemoryType, RecGroup, RefType, StorageType, SubType, SubTypes, TableType, TagType,
-    ValType, ValTypes,
+    CompositeType, FieldType, FieldTypes, FuncType, GlobalType, HeapType, MemoryType, RecGroup, RefType, StorageType, SubType, SubTypes, TableType, TagKind,
+    TagType, ValType, ValTypes,
 };

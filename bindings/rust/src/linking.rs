@@ -1,20 +1,26 @@
 //! Sections for linkers.
-use crate::known::subsections;
-use crate::section::{Window, call};
-use crate::{FromReader, Result, SectionLimited, Subsection, Subsections, ffi};
+use crate::error::Lead;
+use crate::section::call;
+use crate::{BinaryReader, FromReader, Result, SectionLimited, SegmentFlags, Subsection, Subsections, SymbolFlags};
 use core::ops::Range;
 
 /// The section `linking`.
 #[derive(Clone, Debug)]
 pub struct LinkingSectionReader<'a> {
     version: u32,
-    rest: Window<'a>,
+    range: Range<u64>,
+    subsections: Subsections<'a, Linking<'a>>,
 }
 
 impl<'a> LinkingSectionReader<'a> {
-    pub(crate) fn new(window: Window<'a>) -> Result<Self> {
-        let plain = call!(pulleynavy_linking_version, window);
-        Ok(LinkingSectionReader { version: plain.value as u32, rest: window.after(plain.consumed) })
+    /// The section that a reader has left.
+    ///
+    /// # Errors
+    /// The fault of the version.
+    pub fn new(mut reader: BinaryReader<'a>) -> Result<Self> {
+        let range = reader.remaining_range();
+        let (_, plain) = call!(pulleynavy_linking_version, reader);
+        Ok(LinkingSectionReader { version: plain.value as u32, range, subsections: Subsections::new(reader.shrink()) })
     }
 
     /// Its version, which is 2.
@@ -22,37 +28,53 @@ impl<'a> LinkingSectionReader<'a> {
         self.version
     }
 
+    /// The offset at which its subsections begin.
+    pub fn original_position(&self) -> u64 {
+        self.subsections.original_position()
+    }
+
+    /// The offsets of its bytes, the version among them.
+    pub fn range(&self) -> Range<u64> {
+        self.range.clone()
+    }
+
     /// Its subsections.
-    pub fn subsections(&self) -> LinkingSubsections<'a> {
-        LinkingSubsections { subsections: Subsections::of(self.rest) }
+    pub fn subsections(&self) -> Subsections<'a, Linking<'a>> {
+        self.subsections.clone()
     }
 }
 
 impl<'a> IntoIterator for LinkingSectionReader<'a> {
     type Item = Result<Linking<'a>>;
-    type IntoIter = LinkingSubsections<'a>;
+    type IntoIter = Subsections<'a, Linking<'a>>;
 
     fn into_iter(self) -> Self::IntoIter {
-        self.subsections()
+        self.subsections
     }
 }
 
-subsections! {
-    /// The subsections of the section `linking`, up to the first fault.
-    LinkingSubsections, Linking
-}
+/// What is said of data segments.
+pub type SegmentMap<'a> = SectionLimited<'a, Segment<'a>>;
+/// The functions that are called at first.
+pub type InitFuncMap<'a> = SectionLimited<'a, InitFunc>;
+/// Comdats.
+pub type ComdatMap<'a> = SectionLimited<'a, Comdat<'a>>;
+/// Symbols.
+pub type SymbolInfoMap<'a> = SectionLimited<'a, SymbolInfo<'a>>;
 
 /// A subsection of the section `linking`.
 #[derive(Clone, Debug)]
 pub enum Linking<'a> {
     /// What is said of data segments.
-    SegmentInfo(SectionLimited<'a, Segment<'a>>),
+    SegmentInfo(SegmentMap<'a>),
     /// The functions that are called at first.
-    InitFuncs(SectionLimited<'a, InitFunc>),
+    InitFuncs(InitFuncMap<'a>),
     /// The comdats.
-    ComdatInfo(SectionLimited<'a, Comdat<'a>>),
+    ComdatInfo(ComdatMap<'a>),
     /// The symbols.
-    SymbolTable(SectionLimited<'a, SymbolInfo<'a>>),
+    SymbolTable(SymbolInfoMap<'a>),
+    /// The architecture that the code is for.
+    TargetArch(&'a str),
     /// A subsection with another id.
     Unknown {
         /// Its id.
@@ -64,14 +86,16 @@ pub enum Linking<'a> {
     },
 }
 
-impl<'a> Linking<'a> {
-    fn of(part: Subsection<'a>) -> Result<Self> {
-        Ok(match part.id {
-            5 => Linking::SegmentInfo(part.items()?),
-            6 => Linking::InitFuncs(part.items()?),
-            7 => Linking::ComdatInfo(part.items()?),
-            8 => Linking::SymbolTable(part.items()?),
-            ty => Linking::Unknown { ty, data: part.contents.bytes, range: part.contents.range() },
+impl<'a> Subsection<'a> for Linking<'a> {
+    fn from_reader(id: u8, mut reader: BinaryReader<'a>) -> Result<Self> {
+        Ok(match id {
+            5 => Linking::SegmentInfo(SectionLimited::new(reader)?),
+            6 => Linking::InitFuncs(SectionLimited::new(reader)?),
+            7 => Linking::ComdatInfo(SectionLimited::new(reader)?),
+            8 => Linking::SymbolTable(SectionLimited::new(reader)?),
+            // Bytes after the name are passed over.
+            9 => Linking::TargetArch(reader.read_string()?),
+            ty => Linking::Unknown { ty, data: reader.remaining_buffer(), range: reader.remaining_range() },
         })
     }
 }
@@ -83,14 +107,14 @@ pub struct Segment<'a> {
     pub name: &'a str,
     /// Its alignment, as a power of two.
     pub alignment: u32,
-    /// Its flags: 1 for strings, 2 for thread-local data, 4 for one that is kept.
-    pub flags: u32,
+    /// Its flags.
+    pub flags: SegmentFlags,
 }
 
 impl<'a> FromReader<'a> for Segment<'a> {
-    fn from_window(window: Window<'a>) -> Result<(Self, u64)> {
-        let plain = call!(pulleynavy_linking_segment, window);
-        Ok((Segment { name: window.text(plain.name), alignment: plain.alignment, flags: plain.flags }, plain.consumed))
+    fn from_reader(reader: &mut BinaryReader<'a>) -> Result<Self> {
+        let (window, plain) = call!(pulleynavy_linking_segment, reader);
+        Ok(Segment { name: window.text(plain.name), alignment: plain.alignment, flags: SegmentFlags::from_bits_retain(plain.flags) })
     }
 }
 
@@ -104,9 +128,9 @@ pub struct InitFunc {
 }
 
 impl<'a> FromReader<'a> for InitFunc {
-    fn from_window(window: Window<'a>) -> Result<(Self, u64)> {
-        let plain = call!(pulleynavy_init_function, window);
-        Ok((InitFunc { priority: plain.priority, symbol_index: plain.symbol }, plain.consumed))
+    fn from_reader(reader: &mut BinaryReader<'a>) -> Result<Self> {
+        let (_, plain) = call!(pulleynavy_init_function, reader);
+        Ok(InitFunc { priority: plain.priority, symbol_index: plain.symbol })
     }
 }
 
@@ -122,10 +146,10 @@ pub struct Comdat<'a> {
 }
 
 impl<'a> FromReader<'a> for Comdat<'a> {
-    fn from_window(window: Window<'a>) -> Result<(Self, u64)> {
-        let plain = call!(pulleynavy_comdat, window);
-        let symbols = SectionLimited::of(window.part(plain.symbols), plain.count);
-        Ok((Comdat { name: window.text(plain.name), flags: plain.flags, symbols }, plain.consumed))
+    fn from_reader(reader: &mut BinaryReader<'a>) -> Result<Self> {
+        let (window, plain) = call!(pulleynavy_comdat, reader);
+        let symbols = SectionLimited::list(window, plain.symbols, plain.count);
+        Ok(Comdat { name: window.text(plain.name), flags: plain.flags, symbols })
     }
 }
 
@@ -155,38 +179,50 @@ pub enum ComdatSymbolKind {
     Section,
 }
 
-impl<'a> FromReader<'a> for ComdatSymbol {
-    fn from_window(window: Window<'a>) -> Result<(Self, u64)> {
-        let plain = call!(pulleynavy_comdat_symbol, window);
-        let kind = match plain.kind {
+impl ComdatSymbolKind {
+    /// The kind with this number.
+    fn of(number: u32) -> Option<Self> {
+        Some(match number {
             0 => ComdatSymbolKind::Data,
             1 => ComdatSymbolKind::Func,
             2 => ComdatSymbolKind::Global,
             3 => ComdatSymbolKind::Event,
             4 => ComdatSymbolKind::Table,
-            _ => ComdatSymbolKind::Section,
-        };
-        Ok((ComdatSymbol { kind, index: plain.index }, plain.consumed))
+            5 => ComdatSymbolKind::Section,
+            _ => return None,
+        })
     }
 }
 
-/// A symbol. Its flags are 1 weak, 2 local, 4 hidden, 16 undefined, 32 exported, 64 a name of its own, 128 kept, 256 thread-local,
-/// 512 absolute.
+impl<'a> FromReader<'a> for ComdatSymbolKind {
+    fn from_reader(reader: &mut BinaryReader<'a>) -> Result<Self> {
+        reader.read_kind(Lead::ComdatSymbol, |byte| ComdatSymbolKind::of(byte.into()))
+    }
+}
+
+impl<'a> FromReader<'a> for ComdatSymbol {
+    fn from_reader(reader: &mut BinaryReader<'a>) -> Result<Self> {
+        let (_, plain) = call!(pulleynavy_comdat_symbol, reader);
+        Ok(ComdatSymbol { kind: ComdatSymbolKind::of(plain.kind).expect("the library refuses other kinds"), index: plain.index })
+    }
+}
+
+/// A symbol.
 #[derive(Clone, Copy, Debug, PartialEq, Eq, Hash)]
 #[allow(missing_docs)]
 pub enum SymbolInfo<'a> {
     /// A function, by its index.
-    Func { flags: u32, index: u32, name: Option<&'a str> },
+    Func { flags: SymbolFlags, index: u32, name: Option<&'a str> },
     /// Data, and where it is if it is defined.
-    Data { flags: u32, name: &'a str, symbol: Option<DefinedDataSymbol> },
+    Data { flags: SymbolFlags, name: &'a str, symbol: Option<DefinedDataSymbol> },
     /// A global, by its index.
-    Global { flags: u32, index: u32, name: Option<&'a str> },
+    Global { flags: SymbolFlags, index: u32, name: Option<&'a str> },
     /// A section, by its index.
-    Section { flags: u32, section: u32 },
+    Section { flags: SymbolFlags, section: u32 },
     /// An event, by its index.
-    Event { flags: u32, index: u32, name: Option<&'a str> },
+    Event { flags: SymbolFlags, index: u32, name: Option<&'a str> },
     /// A table, by its index.
-    Table { flags: u32, index: u32, name: Option<&'a str> },
+    Table { flags: SymbolFlags, index: u32, name: Option<&'a str> },
 }
 
 /// Where data is that is defined.
@@ -200,10 +236,16 @@ pub struct DefinedDataSymbol {
     pub size: u32,
 }
 
+impl<'a> FromReader<'a> for DefinedDataSymbol {
+    fn from_reader(reader: &mut BinaryReader<'a>) -> Result<Self> {
+        Ok(DefinedDataSymbol { index: reader.read()?, offset: reader.read()?, size: reader.read()? })
+    }
+}
+
 impl<'a> FromReader<'a> for SymbolInfo<'a> {
-    fn from_window(window: Window<'a>) -> Result<(Self, u64)> {
-        let plain = call!(pulleynavy_symbol, window);
-        let ffi::Symbol { flags, index, .. } = plain;
+    fn from_reader(reader: &mut BinaryReader<'a>) -> Result<Self> {
+        let (window, plain) = call!(pulleynavy_symbol, reader);
+        let (flags, index) = (SymbolFlags::from_bits_retain(plain.flags), plain.index);
         let name = (plain.has_name != 0).then(|| window.text(plain.name));
         let place = DefinedDataSymbol { index, offset: plain.data_offset, size: plain.data_size };
         let symbol = match plain.kind {
@@ -214,59 +256,6 @@ impl<'a> FromReader<'a> for SymbolInfo<'a> {
             4 => SymbolInfo::Event { flags, index, name },
             _ => SymbolInfo::Table { flags, index, name },
         };
-        Ok((symbol, plain.consumed))
-    }
-}
-
-/// A section whose name begins with `reloc.`.
-#[derive(Clone, Debug)]
-pub struct RelocSectionReader<'a> {
-    section: u32,
-    entries: SectionLimited<'a, RelocationEntry>,
-}
-
-impl<'a> RelocSectionReader<'a> {
-    pub(crate) fn new(window: Window<'a>) -> Result<Self> {
-        let (section, at) = u32::from_window(window)?;
-        Ok(RelocSectionReader { section, entries: SectionLimited::new(window.after(at))? })
-    }
-
-    /// The index of the section that the relocations are of.
-    pub fn section_index(&self) -> u32 {
-        self.section
-    }
-
-    /// The relocations.
-    pub fn entries(&self) -> SectionLimited<'a, RelocationEntry> {
-        self.entries.clone()
-    }
-}
-
-/// A relocation.
-#[derive(Clone, Copy, Debug, PartialEq, Eq, Hash)]
-pub struct RelocationEntry {
-    /// The number of its type, from 0 to 26.
-    pub ty: u8,
-    /// Where it fills in, in bytes from the start of the content of its section.
-    pub offset: u32,
-    /// The index of its symbol, or of its type.
-    pub index: u32,
-    /// What is added to the value of the symbol, or 0.
-    pub addend: i64,
-    extent: u32,
-}
-
-impl RelocationEntry {
-    /// Which bytes it fills in, from the start of the content of its section.
-    pub fn relocation_range(&self) -> Range<usize> {
-        self.offset as usize..self.offset as usize + self.extent as usize
-    }
-}
-
-impl<'a> FromReader<'a> for RelocationEntry {
-    fn from_window(window: Window<'a>) -> Result<(Self, u64)> {
-        let plain = call!(pulleynavy_relocation, window);
-        let ffi::Relocation { offset, index, addend, extent, .. } = plain;
-        Ok((RelocationEntry { ty: plain.kind as u8, offset, index, addend, extent }, plain.consumed))
+        Ok(symbol)
     }
 }

@@ -1,34 +1,32 @@
 //! The parser.
-use crate::ffi;
 use crate::section::Window;
-use crate::{BinaryReaderError, CustomSectionReader, Data, Element, Export, Global, Imports, MemoryType, RecGroup, Result, SectionLimited, Table, TagType};
+use crate::{
+    BinaryReader, BinaryReaderError, CustomSectionReader, Data, Element, Export, Global, Imports, MemoryType, RecGroup, Result, SectionLimited, Table, TagType,
+    WasmFeatures, ffi,
+};
+use core::fmt;
 use core::ops::Range;
 
-/// Features, as a set of flags.
-#[derive(Clone, Copy, Debug, PartialEq, Eq, Hash)]
-pub struct WasmFeatures(u32);
-
-impl WasmFeatures {
-    /// Memories and tables of 64 bits.
-    pub const MEMORY64: WasmFeatures = WasmFeatures(1);
-    /// Groups of imports.
-    pub const COMPACT_IMPORTS: WasmFeatures = WasmFeatures(2);
-
-    /// All features.
-    pub const fn all() -> Self {
-        WasmFeatures(3)
-    }
-
-    /// No features.
-    pub const fn empty() -> Self {
-        WasmFeatures(0)
-    }
-
-    /// The flags.
-    pub const fn bits(self) -> u32 {
-        self.0
-    }
-}
+/// The type section.
+pub type TypeSectionReader<'a> = SectionLimited<'a, RecGroup<'a>>;
+/// The import section.
+pub type ImportSectionReader<'a> = SectionLimited<'a, Imports<'a>>;
+/// The function section: the indices of the functions' types.
+pub type FunctionSectionReader<'a> = SectionLimited<'a, u32>;
+/// The table section.
+pub type TableSectionReader<'a> = SectionLimited<'a, Table<'a>>;
+/// The memory section.
+pub type MemorySectionReader<'a> = SectionLimited<'a, MemoryType>;
+/// The tag section.
+pub type TagSectionReader<'a> = SectionLimited<'a, TagType>;
+/// The global section.
+pub type GlobalSectionReader<'a> = SectionLimited<'a, Global<'a>>;
+/// The export section.
+pub type ExportSectionReader<'a> = SectionLimited<'a, Export<'a>>;
+/// The element section.
+pub type ElementSectionReader<'a> = SectionLimited<'a, Element<'a>>;
+/// The data section.
+pub type DataSectionReader<'a> = SectionLimited<'a, Data<'a>>;
 
 /// What a header announces.
 #[derive(Clone, Copy, Debug, PartialEq, Eq, Hash)]
@@ -46,6 +44,16 @@ pub struct FunctionBody<'a> {
 }
 
 impl<'a> FunctionBody<'a> {
+    /// The body that a reader has left, which isn't looked at.
+    pub fn new(reader: BinaryReader<'a>) -> Self {
+        FunctionBody { window: reader.rest }
+    }
+
+    /// A reader of its bytes.
+    pub fn get_binary_reader(&self) -> BinaryReader<'a> {
+        BinaryReader::of(self.window)
+    }
+
     /// Its offsets.
     pub fn range(&self) -> Range<u64> {
         self.window.range()
@@ -58,7 +66,7 @@ impl<'a> FunctionBody<'a> {
 }
 
 /// What comes next in a stream.
-#[derive(Clone, Debug)]
+#[derive(Clone)]
 #[non_exhaustive]
 pub enum Payload<'a> {
     /// The header.
@@ -71,21 +79,21 @@ pub enum Payload<'a> {
         range: Range<u64>,
     },
     /// The type section.
-    TypeSection(SectionLimited<'a, RecGroup<'a>>),
+    TypeSection(TypeSectionReader<'a>),
     /// The import section.
-    ImportSection(SectionLimited<'a, Imports<'a>>),
+    ImportSection(ImportSectionReader<'a>),
     /// The function section.
-    FunctionSection(SectionLimited<'a, u32>),
+    FunctionSection(FunctionSectionReader<'a>),
     /// The table section.
-    TableSection(SectionLimited<'a, Table<'a>>),
+    TableSection(TableSectionReader<'a>),
     /// The memory section.
-    MemorySection(SectionLimited<'a, MemoryType>),
+    MemorySection(MemorySectionReader<'a>),
     /// The tag section.
-    TagSection(SectionLimited<'a, TagType>),
+    TagSection(TagSectionReader<'a>),
     /// The global section.
-    GlobalSection(SectionLimited<'a, Global<'a>>),
+    GlobalSection(GlobalSectionReader<'a>),
     /// The export section.
-    ExportSection(SectionLimited<'a, Export<'a>>),
+    ExportSection(ExportSectionReader<'a>),
     /// The start section.
     StartSection {
         /// The index of the function that is called first.
@@ -94,7 +102,7 @@ pub enum Payload<'a> {
         range: Range<u64>,
     },
     /// The element section.
-    ElementSection(SectionLimited<'a, Element<'a>>),
+    ElementSection(ElementSectionReader<'a>),
     /// The data count section.
     DataCountSection {
         /// How many data segments there are.
@@ -103,7 +111,7 @@ pub enum Payload<'a> {
         range: Range<u64>,
     },
     /// The data section.
-    DataSection(SectionLimited<'a, Data<'a>>),
+    DataSection(DataSectionReader<'a>),
     /// The start of the code section.
     CodeSectionStart {
         /// How many bodies come.
@@ -128,6 +136,71 @@ pub enum Payload<'a> {
     },
     /// The end of the stream, at this offset.
     End(u64),
+}
+
+impl Payload<'_> {
+    /// The id of a section and the offsets of its content, of a code section where it starts. What is no section has none.
+    pub fn as_section(&self) -> Option<(u8, Range<u64>)> {
+        Some(match self {
+            Payload::Version { .. } | Payload::CodeSectionEntry(_) | Payload::End(_) => return None,
+            Payload::CustomSection(section) => (0, section.range()),
+            Payload::TypeSection(section) => (1, section.range()),
+            Payload::ImportSection(section) => (2, section.range()),
+            Payload::FunctionSection(section) => (3, section.range()),
+            Payload::TableSection(section) => (4, section.range()),
+            Payload::MemorySection(section) => (5, section.range()),
+            Payload::GlobalSection(section) => (6, section.range()),
+            Payload::ExportSection(section) => (7, section.range()),
+            Payload::StartSection { range, .. } => (8, range.clone()),
+            Payload::ElementSection(section) => (9, section.range()),
+            Payload::CodeSectionStart { range, .. } => (10, range.clone()),
+            Payload::DataSection(section) => (11, section.range()),
+            Payload::DataCountSection { range, .. } => (12, range.clone()),
+            Payload::TagSection(section) => (13, section.range()),
+            Payload::UnknownSection { id, range, .. } => (*id, range.clone()),
+        })
+    }
+
+    /// The name of the variant.
+    fn word(&self) -> &'static str {
+        match self {
+            Payload::Version { .. } => "Version",
+            Payload::TypeSection(_) => "TypeSection",
+            Payload::ImportSection(_) => "ImportSection",
+            Payload::FunctionSection(_) => "FunctionSection",
+            Payload::TableSection(_) => "TableSection",
+            Payload::MemorySection(_) => "MemorySection",
+            Payload::TagSection(_) => "TagSection",
+            Payload::GlobalSection(_) => "GlobalSection",
+            Payload::ExportSection(_) => "ExportSection",
+            Payload::StartSection { .. } => "StartSection",
+            Payload::ElementSection(_) => "ElementSection",
+            Payload::DataCountSection { .. } => "DataCountSection",
+            Payload::DataSection(_) => "DataSection",
+            Payload::CodeSectionStart { .. } => "CodeSectionStart",
+            Payload::CodeSectionEntry(_) => "CodeSectionEntry",
+            Payload::CustomSection(_) => "CustomSection",
+            Payload::UnknownSection { .. } => "UnknownSection",
+            Payload::End(_) => "End",
+        }
+    }
+}
+
+/// Counted sections, bodies and contents aren't shown.
+impl fmt::Debug for Payload<'_> {
+    fn fmt(&self, f: &mut fmt::Formatter<'_>) -> fmt::Result {
+        let word = self.word();
+        match self {
+            Payload::Version { num, encoding, range } => f.debug_struct(word).field("num", num).field("encoding", encoding).field("range", range).finish(),
+            Payload::StartSection { func, range } => f.debug_struct(word).field("func", func).field("range", range).finish(),
+            Payload::DataCountSection { count, range } => f.debug_struct(word).field("count", count).field("range", range).finish(),
+            Payload::CodeSectionStart { count, range, size } => f.debug_struct(word).field("count", count).field("range", range).field("size", size).finish(),
+            Payload::CustomSection(section) => f.debug_tuple(word).field(section).finish(),
+            Payload::UnknownSection { id, range, .. } => f.debug_struct(word).field("id", id).field("range", range).finish(),
+            Payload::End(offset) => f.debug_tuple(word).field(offset).finish(),
+            _ => f.debug_tuple(word).field(&"...").finish(),
+        }
+    }
 }
 
 /// What `parse` answers.
@@ -161,6 +234,24 @@ impl Parser {
         Parser(unsafe { ffi::pulleynavy_parser(offset, WasmFeatures::all().bits()) })
     }
 
+    /// Whether bytes begin with the header of a module.
+    pub fn is_core_wasm(bytes: &[u8]) -> bool {
+        bytes.starts_with(b"\0asm\x01\0\0\0")
+    }
+
+    /// Whether bytes begin with the header of a component.
+    pub fn is_component(bytes: &[u8]) -> bool {
+        bytes.starts_with(b"\0asm\x0d\0\x01\0")
+    }
+
+    /// A reader of bytes that are at this offset of the whole stream, with the features of what comes next.
+    ///
+    /// # Panics
+    /// If the bytes pass the offset 2^64 - 1.
+    pub fn binary_reader<'a>(&self, bytes: &'a [u8], offset: u64) -> BinaryReader<'a> {
+        BinaryReader::new_features(bytes, offset, self.features())
+    }
+
     /// The offset of what comes next.
     pub fn offset(&self) -> u64 {
         self.0.offset
@@ -168,7 +259,7 @@ impl Parser {
 
     /// The features of what comes next.
     pub fn features(&self) -> WasmFeatures {
-        WasmFeatures(self.0.features)
+        WasmFeatures::from_bits_retain(self.0.features)
     }
 
     /// Sets the features of what comes next.
@@ -189,6 +280,11 @@ impl Parser {
             10 => Err(BinaryReaderError::new(event.fault)),
             _ => Ok(Chunk::Parsed { consumed: event.consumed as usize, payload: payload(before, &event)? }),
         }
+    }
+
+    /// How many bytes are left of a code section, from its start until the next payload that is no body.
+    pub fn skippable(&self) -> Option<u32> {
+        (self.0.in_code != 0).then_some(self.0.code_bytes)
     }
 
     /// Passes what is left of a code section: the caller hands in the bytes after it next. Elsewhere it passes nothing.
@@ -219,7 +315,7 @@ fn payload<'a>(before: Window<'a>, event: &ffi::Event) -> Result<Payload<'a>> {
         4 => Payload::DataCountSection { count: event.count, range },
         5 => Payload::CodeSectionStart { count: event.count, range, size: event.size },
         6 => Payload::CodeSectionEntry(FunctionBody { window }),
-        7 => Payload::CustomSection(CustomSectionReader::new(window, event.data_offset, event.name_size)),
+        7 => Payload::CustomSection(CustomSectionReader::of(window, event.data_offset, event.name_size)),
         9 => Payload::End(event.start),
         _ => Payload::UnknownSection { id: event.id as u8, contents: window.bytes, range },
     })
@@ -227,17 +323,18 @@ fn payload<'a>(before: Window<'a>, event: &ffi::Event) -> Result<Payload<'a>> {
 
 /// A section that begins with a count.
 fn counted(id: u32, window: Window<'_>) -> Result<Payload<'_>> {
+    let reader = BinaryReader::of(window);
     Ok(match id {
-        1 => Payload::TypeSection(SectionLimited::new(window)?),
-        2 => Payload::ImportSection(SectionLimited::new(window)?),
-        3 => Payload::FunctionSection(SectionLimited::new(window)?),
-        4 => Payload::TableSection(SectionLimited::new(window)?),
-        5 => Payload::MemorySection(SectionLimited::new(window)?),
-        6 => Payload::GlobalSection(SectionLimited::new(window)?),
-        7 => Payload::ExportSection(SectionLimited::new(window)?),
-        9 => Payload::ElementSection(SectionLimited::new(window)?),
-        11 => Payload::DataSection(SectionLimited::new(window)?),
-        13 => Payload::TagSection(SectionLimited::new(window)?),
+        1 => Payload::TypeSection(SectionLimited::new(reader)?),
+        2 => Payload::ImportSection(SectionLimited::new(reader)?),
+        3 => Payload::FunctionSection(SectionLimited::new(reader)?),
+        4 => Payload::TableSection(SectionLimited::new(reader)?),
+        5 => Payload::MemorySection(SectionLimited::new(reader)?),
+        6 => Payload::GlobalSection(SectionLimited::new(reader)?),
+        7 => Payload::ExportSection(SectionLimited::new(reader)?),
+        9 => Payload::ElementSection(SectionLimited::new(reader)?),
+        11 => Payload::DataSection(SectionLimited::new(reader)?),
+        13 => Payload::TagSection(SectionLimited::new(reader)?),
         _ => Payload::UnknownSection { id: id as u8, contents: window.bytes, range: window.range() },
     })
 }

@@ -1,24 +1,21 @@
 //! Counted items in a window.
-use crate::{BinaryReaderError, Result, ffi};
+use crate::error::{INVALID_BOOL, SIZE_MISMATCH};
+use crate::{BinaryReader, BinaryReaderError, Result, ffi};
+use core::fmt;
 use core::marker::PhantomData;
 use core::ops::Range;
 
 /// A run of a stream's bytes, with its offset in the stream and the features that are taken in it.
 #[derive(Clone, Copy, Debug)]
-pub struct Window<'a> {
+pub(crate) struct Window<'a> {
     pub(crate) bytes: &'a [u8],
     pub(crate) offset: u64,
     pub(crate) features: u32,
 }
 
 impl<'a> Window<'a> {
-    /// The bytes.
-    pub fn bytes(&self) -> &'a [u8] {
-        self.bytes
-    }
-
     /// Its offsets.
-    pub fn range(&self) -> Range<u64> {
+    pub(crate) fn range(&self) -> Range<u64> {
         self.offset..self.offset + self.bytes.len() as u64
     }
 
@@ -39,44 +36,64 @@ impl<'a> Window<'a> {
     }
 }
 
-/// Calls the library for what a window begins with.
+/// Calls the library for what a reader stands at, and passes over it: what was left before, and what the library answered.
 macro_rules! call {
-    ($name:ident, $window:expr) => {{
-        let window = $window;
+    ($name:ident, $reader:expr) => {{
+        let window = $reader.rest;
         // SAFETY: the declaration is made from the sources; pointer and length are those of a slice that is borrowed for the call.
         let plain = unsafe { crate::ffi::$name(window.bytes.as_ptr(), window.bytes.len(), window.offset, window.features) };
         if plain.fault.kind != 0 {
             return Err(crate::BinaryReaderError::new(plain.fault));
         }
-        plain
+        $reader.rest = window.after(plain.consumed);
+        (window, plain)
     }};
 }
 pub(crate) use call;
 
-/// What the items of a section can be read as.
+/// What can be read where a reader stands.
 pub trait FromReader<'a>: Sized {
-    /// Reads the item with which a window begins: the item, and how many bytes it takes.
-    fn from_window(window: Window<'a>) -> Result<(Self, u64)>;
+    /// Reads the next item, and passes over it.
+    ///
+    /// # Errors
+    /// The fault of the item.
+    fn from_reader(reader: &mut BinaryReader<'a>) -> Result<Self>;
 }
 
 /// A u32.
 impl<'a> FromReader<'a> for u32 {
-    fn from_window(window: Window<'a>) -> Result<(Self, u64)> {
-        let plain = call!(pulleynavy_number, window);
-        Ok((plain.value as u32, plain.consumed))
+    fn from_reader(reader: &mut BinaryReader<'a>) -> Result<Self> {
+        reader.read_var_u32()
     }
 }
 
 /// A name of at most 100,000 bytes.
 impl<'a> FromReader<'a> for &'a str {
-    fn from_window(window: Window<'a>) -> Result<(Self, u64)> {
-        let plain = call!(pulleynavy_name, window);
-        Ok((window.text(plain.name), plain.consumed))
+    fn from_reader(reader: &mut BinaryReader<'a>) -> Result<Self> {
+        reader.read_string()
+    }
+}
+
+/// A byte that is 0 or 1.
+impl<'a> FromReader<'a> for bool {
+    fn from_reader(reader: &mut BinaryReader<'a>) -> Result<Self> {
+        let offset = reader.original_position();
+        match reader.read_u8()? {
+            0 => Ok(false),
+            1 => Ok(true),
+            _ => Err(BinaryReaderError::of_kind(INVALID_BOOL, offset)),
+        }
+    }
+}
+
+/// One item, and another after it.
+impl<'a, T: FromReader<'a>, U: FromReader<'a>> FromReader<'a> for (T, U) {
+    fn from_reader(reader: &mut BinaryReader<'a>) -> Result<Self> {
+        Ok((reader.read()?, reader.read()?))
     }
 }
 
 /// A window with a count of items.
-#[derive(Debug)]
 pub struct SectionLimited<'a, T> {
     whole: Range<u64>,
     rest: Window<'a>,
@@ -86,20 +103,34 @@ pub struct SectionLimited<'a, T> {
 
 impl<T> Clone for SectionLimited<'_, T> {
     fn clone(&self) -> Self {
-        SectionLimited { whole: self.whole.clone(), rest: self.rest, count: self.count, item: PhantomData }
+        SectionLimited { whole: self.whole.clone(), ..*self }
+    }
+}
+
+impl<T> fmt::Debug for SectionLimited<'_, T> {
+    fn fmt(&self, f: &mut fmt::Formatter<'_>) -> fmt::Result {
+        f.debug_struct("SectionLimited").field("count", &self.count).field("range", &self.range()).finish()
     }
 }
 
 impl<'a, T> SectionLimited<'a, T> {
-    /// A window that begins with its count.
-    pub(crate) fn new(window: Window<'a>) -> Result<Self> {
-        let count = call!(pulleynavy_number, window);
-        Ok(SectionLimited { whole: window.range(), rest: window.after(count.consumed), count: count.value as u32, item: PhantomData })
+    /// What a reader has left: a count and so many items.
+    ///
+    /// # Errors
+    /// The fault of the count.
+    pub fn new(mut reader: BinaryReader<'a>) -> Result<Self> {
+        let whole = reader.remaining_range();
+        let count = reader.read_var_u32()?;
+        Ok(SectionLimited { whole, rest: reader.rest, count, item: PhantomData })
     }
 
-    /// So many items, which a window begins with.
-    pub(crate) fn of(rest: Window<'a>, count: u32) -> Self {
-        SectionLimited { whole: rest.range(), rest, count, item: PhantomData }
+    /// A list in a window: so many items, which come after their count.
+    pub(crate) fn list(window: Window<'a>, items: ffi::Span, count: u32) -> Self {
+        let rest = window.part(items);
+        // No byte before a count has its top bit set, and of the count itself all but the last have.
+        let before = &window.bytes[..(items.at as usize).saturating_sub(1)];
+        let size = 1 + before.iter().rev().take_while(|byte| **byte >= 128).count() as u64;
+        SectionLimited { whole: rest.offset - size..rest.range().end, rest, count, item: PhantomData }
     }
 
     /// How many items are announced.
@@ -112,15 +143,29 @@ impl<'a, T> SectionLimited<'a, T> {
         self.rest.offset
     }
 
-    /// The offsets of the window: of a section with its count, of a list in an item from its first item on.
+    /// The offsets of the window, its count among them.
     pub fn range(&self) -> Range<u64> {
         self.whole.clone()
     }
 
     /// The items, each with the offset at which it begins.
     pub fn into_iter_with_offsets(self) -> SectionLimitedIntoIterWithOffsets<'a, T> {
-        SectionLimitedIntoIterWithOffsets { items: SectionLimitedIntoIter { rest: self.rest, left: self.count, ended: false, item: PhantomData } }
+        SectionLimitedIntoIterWithOffsets { items: SectionLimitedIntoIter { left: self.count, section: self, ended: false } }
     }
+}
+
+/// Reads a count and so many items, of which none has a fault.
+pub(crate) fn list<'a, T: FromReader<'a>>(reader: &mut BinaryReader<'a>) -> Result<SectionLimited<'a, T>> {
+    let items = reader.skip(|reader| {
+        let count = reader.read_var_u32()?;
+        pass::<T>(reader, count)
+    })?;
+    SectionLimited::new(items)
+}
+
+/// Passes over so many items.
+pub(crate) fn pass<'a, T: FromReader<'a>>(reader: &mut BinaryReader<'a>, count: u32) -> Result<()> {
+    (0..count).try_for_each(|_| T::from_reader(reader).map(drop))
 }
 
 impl<'a, T: FromReader<'a>> IntoIterator for SectionLimited<'a, T> {
@@ -135,22 +180,28 @@ impl<'a, T: FromReader<'a>> IntoIterator for SectionLimited<'a, T> {
 /// The items of a section, up to the first fault. Bytes after the last one are a fault too.
 #[derive(Debug)]
 pub struct SectionLimitedIntoIter<'a, T> {
-    rest: Window<'a>,
+    section: SectionLimited<'a, T>,
     left: u32,
     ended: bool,
-    item: PhantomData<fn() -> T>,
 }
 
 impl<T> Clone for SectionLimitedIntoIter<'_, T> {
     fn clone(&self) -> Self {
-        SectionLimitedIntoIter { rest: self.rest, left: self.left, ended: self.ended, item: PhantomData }
+        SectionLimitedIntoIter { section: self.section.clone(), ..*self }
     }
 }
 
 impl<T> SectionLimitedIntoIter<'_, T> {
     /// The offset at which the next item begins.
     pub fn original_position(&self) -> u64 {
-        self.rest.offset
+        self.section.rest.offset
+    }
+}
+
+/// The section, whose items begin where the iterator was. Its count is what it was.
+impl<'a, T> From<SectionLimitedIntoIter<'a, T>> for SectionLimited<'a, T> {
+    fn from(items: SectionLimitedIntoIter<'a, T>) -> Self {
+        items.section
     }
 }
 
@@ -161,32 +212,33 @@ impl<'a, T: FromReader<'a>> Iterator for SectionLimitedIntoIter<'a, T> {
         if self.ended {
             return None;
         }
-        if self.left == 0 {
+        let mut reader = BinaryReader::of(self.section.rest);
+        let Some(left) = self.left.checked_sub(1) else {
             self.ended = true;
-            return (!self.rest.bytes.is_empty()).then(|| Err(BinaryReaderError::size_mismatch(self.rest.offset)));
-        }
-        self.left -= 1;
-        match T::from_window(self.rest) {
-            Ok((item, consumed)) => {
-                self.rest = self.rest.after(consumed);
-                Some(Ok(item))
-            }
-            Err(error) => {
-                self.ended = true;
-                Some(Err(error))
-            }
-        }
+            return reader.expect_end(SIZE_MISMATCH).err().map(Err);
+        };
+        self.left = left;
+        let item = reader.read();
+        self.section.rest = reader.rest;
+        self.ended = item.is_err();
+        Some(item)
     }
 
     fn size_hint(&self) -> (usize, Option<usize>) {
-        (0, Some(self.left as usize + 1))
+        (0, Some(if self.ended { 0 } else { self.left as usize + 1 }))
     }
 }
 
 /// The items of a section, each with its offset.
-#[derive(Clone, Debug)]
+#[derive(Debug)]
 pub struct SectionLimitedIntoIterWithOffsets<'a, T> {
     items: SectionLimitedIntoIter<'a, T>,
+}
+
+impl<T> Clone for SectionLimitedIntoIterWithOffsets<'_, T> {
+    fn clone(&self) -> Self {
+        SectionLimitedIntoIterWithOffsets { items: self.items.clone() }
+    }
 }
 
 impl<'a, T: FromReader<'a>> Iterator for SectionLimitedIntoIterWithOffsets<'a, T> {

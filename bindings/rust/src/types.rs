@@ -1,6 +1,6 @@
 //! Types.
-use crate::section::{Window, call};
-use crate::{FromReader, Result, ffi};
+use crate::section::{call, pass};
+use crate::{BinaryReader, FromReader, Result, ffi};
 
 /// The type of a value.
 #[derive(Clone, Copy, Debug, PartialEq, Eq, Hash)]
@@ -27,6 +27,9 @@ pub struct RefType {
 }
 
 impl RefType {
+    /// A reference to a function, which may be null.
+    pub const FUNCREF: RefType = RefType { nullable: true, heap: HeapType::Func };
+
     /// Whether the reference may be null.
     pub fn is_nullable(&self) -> bool {
         self.nullable
@@ -120,21 +123,21 @@ pub(crate) fn val_type(ty: ffi::Type) -> ValType {
 }
 
 impl<'a> FromReader<'a> for ValType {
-    fn from_window(window: Window<'a>) -> Result<(Self, u64)> {
-        let plain = call!(pulleynavy_value_type, window);
-        Ok((val_type(plain.ty), plain.consumed))
+    fn from_reader(reader: &mut BinaryReader<'a>) -> Result<Self> {
+        let (_, plain) = call!(pulleynavy_value_type, reader);
+        Ok(val_type(plain.ty))
     }
 }
 
 impl<'a> FromReader<'a> for FieldType {
-    fn from_window(window: Window<'a>) -> Result<(Self, u64)> {
-        let plain = call!(pulleynavy_field_type, window);
+    fn from_reader(reader: &mut BinaryReader<'a>) -> Result<Self> {
+        let (_, plain) = call!(pulleynavy_field_type, reader);
         let element_type = match plain.ty.kind {
             6 => StorageType::I8,
             7 => StorageType::I16,
             _ => StorageType::Val(val_type(plain.ty)),
         };
-        Ok((FieldType { element_type, mutable: plain.is_mutable != 0 }, plain.consumed))
+        Ok(FieldType { element_type, mutable: plain.is_mutable != 0 })
     }
 }
 
@@ -144,8 +147,16 @@ macro_rules! iterator {
         $(#[$doc])*
         #[derive(Clone, Debug)]
         pub struct $name<'a> {
-            rest: Window<'a>,
+            reader: BinaryReader<'a>,
             left: u32,
+        }
+
+        impl<'a> $name<'a> {
+            /// So many items, which a reader passes over.
+            fn pass(reader: &mut BinaryReader<'a>, left: u32) -> Result<Self> {
+                let items = reader.skip(|reader| pass::<$item>(reader, left))?;
+                Ok($name { reader: items, left })
+            }
         }
 
         impl<'a> Iterator for $name<'a> {
@@ -153,9 +164,7 @@ macro_rules! iterator {
 
             fn next(&mut self) -> Option<$item> {
                 self.left = self.left.checked_sub(1)?;
-                let (item, consumed) = FromReader::from_window(self.rest).ok()?;
-                self.rest = self.rest.after(consumed);
-                Some(item)
+                self.reader.read().ok()
             }
 
             fn size_hint(&self) -> (usize, Option<usize>) {
@@ -173,14 +182,6 @@ iterator!(/// The fields of a structure.
     FieldTypes, FieldType);
 iterator!(/// The types of a group.
     SubTypes, SubType<'a>);
-
-/// Passes over so many items: what comes after them.
-pub(crate) fn passed<'a, T: FromReader<'a>>(mut window: Window<'a>, count: u32) -> Result<Window<'a>> {
-    for _ in 0..count {
-        window = window.after(T::from_window(window)?.1);
-    }
-    Ok(window)
-}
 
 /// The type of a function.
 #[derive(Clone, Debug)]
@@ -223,29 +224,20 @@ pub struct SubType<'a> {
     pub composite_type: CompositeType<'a>,
 }
 
-fn function<'a>(rest: Window<'a>, left: u32) -> Result<(CompositeType<'a>, Window<'a>)> {
-    let results = passed::<ValType>(rest, left)?;
-    let (count, size) = u32::from_window(results)?;
-    let results = results.after(size);
-    let params = ValTypes { rest, left };
-    let function = FuncType { params, results: ValTypes { rest: results, left: count } };
-    Ok((CompositeType::Func(function), passed::<ValType>(results, count)?))
-}
-
 impl<'a> FromReader<'a> for SubType<'a> {
-    fn from_window(window: Window<'a>) -> Result<(Self, u64)> {
-        let head = call!(pulleynavy_subtype, window);
-        let rest = window.after(head.consumed);
-        let (composite_type, after) = match head.kind {
-            0 => function(rest, head.count)?,
-            1 => {
-                let (element, size) = FieldType::from_window(rest)?;
-                (CompositeType::Array(element), rest.after(size))
+    fn from_reader(reader: &mut BinaryReader<'a>) -> Result<Self> {
+        let (_, head) = call!(pulleynavy_subtype, reader);
+        let composite_type = match head.kind {
+            0 => {
+                let params = ValTypes::pass(reader, head.count)?;
+                let count = reader.read_var_u32()?;
+                CompositeType::Func(FuncType { params, results: ValTypes::pass(reader, count)? })
             }
-            _ => (CompositeType::Struct(FieldTypes { rest, left: head.count }), passed::<FieldType>(rest, head.count)?),
+            1 => CompositeType::Array(reader.read()?),
+            _ => CompositeType::Struct(FieldTypes::pass(reader, head.count)?),
         };
         let supertype_idx = (head.has_supertype != 0).then_some(head.supertype);
-        Ok((SubType { is_final: head.is_final != 0, supertype_idx, composite_type }, after.offset - window.offset))
+        Ok(SubType { is_final: head.is_final != 0, supertype_idx, composite_type })
     }
 }
 
@@ -274,12 +266,9 @@ impl<'a> RecGroup<'a> {
 }
 
 impl<'a> FromReader<'a> for RecGroup<'a> {
-    fn from_window(window: Window<'a>) -> Result<(Self, u64)> {
-        let head = call!(pulleynavy_type_group, window);
-        let rest = window.after(head.consumed);
-        let after = passed::<SubType>(rest, head.count)?;
-        let types = SubTypes { rest, left: head.count };
-        Ok((RecGroup { explicit: head.is_explicit != 0, types }, after.offset - window.offset))
+    fn from_reader(reader: &mut BinaryReader<'a>) -> Result<Self> {
+        let (_, head) = call!(pulleynavy_type_group, reader);
+        Ok(RecGroup { explicit: head.is_explicit != 0, types: SubTypes::pass(reader, head.count)? })
     }
 }
 
@@ -324,11 +313,25 @@ pub struct GlobalType {
     pub shared: bool,
 }
 
-/// The type of a tag of exceptions.
+/// What a tag is of.
+#[derive(Clone, Copy, Debug, PartialEq, Eq, Hash)]
+pub enum TagKind {
+    /// Exceptions.
+    Exception,
+}
+
+/// The type of a tag.
 #[derive(Clone, Copy, Debug, PartialEq, Eq, Hash)]
 pub struct TagType {
+    /// What it is a tag of.
+    pub kind: TagKind,
     /// The index of the function type whose parameters the tag carries.
     pub func_type_idx: u32,
+}
+
+/// The type of a tag of exceptions, by its function type.
+pub(crate) fn exception_tag(func_type_idx: u32) -> TagType {
+    TagType { kind: TagKind::Exception, func_type_idx }
 }
 
 pub(crate) fn table_type(ty: ffi::TableType) -> TableType {
@@ -351,15 +354,15 @@ pub(crate) fn global_type(ty: ffi::GlobalType) -> GlobalType {
 }
 
 impl<'a> FromReader<'a> for MemoryType {
-    fn from_window(window: Window<'a>) -> Result<(Self, u64)> {
-        let plain = call!(pulleynavy_memory, window);
-        Ok((memory_type(plain.ty), plain.consumed))
+    fn from_reader(reader: &mut BinaryReader<'a>) -> Result<Self> {
+        let (_, plain) = call!(pulleynavy_memory, reader);
+        Ok(memory_type(plain.ty))
     }
 }
 
 impl<'a> FromReader<'a> for TagType {
-    fn from_window(window: Window<'a>) -> Result<(Self, u64)> {
-        let plain = call!(pulleynavy_tag, window);
-        Ok((TagType { func_type_idx: plain.func_type_index }, plain.consumed))
+    fn from_reader(reader: &mut BinaryReader<'a>) -> Result<Self> {
+        let (_, plain) = call!(pulleynavy_tag, reader);
+        Ok(exception_tag(plain.func_type_index))
     }
 }

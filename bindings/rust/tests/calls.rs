@@ -1,44 +1,19 @@
-//! Calls of the crate beside a whole walk.
-use pulleynavy::{Chunk, Parser, Payload, WasmFeatures};
+//! Faults, features and streams without custom sections.
+mod common;
 
-const MODULE: &[u8] = b"\0asm\x01\0\0\0\x03\x02\x01\0\x0a\x04\x01\x02\0\x0b\0\x04\x02hi!";
+use pulleynavy::{Parser, Payload, WasmFeatures, strip};
 
-#[test]
-fn each_beginning_asks_or_tells_the_same() {
-    for cut in 0..MODULE.len() {
-        let (mut parser, mut at) = (Parser::new(7), 0);
-        loop {
-            let mut copy = parser.clone();
-            match parser.parse(&MODULE[at..cut], false).unwrap() {
-                Chunk::NeedMoreData(hint) => break assert!(hint > 0),
-                Chunk::Parsed { consumed, payload } => {
-                    let Chunk::Parsed { consumed: same, payload: other } = copy.parse(&MODULE[at..], true).unwrap() else { panic!() };
-                    assert_eq!((same, format!("{other:?}")), (consumed, format!("{payload:?}")));
-                    at += consumed;
-                }
-            }
-        }
-    }
-}
-
-#[test]
-fn a_code_section_is_skipped() {
-    let mut parser = Parser::new(0);
-    for part in [&MODULE[..8], &MODULE[8..12], &MODULE[12..18]] {
-        parser.parse(part, true).unwrap();
-    }
-    assert_eq!(parser.offset(), 15);
-    parser.skip_section();
-    assert_eq!(parser.offset(), 18);
-    let Ok(Chunk::Parsed { payload: Payload::CustomSection(section), .. }) = parser.parse(&MODULE[18..], true) else { panic!() };
-    assert_eq!((section.name(), section.data(), section.data_offset(), section.range()), ("hi", &b"!"[..], 23, 20..24));
-}
+/// A stream of a function section and a code section with one body.
+const BODY: &str = "M 03 02 01 00 0a 04 01 02 00 0b";
 
 #[test]
 fn a_fault_has_a_text_an_offset_and_a_number() {
     let error = Parser::new(5).parse(b"\0asm\x01\x01\x01\x01", true).unwrap_err();
     assert_eq!((error.message(), error.offset(), error.number()), ("unknown binary version", 9, Some(16843009)));
     assert_eq!(error.to_string(), "unknown binary version: 16843009 (at offset 0x9)");
+    let here = Parser::new(0).parse(b"\0asm\x01\x01\x01\x01", true).unwrap_err();
+    assert_eq!(here.to_string(), "unknown binary version: 16843009 (at offset 0x4)");
+    assert!(here != error);
 }
 
 #[test]
@@ -54,27 +29,27 @@ fn features_say_what_a_limit_may_be() {
     }
 }
 
+/// A stream, whether names are kept, and what is left of it, or its fault.
 #[test]
-fn names_of_functions() {
-    let module = b"\0asm\x01\0\0\0\0\x0d\x04name\x01\x06\x02\0\x01a\x03\0";
-    let Ok(Payload::CustomSection(section)) = Parser::new(0).parse_all(module).nth(1).unwrap() else { panic!() };
-    let functions = section.subsections().next().unwrap().unwrap();
-    assert_eq!(functions.id, 1);
-    let names: Vec<_> = functions
-        .items::<pulleynavy::Naming>()
-        .unwrap()
-        .into_iter()
-        .map(|name| name.map(|name| (name.index, name.name.to_owned())))
-        .collect::<Result<_, _>>()
-        .unwrap();
-    assert_eq!(names, [(0, "a".to_owned()), (3, String::new())]);
-}
-
-#[test]
-fn a_stream_is_stripped_in_its_own_bytes() {
-    let mut module = MODULE.to_vec();
-    assert_eq!(pulleynavy::strip(&mut module, true).unwrap(), &MODULE[..18]);
-    let mut cut = *b"\0asm\x01\0\0\0\x03\x02\x01\0";
-    assert_eq!(pulleynavy::strip(&mut cut, false).unwrap_err().offset(), 12);
-    assert_eq!(&cut, &MODULE[..12]);
+fn streams_are_stripped_in_their_own_bytes() {
+    const COMPONENT: &str = "00 61 73 6d 0d 00 01 00 01 01 00";
+    let absent = Err("function section has non-zero count but code section is absent (at offset 0xc)");
+    for (stream, keep_names, left) in [
+        ("M 00 01 00 01 01 00 00 02 01 61", false, Ok("M 01 01 00")),
+        ("M 00 05 04 6e 61 6d 65 00 02 01 61", true, Ok("M 00 05 04 6e 61 6d 65")),
+        ("M 00 05 04 6e 61 6d 65 00 02 01 61", false, Ok("M")),
+        ("M 00 85 80 00 04 6e 61 6d 65", true, Ok("M 00 85 80 00 04 6e 61 6d 65")),
+        ("00 61 73 6d 0d 00 01 00 01 01 00 00 01 00", false, Ok(COMPONENT)),
+        (BODY, false, Ok(BODY)),
+        (BODY, true, Ok(BODY)),
+        ("M 03 02 01 00", false, absent),
+        ("M 03 02 01 00", true, absent),
+        ("", false, Err("unexpected end-of-file (at offset 0x0)")),
+        ("", true, Err("unexpected end-of-file (at offset 0x0)")),
+    ] {
+        let mut bytes = common::bytes(stream);
+        let stripped = strip(&mut bytes, keep_names).map(|left| left.to_vec()).map_err(|error| error.to_string());
+        assert_eq!(stripped, left.map(common::bytes).map_err(str::to_owned), "{stream}");
+        assert!(stripped.is_ok() || bytes == common::bytes(stream));
+    }
 }

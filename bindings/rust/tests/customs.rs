@@ -1,141 +1,204 @@
-//! Custom sections by their names, of worked bytes.
+//! Custom sections over worked bytes: what they are read as, or their fault.
+mod common;
+
+use common::customs::*;
+use common::*;
 use pulleynavy::*;
 
-/// A module with one custom section.
-fn module(name: &str, data: &[u8]) -> Vec<u8> {
-    let content = [&[name.len() as u8], name.as_bytes(), data].concat();
-    [b"\0asm\x01\0\0\0\0".as_slice(), &[content.len() as u8], &content].concat()
-}
+type Reader = for<'a> fn(BinaryReader<'a>) -> Result<String>;
 
-/// What the section is, as its debug text, or what `show` makes of it.
-fn known(name: &str, data: &[u8], show: impl Fn(KnownCustom<'_>) -> String) -> String {
-    let module = module(name, data);
-    let Ok(Payload::CustomSection(section)) = Parser::new(0).parse_all(&module).nth(1).unwrap() else { panic!() };
-    show(section.as_known())
-}
-
-fn all<T: std::fmt::Debug>(items: impl IntoIterator<Item = Result<T>>) -> String {
-    format!("{:?}", items.into_iter().map(|item| item.map_err(|error| error.to_string())).collect::<Vec<_>>())
-}
-
-#[test]
-fn what_is_not_known() {
-    for (name, data) in [("names", b"\0".as_slice()), ("producers", b""), ("linking", b"\x03"), ("core", b"\x01"), ("reloc", b"\0\0")] {
-        assert_eq!(known(name, data, |section| format!("{section:?}")), "Unknown", "{name}");
+fn agree(rows: &[(Reader, &str, &str)]) {
+    for (read, digits, text) in rows {
+        let bytes = bytes(digits);
+        assert_eq!(told(read(BinaryReader::new(&bytes, 0)), |text| text), *text, "{digits}");
     }
 }
 
 #[test]
-fn names_of_locals() {
-    let text = known("name", b"\0\x02\x01m\x02\x0a\x01\x03\x02\0\x01a\x81\0\x01b", |section| {
-        let KnownCustom::Name(names) = section else { panic!() };
-        names
-            .map(|part| match part.unwrap() {
-                Name::Module { name, name_range } => format!("module {name} {name_range:?} "),
-                Name::Local(functions) => functions.into_iter().map(|one| one.unwrap()).map(|one| format!("{} {}", one.index, all(one.names))).collect(),
-                other => format!("{other:?}"),
-            })
-            .collect()
-    });
-    // The section begins at 8, its name at 10 and its data at 15.
-    assert_eq!(text, "module m 17..19 3 [Ok(Naming { index: 0, name: \"a\" }), Ok(Naming { index: 1, name: \"b\" })]");
+fn names_of_all_kinds() {
+    agree(&[
+        (name_map, "03 05 01 61 03 01 62 04 01 63", "{name(5 x61 ) fault 4 names out of order fault 7 names out of order }"),
+        (
+            names,
+            "00 02 01 61 01 04 01 00 01 66 00 01 00 0e 00",
+            "<module x61 2..4 1{name(0 x66 ) } fault 10 name subsection out of order unknown 14 x 15..15 >",
+        ),
+        (names, "01 00 02 01 00", "<fault 2 unexpected end-of-file 2{} >"),
+        (names, "00 03 01 61 ff", "<fault 4 trailing data at the end of a name >"),
+        (names, "00 02 01 6d 02 0a 01 03 02 00 01 61 81 00 01 62", "<module x6d 2..4 2{names(3 {name(0 x61 ) name(1 x62 ) } ) } >"),
+        (names, "0c 02 01 00 0d 01 00", "<12{fault 4 unexpected end-of-file } 13{} >"),
+        (indirect_name_map, "02 01 01 00 01 61 00 00", "{names(1 {name(0 x61 ) } ) fault 6 indirect names out of order }"),
+        // Inner names are passed over first, whatever their bytes are.
+        (indirect_name_map, "02 01 01 00 01 ff 02 00", "{names(1 {fault 5 malformed UTF-8 encoding } ) names(2 {} ) }"),
+    ]);
+}
+
+#[test]
+fn a_fault_of_an_id_or_a_size_leaves_few_subsections() {
+    for (digits, fault, most) in [("ff ff 00", "fault 0 invalid u7", 3), ("05 ff", "fault 2 unexpected end-of-file", 2)] {
+        let bytes = bytes(digits);
+        let parts: Vec<_> = NameSectionReader::new(BinaryReader::new(&bytes, 0)).collect();
+        assert!(parts.len() <= most);
+        assert_eq!(parts[0].as_ref().map_err(common::fault).unwrap_err(), fault);
+    }
 }
 
 #[test]
 fn producers_and_hints() {
-    let text = known("producers", b"\x01\x03sdk\x81\0\x01C\x0211", |section| {
-        let KnownCustom::Producers(fields) = section else { panic!() };
-        fields.into_iter().map(|field| field.unwrap()).map(|field| format!("{} {}", field.name, all(field.values))).collect()
-    });
-    assert_eq!(text, "sdk [Ok(ProducersFieldValue { name: \"C\", version: \"11\" })]");
-    let text = known("metadata.code.branch_hint", b"\x01\x80\x01\x02\x05\x01\x01\x87\0\x01\0", |section| {
-        let KnownCustom::BranchHints(functions) = section else { panic!() };
-        functions.into_iter().map(|one| one.unwrap()).map(|one| format!("{} {}", one.func, all(one.hints))).collect()
-    });
-    assert_eq!(text, "128 [Ok(BranchHint { func_offset: 5, taken: true }), Ok(BranchHint { func_offset: 7, taken: false })]");
+    let text = "0..23 #1[1:field(x6c616e6775616765 10..23 #2[11:value(x776174 x31 ) 17:value(x43 x392e30 ) ] ) ]";
+    agree(&[
+        (section_of_fields, "01 08 6c 61 6e 67 75 61 67 65 02 03 77 61 74 01 31 01 43 03 39 2e 30", text),
+        (section_of_fields, "01 01 78 00", "0..4 #1[fault 1 invalid producers field name ]"),
+        (section_of_hints, "01 00 01 05 01 01", "0..6 #1[1:function(0 2..6 #1[3:hint(5 true ) ] ) ]"),
+        (section_of_hints, "01 00 01 05 02 01", "0..6 #1[fault 4 invalid leading byte for invalid branch hint byte: 2 ]"),
+        (section_of_hints, "01 00 01 05 01 02", "0..6 #1[fault 5 invalid leading byte for invalid branch hint taken byte: 2 ]"),
+        (section_of_hints, "01 80 01 02 05 01 01 87 00 01 00", "0..11 #1[1:function(128 3..11 #2[4:hint(5 true ) 7:hint(7 false ) ] ) ]"),
+    ]);
+}
+
+fn section_of_fields(reader: BinaryReader<'_>) -> Result<String> {
+    section::<ProducersField>(reader)
+}
+
+fn section_of_hints(reader: BinaryReader<'_>) -> Result<String> {
+    section::<BranchHintFunction>(reader)
 }
 
 #[test]
 fn what_a_dynamic_linker_reads() {
-    let text = known("dylink.0", b"\x01\x05\x80\x01\x02\x03\x04\x02\x03\x01\x01l\x03\x04\x01\x01e\x05\x04\x06\x01\x01m\x01f\x06\x09\x01\xff", |section| {
-        let KnownCustom::Dylink0(parts) = section else { panic!() };
-        parts
-            .map(|part| match part.unwrap() {
-                Dylink0Subsection::MemInfo(info) => format!("{info:?} "),
-                Dylink0Subsection::Needed(names) => all(names),
-                Dylink0Subsection::ExportInfo(exports) => all(exports),
-                Dylink0Subsection::ImportInfo(imports) => all(imports),
-                other => format!(" {other:?}"),
-            })
-            .collect()
-    });
-    assert_eq!(
-        text,
-        "MemInfo { memory_size: 128, memory_alignment: 2, table_size: 3, table_alignment: 4 } [Ok(\"l\")]\
-         [Ok(ExportInfo { name: \"e\", flags: 5 })][Ok(ImportInfo { module: \"m\", field: \"f\", flags: 6 })] \
-         Unknown { ty: 9, data: [255], range: 47..48 }"
-    );
+    agree(&[
+        // Bytes after what a subsection says are passed over.
+        (dylink, "01 05 10 02 01 00 ff", "<1 meminfo(16 2 1 0 ) >"),
+        (dylink, "02 04 01 01 61 ff", "<2 [x61 ] >"),
+        (dylink, "02 03 01 01 61 03 04 01 01 66 02", "<2 [x61 ] 3 [export(x66 2 ) ] >"),
+        (dylink, "04 06 01 01 6d 01 66 06 05 03 01 01 70", "<4 [import(x6d x66 6 ) ] 5 [x70 ] >"),
+        (dylink, "06 03 02 61 62 09 01 ff", "<6 x6162 unknown 9 xff 7..8 >"),
+        // A fault of an item is that of its subsection, and the next one follows.
+        (dylink, "02 02 01 01 03 01 00", "<fault 4 unexpected end-of-file 3 [] >"),
+    ]);
 }
 
 #[test]
 fn what_a_linker_reads() {
-    let text = known(
-        "linking",
-        b"\x02\x05\x06\x01\x02.d\x04\x01\x06\x03\x01\x07\x08\x07\x09\x01\x01c\0\x02\x01\x03\0\x04\x08\x0c\x02\0\x10\x05\x01\0\x01d\x01\x02\x83\0",
-        |section| {
-            let KnownCustom::Linking(linking) = section else { panic!() };
-            linking
-                .into_iter()
-                .map(|part| match part.unwrap() {
-                    Linking::SegmentInfo(segments) => all(segments),
-                    Linking::InitFuncs(functions) => all(functions),
-                    Linking::ComdatInfo(comdats) => {
-                        comdats.into_iter().map(|one| one.unwrap()).map(|one| format!("{} {} {}", one.name, one.flags, all(one.symbols))).collect()
-                    }
-                    Linking::SymbolTable(symbols) => all(symbols),
-                    other => format!("{other:?}"),
-                })
-                .collect()
-        },
-    );
-    assert_eq!(
-        text,
-        "[Ok(Segment { name: \".d\", alignment: 4, flags: 1 })][Ok(InitFunc { priority: 7, symbol_index: 8 })]\
-         c 0 [Ok(ComdatSymbol { kind: Func, index: 3 }), Ok(ComdatSymbol { kind: Data, index: 4 })]\
-         [Ok(Func { flags: 16, index: 5, name: None }), \
-         Ok(Data { flags: 0, name: \"d\", symbol: Some(DefinedDataSymbol { index: 1, offset: 2, size: 3 }) })]"
-    );
-    let text = known("reloc.CODE", b"\x0a\x02\x07\x85\0\x01\x04\x06\x09\x7f", |section| {
-        let KnownCustom::Reloc(section) = section else { panic!() };
-        let ranges = section
-            .entries()
-            .into_iter()
-            .map(|entry| entry.unwrap())
-            .map(|one| format!("{} {} {} {:?} ", one.ty, one.index, one.addend, one.relocation_range()));
-        format!("{} {}", section.section_index(), ranges.collect::<String>())
-    });
-    assert_eq!(text, "10 7 1 0 5..10 4 9 -1 6..11 ");
+    agree(&[
+        (linking, "02 06 03 01 05 07", "version 2 at 1 0..6 <6 3..6 #1[4:init(5 7 ) ] >"),
+        (linking, "03", "fault 0 unsupported linking section version: 3"),
+        (linking, "02 05 06 01 02 2e 64 04 01", "version 2 at 1 0..9 <5 3..9 #1[4:segment(x2e64 4 1 ) ] >"),
+        (
+            linking,
+            "02 07 09 01 01 63 00 02 01 03 00 04",
+            "version 2 at 1 0..12 <7 3..12 #1[4:comdat(x63 0 7..12 #2[8:symbol(func 3 ) 10:symbol(data 4 ) ] ) ] >",
+        ),
+        (linking, "02 09 03 01 61 ff 0a 00", "version 2 at 1 0..8 <9 x61 unknown 10 x 8..8 >"),
+        (symbol, "00 10 03", "func 16 3 - used 3"),
+        (symbol, "00 50 03 01 66", "func 80 3 x66 used 5"),
+        (symbol, "01 00 01 64 02 00 04", "data 0 x64 defined(2 0 4 ) used 7"),
+        (symbol, "03 80 20 05", "section 4096 5 used 4"),
+        (symbol, "06 00", "fault 0 invalid leading byte for symbol kind: 6"),
+        // The kind is told after the flags.
+        (symbol, "06", "fault 1 unexpected end-of-file"),
+    ]);
+}
+
+fn symbol(reader: BinaryReader<'_>) -> Result<String> {
+    item::<SymbolInfo>(reader)
+}
+
+fn relocation(reader: BinaryReader<'_>) -> Result<String> {
+    item::<RelocationEntry>(reader)
+}
+
+#[test]
+fn relocations() {
+    agree(&[
+        (reloc, "03 01 03 06 00 7f", "section 3 0..6 1..6 #1[2:reloc(3 6 0 -1 ) ]"),
+        (relocation, "1b", "fault 0 invalid leading byte for RelocEntryType: 27"),
+    ]);
+    for (digits, range) in [("03 06 00 7f", 6..11), ("00 fc ff ff ff 0f 00", 4294967292..4294967297)] {
+        let bytes = bytes(digits);
+        assert_eq!(BinaryReader::new(&bytes, 0).read::<RelocationEntry>().unwrap().relocation_range(), Ok(range));
+    }
 }
 
 #[test]
 fn core_dumps() {
-    let name = known("core", b"\0\x02ab", |section| format!("{section:?}"));
-    assert_eq!(name, "CoreDump(CoreDumpSection { name: \"ab\" })");
-    let modules = known("coremodules", b"\x02\0\x01m\0\0", |section| {
-        let KnownCustom::CoreDumpModules(modules) = section else { panic!() };
-        all(modules)
-    });
-    assert_eq!(modules, "[Ok(CoreModule { name: \"m\" }), Ok(CoreModule { name: \"\" })]");
-    let instances = known("coreinstances", b"\x01\0\x05\x02\x01\x82\0\x01\x03", |section| {
-        let KnownCustom::CoreDumpInstances(instances) = section else { panic!() };
-        instances.into_iter().map(|one| one.unwrap()).map(|one| format!("{} {} {}", one.module_index, all(one.memories), all(one.globals))).collect()
-    });
-    assert_eq!(instances, "5 [Ok(1), Ok(2)] [Ok(3)]");
-    let stack = known("corestack", b"\0\x01t\x01\0\x01\x02\x83\0\x02\x01\x7f\x7e\x01\x7d\x01\0\0\0", |section| {
-        let KnownCustom::CoreDumpStack(stack) = section else { panic!() };
-        let frames = stack.frames.into_iter().map(|one| one.unwrap());
-        let texts = frames.map(|one| format!("{} {} {} {} {}", one.instanceidx, one.funcidx, one.codeoffset, all(one.locals), all(one.stack)));
-        format!("{} {}", stack.name, texts.collect::<String>())
-    });
-    assert_eq!(stack, "t 1 2 3 [Ok(Missing), Ok(I32(-2))] [Ok(F32(1))]");
+    agree(&[
+        (core, "00 09 74 65 73 74 2e 77 61 73 6d", "x746573742e7761736d"),
+        (core, "00 00 ff", "fault 2 trailing bytes at end of custom section"),
+        (core, "01 00", "fault 0 invalid start byte for core dump name"),
+        (core_modules, "01 00 04 74 65 73 74", "[x74657374 ]"),
+        // The byte of a later module is told at the start of the section too.
+        (core_modules, "02 00 01 61 01", "fault 0 invalid start byte for coremodule"),
+        (core_modules, "01 00 00 05", "fault 3 trailing bytes at end of custom section"),
+        (core_instances, "01 00 02 01 00 01 03", "[instance(2 [0 ] [3 ] ) ]"),
+        (core_instances, "01 01", "fault 1 invalid start byte for core dump instance"),
+        (core_stack, "00 04 6d 61 69 6e 01 00 04 2a 33 01 7f 01 01 7f 02", "x6d61696e [frame(4 42 51 [i32:1 ] [i32:2 ] ) ]"),
+        (core_stack, "00 00 01 01", "fault 3 invalid start byte for core dump stack frame"),
+        (core_stack, "00 00 00 00", "fault 3 trailing bytes at end of custom section"),
+        (value, "7d 00 00 80 3f", "f32:1065353216 used 5"),
+        (value, "7c 01 00 00 00 00 00 00 80", "f64:9223372036854775809 used 9"),
+        (value, "7e 7f", "i64:-1 used 2"),
+        (value, "01", "missing used 1"),
+        (value, "02", "fault 0 invalid CoreDumpValue type"),
+    ]);
+}
+
+fn value(reader: BinaryReader<'_>) -> Result<String> {
+    item::<CoreDumpValue>(reader)
+}
+
+/// A custom section of this name as a part of a module, whose data begins at 10 and the size of the name.
+fn as_known(name: &str, digits: &str) -> String {
+    let content = [&[name.len() as u8], name.as_bytes(), &bytes(digits)].concat();
+    let module = [&bytes("M 00")[..], &[content.len() as u8], &content].concat();
+    let Ok(Payload::CustomSection(section)) = Parser::new(0).parse_all(&module).nth(1).unwrap() else { panic!() };
+    assert_eq!((section.name(), section.data()), (name, &bytes(digits)[..]));
+    known(&section)
+}
+
+#[test]
+fn names_decide_what_is_known() {
+    for (name, digits, text) in [
+        ("coremodules", "01 00 04 74 65 73 74", "[x74657374 ]"),
+        ("core", "00 00", "x"),
+        ("name", "01 00", "<fault 17 unexpected end-of-file >"),
+        ("dylink.0", "", "<>"),
+        ("linking", "02", "version 2 at 19 18..19 <>"),
+        ("reloc.", "05 00", "section 5 17..19 18..19 #0[]"),
+        ("producers", "00", "20..21 #0[]"),
+        ("metadata.code.branch_hint", "00", "36..37 #0[]"),
+    ] {
+        assert_eq!(as_known(name, digits), text, "{name}");
+    }
+}
+
+#[test]
+fn what_is_refused_is_unknown() {
+    for (name, digits) in [
+        ("coremodules", "01 01"),
+        ("coremodules", "00 00"),
+        ("coreinstances", "01 01"),
+        ("corestack", "00"),
+        ("core", "00 00 ff"),
+        ("core", "01"),
+        ("linking", "03"),
+        ("producers", ""),
+        ("reloc.CODE", "05"),
+        ("reloc", "00 00"),
+        ("names", "00"),
+        ("", ""),
+    ] {
+        assert_eq!(as_known(name, digits), "unknown", "{name}");
+    }
+}
+
+#[test]
+fn a_section_tells_where_its_parts_are() {
+    let bytes = bytes("01 61 05 06");
+    let section = CustomSectionReader::new(BinaryReader::new(&bytes, 30)).unwrap();
+    assert_eq!((section.name(), section.data(), section.range()), ("a", &bytes[2..], 30..34));
+    assert_eq!((section.data_offset(), section.data_range(), section.data_reader().range()), (32, 32..34, 32..34));
+    assert_eq!(format!("{section:?}"), "CustomSectionReader { name: \"a\", data_offset: 32, data: \"...\", range: 30..34 }");
+    let error = CustomSectionReader::new(BinaryReader::new(&bytes[..1], 30)).unwrap_err();
+    assert_eq!(fault(&error), "fault 31 unexpected end-of-file");
 }

@@ -1,0 +1,54 @@
+//! Limits of the implementation, which validators and tools share. Nothing that is read here is refused by them but names, which have
+//! at most [`MAX_WASM_STRING_SIZE`] bytes.
+#![allow(missing_docs)]
+
+pub const MAX_WASM_TYPES: usize = 1_000_000;
+pub const MAX_WASM_FUNCTIONS: usize = 1_000_000;
+pub const MAX_WASM_IMPORTS: usize = 1_000_000;
+pub const MAX_WASM_EXPORTS: usize = 1_000_000;
+pub const MAX_WASM_GLOBALS: usize = 1_000_000;
+pub const MAX_WASM_TAGS: usize = 1_000_000;
+pub const MAX_WASM_SUPERTYPES: usize = 5;
+pub const MAX_WASM_ELEMENT_SEGMENTS: usize = 100_000;
+pub const MAX_WASM_DATA_SEGMENTS: usize = 100_000;
+pub const MAX_WASM_STRING_SIZE: usize = 100_000;
+pub const MAX_WASM_TABLES: usize = 100_000;
+pub const MAX_WASM_FUNCTION_SIZE: usize = 7_654_321;
+pub const MAX_WASM_BR_TABLE_SIZE: usize = MAX_WASM_FUNCTION_SIZE;
+pub const MAX_WASM_FUNCTION_LOCALS: u32 = 50_000;
+pub const MAX_WASM_FUNCTION_PARAMS: usize = 1_000;
+pub const MAX_WASM_FUNCTION_RETURNS: usize = 1_000;
+pub const MAX_WASM_MODULES_AND_COMPONENTS: usize = 1_000;
+pub const _MAX_WASM_TABLE_SIZE: usize = 10_000_000;
+pub const MAX_WASM_TABLE_ENTRIES: usize = 10_000_000;
+pub const MAX_WASM_MEMORIES: usize = 100;
+pub const MAX_WASM_STRUCT_FIELDS: usize = 10_000;
+pub const MAX_WASM_CATCHES: usize = 10_000;
+pub const MAX_WASM_HANDLERS: usize = 10_000;
+pub const MAX_WASM_SUBTYPING_DEPTH: usize = 63;
+pub const MAX_WASM_TYPE_SIZE: u32 = 1_000_000;
+pub const MAX_WASM_SELECT_RESULT_SIZE: usize = 10;
+pub const DEFAULT_WASM_PAGE_SIZE: u64 = 1 << 16;
+
+/// The most pages of so many bytes that a memory with 32-bit addresses has.
+///
+/// # Panics
+/// If the size isn't a power of two of at most 65,536.
+pub fn max_wasm_memory32_pages(page_size: u64) -> u64 {
+    assert!(is_page_size(page_size));
+    ((1 << 32) / page_size).min(u32::MAX.into())
+}
+
+/// The most pages of so many bytes that a memory with 64-bit addresses has.
+///
+/// # Panics
+/// If the size isn't a power of two of at most 65,536.
+pub fn max_wasm_memory64_pages(page_size: u64) -> u64 {
+    assert!(is_page_size(page_size));
+    u64::try_from((1_u128 << 64) / u128::from(page_size)).unwrap_or(u64::MAX)
+}
+
+/// Whether a page may have so many bytes.
+pub fn is_page_size(size: u64) -> bool {
+    size.is_power_of_two() && size <= DEFAULT_WASM_PAGE_SIZE
+}

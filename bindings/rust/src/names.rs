@@ -1,0 +1,217 @@
+//! The section `name`.
+use crate::error::{INDIRECT_ORDER, NAME_SECTION_ORDER, NAME_TRAILING, NAMES_ORDER};
+use crate::section::call;
+use crate::{BinaryReader, BinaryReaderError, FromReader, Result, SectionLimited, SectionLimitedIntoIter, Subsection, Subsections};
+use core::ops::Range;
+
+/// An index and its name.
+#[derive(Clone, Copy, Debug, PartialEq, Eq, Hash)]
+pub struct Naming<'a> {
+    /// The index of what is named.
+    pub index: u32,
+    /// Its name.
+    pub name: &'a str,
+}
+
+impl<'a> FromReader<'a> for Naming<'a> {
+    fn from_reader(reader: &mut BinaryReader<'a>) -> Result<Self> {
+        let (window, plain) = call!(pulleynavy_naming, reader);
+        Ok(Naming { index: plain.index, name: window.text(plain.name) })
+    }
+}
+
+/// An index and the names of what it has.
+#[derive(Clone, Debug)]
+pub struct IndirectNaming<'a> {
+    /// The index of what has the names, as a function.
+    pub index: u32,
+    /// The names of what it has, as of its locals.
+    pub names: NameMap<'a>,
+}
+
+impl<'a> FromReader<'a> for IndirectNaming<'a> {
+    fn from_reader(reader: &mut BinaryReader<'a>) -> Result<Self> {
+        let index = reader.read_var_u32()?;
+        let names = reader.skip(|reader| {
+            let count = reader.read_var_u32()?;
+            (0..count).try_for_each(|_| reader.read_var_u32().and_then(|_| reader.skip_string()))
+        })?;
+        Ok(IndirectNaming { index, names: NameMap::new(names)? })
+    }
+}
+
+/// The last index or id that was given. What isn't above it is a fault, after which the next ones follow.
+#[derive(Clone, Debug, Default)]
+struct Last(Option<u32>);
+
+impl Last {
+    /// The next one, or the fault of this kind at this offset.
+    fn then(&mut self, next: u32, kind: u32, offset: u64) -> Result<()> {
+        if self.0.is_some_and(|last| next <= last) {
+            return Err(BinaryReaderError::of_kind(kind, offset));
+        }
+        self.0 = Some(next);
+        Ok(())
+    }
+}
+
+/// An iterator over entries whose indices ascend, with the kind of the fault of one that doesn't.
+macro_rules! ascending {
+    ($(#[$doc:meta])* $name:ident, $entry:ident, $kind:expr) => {
+        $(#[$doc])*
+        #[derive(Clone, Debug)]
+        pub struct $name<'a> {
+            names: SectionLimitedIntoIter<'a, $entry<'a>>,
+            last: Last,
+        }
+
+        impl<'a> $name<'a> {
+            /// The names that a reader has left, with their count.
+            ///
+            /// # Errors
+            /// The fault of the count.
+            pub fn new(reader: BinaryReader<'a>) -> Result<Self> {
+                Ok($name { names: SectionLimited::new(reader)?.into_iter(), last: Last::default() })
+            }
+
+            /// The offset at which the next entry begins.
+            pub fn original_position(&self) -> u64 {
+                self.names.original_position()
+            }
+        }
+
+        impl<'a> Iterator for $name<'a> {
+            type Item = Result<$entry<'a>>;
+
+            fn next(&mut self) -> Option<Self::Item> {
+                let offset = self.names.original_position();
+                let entry = self.names.next()?;
+                Some(entry.and_then(|entry| self.last.then(entry.index, $kind, offset).map(|()| entry)))
+            }
+
+            fn size_hint(&self) -> (usize, Option<usize>) {
+                self.names.size_hint()
+            }
+        }
+    };
+}
+
+ascending! {
+    /// Names by index. An index that isn't above the last one is a fault, after which the next names follow.
+    NameMap, Naming, NAMES_ORDER
+}
+ascending! {
+    /// Names of what indices have, by index. An index that isn't above the last one is a fault, after which the next ones follow.
+    IndirectNameMap, IndirectNaming, INDIRECT_ORDER
+}
+
+/// The subsections of the section `name`. An id that isn't above the last one is a fault, after which the next subsections follow.
+#[derive(Clone, Debug)]
+pub struct NameSectionReader<'a> {
+    sections: Subsections<'a, (u8, Name<'a>)>,
+    last: Last,
+}
+
+impl<'a> NameSectionReader<'a> {
+    /// The subsections that a reader has left.
+    pub fn new(reader: BinaryReader<'a>) -> Self {
+        NameSectionReader { sections: Subsections::new(reader), last: Last::default() }
+    }
+
+    /// The offset at which the next subsection begins.
+    pub fn original_position(&self) -> u64 {
+        self.sections.original_position()
+    }
+
+    /// The offsets of all bytes, those that were read among them.
+    pub fn range(&self) -> Range<u64> {
+        self.sections.range()
+    }
+}
+
+impl<'a> Iterator for NameSectionReader<'a> {
+    type Item = Result<Name<'a>>;
+
+    fn next(&mut self) -> Option<Self::Item> {
+        let offset = self.sections.original_position();
+        let part = self.sections.next()?;
+        Some(part.and_then(|(id, name)| self.last.then(id.into(), NAME_SECTION_ORDER, offset).map(|()| name)))
+    }
+}
+
+/// A subsection of names.
+#[derive(Clone, Debug)]
+pub enum Name<'a> {
+    /// The name of the module.
+    Module {
+        /// The name.
+        name: &'a str,
+        /// Its offsets, with its size.
+        name_range: Range<u64>,
+    },
+    /// The names of functions.
+    Function(NameMap<'a>),
+    /// The names of locals, by function.
+    Local(IndirectNameMap<'a>),
+    /// The names of labels, by function.
+    Label(IndirectNameMap<'a>),
+    /// The names of types.
+    Type(NameMap<'a>),
+    /// The names of tables.
+    Table(NameMap<'a>),
+    /// The names of memories.
+    Memory(NameMap<'a>),
+    /// The names of globals.
+    Global(NameMap<'a>),
+    /// The names of element segments.
+    Element(NameMap<'a>),
+    /// The names of data segments.
+    Data(NameMap<'a>),
+    /// The names of fields, by type.
+    Field(IndirectNameMap<'a>),
+    /// The names of tags.
+    Tag(NameMap<'a>),
+    /// The names of parameters, by type.
+    Parameter(IndirectNameMap<'a>),
+    /// The names of parameters, by tag.
+    TagParameter(IndirectNameMap<'a>),
+    /// A subsection with another id.
+    Unknown {
+        /// Its id.
+        ty: u8,
+        /// Its bytes.
+        data: &'a [u8],
+        /// The offsets of its bytes.
+        range: Range<u64>,
+    },
+}
+
+impl<'a> Subsection<'a> for Name<'a> {
+    fn from_reader(id: u8, reader: BinaryReader<'a>) -> Result<Self> {
+        Ok(match id {
+            0 => module(reader)?,
+            1 => Name::Function(NameMap::new(reader)?),
+            2 => Name::Local(IndirectNameMap::new(reader)?),
+            3 => Name::Label(IndirectNameMap::new(reader)?),
+            4 => Name::Type(NameMap::new(reader)?),
+            5 => Name::Table(NameMap::new(reader)?),
+            6 => Name::Memory(NameMap::new(reader)?),
+            7 => Name::Global(NameMap::new(reader)?),
+            8 => Name::Element(NameMap::new(reader)?),
+            9 => Name::Data(NameMap::new(reader)?),
+            10 => Name::Field(IndirectNameMap::new(reader)?),
+            11 => Name::Tag(NameMap::new(reader)?),
+            12 => Name::Parameter(IndirectNameMap::new(reader)?),
+            13 => Name::TagParameter(IndirectNameMap::new(reader)?),
+            ty => Name::Unknown { ty, data: reader.remaining_buffer(), range: reader.remaining_range() },
+        })
+    }
+}
+
+/// The name of the module, after which no byte comes.
+fn module(mut reader: BinaryReader<'_>) -> Result<Name<'_>> {
+    let name_range = reader.remaining_range();
+    let name = reader.read_string()?;
+    reader.expect_end(NAME_TRAILING)?;
+    Ok(Name::Module { name, name_range })
+}

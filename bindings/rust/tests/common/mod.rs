@@ -1,0 +1,124 @@
+//! What is read, as the texts of `tools/golden.jsonl`.
+#![allow(dead_code)]
+pub mod customs;
+pub mod items;
+
+use pulleynavy::*;
+use std::fmt::Write;
+use std::ops::Range;
+
+/// What an item says, as a text.
+pub trait Show {
+    fn show(&self) -> String;
+}
+
+/// The bytes of a hexadecimal text, in which `M` stands for the header of a module.
+pub fn bytes(text: &str) -> Vec<u8> {
+    let digits = text.replace('M', "0061736d01000000").replace(char::is_whitespace, "");
+    (0..digits.len()).step_by(2).map(|at| u8::from_str_radix(&digits[at..at + 2], 16).unwrap()).collect()
+}
+
+pub fn hex(bytes: &[u8]) -> String {
+    bytes.iter().fold(String::from("x"), |mut text, byte| {
+        write!(text, "{byte:02x}").unwrap();
+        text
+    })
+}
+
+pub fn fault(error: &BinaryReaderError) -> String {
+    let number = error.number().map_or(String::new(), |number| format!(": {number}"));
+    format!("fault {} {}{number}", error.offset(), error.message())
+}
+
+pub fn range(range: Range<u64>) -> String {
+    format!("{}..{}", range.start, range.end)
+}
+
+pub fn option<T: ToString>(value: Option<T>) -> String {
+    value.map_or("-".to_owned(), |value| value.to_string())
+}
+
+/// Texts with a space after each.
+pub fn joined(texts: impl Iterator<Item = String>) -> String {
+    texts.fold(String::new(), |all, text| all + &text + " ")
+}
+
+/// What a result says: what is shown of it, or its fault.
+pub fn told<T>(result: Result<T>, show: impl FnOnce(T) -> String) -> String {
+    result.map_or_else(|error| fault(&error), show)
+}
+
+/// A list that has no fault.
+pub fn owned<'a, T: FromReader<'a> + Show>(items: SectionLimited<'a, T>) -> String {
+    format!("[{}]", joined(items.into_iter().map(|item| item.unwrap().show())))
+}
+
+/// The range, the count and the items of a list, each item after its offset.
+pub fn listed<'a, T: FromReader<'a> + Show>(list: SectionLimited<'a, T>) -> String {
+    let head = format!("{} #{}", range(list.range()), list.count());
+    head + "[" + &joined(list.into_iter_with_offsets().map(|item| told(item, |(at, item)| format!("{at}:{}", item.show())))) + "]"
+}
+
+/// What an item is read as, and how many bytes it takes.
+pub fn item<'a, T: FromReader<'a> + Show>(mut reader: BinaryReader<'a>) -> Result<String> {
+    let item: T = reader.read()?;
+    Ok(format!("{} used {}", item.show(), reader.current_position()))
+}
+
+/// What counted items are read as.
+pub fn section<'a, T: FromReader<'a> + Show>(reader: BinaryReader<'a>) -> Result<String> {
+    SectionLimited::<T>::new(reader).map(listed)
+}
+
+/// What imports are read as, whatever groups they are in.
+pub fn flat(reader: BinaryReader<'_>) -> Result<String> {
+    let imports = ImportSectionReader::new(reader)?.into_imports_with_offsets();
+    Ok(joined(imports.map(|import| told(import, |(at, import)| format!("{at}:{}", import.show())))))
+}
+
+/// The line of a payload.
+pub fn event(payload: &Payload<'_>) -> String {
+    let count = match payload {
+        Payload::TypeSection(section) => section.count(),
+        Payload::ImportSection(section) => section.count(),
+        Payload::FunctionSection(section) => section.count(),
+        Payload::TableSection(section) => section.count(),
+        Payload::MemorySection(section) => section.count(),
+        Payload::GlobalSection(section) => section.count(),
+        Payload::ExportSection(section) => section.count(),
+        Payload::ElementSection(section) => section.count(),
+        Payload::DataSection(section) => section.count(),
+        Payload::TagSection(section) => section.count(),
+        other => return uncounted(other),
+    };
+    let (id, range) = payload.as_section().unwrap();
+    format!("section {id} {} {} {count}", range.start, range.end)
+}
+
+fn uncounted(payload: &Payload<'_>) -> String {
+    let place = |range: &Range<u64>| format!("{} {}", range.start, range.end);
+    match payload {
+        Payload::Version { num, encoding, range } => format!("version {} {num} {}", place(range), format!("{encoding:?}").to_lowercase()),
+        Payload::StartSection { func, range } => format!("start {} {func}", place(range)),
+        Payload::DataCountSection { count, range } => format!("datacount {} {count}", place(range)),
+        Payload::CodeSectionStart { count, range, size } => format!("code {} {count} {size}", place(range)),
+        Payload::CodeSectionEntry(body) => format!("body {}", place(&body.range())),
+        Payload::CustomSection(section) => format!("custom {} {}", place(&section.range()), section.data_offset()),
+        Payload::UnknownSection { id, range, .. } => format!("unknown {id} {}", place(range)),
+        Payload::End(offset) => format!("end {offset}"),
+        other => panic!("{other:?}"),
+    }
+}
+
+/// The lines of the payloads of a whole stream, the last of them its end or its fault.
+pub fn events(stream: &[u8]) -> Vec<String> {
+    Parser::new(0).parse_all(stream).map(|payload| told(payload, |payload| event(&payload))).collect()
+}
+
+/// What a call of `parse` answers.
+pub fn answer(result: Result<Chunk<'_>>) -> String {
+    told(result, |chunk| match chunk {
+        Chunk::NeedMoreData(hint) => format!("need {hint}"),
+        Chunk::Parsed { payload, .. } => event(&payload),
+    })
+}

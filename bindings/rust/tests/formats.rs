@@ -1,0 +1,268 @@
+//! The tables of formats: each type, instruction, subsection, flag and relocation.
+mod common;
+
+use common::customs::*;
+use common::*;
+use pulleynavy::*;
+
+fn shown<'a, T: FromReader<'a> + Show>(bytes: &'a [u8]) -> String {
+    told(item::<T>(BinaryReader::new(bytes, 0)), |text| text)
+}
+
+/// The abstract heap types by their bytes.
+const HEAPS: [(u8, &str); 12] = [
+    (0x70, "func"),
+    (0x6f, "extern"),
+    (0x6e, "any"),
+    (0x6d, "eq"),
+    (0x6c, "i31"),
+    (0x6b, "struct"),
+    (0x6a, "array"),
+    (0x69, "exn"),
+    (0x71, "none"),
+    (0x72, "noextern"),
+    (0x73, "nofunc"),
+    (0x74, "noexn"),
+];
+
+#[test]
+fn value_types() {
+    for (byte, text) in [(0x7f, "i32"), (0x7e, "i64"), (0x7d, "f32"), (0x7c, "f64"), (0x7b, "v128")] {
+        assert_eq!(shown::<ValType>(&[byte]), format!("{text} used 1"));
+    }
+    for (byte, heap) in HEAPS {
+        assert_eq!(shown::<ValType>(&[byte]), format!("null:{heap} used 1"));
+        assert_eq!(shown::<ValType>(&[0x63, byte]), format!("null:{heap} used 2"));
+        assert_eq!(shown::<ValType>(&[0x64, byte]), format!("ref:{heap} used 2"));
+    }
+    assert_eq!(shown::<ValType>(&[0x64, 0xff, 0xff, 0xff, 0xff, 0x0f]), "ref:4294967295 used 6");
+}
+
+#[test]
+fn all_other_bytes_begin_no_value_type() {
+    let known = |byte: u8| (0x7b..=0x7f).contains(&byte) || byte == 0x63 || byte == 0x64 || HEAPS.iter().any(|(heap, _)| *heap == byte);
+    for byte in (0..=u8::MAX).filter(|byte| !known(*byte)) {
+        assert_eq!(shown::<ValType>(&[byte, 0, 0]), format!("fault 0 invalid leading byte for value type: {byte}"));
+    }
+}
+
+#[test]
+fn storage_types() {
+    for (digits, text) in [
+        ("5e 78 00", "array field(i8 false )"),
+        ("5e 77 01", "array field(i16 true )"),
+        ("5e 7c 01", "array field(f64 true )"),
+        ("5f 02 7f 00 63 00 01", "struct [field(i32 false ) field(null:0 true ) ]"),
+    ] {
+        let bytes = bytes(digits);
+        assert_eq!(shown::<RecGroup>(&bytes), format!("rec(false [sub(true - {text} ) ] ) used {}", bytes.len()));
+    }
+}
+
+/// The bytes of each constant instruction.
+const INSTRUCTIONS: [&str; 25] = [
+    "41 ff 00",
+    "42 ff 00",
+    "43 00 00 00 80",
+    "44 00 00 00 00 00 00 00 80",
+    "fd 0c 00 01 02 03 04 05 06 07 08 09 0a 0b 0c 0d 0e 0f",
+    "23 80 01",
+    "d0 70",
+    "d0 05",
+    "d2 05",
+    "6a",
+    "6b",
+    "6c",
+    "7c",
+    "7d",
+    "7e",
+    "fb 00 05",
+    "fb 01 05",
+    "fb 06 05",
+    "fb 07 05",
+    "fb 08 05 06",
+    "fb 1a",
+    "fb 1b",
+    "fb 9c 00",
+    "fd 8c 00 00 01 02 03 04 05 06 07 08 09 0a 0b 0c 0d 0e 0f",
+    "",
+];
+
+#[test]
+fn constant_instructions() {
+    for digits in INSTRUCTIONS {
+        let bytes = bytes(&format!("{digits} 0b 0b"));
+        let size = bytes.len() - 1;
+        assert_eq!(shown::<ConstExpr>(&bytes), format!("0..{size} used {size}"), "{digits}");
+    }
+}
+
+#[test]
+fn all_other_bytes_are_no_constant_instruction() {
+    let known: Vec<u8> = INSTRUCTIONS.iter().filter_map(|digits| bytes(digits).first().copied()).chain([0x0b]).collect();
+    for byte in (0..=u8::MAX).filter(|byte| !known.contains(byte)) {
+        assert_eq!(shown::<ConstExpr>(&[byte, 0, 0, 0, 0x0b]), "fault 0 not a constant instruction");
+    }
+    for (digits, at) in [("fb 02 00 0b", 0), ("fd 0d 00 0b", 0), ("6a fb 80 01 0b", 1)] {
+        assert_eq!(shown::<ConstExpr>(&bytes(digits)), format!("fault {at} not a constant instruction"));
+    }
+}
+
+#[test]
+fn kinds_of_imports_and_exports() {
+    for (digits, text) in [
+        ("00 05", "func 5"),
+        ("01 70 01 02 03", "table(null:func false 2 3 false )"),
+        ("02 07 02 03", "memory(true true 2 3 - )"),
+        ("03 7e 03", "global(i64 true true )"),
+        ("04 00 06", "tag(exception 6 )"),
+        ("20 07", "funcexact 7"),
+    ] {
+        let bytes = bytes(&format!("01 6d 01 61 {digits}"));
+        assert_eq!(shown::<Imports>(&bytes), told_whole(&format!("single 0 import(x6d x61 {text} )"), &bytes));
+    }
+    for (byte, kind) in [(0, "func"), (1, "table"), (2, "memory"), (3, "global"), (4, "tag")] {
+        assert_eq!(shown::<Export>(&[1, b'e', byte, 7]), format!("export(x65 {kind} 7 ) used 4"));
+    }
+    assert_eq!(BinaryReader::new(&[0x20], 0).read(), Ok(ExternalKind::FuncExact));
+}
+
+/// A text of all bytes.
+fn told_whole(text: &str, bytes: &[u8]) -> String {
+    format!("{text} used {}", bytes.len())
+}
+
+/// Limits are numbers of 64 bits with that feature, and of 32 bits without it, whatever their flags say.
+#[test]
+fn limits() {
+    let large = bytes("00 80 80 80 80 10");
+    let wide = bytes("04 80 80 80 80 10");
+    for (limits, is_64) in [(&large, false), (&wide, true)] {
+        let read = |features| BinaryReader::new_features(limits, 0, features).read::<MemoryType>();
+        let memory = read(WasmFeatures::MEMORY64).unwrap();
+        assert_eq!((memory.initial, memory.memory64), (1 << 32, is_64));
+        assert_eq!(read(WasmFeatures::empty()).map_err(|error| fault(&error)), Err("fault 5 invalid var_u32: integer too large".to_owned()));
+    }
+}
+
+/// A subsection of each id with a count of 0, ascending.
+#[test]
+fn subsections_of_names() {
+    let digits: String = (1..=14).map(|id| format!("{id:02x} 01 00 ")).collect();
+    let maps = "1{} 2{} 3{} 4{} 5{} 6{} 7{} 8{} 9{} 10{} 11{} 12{} 13{}";
+    assert_eq!(names(BinaryReader::new(&bytes(&digits), 0)), Ok(format!("<{maps} unknown 14 x00 41..42 >")));
+}
+
+/// Which subsections hold names of names: there a first index with a count of 1 and one name.
+#[test]
+fn indirect_names() {
+    for id in 1..=13 {
+        let part = [id, 6, 1, 5, 1, 7, 1, b'n'];
+        let text = told(names(BinaryReader::new(&part, 0)), |text| text);
+        assert_eq!(text == format!("<{id}{{names(5 {{name(7 x6e ) }} ) }} >"), [2, 3, 10, 12, 13].contains(&id), "{text}");
+    }
+}
+
+#[test]
+fn flags_of_symbols_and_segments() {
+    let symbols = [
+        (0, SymbolFlags::BINDING_WEAK),
+        (1, SymbolFlags::BINDING_LOCAL),
+        (2, SymbolFlags::VISIBILITY_HIDDEN),
+        (4, SymbolFlags::UNDEFINED),
+        (5, SymbolFlags::EXPORTED),
+        (6, SymbolFlags::EXPLICIT_NAME),
+        (7, SymbolFlags::NO_STRIP),
+        (8, SymbolFlags::TLS),
+        (9, SymbolFlags::ABSOLUTE),
+    ];
+    assert!(symbols.iter().all(|(bit, flag)| flag.bits() == 1 << bit && SymbolFlags::all().contains(*flag)));
+    assert_eq!((SymbolFlags::all().bits(), SymbolFlags::default()), (0b11_1111_0111, SymbolFlags::empty()));
+    assert_eq!((SegmentFlags::STRINGS.bits(), SegmentFlags::TLS.bits(), SegmentFlags::all().bits()), (1, 2, 3));
+    assert_eq!((WasmFeatures::MEMORY64.bits(), WasmFeatures::COMPACT_IMPORTS.bits(), WasmFeatures::all().bits()), (1, 2, 3));
+    // Bits without a name are kept.
+    let mut flags = BinaryReader::new(b"\x88\x08", 0).read::<SymbolFlags>().unwrap();
+    assert_eq!(flags.bits(), 0x408);
+    flags.remove(SymbolFlags::from_bits_retain(8));
+    assert_eq!(flags.union(SymbolFlags::TLS).bits(), 0x500);
+    assert_eq!(BinaryReader::new(&[5], 0).read(), Ok(SegmentFlags::from_bits_retain(5)));
+}
+
+/// The kinds of symbols with each form of their flags: defined, undefined, and undefined with a name of its own.
+#[test]
+fn kinds_of_symbols() {
+    for (kind, word) in [(0, "func"), (2, "global"), (4, "event"), (5, "table")] {
+        for (flags, name) in [(0, "x66"), (16, "-"), (80, "x66")] {
+            let bytes = [kind, flags, 3, 1, b'f'];
+            let size = if name == "-" { 3 } else { 5 };
+            assert_eq!(shown::<SymbolInfo>(&bytes), format!("{word} {flags} 3 {name} used {size}"));
+        }
+    }
+    assert_eq!(shown::<SymbolInfo>(&[1, 16, 1, b'd']), "data 16 x64 - used 4");
+    let place = DefinedDataSymbol { index: 2, offset: 0, size: 4 };
+    assert_eq!(BinaryReader::new(&[2, 0, 4], 0).read(), Ok(place));
+}
+
+#[test]
+fn kinds_of_symbols_of_comdats() {
+    for (byte, kind) in ["data", "func", "global", "event", "table", "section"].into_iter().enumerate() {
+        assert_eq!(shown::<ComdatSymbol>(&[byte as u8, 7]), format!("symbol({kind} 7 ) used 2"));
+        let read = BinaryReader::new(&[byte as u8], 0).read::<ComdatSymbolKind>();
+        assert_eq!(read.map(|kind| format!("{kind:?}").to_lowercase()), Ok(kind.to_owned()));
+    }
+}
+
+/// The types of relocations in the order of their numbers: the bits of the addend, and how many bytes are filled in.
+const RELOCATIONS: [(&str, u32, usize); 27] = [
+    ("FunctionIndexLeb", 0, 5),
+    ("TableIndexSleb", 0, 5),
+    ("TableIndexI32", 0, 4),
+    ("MemoryAddrLeb", 32, 5),
+    ("MemoryAddrSleb", 32, 5),
+    ("MemoryAddrI32", 32, 4),
+    ("TypeIndexLeb", 0, 5),
+    ("GlobalIndexLeb", 0, 5),
+    ("FunctionOffsetI32", 32, 4),
+    ("SectionOffsetI32", 32, 4),
+    ("EventIndexLeb", 0, 5),
+    ("MemoryAddrRelSleb", 32, 5),
+    ("TableIndexRelSleb", 0, 5),
+    ("GlobalIndexI32", 0, 4),
+    ("MemoryAddrLeb64", 64, 10),
+    ("MemoryAddrSleb64", 64, 10),
+    ("MemoryAddrI64", 64, 8),
+    ("MemoryAddrRelSleb64", 64, 10),
+    ("TableIndexSleb64", 0, 10),
+    ("TableIndexI64", 0, 8),
+    ("TableNumberLeb", 0, 5),
+    ("MemoryAddrTlsSleb", 32, 5),
+    ("FunctionOffsetI64", 64, 8),
+    ("MemoryAddrLocrelI32", 32, 4),
+    ("TableIndexRelSleb64", 0, 10),
+    ("MemoryAddrTlsSleb64", 64, 10),
+    ("FunctionIndexI32", 0, 4),
+];
+
+#[test]
+fn types_of_relocations() {
+    for number in 0..=u8::MAX {
+        let read = BinaryReader::new(&[number], 0).read::<RelocationType>();
+        let ty = RelocationType::try_from(number);
+        assert_eq!(read.ok(), ty.ok());
+        assert_eq!(ty.is_ok(), usize::from(number) < RELOCATIONS.len());
+        let Ok(ty) = ty else { continue };
+        let bits = [RelocAddendKind::None, RelocAddendKind::Addend32, RelocAddendKind::Addend64].iter().position(|kind| *kind == ty.addend_kind());
+        let (name, addend, extent) = RELOCATIONS[usize::from(number)];
+        assert_eq!((format!("{ty:?}").as_str(), bits, ty.extent()), (name, Some(addend as usize / 32), extent));
+        // The greatest negative addend of 64 bits is too long for 32, and no byte of it is read where there is none.
+        let bytes = [&[number, 9, 5][..], &[0x80; 9], &[0x7f]].concat();
+        let wanted = match addend {
+            0 => format!("reloc({number} 9 5 0 ) used 3"),
+            32 => "fault 7 invalid var_i32: integer representation too long".to_owned(),
+            _ => format!("reloc({number} 9 5 {} ) used 13", i64::MIN),
+        };
+        assert_eq!(shown::<RelocationEntry>(&bytes), wanted);
+        let entry = BinaryReader::new(&[number, 9, 5, 0], 0).read::<RelocationEntry>().unwrap();
+        assert_eq!(entry.relocation_range(), Ok(9..9 + extent));
+    }
+}
