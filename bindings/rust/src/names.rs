@@ -31,12 +31,8 @@ pub struct IndirectNaming<'a> {
 
 impl<'a> FromReader<'a> for IndirectNaming<'a> {
     fn from_reader(reader: &mut BinaryReader<'a>) -> Result<Self> {
-        let index = reader.read_var_u32()?;
-        let names = reader.skip(|reader| {
-            let count = reader.read_var_u32()?;
-            (0..count).try_for_each(|_| reader.read_var_u32().and_then(|_| reader.skip_string()))
-        })?;
-        Ok(IndirectNaming { index, names: NameMap::new(names)? })
+        let (window, plain) = call!(pulleynavy_indirect_naming, reader);
+        Ok(IndirectNaming { index: plain.index, names: NameMap::of(SectionLimited::list(window, plain.names, plain.count)) })
     }
 }
 
@@ -71,7 +67,11 @@ macro_rules! ascending {
             /// # Errors
             /// The fault of the count.
             pub fn new(reader: BinaryReader<'a>) -> Result<Self> {
-                Ok($name { names: SectionLimited::new(reader)?.into_iter(), last: Last::default() })
+                Ok($name::of(SectionLimited::new(reader)?))
+            }
+
+            fn of(names: SectionLimited<'a, $entry<'a>>) -> Self {
+                $name { names: names.into_iter(), last: Last::default() }
             }
 
             /// The offset at which the next entry begins.
