@@ -218,6 +218,26 @@ pub enum Chunk<'a> {
 }
 
 /// A parser of a stream. A copy of it is a checkpoint.
+///
+/// A stream that comes in pieces is held by the caller until it is consumed:
+///
+/// ```
+/// use pulleynavy::{Chunk, Parser, Payload};
+///
+/// let mut pieces = b"\0asm\x01\0\0\0\x03\x02\x01\0\x0a\x04\x01\x02\0\x0b".chunks(5);
+/// let (mut parser, mut held, mut is_all) = (Parser::new(0), Vec::new(), false);
+/// loop {
+///     match parser.parse(&held, is_all)? {
+///         Chunk::Parsed { payload: Payload::End(offset), .. } => break assert_eq!(offset, 18),
+///         Chunk::Parsed { consumed, .. } => drop(held.drain(..consumed)),
+///         Chunk::NeedMoreData(_) => match pieces.next() {
+///             Some(piece) => held.extend_from_slice(piece),
+///             None => is_all = true,
+///         },
+///     }
+/// }
+/// # Ok::<(), pulleynavy::BinaryReaderError>(())
+/// ```
 #[derive(Clone, Debug)]
 pub struct Parser(ffi::Parser);
 

@@ -1,6 +1,7 @@
 //! Types.
+use crate::error::{GLOBAL_FLAGS, Lead};
 use crate::section::{call, pass};
-use crate::{BinaryReader, FromReader, Result, ffi};
+use crate::{BinaryReader, BinaryReaderError, FromReader, Result, Table, ffi};
 
 /// The type of a value.
 #[derive(Clone, Copy, Debug, PartialEq, Eq, Hash)]
@@ -18,6 +19,9 @@ pub enum ValType {
     /// A reference.
     Ref(RefType),
 }
+
+/// The byte before the heap type of a reference that may be null.
+const NULLABLE: u8 = 0x63;
 
 /// The type of a reference.
 #[derive(Clone, Copy, Debug, PartialEq, Eq, Hash)]
@@ -126,6 +130,30 @@ impl<'a> FromReader<'a> for ValType {
     fn from_reader(reader: &mut BinaryReader<'a>) -> Result<Self> {
         let (_, plain) = call!(pulleynavy_value_type, reader);
         Ok(val_type(plain.ty))
+    }
+}
+
+impl<'a> FromReader<'a> for RefType {
+    fn from_reader(reader: &mut BinaryReader<'a>) -> Result<Self> {
+        let (offset, byte) = (reader.original_position(), reader.peek()?);
+        match reader.read() {
+            Ok(ValType::Ref(ty)) => Ok(ty),
+            Err(error) if !error.is_leading_byte(Lead::Value) => Err(error),
+            _ => Err(BinaryReaderError::leading_byte(Lead::Reference, byte, offset)),
+        }
+    }
+}
+
+impl<'a> FromReader<'a> for HeapType {
+    fn from_reader(reader: &mut BinaryReader<'a>) -> Result<Self> {
+        // The library reads heap types in references: one to it is made, of a first byte and at most 5 more.
+        let (offset, size) = (reader.original_position(), reader.bytes_remaining().min(5));
+        let mut bytes = [NULLABLE, 0, 0, 0, 0, 0];
+        bytes[1..=size].copy_from_slice(&reader.remaining_buffer()[..size]);
+        let mut reference = BinaryReader::new(&bytes[..=size], 0);
+        let ty: RefType = reference.read().map_err(|error: BinaryReaderError| error.at(offset + error.offset() - 1))?;
+        reader.pass(reference.original_position() - 1);
+        Ok(ty.heap)
     }
 }
 
@@ -351,6 +379,29 @@ pub(crate) fn memory_type(ty: ffi::MemoryType) -> MemoryType {
 
 pub(crate) fn global_type(ty: ffi::GlobalType) -> GlobalType {
     GlobalType { content_type: val_type(ty.content), mutable: ty.is_mutable != 0, shared: ty.shared != 0 }
+}
+
+/// The first of the two bytes before the type of a table that has an expression.
+const WITH_EXPRESSION: u8 = 0x40;
+
+impl<'a> FromReader<'a> for TableType {
+    fn from_reader(reader: &mut BinaryReader<'a>) -> Result<Self> {
+        if reader.peek()? == WITH_EXPRESSION {
+            return Err(BinaryReaderError::leading_byte(Lead::Reference, WITH_EXPRESSION, reader.original_position()));
+        }
+        Ok(reader.read::<Table>()?.ty)
+    }
+}
+
+impl<'a> FromReader<'a> for GlobalType {
+    fn from_reader(reader: &mut BinaryReader<'a>) -> Result<Self> {
+        let content_type = reader.read()?;
+        let offset = reader.original_position();
+        match reader.read_u8()? {
+            flags @ 0..=3 => Ok(GlobalType { content_type, mutable: flags & 1 != 0, shared: flags & 2 != 0 }),
+            _ => Err(BinaryReaderError::of_kind(GLOBAL_FLAGS, offset)),
+        }
+    }
 }
 
 impl<'a> FromReader<'a> for MemoryType {

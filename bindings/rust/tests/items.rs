@@ -95,6 +95,42 @@ fn tables_memories_globals_exports_and_tags() {
 }
 
 #[test]
+fn parts_of_types_and_imports() {
+    let rows: &[(Reader, &str, &str)] = &[
+        (item!(RefType), "70", "null:func used 1"),
+        (item!(RefType), "64 05", "ref:5 used 2"),
+        (item!(RefType), "7f", "fault 0 invalid leading byte for reference type: 127"),
+        (item!(RefType), "05", "fault 0 invalid leading byte for reference type: 5"),
+        (item!(RefType), "63 40", "fault 1 invalid leading byte for heap type: 64"),
+        (item!(RefType), "64", "fault 1 unexpected end-of-file"),
+        (item!(RefType), "", "fault 0 unexpected end-of-file"),
+        (item!(HeapType), "6b", "struct used 1"),
+        (item!(HeapType), "85 00", "5 used 2"),
+        (item!(HeapType), "ff ff ff ff 0f ff", "4294967295 used 5"),
+        (item!(HeapType), "7f", "fault 0 invalid leading byte for heap type: 127"),
+        (item!(HeapType), "80 80 80 80 80", "fault 4 invalid var_s33: integer representation too long"),
+        (item!(HeapType), "80 80 80 80 20", "fault 4 invalid var_s33: integer too large"),
+        (item!(HeapType), "80 80", "fault 2 unexpected end-of-file"),
+        (item!(HeapType), "", "fault 0 unexpected end-of-file"),
+        (item!(ExternalKind), "20", "funcexact used 1"),
+        (item!(ExternalKind), "06", "fault 0 invalid leading byte for external kind: 6"),
+        (item!(TypeRef), "00 05", "func 5 used 2"),
+        (item!(TypeRef), "01 70 01 02 03", "table(null:func false 2 3 false ) used 5"),
+        (item!(TypeRef), "01 40 00 70 00 01 d0 70 0b", "fault 1 invalid leading byte for reference type: 64"),
+        (item!(TypeRef), "02 07 02 03", "memory(true true 2 3 - ) used 4"),
+        (item!(TypeRef), "03 7e 03", "global(i64 true true ) used 3"),
+        (item!(TypeRef), "03 7e 04", "fault 2 malformed global flags"),
+        (item!(TypeRef), "04 01 05", "fault 1 invalid tag attributes"),
+        (item!(TypeRef), "20 07", "funcexact 7 used 2"),
+        (item!(Import), "01 6d 00 00 05", "import(x6d x func 5 ) used 5"),
+        (item!(Import), "01 6d 00 7f 01 01 61 00 03", "fault 3 invalid leading byte for external kind: 127"),
+    ];
+    agree(rows, 0, WasmFeatures::all());
+    let high = u64::MAX - 9;
+    agree(&[(item!(HeapType), "63", &format!("fault {high} invalid leading byte for heap type: 99"))], high, WasmFeatures::all());
+}
+
+#[test]
 fn constant_expressions() {
     let rows: &[(Reader, &str, &str)] = &[
         (item!(ConstExpr), "41 ff ff ff ff 7f 0b", "0..7 used 7"),

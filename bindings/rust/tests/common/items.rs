@@ -33,11 +33,22 @@ impl Show for ConstExpr<'_> {
 
 impl Show for RefType {
     fn show(&self) -> String {
-        let heap = match self.heap_type() {
+        format!("{}:{}", if self.is_nullable() { "null" } else { "ref" }, self.heap_type().show())
+    }
+}
+
+impl Show for HeapType {
+    fn show(&self) -> String {
+        match self {
             HeapType::Concrete(index) => index.to_string(),
             other => format!("{other:?}").to_lowercase(),
-        };
-        format!("{}:{heap}", if self.is_nullable() { "null" } else { "ref" })
+        }
+    }
+}
+
+impl Show for ExternalKind {
+    fn show(&self) -> String {
+        format!("{self:?}").to_lowercase()
     }
 }
 
@@ -161,7 +172,7 @@ impl Show for Global<'_> {
 
 impl Show for Export<'_> {
     fn show(&self) -> String {
-        format!("export({} {} {} )", self.name.show(), format!("{:?}", self.kind).to_lowercase(), self.index)
+        format!("export({} {} {} )", self.name.show(), self.kind.show(), self.index)
     }
 }
 

@@ -122,3 +122,19 @@ pub fn answer(result: Result<Chunk<'_>>) -> String {
         Chunk::Parsed { payload, .. } => event(&payload),
     })
 }
+
+/// The stream and the lines of a row of `tools/golden.jsonl`, which has no escapes.
+fn golden_row(line: &str) -> (Vec<u8>, Vec<String>) {
+    let stream = bytes(line.split("\"hex\": \"").nth(1).unwrap().split('"').next().unwrap());
+    let lines = line.split("\"lines\": ").nth(1).unwrap().split('"').skip(1).step_by(2).map(str::to_owned).collect();
+    (stream, lines)
+}
+
+/// The streams of `tools/golden.jsonl`, or of the file that `PULLEYNAVY_GOLDEN` names, with their lines.
+pub fn golden() -> Vec<(Vec<u8>, Vec<String>)> {
+    let usual = concat!(env!("CARGO_MANIFEST_DIR"), "/../../tools/golden.jsonl").to_owned();
+    let text = std::fs::read_to_string(std::env::var("PULLEYNAVY_GOLDEN").unwrap_or(usual)).unwrap();
+    let rows: Vec<_> = text.lines().map(golden_row).collect();
+    assert!(rows.len() > 400);
+    rows
+}
