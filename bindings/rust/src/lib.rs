@@ -33,6 +33,7 @@ mod items;
 mod known;
 mod limits;
 mod linking;
+mod list;
 mod names;
 mod parser;
 mod reader;
@@ -41,9 +42,7 @@ mod section;
 mod strip;
 mod types;
 
-pub use cores::{
-    CoreDumpInstance, CoreDumpInstancesSection, CoreDumpModulesSection, CoreDumpSection, CoreDumpStackFrame, CoreDumpStackSection, CoreDumpValue, CoreModule,
-};
+pub use cores::{CoreDumpInstance, CoreDumpInstancesSection, CoreDumpModulesSection, CoreDumpSection, CoreDumpStackFrame, CoreDumpStackSection, CoreDumpValue};
 pub use custom::{CustomSectionReader, Subsection, Subsections};
 pub use error::{BinaryReaderError, Result};
 pub use flags::{SegmentFlags, SymbolFlags, WasmFeatures};
@@ -58,6 +57,7 @@ pub use linking::{
     Comdat, ComdatMap, ComdatSymbol, ComdatSymbolKind, DefinedDataSymbol, InitFunc, InitFuncMap, Linking, LinkingSectionReader, Segment, SegmentMap,
     SymbolInfo, SymbolInfoMap,
 };
+pub use list::List;
 pub use names::{IndirectNameMap, IndirectNaming, Name, NameMap, NameSectionReader, Naming};
 pub use parser::{
     Chunk, DataSectionReader, ElementSectionReader, Encoding, ExportSectionReader, FunctionBody, FunctionSectionReader, GlobalSectionReader,
@@ -68,6 +68,5 @@ pub use relocations::{RelocAddendKind, RelocSectionReader, RelocationEntry, Relo
 pub use section::{FromReader, SectionLimited, SectionLimitedIntoIter, SectionLimitedIntoIterWithOffsets};
 pub use strip::strip;
 pub use types::{
-    CompositeType, FieldType, FieldTypes, FuncType, GlobalType, HeapType, MemoryType, RecGroup, RefType, StorageType, SubType, SubTypes, TableType, TagKind,
-    TagType, ValType, ValTypes,
+    CompositeType, FieldType, FuncType, GlobalType, HeapType, MemoryType, RecGroup, RefType, StorageType, SubType, TableType, TagKind, TagType, ValType,
 };

@@ -1,7 +1,7 @@
 //! Types.
 use crate::error::{GLOBAL_FLAGS, Lead};
-use crate::section::{call, pass};
-use crate::{BinaryReader, BinaryReaderError, FromReader, Result, Table, ffi};
+use crate::section::call;
+use crate::{BinaryReader, BinaryReaderError, FromReader, List, Result, Table, ffi};
 
 /// The type of a value.
 #[derive(Clone, Copy, Debug, PartialEq, Eq, Hash)]
@@ -169,63 +169,21 @@ impl<'a> FromReader<'a> for FieldType {
     }
 }
 
-/// So many items, which were read before and have no fault.
-macro_rules! iterator {
-    ($(#[$doc:meta])* $name:ident, $item:ty) => {
-        $(#[$doc])*
-        #[derive(Clone, Debug)]
-        pub struct $name<'a> {
-            reader: BinaryReader<'a>,
-            left: u32,
-        }
-
-        impl<'a> $name<'a> {
-            /// So many items, which a reader passes over.
-            fn pass(reader: &mut BinaryReader<'a>, left: u32) -> Result<Self> {
-                let items = reader.skip(|reader| pass::<$item>(reader, left))?;
-                Ok($name { reader: items, left })
-            }
-        }
-
-        impl<'a> Iterator for $name<'a> {
-            type Item = $item;
-
-            fn next(&mut self) -> Option<$item> {
-                self.left = self.left.checked_sub(1)?;
-                self.reader.read().ok()
-            }
-
-            fn size_hint(&self) -> (usize, Option<usize>) {
-                (self.left as usize, Some(self.left as usize))
-            }
-        }
-
-        impl ExactSizeIterator for $name<'_> {}
-    };
-}
-
-iterator!(/// The types of parameters or results.
-    ValTypes, ValType);
-iterator!(/// The fields of a structure.
-    FieldTypes, FieldType);
-iterator!(/// The types of a group.
-    SubTypes, SubType<'a>);
-
 /// The type of a function.
 #[derive(Clone, Debug)]
 pub struct FuncType<'a> {
-    params: ValTypes<'a>,
-    results: ValTypes<'a>,
+    params: List<'a, ValType>,
+    results: List<'a, ValType>,
 }
 
 impl<'a> FuncType<'a> {
     /// The types of its parameters.
-    pub fn params(&self) -> ValTypes<'a> {
+    pub fn params(&self) -> List<'a, ValType> {
         self.params.clone()
     }
 
     /// The types of its results.
-    pub fn results(&self) -> ValTypes<'a> {
+    pub fn results(&self) -> List<'a, ValType> {
         self.results.clone()
     }
 }
@@ -238,7 +196,7 @@ pub enum CompositeType<'a> {
     /// Arrays of this element.
     Array(FieldType),
     /// Structures with these fields.
-    Struct(FieldTypes<'a>),
+    Struct(List<'a, FieldType>),
 }
 
 /// A type, and the type that it extends.
@@ -257,12 +215,11 @@ impl<'a> FromReader<'a> for SubType<'a> {
         let (_, head) = call!(pulleynavy_subtype, reader);
         let composite_type = match head.kind {
             0 => {
-                let params = ValTypes::pass(reader, head.count)?;
-                let count = reader.read_var_u32()?;
-                CompositeType::Func(FuncType { params, results: ValTypes::pass(reader, count)? })
+                let params = List::pass(reader, head.count, ValType::from_reader)?;
+                CompositeType::Func(FuncType { params, results: reader.read()? })
             }
             1 => CompositeType::Array(reader.read()?),
-            _ => CompositeType::Struct(FieldTypes::pass(reader, head.count)?),
+            _ => CompositeType::Struct(List::pass(reader, head.count, FieldType::from_reader)?),
         };
         let supertype_idx = (head.has_supertype != 0).then_some(head.supertype);
         Ok(SubType { is_final: head.is_final != 0, supertype_idx, composite_type })
@@ -273,7 +230,7 @@ impl<'a> FromReader<'a> for SubType<'a> {
 #[derive(Clone, Debug)]
 pub struct RecGroup<'a> {
     explicit: bool,
-    types: SubTypes<'a>,
+    types: List<'a, SubType<'a>>,
 }
 
 impl<'a> RecGroup<'a> {
@@ -283,12 +240,12 @@ impl<'a> RecGroup<'a> {
     }
 
     /// The types of the group, in their order.
-    pub fn types(&self) -> SubTypes<'a> {
+    pub fn types(&self) -> List<'a, SubType<'a>> {
         self.types.clone()
     }
 
     /// The same.
-    pub fn into_types(self) -> SubTypes<'a> {
+    pub fn into_types(self) -> List<'a, SubType<'a>> {
         self.types
     }
 }
@@ -296,7 +253,7 @@ impl<'a> RecGroup<'a> {
 impl<'a> FromReader<'a> for RecGroup<'a> {
     fn from_reader(reader: &mut BinaryReader<'a>) -> Result<Self> {
         let (_, head) = call!(pulleynavy_type_group, reader);
-        Ok(RecGroup { explicit: head.is_explicit != 0, types: SubTypes::pass(reader, head.count)? })
+        Ok(RecGroup { explicit: head.is_explicit != 0, types: List::pass(reader, head.count, SubType::from_reader)? })
     }
 }
 

@@ -72,17 +72,12 @@ impl Show for FieldType {
     }
 }
 
-/// Types in brackets.
-fn types<T: Show>(types: impl Iterator<Item = T>) -> String {
-    format!("[{}]", joined(types.map(|ty| ty.show())))
-}
-
 impl Show for SubType<'_> {
     fn show(&self) -> String {
         let composite = match &self.composite_type {
-            CompositeType::Func(ty) => format!("func({} {} )", types(ty.params()), types(ty.results())),
+            CompositeType::Func(ty) => format!("func({} {} )", owned(ty.params()), owned(ty.results())),
             CompositeType::Array(ty) => format!("array {}", ty.show()),
-            CompositeType::Struct(fields) => format!("struct {}", types(fields.clone())),
+            CompositeType::Struct(fields) => format!("struct {}", owned(fields.clone())),
         };
         format!("sub({} {} {composite} )", self.is_final, option(self.supertype_idx))
     }
@@ -90,7 +85,7 @@ impl Show for SubType<'_> {
 
 impl Show for RecGroup<'_> {
     fn show(&self) -> String {
-        format!("rec({} {} )", self.is_explicit_rec_group(), types(self.types()))
+        format!("rec({} {} )", self.is_explicit_rec_group(), owned(self.types()))
     }
 }
 

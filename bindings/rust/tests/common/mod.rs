@@ -49,8 +49,8 @@ pub fn told<T>(result: Result<T>, show: impl FnOnce(T) -> String) -> String {
 }
 
 /// A list that has no fault.
-pub fn owned<'a, T: FromReader<'a> + Show>(items: SectionLimited<'a, T>) -> String {
-    format!("[{}]", joined(items.into_iter().map(|item| item.unwrap().show())))
+pub fn owned<T: Show>(items: impl Iterator<Item = T>) -> String {
+    format!("[{}]", joined(items.map(|item| item.show())))
 }
 
 /// The range, the count and the items of a list, each item after its offset.
@@ -74,6 +74,22 @@ pub fn section<'a, T: FromReader<'a> + Show>(reader: BinaryReader<'a>) -> Result
 pub fn flat(reader: BinaryReader<'_>) -> Result<String> {
     let imports = ImportSectionReader::new(reader)?.into_imports_with_offsets();
     Ok(joined(imports.map(|import| told(import, |(at, import)| format!("{at}:{}", import.show())))))
+}
+
+/// What bytes are read as.
+pub type Reader = for<'a> fn(BinaryReader<'a>) -> Result<String>;
+
+/// Asserts what readers make of bytes at an offset: a text, or that of their fault.
+pub fn agree_at(rows: &[(Reader, &str, &str)], offset: u64, features: WasmFeatures) {
+    for (read, digits, text) in rows {
+        let bytes = bytes(digits);
+        assert_eq!(told(read(BinaryReader::new_features(&bytes, offset, features)), |text| text), *text, "{digits}");
+    }
+}
+
+/// The same at offset 0, with all features.
+pub fn agree(rows: &[(Reader, &str, &str)]) {
+    agree_at(rows, 0, WasmFeatures::all());
 }
 
 /// The line of a payload.
