@@ -1,7 +1,7 @@
 //! Imports.
 use crate::ffi;
+use crate::kinds::{exception_tag, global_type, memory_type, table_type};
 use crate::section::{SectionLimitedIntoIter, SectionLimitedIntoIterWithOffsets, call};
-use crate::types::{exception_tag, global_type, memory_type, table_type};
 use crate::{BinaryReader, ExternalKind, FromReader, GlobalType, MemoryType, Result, SectionLimited, TableType, TagType};
 
 /// What is imported, with its type.
