@@ -1,7 +1,7 @@
 //! Core dumps.
 use crate::error::{CORE_START_BYTE, CUSTOM_TRAILING};
-use crate::section::{call, list};
-use crate::{BinaryReader, BinaryReaderError, FromReader, Result, SectionLimited};
+use crate::section::call;
+use crate::{BinaryReader, BinaryReaderError, FromReader, List, Result};
 
 /// The section `core`.
 #[derive(Clone, Copy, Debug, PartialEq, Eq, Hash)]
@@ -25,8 +25,8 @@ impl<'a> CoreDumpSection<'a> {
 /// The section `coremodules`.
 #[derive(Clone, Debug)]
 pub struct CoreDumpModulesSection<'a> {
-    /// The modules.
-    pub modules: SectionLimited<'a, CoreModule<'a>>,
+    /// The names of the modules.
+    pub modules: List<'a, &'a str>,
 }
 
 impl<'a> CoreDumpModulesSection<'a> {
@@ -36,7 +36,7 @@ impl<'a> CoreDumpModulesSection<'a> {
     /// The fault of a module, or of bytes after the last one. The byte with which a module begins is told at the start of the section.
     pub fn new(mut reader: BinaryReader<'a>) -> Result<Self> {
         let start = reader.original_position();
-        let modules = list(&mut reader).map_err(|error| if is_start_byte(&error) { error.at(start) } else { error })?;
+        let modules = List::counted(&mut reader, module).map_err(|error| if is_start_byte(&error) { error.at(start) } else { error })?;
         reader.expect_end(CUSTOM_TRAILING)?;
         Ok(CoreDumpModulesSection { modules })
     }
@@ -46,25 +46,17 @@ fn is_start_byte(error: &BinaryReaderError) -> bool {
     error.code() & 0xff == CORE_START_BYTE
 }
 
-/// A module of a core dump.
-#[derive(Clone, Copy, Debug, PartialEq, Eq, Hash)]
-pub struct CoreModule<'a> {
-    /// Its name.
-    pub name: &'a str,
-}
-
-impl<'a> FromReader<'a> for CoreModule<'a> {
-    fn from_reader(reader: &mut BinaryReader<'a>) -> Result<Self> {
-        let (window, plain) = call!(pulleynavy_core_module, reader);
-        Ok(CoreModule { name: window.text(plain.name) })
-    }
+/// The name of a module.
+fn module<'a>(reader: &mut BinaryReader<'a>) -> Result<&'a str> {
+    let (window, plain) = call!(pulleynavy_core_module, reader);
+    Ok(window.text(plain.name))
 }
 
 /// The section `coreinstances`.
 #[derive(Clone, Debug)]
 pub struct CoreDumpInstancesSection<'a> {
     /// The instances.
-    pub instances: SectionLimited<'a, CoreDumpInstance<'a>>,
+    pub instances: List<'a, CoreDumpInstance<'a>>,
 }
 
 impl<'a> CoreDumpInstancesSection<'a> {
@@ -73,7 +65,7 @@ impl<'a> CoreDumpInstancesSection<'a> {
     /// # Errors
     /// The fault of an instance, or of bytes after the last one.
     pub fn new(mut reader: BinaryReader<'a>) -> Result<Self> {
-        let instances = list(&mut reader)?;
+        let instances = reader.read()?;
         reader.expect_end(CUSTOM_TRAILING)?;
         Ok(CoreDumpInstancesSection { instances })
     }
@@ -85,15 +77,15 @@ pub struct CoreDumpInstance<'a> {
     /// The index of its module.
     pub module_index: u32,
     /// The indices of its memories.
-    pub memories: SectionLimited<'a, u32>,
+    pub memories: List<'a, u32>,
     /// The indices of its globals.
-    pub globals: SectionLimited<'a, u32>,
+    pub globals: List<'a, u32>,
 }
 
 impl<'a> FromReader<'a> for CoreDumpInstance<'a> {
     fn from_reader(reader: &mut BinaryReader<'a>) -> Result<Self> {
         let (_, plain) = call!(pulleynavy_core_instance, reader);
-        Ok(CoreDumpInstance { module_index: plain.module_index, memories: list(reader)?, globals: list(reader)? })
+        Ok(CoreDumpInstance { module_index: plain.module_index, memories: reader.read()?, globals: reader.read()? })
     }
 }
 
@@ -103,7 +95,7 @@ pub struct CoreDumpStackSection<'a> {
     /// The name of the thread.
     pub name: &'a str,
     /// Its frames.
-    pub frames: SectionLimited<'a, CoreDumpStackFrame<'a>>,
+    pub frames: List<'a, CoreDumpStackFrame<'a>>,
 }
 
 impl<'a> CoreDumpStackSection<'a> {
@@ -113,7 +105,7 @@ impl<'a> CoreDumpStackSection<'a> {
     /// The fault of the name or of a frame, or of bytes after the last one.
     pub fn new(mut reader: BinaryReader<'a>) -> Result<Self> {
         let (window, plain) = call!(pulleynavy_core_thread, reader);
-        let frames = list(&mut reader)?;
+        let frames = reader.read()?;
         reader.expect_end(CUSTOM_TRAILING)?;
         Ok(CoreDumpStackSection { name: window.text(plain.name), frames })
     }
@@ -129,16 +121,16 @@ pub struct CoreDumpStackFrame<'a> {
     /// Where its instruction is, in bytes from the start of the function's body.
     pub codeoffset: u32,
     /// Its locals.
-    pub locals: SectionLimited<'a, CoreDumpValue>,
+    pub locals: List<'a, CoreDumpValue>,
     /// Its stack.
-    pub stack: SectionLimited<'a, CoreDumpValue>,
+    pub stack: List<'a, CoreDumpValue>,
 }
 
 impl<'a> FromReader<'a> for CoreDumpStackFrame<'a> {
     fn from_reader(reader: &mut BinaryReader<'a>) -> Result<Self> {
         let (_, plain) = call!(pulleynavy_core_frame, reader);
         let (instanceidx, funcidx, codeoffset) = (plain.instance, plain.func, plain.code_offset);
-        Ok(CoreDumpStackFrame { instanceidx, funcidx, codeoffset, locals: list(reader)?, stack: list(reader)? })
+        Ok(CoreDumpStackFrame { instanceidx, funcidx, codeoffset, locals: reader.read()?, stack: reader.read()? })
     }
 }
 

@@ -14,6 +14,7 @@ pub(crate) const INVALID_U7: u32 = 22;
 pub(crate) const INVALID_BOOL: u32 = 23;
 pub(crate) const SIZE_MISMATCH: u32 = 24;
 const LEADING_BYTE: u32 = 25;
+pub(crate) const GLOBAL_FLAGS: u32 = 30;
 pub(crate) const NAMES_ORDER: u32 = 38;
 pub(crate) const INDIRECT_ORDER: u32 = 39;
 pub(crate) const NAME_SECTION_ORDER: u32 = 40;
@@ -27,6 +28,8 @@ pub(crate) enum Lead {
     ComdatSymbol = 2,
     Reloc = 4,
     External = 5,
+    Value = 6,
+    Reference = 7,
 }
 
 /// A fault of a stream: what it is, and where.
@@ -54,6 +57,11 @@ impl BinaryReaderError {
     pub(crate) fn leading_byte(lead: Lead, byte: u8, offset: u64) -> Self {
         let kind = LEADING_BYTE | (lead as u32) << 8;
         BinaryReaderError::new(ffi::Fault { kind, has_number: 1, number: byte.into(), offset })
+    }
+
+    /// Whether it is that a byte begins no such thing.
+    pub(crate) fn is_leading_byte(&self, lead: Lead) -> bool {
+        self.fault.kind == LEADING_BYTE | (lead as u32) << 8
     }
 
     /// The same fault at another offset.

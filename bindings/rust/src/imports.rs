@@ -1,8 +1,8 @@
 //! Imports.
 use crate::ffi;
+use crate::kinds::{exception_tag, global_type, memory_type, table_type};
 use crate::section::{SectionLimitedIntoIter, SectionLimitedIntoIterWithOffsets, call};
-use crate::types::{exception_tag, global_type, memory_type, table_type};
-use crate::{BinaryReader, FromReader, GlobalType, MemoryType, Result, SectionLimited, TableType, TagType};
+use crate::{BinaryReader, ExternalKind, FromReader, GlobalType, MemoryType, Result, SectionLimited, TableType, TagType};
 
 /// What is imported, with its type.
 #[derive(Clone, Copy, Debug, PartialEq, Eq, Hash)]
@@ -72,6 +72,26 @@ fn type_ref(ty: &ffi::ImportType) -> TypeRef {
         3 => TypeRef::Global(global_type(ty.global)),
         4 => TypeRef::Tag(exception_tag(ty.index)),
         _ => TypeRef::FuncExact(ty.index),
+    }
+}
+
+impl<'a> FromReader<'a> for TypeRef {
+    fn from_reader(reader: &mut BinaryReader<'a>) -> Result<Self> {
+        Ok(match reader.read()? {
+            ExternalKind::Func => TypeRef::Func(reader.read()?),
+            ExternalKind::Table => TypeRef::Table(reader.read()?),
+            ExternalKind::Memory => TypeRef::Memory(reader.read()?),
+            ExternalKind::Global => TypeRef::Global(reader.read()?),
+            ExternalKind::Tag => TypeRef::Tag(reader.read()?),
+            ExternalKind::FuncExact => TypeRef::FuncExact(reader.read()?),
+        })
+    }
+}
+
+/// An import by itself, which begins no group.
+impl<'a> FromReader<'a> for Import<'a> {
+    fn from_reader(reader: &mut BinaryReader<'a>) -> Result<Self> {
+        Ok(Import { module: reader.read()?, name: reader.read()?, ty: reader.read()? })
     }
 }
 

@@ -1,7 +1,8 @@
 //! Tables, globals, exports and segments.
 use crate::error::Lead;
+use crate::kinds::{global_type, table_type};
 use crate::section::{Window, call};
-use crate::types::{global_type, ref_type, table_type};
+use crate::types::ref_type;
 use crate::{BinaryReader, FromReader, GlobalType, RefType, Result, SectionLimited, TableType, ffi};
 use core::ops::Range;
 

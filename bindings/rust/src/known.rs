@@ -2,8 +2,8 @@
 use crate::cores::{CoreDumpInstancesSection, CoreDumpModulesSection, CoreDumpSection, CoreDumpStackSection};
 use crate::linking::LinkingSectionReader;
 use crate::relocations::RelocSectionReader;
-use crate::section::{call, list};
-use crate::{BinaryReader, CustomSectionReader, FromReader, NameSectionReader, Result, SectionLimited, Subsection, Subsections, SymbolFlags, ffi};
+use crate::section::call;
+use crate::{BinaryReader, CustomSectionReader, FromReader, List, NameSectionReader, Result, SectionLimited, Subsection, Subsections, SymbolFlags, ffi};
 use core::ops::Range;
 
 /// A custom section whose data is known, by its name.
@@ -143,13 +143,13 @@ pub enum Dylink0Subsection<'a> {
     /// How much memory and table a library needs.
     MemInfo(MemInfo),
     /// The libraries that it needs.
-    Needed(SectionLimited<'a, &'a str>),
+    Needed(List<'a, &'a str>),
     /// What is said of its exports.
-    ExportInfo(SectionLimited<'a, ExportInfo<'a>>),
+    ExportInfo(List<'a, ExportInfo<'a>>),
     /// What is said of its imports.
-    ImportInfo(SectionLimited<'a, ImportInfo<'a>>),
+    ImportInfo(List<'a, ImportInfo<'a>>),
     /// Where libraries are looked for.
-    RuntimePath(SectionLimited<'a, &'a str>),
+    RuntimePath(List<'a, &'a str>),
     /// The architecture that a library is for.
     TargetArch(&'a str),
     /// A subsection with another id.
@@ -169,14 +169,19 @@ impl<'a> Subsection<'a> for Dylink0Subsection<'a> {
         let reader = &mut reader;
         Ok(match id {
             1 => Dylink0Subsection::MemInfo(reader.read()?),
-            2 => Dylink0Subsection::Needed(list(reader)?),
-            3 => Dylink0Subsection::ExportInfo(list(reader)?),
-            4 => Dylink0Subsection::ImportInfo(list(reader)?),
-            5 => Dylink0Subsection::RuntimePath(list(reader)?),
+            2 => Dylink0Subsection::Needed(texts(reader)?),
+            3 => Dylink0Subsection::ExportInfo(reader.read()?),
+            4 => Dylink0Subsection::ImportInfo(reader.read()?),
+            5 => Dylink0Subsection::RuntimePath(texts(reader)?),
             6 => Dylink0Subsection::TargetArch(reader.read_unlimited_string()?),
             ty => Dylink0Subsection::Unknown { ty, data: reader.remaining_buffer(), range: reader.remaining_range() },
         })
     }
+}
+
+/// A count and so many names of any size.
+fn texts<'a>(reader: &mut BinaryReader<'a>) -> Result<List<'a, &'a str>> {
+    List::counted(reader, BinaryReader::read_unlimited_string)
 }
 
 /// How much memory and table a library needs.

@@ -30,25 +30,27 @@ mod ffi;
 mod flags;
 mod imports;
 mod items;
+mod kinds;
 mod known;
 mod limits;
 mod linking;
+mod list;
 mod names;
 mod parser;
+mod payload;
 mod reader;
 mod relocations;
 mod section;
 mod strip;
 mod types;
 
-pub use cores::{
-    CoreDumpInstance, CoreDumpInstancesSection, CoreDumpModulesSection, CoreDumpSection, CoreDumpStackFrame, CoreDumpStackSection, CoreDumpValue, CoreModule,
-};
+pub use cores::{CoreDumpInstance, CoreDumpInstancesSection, CoreDumpModulesSection, CoreDumpSection, CoreDumpStackFrame, CoreDumpStackSection, CoreDumpValue};
 pub use custom::{CustomSectionReader, Subsection, Subsections};
 pub use error::{BinaryReaderError, Result};
 pub use flags::{SegmentFlags, SymbolFlags, WasmFeatures};
 pub use imports::{Import, ImportItemCompact, Imports, ImportsIter, IntoImportsWithOffsets, TypeRef};
 pub use items::{ConstExpr, Data, DataKind, Element, ElementItems, ElementKind, Export, ExternalKind, Global, Table, TableInit};
+pub use kinds::{GlobalType, MemoryType, TableType, TagKind, TagType};
 pub use known::{
     BranchHint, BranchHintFunction, BranchHintSectionReader, Dylink0SectionReader, Dylink0Subsection, ExportInfo, ImportInfo, KnownCustom, MemInfo,
     ProducersField, ProducersFieldValue, ProducersSectionReader,
@@ -58,16 +60,15 @@ pub use linking::{
     Comdat, ComdatMap, ComdatSymbol, ComdatSymbolKind, DefinedDataSymbol, InitFunc, InitFuncMap, Linking, LinkingSectionReader, Segment, SegmentMap,
     SymbolInfo, SymbolInfoMap,
 };
+pub use list::List;
 pub use names::{IndirectNameMap, IndirectNaming, Name, NameMap, NameSectionReader, Naming};
-pub use parser::{
-    Chunk, DataSectionReader, ElementSectionReader, Encoding, ExportSectionReader, FunctionBody, FunctionSectionReader, GlobalSectionReader,
-    ImportSectionReader, MemorySectionReader, ParseAll, Parser, Payload, TableSectionReader, TagSectionReader, TypeSectionReader,
+pub use parser::{Chunk, ParseAll, Parser};
+pub use payload::{
+    DataSectionReader, ElementSectionReader, Encoding, ExportSectionReader, FunctionBody, FunctionSectionReader, GlobalSectionReader, ImportSectionReader,
+    MemorySectionReader, Payload, TableSectionReader, TagSectionReader, TypeSectionReader,
 };
 pub use reader::BinaryReader;
 pub use relocations::{RelocAddendKind, RelocSectionReader, RelocationEntry, RelocationEntryReader, RelocationType};
 pub use section::{FromReader, SectionLimited, SectionLimitedIntoIter, SectionLimitedIntoIterWithOffsets};
 pub use strip::strip;
-pub use types::{
-    CompositeType, FieldType, FieldTypes, FuncType, GlobalType, HeapType, MemoryType, RecGroup, RefType, StorageType, SubType, SubTypes, TableType, TagKind,
-    TagType, ValType, ValTypes,
-};
+pub use types::{CompositeType, FieldType, FuncType, HeapType, RecGroup, RefType, StorageType, SubType, ValType};

@@ -154,20 +154,6 @@ impl<'a, T> SectionLimited<'a, T> {
     }
 }
 
-/// Reads a count and so many items, of which none has a fault.
-pub(crate) fn list<'a, T: FromReader<'a>>(reader: &mut BinaryReader<'a>) -> Result<SectionLimited<'a, T>> {
-    let items = reader.skip(|reader| {
-        let count = reader.read_var_u32()?;
-        pass::<T>(reader, count)
-    })?;
-    SectionLimited::new(items)
-}
-
-/// Passes over so many items.
-pub(crate) fn pass<'a, T: FromReader<'a>>(reader: &mut BinaryReader<'a>, count: u32) -> Result<()> {
-    (0..count).try_for_each(|_| T::from_reader(reader).map(drop))
-}
-
 impl<'a, T: FromReader<'a>> IntoIterator for SectionLimited<'a, T> {
     type Item = Result<T>;
     type IntoIter = SectionLimitedIntoIter<'a, T>;

@@ -1,6 +1,7 @@
 //! Types.
-use crate::section::{call, pass};
-use crate::{BinaryReader, FromReader, Result, ffi};
+use crate::error::Lead;
+use crate::section::call;
+use crate::{BinaryReader, BinaryReaderError, FromReader, List, Result, ffi};
 
 /// The type of a value.
 #[derive(Clone, Copy, Debug, PartialEq, Eq, Hash)]
@@ -18,6 +19,9 @@ pub enum ValType {
     /// A reference.
     Ref(RefType),
 }
+
+/// The byte before the heap type of a reference that may be null.
+const NULLABLE: u8 = 0x63;
 
 /// The type of a reference.
 #[derive(Clone, Copy, Debug, PartialEq, Eq, Hash)]
@@ -129,6 +133,30 @@ impl<'a> FromReader<'a> for ValType {
     }
 }
 
+impl<'a> FromReader<'a> for RefType {
+    fn from_reader(reader: &mut BinaryReader<'a>) -> Result<Self> {
+        let (offset, byte) = (reader.original_position(), reader.peek()?);
+        match reader.read() {
+            Ok(ValType::Ref(ty)) => Ok(ty),
+            Err(error) if !error.is_leading_byte(Lead::Value) => Err(error),
+            _ => Err(BinaryReaderError::leading_byte(Lead::Reference, byte, offset)),
+        }
+    }
+}
+
+impl<'a> FromReader<'a> for HeapType {
+    fn from_reader(reader: &mut BinaryReader<'a>) -> Result<Self> {
+        // The library reads heap types in references: one to it is made, of a first byte and at most 5 more.
+        let (offset, size) = (reader.original_position(), reader.bytes_remaining().min(5));
+        let mut bytes = [NULLABLE, 0, 0, 0, 0, 0];
+        bytes[1..=size].copy_from_slice(&reader.remaining_buffer()[..size]);
+        let mut reference = BinaryReader::new(&bytes[..=size], 0);
+        let ty: RefType = reference.read().map_err(|error: BinaryReaderError| error.at(offset + error.offset() - 1))?;
+        reader.pass(reference.original_position() - 1);
+        Ok(ty.heap)
+    }
+}
+
 impl<'a> FromReader<'a> for FieldType {
     fn from_reader(reader: &mut BinaryReader<'a>) -> Result<Self> {
         let (_, plain) = call!(pulleynavy_field_type, reader);
@@ -141,63 +169,21 @@ impl<'a> FromReader<'a> for FieldType {
     }
 }
 
-/// So many items, which were read before and have no fault.
-macro_rules! iterator {
-    ($(#[$doc:meta])* $name:ident, $item:ty) => {
-        $(#[$doc])*
-        #[derive(Clone, Debug)]
-        pub struct $name<'a> {
-            reader: BinaryReader<'a>,
-            left: u32,
-        }
-
-        impl<'a> $name<'a> {
-            /// So many items, which a reader passes over.
-            fn pass(reader: &mut BinaryReader<'a>, left: u32) -> Result<Self> {
-                let items = reader.skip(|reader| pass::<$item>(reader, left))?;
-                Ok($name { reader: items, left })
-            }
-        }
-
-        impl<'a> Iterator for $name<'a> {
-            type Item = $item;
-
-            fn next(&mut self) -> Option<$item> {
-                self.left = self.left.checked_sub(1)?;
-                self.reader.read().ok()
-            }
-
-            fn size_hint(&self) -> (usize, Option<usize>) {
-                (self.left as usize, Some(self.left as usize))
-            }
-        }
-
-        impl ExactSizeIterator for $name<'_> {}
-    };
-}
-
-iterator!(/// The types of parameters or results.
-    ValTypes, ValType);
-iterator!(/// The fields of a structure.
-    FieldTypes, FieldType);
-iterator!(/// The types of a group.
-    SubTypes, SubType<'a>);
-
 /// The type of a function.
 #[derive(Clone, Debug)]
 pub struct FuncType<'a> {
-    params: ValTypes<'a>,
-    results: ValTypes<'a>,
+    params: List<'a, ValType>,
+    results: List<'a, ValType>,
 }
 
 impl<'a> FuncType<'a> {
     /// The types of its parameters.
-    pub fn params(&self) -> ValTypes<'a> {
+    pub fn params(&self) -> List<'a, ValType> {
         self.params.clone()
     }
 
     /// The types of its results.
-    pub fn results(&self) -> ValTypes<'a> {
+    pub fn results(&self) -> List<'a, ValType> {
         self.results.clone()
     }
 }
@@ -210,7 +196,7 @@ pub enum CompositeType<'a> {
     /// Arrays of this element.
     Array(FieldType),
     /// Structures with these fields.
-    Struct(FieldTypes<'a>),
+    Struct(List<'a, FieldType>),
 }
 
 /// A type, and the type that it extends.
@@ -229,12 +215,11 @@ impl<'a> FromReader<'a> for SubType<'a> {
         let (_, head) = call!(pulleynavy_subtype, reader);
         let composite_type = match head.kind {
             0 => {
-                let params = ValTypes::pass(reader, head.count)?;
-                let count = reader.read_var_u32()?;
-                CompositeType::Func(FuncType { params, results: ValTypes::pass(reader, count)? })
+                let params = List::pass(reader, head.count, ValType::from_reader)?;
+                CompositeType::Func(FuncType { params, results: reader.read()? })
             }
             1 => CompositeType::Array(reader.read()?),
-            _ => CompositeType::Struct(FieldTypes::pass(reader, head.count)?),
+            _ => CompositeType::Struct(List::pass(reader, head.count, FieldType::from_reader)?),
         };
         let supertype_idx = (head.has_supertype != 0).then_some(head.supertype);
         Ok(SubType { is_final: head.is_final != 0, supertype_idx, composite_type })
@@ -245,7 +230,7 @@ impl<'a> FromReader<'a> for SubType<'a> {
 #[derive(Clone, Debug)]
 pub struct RecGroup<'a> {
     explicit: bool,
-    types: SubTypes<'a>,
+    types: List<'a, SubType<'a>>,
 }
 
 impl<'a> RecGroup<'a> {
@@ -255,12 +240,12 @@ impl<'a> RecGroup<'a> {
     }
 
     /// The types of the group, in their order.
-    pub fn types(&self) -> SubTypes<'a> {
+    pub fn types(&self) -> List<'a, SubType<'a>> {
         self.types.clone()
     }
 
     /// The same.
-    pub fn into_types(self) -> SubTypes<'a> {
+    pub fn into_types(self) -> List<'a, SubType<'a>> {
         self.types
     }
 }
@@ -268,101 +253,6 @@ impl<'a> RecGroup<'a> {
 impl<'a> FromReader<'a> for RecGroup<'a> {
     fn from_reader(reader: &mut BinaryReader<'a>) -> Result<Self> {
         let (_, head) = call!(pulleynavy_type_group, reader);
-        Ok(RecGroup { explicit: head.is_explicit != 0, types: SubTypes::pass(reader, head.count)? })
-    }
-}
-
-/// The type of a table.
-#[derive(Clone, Copy, Debug, PartialEq, Eq, Hash)]
-pub struct TableType {
-    /// The type of its elements.
-    pub element_type: RefType,
-    /// Whether its indices have 64 bits.
-    pub table64: bool,
-    /// How many elements it begins with.
-    pub initial: u64,
-    /// The most elements that it may have.
-    pub maximum: Option<u64>,
-    /// Whether threads share it.
-    pub shared: bool,
-}
-
-/// The type of a memory.
-#[derive(Clone, Copy, Debug, PartialEq, Eq, Hash)]
-pub struct MemoryType {
-    /// Whether its addresses have 64 bits.
-    pub memory64: bool,
-    /// Whether threads share it.
-    pub shared: bool,
-    /// How many pages it begins with.
-    pub initial: u64,
-    /// The most pages that it may have.
-    pub maximum: Option<u64>,
-    /// The size of a page, as a power of two.
-    pub page_size_log2: Option<u32>,
-}
-
-/// The type of a global.
-#[derive(Clone, Copy, Debug, PartialEq, Eq, Hash)]
-pub struct GlobalType {
-    /// The type of its value.
-    pub content_type: ValType,
-    /// Whether its value can be changed.
-    pub mutable: bool,
-    /// Whether threads share it.
-    pub shared: bool,
-}
-
-/// What a tag is of.
-#[derive(Clone, Copy, Debug, PartialEq, Eq, Hash)]
-pub enum TagKind {
-    /// Exceptions.
-    Exception,
-}
-
-/// The type of a tag.
-#[derive(Clone, Copy, Debug, PartialEq, Eq, Hash)]
-pub struct TagType {
-    /// What it is a tag of.
-    pub kind: TagKind,
-    /// The index of the function type whose parameters the tag carries.
-    pub func_type_idx: u32,
-}
-
-/// The type of a tag of exceptions, by its function type.
-pub(crate) fn exception_tag(func_type_idx: u32) -> TagType {
-    TagType { kind: TagKind::Exception, func_type_idx }
-}
-
-pub(crate) fn table_type(ty: ffi::TableType) -> TableType {
-    let maximum = (ty.has_maximum != 0).then_some(ty.maximum);
-    TableType { element_type: ref_type(ty.element), table64: ty.table64 != 0, initial: ty.initial, maximum, shared: ty.shared != 0 }
-}
-
-pub(crate) fn memory_type(ty: ffi::MemoryType) -> MemoryType {
-    MemoryType {
-        memory64: ty.memory64 != 0,
-        shared: ty.shared != 0,
-        initial: ty.initial,
-        maximum: (ty.has_maximum != 0).then_some(ty.maximum),
-        page_size_log2: (ty.has_page_size != 0).then_some(ty.page_size_log2),
-    }
-}
-
-pub(crate) fn global_type(ty: ffi::GlobalType) -> GlobalType {
-    GlobalType { content_type: val_type(ty.content), mutable: ty.is_mutable != 0, shared: ty.shared != 0 }
-}
-
-impl<'a> FromReader<'a> for MemoryType {
-    fn from_reader(reader: &mut BinaryReader<'a>) -> Result<Self> {
-        let (_, plain) = call!(pulleynavy_memory, reader);
-        Ok(memory_type(plain.ty))
-    }
-}
-
-impl<'a> FromReader<'a> for TagType {
-    fn from_reader(reader: &mut BinaryReader<'a>) -> Result<Self> {
-        let (_, plain) = call!(pulleynavy_tag, reader);
-        Ok(exception_tag(plain.func_type_index))
+        Ok(RecGroup { explicit: head.is_explicit != 0, types: List::pass(reader, head.count, SubType::from_reader)? })
     }
 }

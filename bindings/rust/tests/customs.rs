@@ -5,15 +5,6 @@ use common::customs::*;
 use common::*;
 use pulleynavy::*;
 
-type Reader = for<'a> fn(BinaryReader<'a>) -> Result<String>;
-
-fn agree(rows: &[(Reader, &str, &str)]) {
-    for (read, digits, text) in rows {
-        let bytes = bytes(digits);
-        assert_eq!(told(read(BinaryReader::new(&bytes, 0)), |text| text), *text, "{digits}");
-    }
-}
-
 #[test]
 fn names_of_all_kinds() {
     agree(&[

@@ -2,15 +2,8 @@
 mod common;
 
 use common::customs::known;
-use common::{Show, event, fault, hex, told};
+use common::{Show, event, fault, golden, hex, told};
 use pulleynavy::*;
-
-/// The stream and the lines of a row, which has no escapes.
-fn row(line: &str) -> (Vec<u8>, Vec<String>) {
-    let stream = common::bytes(line.split("\"hex\": \"").nth(1).unwrap().split('"').next().unwrap());
-    let lines = line.split("\"lines\": ").nth(1).unwrap().split('"').skip(1).step_by(2).map(str::to_owned).collect();
-    (stream, lines)
-}
 
 /// The items of a section, each as a line.
 fn items<T: Show>(items: impl Iterator<Item = Result<(u64, T)>>) -> Vec<String> {
@@ -51,11 +44,7 @@ fn listing(stream: &[u8]) -> Vec<String> {
 
 #[test]
 fn golden_streams() {
-    let usual = concat!(env!("CARGO_MANIFEST_DIR"), "/../../tools/golden.jsonl").to_owned();
-    let golden = std::fs::read_to_string(std::env::var("PULLEYNAVY_GOLDEN").unwrap_or(usual)).unwrap();
-    let rows: Vec<_> = golden.lines().map(row).collect();
-    assert!(rows.len() > 400);
-    for (stream, lines) in rows {
+    for (stream, lines) in golden() {
         assert_eq!(listing(&stream), lines, "{}", hex(&stream));
     }
 }

@@ -4,8 +4,6 @@ mod common;
 use common::*;
 use pulleynavy::*;
 
-type Reader = for<'a> fn(BinaryReader<'a>) -> Result<String>;
-
 /// A single item of a type.
 macro_rules! item {
     ($ty:ty) => {
@@ -20,14 +18,6 @@ macro_rules! section {
     };
 }
 
-fn agree(rows: &[(Reader, &str, &str)], offset: u64, features: WasmFeatures) {
-    for (read, digits, text) in rows {
-        let bytes = bytes(digits);
-        let reader = BinaryReader::new_features(&bytes, offset, features);
-        assert_eq!(told(read(reader), |text| text), *text, "{digits}");
-    }
-}
-
 #[test]
 fn counted_items() {
     let rows: &[(Reader, &str, &str)] = &[
@@ -39,9 +29,9 @@ fn counted_items() {
         (section!(u32), "80", "fault 1 unexpected end-of-file"),
         (section!(u32), "82 00 05 ff", "0..4 #2[2:5 fault 4 unexpected end-of-file ]"),
     ];
-    agree(rows, 0, WasmFeatures::all());
+    agree(rows);
     let mismatch = "100..105 #2[101:5 102:128 fault 104 section size mismatch: unexpected data at the end of the section ]";
-    agree(&[(section!(u32), "02 05 80 01 07", mismatch)], 100, WasmFeatures::all());
+    agree_at(&[(section!(u32), "02 05 80 01 07", mismatch)], 100, WasmFeatures::all());
 }
 
 #[test]
@@ -55,11 +45,11 @@ fn imports() {
         (item!(Imports), "01 6d 00 7f 01 01 61 00 03", "compact1 x6d 4..9 #1[5:item(x61 func 3 ) ] used 9"),
         (item!(Imports), "01 6d 00 7e 00 05 01 01 61", "compact2 x6d func 5 6..9 #1[7:x61 ] used 9"),
     ];
-    agree(rows, 0, WasmFeatures::all());
+    agree(rows);
     let disabled = |byte| format!("fault 4 invalid leading byte 0x{byte} with compact imports proposal disabled ");
     for (byte, features) in [("7F", WasmFeatures::MEMORY64), ("7E", WasmFeatures::empty())] {
         let digits = format!("01 01 6d 00 {byte} 02 01 61 00 03 01 62 00 04");
-        agree(&[(flat, &digits, &disabled(byte))], 0, features);
+        agree_at(&[(flat, &digits, &disabled(byte))], 0, features);
     }
 }
 
@@ -89,9 +79,45 @@ fn tables_memories_globals_exports_and_tags() {
         (item!(Export), "01 61 05", "fault 2 invalid leading byte for external kind: 5"),
         (item!(TagType), "01 00", "fault 0 invalid tag attributes"),
     ];
-    agree(rows, 0, WasmFeatures::all());
+    agree(rows);
     let large = "fault 5 invalid var_u32: integer too large";
-    agree(&[(item!(MemoryType), "00 ff ff ff ff 1f", large)], 0, WasmFeatures::COMPACT_IMPORTS);
+    agree_at(&[(item!(MemoryType), "00 ff ff ff ff 1f", large)], 0, WasmFeatures::COMPACT_IMPORTS);
+}
+
+#[test]
+fn parts_of_types_and_imports() {
+    let rows: &[(Reader, &str, &str)] = &[
+        (item!(RefType), "70", "null:func used 1"),
+        (item!(RefType), "64 05", "ref:5 used 2"),
+        (item!(RefType), "7f", "fault 0 invalid leading byte for reference type: 127"),
+        (item!(RefType), "05", "fault 0 invalid leading byte for reference type: 5"),
+        (item!(RefType), "63 40", "fault 1 invalid leading byte for heap type: 64"),
+        (item!(RefType), "64", "fault 1 unexpected end-of-file"),
+        (item!(RefType), "", "fault 0 unexpected end-of-file"),
+        (item!(HeapType), "6b", "struct used 1"),
+        (item!(HeapType), "85 00", "5 used 2"),
+        (item!(HeapType), "ff ff ff ff 0f ff", "4294967295 used 5"),
+        (item!(HeapType), "7f", "fault 0 invalid leading byte for heap type: 127"),
+        (item!(HeapType), "80 80 80 80 80", "fault 4 invalid var_s33: integer representation too long"),
+        (item!(HeapType), "80 80 80 80 20", "fault 4 invalid var_s33: integer too large"),
+        (item!(HeapType), "80 80", "fault 2 unexpected end-of-file"),
+        (item!(HeapType), "", "fault 0 unexpected end-of-file"),
+        (item!(ExternalKind), "20", "funcexact used 1"),
+        (item!(ExternalKind), "06", "fault 0 invalid leading byte for external kind: 6"),
+        (item!(TypeRef), "00 05", "func 5 used 2"),
+        (item!(TypeRef), "01 70 01 02 03", "table(null:func false 2 3 false ) used 5"),
+        (item!(TypeRef), "01 40 00 70 00 01 d0 70 0b", "fault 1 invalid leading byte for reference type: 64"),
+        (item!(TypeRef), "02 07 02 03", "memory(true true 2 3 - ) used 4"),
+        (item!(TypeRef), "03 7e 03", "global(i64 true true ) used 3"),
+        (item!(TypeRef), "03 7e 04", "fault 2 malformed global flags"),
+        (item!(TypeRef), "04 01 05", "fault 1 invalid tag attributes"),
+        (item!(TypeRef), "20 07", "funcexact 7 used 2"),
+        (item!(Import), "01 6d 00 00 05", "import(x6d x func 5 ) used 5"),
+        (item!(Import), "01 6d 00 7f 01 01 61 00 03", "fault 3 invalid leading byte for external kind: 127"),
+    ];
+    agree(rows);
+    let high = u64::MAX - 9;
+    agree_at(&[(item!(HeapType), "63", &format!("fault {high} invalid leading byte for heap type: 99"))], high, WasmFeatures::all());
 }
 
 #[test]
@@ -101,7 +127,7 @@ fn constant_expressions() {
         (item!(ConstExpr), "41 80 80 80 80 10 0b", "fault 5 invalid var_i32: integer too large"),
         (item!(ConstExpr), "20 00 0b", "fault 0 not a constant instruction"),
     ];
-    agree(rows, 0, WasmFeatures::all());
+    agree(rows);
 }
 
 #[test]
@@ -120,7 +146,7 @@ fn segments() {
         // A count that is written longer than it must be is a part of its list.
         (item!(Element), "01 00 81 80 00 05", "element(passive 2..6 #1[5:5 ] 0..6 ) used 6"),
     ];
-    agree(rows, 0, WasmFeatures::all());
+    agree(rows);
 }
 
 /// So many items of one text, at one offset after the other.
@@ -139,7 +165,7 @@ fn long_lists_of_indices() {
         (item!(Element), format!("01 00 20 {zeros} ff ff ff ff 10"), "fault 38 invalid var_u32: integer too large".to_owned()),
     ];
     for (read, digits, text) in rows {
-        agree(&[(*read, digits, text)], 0, WasmFeatures::all());
+        agree(&[(*read, digits, text)]);
     }
 }
 
@@ -157,5 +183,5 @@ fn types() {
         (item!(ValType), "64 6e", "ref:any used 2"),
         (item!(ValType), "63 05", "null:5 used 2"),
     ];
-    agree(rows, 0, WasmFeatures::all());
+    agree(rows);
 }

@@ -85,6 +85,16 @@ fn pieces_of_any_size() {
 }
 
 #[test]
+fn pieces_of_golden_streams() {
+    for (stream, lines) in golden() {
+        let whole: Vec<_> = lines.into_iter().filter(|line| !line.starts_with(' ')).collect();
+        for size in [1, 7, 100] {
+            assert_eq!(fed(0, &stream.chunks(size).collect::<Vec<_>>()), whole, "{} by {size}", hex(&stream));
+        }
+    }
+}
+
+#[test]
 fn empty_pieces_change_nothing() {
     for text in STREAMS {
         let stream = bytes(text);

@@ -126,6 +126,27 @@ fn copies_give_the_same_items() {
     }
 }
 
+#[test]
+fn lists_inside_items() {
+    let mut reader = BinaryReader::new(b"\x02\x05\x80\x01\x07", 0);
+    let mut list: List<u32> = reader.read().unwrap();
+    assert_eq!((format!("{list:?}"), list.len(), reader.original_position()), ("[5, 128]".to_owned(), 2, 4));
+    let copy = list.clone();
+    assert_eq!((list.next(), list.len(), list.next(), list.next(), list.next()), (Some(5), 1, Some(128), None, None));
+    assert_eq!(copy.collect::<Vec<_>>(), [5, 128]);
+    // A list with a fault is none.
+    let error = BinaryReader::new(b"\x02\x05\x80", 9).read::<List<u32>>().unwrap_err();
+    assert_eq!(fault(&error), "fault 12 unexpected end-of-file");
+}
+
+#[test]
+fn libraries_have_names_of_any_size() {
+    let size = MAX_WASM_STRING_SIZE + 1;
+    let part = [&[1, 0xa1, 0x8d, 0x06][..], &vec![b'l'; size]].concat();
+    let Ok(Dylink0Subsection::Needed(names)) = Dylink0Subsection::from_reader(2, BinaryReader::new(&part, 0)) else { panic!() };
+    assert_eq!(names.map(str::len).collect::<Vec<_>>(), [size]);
+}
+
 /// A type of items of a caller's own, which reads nothing.
 struct Nothing;
 

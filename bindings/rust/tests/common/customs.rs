@@ -203,12 +203,6 @@ pub fn reloc(reader: BinaryReader<'_>) -> Result<String> {
     RelocSectionReader::new(reader).map(reloc_text)
 }
 
-impl Show for CoreModule<'_> {
-    fn show(&self) -> String {
-        self.name.show()
-    }
-}
-
 impl Show for CoreDumpInstance<'_> {
     fn show(&self) -> String {
         format!("instance({} {} {} )", self.module_index, owned(self.memories.clone()), owned(self.globals.clone()))

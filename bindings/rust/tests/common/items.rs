@@ -33,11 +33,22 @@ impl Show for ConstExpr<'_> {
 
 impl Show for RefType {
     fn show(&self) -> String {
-        let heap = match self.heap_type() {
+        format!("{}:{}", if self.is_nullable() { "null" } else { "ref" }, self.heap_type().show())
+    }
+}
+
+impl Show for HeapType {
+    fn show(&self) -> String {
+        match self {
             HeapType::Concrete(index) => index.to_string(),
             other => format!("{other:?}").to_lowercase(),
-        };
-        format!("{}:{heap}", if self.is_nullable() { "null" } else { "ref" })
+        }
+    }
+}
+
+impl Show for ExternalKind {
+    fn show(&self) -> String {
+        format!("{self:?}").to_lowercase()
     }
 }
 
@@ -61,17 +72,12 @@ impl Show for FieldType {
     }
 }
 
-/// Types in brackets.
-fn types<T: Show>(types: impl Iterator<Item = T>) -> String {
-    format!("[{}]", joined(types.map(|ty| ty.show())))
-}
-
 impl Show for SubType<'_> {
     fn show(&self) -> String {
         let composite = match &self.composite_type {
-            CompositeType::Func(ty) => format!("func({} {} )", types(ty.params()), types(ty.results())),
+            CompositeType::Func(ty) => format!("func({} {} )", owned(ty.params()), owned(ty.results())),
             CompositeType::Array(ty) => format!("array {}", ty.show()),
-            CompositeType::Struct(fields) => format!("struct {}", types(fields.clone())),
+            CompositeType::Struct(fields) => format!("struct {}", owned(fields.clone())),
         };
         format!("sub({} {} {composite} )", self.is_final, option(self.supertype_idx))
     }
@@ -79,7 +85,7 @@ impl Show for SubType<'_> {
 
 impl Show for RecGroup<'_> {
     fn show(&self) -> String {
-        format!("rec({} {} )", self.is_explicit_rec_group(), types(self.types()))
+        format!("rec({} {} )", self.is_explicit_rec_group(), owned(self.types()))
     }
 }
 
@@ -161,7 +167,7 @@ impl Show for Global<'_> {
 
 impl Show for Export<'_> {
     fn show(&self) -> String {
-        format!("export({} {} {} )", self.name.show(), format!("{:?}", self.kind).to_lowercase(), self.index)
+        format!("export({} {} {} )", self.name.show(), self.kind.show(), self.index)
     }
 }
 

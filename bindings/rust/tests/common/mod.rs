@@ -49,8 +49,8 @@ pub fn told<T>(result: Result<T>, show: impl FnOnce(T) -> String) -> String {
 }
 
 /// A list that has no fault.
-pub fn owned<'a, T: FromReader<'a> + Show>(items: SectionLimited<'a, T>) -> String {
-    format!("[{}]", joined(items.into_iter().map(|item| item.unwrap().show())))
+pub fn owned<T: Show>(items: impl Iterator<Item = T>) -> String {
+    format!("[{}]", joined(items.map(|item| item.show())))
 }
 
 /// The range, the count and the items of a list, each item after its offset.
@@ -74,6 +74,22 @@ pub fn section<'a, T: FromReader<'a> + Show>(reader: BinaryReader<'a>) -> Result
 pub fn flat(reader: BinaryReader<'_>) -> Result<String> {
     let imports = ImportSectionReader::new(reader)?.into_imports_with_offsets();
     Ok(joined(imports.map(|import| told(import, |(at, import)| format!("{at}:{}", import.show())))))
+}
+
+/// What bytes are read as.
+pub type Reader = for<'a> fn(BinaryReader<'a>) -> Result<String>;
+
+/// Asserts what readers make of bytes at an offset: a text, or that of their fault.
+pub fn agree_at(rows: &[(Reader, &str, &str)], offset: u64, features: WasmFeatures) {
+    for (read, digits, text) in rows {
+        let bytes = bytes(digits);
+        assert_eq!(told(read(BinaryReader::new_features(&bytes, offset, features)), |text| text), *text, "{digits}");
+    }
+}
+
+/// The same at offset 0, with all features.
+pub fn agree(rows: &[(Reader, &str, &str)]) {
+    agree_at(rows, 0, WasmFeatures::all());
 }
 
 /// The line of a payload.
@@ -121,4 +137,20 @@ pub fn answer(result: Result<Chunk<'_>>) -> String {
         Chunk::NeedMoreData(hint) => format!("need {hint}"),
         Chunk::Parsed { payload, .. } => event(&payload),
     })
+}
+
+/// The stream and the lines of a row of `tools/golden.jsonl`, which has no escapes.
+fn golden_row(line: &str) -> (Vec<u8>, Vec<String>) {
+    let stream = bytes(line.split("\"hex\": \"").nth(1).unwrap().split('"').next().unwrap());
+    let lines = line.split("\"lines\": ").nth(1).unwrap().split('"').skip(1).step_by(2).map(str::to_owned).collect();
+    (stream, lines)
+}
+
+/// The streams of `tools/golden.jsonl`, or of the file that `PULLEYNAVY_GOLDEN` names, with their lines.
+pub fn golden() -> Vec<(Vec<u8>, Vec<String>)> {
+    let usual = concat!(env!("CARGO_MANIFEST_DIR"), "/../../tools/golden.jsonl").to_owned();
+    let text = std::fs::read_to_string(std::env::var("PULLEYNAVY_GOLDEN").unwrap_or(usual)).unwrap();
+    let rows: Vec<_> = text.lines().map(golden_row).collect();
+    assert!(rows.len() > 400);
+    rows
 }

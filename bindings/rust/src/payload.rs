@@ -1,0 +1,241 @@
+//! The parts of a stream.
+use crate::section::Window;
+use crate::{BinaryReader, CustomSectionReader, Data, Element, Export, Global, Imports, MemoryType, RecGroup, Result, SectionLimited, Table, TagType, ffi};
+use core::fmt;
+use core::ops::Range;
+
+/// The type section.
+pub type TypeSectionReader<'a> = SectionLimited<'a, RecGroup<'a>>;
+/// The import section.
+pub type ImportSectionReader<'a> = SectionLimited<'a, Imports<'a>>;
+/// The function section: the indices of the functions' types.
+pub type FunctionSectionReader<'a> = SectionLimited<'a, u32>;
+/// The table section.
+pub type TableSectionReader<'a> = SectionLimited<'a, Table<'a>>;
+/// The memory section.
+pub type MemorySectionReader<'a> = SectionLimited<'a, MemoryType>;
+/// The tag section.
+pub type TagSectionReader<'a> = SectionLimited<'a, TagType>;
+/// The global section.
+pub type GlobalSectionReader<'a> = SectionLimited<'a, Global<'a>>;
+/// The export section.
+pub type ExportSectionReader<'a> = SectionLimited<'a, Export<'a>>;
+/// The element section.
+pub type ElementSectionReader<'a> = SectionLimited<'a, Element<'a>>;
+/// The data section.
+pub type DataSectionReader<'a> = SectionLimited<'a, Data<'a>>;
+
+/// What a header announces.
+#[derive(Clone, Copy, Debug, PartialEq, Eq, Hash)]
+pub enum Encoding {
+    /// A module.
+    Module,
+    /// A component.
+    Component,
+}
+
+/// The body of a function.
+#[derive(Clone, Copy, Debug)]
+pub struct FunctionBody<'a> {
+    window: Window<'a>,
+}
+
+impl<'a> FunctionBody<'a> {
+    /// The body that a reader has left, which isn't looked at.
+    pub fn new(reader: BinaryReader<'a>) -> Self {
+        FunctionBody { window: reader.rest }
+    }
+
+    /// A reader of its bytes.
+    pub fn get_binary_reader(&self) -> BinaryReader<'a> {
+        BinaryReader::of(self.window)
+    }
+
+    /// Its offsets.
+    pub fn range(&self) -> Range<u64> {
+        self.window.range()
+    }
+
+    /// Its bytes: locals and instructions.
+    pub fn as_bytes(&self) -> &'a [u8] {
+        self.window.bytes
+    }
+}
+
+/// What comes next in a stream.
+#[derive(Clone)]
+#[non_exhaustive]
+pub enum Payload<'a> {
+    /// The header.
+    Version {
+        /// The version.
+        num: u16,
+        /// What it announces.
+        encoding: Encoding,
+        /// Its offsets.
+        range: Range<u64>,
+    },
+    /// The type section.
+    TypeSection(TypeSectionReader<'a>),
+    /// The import section.
+    ImportSection(ImportSectionReader<'a>),
+    /// The function section.
+    FunctionSection(FunctionSectionReader<'a>),
+    /// The table section.
+    TableSection(TableSectionReader<'a>),
+    /// The memory section.
+    MemorySection(MemorySectionReader<'a>),
+    /// The tag section.
+    TagSection(TagSectionReader<'a>),
+    /// The global section.
+    GlobalSection(GlobalSectionReader<'a>),
+    /// The export section.
+    ExportSection(ExportSectionReader<'a>),
+    /// The start section.
+    StartSection {
+        /// The index of the function that is called first.
+        func: u32,
+        /// The offsets of the section's content.
+        range: Range<u64>,
+    },
+    /// The element section.
+    ElementSection(ElementSectionReader<'a>),
+    /// The data count section.
+    DataCountSection {
+        /// How many data segments there are.
+        count: u32,
+        /// The offsets of the section's content.
+        range: Range<u64>,
+    },
+    /// The data section.
+    DataSection(DataSectionReader<'a>),
+    /// The start of the code section.
+    CodeSectionStart {
+        /// How many bodies come.
+        count: u32,
+        /// The offsets of the section's content.
+        range: Range<u64>,
+        /// How many bytes come after the count.
+        size: u32,
+    },
+    /// A body.
+    CodeSectionEntry(FunctionBody<'a>),
+    /// A custom section.
+    CustomSection(CustomSectionReader<'a>),
+    /// A section with an id that isn't known.
+    UnknownSection {
+        /// Its id.
+        id: u8,
+        /// Its bytes.
+        contents: &'a [u8],
+        /// Their offsets.
+        range: Range<u64>,
+    },
+    /// The end of the stream, at this offset.
+    End(u64),
+}
+
+impl Payload<'_> {
+    /// The id of a section and the offsets of its content, of a code section where it starts. What is no section has none.
+    pub fn as_section(&self) -> Option<(u8, Range<u64>)> {
+        Some(match self {
+            Payload::Version { .. } | Payload::CodeSectionEntry(_) | Payload::End(_) => return None,
+            Payload::CustomSection(section) => (0, section.range()),
+            Payload::TypeSection(section) => (1, section.range()),
+            Payload::ImportSection(section) => (2, section.range()),
+            Payload::FunctionSection(section) => (3, section.range()),
+            Payload::TableSection(section) => (4, section.range()),
+            Payload::MemorySection(section) => (5, section.range()),
+            Payload::GlobalSection(section) => (6, section.range()),
+            Payload::ExportSection(section) => (7, section.range()),
+            Payload::StartSection { range, .. } => (8, range.clone()),
+            Payload::ElementSection(section) => (9, section.range()),
+            Payload::CodeSectionStart { range, .. } => (10, range.clone()),
+            Payload::DataSection(section) => (11, section.range()),
+            Payload::DataCountSection { range, .. } => (12, range.clone()),
+            Payload::TagSection(section) => (13, section.range()),
+            Payload::UnknownSection { id, range, .. } => (*id, range.clone()),
+        })
+    }
+
+    /// The name of the variant.
+    fn word(&self) -> &'static str {
+        match self {
+            Payload::Version { .. } => "Version",
+            Payload::TypeSection(_) => "TypeSection",
+            Payload::ImportSection(_) => "ImportSection",
+            Payload::FunctionSection(_) => "FunctionSection",
+            Payload::TableSection(_) => "TableSection",
+            Payload::MemorySection(_) => "MemorySection",
+            Payload::TagSection(_) => "TagSection",
+            Payload::GlobalSection(_) => "GlobalSection",
+            Payload::ExportSection(_) => "ExportSection",
+            Payload::StartSection { .. } => "StartSection",
+            Payload::ElementSection(_) => "ElementSection",
+            Payload::DataCountSection { .. } => "DataCountSection",
+            Payload::DataSection(_) => "DataSection",
+            Payload::CodeSectionStart { .. } => "CodeSectionStart",
+            Payload::CodeSectionEntry(_) => "CodeSectionEntry",
+            Payload::CustomSection(_) => "CustomSection",
+            Payload::UnknownSection { .. } => "UnknownSection",
+            Payload::End(_) => "End",
+        }
+    }
+}
+
+/// Counted sections, bodies and contents aren't shown.
+impl fmt::Debug for Payload<'_> {
+    fn fmt(&self, f: &mut fmt::Formatter<'_>) -> fmt::Result {
+        let word = self.word();
+        match self {
+            Payload::Version { num, encoding, range } => f.debug_struct(word).field("num", num).field("encoding", encoding).field("range", range).finish(),
+            Payload::StartSection { func, range } => f.debug_struct(word).field("func", func).field("range", range).finish(),
+            Payload::DataCountSection { count, range } => f.debug_struct(word).field("count", count).field("range", range).finish(),
+            Payload::CodeSectionStart { count, range, size } => f.debug_struct(word).field("count", count).field("range", range).field("size", size).finish(),
+            Payload::CustomSection(section) => f.debug_tuple(word).field(section).finish(),
+            Payload::UnknownSection { id, range, .. } => f.debug_struct(word).field("id", id).field("range", range).finish(),
+            Payload::End(offset) => f.debug_tuple(word).field(offset).finish(),
+            _ => f.debug_tuple(word).field(&"...").finish(),
+        }
+    }
+}
+
+/// What an event says, of bytes that begin where the parser was.
+pub(crate) fn payload<'a>(before: Window<'a>, event: &ffi::Event) -> Result<Payload<'a>> {
+    let range = event.start..event.end;
+    // The end has no bytes, and the range of a code section goes beyond those that were consumed.
+    let size = event.end.min(before.range().end) - event.start;
+    let window = before.part(ffi::Span { at: event.start - before.offset, size });
+    Ok(match event.kind {
+        1 => {
+            let encoding = if event.id == 0 { Encoding::Module } else { Encoding::Component };
+            Payload::Version { num: event.count as u16, encoding, range }
+        }
+        2 => return counted(event.id, window),
+        3 => Payload::StartSection { func: event.count, range },
+        4 => Payload::DataCountSection { count: event.count, range },
+        5 => Payload::CodeSectionStart { count: event.count, range, size: event.size },
+        6 => Payload::CodeSectionEntry(FunctionBody { window }),
+        7 => Payload::CustomSection(CustomSectionReader::of(window, event.data_offset, event.name_size)),
+        9 => Payload::End(event.start),
+        _ => Payload::UnknownSection { id: event.id as u8, contents: window.bytes, range },
+    })
+}
+
+/// A section that begins with a count.
+fn counted(id: u32, window: Window<'_>) -> Result<Payload<'_>> {
+    let reader = BinaryReader::of(window);
+    Ok(match id {
+        1 => Payload::TypeSection(SectionLimited::new(reader)?),
+        2 => Payload::ImportSection(SectionLimited::new(reader)?),
+        3 => Payload::FunctionSection(SectionLimited::new(reader)?),
+        4 => Payload::TableSection(SectionLimited::new(reader)?),
+        5 => Payload::MemorySection(SectionLimited::new(reader)?),
+        6 => Payload::GlobalSection(SectionLimited::new(reader)?),
+        7 => Payload::ExportSection(SectionLimited::new(reader)?),
+        9 => Payload::ElementSection(SectionLimited::new(reader)?),
+        11 => Payload::DataSection(SectionLimited::new(reader)?),
+        13 => Payload::TagSection(SectionLimited::new(reader)?),
+        _ => Payload::UnknownSection { id: id as u8, contents: window.bytes, range: window.range() },
+    })
+}
