@@ -20,10 +20,9 @@ use Rattle.wasm_feed.specs.declared.listing.Ended.TheVariants.{End}
 use Rattle.wasm_feed.specs.declared.listing.Turn.TheVariants as turn
 use Rattle.wasm_items.specs.Flattened.{NextImport, found_at}
 use Rattle.wasm_items.specs.declared.imports.Import.{Import}
-use Rattle.wasm_items.specs.Imports.{import_parts}
-use Rattle.wasm_show.specs.Numbers.{Number, Found, more, space_of, count_of, with_one, with_import, with_imports, import_number}
+use Rattle.wasm_show.specs.Numbers.{Number, Found, more, space_of, with_one, with_import, with_imports, import_number}
 use Rattle.wasm_show.specs.Numbers.{import_numbers}
-use Rattle.wasm_show.specs.Numbers.{numbers_from, imports_in, space_defined, Begin, AreFrom, AreUpTo, AreNext, AreOfSection, AreOfItems}
+use Rattle.wasm_show.specs.Numbers.{numbers_from, imports_in, space_defined, AreNext, AreOfSection, AreOfItems}
 use Rattle.wasm_show.specs.Numbers.{numbers_in_line, after, after_all, AreOf, AreOfEvents}
 use Rattle.wasm_show.specs.Chosen.{is_chosen, shown_line, numbered_line}
 use Rattle.wasm_show.specs.Dump.{ShowsItems, ShowsReport, ShowsAnswer}
