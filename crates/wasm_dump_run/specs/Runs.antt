@@ -22,8 +22,8 @@ HandsOn (Ok ended) had_failed has_failed handed_on result =
 HandsOn (Err why) had_failed has_failed handed_on result = (result ≡ Err why) × (has_failed ≡ had_failed)
 
 -- The input was dumped, and what was written handed on.
-pub record RunsDump (only : List Only) (input output : Device) (handed_on : Bool) (result : Result Ended ListError) : Type
-    0 where
+pub record RunsDump (only : List Only) (input output : Device) (handed_on : Bool) (result : Result Ended ListError) :
+    Type 0 where
   pub how : Result Ended ListError
   pub dumps : Dumps only (bytes_of input) (bytes_of output) how
   pub source : input.has_failed ≡ input_failed how input.had_failed

@@ -53,7 +53,8 @@ pub record Counting (full rest : Option (List ℕ)) (f : Feed) (c : Counts) : Ty
   pub counted : c ≡ after_all no_counts events
 
 -- the outline so far, the listing that has written it, what is counted, and what was written with it
-pub record Dumping (only : List Only) (full rest : Option (List ℕ)) (before : Writing) (f : Feed) (c : Counts) (now : Writing) : Type 0 where
+pub record Dumping (only : List Only) (full rest : Option (List ℕ)) (before : Writing) (f : Feed) (c : Counts) (now : Writing) :
+    Type 0 where
   pub outline : List ℕ
   pub listing : Progress (chosen_line only) (from_to full rest) (from_to (Some []) (Some outline)) f []
   pub counting : Counting full rest f c
@@ -61,7 +62,8 @@ pub record Dumping (only : List Only) (full rest : Option (List ℕ)) (before : 
       → WrittenWith counting.events taken failed outline now
 
 -- the same where the feeder is asked for more
-pub record Wanting (only : List Only) (full rest : Option (List ℕ)) (before : Writing) (f : Feed) (c : Counts) (now : Writing) : Type 0 where
+pub record Wanting (only : List Only) (full rest : Option (List ℕ)) (before : Writing) (f : Feed) (c : Counts) (now : Writing) :
+    Type 0 where
   pub outline : List ℕ
   pub listing : Wants (chosen_line only) (from_to full rest) (from_to (Some []) (Some outline)) f []
   pub counting : Counting full rest f c

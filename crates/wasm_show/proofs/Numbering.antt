@@ -197,8 +197,8 @@ module _ (only : List Only) (c : Counts) (r : Report) where
 last_chosen : (only : List Only) (end : Ending) → is_chosen only (stream_end end) ≡ true
 last_chosen only end = refl
 
-fault_shown : (only : List Only) (c : Counts) (e : Error) (old new : Writing) → AddsFirst (line_of (stream_end (fault (fault_at e)))) old new
-    → ShowsAnswer only c (Err e) old new
+fault_shown : (only : List Only) (c : Counts) (e : Error) (old new : Writing)
+    → AddsFirst (line_of (stream_end (fault (fault_at e)))) old new → ShowsAnswer only c (Err e) old new
 fault_shown only c e old new a o i =
     let r = stream_end (fault (fault_at e)) in (
       [],

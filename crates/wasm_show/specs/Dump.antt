@@ -94,8 +94,8 @@ ShowsAnswer only counts answer old new =
     ShowsLine (text_after (chosen_line only) answer) (AreOfAnswer counts answer) old new
 
 -- A step of the feeder was shown, and this is done next.
-pub record ShowsStep (only : List Only) (counts counts' : Counts) (old new : Feed) (before after : Writing) (next : Turn) :
-    Type 0 where
+pub record ShowsStep (only : List Only) (counts counts' : Counts) (old new : Feed) (before after : Writing)
+    (next : Turn) : Type 0 where
   pub answer : Result Step Error
   pub steps : Steps old answer new
   pub turns : next ≡ turn_after answer
@@ -115,8 +115,8 @@ pub record DumpsFrom (only : List Only) (input : Device) (taken : Option (List �
   pub sink : new.has_failed ≡ output_failed result failed
 
 -- The same by a writer whose outline is empty.
-abbrev pub DumpsInto : (only : List Only) (input : Device) (old : Writing) (result : Result Ended ListError) (new : Writing)
-    → Type 0
+abbrev pub DumpsInto : (only : List Only) (input : Device) (old : Writing) (result : Result Ended ListError)
+    (new : Writing) → Type 0
 DumpsInto only input old result new = (taken : Option (List ℕ)) (failed : Bool)
     → IsWritten (origin taken failed [] []) old → DumpsFrom only input taken failed result new
 

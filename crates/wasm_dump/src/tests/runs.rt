@@ -87,7 +87,8 @@ fn shows_what_is_asked_for(rt: HostRuntime) -> Result<(), Fail> {
 #[test]
 fn shows_what_any_word_chooses(rt: HostRuntime) -> Result<(), Fail> {
     let third = b"section 3 10 12 1 function\n  11 func[0] index=5\nend 26\n".as_slice();
-    let both = b"section 3 10 12 1 function\n  11 func[0] index=5\ncode 14 18 1 3\nbody 16 18 func[0]\nend 26\n".as_slice();
+    let both =
+        b"section 3 10 12 1 function\n  11 func[0] index=5\ncode 14 18 1 3\nbody 16 18 func[0]\nend 26\n".as_slice();
     let rows: [(&[&str], &[u8]); 7] = [
         (&["--section", "3", "--section", "code"], both),
         (&["--section", "code", "--section", "3"], both),

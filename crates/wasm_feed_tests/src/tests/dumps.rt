@@ -85,7 +85,10 @@ fn shows_chosen_sections(rt: HostRuntime) -> Result<(), Fail> {
             &[Only::Id(3)],
             b"section 3 29 31 1 function\n  30 func[0] index=0\nend 75\n",
         ),
-        (&[Only::Id(10)], b"code 47 51 1 3\nbody 49 51 func[0]\nend 75\n"),
+        (
+            &[Only::Id(10)],
+            b"code 47 51 1 3\nbody 49 51 func[0]\nend 75\n",
+        ),
         (&[Only::Id(13)], b"end 75\n"),
         (
             &[Only::Name("name")],
