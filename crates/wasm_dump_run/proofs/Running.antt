@@ -31,7 +31,7 @@ writes_kept (Err Input) a b c outline numbers w k = whole_kept a b c outline num
 writes_kept (Err Output) a b c outline numbers w k = some_kept a b c outline numbers w k
 writes_kept (Err Memory) a b c outline numbers w k = some_kept a b c outline numbers w k
 
-pub dumps_kept : (only : Only) (source rest a b c : Option (List ℕ)) (how : Result Ended ListError)
+pub dumps_kept : (only : List Only) (source rest a b c : Option (List ℕ)) (how : Result Ended ListError)
     → Dumps only (from_to source rest) (from_to a b) how → Keeps b c
     → Dumps only (from_to source rest) (from_to a c) how
 dumps_kept only source rest a b c how d k = record {

@@ -1,5 +1,5 @@
 -- What a run of the program does.
-use Rattle.std.specs.Prelude.{◌≡◌, ◌⊎◌, ℕ, Bool, true, List, ◌++◌, codes, Option, Some, None, Result, Ok, Err}
+use Rattle.std.specs.Prelude.{◌≡◌, ◌⊎◌, ℕ, Bool, true, List, [], ◌∷◌, ◌++◌, codes, Option, Some, None, Result, Ok, Err}
 use Rattle.wasm_feed.specs.Calls.{Device, bytes_of}
 use Rattle.wasm_feed.specs.Lists.{input_failed, output_failed}
 use Rattle.wasm_feed.specs.declared.listing.Ended.{Ended}
@@ -10,7 +10,8 @@ use Rattle.wasm_show.specs.declared.only.Only.{Only}
 use Rattle.wasm_show.specs.declared.only.Only.TheVariants.{All}
 use Rattle.wasm_run.specs.Devices.{IsUntouched}
 use Rattle.wasm_run.specs.Endings.{status_of, Reports, RunsUsage, CannotBegin, WritesAll, WritesSome}
-use Rattle.wasm_dump_run.specs.Commands.{Asked, Chooses, all, sections, help, version, unknown}
+use Rattle.wasm_dump_run.specs.Commands.{Asked, all, sections, help, version, unknown}
+use Rattle.wasm_dump_run.specs.Words.{ChooseInTurn}
 
 -- What was written was handed on, or the output failed to; after a dump that was given up nothing is done.
 abbrev pub HandsOn : (how : Result Ended ListError) (had_failed has_failed handed_on : Bool) → Result Ended ListError
@@ -21,28 +22,28 @@ HandsOn (Ok ended) had_failed has_failed handed_on result =
 HandsOn (Err why) had_failed has_failed handed_on result = (result ≡ Err why) × (has_failed ≡ had_failed)
 
 -- The input was dumped, and what was written handed on.
-pub record RunsDump (only : Only) (input output : Device) (handed_on : Bool) (result : Result Ended ListError) : Type
-    0 where
+pub record RunsDump (only : List Only) (input output : Device) (handed_on : Bool) (result : Result Ended ListError) :
+    Type 0 where
   pub how : Result Ended ListError
   pub dumps : Dumps only (bytes_of input) (bytes_of output) how
   pub source : input.has_failed ≡ input_failed how input.had_failed
   pub ends : HandsOn how (output_failed how output.had_failed) output.has_failed handed_on result
 
 abbrev pub usage : List ℕ
-usage = codes "usage: wasm_dump [--help] [--version] [--section ID|NAME] [FILE]...\n"
+usage = codes "usage: wasm_dump [--help] [--version] [--section ID|NAME]... [FILE]...\n"
 
 abbrev pub version_text : List ℕ
 version_text = codes "wasm_dump 0.263.0\n"
 
 abbrev pub help_text : List ℕ
 help_text =
-    codes "usage: wasm_dump [--section ID|NAME] [FILE]...\n" ++ (
+    codes "usage: wasm_dump [--section ID|NAME]... [FILE]...\n" ++ (
     codes "\n" ++ (
     codes "Shows what the WebAssembly modules in the FILEs hold, each under its name where\n" ++ (
     codes "there are several; - or none is standard input. Each section and body has a\n" ++ (
     codes "line, and under it a line for each item, which begins with the offset of its\n" ++ (
     codes "bytes in the file. A fault of an item is a line at its place. With --section\n" ++ (
-    codes "only the sections with this id or name are shown.\n" ++ (
+    codes "only the sections with this id or name are shown; several add up.\n" ++ (
     codes "\n" ++ (
     codes "  wasm_dump a.wasm                       all of it\n" ++ (
     codes "  wasm_dump --section import < a.wasm    its imports\n" ++ (
@@ -51,17 +52,24 @@ help_text =
     codes "other arguments, and 3 where a file, the output or memory failed.\n"))))))))))))
 
 -- These sections of the input were shown, and how that ended is answered.
-pub record Shows (only : Only) (handed_on : Bool) (input output errors : Device) (status : ℕ) : Type 0 where
+pub record Shows (only : List Only) (handed_on : Bool) (input output errors : Device) (status : ℕ) : Type 0 where
   pub how : Result Ended ListError
   pub runs : RunsDump only input output handed_on how
   pub answers : status ≡ status_of how
   pub reports : Reports how errors
 
--- the same of those that a word chooses
-pub record ShowsChosen (word : List ℕ) (handed_on : Bool) (input output errors : Device) (status : ℕ) : Type 0 where
-  pub only : Only
-  pub chosen : Chooses word only
-  pub shows : Shows only handed_on input output errors status
+-- the same of those that words choose
+pub record ShowsThose (words : List (List ℕ)) (handed_on : Bool) (input output errors : Device) (status : ℕ) : Type 0
+  where
+    pub only : List Only
+    pub chosen : ChooseInTurn words only
+    pub shows : Shows only handed_on input output errors status
+
+-- the same, unless memory was refused for what the words choose
+abbrev pub ShowsChosen : (words : List (List ℕ)) (handed_on : Bool) (input output errors : Device) (status : ℕ)
+    → Type 0
+ShowsChosen words handed_on input output errors status =
+    ShowsThose words handed_on input output errors status ⊎ CannotBegin input output errors status
 
 -- a text was written and handed on, or the output failed
 abbrev pub Tells : (text : List ℕ) (handed_on : Bool) (output errors : Device) (status : ℕ) → Type 0
@@ -75,13 +83,17 @@ pub record RunsTelling (text : List ℕ) (handed_on : Bool) (input output errors
 
 -- a run that was asked for this
 pub record Runs (asked : Asked) (handed_on : Bool) (input output errors : Device) (status : ℕ) : Type 0 where
-  pub shows : asked ≡ all → Shows All handed_on input output errors status
-  pub shows_chosen : (word : List ℕ) → asked ≡ sections word → ShowsChosen word handed_on input output errors status
+  pub shows : asked ≡ all → Shows (All ∷ []) handed_on input output errors status
+  pub shows_chosen : (words : List (List ℕ)) → asked ≡ sections words
+      → ShowsChosen words handed_on input output errors status
   pub helps : asked ≡ help → RunsTelling help_text handed_on input output errors status
   pub says_version : asked ≡ version → RunsTelling version_text handed_on input output errors status
   pub refuses : asked ≡ unknown → RunsUsage usage input output errors status
 
--- The whole program, which was asked for this if the arguments could be had, or one was no text.
-abbrev pub RunsProgram : Option Asked → (handed_on : Bool) (input output errors : Device) (status : ℕ) → Type 0
-RunsProgram (Some asked) handed_on input output errors status = Runs asked handed_on input output errors status
-RunsProgram None handed_on input output errors status = CannotBegin input output errors status
+-- The whole program, which was asked for this if the arguments could be had, or one was no text; unless memory was
+-- refused before that was known, where it may have been.
+abbrev pub RunsProgram : Option Asked → (wants_memory : Type 0) (handed_on : Bool) (input output errors : Device)
+    (status : ℕ) → Type 0
+RunsProgram (Some asked) wants_memory handed_on input output errors status =
+    Runs asked handed_on input output errors status ⊎ (wants_memory × CannotBegin input output errors status)
+RunsProgram None wants_memory handed_on input output errors status = CannotBegin input output errors status

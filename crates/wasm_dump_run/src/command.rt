@@ -1,21 +1,22 @@
 // What the program is asked for.
-ghost use Rattle.std.specs.Prelude.{◌≡◌, option_map, drop, map, string_bytes};
+ghost use Rattle.std.specs.Prelude.{◌≡◌, [], IfNone, IfSome, Some, drop, map, string_bytes};
 ghost use Rattle.std.specs.Vec.Iter.{into_iter_items};
-ghost use Rattle.wasm_dump_run.specs.Commands.{Chooses, asked_by, asked_if_any, asked_of, asked_by_one, asked_by_two};
+ghost use Rattle.wasm_dump_run.specs.Commands.{WantsMemory, asked_after, asked_by, asked_by_one, asked_if_any, asked_of};
+ghost use Rattle.wasm_dump_run.specs.Words.{rest_given, words_of};
 
+use crate::words::{Split, split_words};
+use std::alloc::Global;
 use std::env::Args;
 use std::io;
-use wasm_grammar::section_named;
 use wasm_run::is_no_text;
-use wasm_show::Only;
 
 /// What the program is to do.
 #[derive(Drop)]
 pub(crate) enum Command {
     /// To show all sections.
     All,
-    /// To show those with this id or name.
-    Section(String),
+    /// To show those with these ids and names.
+    Sections(Vec<String>),
     /// To say how it is used.
     Help,
     /// To say which version it is.
@@ -35,43 +36,56 @@ fn command_of_one(word: &str) -> Command
     }
 }
 
-// What two arguments ask for.
-fn command_of_two(first: &str, second: String) -> Command
-    ensures { asked_of result ≡ asked_by_two first.now (string_bytes second) }
+// What words to choose sections by ask for, and the arguments after them.
+fn command_of(split: Split) -> Command
+    ensures { asked_of result
+        ≡ asked_after (map string_bytes split.words.items) (rest_given split.rest) }
 {
-    if first == "--section" {
-        Command::Section(second)
-    } else {
-        Command::Unknown
-    }
-}
-
-// What the arguments after the first ask for, which is the program's own name.
-fn command_after_name(mut args: Args) -> Command
-    ensures { asked_of result ≡ asked_by (drop 1 (map string_bytes (into_iter_items args))) }
-{
-    let _name = args.next();
-    let Some(first) = args.next() else {
-        return Command::All;
-    };
-    match args.next() {
-        None => command_of_one(first.as_str()),
-        Some(second) => {
-            if args.len() > 0 {
+    let Split { words, rest } = split;
+    match rest {
+        None => {
+            if words.is_empty() {
+                Command::All
+            } else {
+                Command::Sections(words)
+            }
+        }
+        Some(rest) => {
+            if !words.is_empty() {
                 return Command::Unknown;
             }
-            command_of_two(first.as_str(), second)
+            if rest.more.len() > 0 {
+                return Command::Unknown;
+            }
+            command_of_one(rest.first.as_str())
         }
     }
 }
 
-/// What these arguments ask for, if they could be had. One that is no text asks for nothing that is known.
-pub(crate) fn command_asked(arguments: io::Result<Args>) -> Option<Command>
-    ensures { option_map asked_of result
-        ≡ asked_if_any (λ args. map string_bytes (into_iter_items args)) arguments }
+// What the arguments after the first ask for, which is the program's own name, unless memory was refused.
+fn command_after_name(alloc: Global, mut arguments: Args) -> Option<Command>
+    ensures some { IfSome result (λ command. asked_of command
+        ≡ asked_by (drop 1 (map string_bytes (into_iter_items arguments)))) }
+    ensures none { IfNone result
+        (¬ (words_of (drop 1 (map string_bytes (into_iter_items arguments))) ≡ [])) }
+{
+    let _name = arguments.next();
+    match split_words(alloc, arguments) {
+        Ok(split) => Some(command_of(split)),
+        Err(_) => None,
+    }
+}
+
+/// What these arguments ask for, if they could be had and memory wasn't refused. One that is no text asks for nothing that is
+/// known.
+pub(crate) fn command_asked(alloc: Global, arguments: io::Result<Args>) -> Option<Command>
+    ensures some { IfSome result (λ command. Some (asked_of command)
+        ≡ asked_if_any (λ args. map string_bytes (into_iter_items args)) arguments) }
+    ensures none { IfNone result
+        (WantsMemory (λ args. map string_bytes (into_iter_items args)) arguments) }
 {
     match arguments {
-        Ok(arguments) => Some(command_after_name(arguments)),
+        Ok(arguments) => command_after_name(alloc, arguments),
         Err(error) => {
             if is_no_text(&error) {
                 Some(Command::Unknown)
@@ -79,18 +93,5 @@ pub(crate) fn command_asked(arguments: io::Result<Args>) -> Option<Command>
                 None
             }
         }
-    }
-}
-
-/// The sections that a word chooses: an id, a name of the standard, or the name of a custom section.
-pub(crate) fn sections_named(word: &str) -> Only<'_>
-    ensures { Chooses word.now result }
-{
-    match word.parse::<u8>() {
-        Ok(id) => Only::Id(id),
-        Err(_) => match section_named(word) {
-            Some(id) => Only::Id(id),
-            None => Only::Name(word),
-        },
     }
 }

@@ -1,11 +1,14 @@
 // Runs over files.
-ghost use Rattle.std.specs.Prelude.{◌≡◌, option_map, drop, map, string_bytes};
+ghost use Rattle.std.specs.Prelude.{◌≡◌, IfOk, OnErr, option_map, map, string_bytes};
 ghost use Rattle.std.specs.Vec.Iter.{into_iter_items};
 ghost use Rattle.wasm_run.specs.Endings.{status_of};
-ghost use Rattle.wasm_dump_run.specs.Files.{is_option, named_after, named_by, named_if_any, named_of};
+ghost use Rattle.wasm_dump_run.specs.Commands.{WantsMemory};
+ghost use Rattle.wasm_dump_run.specs.Files.{is_option, named_after, named_if_any, named_of};
+ghost use Rattle.wasm_dump_run.specs.Words.{rest_given};
 
-use crate::command::sections_named;
 use crate::program::{answer, dump_input, show_input};
+use crate::words::{Rest, Split, chosen_by, split_words};
+use std::alloc::{AllocError, Global};
 use std::env::Args;
 use std::fs;
 use std::io::{self, Error, Write};
@@ -13,12 +16,11 @@ use wasm_feed::{Ended, Failed, ListError, ReadSource, Sink, WriteSink, write_all
 use wasm_run::{complain, give_up};
 use wasm_show::Only;
 
-/// Files that are to be dumped, and the sections that a word chooses, if there is one.
+/// Files that are to be dumped, and the words that choose sections of them.
 #[derive(Drop)]
 pub(crate) struct Named {
-    word: Option<String>,
-    first: String,
-    more: Args,
+    words: Vec<String>,
+    files: Rest,
 }
 
 // Whether an argument is none of the files: it begins with two dashes.
@@ -31,56 +33,35 @@ fn is_an_option(word: &str) -> bool
     }
 }
 
-// The files that these arguments name, after a word, if there is one.
-fn files_after(word: Option<String>, mut arguments: Args) -> Option<Named>
+// The files that these arguments name, after words that choose sections.
+fn files_after(split: Split) -> Option<Named>
     ensures { option_map named_of result
-        ≡ named_after (option_map string_bytes word) (map string_bytes (into_iter_items arguments)) }
+        ≡ named_after (map string_bytes split.words.items) (rest_given split.rest) }
 {
-    let first = arguments.next()?;
-    if is_an_option(first.as_str()) {
+    let Split { words, rest } = split;
+    let files = rest?;
+    if is_an_option(files.first.as_str()) {
         return None;
     }
-    Some(Named {
-        word,
-        first,
-        more: arguments,
-    })
-}
-
-// The same of the arguments after the program's own name.
-fn files_of(mut arguments: Args) -> Option<Named>
-    ensures { option_map named_of result ≡ named_by (map string_bytes (into_iter_items arguments)) }
-{
-    let Some(first) = arguments.next() else {
-        return None;
-    };
-    if first.as_str() == "--section" {
-        let Some(word) = arguments.next() else {
-            return None;
-        };
-        return files_after(Some(word), arguments);
-    }
-    if is_an_option(first.as_str()) {
-        return None;
-    }
-    Some(Named {
-        word: None,
-        first,
-        more: arguments,
-    })
+    Some(Named { words, files })
 }
 
 /// The files that arguments name, where these could be had.
-pub(crate) fn files_named(arguments: io::Result<Args>) -> Option<Named>
-    ensures { option_map named_of result
-        ≡ named_if_any (λ args. map string_bytes (into_iter_items args)) arguments }
+pub(crate) fn files_named(
+    alloc: Global,
+    arguments: io::Result<Args>,
+) -> Result<Option<Named>, AllocError>
+    ensures ok { IfOk result (λ named. option_map named_of named
+        ≡ named_if_any (λ args. map string_bytes (into_iter_items args)) arguments) }
+    ensures err { OnErr result
+        (WantsMemory (λ args. map string_bytes (into_iter_items args)) arguments) }
 {
     match arguments {
         Ok(mut arguments) => {
             let _name = arguments.next();
-            files_of(arguments)
+            Ok(files_after(split_words(alloc, arguments)?))
         }
-        Err(_) => None,
+        Err(_) => Ok(None),
     }
 }
 
@@ -115,7 +96,7 @@ fn answer_for<E: Sink>(name: &str, how: Result<Ended, ListError>, errors: &mut E
 // Dumps a file, or standard input where its name is `-`, and answers the status.
 fn dump_file<W: Write, E: Sink>(
     rt: &HostRuntime,
-    only: &Only<'_>,
+    only: &[Only<'_>],
     name: &str,
     output: WriteSink<W>,
     errors: &mut E,
@@ -141,7 +122,7 @@ fn dump_file<W: Write, E: Sink>(
 // The same after its name.
 fn dump_under_name<W: Write, E: Sink>(
     rt: &HostRuntime,
-    only: &Only<'_>,
+    only: &[Only<'_>],
     name: &str,
     mut output: WriteSink<W>,
     errors: &mut E,
@@ -155,7 +136,7 @@ fn dump_under_name<W: Write, E: Sink>(
 // Dumps files, each under its name, and answers the greatest of their statuses.
 fn dump_files<W: Write + Drop, E: Sink>(
     rt: &HostRuntime,
-    only: &Only<'_>,
+    only: &[Only<'_>],
     first: &str,
     more: Args,
     output: WriteSink<W>,
@@ -171,20 +152,34 @@ fn dump_files<W: Write + Drop, E: Sink>(
     status
 }
 
-/// Dumps the files, each under its name where there are several, and answers the greatest of their statuses.
+// Dumps the files, each under its name where there are several, and answers the greatest of their statuses.
+fn dump_named<W: Write + Drop, E: Sink>(
+    rt: &HostRuntime,
+    only: &[Only<'_>],
+    files: Rest,
+    output: WriteSink<W>,
+    errors: &mut E,
+) -> u8 {
+    let Rest { first, more } = files;
+    if more.len() == 0 {
+        return dump_file(rt, only, first.as_str(), output, errors).0;
+    }
+    dump_files(rt, only, first.as_str(), more, output, errors)
+}
+
+/// Dumps the files, or the sections of them that were chosen.
 pub(crate) fn run_files<W: Write + Drop, E: Sink>(
     rt: &HostRuntime,
     named: Named,
     output: WriteSink<W>,
     errors: &mut E,
 ) -> u8 {
-    let Named { word, first, more } = named;
-    let only = match &word {
-        Some(word) => sections_named(word.as_str()),
-        None => Only::All,
-    };
-    if more.len() == 0 {
-        return dump_file(rt, &only, first.as_str(), output, errors).0;
+    let Named { words, files } = named;
+    if words.is_empty() {
+        return dump_named(rt, &[Only::All], files, output, errors);
     }
-    dump_files(rt, &only, first.as_str(), more, output, errors)
+    match chosen_by(rt.alloc(), &words) {
+        Ok(only) => dump_named(rt, &only, files, output, errors),
+        Err(_) => give_up(errors, ListError::Memory),
+    }
 }

@@ -4,5 +4,6 @@
 mod command;
 mod files;
 mod program;
+mod words;
 
 pub use program::{dump_input, run_host, run_program};

@@ -5,11 +5,12 @@ ghost use Rattle.std.specs.Process.{exit_status};
 ghost use Rattle.std.specs.Vec.Iter.{into_iter_items};
 ghost use Rattle.wasm_feed.specs.Calls.{device_of, writer_device};
 ghost use Rattle.wasm_run.specs.Endings.{Reports, status_of};
-ghost use Rattle.wasm_dump_run.specs.Commands.{asked_if_any, asked_of};
+ghost use Rattle.wasm_dump_run.specs.Commands.{WantsMemory, asked_if_any, asked_of};
 ghost use Rattle.wasm_dump_run.specs.Runs.{HandsOn, Runs, RunsDump, RunsProgram, Shows, ShowsChosen, Tells, help_text, version_text};
 
-use crate::command::{Command, command_asked, sections_named};
+use crate::command::{Command, command_asked};
 use crate::files::{files_named, run_files};
+use crate::words::chosen_by;
 use std::alloc::Global;
 use std::env::{self, Args};
 use std::io::{self, Write};
@@ -19,13 +20,13 @@ use wasm_run::{PIECE, complain, give_up};
 use wasm_show::{Only, Tree, dump};
 
 /// What `--help` says.
-const HELP: &[u8] = b"usage: wasm_dump [--section ID|NAME] [FILE]...
+const HELP: &[u8] = b"usage: wasm_dump [--section ID|NAME]... [FILE]...
 
 Shows what the WebAssembly modules in the FILEs hold, each under its name where
 there are several; - or none is standard input. Each section and body has a
 line, and under it a line for each item, which begins with the offset of its
 bytes in the file. A fault of an item is a line at its place. With --section
-only the sections with this id or name are shown.
+only the sections with this id or name are shown; several add up.
 
   wasm_dump a.wasm                       all of it
   wasm_dump --section import < a.wasm    its imports
@@ -55,11 +56,14 @@ fn version() -> &'static [u8]
 pub fn run_host(rt: HostRuntime) -> ExitCode {
     let output = WriteSink::new(rt.stdout());
     let mut errors = WriteSink::new(rt.stderr());
-    if let Some(named) = files_named(env::args(&rt)) {
-        return ExitCode::from(run_files(&rt, named, output, &mut errors));
+    match files_named(rt.alloc(), env::args(&rt)) {
+        Ok(Some(named)) => ExitCode::from(run_files(&rt, named, output, &mut errors)),
+        Ok(None) => {
+            let mut input = ReadSource::new(rt.stdin());
+            run_program(rt.alloc(), env::args(&rt), &mut input, output, &mut errors).0
+        }
+        Err(_) => ExitCode::from(give_up(&mut errors, ListError::Memory)),
     }
-    let mut input = ReadSource::new(rt.stdin());
-    run_program(rt.alloc(), env::args(&rt), &mut input, output, &mut errors).0
 }
 
 /// The whole program: it looks at the arguments after the program's own name, shows the input, hands on what the output has kept,
@@ -75,12 +79,12 @@ pub fn run_program<R: Source, W: Write, E: Sink>(
     errors: &mut E,
 ) -> (ExitCode, WriteSink<W>)
     ensures { RunsProgram (asked_if_any (λ args. map string_bytes (into_iter_items args)) arguments)
-        result.1.handed_on
+        (WantsMemory (λ args. map string_bytes (into_iter_items args)) arguments) result.1.handed_on
         (device_of R.remaining R.has_failed input.old input.new)
         (writer_device W.contents output result.1)
         (device_of E.taken E.has_failed errors.old errors.new) (exit_status result.0) }
 {
-    let Some(command) = command_asked(arguments) else {
+    let Some(command) = command_asked(alloc, arguments) else {
         return (ExitCode::from(give_up(errors, ListError::Memory)), output);
     };
     let (status, output) = run_command(alloc, command, input, output, errors);
@@ -102,14 +106,14 @@ fn run_command<R: Source, W: Write, E: Sink>(
         (device_of E.taken E.has_failed errors.old errors.new) result.0 }
 {
     match command {
-        Command::All => show_input(alloc, &Only::All, input, output, errors),
-        Command::Section(word) => show_chosen(alloc, &word, input, output, errors),
+        Command::All => show_input(alloc, &[Only::All], input, output, errors),
+        Command::Sections(words) => show_chosen(alloc, &words, input, output, errors),
         Command::Help => show_text(help(), output, errors),
         Command::Version => show_text(version(), output, errors),
         Command::Unknown => {
             complain(
                 errors,
-                b"usage: wasm_dump [--help] [--version] [--section ID|NAME] [FILE]...\n",
+                b"usage: wasm_dump [--help] [--version] [--section ID|NAME]... [FILE]...\n",
             );
             (2, output)
         }
@@ -145,27 +149,29 @@ fn show_text<W: Write, E: Sink>(
     }
 }
 
-// Shows the sections of the input that this word chooses, and answers the status.
+// Shows the sections of the input that these words choose, and answers the status.
 fn show_chosen<R: Source, W: Write, E: Sink>(
     alloc: Global,
-    word: &str,
+    words: &[String],
     input: &mut R,
     output: WriteSink<W>,
     errors: &mut E,
 ) -> (u8, WriteSink<W>)
-    ensures { ShowsChosen word.now result.1.handed_on
+    ensures { ShowsChosen (map string_bytes words.now) result.1.handed_on
         (device_of R.remaining R.has_failed input.old input.new)
         (writer_device W.contents output result.1)
         (device_of E.taken E.has_failed errors.old errors.new) result.0 }
 {
-    let only = sections_named(word);
-    show_input(alloc, &only, input, output, errors)
+    match chosen_by(alloc, words) {
+        Ok(only) => show_input(alloc, &only, input, output, errors),
+        Err(_) => (give_up(errors, ListError::Memory), output),
+    }
 }
 
 /// Shows these sections of the input, and answers the status. A message goes to `errors` where a device or memory failed.
 pub(crate) fn show_input<R: Source, W: Write, E: Sink>(
     alloc: Global,
-    only: &Only<'_>,
+    only: &[Only<'_>],
     input: &mut R,
     output: WriteSink<W>,
     errors: &mut E,
@@ -211,7 +217,7 @@ fn hand_on<W: Write>(
 /// Shows these sections of the input, and hands on all that was written. Answers how it ended, and the output.
 pub fn dump_input<R: Source, W: Write>(
     alloc: Global,
-    only: &Only<'_>,
+    only: &[Only<'_>],
     input: &mut R,
     output: WriteSink<W>,
 ) -> (Result<Ended, ListError>, WriteSink<W>)

@@ -53,7 +53,8 @@ pub record Counting (full rest : Option (List ℕ)) (f : Feed) (c : Counts) : Ty
   pub counted : c ≡ after_all no_counts events
 
 -- the outline so far, the listing that has written it, what is counted, and what was written with it
-pub record Dumping (only : Only) (full rest : Option (List ℕ)) (before : Writing) (f : Feed) (c : Counts) (now : Writing) : Type 0 where
+pub record Dumping (only : List Only) (full rest : Option (List ℕ)) (before : Writing) (f : Feed) (c : Counts) (now : Writing) :
+    Type 0 where
   pub outline : List ℕ
   pub listing : Progress (chosen_line only) (from_to full rest) (from_to (Some []) (Some outline)) f []
   pub counting : Counting full rest f c
@@ -61,7 +62,8 @@ pub record Dumping (only : Only) (full rest : Option (List ℕ)) (before : Writi
       → WrittenWith counting.events taken failed outline now
 
 -- the same where the feeder is asked for more
-pub record Wanting (only : Only) (full rest : Option (List ℕ)) (before : Writing) (f : Feed) (c : Counts) (now : Writing) : Type 0 where
+pub record Wanting (only : List Only) (full rest : Option (List ℕ)) (before : Writing) (f : Feed) (c : Counts) (now : Writing) :
+    Type 0 where
   pub outline : List ℕ
   pub listing : Wants (chosen_line only) (from_to full rest) (from_to (Some []) (Some outline)) f []
   pub counting : Counting full rest f c
@@ -78,7 +80,7 @@ counts_nothing full = record {
   counted = refl;
 }
 
-pub starts : (only : Only) (full : Option (List ℕ)) (w : Writing) → Dumping only full full w (new_feed 0 all_features) no_counts w
+pub starts : (only : List Only) (full : Option (List ℕ)) (w : Writing) → Dumping only full full w (new_feed 0 all_features) no_counts w
 starts only full w = record {
   outline = [];
   listing = progress.begun (chosen_line only) full (Some []);
@@ -217,7 +219,7 @@ some_of : (o : Origin) (w : Writing) → WritesWhole o.taken w.taken o.outline o
 some_of o w s = record { text = s.text; unwritten = []; outlined = rw (append-nil s.text) s.outlined; wrote = s.wrote }
 
 -- a dump that was cut short, or whose input failed
-cut_off : (only : Only) (full rest : Option (List ℕ)) (had has : Bool) → has ≡ had
+cut_off : (only : List Only) (full rest : Option (List ℕ)) (had has : Bool) → has ≡ had
     → (taken : Option (List ℕ)) (failed : Bool) (outline : List ℕ) (numbers : List Number) (why : ListError) (w : Writing)
     → IsBeginning (chosen_line only) (from_to full rest) (from_to (Some []) (Some outline)) → AreOfSource (from_to full rest) numbers
     → IsCutShort (origin taken failed outline numbers) why w → DumpsFrom only
@@ -266,7 +268,7 @@ reads_where_asked (Ok (Parsed bytes payload)) t = by_end (is_end (report_of payl
 puts : (outline line : List ℕ) → PutsBytes (Some outline) (Some (outline ++ line)) [] line []
 puts outline line = record { moved = line; writes = refl; waits = sym (append-nil line) }
 
-module _ (only : Only) (full rest : Option (List ℕ)) (before : Writing) (f : Feed) (c : Counts) (now : Writing)
+module _ (only : List Only) (full rest : Option (List ℕ)) (before : Writing) (f : Feed) (c : Counts) (now : Writing)
     (d : Dumping only full rest before f c now) (g : Feed) (c' : Counts) (new : Writing) (next : Turn)
     (s : ShowsStep only c c' f g now new next) where
   line : List ℕ
@@ -422,7 +424,7 @@ module _ (full rest : Option (List ℕ)) (f : Feed) (c : Counts) (k : Counting f
     refl,
   )
 
-module _ (only : Only) (full rest : Option (List ℕ)) (before : Writing) (f : Feed) (c : Counts) (now last : Writing)
+module _ (only : List Only) (full rest : Option (List ℕ)) (before : Writing) (f : Feed) (c : Counts) (now last : Writing)
     (d : Wanting only full rest before f c now) (a : Adds now last) (out : IsOut last) (going : last.why ≡ None) where
   all : (events : List Event) → events ≡ d.counting.events → (taken : Option (List ℕ)) (failed : Bool)
       → IsWritten (origin taken failed [] []) before → WrittenWith events taken failed d.outline last
@@ -500,7 +502,7 @@ fresh taken failed w e = subst (IsWritten (origin taken failed [] [])) (sym e) (
 })
 
 -- no memory to begin with
-pub no_room : (only : Only) (full : Option (List ℕ)) (had : Bool) (taken : Option (List ℕ)) (failed : Bool) (w : Writing) → w
+pub no_room : (only : List Only) (full : Option (List ℕ)) (had : Bool) (taken : Option (List ℕ)) (failed : Bool) (w : Writing) → w
     ≡ Tree.starts taken failed
     → DumpsFrom only (record { before = full; after = full; had_failed = had; has_failed = had }) taken failed (Err Memory) w
 no_room only full had taken failed w e = subst (DumpsFrom only (record { before = full; after = full; had_failed = had; has_failed = had })

@@ -20,15 +20,13 @@ use Rattle.wasm_feed.specs.declared.listing.Ended.TheVariants.{End}
 use Rattle.wasm_feed.specs.declared.listing.Turn.TheVariants as turn
 use Rattle.wasm_items.specs.Flattened.{NextImport, found_at}
 use Rattle.wasm_items.specs.declared.imports.Import.{Import}
-use Rattle.wasm_items.specs.Imports.{import_parts}
-use Rattle.wasm_show.specs.Numbers.{Number, Found, more, space_of, count_of, with_one, with_import, with_imports, import_number}
+use Rattle.wasm_show.specs.Numbers.{Number, Found, more, space_of, with_one, with_import, with_imports, import_number}
 use Rattle.wasm_show.specs.Numbers.{import_numbers}
-use Rattle.wasm_show.specs.Numbers.{numbers_from, imports_in, space_defined, Begin, AreFrom, AreUpTo, AreNext, AreOfSection, AreOfItems}
+use Rattle.wasm_show.specs.Numbers.{numbers_from, imports_in, space_defined, AreNext, AreOfSection, AreOfItems}
 use Rattle.wasm_show.specs.Numbers.{numbers_in_line, after, after_all, AreOf, AreOfEvents}
 use Rattle.wasm_show.specs.Chosen.{is_chosen, shown_line, numbered_line}
 use Rattle.wasm_show.specs.Dump.{ShowsItems, ShowsReport, ShowsAnswer}
 use Rattle.wasm_show.specs.declared.only.Only.{Only}
-use Rattle.wasm_show.specs.declared.only.Only.TheVariants.{All, Id, Name}
 use Rattle.wasm_show.proofs.Lines.{line_is_first}
 use Rattle.wasm_show.specs.Tree.{Writing, Origin, IsWritten, with_line, with_numbers, Adds, AddsFirst, AddsThese, AddsNumber, AddsNumbers}
 use Rattle.wasm_show.specs.Tree.{AddsBeginning, AddsNext, AddsUpTo}
@@ -174,7 +172,7 @@ nothing_more o w i = subst₂ (λ (x : List ℕ) (y : List Number). IsWritten (r
     (sym (append-nil o.outline)) (sym (append-nil o.numbers)) i
 
 -- a line of the first level, if it is shown, and its items
-module _ (only : Only) (c : Counts) (r : Report) where
+module _ (only : List Only) (c : Counts) (r : Report) where
   pub shows_chosen : (old mid new : Writing) → is_chosen only r ≡ true → AddsFirst (numbered_line c r) old mid → ShowsItems c r mid new
       → ShowsReport only c r old new
   shows_chosen old mid new chosen a b o i =
@@ -196,13 +194,11 @@ module _ (only : Only) (c : Counts) (r : Report) where
         (nothing_more o w i),
   )
 
-last_chosen : (only : Only) (end : Ending) → is_chosen only (stream_end end) ≡ true
-last_chosen All end = refl
-last_chosen (Id id) end = refl
-last_chosen (Name name) end = refl
+last_chosen : (only : List Only) (end : Ending) → is_chosen only (stream_end end) ≡ true
+last_chosen only end = refl
 
-fault_shown : (only : Only) (c : Counts) (e : Error) (old new : Writing) → AddsFirst (line_of (stream_end (fault (fault_at e)))) old new
-    → ShowsAnswer only c (Err e) old new
+fault_shown : (only : List Only) (c : Counts) (e : Error) (old new : Writing)
+    → AddsFirst (line_of (stream_end (fault (fault_at e)))) old new → ShowsAnswer only c (Err e) old new
 fault_shown only c e old new a o i =
     let r = stream_end (fault (fault_at e)) in (
       [],
@@ -213,13 +209,13 @@ fault_shown only c e old new a o i =
     )
 
 -- a fault of the stream
-module _ (only : Only) (c : Counts) (answer : Result Step Error) where
+module _ (only : List Only) (c : Counts) (answer : Result Step Error) where
   pub shows_fault : (e : Error) (old new : Writing) → answer ≡ Err e → AddsFirst (line_of (stream_end (fault (fault_at e)))) old new
       → ShowsAnswer only c answer old new
   shows_fault e old new is a = subst (λ (x : Result Step Error). ShowsAnswer only c x old new) (sym is) (fault_shown only c e old new a)
 
 -- where more is asked for, nothing is shown
-pub shows_request : (only : Only) (c : Counts) (answer : Result Step Error) (w : Writing) → turn.Read ≡ turn_after answer
+pub shows_request : (only : List Only) (c : Counts) (answer : Result Step Error) (w : Writing) → turn.Read ≡ turn_after answer
     → ShowsAnswer only c answer w w
 shows_request only c (Ok (NeedMoreData hint)) w t = λ o i. ([], refl, nothing_more o w i)
 shows_request only c (Err e) w t = cc

@@ -1,6 +1,7 @@
 -- Which events a dump shows, and the line of each.
 use Rattle.std.specs.Prelude.{◌≡◌, option_map, ℕ, Bool, true, false, List, [], ◌∷◌, ◌++◌, Option, Some, None, nat_eq}
 use Rattle.std.specs.Prelude.{bytes_eq, codes, if◌then◌else◌}
+use Rattle.std.specs.List.{list_any}
 use Rattle.wasm_grammar.specs.Reading.{Report, counted, code_entry, custom_section, stream_end}
 use Rattle.wasm_grammar.specs.Ids.{code_id}
 use Rattle.wasm_grammar.specs.Ids.{name_of as section_name}
@@ -34,11 +35,15 @@ abbrev pub is_name : List ℕ → Option (List ℕ) → Bool
 is_name name (Some other) = bytes_eq name other
 is_name name None = false
 
--- whether what is reported is shown: the sections that were chosen, and the last event
-abbrev pub is_chosen : Only → Report → Bool
-is_chosen All report = true
-is_chosen (Id id) report = if is_last report then true else is_id id (id_of report)
-is_chosen (Name name) report = if is_last report then true else is_name name.now (name_of report)
+-- whether this choice alone chooses what is reported
+abbrev pub is_chosen_by : Only → Report → Bool
+is_chosen_by All report = true
+is_chosen_by (Id id) report = is_id id (id_of report)
+is_chosen_by (Name name) report = is_name name.now (name_of report)
+
+-- whether what is reported is shown: the sections that any of these choices chooses, and the last event
+abbrev pub is_chosen : List Only → Report → Bool
+is_chosen only report = if is_last report then true else list_any (λ choice. is_chosen_by choice report) only
 
 -- the name of the section that is reported with its id; the text of any other report begins with its name
 abbrev pub counted_name : Report → Option (List ℕ)
@@ -67,7 +72,7 @@ numbered_line counts report =
     text_before report (section_words report ++ blank_numbers (numbers_in_line counts report) (codes "\n"))
 
 -- the line of what is reported, where it is shown
-abbrev pub chosen_line : Only → Report → List ℕ
+abbrev pub chosen_line : List Only → Report → List ℕ
 chosen_line only report = if is_chosen only report then shown_line report else []
 
 -- The lines of a listing and of a dump begin with the same text. A listing's has nothing after it; a dump's the name

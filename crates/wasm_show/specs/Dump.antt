@@ -55,7 +55,7 @@ pub record AreOfSource (input : Change) (numbers : List Number) : Type 0 where
 
 -- The lines of the first level are those of the source's listing that are shown; all others begin with two blanks. The
 -- numbers of items count what came before.
-pub record Dumps (only : Only) (input output : Change) (result : Result Ended ListError) : Type 0 where
+pub record Dumps (only : List Only) (input output : Change) (result : Result Ended ListError) : Type 0 where
   pub outline : List ℕ
   pub numbers : List Number
   pub lists : ListsBy (chosen_line only) input (from_to (Some []) (Some outline)) result
@@ -74,7 +74,7 @@ ShowsLine line allowed old new = (o : Origin) → IsWritten o old
     → (shown : List Number) × allowed shown × IsWritten (with_numbers (with_line o line) shown) new
 
 -- What is reported was shown, if it was chosen.
-abbrev pub ShowsReport : Only → Counts → Report → (old new : Writing) → Type 0
+abbrev pub ShowsReport : List Only → Counts → Report → (old new : Writing) → Type 0
 ShowsReport only counts report old new = ShowsLine (chosen_line only report) (AreOf counts report) old new
 
 -- the numbers that are shown of an answer, and what came before what is after it
@@ -89,13 +89,13 @@ after_answer counts (Ok (Parsed bytes payload)) = after counts (report_of payloa
 after_answer counts (Err e) = counts
 
 -- An answer was shown, if it was chosen.
-abbrev pub ShowsAnswer : Only → Counts → Result Step Error → (old new : Writing) → Type 0
+abbrev pub ShowsAnswer : List Only → Counts → Result Step Error → (old new : Writing) → Type 0
 ShowsAnswer only counts answer old new =
     ShowsLine (text_after (chosen_line only) answer) (AreOfAnswer counts answer) old new
 
 -- A step of the feeder was shown, and this is done next.
-pub record ShowsStep (only : Only) (counts counts' : Counts) (old new : Feed) (before after : Writing) (next : Turn) :
-    Type 0 where
+pub record ShowsStep (only : List Only) (counts counts' : Counts) (old new : Feed) (before after : Writing)
+    (next : Turn) : Type 0 where
   pub answer : Result Step Error
   pub steps : Steps old answer new
   pub turns : next ≡ turn_after answer
@@ -108,20 +108,20 @@ origin taken failed outline numbers =
     record { taken = taken; has_failed = failed; outline = outline; numbers = numbers }
 
 -- A dump by a writer over a sink that had taken this.
-pub record DumpsFrom (only : Only) (input : Device) (taken : Option (List ℕ)) (failed : Bool)
+pub record DumpsFrom (only : List Only) (input : Device) (taken : Option (List ℕ)) (failed : Bool)
     (result : Result Ended ListError) (new : Writing) : Type 0 where
   pub dumps : Dumps only (bytes_of input) (from_to taken new.taken) result
   pub source : input.has_failed ≡ input_failed result input.had_failed
   pub sink : new.has_failed ≡ output_failed result failed
 
 -- The same by a writer whose outline is empty.
-abbrev pub DumpsInto : (only : Only) (input : Device) (old : Writing) (result : Result Ended ListError) (new : Writing)
-    → Type 0
+abbrev pub DumpsInto : (only : List Only) (input : Device) (old : Writing) (result : Result Ended ListError)
+    (new : Writing) → Type 0
 DumpsInto only input old result new = (taken : Option (List ℕ)) (failed : Bool)
     → IsWritten (origin taken failed [] []) old → DumpsFrom only input taken failed result new
 
 -- The same by a tree that has written nothing yet.
-abbrev pub DumpsByTree : (only : Only) (input : Device) (old : Writing) (result : Result Ended ListError)
+abbrev pub DumpsByTree : (only : List Only) (input : Device) (old : Writing) (result : Result Ended ListError)
     (new : Writing) → Type 0
 DumpsByTree only input old result new = (taken : Option (List ℕ)) (failed : Bool) → old ≡ starts taken failed
     → DumpsFrom only input taken failed result new

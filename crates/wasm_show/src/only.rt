@@ -1,12 +1,13 @@
 // Which events a dump shows.
+ghost use Rattle.std.specs.List.{list_any};
 ghost use Rattle.std.specs.Prelude.{◌≡◌};
 ghost use Rattle.wasm_parser.specs.ParseAnswer.{report_of};
-ghost use Rattle.wasm_show.specs.Chosen.{id_of as id_reported, is_chosen};
+ghost use Rattle.wasm_show.specs.Chosen.{id_of as id_reported, is_chosen, is_chosen_by};
 
 use wasm_grammar::CODE_SECTION;
 use wasm_parser::Payload;
 
-/// Which events a dump shows, beside the last one, which it always does.
+/// Which events a dump shows. It shows those that any of several choices chooses, and always the last one.
 #[derive(Clone, Copy)]
 pub enum Only<'n> {
     /// All.
@@ -30,19 +31,39 @@ fn id_of(payload: &Payload<'_>) -> Option<u8>
     }
 }
 
-/// Whether a payload is shown.
-pub(crate) fn chooses(only: &Only<'_>, payload: &Payload<'_>) -> bool
-    ensures { result ≡ is_chosen only.now (report_of payload.now) }
+// Whether a choice chooses a payload.
+fn is_chosen_alone(choice: &Only<'_>, payload: &Payload<'_>) -> bool
+    ensures { result ≡ is_chosen_by choice.now (report_of payload.now) }
 {
-    if let Payload::End(_) = payload {
-        return true;
-    }
-    match only {
+    match choice {
         Only::All => true,
         Only::Id(id) => id_of(payload) == Some(*id),
         Only::Name(name) => match payload {
             Payload::CustomSection(section) => *name == section.name(),
             _ => false,
         },
+    }
+}
+
+// Whether any of these choices chooses a payload.
+#[tactic(auto, using(std::proofs::lemmas::List::Folds::list_any_more, std::proofs::lemmas::List::Folds::list_any_at))]
+fn is_chosen_by_any(only: &[Only<'_>], payload: &Payload<'_>) -> bool
+    ensures { result ≡ list_any (λ choice. is_chosen_by choice (report_of payload.now)) only.now }
+{
+    for choice in only {
+        if is_chosen_alone(choice, payload) {
+            return true;
+        }
+    }
+    false
+}
+
+/// Whether a payload is shown.
+pub(crate) fn chooses(only: &[Only<'_>], payload: &Payload<'_>) -> bool
+    ensures { result ≡ is_chosen only.now (report_of payload.now) }
+{
+    match payload {
+        Payload::End(_) => true,
+        _ => is_chosen_by_any(only, payload),
     }
 }

@@ -18,7 +18,7 @@ use wasm_parser::{Parser, Payload, Result as ParserResult};
 // Writes the line of a payload and what it holds, if it is shown.
 fn show_chosen<W: Sink>(
     alloc: Global,
-    only: &Only<'_>,
+    only: &[Only<'_>],
     counts: &Counts,
     line: &mut Line,
     payload: &Payload<'_>,
@@ -37,7 +37,7 @@ fn show_chosen<W: Sink>(
 // Writes what a step answered, and says what is to be done next.
 fn show_answer<W: Sink>(
     alloc: Global,
-    only: &Only<'_>,
+    only: &[Only<'_>],
     counts: &mut Counts,
     line: &mut Line,
     answer: &ParserResult<Step<'_>>,
@@ -70,7 +70,7 @@ fn show_answer<W: Sink>(
 // Goes one step along the stream, and writes what it answered.
 fn show_step<W: Sink>(
     alloc: Global,
-    only: &Only<'_>,
+    only: &[Only<'_>],
     counts: &mut Counts,
     line: &mut Line,
     feeder: &mut Feeder,
@@ -97,7 +97,7 @@ fn go_on<W: Sink>(out: &Tree<W>) -> Result<(), ListError>
 // The same as `dump`, by a tree over the output that has written nothing yet, and with a buffer to read into.
 fn dump_into<R: Source, W: Sink>(
     alloc: Global,
-    only: &Only<'_>,
+    only: &[Only<'_>],
     input: &mut R,
     out: &mut Tree<W>,
     buffer: &mut [u8],
@@ -140,7 +140,7 @@ fn dump_into<R: Source, W: Sink>(
 /// refused. A device that had failed before the call is still known to have failed.
 pub fn dump<R: Source, W: Sink>(
     alloc: Global,
-    only: &Only<'_>,
+    only: &[Only<'_>],
     input: &mut R,
     out: &mut Tree<W>,
     piece: usize,

@@ -19,7 +19,7 @@ custom 20 26 25
 end 26
 ";
 
-const USAGE: &[u8] = b"usage: wasm_dump [--help] [--version] [--section ID|NAME] [FILE]...\n";
+const USAGE: &[u8] = b"usage: wasm_dump [--help] [--version] [--section ID|NAME]... [FILE]...\n";
 
 // The program's own name, and these arguments.
 fn arguments(alloc: Global, words: &[&str]) -> Result<Args, Fail> {
@@ -84,6 +84,30 @@ fn shows_what_is_asked_for(rt: HostRuntime) -> Result<(), Fail> {
     Ok(())
 }
 
+#[test]
+fn shows_what_any_word_chooses(rt: HostRuntime) -> Result<(), Fail> {
+    let third = b"section 3 10 12 1 function\n  11 func[0] index=5\nend 26\n".as_slice();
+    let both =
+        b"section 3 10 12 1 function\n  11 func[0] index=5\ncode 14 18 1 3\nbody 16 18 func[0]\nend 26\n".as_slice();
+    let rows: [(&[&str], &[u8]); 7] = [
+        (&["--section", "3", "--section", "code"], both),
+        (&["--section", "code", "--section", "3"], both),
+        (&["--section", "3", "--section", "function"], third),
+        (&["--section", "3", "--section", "3"], third),
+        (&["--section", "13", "--section", "3"], third),
+        (&["--section", "3", "--section", "--section"], third),
+        (
+            &["--section", "10", "--section", "name", "--section", "3"],
+            both,
+        ),
+    ];
+    for (words, text) in rows {
+        let given = Ok(arguments(rt.alloc(), words)?);
+        runs(&rt, rt.alloc(), given, MODULE, (0, text, b""))?;
+    }
+    Ok(())
+}
+
 // A custom section with this name, as a word chooses it.
 #[test]
 fn shows_custom_sections_by_their_names(rt: HostRuntime) -> Result<(), Fail> {
@@ -135,12 +159,16 @@ fn knows_the_names_of_the_standard(rt: HostRuntime) -> Result<(), Fail> {
 
 #[test]
 fn refuses_arguments(rt: HostRuntime) -> Result<(), Fail> {
-    let refused: [&[&str]; 6] = [
+    let refused: [&[&str]; 10] = [
         &["--section"],
         &["--sections", "3"],
         &["3"],
         &["--help", "--help"],
         &["--section", "3", "4"],
+        &["--section", "3", "--section"],
+        &["--section", "3", "--sections", "4"],
+        &["--section", "3", "--help"],
+        &["--section", "3", "--section", "code", "4"],
         &[""],
     ];
     for words in refused {
@@ -176,7 +204,7 @@ fn says_how_it_is_used(rt: HostRuntime) -> Result<(), Fail> {
     assert!(rt;
         written
             .as_slice()
-            .starts_with(b"usage: wasm_dump [--section ID|NAME] [FILE]...\n\n")
+            .starts_with(b"usage: wasm_dump [--section ID|NAME]... [FILE]...\n\n")
     );
     assert!(rt; written.as_slice().ends_with(b"or memory failed.\n"));
     assert_eq!(rt; errors.written(), b"".as_slice());

@@ -44,7 +44,7 @@ end 75
 // How the dump of what this source gives ends, and the sink.
 fn dumped<R: Source>(
     alloc: Global,
-    only: &Only<'_>,
+    only: &[Only<'_>],
     input: &mut R,
     output: BoundedSink,
     piece: usize,
@@ -58,7 +58,7 @@ fn dumped<R: Source>(
 pub(super) fn dumps(
     rt: &impl Abort,
     alloc: Global,
-    only: &Only<'_>,
+    only: &[Only<'_>],
     stream: &[u8],
     how: Result<Ended, ListError>,
     text: &[u8],
@@ -74,29 +74,43 @@ pub(super) fn dumps(
 
 #[test]
 fn shows_every_item(rt: HostRuntime) -> Result<(), Fail> {
-    dumps(&rt, rt.alloc(), &Only::All, MODULE, Ok(Ended::End), DUMP)
+    dumps(&rt, rt.alloc(), &[Only::All], MODULE, Ok(Ended::End), DUMP)
 }
 
 #[test]
 fn shows_chosen_sections(rt: HostRuntime) -> Result<(), Fail> {
-    let rows: [(Only<'_>, &[u8]); 5] = [
+    let rows: [(&[Only<'_>], &[u8]); 10] = [
+        (&[], b"end 75\n"),
         (
-            Only::Id(3),
+            &[Only::Id(3)],
             b"section 3 29 31 1 function\n  30 func[0] index=0\nend 75\n",
         ),
         (
-            Only::Id(10),
+            &[Only::Id(10)],
             b"code 47 51 1 3\nbody 49 51 func[0]\nend 75\n",
         ),
-        (Only::Id(13), b"end 75\n"),
+        (&[Only::Id(13)], b"end 75\n"),
         (
-            Only::Name("name"),
+            &[Only::Name("name")],
             b"custom 61 75 66\n  section name=\"name\"\n    66 function\n      69 index=0 name=\"f\"\n      fault 72 names out of order\nend 75\n",
         ),
-        (Only::Name("names"), b"end 75\n"),
+        (&[Only::Name("names")], b"end 75\n"),
+        (
+            &[Only::Id(10), Only::Id(3)],
+            b"section 3 29 31 1 function\n  30 func[0] index=0\ncode 47 51 1 3\nbody 49 51 func[0]\nend 75\n",
+        ),
+        (
+            &[Only::Id(3), Only::Id(3)],
+            b"section 3 29 31 1 function\n  30 func[0] index=0\nend 75\n",
+        ),
+        (
+            &[Only::Id(13), Only::Name("name"), Only::Id(10)],
+            b"code 47 51 1 3\nbody 49 51 func[0]\ncustom 61 75 66\n  section name=\"name\"\n    66 function\n      69 index=0 name=\"f\"\n      fault 72 names out of order\nend 75\n",
+        ),
+        (&[Only::Id(3), Only::All], DUMP),
     ];
     for (only, text) in rows {
-        dumps(&rt, rt.alloc(), &only, MODULE, Ok(Ended::End), text)?;
+        dumps(&rt, rt.alloc(), only, MODULE, Ok(Ended::End), text)?;
     }
     Ok(())
 }
@@ -108,7 +122,7 @@ fn shows_faults_at_their_place(rt: HostRuntime) -> Result<(), Fail> {
     let how = Ok(Ended::Fault(Error::new(Fault::FunctionWithoutCode, 13)));
     let text =
         b"version 0 8 1 module\nsection 3 10 13 2 function\n  fault 13 unexpected end-of-file\nfault 13 function section has non-zero count but code section is absent\n";
-    dumps(&rt, rt.alloc(), &Only::All, stream, how, text)
+    dumps(&rt, rt.alloc(), &[Only::All], stream, how, text)
 }
 
 #[test]
@@ -117,7 +131,7 @@ fn writes_texts_in_quotes(rt: HostRuntime) -> Result<(), Fail> {
     let stream = b"\0asm\x01\0\0\0\x07\x0a\x01\x06a\"\\\xc3\xa9\n\x03\x07";
     let text =
         b"version 0 8 1 module\nsection 7 10 20 1 export\n  11 name=\"a\\22\\5c\\c3\\a9\\0a\" kind=global index=7\nend 20\n";
-    dumps(&rt, rt.alloc(), &Only::All, stream, Ok(Ended::End), text)
+    dumps(&rt, rt.alloc(), &[Only::All], stream, Ok(Ended::End), text)
 }
 
 #[test]
@@ -125,7 +139,7 @@ fn stops_where_the_sink_is_full(rt: HostRuntime) -> Result<(), Fail> {
     for size in [0, 1, 30, 100] {
         let sink = BoundedSink::new(rt.alloc(), size)?;
         let input = &mut SliceSource::new(MODULE);
-        let (ended, output) = dumped(rt.alloc(), &Only::All, input, sink, 100);
+        let (ended, output) = dumped(rt.alloc(), &[Only::All], input, sink, 100);
         assert!(rt; ended == Err(ListError::Output), "{size}");
         assert_eq!(rt; output.written(), &DUMP[..size]);
     }
@@ -164,7 +178,7 @@ fn shows_what_came_before_the_source_failed(rt: HostRuntime) -> Result<(), Fail>
         bytes: SliceSource::new(&MODULE[..30]),
         failed: false,
     };
-    let (ended, output) = dumped(rt.alloc(), &Only::All, &mut input, sink, 4);
+    let (ended, output) = dumped(rt.alloc(), &[Only::All], &mut input, sink, 4);
     assert!(rt; ended == Err(ListError::Input));
     assert!(rt; input.failed());
     let text =

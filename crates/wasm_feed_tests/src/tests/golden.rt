@@ -312,7 +312,7 @@ fn list_all(rt: &impl Abort, alloc: Global, rows: &[(&[u8], &[u8])]) -> Result<(
 // Each stream ends well, and has its dump.
 fn dump_all(rt: &impl Abort, alloc: Global, rows: &[(&[u8], &[u8])]) -> Result<(), Fail> {
     for (stream, text) in rows {
-        dumps(rt, alloc, &Only::All, stream, Ok(Ended::End), text)?;
+        dumps(rt, alloc, &[Only::All], stream, Ok(Ended::End), text)?;
     }
     Ok(())
 }

@@ -350,23 +350,23 @@ fn core() -> (&'static [u8], &'static [u8]) {
 fn shows_sections_of_each_kind(rt: HostRuntime) -> Result<(), Fail> {
     let (stream, text) = sections();
     let how = Ok(Ended::Fault(Error::new(Fault::MalformedSectionId, 435)));
-    dumps(&rt, rt.alloc(), &Only::All, stream, how, text)
+    dumps(&rt, rt.alloc(), &[Only::All], stream, how, text)
 }
 
 #[test]
 fn shows_names_hints_and_producers(rt: HostRuntime) -> Result<(), Fail> {
     let (stream, text) = names();
-    dumps(&rt, rt.alloc(), &Only::All, stream, Ok(Ended::End), text)
+    dumps(&rt, rt.alloc(), &[Only::All], stream, Ok(Ended::End), text)
 }
 
 #[test]
 fn shows_what_linkers_read(rt: HostRuntime) -> Result<(), Fail> {
     let (stream, text) = linking();
-    dumps(&rt, rt.alloc(), &Only::All, stream, Ok(Ended::End), text)
+    dumps(&rt, rt.alloc(), &[Only::All], stream, Ok(Ended::End), text)
 }
 
 #[test]
 fn shows_core_dumps(rt: HostRuntime) -> Result<(), Fail> {
     let (stream, text) = core();
-    dumps(&rt, rt.alloc(), &Only::All, stream, Ok(Ended::End), text)
+    dumps(&rt, rt.alloc(), &[Only::All], stream, Ok(Ended::End), text)
 }

@@ -1,0 +1,99 @@
+// The words by which arguments choose sections.
+ghost use Rattle.std.specs.Prelude.{◌≡◌, IfOk, OnErr, [], map, string_bytes};
+ghost use Rattle.std.specs.Vec.Iter.{into_iter_items};
+ghost use Rattle.wasm_dump_run.specs.Words.{Begins, ChooseInTurn, Chooses, IsSplit, words_of};
+
+use std::alloc::{AllocError, Global};
+use std::env::Args;
+use wasm_grammar::section_named;
+use wasm_show::Only;
+
+/// Arguments, of which there is one at least.
+#[derive(Drop)]
+pub(crate) struct Rest {
+    pub(crate) first: String,
+    pub(crate) more: Args,
+}
+
+/// The words that arguments choose sections by, and the arguments after them.
+#[derive(Drop)]
+pub(crate) struct Split {
+    pub(crate) words: Vec<String>,
+    pub(crate) rest: Option<Rest>,
+}
+
+/// What arguments begin with.
+#[derive(Drop)]
+pub(crate) enum Beginning {
+    /// A word that chooses sections.
+    Word(String),
+    /// Another argument.
+    Other(String),
+    /// Nothing.
+    Nothing,
+}
+
+// Takes what arguments begin with: `--section` and a word, or another argument.
+fn take_beginning(arguments: &mut Args) -> Beginning
+    ensures { Begins result (map string_bytes (into_iter_items arguments.old))
+        (map string_bytes (into_iter_items arguments.new)) }
+{
+    let Some(first) = arguments.next() else {
+        return Beginning::Nothing;
+    };
+    if first.as_str() != "--section" {
+        return Beginning::Other(first);
+    }
+    match arguments.next() {
+        Some(word) => Beginning::Word(word),
+        None => Beginning::Other(first),
+    }
+}
+
+/// Splits the arguments after the program's own name. Memory can be refused only where there are words to keep.
+pub(crate) fn split_words(alloc: Global, mut arguments: Args) -> Result<Split, AllocError>
+    ensures ok { IfOk result (λ split. IsSplit split (map string_bytes (into_iter_items arguments))) }
+    ensures err { OnErr result (¬ (words_of (map string_bytes (into_iter_items arguments)) ≡ [])) }
+{
+    let mut words = Vec::new(alloc);
+    'words: loop {
+        match take_beginning(&mut arguments) {
+            Beginning::Word(word) => words.push(word)?,
+            Beginning::Other(first) => {
+                let rest = Rest {
+                    first,
+                    more: arguments,
+                };
+                return Ok(Split {
+                    words,
+                    rest: Some(rest),
+                });
+            }
+            Beginning::Nothing => return Ok(Split { words, rest: None }),
+        }
+    }
+}
+
+// The sections that a word chooses: an id, a name of the standard, or the name of a custom section.
+fn sections_named(word: &str) -> Only<'_>
+    ensures { Chooses word.now result }
+{
+    match word.parse::<u8>() {
+        Ok(id) => Only::Id(id),
+        Err(_) => match section_named(word) {
+            Some(id) => Only::Id(id),
+            None => Only::Name(word),
+        },
+    }
+}
+
+/// The sections that these words choose, one after the other.
+pub(crate) fn chosen_by<'w>(alloc: Global, words: &'w [String]) -> Result<Vec<Only<'w>>, AllocError>
+    ensures { IfOk result (λ only. ChooseInTurn (map string_bytes words.now) only.items) }
+{
+    let mut only = Vec::new(alloc);
+    for word in words {
+        only.push(sections_named(word.as_str()))?;
+    }
+    Ok(only)
+}
