@@ -1,7 +1,8 @@
 // Texts of faults by their numbers.
 ghost use Rattle.std.specs.Prelude.{◌≡◌, find, nat_eq};
 ghost use Rattle.wasm_c.specs.Faults.{fault_code};
-ghost use Rattle.wasm_c.specs.Texts.{SaysMessage};
+ghost use Rattle.wasm_base.specs.Message.{message_of};
+ghost use Rattle.wasm_c.specs.Texts.{SaysMessage, SaysText};
 
 use crate::faults::fault_code;
 use crate::text::write_text;
@@ -91,14 +92,21 @@ fn fault_numbered(kind: u32) -> Option<Fault>
         .find(|fault| fault_code(*fault) == kind)
 }
 
+// Writes the text of a fault.
+fn write_message(fault: Fault, out: &mut [u8]) -> usize
+    ensures { SaysText (message_of fault) out.old result out.new }
+{
+    write_text(Error::new(fault, 0).message().as_bytes(), out)
+}
+
 /// The text of the fault of this number, as far as there is room for it in `out`, without a zero byte. Answers how long the text is,
 /// at most 80 bytes, or 0 where no fault has the number.
 #[unsafe(no_mangle)]
 pub extern "C" fn pulleynavy_fault_message(kind: u32, out: &mut [u8]) -> usize
-    ensures { SaysMessage (find (λ f. nat_eq (fault_code f) kind) FAULTS) out.old result out.new }
+    ensures { SaysMessage kind out.old result out.new }
 {
     match fault_numbered(kind) {
-        Some(fault) => write_text(Error::new(fault, 0).message().as_bytes(), out),
+        Some(fault) => write_message(fault, out),
         None => 0,
     }
 }
