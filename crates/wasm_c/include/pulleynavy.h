@@ -10,6 +10,29 @@
            at += event.consumed;
        }
 
+   Where the bytes come in pieces, a feeder keeps what isn't read yet in memory of the caller's, as examples/list.c does:
+
+       struct pulleynavy_feed feed = pulleynavy_feed(0, PULLEYNAVY_ALL_FEATURES);
+       struct pulleynavy_event event;
+       while ((event = pulleynavy_step(&feed, room, room_size)).kind < PULLEYNAVY_END) {
+           if (event.kind != PULLEYNAVY_NEED_MORE) continue;
+           size_t size = fread(piece, 1, sizeof piece, file);
+           if (!size) pulleynavy_finish(&feed);
+           else if (!pulleynavy_push(&feed, room, room_size, piece, size)) return 3;
+       }
+
+   Every call for an item is used in one way: it is given the rest of its section, and says how many bytes it took, or its fault. Of an
+   event that is an export section:
+
+       size_t at = event.start, end = event.end;
+       at += pulleynavy_number(bytes + at, end - at, at, PULLEYNAVY_ALL_FEATURES).consumed; // the count
+       for (uint32_t i = 0; i < event.count; i++) {
+           struct pulleynavy_export one = pulleynavy_export(bytes + at, end - at, at, PULLEYNAVY_ALL_FEATURES);
+           if (one.fault.kind) return 1;
+           printf("%.*s is %u\n", (int)one.name.size, (const char *)bytes + at + one.name.at, one.index);
+           at += one.consumed;
+       }
+
    Offsets count bytes from the start of the whole stream, sizes count bytes, and a span is a place in the bytes that a call was given.
    The caller owes: no pointer is null, not even with a size of 0; what a pointer leads to has the size that is given; what a call
    writes overlaps nothing else that it is given; nobody writes the bytes during a call; a `bool` is 0 or 1. Nothing else is asked.
