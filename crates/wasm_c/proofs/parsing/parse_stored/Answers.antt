@@ -1,10 +1,12 @@
-use Rattle.std.proofs.Common.{◌≡◌, Result, Ok, sym, ap, subst, ◌∙◌}
+use Rattle.std.proofs.Common.{◌≡◌, ℕ, Bool, List, Result, Ok, sym, ap, subst, ◌∙◌}
 use Rattle.wasm_base.specs.declared.error.Error.{Error}
+use Rattle.wasm_parser.specs.AsksWhereOpen.{AsksWhereOpen}
 use Rattle.wasm_parser.specs.GivesNextEvent.{GivesNextEvent}
-use Rattle.wasm_parser.specs.ParseAnswer.{IsUnchanged, ParseAnswer}
+use Rattle.wasm_parser.specs.ParseAnswer.{Consumes, FaultsWithin, IsUnchanged, ParseAnswer}
 use Rattle.wasm_parser.specs.ParserState.{ParserState}
 use Rattle.wasm_parser.specs.declared.payload.Chunk.{Chunk}
-use Rattle.wasm_c.specs.Events.{answer_event}
+use Rattle.wasm_c.specs.Events.{ParsesPlain, answer_event}
+use Rattle.wasm_c.specs.declared.events.PlainEvent.{PlainEvent}
 use Rattle.wasm_c.proofs.parsing.parse_stored.Goals as goal
 
 pub returns-in-Ok-Parsed : goal.returns-in-Ok-Parsed
@@ -20,37 +22,31 @@ returns-in-Ok-Parsed c =
       is_event = c.parsed_event.ensures ∙ ap answer_event (sym answers);
     })
 
+-- an answer of a parser that has stayed where it was
+unmoved : {old new : ParserState} {eof : Bool} {bytes : List ℕ} {answer : Result Chunk Error} {event : PlainEvent} → new ≡ old
+    → ParseAnswer old eof bytes answer new → GivesNextEvent old eof bytes answer new → Consumes bytes answer
+    → AsksWhereOpen old eof bytes answer → FaultsWithin old bytes answer → event ≡ answer_event answer
+    → ParsesPlain old eof bytes event old
+unmoved {old} {new} {eof} {bytes} {answer} {event} same answers gives consumes waits faults is =
+    subst (ParsesPlain old eof bytes event) same (record {
+      answer = answer;
+      answers = answers;
+      gives = gives;
+      consumes = consumes;
+      waits = waits;
+      faults = faults;
+      is_event = is;
+    })
+
 pub returns-in-Ok-NeedMoreData : goal.returns-in-Ok-NeedMoreData
 returns-in-Ok-NeedMoreData c =
-    let old = c.parser-parser.result in
-    let bytes = c.args.bytes.now in
-    let answer = c.parse.result in
     let asks = c.in-Ok-NeedMoreData.is ∙ ap Ok c.in-Ok-NeedMoreData.field-0-is in
-    let same : c.parse.new.self ≡ old = subst (λ (r : Result Chunk Error). IsUnchanged old r c.parse.new.self) asks
-    c.parse.ensures.unchanged in
-    rw (sym c.parser-parser.ensures) (record {
-      answer = answer;
-      answers = subst (ParseAnswer old c.args.is_all bytes answer) same c.parse.ensures.answers;
-      gives = subst (GivesNextEvent old c.args.is_all bytes answer) same c.parse.ensures.gives;
-      consumes = c.parse.ensures.consumes;
-      waits = c.parse.ensures.waits;
-      faults = c.parse.ensures.faults;
-      is_event = c.request_event.ensures ∙ ap answer_event (sym asks);
-    })
+    let same = subst (λ (r : Result Chunk Error). IsUnchanged c.parser-parser.result r c.parse.new.self) asks c.parse.ensures.unchanged in
+    rw (sym c.parser-parser.ensures) (unmoved same c.parse.ensures.answers c.parse.ensures.gives c.parse.ensures.consumes
+    c.parse.ensures.waits c.parse.ensures.faults (c.request_event.ensures ∙ ap answer_event (sym asks)))
 
 pub returns-in-Err : goal.returns-in-Err
 returns-in-Err c =
-    let old = c.parser-parser.result in
-    let bytes = c.args.bytes.now in
-    let answer = c.parse.result in
-    let same : c.parse.new.self ≡ old = subst (λ (r : Result Chunk Error). IsUnchanged old r c.parse.new.self) c.in-Err.is
-    c.parse.ensures.unchanged in
-    rw (sym c.parser-parser.ensures) (record {
-      answer = answer;
-      answers = subst (ParseAnswer old c.args.is_all bytes answer) same c.parse.ensures.answers;
-      gives = subst (GivesNextEvent old c.args.is_all bytes answer) same c.parse.ensures.gives;
-      consumes = c.parse.ensures.consumes;
-      waits = c.parse.ensures.waits;
-      faults = c.parse.ensures.faults;
-      is_event = c.fault_event.ensures ∙ ap answer_event (sym c.in-Err.is);
-    })
+    let same = subst (λ (r : Result Chunk Error). IsUnchanged c.parser-parser.result r c.parse.new.self) c.in-Err.is c.parse.ensures.unchanged in
+    rw (sym c.parser-parser.ensures) (unmoved same c.parse.ensures.answers c.parse.ensures.gives c.parse.ensures.consumes
+    c.parse.ensures.waits c.parse.ensures.faults (c.fault_event.ensures ∙ ap answer_event (sym c.in-Err.is)))
