@@ -47,6 +47,7 @@ returns-in-Ok-NeedMoreData c =
 
 pub returns-in-Err : goal.returns-in-Err
 returns-in-Err c =
-    let same = subst (λ (r : Result Chunk Error). IsUnchanged c.parser-parser.result r c.parse.new.self) c.in-Err.is c.parse.ensures.unchanged in
+    let stays : Result Chunk Error → Type 0 = λ r. IsUnchanged c.parser-parser.result r c.parse.new.self in
+    let same = subst stays c.in-Err.is c.parse.ensures.unchanged in
     rw (sym c.parser-parser.ensures) (unmoved same c.parse.ensures.answers c.parse.ensures.gives c.parse.ensures.consumes
     c.parse.ensures.waits c.parse.ensures.faults (c.fault_event.ensures ∙ ap answer_event (sym c.in-Err.is)))
