@@ -2,7 +2,7 @@
 use Rattle.std.proofs.Common.{◌≡◌, true, ap}
 use Rattle.std.specs.Cmp.Derive.{both_true}
 use Rattle.wasm_base.specs.Comparing.{DecidesWhether}
-use Rattle.wasm_base.specs.FaultAt.{fault_at, FaultAt}
+use Rattle.wasm_base.specs.FaultAt.{fault_at, number_of, FaultAt}
 use Rattle.wasm_base.specs.contracts.error.ErrorPartialEq.TheImpl as ErrorCompared
 use Rattle.wasm_base.specs.contracts.fault.FaultPartialEq.TheImpl as FaultCompared
 use Rattle.wasm_base.specs.contracts.fault.CoreStart as CoreStarts
@@ -29,7 +29,7 @@ error_same one other h =
     λ i. record {
       fault = fault.same one.fault other.fault p.0 i;
       offset = number.same one.offset other.offset q.0 i;
-      number = (option number).same one.number other.number q.1 i;
+      number = (option number).same (number_of one) (number_of other) q.1 i;
     }
 
 error_back : (one other : Error) → fault_at one ≡ fault_at other → (ErrorCompared.ghosts).eq one other ≡ true

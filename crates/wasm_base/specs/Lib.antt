@@ -17,6 +17,7 @@ pub mod Name
 pub mod Number
 pub mod Outcome
 pub mod Owned
+pub mod SameErrors
 pub mod Section
 pub mod Signed
 pub mod Skip

@@ -13,14 +13,17 @@ pub type Result<T, E = Error> = std::result::Result<T, E>;
 /// A fault, the offset in the whole stream at which it is, and the number that belongs to it.
 ///
 /// Two errors are equal if these are: the hint is not compared.
-#[derive(Clone, Copy, Debug)]
-#[derive_where(PartialEq, Eq)]
+// Its small fields lie together, where an `Ok` beside it has a tag: so an error takes no word of a payload apart.
+#[derive(Clone, Copy)]
 pub struct Error {
     fault: Fault,
+    has_number: bool,
+    has_hint: bool,
     offset: u64,
-    number: Option<u64>,
-    #[derive_where(skip(EqHashOrd))]
-    hint: Option<usize>,
+    // 0 without a number.
+    number: u64,
+    // 0 without a hint.
+    hint: usize,
 }
 
 impl Error {
@@ -34,9 +37,11 @@ impl Error {
     {
         Error {
             fault,
+            has_number: false,
+            has_hint: false,
             offset,
-            number: None,
-            hint: None,
+            number: 0,
+            hint: 0,
         }
     }
 
@@ -46,7 +51,8 @@ impl Error {
         ensures hint { hint_of result ≡ hint_of self }
     {
         Error {
-            number: Some(number),
+            has_number: true,
+            number,
             ..self
         }
     }
@@ -57,7 +63,8 @@ impl Error {
         ensures hint { hint_of result ≡ Some hint }
     {
         Error {
-            hint: Some(hint),
+            has_hint: true,
+            hint,
             ..self
         }
     }
@@ -67,7 +74,11 @@ impl Error {
         ensures report { fault_at result ≡ fault_at self }
         ensures hint { hint_of result ≡ None }
     {
-        Error { hint: None, ..self }
+        Error {
+            has_hint: false,
+            hint: 0,
+            ..self
+        }
     }
 
     /// What is wrong.
@@ -95,14 +106,54 @@ impl Error {
     pub fn number(&self) -> Option<u64>
         ensures { result ≡ (fault_at self.now).number }
     {
-        self.number
+        if self.has_number {
+            Some(self.number)
+        } else {
+            None
+        }
     }
 
     /// How many more bytes a read wanted, where it says so.
     pub fn needed_hint(&self) -> Option<usize>
         ensures { result ≡ hint_of self.now }
     {
-        self.hint
+        if self.has_hint {
+            Some(self.hint)
+        } else {
+            None
+        }
+    }
+}
+
+impl PartialEq for Error {
+    ghost use Rattle.std.specs.Cmp.{partial_equiv_from_equiv};
+    ghost use Rattle.wasm_base.specs.SameErrors.{same_errors, same_errors_equiv};
+
+    ghost eq = { same_errors };
+
+    ghost laws = { partial_equiv_from_equiv same_errors_equiv };
+
+    fn eq(&self, other: &Error) -> bool {
+        self.fault == other.fault
+            && self.offset == other.offset
+            && self.number() == other.number()
+    }
+}
+
+impl Eq for Error {
+    ghost use Rattle.wasm_base.specs.SameErrors.{same_errors_equiv};
+
+    ghost laws = { same_errors_equiv };
+}
+
+impl fmt::Debug for Error {
+    fn fmt<W: fmt::Write>(&self, f: &mut fmt::Formatter<W>) -> fmt::Result {
+        f.debug_struct("Error")
+            .field("fault", &self.fault)
+            .field("offset", &self.offset)
+            .field("number", &self.number())
+            .field("hint", &self.needed_hint())
+            .finish()
     }
 }
 
@@ -123,7 +174,7 @@ impl fmt::Display for Error {
 
     fn fmt<W: fmt::Write>(&self, f: &mut fmt::Formatter<W>) -> fmt::Result {
         let (message, offset) = (self.message(), self.offset);
-        match self.number {
+        match self.number() {
             Some(number) => write!(f, "{message}: {number} (at offset 0x{offset:x})"),
             None => write!(f, "{message} (at offset 0x{offset:x})"),
         }
