@@ -1,2 +1,3 @@
 // Worked examples.
+mod colors;
 mod runs;

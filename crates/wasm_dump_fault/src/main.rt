@@ -1,4 +1,4 @@
-//! The program `wasm_dump` anew, whose stored run ends with a fault.
+//! The program `wasm_dump` anew, whose stored run is over a file with a fault, and has colours.
 #![tactic(auto)]
 
 use std::process::ExitCode;

@@ -1,2 +1,3 @@
+pub mod Coloring
 pub mod Running
 pub mod Splitting

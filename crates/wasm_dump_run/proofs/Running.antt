@@ -1,5 +1,5 @@
 -- A dump, after which the output hands on what it has taken.
-use Rattle.std.proofs.Common.{List, ℕ, length, take, take_all, le_refl, Option, Result, Ok, Err, OnErr, subst, sym}
+use Rattle.std.proofs.Common.{◌≡◌, List, ℕ, length, take, take_all, le_refl, Option, Some, None, Result, Ok, Err, OnErr, ap, subst, sym}
 use Rattle.std.specs.Io.KnownBytes.{Appends, Keeps}
 use Rattle.wasm_run.proofs.ForCallers.{appends_kept}
 use Rattle.wasm_feed.specs.Calls.{from_to}
@@ -10,6 +10,7 @@ use Rattle.wasm_show.specs.Numbers.{Number}
 use Rattle.wasm_show.specs.Dump.{WritesWhole, WritesSome, Writes, Dumps}
 use Rattle.wasm_show.specs.declared.only.Only.{Only}
 use Rattle.wasm_feed.specs.declared.devices.Failed.{Failed}
+use Rattle.wasm_dump_run.specs.Colors.{plain, without_colors}
 
 whole_kept : (a b c : Option (List ℕ)) (outline : List ℕ) (numbers : List Number) → WritesWhole a b outline numbers → Keeps b c
     → WritesWhole a c outline numbers
@@ -51,3 +52,15 @@ not_handed_on (Err e) a b c text w k = (
   subst (Appends a c) (sym (take_all (length text) text (le_refl (length text))))
       (appends_kept a b c text w k),
 )
+
+-- the same of a dump with colours
+plain_kept : (a b : Option (List ℕ)) → Keeps a b → Keeps (plain a) (plain b)
+plain_kept None b k = tt
+plain_kept (Some x) None k = absurd k
+plain_kept (Some x) (Some y) k = ap without_colors k
+
+pub colors_kept : (only : List Only) (source rest a b c taken : Option (List ℕ)) (how : Result Ended ListError)
+    → Dumps only (from_to source rest) (from_to (plain a) taken) how → plain b ≡ taken → Keeps b c
+    → Dumps only (from_to source rest) (from_to (plain a) (plain c)) how
+colors_kept only source rest a b c taken how d e k =
+    dumps_kept only source rest (plain a) taken (plain c) how d (subst (λ t. Keeps t (plain c)) e (plain_kept b c k))

@@ -1,25 +1,25 @@
 -- What arguments ask for.
 use Rattle.std.specs.Prelude.{◌≡◌, ℕ, List, [], ◌∷◌, codes, bytes_eq, drop, map, Option, Some, None, Result, Ok, Err}
-use Rattle.std.specs.Prelude.{false, string_bytes, if◌then◌else◌}
+use Rattle.std.specs.Prelude.{Bool, true, false, string_bytes, if◌then◌else◌}
 use Rattle.std.specs.IoError.{error_kind}
 use Rattle.std.specs.declared.io.Error.{Error}
 use Rattle.wasm_run.specs.Arguments.{is_no_text}
-use Rattle.wasm_dump_run.specs.Words.{rest_of, words_of}
+use Rattle.wasm_dump_run.specs.Words.{is_colored_by, rest_of, words_of}
 use Rattle.wasm_dump_run.specs.declared.command.Command.{Command}
 use Rattle.wasm_dump_run.specs.declared.command.Command.TheVariants.{All, Sections, Help, Version, Unknown}
 
--- what is asked for: to show all sections, or those that words choose; to say how the program is used, or which version
--- it is; or it isn't known
+-- what is asked for: to show all sections, or those that words choose, with colours or without; to say how the program
+-- is used, or which version it is; or it isn't known
 pub data Asked : Type 0 where
-  all : Asked
-  sections : List (List ℕ) → Asked
+  all : (is_colored : Bool) → Asked
+  sections : (is_colored : Bool) → List (List ℕ) → Asked
   help : Asked
   version : Asked
   unknown : Asked
 
 abbrev pub asked_of : Command → Asked
-asked_of All = all
-asked_of (Sections words) = sections (map string_bytes words.items)
+asked_of (All is_colored) = all is_colored
+asked_of (Sections is_colored words) = sections is_colored (map string_bytes words.items)
 asked_of Help = help
 asked_of Version = version
 asked_of Unknown = unknown
@@ -32,16 +32,17 @@ asked_by_one word =
     else unknown
 
 -- what words that choose sections ask for, and the arguments after them
-abbrev pub asked_after : (words rest : List (List ℕ)) → Asked
-asked_after [] [] = all
-asked_after (word ∷ words) [] = sections (word ∷ words)
-asked_after [] (first ∷ []) = asked_by_one first
-asked_after [] (first ∷ (second ∷ more)) = unknown
-asked_after (word ∷ words) (first ∷ more) = unknown
+abbrev pub asked_after : (is_colored : Bool) (words rest : List (List ℕ)) → Asked
+asked_after is_colored [] [] = all is_colored
+asked_after is_colored (word ∷ words) [] = sections is_colored (word ∷ words)
+asked_after false [] (first ∷ []) = asked_by_one first
+asked_after true [] (first ∷ []) = unknown
+asked_after is_colored [] (first ∷ (second ∷ more)) = unknown
+asked_after is_colored (word ∷ words) (first ∷ more) = unknown
 
 -- what all of them ask for
 abbrev pub asked_by : List (List ℕ) → Asked
-asked_by arguments = asked_after (words_of arguments) (rest_of arguments)
+asked_by arguments = asked_after (is_colored_by arguments) (words_of arguments) (rest_of arguments)
 
 -- the same, if they could be had: the first one is the program's own name. One that is no text is another argument.
 abbrev pub asked_if_any : {A : Type 0} → (A → List (List ℕ)) → Result A Error → Option Asked

@@ -1,3 +1,4 @@
+pub mod Colors
 pub mod Commands
 pub mod Files
 pub mod Runs

@@ -10,6 +10,7 @@ use Rattle.wasm_show.specs.declared.only.Only.{Only}
 use Rattle.wasm_show.specs.declared.only.Only.TheVariants.{All}
 use Rattle.wasm_run.specs.Devices.{IsUntouched}
 use Rattle.wasm_run.specs.Endings.{status_of, Reports, RunsUsage, CannotBegin, WritesAll, WritesSome}
+use Rattle.wasm_dump_run.specs.Colors.{seen_as}
 use Rattle.wasm_dump_run.specs.Commands.{Asked, all, sections, help, version, unknown}
 use Rattle.wasm_dump_run.specs.Words.{ChooseInTurn}
 
@@ -30,26 +31,27 @@ pub record RunsDump (only : List Only) (input output : Device) (handed_on : Bool
   pub ends : HandsOn how (output_failed how output.had_failed) output.has_failed handed_on result
 
 abbrev pub usage : List ℕ
-usage = codes "usage: wasm_dump [--help] [--version] [--section ID|NAME]... [FILE]...\n"
+usage = codes "usage: wasm_dump [--help] [--version] [--color] [--section ID|NAME]... [FILE]...\n"
 
 abbrev pub version_text : List ℕ
 version_text = codes "wasm_dump 0.263.0\n"
 
 abbrev pub help_text : List ℕ
 help_text =
-    codes "usage: wasm_dump [--section ID|NAME]... [FILE]...\n" ++ (
+    codes "usage: wasm_dump [--color] [--section ID|NAME]... [FILE]...\n" ++ (
     codes "\n" ++ (
     codes "Shows what the WebAssembly modules in the FILEs hold, each under its name where\n" ++ (
     codes "there are several; - or none is standard input. Each section and body has a\n" ++ (
     codes "line, and under it a line for each item, which begins with the offset of its\n" ++ (
     codes "bytes in the file. A fault of an item is a line at its place. With --section\n" ++ (
-    codes "only the sections with this id or name are shown; several add up.\n" ++ (
+    codes "only the sections with this id or name are shown; several add up. With --color\n" ++ (
+    codes "the text has colours, as a terminal shows them.\n" ++ (
     codes "\n" ++ (
     codes "  wasm_dump a.wasm                       all of it\n" ++ (
     codes "  wasm_dump --section import < a.wasm    its imports\n" ++ (
     codes "\n" ++ (
     codes "The status is 0, or 1 where a file has a fault at which reading stops, 2 for\n" ++ (
-    codes "other arguments, and 3 where a file, the output or memory failed.\n"))))))))))))
+    codes "other arguments, and 3 where a file, the output or memory failed.\n")))))))))))))
 
 -- These sections of the input were shown, and how that ended is answered.
 pub record Shows (only : List Only) (handed_on : Bool) (input output errors : Device) (status : ℕ) : Type 0 where
@@ -65,11 +67,11 @@ pub record ShowsThose (words : List (List ℕ)) (handed_on : Bool) (input output
     pub chosen : ChooseInTurn words only
     pub shows : Shows only handed_on input output errors status
 
--- the same, unless memory was refused for what the words choose
-abbrev pub ShowsChosen : (words : List (List ℕ)) (handed_on : Bool) (input output errors : Device) (status : ℕ)
-    → Type 0
-ShowsChosen words handed_on input output errors status =
-    ShowsThose words handed_on input output errors status ⊎ CannotBegin input output errors status
+-- the same with colours or without, unless memory was refused for what the words choose
+abbrev pub ShowsChosen : (words : List (List ℕ)) (is_colored handed_on : Bool) (input output errors : Device)
+    (status : ℕ) → Type 0
+ShowsChosen words is_colored handed_on input output errors status =
+    ShowsThose words handed_on input (seen_as is_colored output) errors status ⊎ CannotBegin input output errors status
 
 -- a text was written and handed on, or the output failed
 abbrev pub Tells : (text : List ℕ) (handed_on : Bool) (output errors : Device) (status : ℕ) → Type 0
@@ -81,11 +83,12 @@ pub record RunsTelling (text : List ℕ) (handed_on : Bool) (input output errors
   pub source : IsUntouched input
   pub tells : Tells text handed_on output errors status
 
--- a run that was asked for this
+-- A run that was asked for this. Where colours were asked for, what the output took says the same without them.
 pub record Runs (asked : Asked) (handed_on : Bool) (input output errors : Device) (status : ℕ) : Type 0 where
-  pub shows : asked ≡ all → Shows (All ∷ []) handed_on input output errors status
-  pub shows_chosen : (words : List (List ℕ)) → asked ≡ sections words
-      → ShowsChosen words handed_on input output errors status
+  pub shows : (is_colored : Bool) → asked ≡ all is_colored
+      → Shows (All ∷ []) handed_on input (seen_as is_colored output) errors status
+  pub shows_chosen : (is_colored : Bool) (words : List (List ℕ)) → asked ≡ sections is_colored words
+      → ShowsChosen words is_colored handed_on input output errors status
   pub helps : asked ≡ help → RunsTelling help_text handed_on input output errors status
   pub says_version : asked ≡ version → RunsTelling version_text handed_on input output errors status
   pub refuses : asked ≡ unknown → RunsUsage usage input output errors status

@@ -1,34 +1,68 @@
--- The words by which arguments choose sections, and which sections a word chooses.
-use Rattle.std.specs.Prelude.{◌≡◌, ◌⊎◌, ℕ, ◌<◌, ◌^◌, List, [], ◌∷◌, bytes_eq, codes, map, Option, Some, None}
-use Rattle.std.specs.Prelude.{string_bytes, if◌then◌else◌}
+-- The options that arguments begin with, and which sections a word of them chooses.
+use Rattle.std.specs.Prelude.{◌≡◌, ◌⊎◌, ℕ, ◌<◌, ◌^◌, Bool, true, false, List, [], ◌∷◌, ◌++◌, length, bytes_eq, codes}
+use Rattle.std.specs.Prelude.{map, Option, Some, None, string_bytes, if◌then◌else◌}
 use Rattle.std.specs.Str.Parse.{IsNumeral, digits_value, without_leading_plus}
 use Rattle.std.specs.Vec.Iter.{into_iter_items}
 use Rattle.wasm_grammar.specs.Ids.{id_named}
 use Rattle.wasm_show.specs.declared.only.Only.{Only}
 use Rattle.wasm_show.specs.declared.only.Only.TheVariants.{All, Id, Name}
 use Rattle.wasm_dump_run.specs.declared.words.Beginning.{Beginning}
-use Rattle.wasm_dump_run.specs.declared.words.Beginning.TheVariants.{Word, Other, Nothing}
+use Rattle.wasm_dump_run.specs.declared.words.Beginning.TheVariants.{Word, Color, Other, Nothing}
 use Rattle.wasm_dump_run.specs.declared.words.Rest.{Rest}
 use Rattle.wasm_dump_run.specs.declared.words.Split.{Split}
 
--- the words that arguments begin to choose sections by, each after `--section`
+abbrev pub is_color : List ℕ → Bool
+is_color word = bytes_eq word (codes "--color")
+
+abbrev pub is_section : List ℕ → Bool
+is_section word = bytes_eq word (codes "--section")
+
+-- Arguments begin with options: `--section` with a word after it, and `--color`, in any order. These are the words.
 abbrev pub words_of : List (List ℕ) → List (List ℕ)
 words_of [] = []
 words_of (first ∷ []) = []
-words_of (first ∷ (second ∷ more)) = if bytes_eq first (codes "--section") then second ∷ words_of more else []
+words_of (first ∷ (second ∷ more)) =
+    if is_color first then words_of (second ∷ more)
+    else if is_section first then second ∷ words_of more
+    else []
 
--- the arguments after these
+-- whether `--color` is one of these options
+abbrev pub is_colored_by : List (List ℕ) → Bool
+is_colored_by [] = false
+is_colored_by (first ∷ []) = is_color first
+is_colored_by (first ∷ (second ∷ more)) =
+    if is_color first then true
+    else if is_section first then is_colored_by more
+    else false
+
+-- the arguments after these options
 abbrev pub rest_of : List (List ℕ) → List (List ℕ)
 rest_of [] = []
-rest_of (first ∷ []) = first ∷ []
+rest_of (first ∷ []) = if is_color first then [] else first ∷ []
 rest_of (first ∷ (second ∷ more)) =
-    if bytes_eq first (codes "--section") then rest_of more else first ∷ (second ∷ more)
+    if is_color first then rest_of (second ∷ more)
+    else if is_section first then rest_of more
+    else first ∷ (second ∷ more)
+
+-- These arguments begin with one option, and those are left.
+pub record BeginsWith (words : List (List ℕ)) (is_colored : Bool) (old new : List (List ℕ)) : Type 0 where
+  pub words_are : words_of old ≡ words ++ words_of new
+  pub colors_are : is_colored_by old ≡ (if is_colored then true else is_colored_by new)
+  pub rest : rest_of old ≡ rest_of new
+  pub fewer : length new < length old
+
+-- These arguments begin with no option, and are these.
+pub record BeginsWithNone (rest old : List (List ℕ)) : Type 0 where
+  pub no_words : words_of old ≡ []
+  pub no_colors : is_colored_by old ≡ false
+  pub others : rest_of old ≡ rest
 
 -- These arguments begin with that, and those are left.
 abbrev pub Begins : Beginning → (old new : List (List ℕ)) → Type 0
-Begins (Word word) old new = (words_of old ≡ string_bytes word ∷ words_of new) × (rest_of old ≡ rest_of new)
-Begins (Other first) old new = (words_of old ≡ []) × (rest_of old ≡ string_bytes first ∷ new)
-Begins Nothing old new = (words_of old ≡ []) × (rest_of old ≡ [])
+Begins (Word word) old new = BeginsWith (string_bytes word ∷ []) false old new
+Begins Color old new = BeginsWith [] true old new
+Begins (Other first) old new = BeginsWithNone (string_bytes first ∷ new) old
+Begins Nothing old new = BeginsWithNone [] old
 
 abbrev pub rest_items : Rest → List (List ℕ)
 rest_items rest = string_bytes rest.first ∷ map string_bytes (into_iter_items rest.more)
@@ -40,6 +74,7 @@ rest_given (Some rest) = rest_items rest
 -- These arguments were split into that.
 pub record IsSplit (split : Split) (arguments : List (List ℕ)) : Type 0 where
   pub words : map string_bytes split.words.items ≡ words_of arguments
+  pub colors : split.is_colored ≡ is_colored_by arguments
   pub rest : rest_given split.rest ≡ rest_of arguments
 
 -- whether a word is the number of an id: decimal digits, before which a plus may stand, of less than 256

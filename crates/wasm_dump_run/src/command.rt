@@ -14,9 +14,14 @@ use wasm_run::is_no_text;
 #[derive(Drop)]
 pub(crate) enum Command {
     /// To show all sections.
-    All,
+    All {
+        is_colored: bool,
+    },
     /// To show those with these ids and names.
-    Sections(Vec<String>),
+    Sections {
+        is_colored: bool,
+        words: Vec<String>,
+    },
     /// To say how it is used.
     Help,
     /// To say which version it is.
@@ -39,19 +44,24 @@ fn command_of_one(word: &str) -> Command
 // What words to choose sections by ask for, and the arguments after them.
 fn command_of(split: Split) -> Command
     ensures { asked_of result
-        ≡ asked_after (map string_bytes split.words.items) (rest_given split.rest) }
+        ≡ asked_after split.is_colored (map string_bytes split.words.items)
+        (rest_given split.rest) }
 {
-    let Split { words, rest } = split;
+    let Split {
+        words,
+        is_colored,
+        rest,
+    } = split;
     match rest {
         None => {
             if words.is_empty() {
-                Command::All
+                Command::All { is_colored }
             } else {
-                Command::Sections(words)
+                Command::Sections { is_colored, words }
             }
         }
         Some(rest) => {
-            if !words.is_empty() {
+            if is_colored || !words.is_empty() {
                 return Command::Unknown;
             }
             if rest.more.len() > 0 {

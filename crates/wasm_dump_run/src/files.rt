@@ -6,7 +6,7 @@ ghost use Rattle.wasm_dump_run.specs.Commands.{WantsMemory};
 ghost use Rattle.wasm_dump_run.specs.Files.{is_option, named_after, named_if_any, named_of};
 ghost use Rattle.wasm_dump_run.specs.Words.{rest_given};
 
-use crate::program::{answer, dump_input, show_input};
+use crate::program::{answer, dump_as, show_input};
 use crate::words::{Rest, Split, chosen_by, split_words};
 use std::alloc::{AllocError, Global};
 use std::env::Args;
@@ -16,10 +16,11 @@ use wasm_feed::{Ended, Failed, ListError, ReadSource, Sink, WriteSink, write_all
 use wasm_run::{complain, give_up};
 use wasm_show::Only;
 
-/// Files that are to be dumped, and the words that choose sections of them.
+/// Files that are to be dumped, the words that choose sections of them, and whether colours are asked for.
 #[derive(Drop)]
 pub(crate) struct Named {
     words: Vec<String>,
+    is_colored: bool,
     files: Rest,
 }
 
@@ -36,14 +37,23 @@ fn is_an_option(word: &str) -> bool
 // The files that these arguments name, after words that choose sections.
 fn files_after(split: Split) -> Option<Named>
     ensures { option_map named_of result
-        ≡ named_after (map string_bytes split.words.items) (rest_given split.rest) }
+        ≡ named_after split.is_colored (map string_bytes split.words.items)
+        (rest_given split.rest) }
 {
-    let Split { words, rest } = split;
+    let Split {
+        words,
+        is_colored,
+        rest,
+    } = split;
     let files = rest?;
     if is_an_option(files.first.as_str()) {
         return None;
     }
-    Some(Named { words, files })
+    Some(Named {
+        words,
+        is_colored,
+        files,
+    })
 }
 
 /// The files that arguments name, where these could be had.
@@ -97,6 +107,7 @@ fn answer_for<E: Sink>(name: &str, how: Result<Ended, ListError>, errors: &mut E
 fn dump_file<W: Write, E: Sink>(
     rt: &HostRuntime,
     only: &[Only<'_>],
+    is_colored: bool,
     name: &str,
     output: WriteSink<W>,
     errors: &mut E,
@@ -105,6 +116,7 @@ fn dump_file<W: Write, E: Sink>(
         return show_input(
             rt.alloc(),
             only,
+            is_colored,
             &mut ReadSource::new(rt.stdin()),
             output,
             errors,
@@ -112,7 +124,8 @@ fn dump_file<W: Write, E: Sink>(
     }
     match fs::open(rt, name) {
         Ok(file) => {
-            let (how, output) = dump_input(rt.alloc(), only, &mut ReadSource::new(file), output);
+            let mut input = ReadSource::new(file);
+            let (how, output) = dump_as(rt.alloc(), only, is_colored, &mut input, output);
             (answer_for(name, how, errors), output)
         }
         Err(error) => (complain_of(rt, name, &error, errors), output),
@@ -123,12 +136,13 @@ fn dump_file<W: Write, E: Sink>(
 fn dump_under_name<W: Write, E: Sink>(
     rt: &HostRuntime,
     only: &[Only<'_>],
+    is_colored: bool,
     name: &str,
     mut output: WriteSink<W>,
     errors: &mut E,
 ) -> (u8, WriteSink<W>) {
     match write_name(name, &mut output) {
-        Ok(()) => dump_file(rt, only, name, output, errors),
+        Ok(()) => dump_file(rt, only, is_colored, name, output, errors),
         Err(_) => (give_up(errors, ListError::Output), output),
     }
 }
@@ -137,14 +151,15 @@ fn dump_under_name<W: Write, E: Sink>(
 fn dump_files<W: Write + Drop, E: Sink>(
     rt: &HostRuntime,
     only: &[Only<'_>],
+    is_colored: bool,
     first: &str,
     more: Args,
     output: WriteSink<W>,
     errors: &mut E,
 ) -> u8 {
-    let (mut status, mut output) = dump_under_name(rt, only, first, output, errors);
+    let (mut status, mut output) = dump_under_name(rt, only, is_colored, first, output, errors);
     for name in more {
-        let (one, after) = dump_under_name(rt, only, name.as_str(), output, errors);
+        let (one, after) = dump_under_name(rt, only, is_colored, name.as_str(), output, errors);
         output = after;
         status = status.max(one);
     }
@@ -156,15 +171,16 @@ fn dump_files<W: Write + Drop, E: Sink>(
 fn dump_named<W: Write + Drop, E: Sink>(
     rt: &HostRuntime,
     only: &[Only<'_>],
+    is_colored: bool,
     files: Rest,
     output: WriteSink<W>,
     errors: &mut E,
 ) -> u8 {
     let Rest { first, more } = files;
     if more.len() == 0 {
-        return dump_file(rt, only, first.as_str(), output, errors).0;
+        return dump_file(rt, only, is_colored, first.as_str(), output, errors).0;
     }
-    dump_files(rt, only, first.as_str(), more, output, errors)
+    dump_files(rt, only, is_colored, first.as_str(), more, output, errors)
 }
 
 /// Dumps the files, or the sections of them that were chosen.
@@ -174,12 +190,16 @@ pub(crate) fn run_files<W: Write + Drop, E: Sink>(
     output: WriteSink<W>,
     errors: &mut E,
 ) -> u8 {
-    let Named { words, files } = named;
+    let Named {
+        words,
+        is_colored,
+        files,
+    } = named;
     if words.is_empty() {
-        return dump_named(rt, &[Only::All], files, output, errors);
+        return dump_named(rt, &[Only::All], is_colored, files, output, errors);
     }
     match chosen_by(rt.alloc(), &words) {
-        Ok(only) => dump_named(rt, &only, files, output, errors),
+        Ok(only) => dump_named(rt, &only, is_colored, files, output, errors),
         Err(_) => give_up(errors, ListError::Memory),
     }
 }

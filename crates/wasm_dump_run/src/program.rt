@@ -5,9 +5,11 @@ ghost use Rattle.std.specs.Process.{exit_status};
 ghost use Rattle.std.specs.Vec.Iter.{into_iter_items};
 ghost use Rattle.wasm_feed.specs.Calls.{device_of, writer_device};
 ghost use Rattle.wasm_run.specs.Endings.{Reports, status_of};
+ghost use Rattle.wasm_dump_run.specs.Colors.{plain_device, seen_as};
 ghost use Rattle.wasm_dump_run.specs.Commands.{WantsMemory, asked_if_any, asked_of};
 ghost use Rattle.wasm_dump_run.specs.Runs.{HandsOn, Runs, RunsDump, RunsProgram, Shows, ShowsChosen, Tells, help_text, version_text};
 
+use crate::colored::Colored;
 use crate::command::{Command, command_asked};
 use crate::files::{files_named, run_files};
 use crate::words::chosen_by;
@@ -20,13 +22,14 @@ use wasm_run::{PIECE, complain, give_up};
 use wasm_show::{Only, Tree, dump};
 
 /// What `--help` says.
-const HELP: &[u8] = b"usage: wasm_dump [--section ID|NAME]... [FILE]...
+const HELP: &[u8] = b"usage: wasm_dump [--color] [--section ID|NAME]... [FILE]...
 
 Shows what the WebAssembly modules in the FILEs hold, each under its name where
 there are several; - or none is standard input. Each section and body has a
 line, and under it a line for each item, which begins with the offset of its
 bytes in the file. A fault of an item is a line at its place. With --section
-only the sections with this id or name are shown; several add up.
+only the sections with this id or name are shown; several add up. With --color
+the text has colours, as a terminal shows them.
 
   wasm_dump a.wasm                       all of it
   wasm_dump --section import < a.wasm    its imports
@@ -106,14 +109,18 @@ fn run_command<R: Source, W: Write, E: Sink>(
         (device_of E.taken E.has_failed errors.old errors.new) result.0 }
 {
     match command {
-        Command::All => show_input(alloc, &[Only::All], input, output, errors),
-        Command::Sections(words) => show_chosen(alloc, &words, input, output, errors),
+        Command::All { is_colored } => {
+            show_input(alloc, &[Only::All], is_colored, input, output, errors)
+        }
+        Command::Sections { is_colored, words } => {
+            show_chosen(alloc, &words, is_colored, input, output, errors)
+        }
         Command::Help => show_text(help(), output, errors),
         Command::Version => show_text(version(), output, errors),
         Command::Unknown => {
             complain(
                 errors,
-                b"usage: wasm_dump [--help] [--version] [--section ID|NAME]... [FILE]...\n",
+                b"usage: wasm_dump [--help] [--version] [--color] [--section ID|NAME]... [FILE]...\n",
             );
             (2, output)
         }
@@ -153,17 +160,18 @@ fn show_text<W: Write, E: Sink>(
 fn show_chosen<R: Source, W: Write, E: Sink>(
     alloc: Global,
     words: &[String],
+    is_colored: bool,
     input: &mut R,
     output: WriteSink<W>,
     errors: &mut E,
 ) -> (u8, WriteSink<W>)
-    ensures { ShowsChosen (map string_bytes words.now) result.1.handed_on
+    ensures { ShowsChosen (map string_bytes words.now) is_colored result.1.handed_on
         (device_of R.remaining R.has_failed input.old input.new)
         (writer_device W.contents output result.1)
         (device_of E.taken E.has_failed errors.old errors.new) result.0 }
 {
     match chosen_by(alloc, words) {
-        Ok(only) => show_input(alloc, &only, input, output, errors),
+        Ok(only) => show_input(alloc, &only, is_colored, input, output, errors),
         Err(_) => (give_up(errors, ListError::Memory), output),
     }
 }
@@ -172,16 +180,17 @@ fn show_chosen<R: Source, W: Write, E: Sink>(
 pub(crate) fn show_input<R: Source, W: Write, E: Sink>(
     alloc: Global,
     only: &[Only<'_>],
+    is_colored: bool,
     input: &mut R,
     output: WriteSink<W>,
     errors: &mut E,
 ) -> (u8, WriteSink<W>)
     ensures { Shows only.now result.1.handed_on
         (device_of R.remaining R.has_failed input.old input.new)
-        (writer_device W.contents output result.1)
+        (seen_as is_colored (writer_device W.contents output result.1))
         (device_of E.taken E.has_failed errors.old errors.new) result.0 }
 {
-    let (how, output) = dump_input(alloc, only, input, output);
+    let (how, output) = dump_as(alloc, only, is_colored, input, output);
     (answer(how, errors), output)
 }
 
@@ -229,4 +238,39 @@ pub fn dump_input<R: Source, W: Write>(
     let mut output = tree.into_output();
     let result = hand_on(how, &mut output);
     (result, output)
+}
+
+/// The same with colours: what the output takes is the dump with sequences that set them between its bytes.
+pub fn dump_in_colors<R: Source, W: Write>(
+    alloc: Global,
+    only: &[Only<'_>],
+    input: &mut R,
+    output: WriteSink<W>,
+) -> (Result<Ended, ListError>, WriteSink<W>)
+    ensures { RunsDump only.now (device_of R.remaining R.has_failed input.old input.new)
+        (plain_device (writer_device W.contents output result.1)) result.1.handed_on result.0 }
+{
+    let mut tree = Tree::new(alloc, Colored::new(output));
+    let how = dump(alloc, only, input, &mut tree, PIECE);
+    let mut output = tree.into_output().into_inner();
+    let result = hand_on(how, &mut output);
+    (result, output)
+}
+
+/// The one or the other.
+pub(crate) fn dump_as<R: Source, W: Write>(
+    alloc: Global,
+    only: &[Only<'_>],
+    is_colored: bool,
+    input: &mut R,
+    output: WriteSink<W>,
+) -> (Result<Ended, ListError>, WriteSink<W>)
+    ensures { RunsDump only.now (device_of R.remaining R.has_failed input.old input.new)
+        (seen_as is_colored (writer_device W.contents output result.1)) result.1.handed_on result.0 }
+{
+    if is_colored {
+        dump_in_colors(alloc, only, input, output)
+    } else {
+        dump_input(alloc, only, input, output)
+    }
 }

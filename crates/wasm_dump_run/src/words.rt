@@ -15,10 +15,11 @@ pub(crate) struct Rest {
     pub(crate) more: Args,
 }
 
-/// The words that arguments choose sections by, and the arguments after them.
+/// The words that arguments choose sections by, whether they ask for colours, and the arguments after these options.
 #[derive(Drop)]
 pub(crate) struct Split {
     pub(crate) words: Vec<String>,
+    pub(crate) is_colored: bool,
     pub(crate) rest: Option<Rest>,
 }
 
@@ -27,13 +28,15 @@ pub(crate) struct Split {
 pub(crate) enum Beginning {
     /// A word that chooses sections.
     Word(String),
+    /// That colours are asked for.
+    Color,
     /// Another argument.
     Other(String),
     /// Nothing.
     Nothing,
 }
 
-// Takes what arguments begin with: `--section` and a word, or another argument.
+// Takes what arguments begin with: `--section` and a word, `--color`, or another argument.
 fn take_beginning(arguments: &mut Args) -> Beginning
     ensures { Begins result (map string_bytes (into_iter_items arguments.old))
         (map string_bytes (into_iter_items arguments.new)) }
@@ -41,6 +44,9 @@ fn take_beginning(arguments: &mut Args) -> Beginning
     let Some(first) = arguments.next() else {
         return Beginning::Nothing;
     };
+    if first.as_str() == "--color" {
+        return Beginning::Color;
+    }
     if first.as_str() != "--section" {
         return Beginning::Other(first);
     }
@@ -56,9 +62,11 @@ pub(crate) fn split_words(alloc: Global, mut arguments: Args) -> Result<Split, A
     ensures err { OnErr result (¬ (words_of (map string_bytes (into_iter_items arguments)) ≡ [])) }
 {
     let mut words = Vec::new(alloc);
+    let mut is_colored = false;
     'words: loop {
         match take_beginning(&mut arguments) {
             Beginning::Word(word) => words.push(word)?,
+            Beginning::Color => is_colored = true,
             Beginning::Other(first) => {
                 let rest = Rest {
                     first,
@@ -66,10 +74,17 @@ pub(crate) fn split_words(alloc: Global, mut arguments: Args) -> Result<Split, A
                 };
                 return Ok(Split {
                     words,
+                    is_colored,
                     rest: Some(rest),
                 });
             }
-            Beginning::Nothing => return Ok(Split { words, rest: None }),
+            Beginning::Nothing => {
+                return Ok(Split {
+                    words,
+                    is_colored,
+                    rest: None,
+                });
+            }
         }
     }
 }

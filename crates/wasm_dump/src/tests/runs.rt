@@ -19,7 +19,8 @@ custom 20 26 25
 end 26
 ";
 
-const USAGE: &[u8] = b"usage: wasm_dump [--help] [--version] [--section ID|NAME]... [FILE]...\n";
+const USAGE: &[u8] =
+    b"usage: wasm_dump [--help] [--version] [--color] [--section ID|NAME]... [FILE]...\n";
 
 // The program's own name, and these arguments.
 fn arguments(alloc: Global, words: &[&str]) -> Result<Args, Fail> {
@@ -108,6 +109,39 @@ fn shows_what_any_word_chooses(rt: HostRuntime) -> Result<(), Fail> {
     Ok(())
 }
 
+// Options come in any order.
+#[test]
+fn shows_with_colors(rt: HostRuntime) -> Result<(), Fail> {
+    let all = b"\x1b[0;1mversion\x1b[0m 0 8 1 module
+\x1b[0;1msection\x1b[0m 3 10 12 1 function
+  \x1b[0;2m11\x1b[0m func[0] index=5
+\x1b[0;1mcode\x1b[0m 14 18 1 3
+\x1b[0;1mbody\x1b[0m 16 18 func[0]
+\x1b[0;1mcustom\x1b[0m 20 26 25
+  \x1b[0;1msection\x1b[0m name=\x1b[0;32m\"type\"\x1b[0m unknown
+\x1b[0;1mend\x1b[0m 26
+"
+        .as_slice();
+    let third = b"\x1b[0;1msection\x1b[0m 3 10 12 1 function\n  \x1b[0;2m11\x1b[0m func[0] index=5
+\x1b[0;1mend\x1b[0m 26\n"
+        .as_slice();
+    let rows: [(&[&str], &[u8]); 5] = [
+        (&["--color"], all),
+        (&["--color", "--color"], all),
+        (&["--color", "--section", "3"], third),
+        (&["--section", "3", "--color"], third),
+        (
+            &["--section", "--color", "--section", "3", "--color"],
+            third,
+        ),
+    ];
+    for (words, text) in rows {
+        let given = Ok(arguments(rt.alloc(), words)?);
+        runs(&rt, rt.alloc(), given, MODULE, (0, text, b""))?;
+    }
+    Ok(())
+}
+
 // A custom section with this name, as a word chooses it.
 #[test]
 fn shows_custom_sections_by_their_names(rt: HostRuntime) -> Result<(), Fail> {
@@ -159,7 +193,7 @@ fn knows_the_names_of_the_standard(rt: HostRuntime) -> Result<(), Fail> {
 
 #[test]
 fn refuses_arguments(rt: HostRuntime) -> Result<(), Fail> {
-    let refused: [&[&str]; 10] = [
+    let refused: [&[&str]; 14] = [
         &["--section"],
         &["--sections", "3"],
         &["3"],
@@ -169,6 +203,10 @@ fn refuses_arguments(rt: HostRuntime) -> Result<(), Fail> {
         &["--section", "3", "--sections", "4"],
         &["--section", "3", "--help"],
         &["--section", "3", "--section", "code", "4"],
+        &["--color", "3"],
+        &["--color", "--help"],
+        &["--color", "--section"],
+        &["--version", "--color"],
         &[""],
     ];
     for words in refused {
@@ -202,9 +240,9 @@ fn says_how_it_is_used(rt: HostRuntime) -> Result<(), Fail> {
     let (status, errors) = run_over(rt.alloc(), given, input, &mut written)?;
     assert_eq!(rt; status, ExitCode::from(0));
     assert!(rt;
-        written
-            .as_slice()
-            .starts_with(b"usage: wasm_dump [--section ID|NAME]... [FILE]...\n\n")
+        written.as_slice().starts_with(
+            b"usage: wasm_dump [--color] [--section ID|NAME]... [FILE]...\n\n"
+        )
     );
     assert!(rt; written.as_slice().ends_with(b"or memory failed.\n"));
     assert_eq!(rt; errors.written(), b"".as_slice());
@@ -259,7 +297,7 @@ fn says_which_device_failed(rt: HostRuntime) -> Result<(), Fail> {
     )?;
     assert_eq!(rt; status, ExitCode::from(3));
     assert_eq!(rt; errors.written(), b"input failed\n".as_slice());
-    let asked: [&[&str]; 3] = [&[], &["--section", "3"], &["--help"]];
+    let asked: [&[&str]; 4] = [&[], &["--section", "3"], &["--color"], &["--help"]];
     for words in asked {
         let given = Ok(arguments(rt.alloc(), words)?);
         let input = &mut SliceSource::new(MODULE);
