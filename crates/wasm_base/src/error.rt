@@ -117,11 +117,7 @@ impl Error {
     pub fn needed_hint(&self) -> Option<usize>
         ensures { result ≡ hint_of self.now }
     {
-        if self.has_hint {
-            Some(self.hint)
-        } else {
-            None
-        }
+        if self.has_hint { Some(self.hint) } else { None }
     }
 }
 
@@ -134,9 +130,7 @@ impl PartialEq for Error {
     ghost laws = { partial_equiv_from_equiv same_errors_equiv };
 
     fn eq(&self, other: &Error) -> bool {
-        self.fault == other.fault
-            && self.offset == other.offset
-            && self.number() == other.number()
+        self.fault == other.fault && self.offset == other.offset && self.number() == other.number()
     }
 }
 
