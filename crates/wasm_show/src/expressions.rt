@@ -1,7 +1,8 @@
 // Texts of constant expressions, by the names of the text format.
 ghost use Rattle.wasm_show.specs.Tree.{Adds};
 
-use crate::show::{Show, Text};
+use crate::lists::write_word;
+use crate::show::Show;
 use crate::tree::Tree;
 use wasm_feed::Sink;
 use wasm_items::{ConstExpr, ConstInstruction, ConstOperator};
@@ -36,12 +37,12 @@ fn operator_word(operator: &ConstOperator) -> &'static str {
     }
 }
 
-// Writes a blank and what an operand is.
-fn write_operand<T: Text, W: Sink>(operand: &T, out: &mut Tree<W>)
+// Writes a blank and a number.
+fn write_integer<W: Sink>(number: i64, out: &mut Tree<W>)
     ensures { Adds out.old out.new }
 {
     out.text(" ");
-    operand.text(out);
+    out.integer(number);
 }
 
 // Writes the operands of an operator, each after a blank.
@@ -49,31 +50,31 @@ fn write_operands<W: Sink>(operator: &ConstOperator, out: &mut Tree<W>)
     ensures { Adds out.old out.new }
 {
     match operator {
-        ConstOperator::GlobalGet { global_index } => write_operand(global_index, out),
-        ConstOperator::I32Const { value } => write_operand(&i64::from(*value), out),
-        ConstOperator::I64Const { value } => write_operand(value, out),
+        ConstOperator::GlobalGet { global_index } => write_word(global_index, out),
+        ConstOperator::I32Const { value } => write_integer(i64::from(*value), out),
+        ConstOperator::I64Const { value } => write_integer(*value, out),
         ConstOperator::F32Const { value } => out.number("bits", u64::from(value.bits())),
         ConstOperator::F64Const { value } => out.number("bits", value.bits()),
         ConstOperator::V128Const { value } => {
             out.text(" ");
             out.hexadecimals(value.bytes());
         }
-        ConstOperator::RefNull { hty } => write_operand(hty, out),
-        ConstOperator::RefFunc { function_index } => write_operand(function_index, out),
+        ConstOperator::RefNull { hty } => write_word(hty, out),
+        ConstOperator::RefFunc { function_index } => write_word(function_index, out),
         ConstOperator::StructNew { struct_type_index }
         | ConstOperator::StructNewDefault { struct_type_index } => {
-            write_operand(struct_type_index, out);
+            write_word(struct_type_index, out);
         }
         ConstOperator::ArrayNew { array_type_index }
         | ConstOperator::ArrayNewDefault { array_type_index } => {
-            write_operand(array_type_index, out);
+            write_word(array_type_index, out);
         }
         ConstOperator::ArrayNewFixed {
             array_type_index,
             array_size,
         } => {
-            write_operand(array_type_index, out);
-            write_operand(array_size, out);
+            write_word(array_type_index, out);
+            write_word(array_size, out);
         }
         _ => {}
     }
