@@ -3,7 +3,7 @@ use Rattle.std.proofs.Common.{◌≡◌, ℕ, ◌+◌, ◌<◌, ◌^◌, zero, s
 use Rattle.std.proofs.Common.{Option, Some, None, refl, sym}
 use Rattle.std.proofs.Common.{Err, ◌%◌, ◌/◌, ◌≤◌, nat_lt}
 use Rattle.std.specs.Prelude.{slice_index}
-use Rattle.wasm_show.specs.Fields.{is_escaped}
+use Rattle.wasm_show.specs.Fields.{Field, field_text, with_fields, is_escaped}
 use Rattle.std.proofs.Common.{ap, subst, ◌∙◌, append_assoc, append-nil, ◌||◌, nat_eq, decimal, length, take, get_or, arith}
 use Rattle.std.specs.List.{flat_map, list_any}
 use Rattle.std.proofs.KnownBytes.{Appends-nil, Appends-trans}
@@ -18,7 +18,8 @@ use Rattle.wasm_feed.specs.Lists.{output_failed}
 use Rattle.wasm_feed.specs.Page.{WritesBeginning, IsCut}
 use Rattle.wasm_feed.specs.declared.devices.ListError.{ListError}
 use Rattle.wasm_feed.specs.declared.devices.ListError.TheVariants.{Input, Output, Memory}
-use Rattle.wasm_show.specs.Said.{StopsIn, PutsText, HasLine, Says}
+use Rattle.wasm_show.specs.ItemText.{expression_field}
+use Rattle.wasm_show.specs.Said.{StopsIn, PutsText, HasLine, Says, HasMore, SaysSome, SaysWith}
 use Rattle.wasm_show.specs.Tree.{Writing, IsPushed, IsStuck, PutsAs, Puts, has_line_feed}
 
 -- ---- bytes after bytes
@@ -150,6 +151,76 @@ pub says_value : (name value : List ℕ) (x y z : Writing) → Says (codes " " +
     → Says (codes " " ++ (name ++ (codes "=" ++ value))) x z
 says_value name value x y z p q = says_same _ _ x z (ap (λ (t : List ℕ). codes " " ++ t) (append_assoc name (codes "=") value))
     (says_then (codes " " ++ (name ++ codes "=")) value x y z p q)
+
+-- ---- some text
+
+-- a text is some
+pub says_some : (text : List ℕ) (x y : Writing) → Says text x y → SaysSome x y
+says_some text x y p since m = record { text = m.text ++ text; has = p since m.text m.has }
+
+-- of a page that is given up later
+begins_later : (taken mid written : Option (List ℕ)) (waiting text moved waiting' bytes : List ℕ) → Appends taken mid moved
+    → waiting ++ text ≡ moved ++ waiting' → WritesBeginning mid written (waiting' ++ bytes)
+    → WritesBeginning taken written (waiting ++ (text ++ bytes))
+begins_later taken mid written waiting text moved waiting' bytes a e w = record {
+  moved = moved ++ w.moved;
+  unwritten = w.unwritten;
+  parts = after_text waiting text moved waiting' bytes e ∙ (ap (λ (x : List ℕ). moved ++ x) w.parts
+      ∙ sym (append_assoc moved w.moved w.unwritten));
+  wrote = Appends-trans taken mid written moved w.moved a w.wrote;
+}
+
+cut_later : (taken mid written : Option (List ℕ)) (waiting text moved waiting' bytes : List ℕ) (why : ListError)
+    → Appends taken mid moved → waiting ++ text ≡ moved ++ waiting' → IsCut mid written (waiting' ++ bytes) why
+    → IsCut taken written (waiting ++ (text ++ bytes)) why
+cut_later taken mid written waiting text moved waiting' bytes Output a e w =
+    begins_later taken mid written waiting text moved waiting' bytes a e w
+cut_later taken mid written waiting text moved waiting' bytes Memory a e w =
+    begins_later taken mid written waiting text moved waiting' bytes a e w
+cut_later taken mid written waiting text moved waiting' bytes Input a e w = absurd w
+
+-- what is put after what was put
+module _ (since now new : Writing) (text bytes : List ℕ) where
+  joined : (a b c : Option ListError) → since.why ≡ a → now.why ≡ b → new.why ≡ c → PutsText a b text since now
+      → PutsText b c bytes now new → PutsText a c (text ++ bytes) since new
+  joined (Some why) b c ea eb ec p q =
+      let stopped : b ≡ Some why = sym eb ∙ (ap (λ (w : Writing). w.why) p ∙ ea) in
+      subst (λ (x : Option ListError). PutsText x c bytes now new) stopped q ∙ p
+  joined None (Some why) c ea eb ec p q =
+      let same : Some why ≡ c = sym eb ∙ (ap (λ (w : Writing). w.why) (sym q) ∙ ec) in
+      subst (λ (x : Option ListError). PutsText None x (text ++ bytes) since new) same
+      (subst (λ (w : Writing). StopsIn (text ++ bytes) why since w) (sym q) (record {
+        cut = cut_still since.taken now.taken since.waiting text bytes why p.cut;
+        begun = p.begun;
+        failed = p.failed;
+      }))
+  joined None None None ea eb ec p q = more since now new text bytes None None None ea eb ec p q
+  joined None None (Some why) ea eb ec p q = record {
+    cut = cut_later since.taken now.taken new.taken since.waiting text p.puts.moved now.waiting bytes why p.puts.writes p.puts.waits q.cut;
+    begun = q.begun ∙ p.begun;
+    failed = q.failed ∙ ap (λ (b : Bool). output_failed {A = Unit {0}} (Err why) b) p.failed;
+  }
+
+  joins : HasLine since text now → HasLine now bytes new → HasLine since (text ++ bytes) new
+  joins h k = record { begun = h.begun; puts = joined since.why now.why new.why refl refl refl h.puts k.puts }
+
+-- a field whose value is some text
+pub says_named : (name : List ℕ) (x y z : Writing) → Says (codes " " ++ (name ++ codes "=")) x y → SaysSome y z
+    → SaysWith (expression_field name) x z
+says_named name x y z p q since before h =
+    let start = codes " " ++ (name ++ codes "=") in
+    let m = p since before h in
+    let r = q y (record { text = []; has = has_nothing y (still_begun since y (before ++ start) m) }) in (
+      r.text,
+      subst (λ (t : List ℕ). HasLine since t z) (append_assoc before start r.text
+          ∙ ap (λ (t : List ℕ). before ++ (codes " " ++ t)) (append_assoc name (codes "=") r.text))
+          (joins since y z (before ++ start) r.text m r.has),
+    )
+
+-- fields after fields
+pub more_fields : (before : List ℕ) (xs ys : List Field) → with_fields (with_fields before xs) ys ≡ with_fields before (xs ++ ys)
+more_fields before [] ys = refl
+more_fields before (x ∷ xs) ys = more_fields (before ++ field_text x) xs ys
 
 -- ---- pieces of a text
 

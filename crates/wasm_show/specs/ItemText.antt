@@ -1,16 +1,23 @@
 -- The fields of an item's line, by the item's value.
-use Rattle.std.specs.Prelude.{ℕ, List, [], ◌∷◌, codes, Option, Some, None}
+use Rattle.std.specs.Prelude.{ℕ, List, [], ◌∷◌, ◌++◌, codes, Option, Some, None}
+use Rattle.wasm_items.specs.Data.{DataParts}
 use Rattle.wasm_items.specs.Exports.{ExportParts}
 use Rattle.wasm_items.specs.Imports.{ImportParts}
+use Rattle.wasm_items.specs.declared.data.DataKind.{DataKind}
+use Rattle.wasm_items.specs.declared.data.DataKind.TheVariants.{Passive, Active}
 use Rattle.wasm_items.specs.declared.exports.ExternalKind.{ExternalKind}
 use Rattle.wasm_items.specs.declared.exports.ExternalKind.TheVariants as kinds
+use Rattle.wasm_items.specs.declared.globals.Global.{Global}
 use Rattle.wasm_items.specs.declared.imports.TypeRef.{TypeRef}
 use Rattle.wasm_items.specs.declared.imports.TypeRef.TheVariants as types
+use Rattle.wasm_items.specs.declared.tables.Table.{Table}
+use Rattle.wasm_items.specs.declared.tables.TableInit.{TableInit}
+use Rattle.wasm_items.specs.declared.tables.TableInit.TheVariants.{RefNull, Expr}
 use Rattle.wasm_items.specs.declared.types.GlobalType.{GlobalType}
 use Rattle.wasm_items.specs.declared.types.MemoryType.{MemoryType}
 use Rattle.wasm_items.specs.declared.types.TableType.{TableType}
 use Rattle.wasm_items.specs.declared.types.TagType.{TagType}
-use Rattle.wasm_show.specs.Fields.{Field, named, number, quoted, word, flag, number_if_any}
+use Rattle.wasm_show.specs.Fields.{Field, named, number, quoted, word, range, raw, flag, number_if_any}
 use Rattle.wasm_show.specs.TypeText.{ref_text, val_text, mutable_text}
 
 -- a function that the module defines: the index of its type
@@ -38,6 +45,34 @@ global_type_fields g = named (codes "content_type") (word (mutable_text g.mutabl
 abbrev pub tag_fields : TagType → List Field
 tag_fields t = named (codes "kind") (word (codes "exception"))
     ∷ named (codes "func_type_idx") (number t.func_type_idx) ∷ []
+
+-- ---- items with an expression, whose text is this
+
+abbrev pub expression_field : (name : List ℕ) → (expression : List ℕ) → List Field
+expression_field name expression = named name (word expression) ∷ []
+
+abbrev pub init_field : TableInit → (expression : List ℕ) → Field
+init_field RefNull expression = named (codes "init") (word (codes "null"))
+init_field (Expr init) expression = named (codes "init") (word expression)
+
+abbrev pub table_item_fields : Table → (expression : List ℕ) → List Field
+table_item_fields t expression = table_fields t.ty ++ init_field t.init expression ∷ []
+
+abbrev pub global_fields : Global → (expression : List ℕ) → List Field
+global_fields g expression = global_type_fields g.ty ++ expression_field (codes "init_expr") expression
+
+-- what becomes of a data segment
+abbrev pub data_kind_fields : DataKind → (expression : List ℕ) → List Field
+data_kind_fields Passive expression = named (codes "kind") (word (codes "passive")) ∷ []
+data_kind_fields (Active memory offset) expression = named (codes "kind") (word (codes "active"))
+    ∷ named (codes "memory_index") (number memory)
+    ∷ named (codes "offset_expr") (word expression) ∷ []
+
+abbrev pub data_fields : DataParts → (expression : List ℕ) → List Field
+data_fields d expression = data_kind_fields d.kind expression
+    ++ named (codes "data") (raw d.bytes) ∷ named (codes "range") (range d.start d.end) ∷ []
+
+-- ---- imports and exports
 
 -- the word of what is imported or exported
 abbrev pub kind_word : ExternalKind → List ℕ

@@ -31,3 +31,17 @@ Says text old new = (since : Writing) (before : List ℕ) → HasLine since befo
 abbrev pub SaysFields : List Field → (old new : Writing) → Type 0
 SaysFields fields old new = (since : Writing) (before : List ℕ) → HasLine since before old
     → HasLine since (with_fields before fields) new
+
+-- A line was begun, and some text was put on it since.
+pub record HasMore (since now : Writing) : Type 0 where
+  pub text : List ℕ
+  pub has : HasLine since text now
+
+-- What was put is on the line that is begun.
+abbrev pub SaysSome : (old new : Writing) → Type 0
+SaysSome old new = (since : Writing) → HasMore since old → HasMore since new
+
+-- These fields were put on the line that is begun, for some text that is a value in them.
+abbrev pub SaysWith : (fields : List ℕ → List Field) → (old new : Writing) → Type 0
+SaysWith fields old new = (since : Writing) (before : List ℕ) → HasLine since before old
+    → (value : List ℕ) × HasLine since (with_fields before (fields value)) new

@@ -1,10 +1,12 @@
 // Texts of the items of a module's sections.
 ghost use Rattle.std.specs.Prelude.{◌≡◌, false};
+ghost use Rattle.wasm_items.specs.Data.{data_parts};
 ghost use Rattle.wasm_items.specs.Exports.{export_parts};
+ghost use Rattle.wasm_show.specs.ItemText.{data_fields, data_kind_fields, global_fields, table_item_fields};
 ghost use Rattle.wasm_items.specs.Imports.{import_parts};
 ghost use Rattle.wasm_show.specs.Fields.{field_text};
 ghost use Rattle.wasm_show.specs.ItemText.{export_fields, import_fields, kind_field, kind_word as word_of_kind, type_ref_fields};
-ghost use Rattle.wasm_show.specs.Said.{Says, SaysFields};
+ghost use Rattle.wasm_show.specs.Said.{Says, SaysFields, SaysWith};
 ghost use Rattle.wasm_show.specs.Tree.{Adds, has_line_feed};
 
 use crate::expressions::show_expr;
@@ -121,7 +123,10 @@ impl Show for Imports<'_> {
 }
 
 impl Show for Table<'_> {
-    fn show<W: Sink>(&self, level: usize, out: &mut Tree<W>) {
+    fn show<W: Sink>(&self, level: usize, out: &mut Tree<W>)
+        ensures adds { Adds out.old out.new }
+        ensures says { SaysWith (table_item_fields self.now) out.old out.new }
+    {
         self.ty.show(level, out);
         match &self.init {
             TableInit::RefNull => out.word_field("init", "null"),
@@ -131,7 +136,10 @@ impl Show for Table<'_> {
 }
 
 impl Show for GlobalItem<'_> {
-    fn show<W: Sink>(&self, level: usize, out: &mut Tree<W>) {
+    fn show<W: Sink>(&self, level: usize, out: &mut Tree<W>)
+        ensures adds { Adds out.old out.new }
+        ensures says { SaysWith (global_fields self.now) out.old out.new }
+    {
         self.ty.show(level, out);
         show_expr("init_expr", &self.init_expr, out);
     }
@@ -200,7 +208,8 @@ impl Show for Element<'_> {
 
 // Writes what becomes of a data segment.
 fn show_data_kind<W: Sink>(kind: &DataKind<'_>, out: &mut Tree<W>)
-    ensures { Adds out.old out.new }
+    ensures adds { Adds out.old out.new }
+    ensures says { SaysWith (data_kind_fields kind.now) out.old out.new }
 {
     match kind {
         DataKind::Passive => out.word_field("kind", "passive"),
@@ -216,7 +225,10 @@ fn show_data_kind<W: Sink>(kind: &DataKind<'_>, out: &mut Tree<W>)
 }
 
 impl Show for Data<'_> {
-    fn show<W: Sink>(&self, _level: usize, out: &mut Tree<W>) {
+    fn show<W: Sink>(&self, _level: usize, out: &mut Tree<W>)
+        ensures adds { Adds out.old out.new }
+        ensures says { SaysWith (data_fields (data_parts self.now)) out.old out.new }
+    {
         show_data_kind(&self.kind, out);
         out.raw("data", self.bytes);
         out.range("range", self.range.start, self.range.end);

@@ -1,6 +1,6 @@
 // Lists of items.
 ghost use Rattle.std.specs.List.{flat_map};
-ghost use Rattle.wasm_show.specs.Said.{Says};
+ghost use Rattle.wasm_show.specs.Said.{Says, SaysSome};
 ghost use Rattle.wasm_show.specs.Tree.{Adds};
 ghost use Rattle.wasm_show.specs.TypeText.{after_blank};
 
@@ -136,6 +136,7 @@ pub(crate) fn write_lines<T: Text, W: Sink>(
 pub(crate) fn write_word<T: Text, W: Sink>(item: &T, out: &mut Tree<W>)
     ensures adds { Adds out.old out.new }
     ensures says { Says (after_blank (T.words item.now)) out.old out.new }
+    ensures some { SaysSome out.old out.new }
 {
     out.text(" ");
     item.text(out);

@@ -5,7 +5,7 @@ ghost use Rattle.std.specs.List.{flat_map};
 ghost use Rattle.wasm_show.specs.Fields.{alone, field_start, field_text, named, number as number_value, word as word_value, quoted, raw};
 ghost use Rattle.wasm_show.specs.Fields.{range, flag as flag_value, number_if_any as optional, hexadecimal, quoted_byte};
 ghost use Rattle.wasm_show.specs.Fields.{is_escaped as byte_is_escaped};
-ghost use Rattle.wasm_show.specs.Said.{Says};
+ghost use Rattle.wasm_show.specs.Said.{Says, SaysSome};
 ghost use Rattle.wasm_show.specs.Tree.{Adds, AddsFirst, AddsNumber, IsOut, Puts, has_line_feed, starts};
 
 use crate::numbers::{Space, put_number};
@@ -218,6 +218,7 @@ impl<W: Sink> Tree<W> {
         requires { length bytes.now ≤ 65536 }
         ensures adds { Adds self.old self.new }
         ensures says { has_line_feed bytes.now ≡ false → Says bytes.now self.old self.new }
+        ensures some { SaysSome self.old self.new }
     {
         if bytes.contains(&b'\n') {
             return;
@@ -230,6 +231,7 @@ impl<W: Sink> Tree<W> {
     fn bytes(&mut self, bytes: &[u8])
         ensures adds { Adds self.old self.new }
         ensures says { has_line_feed bytes.now ≡ false → Says bytes.now self.old self.new }
+        ensures some { SaysSome self.old self.new }
     {
         let mut rest = bytes;
         'pieces: while rest.len() > PAGE_BYTES {
@@ -254,6 +256,7 @@ impl<W: Sink> Tree<W> {
     pub fn text(&mut self, text: &str)
         ensures adds { Adds self.old self.new }
         ensures says { has_line_feed text.now ≡ false → Says text.now self.old self.new }
+        ensures some { SaysSome self.old self.new }
     {
         self.bytes(text.as_bytes());
     }
@@ -263,6 +266,7 @@ impl<W: Sink> Tree<W> {
         ensures adds { Adds self.old self.new }
         ensures says { has_line_feed word.now ≡ false
             → Says (field_text (alone word.now)) self.old self.new }
+        ensures some { SaysSome self.old self.new }
     {
         self.text(" ");
         self.text(word);
@@ -273,6 +277,7 @@ impl<W: Sink> Tree<W> {
         ensures adds { Adds self.old self.new }
         ensures says { has_line_feed name.now ≡ false
             → Says (field_start name.now) self.old self.new }
+        ensures some { SaysSome self.old self.new }
     {
         self.word(name);
         self.text("=");
@@ -282,6 +287,7 @@ impl<W: Sink> Tree<W> {
     pub fn digits(&mut self, number: u64)
         ensures adds { Adds self.old self.new }
         ensures says { Says (decimal number) self.old self.new }
+        ensures some { SaysSome self.old self.new }
     {
         let mut line = Line::new();
         line.number(number);
@@ -303,6 +309,7 @@ impl<W: Sink> Tree<W> {
         ensures adds { Adds self.old self.new }
         ensures says { has_line_feed name.now ≡ false
             → Says (field_text (named name.now (number_value number))) self.old self.new }
+        ensures some { SaysSome self.old self.new }
     {
         self.field(name);
         self.digits(number);
@@ -318,7 +325,8 @@ impl<W: Sink> Tree<W> {
 
     /// Writes a number in decimal digits, with a sign where it is below 0.
     pub fn integer(&mut self, number: i64)
-        ensures { Adds self.old self.new }
+        ensures adds { Adds self.old self.new }
+        ensures some { SaysSome self.old self.new }
     {
         if number < 0 {
             self.text("-");
@@ -355,6 +363,7 @@ impl<W: Sink> Tree<W> {
     fn hexadecimal(&mut self, byte: u8)
         ensures adds { Adds self.old self.new }
         ensures says { Says (hexadecimal byte) self.old self.new }
+        ensures some { SaysSome self.old self.new }
     {
         let digits = b"0123456789abcdef";
         let (high, low) = (usize::from(byte / 16), usize::from(byte % 16));
@@ -412,6 +421,7 @@ impl<W: Sink> Tree<W> {
     pub fn hexadecimals(&mut self, bytes: &[u8])
         ensures adds { Adds self.old self.new }
         ensures says { Says (flat_map hexadecimal bytes.now) self.old self.new }
+        ensures some { SaysSome self.old self.new }
     {
         for byte in bytes {
             self.hexadecimal(*byte);
@@ -439,7 +449,8 @@ impl<W: Sink> Tree<W> {
 
     /// Writes a fault: `fault`, its offset in the whole stream, its message, and its number, if it has one.
     pub fn fault_text(&mut self, error: &Error)
-        ensures { Adds self.old self.new }
+        ensures adds { Adds self.old self.new }
+        ensures some { SaysSome self.old self.new }
     {
         self.text("fault ");
         self.digits(error.offset());

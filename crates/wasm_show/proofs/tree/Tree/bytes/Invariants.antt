@@ -1,11 +1,13 @@
 use Rattle.std.proofs.Common.{length}
 use Rattle.wasm_show.specs.Tree.{Origin, IsWritten}
+use Rattle.wasm_show.specs.Said.{SaysSome}
 use Rattle.wasm_show.proofs.Saying.{SaysAllBut}
 use Rattle.wasm_show.proofs.tree.Tree.bytes.Given as goal
 
 abbrev pub invariant-pieces : goal.invariant-pieces
 invariant-pieces g l = record {
   adds : (o : Origin) → IsWritten o l.initial.self → IsWritten o l.self;
+  some : SaysSome l.initial.self l.self;
   says : SaysAllBut l.fn.bytes l.rest l.initial.self l.self;
 }
 

@@ -6,11 +6,12 @@ use Rattle.wasm_show.proofs.Saying.{says_nothing, says_one_more, says_all}
 use Rattle.wasm_show.proofs.tree.Tree.hexadecimals.Goals as goal
 
 pub loop-byte-init : goal.loop-byte-init
-loop-byte-init g c = record { adds = search rules; says = says_nothing _ }
+loop-byte-init g c = record { adds = search rules; some = search rules; says = says_nothing _ }
 
 pub loop-byte-preserved : goal.loop-byte-preserved
 loop-byte-preserved g c = record {
   adds = search rules;
+  some = λ since m. c.hexadecimal.ensures.some since (c.loop-byte.invariant.some since m);
   says = says_one_more hexadecimal c.args.bytes.now _ 0 _ _ _ c.loop-byte-test.true c.loop-byte.invariant.says c.hexadecimal.ensures.says;
 }
 
