@@ -3,6 +3,8 @@ use Rattle.std.proofs.Common.{◌≡◌, ℕ, zero, suc, ◌+◌, ◌^◌, ◌<�
 use Rattle.std.proofs.Common.{Result, Ok, Err, refl, sym, ap, subst, subst₂, ◌∙◌}
 use Rattle.std.proofs.Common.{append_assoc, append-nil, if◌then◌else◌, add-zero, add-one, add-suc, arith}
 use Rattle.std.proofs.Math.Nat.{min-eq_left}
+use Rattle.std.specs.Option.{is_some}
+use Rattle.wasm_feed.specs.declared.devices.ListError.{ListError}
 use Rattle.wasm_base.specs.Window.{Window}
 use Rattle.wasm_base.specs.declared.error.Error.{Error}
 use Rattle.wasm_grammar.specs.Ids.{import_id}
@@ -141,6 +143,23 @@ import_shown all c s t x old mid new a n b o i =
 
 pub some_shown : (all left : List Number) (old new : Writing) → AddsAllBut all left old new → AddsBeginning all old new
 some_shown all left old new a o i = let (shown, held, going) = a o i in (shown, (left, held), going)
+
+-- none is left where no import comes next
+pub all_shown : (all : List Number) (c : Counts) (s t : List Found) (old new : Writing) → AddsAllBut all (import_numbers c s) old new
+    → NextImport {X = ℕ × Import} found_at s None t → AddsThese all old new
+all_shown all c s t old new a h o i =
+    let (shown, held, going) = a o i in
+    let whole : all ≡ shown = held ∙ (ap (λ (l : List Found). shown ++ import_numbers c l) h.0.0 ∙ append-nil shown) in
+    subst (λ (x : List Number). IsWritten (with_numbers o x) new) (sym whole) going
+
+-- a writer that goes on hasn't stopped
+pub goes_on : {X : Type 0} (why : Option ListError) (stopped : Bool) → why ≡ None → stopped ≡ is_some why → stopped ≡ true → X
+goes_on why stopped none is t =
+    let no : true ≡ false = sym t ∙ (is ∙ ap (λ (x : Option ListError). is_some x) none) in
+    absurd (differ no)
+  where
+    differ : true ≡ false → ⊥
+    differ e = cc
 
 -- ---- those of what is reported
 
