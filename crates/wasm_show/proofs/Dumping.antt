@@ -29,10 +29,11 @@ use Rattle.wasm_feed.specs.declared.listing.Turn.TheVariants as turn
 use Rattle.wasm_feed.specs.Progress.{weight, Progress, Wants}
 use Rattle.wasm_feed.proofs.ForCallers as progress
 use Rattle.wasm_show.specs.Chosen.{chosen_line}
-use Rattle.wasm_show.specs.Numbers.{Number, after, after_all, no_counts, AreOf, AreOfEvents}
+use Rattle.wasm_show.specs.Numbers.{Number, after, after_all, no_counts}
 use Rattle.wasm_show.specs.declared.numbers.Counts.{Counts}
 use Rattle.wasm_show.proofs.Numbering.{all_more, events_more, end_none}
-use Rattle.wasm_show.specs.Dump.{AreOfSource, WritesWhole, WritesSome, AreOfAnswer, after_answer, ShowsStep, origin, DumpsFrom}
+use Rattle.wasm_show.specs.Dump.{AreOf, AreOfEvents, AreOfSource}
+use Rattle.wasm_show.specs.Dump.{WritesWhole, WritesSome, AreOfAnswer, after_answer, ShowsStep, origin, DumpsFrom}
 use Rattle.wasm_show.specs.Tree as Tree
 use Rattle.wasm_show.specs.Tree.{IsOutlined, Part, Writing, Origin, begun, begun_numbers, IsGoing, IsCutShort, IsWritten, Adds, IsOut}
 use Rattle.wasm_show.specs.declared.only.Only.{Only}
@@ -40,8 +41,8 @@ use Rattle.wasm_show.proofs.Writing.{as_going, as_short}
 use Rattle.wasm_base.specs.Features.{all_features}
 
 -- what was written with these events, and their numbers
-abbrev pub WrittenWith : List Event → (taken : Option (List ℕ)) (failed : Bool) (outline : List ℕ) → Writing → Type 0
-WrittenWith events taken failed outline now = (numbers : List Number) × AreOfEvents no_counts events numbers
+abbrev pub WrittenWith : List Only → List Event → (taken : Option (List ℕ)) (failed : Bool) (outline : List ℕ) → Writing → Type 0
+WrittenWith only events taken failed outline now = (numbers : List Number) × AreOfEvents only no_counts events numbers
     × IsWritten (origin taken failed outline numbers) now
 
 -- where the feeder is along what the source gave, and what is counted of its events
@@ -59,7 +60,7 @@ pub record Dumping (only : List Only) (full rest : Option (List ℕ)) (before : 
   pub listing : Progress (chosen_line only) (from_to full rest) (from_to (Some []) (Some outline)) f []
   pub counting : Counting full rest f c
   pub writing : (taken : Option (List ℕ)) (failed : Bool) → IsWritten (origin taken failed [] []) before
-      → WrittenWith counting.events taken failed outline now
+      → WrittenWith only counting.events taken failed outline now
 
 -- the same where the feeder is asked for more
 pub record Wanting (only : List Only) (full rest : Option (List ℕ)) (before : Writing) (f : Feed) (c : Counts) (now : Writing) :
@@ -68,7 +69,7 @@ pub record Wanting (only : List Only) (full rest : Option (List ℕ)) (before : 
   pub listing : Wants (chosen_line only) (from_to full rest) (from_to (Some []) (Some outline)) f []
   pub counting : Counting full rest f c
   pub writing : (taken : Option (List ℕ)) (failed : Bool) → IsWritten (origin taken failed [] []) before
-      → WrittenWith counting.events taken failed outline now
+      → WrittenWith only counting.events taken failed outline now
 
 -- nothing came
 abbrev counts_nothing : (full : Option (List ℕ)) → Counting full full (new_feed 0 all_features) no_counts
@@ -91,9 +92,9 @@ starts only full w = record {
 -- ---- what is counted
 
 -- the numbers of what the source gave
-numbers_at : (full rest : Option (List ℕ)) (f : Feed) (c : Counts) (k : Counting full rest f c) (numbers : List Number)
-    → AreOfEvents no_counts k.events numbers → AreOfSource (from_to full rest) numbers
-numbers_at full rest f c k numbers a = record {
+numbers_at : (only : List Only) (full rest : Option (List ℕ)) (f : Feed) (c : Counts) (k : Counting full rest f c) (numbers : List Number)
+    → AreOfEvents only no_counts k.events numbers → AreOfSource only (from_to full rest) numbers
+numbers_at only full rest f c k numbers a = record {
   given = k.given;
   events = k.events;
   gave = k.gave;
@@ -102,10 +103,10 @@ numbers_at full rest f c k numbers a = record {
 }
 
 -- where more bytes came that were not pushed
-numbers_after : (full rest rest' : Option (List ℕ)) (f : Feed) (c : Counts) (k : Counting full rest f c) (piece : List ℕ)
-    → Consumes rest rest' piece → (numbers : List Number) → AreOfEvents no_counts k.events numbers
-    → AreOfSource (from_to full rest') numbers
-numbers_after full rest rest' f c k piece more numbers a = record {
+numbers_after : (only : List Only) (full rest rest' : Option (List ℕ)) (f : Feed) (c : Counts) (k : Counting full rest f c) (piece : List ℕ)
+    → Consumes rest rest' piece → (numbers : List Number) → AreOfEvents only no_counts k.events numbers
+    → AreOfSource only (from_to full rest') numbers
+numbers_after only full rest rest' f c k piece more numbers a = record {
   given = k.given ++ piece;
   events = k.events;
   gave = Consumes-trans full rest rest' k.given piece k.gave more;
@@ -113,7 +114,7 @@ numbers_after full rest rest' f c k piece more numbers a = record {
   are_of = a;
 }
 
-module _ (full rest : Option (List ℕ)) (f : Feed) (c : Counts) (k : Counting full rest f c) (g : Feed) where
+module _ (only : List Only) (full rest : Option (List ℕ)) (f : Feed) (c : Counts) (k : Counting full rest f c) (g : Feed) where
   below : (step : Step) → Steps f (Ok step) g → length k.given < 2 ^ 64
   below step s =
       let o = answers_go_along.below f.state g.state f.eof f.held (chunk_of step) s.parses in
@@ -133,8 +134,8 @@ module _ (full rest : Option (List ℕ)) (f : Feed) (c : Counts) (k : Counting f
   -- what is counted after a step that goes on
   counted_on : (x : Result Step Error) → turn.Advance ≡ turn_after x → Steps f x g
       → (k' : Counting full rest g (after_answer c x))
-      × ((numbers shown : List Number) → AreOfEvents no_counts k.events numbers → AreOfAnswer c x shown
-      → AreOfEvents no_counts k'.events (numbers ++ shown))
+      × ((numbers shown : List Number) → AreOfEvents only no_counts k.events numbers → AreOfAnswer only c x shown
+      → AreOfEvents only no_counts k'.events (numbers ++ shown))
   counted_on (Ok (NeedMoreData hint)) t s = cc
   counted_on (Err e) t s = cc
   counted_on (Ok (Parsed bytes payload)) t s =
@@ -147,8 +148,8 @@ module _ (full rest : Option (List ℕ)) (f : Feed) (c : Counts) (k : Counting f
           counted = ap (λ (r : Report). after c r) same ∙ (ap (λ (d : Counts). after d e.report) k.counted
               ∙ sym (all_more no_counts k.events e));
         },
-        λ numbers shown a b. events_more no_counts k.events numbers e shown a
-            (subst₂ (λ (d : Counts) (r : Report). AreOf d r shown) k.counted same b),
+        λ numbers shown a b. events_more only no_counts k.events numbers e shown a
+            (subst₂ (λ (d : Counts) (r : Report). AreOf only d r shown) k.counted same b),
       )
     where
       goes_on : (b : Bool) → turn.Advance ≡ (if b then turn.End End else turn.Advance) → b ≡ false
@@ -158,8 +159,8 @@ module _ (full rest : Option (List ℕ)) (f : Feed) (c : Counts) (k : Counting f
   -- after a request
   counted_still : (x : Result Step Error) → turn.Read ≡ turn_after x → Steps f x g
       → (k' : Counting full rest g (after_answer c x))
-      × ((numbers shown : List Number) → AreOfEvents no_counts k.events numbers → AreOfAnswer c x shown
-      → AreOfEvents no_counts k'.events (numbers ++ shown))
+      × ((numbers shown : List Number) → AreOfEvents only no_counts k.events numbers → AreOfAnswer only c x shown
+      → AreOfEvents only no_counts k'.events (numbers ++ shown))
   counted_still (Ok (NeedMoreData hint)) t s = (
     record {
       given = k.given;
@@ -169,7 +170,8 @@ module _ (full rest : Option (List ℕ)) (f : Feed) (c : Counts) (k : Counting f
           (omega (arith, below (NeedMoreData hint) s)) s).1;
       counted = k.counted;
     },
-    λ numbers shown a b. subst (AreOfEvents no_counts k.events) (sym (ap (λ (y : List Number). numbers ++ y) b ∙ append-nil numbers)) a,
+    λ numbers shown a b. subst (AreOfEvents only no_counts k.events)
+        (sym (ap (λ (y : List Number). numbers ++ y) b ∙ append-nil numbers)) a,
   )
   counted_still (Err e) t s = cc
   counted_still (Ok (Parsed bytes payload)) t s = absurd (by_end (is_end (report_of payload)) t)
@@ -180,18 +182,18 @@ module _ (full rest : Option (List ℕ)) (f : Feed) (c : Counts) (k : Counting f
 
   -- at an end
   counted_last : (x : Result Step Error) (how : Ended) → turn.End how ≡ turn_after x → (numbers shown : List Number)
-      → AreOfEvents no_counts k.events numbers → AreOfAnswer c x shown → AreOfEvents no_counts k.events (numbers ++ shown)
-  counted_last x how t numbers shown a b = subst (AreOfEvents no_counts k.events)
+      → AreOfEvents only no_counts k.events numbers → AreOfAnswer only c x shown → AreOfEvents only no_counts k.events (numbers ++ shown)
+  counted_last x how t numbers shown a b = subst (AreOfEvents only no_counts k.events)
       (sym (ap (λ (y : List Number). numbers ++ y) (none x t b) ∙ append-nil numbers)) a
     where
       ends : (b : Bool) → turn.End how ≡ (if b then turn.End End else turn.Advance) → b ≡ true
       ends true e = refl
       ends false e = cc
 
-      none : (x : Result Step Error) → turn.End how ≡ turn_after x → AreOfAnswer c x shown → shown ≡ []
+      none : (x : Result Step Error) → turn.End how ≡ turn_after x → AreOfAnswer only c x shown → shown ≡ []
       none (Ok (NeedMoreData hint)) t b = b
       none (Err e) t b = b
-      none (Ok (Parsed bytes payload)) t b = end_none c (report_of payload) shown (ends (is_end (report_of payload)) t) b
+      none (Ok (Parsed bytes payload)) t b = end_none only c (report_of payload) shown (ends (is_end (report_of payload)) t) b
 
 -- ---- what was written, at an end
 
@@ -221,7 +223,7 @@ some_of o w s = record { text = s.text; unwritten = []; outlined = rw (append-ni
 -- a dump that was cut short, or whose input failed
 cut_off : (only : List Only) (full rest : Option (List ℕ)) (had has : Bool) → has ≡ had
     → (taken : Option (List ℕ)) (failed : Bool) (outline : List ℕ) (numbers : List Number) (why : ListError) (w : Writing)
-    → IsBeginning (chosen_line only) (from_to full rest) (from_to (Some []) (Some outline)) → AreOfSource (from_to full rest) numbers
+    → IsBeginning (chosen_line only) (from_to full rest) (from_to (Some []) (Some outline)) → AreOfSource only (from_to full rest) numbers
     → IsCutShort (origin taken failed outline numbers) why w → DumpsFrom only
     (record { before = full; after = rest; had_failed = had; has_failed = has }) taken failed (Err why) w
 cut_off only full rest had has h taken failed outline numbers Output w b n c = record {
@@ -275,10 +277,10 @@ module _ (only : List Only) (full rest : Option (List ℕ)) (before : Writing) (
   line = text_after (chosen_line only) s.answer
 
   -- what was written, with the numbers of events that go on as these by what is shown
-  written : (events : List Event) → ((numbers shown : List Number) → AreOfEvents no_counts d.counting.events numbers
-      → AreOfAnswer c s.answer shown → AreOfEvents no_counts events (numbers ++ shown)) → (taken : Option (List ℕ)) (failed : Bool)
-      → IsWritten (origin taken failed [] []) before
-      → WrittenWith events taken failed (d.outline ++ text_after (chosen_line only) s.answer) new
+  written : (events : List Event) → ((numbers shown : List Number) → AreOfEvents only no_counts d.counting.events numbers
+      → AreOfAnswer only c s.answer shown → AreOfEvents only no_counts events (numbers ++ shown))
+      → (taken : Option (List ℕ)) (failed : Bool) → IsWritten (origin taken failed [] []) before
+      → WrittenWith only events taken failed (d.outline ++ text_after (chosen_line only) s.answer) new
   written events more taken failed i =
       let (numbers, are, going) = d.writing taken failed i in
       let (shown, of, after) = s.shows (origin taken failed d.outline numbers) going in
@@ -292,7 +294,7 @@ module _ (only : List Only) (full rest : Option (List ℕ)) (before : Writing) (
   advanced t =
       let (listing, less) = progress.advanced (chosen_line only) full rest (Some []) (Some d.outline) f [] d.listing g s.answer s.steps _ _
       put (sym t ∙ s.turns) in
-      let (k, more) = counted_on full rest f c d.counting g s.answer (sym t ∙ s.turns) s.steps in (
+      let (k, more) = counted_on only full rest f c d.counting g s.answer (sym t ∙ s.turns) s.steps in (
         record {
           outline = d.outline ++ text_after (chosen_line only) s.answer;
           listing = listing;
@@ -306,7 +308,7 @@ module _ (only : List Only) (full rest : Option (List ℕ)) (before : Writing) (
   asked t =
       let (listing, same) = progress.asked (chosen_line only) full rest (Some []) (Some d.outline) f [] d.listing g s.answer s.steps _ _ put
       (sym t ∙ s.turns) in
-      let (k, more) = counted_still full rest f c d.counting g s.answer (sym t ∙ s.turns) s.steps in (
+      let (k, more) = counted_still only full rest f c d.counting g s.answer (sym t ∙ s.turns) s.steps in (
         record {
           outline = d.outline ++ text_after (chosen_line only) s.answer;
           listing = listing;
@@ -343,20 +345,20 @@ module _ (only : List Only) (full rest : Option (List ℕ)) (before : Writing) (
 
   -- what was written, with the numbers of what the source gave
   all_written : (t : Turn) → next ≡ t → (taken : Option (List ℕ)) (failed : Bool) → IsWritten (origin taken failed [] []) before
-      → (numbers : List Number) × AreOfSource (from_to full rest) numbers
+      → (numbers : List Number) × AreOfSource only (from_to full rest) numbers
       × IsWritten (origin taken failed (d.outline ++ text_after (chosen_line only) s.answer) numbers) new
   all_written turn.Advance t taken failed i =
-      let (k, more) = counted_on full rest f c d.counting g s.answer (sym t ∙ s.turns) s.steps in
+      let (k, more) = counted_on only full rest f c d.counting g s.answer (sym t ∙ s.turns) s.steps in
       let (numbers, are, going) = written k.events more taken failed i in
-      (numbers, numbers_at full rest g (after_answer c s.answer) k numbers are, going)
+      (numbers, numbers_at only full rest g (after_answer c s.answer) k numbers are, going)
   all_written turn.Read t taken failed i =
-      let (k, more) = counted_still full rest f c d.counting g s.answer (sym t ∙ s.turns) s.steps in
+      let (k, more) = counted_still only full rest f c d.counting g s.answer (sym t ∙ s.turns) s.steps in
       let (numbers, are, going) = written k.events more taken failed i in
-      (numbers, numbers_at full rest g (after_answer c s.answer) k numbers are, going)
+      (numbers, numbers_at only full rest g (after_answer c s.answer) k numbers are, going)
   all_written (turn.End how) t taken failed i =
-      let last = counted_last full rest f c d.counting g s.answer how (sym t ∙ s.turns) in
+      let last = counted_last only full rest f c d.counting g s.answer how (sym t ∙ s.turns) in
       let (numbers, are, going) = written d.counting.events last taken failed i in
-      (numbers, numbers_at full rest f c d.counting numbers are, going)
+      (numbers, numbers_at only full rest f c d.counting numbers are, going)
 
   -- the tree has stopped
   pub stopped : (had has : Bool) → has ≡ had → (why : ListError) → new.why ≡ Some why → (taken : Option (List ℕ)) (failed : Bool)
@@ -427,10 +429,10 @@ module _ (full rest : Option (List ℕ)) (f : Feed) (c : Counts) (k : Counting f
 module _ (only : List Only) (full rest : Option (List ℕ)) (before : Writing) (f : Feed) (c : Counts) (now last : Writing)
     (d : Wanting only full rest before f c now) (a : Adds now last) (out : IsOut last) (going : last.why ≡ None) where
   all : (events : List Event) → events ≡ d.counting.events → (taken : Option (List ℕ)) (failed : Bool)
-      → IsWritten (origin taken failed [] []) before → WrittenWith events taken failed d.outline last
+      → IsWritten (origin taken failed [] []) before → WrittenWith only events taken failed d.outline last
   all events same taken failed i =
       let (numbers, are, wrote) = d.writing taken failed i in
-      (numbers, subst (λ (es : List Event). AreOfEvents no_counts es numbers) (sym same) are, a _ wrote)
+      (numbers, subst (λ (es : List Event). AreOfEvents only no_counts es numbers) (sym same) are, a _ wrote)
 
   pub filled : (rest' : Option (List ℕ)) (g : Feed) → Refills rest rest' f g (Ok tt) → Dumping only full rest' before g c last
       × (weight g < weight f)
@@ -452,7 +454,7 @@ module _ (only : List Only) (full rest : Option (List ℕ)) (before : Writing) (
           numbers = numbers;
           lists = progress.not_filled (chosen_line only) full rest (Some []) (Some d.outline) f d.listing
               rest' g Input r;
-          counts = numbers_at full rest' f c (record {
+          counts = numbers_at only full rest' f c (record {
             given = d.counting.given;
             events = d.counting.events;
             gave = Consumes-kept full rest rest' d.counting.given d.counting.gave r;
@@ -473,7 +475,7 @@ module _ (only : List Only) (full rest : Option (List ℕ)) (before : Writing) (
           numbers = numbers;
           lists = progress.not_filled (chosen_line only) full rest (Some []) (Some d.outline) f d.listing
               rest' g Memory r;
-          counts = numbers_after full rest rest' f c d.counting r.0 r.1 numbers are;
+          counts = numbers_after only full rest rest' f c d.counting r.0 r.1 numbers are;
           writes = some_of o last (whole o last going out wrote);
         };
         source = h ∙ m;
@@ -512,7 +514,7 @@ no_room only full had taken failed w e = subst (DumpsFrom only (record { before 
         numbers = [];
         lists = progress.no_memory (chosen_line only) full full (Some []) (Some []) (new_feed 0 all_features) []
             (progress.begun (chosen_line only) full (Some [])) full [] (Consumes-nil full);
-        counts = numbers_at full full (new_feed 0 all_features) no_counts (counts_nothing full) [] refl;
+        counts = numbers_at only full full (new_feed 0 all_features) no_counts (counts_nothing full) [] refl;
         writes = record { text = []; unwritten = []; outlined = nothing_outlined; wrote = Appends-nil taken };
       };
       source = refl;

@@ -1,4 +1,5 @@
 pub mod Dumping
 pub mod Lines
 pub mod Numbering
+pub mod Saying
 pub mod Writing

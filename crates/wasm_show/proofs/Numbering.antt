@@ -1,8 +1,10 @@
 -- The numbers of items, as they are counted and shown.
 use Rattle.std.proofs.Common.{◌≡◌, ℕ, zero, suc, ◌+◌, ◌^◌, ◌<◌, Bool, true, false, nat_eq, List, [], ◌∷◌, ◌++◌, Option, Some, None}
 use Rattle.std.proofs.Common.{Result, Ok, Err, refl, sym, ap, subst, subst₂, ◌∙◌}
-use Rattle.std.proofs.Common.{append_assoc, append-nil, if◌then◌else◌, inl, inr, add-zero, add-one, add-suc, arith}
+use Rattle.std.proofs.Common.{append_assoc, append-nil, if◌then◌else◌, add-zero, add-one, add-suc, arith}
 use Rattle.std.proofs.Math.Nat.{min-eq_left}
+use Rattle.std.specs.Option.{is_some}
+use Rattle.wasm_feed.specs.declared.devices.ListError.{ListError}
 use Rattle.wasm_base.specs.Window.{Window}
 use Rattle.wasm_base.specs.declared.error.Error.{Error}
 use Rattle.wasm_grammar.specs.Ids.{import_id}
@@ -23,9 +25,9 @@ use Rattle.wasm_items.specs.declared.imports.Import.{Import}
 use Rattle.wasm_show.specs.Numbers.{Number, Found, more, space_of, with_one, with_import, with_imports, import_number}
 use Rattle.wasm_show.specs.Numbers.{import_numbers}
 use Rattle.wasm_show.specs.Numbers.{numbers_from, imports_in, space_defined, AreNext, AreOfSection, AreOfItems}
-use Rattle.wasm_show.specs.Numbers.{numbers_in_line, after, after_all, AreOf, AreOfEvents}
+use Rattle.wasm_show.specs.Numbers.{numbers_in_line, after, after_all}
 use Rattle.wasm_show.specs.Chosen.{is_chosen, shown_line, numbered_line}
-use Rattle.wasm_show.specs.Dump.{ShowsItems, ShowsReport, ShowsAnswer}
+use Rattle.wasm_show.specs.Dump.{AreOfShown, AreOf, AreOfEvents, ShowsItems, ShowsReport, ShowsAnswer}
 use Rattle.wasm_show.specs.declared.only.Only.{Only}
 use Rattle.wasm_show.proofs.Lines.{line_is_first}
 use Rattle.wasm_show.specs.Tree.{Writing, Origin, IsWritten, with_line, with_numbers, Adds, AddsFirst, AddsThese, AddsNumber, AddsNumbers}
@@ -142,6 +144,23 @@ import_shown all c s t x old mid new a n b o i =
 pub some_shown : (all left : List Number) (old new : Writing) → AddsAllBut all left old new → AddsBeginning all old new
 some_shown all left old new a o i = let (shown, held, going) = a o i in (shown, (left, held), going)
 
+-- none is left where no import comes next
+pub all_shown : (all : List Number) (c : Counts) (s t : List Found) (old new : Writing) → AddsAllBut all (import_numbers c s) old new
+    → NextImport {X = ℕ × Import} found_at s None t → AddsThese all old new
+all_shown all c s t old new a h o i =
+    let (shown, held, going) = a o i in
+    let whole : all ≡ shown = held ∙ (ap (λ (l : List Found). shown ++ import_numbers c l) h.0.0 ∙ append-nil shown) in
+    subst (λ (x : List Number). IsWritten (with_numbers o x) new) (sym whole) going
+
+-- a writer that goes on hasn't stopped
+pub goes_on : {X : Type 0} (why : Option ListError) (stopped : Bool) → why ≡ None → stopped ≡ is_some why → stopped ≡ true → X
+goes_on why stopped none is t =
+    let no : true ≡ false = sym t ∙ (is ∙ ap (λ (x : Option ListError). is_some x) none) in
+    absurd (differ no)
+  where
+    differ : true ≡ false → ⊥
+    differ e = cc
+
 -- ---- those of what is reported
 
 next_none : (c : Counts) (space : Option Space) → AreNext c space []
@@ -179,7 +198,7 @@ module _ (only : List Only) (c : Counts) (r : Report) where
       let first = a (shown_line r) (numbers_in_line c r) (line_is_first c r) o i in
       let (items, held, going) = b (with_numbers (with_line o (shown_line r)) (numbers_in_line c r)) first in (
         numbers_in_line c r ++ items,
-        inr (items, refl, held),
+        subst (λ (x : Bool). AreOfShown x c r (numbers_in_line c r ++ items)) (sym chosen) (items, refl, held),
         subst (λ (x : List ℕ). IsWritten (with_numbers (with_line o x) (numbers_in_line c r ++ items)) new)
             (sym (ap (λ (x : Bool). if x then shown_line r else []) chosen))
             (joined (with_line o (shown_line r)) (numbers_in_line c r) items new going),
@@ -188,7 +207,7 @@ module _ (only : List Only) (c : Counts) (r : Report) where
   pub shows_unchosen : (w : Writing) → is_chosen only r ≡ false → ShowsReport only c r w w
   shows_unchosen w chosen o i = (
     [],
-    inl refl,
+    subst (λ (x : Bool). AreOfShown x c r []) (sym chosen) refl,
     subst (λ (x : List ℕ). IsWritten (with_numbers (with_line o x) []) w)
         (sym (ap (λ (x : Bool). if x then shown_line r else []) chosen))
         (nothing_more o w i),
@@ -231,27 +250,27 @@ pub all_more : (c : Counts) (events : List Event) (e : Event) → after_all c (e
 all_more c [] e = refl
 all_more c (x ∷ events) e = all_more (after c x.report) events e
 
-pub events_more : (c : Counts) (events : List Event) (numbers : List Number) (e : Event) (shown : List Number)
-    → AreOfEvents c events numbers → AreOf (after_all c events) e.report shown → AreOfEvents c (events ++ e ∷ []) (numbers ++ shown)
-events_more c [] numbers e shown a b = (shown, [], b, rw a (sym (append-nil shown)), refl)
-events_more c (x ∷ events) numbers e shown (one, later, of, parts, rest) b = (
+pub events_more : (only : List Only) (c : Counts) (events : List Event) (numbers : List Number) (e : Event) (shown : List Number)
+    → AreOfEvents only c events numbers → AreOf only (after_all c events) e.report shown
+    → AreOfEvents only c (events ++ e ∷ []) (numbers ++ shown)
+events_more only c [] numbers e shown a b = (shown, [], b, rw a (sym (append-nil shown)), refl)
+events_more only c (x ∷ events) numbers e shown (one, later, of, parts, rest) b = (
   one,
   later ++ shown,
   of,
   ap (λ (y : List Number). y ++ shown) parts ∙ append_assoc one later shown,
-  events_more (after c x.report) events later e shown rest b,
+  events_more only (after c x.report) events later e shown rest b,
 )
 
 -- the end has none
-pub end_none : (c : Counts) (r : Report) (shown : List Number) → is_end r ≡ true → AreOf c r shown → shown ≡ []
-end_none c (stream_end (ended offset)) shown e (inl none) = none
-end_none c (stream_end (ended offset)) shown e (inr (items, parts, none)) = parts ∙ none
-end_none c (stream_end (fault f)) shown e a = cc
-end_none c (version num encoding from to) shown e a = cc
-end_none c (counted id count window) shown e a = cc
-end_none c (start_section func from to) shown e a = cc
-end_none c (data_count_section count from to) shown e a = cc
-end_none c (code_start count from to size) shown e a = cc
-end_none c (code_entry window) shown e a = cc
-end_none c (custom_section name data_offset window) shown e a = cc
-end_none c (unknown_section id contents from to) shown e a = cc
+pub end_none : (only : List Only) (c : Counts) (r : Report) (shown : List Number) → is_end r ≡ true → AreOf only c r shown → shown ≡ []
+end_none only c (stream_end (ended offset)) shown e (items, parts, none) = parts ∙ none
+end_none only c (stream_end (fault f)) shown e a = cc
+end_none only c (version num encoding from to) shown e a = cc
+end_none only c (counted id count window) shown e a = cc
+end_none only c (start_section func from to) shown e a = cc
+end_none only c (data_count_section count from to) shown e a = cc
+end_none only c (code_start count from to size) shown e a = cc
+end_none only c (code_entry window) shown e a = cc
+end_none only c (custom_section name data_offset window) shown e a = cc
+end_none only c (unknown_section id contents from to) shown e a = cc

@@ -1,4 +1,9 @@
 pub mod Chosen
 pub mod Dump
+pub mod Fields
+pub mod ItemText
 pub mod Numbers
+pub mod Said
+pub mod SymbolText
 pub mod Tree
+pub mod TypeText

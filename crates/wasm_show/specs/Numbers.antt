@@ -1,6 +1,6 @@
 -- The numbers of items in their index spaces. Core specification, Syntax, Modules, Indices: the imports of a space come
 -- before what the module itself defines.
-use Rattle.std.specs.Prelude.{◌≡◌, ◌⊎◌, ℕ, zero, suc, ◌+◌, ◌-◌, ◌^◌, min, Bool, true, false, List, [], ◌∷◌, ◌++◌}
+use Rattle.std.specs.Prelude.{◌≡◌, ℕ, zero, suc, ◌+◌, ◌-◌, ◌^◌, min, Bool, true, false, List, [], ◌∷◌, ◌++◌}
 use Rattle.std.specs.Prelude.{codes, decimal, nat_eq, Option, Some, None, Result, Ok, Err, if◌then◌else◌}
 use Rattle.wasm_base.specs.FaultAt.{FaultAt}
 use Rattle.wasm_base.specs.Number.{unsigned_at}
@@ -167,14 +167,3 @@ AreOfItems c other shown = shown ≡ []
 abbrev pub numbers_in_line : Counts → Report → List Number
 numbers_in_line c (code_entry window) = record { space = Functions; index = c.bodies } ∷ []
 numbers_in_line c other = []
-
--- The numbers are those of what is reported: of its line and its items, or none where it isn't shown.
-abbrev pub AreOf : Counts → Report → List Number → Type 0
-AreOf c report shown = (shown ≡ [])
-    ⊎ ((items : List Number) × (shown ≡ numbers_in_line c report ++ items) × AreOfItems c report items)
-
--- The numbers are those of these events, in order, after what came before.
-abbrev pub AreOfEvents : Counts → List Event → List Number → Type 0
-AreOfEvents c [] shown = shown ≡ []
-AreOfEvents c (e ∷ events) shown = (one : List Number) × (later : List Number) × AreOf c e.report one
-    × (shown ≡ one ++ later) × AreOfEvents (after c e.report) events later

@@ -1,7 +1,11 @@
 // Texts of constant expressions, by the names of the text format.
-ghost use Rattle.wasm_show.specs.Tree.{Adds};
+ghost use Rattle.std.specs.Prelude.{◌≡◌, false};
+ghost use Rattle.wasm_show.specs.ItemText.{expression_field};
+ghost use Rattle.wasm_show.specs.Said.{SaysSome, SaysWith};
+ghost use Rattle.wasm_show.specs.Tree.{Adds, has_line_feed};
 
-use crate::show::{Show, Text};
+use crate::lists::write_word;
+use crate::show::Show;
 use crate::tree::Tree;
 use wasm_feed::Sink;
 use wasm_items::{ConstExpr, ConstInstruction, ConstOperator};
@@ -36,44 +40,46 @@ fn operator_word(operator: &ConstOperator) -> &'static str {
     }
 }
 
-// Writes a blank and what an operand is.
-fn write_operand<T: Text, W: Sink>(operand: &T, out: &mut Tree<W>)
-    ensures { Adds out.old out.new }
+// Writes a blank and a number.
+fn write_integer<W: Sink>(number: i64, out: &mut Tree<W>)
+    ensures adds { Adds out.old out.new }
+    ensures some { SaysSome out.old out.new }
 {
     out.text(" ");
-    operand.text(out);
+    out.integer(number);
 }
 
 // Writes the operands of an operator, each after a blank.
 fn write_operands<W: Sink>(operator: &ConstOperator, out: &mut Tree<W>)
-    ensures { Adds out.old out.new }
+    ensures adds { Adds out.old out.new }
+    ensures some { SaysSome out.old out.new }
 {
     match operator {
-        ConstOperator::GlobalGet { global_index } => write_operand(global_index, out),
-        ConstOperator::I32Const { value } => write_operand(&i64::from(*value), out),
-        ConstOperator::I64Const { value } => write_operand(value, out),
+        ConstOperator::GlobalGet { global_index } => write_word(global_index, out),
+        ConstOperator::I32Const { value } => write_integer(i64::from(*value), out),
+        ConstOperator::I64Const { value } => write_integer(*value, out),
         ConstOperator::F32Const { value } => out.number("bits", u64::from(value.bits())),
         ConstOperator::F64Const { value } => out.number("bits", value.bits()),
         ConstOperator::V128Const { value } => {
             out.text(" ");
             out.hexadecimals(value.bytes());
         }
-        ConstOperator::RefNull { hty } => write_operand(hty, out),
-        ConstOperator::RefFunc { function_index } => write_operand(function_index, out),
+        ConstOperator::RefNull { hty } => write_word(hty, out),
+        ConstOperator::RefFunc { function_index } => write_word(function_index, out),
         ConstOperator::StructNew { struct_type_index }
         | ConstOperator::StructNewDefault { struct_type_index } => {
-            write_operand(struct_type_index, out);
+            write_word(struct_type_index, out);
         }
         ConstOperator::ArrayNew { array_type_index }
         | ConstOperator::ArrayNewDefault { array_type_index } => {
-            write_operand(array_type_index, out);
+            write_word(array_type_index, out);
         }
         ConstOperator::ArrayNewFixed {
             array_type_index,
             array_size,
         } => {
-            write_operand(array_type_index, out);
-            write_operand(array_size, out);
+            write_word(array_type_index, out);
+            write_word(array_size, out);
         }
         _ => {}
     }
@@ -81,7 +87,8 @@ fn write_operands<W: Sink>(operator: &ConstOperator, out: &mut Tree<W>)
 
 // Writes an instruction, or the fault in its place, in parentheses, and before it a blank, unless it is the first one.
 fn write_instruction<W: Sink>(is_first: bool, read: &Result<ConstInstruction>, out: &mut Tree<W>)
-    ensures { Adds out.old out.new }
+    ensures adds { Adds out.old out.new }
+    ensures some { SaysSome out.old out.new }
 {
     out.text(if is_first { "(" } else { " (" });
     match read {
@@ -102,12 +109,12 @@ fn is_end(read: &Result<ConstInstruction>) -> bool {
     }
 }
 
-/// Writes an expression as a field: its instructions without the end, each in parentheses, with a blank between two. One that
-/// has no other is `()`.
-pub(crate) fn show_expr<W: Sink>(name: &str, expr: &ConstExpr<'_>, out: &mut Tree<W>)
-    ensures { Adds out.old out.new }
+// Writes the instructions of an expression without the end, each in parentheses, with a blank between two. One that has no other
+// is `()`.
+fn write_instructions<W: Sink>(expr: &ConstExpr<'_>, out: &mut Tree<W>)
+    ensures adds { Adds out.old out.new }
+    ensures some { SaysSome out.old out.new }
 {
-    out.field(name);
     let mut instructions = expr.instructions();
     let mut is_first = true;
     for _ in 0..u64::MAX {
@@ -123,6 +130,16 @@ pub(crate) fn show_expr<W: Sink>(name: &str, expr: &ConstExpr<'_>, out: &mut Tre
     if is_first {
         out.text("()");
     }
+}
+
+/// Writes an expression as a field.
+pub(crate) fn show_expr<W: Sink>(name: &str, expr: &ConstExpr<'_>, out: &mut Tree<W>)
+    ensures adds { Adds out.old out.new }
+    ensures says { has_line_feed name.now ≡ false
+        → SaysWith (expression_field name.now) out.old out.new }
+{
+    out.field(name);
+    write_instructions(expr, out);
 }
 
 impl Show for ConstExpr<'_> {

@@ -1,10 +1,19 @@
 // Texts of the items of a module's sections.
-ghost use Rattle.wasm_show.specs.Tree.{Adds};
+ghost use Rattle.std.specs.Prelude.{◌≡◌, false};
+ghost use Rattle.wasm_items.specs.Data.{data_parts};
+ghost use Rattle.wasm_items.specs.Exports.{export_parts};
+ghost use Rattle.wasm_show.specs.ItemText.{data_fields, data_kind_fields, global_fields, table_item_fields};
+ghost use Rattle.wasm_items.specs.Imports.{import_parts};
+ghost use Rattle.wasm_show.specs.Fields.{field_text};
+ghost use Rattle.wasm_show.specs.ItemText.{export_fields, import_fields, kind_field, kind_word as word_of_kind, type_ref_fields};
+ghost use Rattle.wasm_show.specs.Said.{Says, SaysFields, SaysWith};
+ghost use Rattle.wasm_show.specs.Tree.{Adds, has_line_feed};
 
 use crate::expressions::show_expr;
 use crate::lists::{show_extent, show_list, show_section, under};
 use crate::show::Show;
 use crate::tree::Tree;
+use crate::types::wide;
 use wasm_feed::Sink;
 use wasm_items::{
     Data, DataKind, Element, ElementItems, ElementKind, Export, ExternalKind, Global as GlobalItem,
@@ -12,7 +21,10 @@ use wasm_items::{
 };
 
 // The word of what is imported or exported.
-fn kind_word(kind: &ExternalKind) -> &'static str {
+fn kind_word(kind: &ExternalKind) -> &'static str
+    ensures word { result.now ≡ word_of_kind kind.now }
+    ensures one_line { has_line_feed result.now ≡ false }
+{
     match kind {
         ExternalKind::Func => "func",
         ExternalKind::Table => "table",
@@ -23,37 +35,59 @@ fn kind_word(kind: &ExternalKind) -> &'static str {
     }
 }
 
+// Writes what kind is imported or exported.
+fn show_kind<W: Sink>(kind: &ExternalKind, out: &mut Tree<W>)
+    ensures adds { Adds out.old out.new }
+    ensures says { Says (field_text (kind_field kind.now)) out.old out.new }
+{
+    out.word_field("kind", kind_word(kind));
+}
+
 impl Show for ExternalKind {
     fn show<W: Sink>(&self, _level: usize, out: &mut Tree<W>) {
-        out.field("kind");
-        out.text(kind_word(self));
+        show_kind(self, out);
     }
 }
 
-// Writes the word of what is imported, and its type.
-fn show_imported<T: Show, W: Sink>(word: &str, level: usize, ty: &T, out: &mut Tree<W>)
-    ensures { Adds out.old out.new }
-{
-    out.field("ty");
-    out.text(word);
-    ty.show(level, out);
-}
-
 impl Show for TypeRef {
-    fn show<W: Sink>(&self, level: usize, out: &mut Tree<W>) {
+    fn show<W: Sink>(&self, level: usize, out: &mut Tree<W>)
+        ensures adds { Adds out.old out.new }
+        ensures says { SaysFields (type_ref_fields self.now) out.old out.new }
+    {
         match self {
-            TypeRef::Func(index) => show_imported("func", level, index, out),
-            TypeRef::FuncExact(index) => show_imported("func_exact", level, index, out),
-            TypeRef::Table(ty) => show_imported("table", level, ty, out),
-            TypeRef::Memory(ty) => show_imported("memory", level, ty, out),
-            TypeRef::Global(ty) => show_imported("global", level, ty, out),
-            TypeRef::Tag(ty) => show_imported("tag", level, ty, out),
+            TypeRef::Func(index) => {
+                out.word_field("ty", "func");
+                index.show(level, out);
+            }
+            TypeRef::FuncExact(index) => {
+                out.word_field("ty", "func_exact");
+                index.show(level, out);
+            }
+            TypeRef::Table(ty) => {
+                out.word_field("ty", "table");
+                ty.show(level, out);
+            }
+            TypeRef::Memory(ty) => {
+                out.word_field("ty", "memory");
+                ty.show(level, out);
+            }
+            TypeRef::Global(ty) => {
+                out.word_field("ty", "global");
+                ty.show(level, out);
+            }
+            TypeRef::Tag(ty) => {
+                out.word_field("ty", "tag");
+                ty.show(level, out);
+            }
         }
     }
 }
 
 impl Show for Import<'_> {
-    fn show<W: Sink>(&self, level: usize, out: &mut Tree<W>) {
+    fn show<W: Sink>(&self, level: usize, out: &mut Tree<W>)
+        ensures adds { Adds out.old out.new }
+        ensures says { SaysFields (import_fields (import_parts self.now)) out.old out.new }
+    {
         out.quoted("module", self.module);
         out.quoted("name", self.name);
         self.ty.show(level, out);
@@ -89,26 +123,35 @@ impl Show for Imports<'_> {
 }
 
 impl Show for Table<'_> {
-    fn show<W: Sink>(&self, level: usize, out: &mut Tree<W>) {
+    fn show<W: Sink>(&self, level: usize, out: &mut Tree<W>)
+        ensures adds { Adds out.old out.new }
+        ensures says { SaysWith (table_item_fields self.now) out.old out.new }
+    {
         self.ty.show(level, out);
         match &self.init {
-            TableInit::RefNull => out.word("init=null"),
+            TableInit::RefNull => out.word_field("init", "null"),
             TableInit::Expr(init) => show_expr("init", init, out),
         }
     }
 }
 
 impl Show for GlobalItem<'_> {
-    fn show<W: Sink>(&self, level: usize, out: &mut Tree<W>) {
+    fn show<W: Sink>(&self, level: usize, out: &mut Tree<W>)
+        ensures adds { Adds out.old out.new }
+        ensures says { SaysWith (global_fields self.now) out.old out.new }
+    {
         self.ty.show(level, out);
         show_expr("init_expr", &self.init_expr, out);
     }
 }
 
 impl Show for Export<'_> {
-    fn show<W: Sink>(&self, level: usize, out: &mut Tree<W>) {
+    fn show<W: Sink>(&self, _level: usize, out: &mut Tree<W>)
+        ensures adds { Adds out.old out.new }
+        ensures says { SaysFields (export_fields (export_parts self.now)) out.old out.new }
+    {
         out.quoted("name", self.name);
-        self.kind.show(level, out);
+        show_kind(&self.kind, out);
         out.number("index", u64::from(self.index));
     }
 }
@@ -118,14 +161,14 @@ fn show_element_kind<W: Sink>(kind: &ElementKind<'_>, out: &mut Tree<W>)
     ensures { Adds out.old out.new }
 {
     match kind {
-        ElementKind::Passive => out.word("kind=passive"),
-        ElementKind::Declared => out.word("kind=declared"),
+        ElementKind::Passive => out.word_field("kind", "passive"),
+        ElementKind::Declared => out.word_field("kind", "declared"),
         ElementKind::Active {
             table_index,
             offset_expr,
         } => {
-            out.word("kind=active");
-            out.number_if_any("table_index", table_index.map(u64::from));
+            out.word_field("kind", "active");
+            out.number_if_any("table_index", wide(*table_index));
             show_expr("offset_expr", offset_expr, out);
         }
     }
@@ -165,15 +208,16 @@ impl Show for Element<'_> {
 
 // Writes what becomes of a data segment.
 fn show_data_kind<W: Sink>(kind: &DataKind<'_>, out: &mut Tree<W>)
-    ensures { Adds out.old out.new }
+    ensures adds { Adds out.old out.new }
+    ensures says { SaysWith (data_kind_fields kind.now) out.old out.new }
 {
     match kind {
-        DataKind::Passive => out.word("kind=passive"),
+        DataKind::Passive => out.word_field("kind", "passive"),
         DataKind::Active {
             memory_index,
             offset_expr,
         } => {
-            out.word("kind=active");
+            out.word_field("kind", "active");
             out.number("memory_index", u64::from(*memory_index));
             show_expr("offset_expr", offset_expr, out);
         }
@@ -181,7 +225,10 @@ fn show_data_kind<W: Sink>(kind: &DataKind<'_>, out: &mut Tree<W>)
 }
 
 impl Show for Data<'_> {
-    fn show<W: Sink>(&self, _level: usize, out: &mut Tree<W>) {
+    fn show<W: Sink>(&self, _level: usize, out: &mut Tree<W>)
+        ensures adds { Adds out.old out.new }
+        ensures says { SaysWith (data_fields (data_parts self.now)) out.old out.new }
+    {
         show_data_kind(&self.kind, out);
         out.raw("data", self.bytes);
         out.range("range", self.range.start, self.range.end);

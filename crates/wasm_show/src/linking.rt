@@ -1,5 +1,9 @@
 // Texts of the sections for linkers, static and dynamic, and of their items.
-ghost use Rattle.wasm_show.specs.Tree.{Adds};
+ghost use Rattle.std.specs.Prelude.{◌≡◌, false};
+ghost use Rattle.wasm_custom.specs.Linking.{text_if_any};
+ghost use Rattle.wasm_show.specs.Said.{SaysFields};
+ghost use Rattle.wasm_show.specs.SymbolText.{data_symbol_fields, defined_fields, indexed_fields, section_symbol_fields, symbol_fields};
+ghost use Rattle.wasm_show.specs.Tree.{Adds, has_line_feed};
 
 use crate::lists::{show_items, show_lines, show_list, under};
 use crate::names::show_unknown;
@@ -59,20 +63,24 @@ impl Show for Comdat<'_> {
 
 // Writes a symbol that has an index and perhaps a name.
 fn show_indexed<W: Sink>(kind: &str, flags: u32, index: u32, name: &Option<&str>, out: &mut Tree<W>)
-    ensures { Adds out.old out.new }
+    ensures adds { Adds out.old out.new }
+    ensures says { has_line_feed kind.now ≡ false
+        → SaysFields (indexed_fields kind.now flags index (text_if_any name.now (λ text. text.now)))
+        out.old out.new }
 {
     out.word(kind);
     out.number("flags", u64::from(flags));
     out.number("index", u64::from(index));
     match name {
         Some(name) => out.quoted("name", name),
-        None => out.word("name=none"),
+        None => out.word_field("name", "none"),
     }
 }
 
 // Writes where the data of a symbol is, if it is here.
 fn show_defined<W: Sink>(symbol: &Option<DefinedDataSymbol>, out: &mut Tree<W>)
-    ensures { Adds out.old out.new }
+    ensures adds { Adds out.old out.new }
+    ensures says { SaysFields (defined_fields symbol.now) out.old out.new }
 {
     match symbol {
         Some(symbol) => {
@@ -86,7 +94,8 @@ fn show_defined<W: Sink>(symbol: &Option<DefinedDataSymbol>, out: &mut Tree<W>)
 
 // Writes a symbol that is data.
 fn show_data<W: Sink>(flags: u32, name: &str, symbol: &Option<DefinedDataSymbol>, out: &mut Tree<W>)
-    ensures { Adds out.old out.new }
+    ensures adds { Adds out.old out.new }
+    ensures says { SaysFields (data_symbol_fields flags name.now symbol.now) out.old out.new }
 {
     out.word("data");
     out.number("flags", u64::from(flags));
@@ -96,7 +105,8 @@ fn show_data<W: Sink>(flags: u32, name: &str, symbol: &Option<DefinedDataSymbol>
 
 // Writes a symbol that is a section.
 fn show_section_symbol<W: Sink>(flags: u32, section: u32, out: &mut Tree<W>)
-    ensures { Adds out.old out.new }
+    ensures adds { Adds out.old out.new }
+    ensures says { SaysFields (section_symbol_fields flags section) out.old out.new }
 {
     out.word("section");
     out.number("flags", u64::from(flags));
@@ -104,7 +114,10 @@ fn show_section_symbol<W: Sink>(flags: u32, section: u32, out: &mut Tree<W>)
 }
 
 impl Show for SymbolInfo<'_> {
-    fn show<W: Sink>(&self, _level: usize, out: &mut Tree<W>) {
+    fn show<W: Sink>(&self, _level: usize, out: &mut Tree<W>)
+        ensures adds { Adds out.old out.new }
+        ensures says { SaysFields (symbol_fields self.now) out.old out.new }
+    {
         match self {
             SymbolInfo::Func { flags, index, name } => {
                 show_indexed("func", flags.bits(), *index, name, out);

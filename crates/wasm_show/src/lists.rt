@@ -1,5 +1,8 @@
 // Lists of items.
+ghost use Rattle.std.specs.List.{flat_map};
+ghost use Rattle.wasm_show.specs.Said.{Says, SaysSome};
 ghost use Rattle.wasm_show.specs.Tree.{Adds};
+ghost use Rattle.wasm_show.specs.TypeText.{after_blank};
 
 use crate::show::{Show, Text};
 use crate::tree::Tree;
@@ -129,13 +132,23 @@ pub(crate) fn write_lines<T: Text, W: Sink>(
     }
 }
 
+/// Writes a text on the line that is begun, after a blank.
+pub(crate) fn write_word<T: Text, W: Sink>(item: &T, out: &mut Tree<W>)
+    ensures adds { Adds out.old out.new }
+    ensures says { Says (after_blank (T.words item.now)) out.old out.new }
+    ensures some { SaysSome out.old out.new }
+{
+    out.text(" ");
+    item.text(out);
+}
+
 /// Writes texts on the line that is begun, each after a blank.
 pub(crate) fn write_words<T: Text, W: Sink>(items: &[T], out: &mut Tree<W>)
-    ensures { Adds out.old out.new }
+    ensures adds { Adds out.old out.new }
+    ensures says { Says (flat_map (λ x. after_blank (T.words x)) items.now) out.old out.new }
 {
     for item in items {
-        out.text(" ");
-        item.text(out);
+        write_word(item, out);
     }
 }
 

@@ -1,5 +1,5 @@
 // Items with their numbers.
-ghost use Rattle.std.specs.Prelude.{◌≡◌, Some};
+ghost use Rattle.std.specs.Prelude.{◌≡◌, None, Some};
 ghost use Rattle.wasm_base.specs.Window.{place};
 ghost use Rattle.wasm_items.specs.Flattened.{flattened, found_at};
 ghost use Rattle.wasm_show.specs.Numbers.{count_of, import_number, import_numbers, with_import};
@@ -92,7 +92,10 @@ pub(crate) fn show_imports<W: Sink>(
     section: &ImportSectionReader<'_>,
     out: &mut Tree<W>,
 )
-    ensures { AddsBeginning
+    ensures shows { AddsBeginning
+        (import_numbers counts.now (flattened section.now.count (place section.now.reader)))
+        out.old out.new }
+    ensures all { out.new.why ≡ None → AddsThese
         (import_numbers counts.now (flattened section.now.count (place section.now.reader)))
         out.old out.new }
 {

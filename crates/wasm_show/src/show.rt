@@ -1,4 +1,6 @@
 // What can be shown.
+ghost use Rattle.wasm_show.specs.ItemText.{index_fields};
+ghost use Rattle.wasm_show.specs.Said.{Says, SaysFields};
 ghost use Rattle.wasm_show.specs.Tree.{Adds};
 
 use crate::tree::Tree;
@@ -13,26 +15,33 @@ pub trait Show: Drop {
 
 /// What is part of an item's text, without a name.
 pub(crate) trait Text: Drop {
+    ghost use Rattle.std.specs.Prelude.{ℕ, List};
+
+    /// What it is.
+    ghost words: { Self → List ℕ };
+
     /// Writes it on the line that is begun.
     fn text<W: Sink>(&self, out: &mut Tree<W>)
-        ensures { Adds out.old out.new };
+        ensures adds { Adds out.old out.new }
+        ensures says { Says (words self.now) out.old out.new };
 }
 
 impl Text for u32 {
+    ghost use Rattle.std.specs.Prelude.{decimal};
+
+    ghost words = { decimal };
+
     fn text<W: Sink>(&self, out: &mut Tree<W>) {
         out.digits(u64::from(*self));
     }
 }
 
-impl Text for i64 {
-    fn text<W: Sink>(&self, out: &mut Tree<W>) {
-        out.integer(*self);
-    }
-}
-
 /// An index.
 impl Show for u32 {
-    fn show<W: Sink>(&self, _level: usize, out: &mut Tree<W>) {
+    fn show<W: Sink>(&self, _level: usize, out: &mut Tree<W>)
+        ensures adds { Adds out.old out.new }
+        ensures says { SaysFields (index_fields self.now) out.old out.new }
+    {
         out.number("index", u64::from(*self));
     }
 }

@@ -1,7 +1,12 @@
 // Lines of text, some of them under others.
-ghost use Rattle.std.specs.Prelude.{◌≡◌, ◌≤◌, [], None, true, false, length};
+ghost use Rattle.std.specs.Prelude.{◌≡◌, ◌≤◌, [], None, true, false, length, take, decimal};
 ghost use Rattle.std.specs.Option.{is_some};
-ghost use Rattle.wasm_show.specs.Tree.{Adds, AddsFirst, AddsNumber, IsOut, Puts, starts};
+ghost use Rattle.std.specs.List.{flat_map};
+ghost use Rattle.wasm_show.specs.Fields.{alone, field_start, field_text, named, number as number_value, word as word_value, quoted, raw};
+ghost use Rattle.wasm_show.specs.Fields.{range, flag as flag_value, number_if_any as optional, hexadecimal, quoted_byte};
+ghost use Rattle.wasm_show.specs.Fields.{is_escaped as byte_is_escaped};
+ghost use Rattle.wasm_show.specs.Said.{Says, SaysSome};
+ghost use Rattle.wasm_show.specs.Tree.{Adds, AddsFirst, AddsNumber, IsOut, Puts, has_line_feed, starts};
 
 use crate::numbers::{Space, put_number};
 use std::alloc::Global;
@@ -14,6 +19,24 @@ const PAGE_BYTES: usize = 65_536;
 
 /// How many bytes stand for a byte string.
 const SHOWN: usize = 16;
+
+// The bytes that stand for a byte string: its first ones.
+fn first_bytes(bytes: &[u8]) -> &[u8]
+    ensures { result.now ≡ take 16 bytes.now }
+{
+    if bytes.len() <= SHOWN {
+        bytes
+    } else {
+        &bytes[..SHOWN]
+    }
+}
+
+// Whether a byte of a text in quotes is written by its digits.
+fn is_escaped(byte: u8) -> bool
+    ensures { result ≡ byte_is_escaped byte }
+{
+    byte < 32 || byte > 126 || byte == b'"' || byte == b'\\'
+}
 
 /// Writes lines, each one under another by two blanks a level. They wait until there are many, so that the sink is called
 /// seldom.
@@ -169,6 +192,7 @@ impl<W: Sink> Tree<W> {
     fn begin(&mut self)
         ensures adds { Adds self.old self.new }
         ensures begun { self.new.is_begun ≡ true }
+        ensures same { self.old.is_begun ≡ true → self.new ≡ self.old }
     {
         if self.is_begun {
             return;
@@ -192,7 +216,9 @@ impl<W: Sink> Tree<W> {
     // Writes bytes that are no line feeds, for which there is room; with one they are left out.
     fn piece(&mut self, bytes: &[u8])
         requires { length bytes.now ≤ 65536 }
-        ensures { Adds self.old self.new }
+        ensures adds { Adds self.old self.new }
+        ensures says { has_line_feed bytes.now ≡ false → Says bytes.now self.old self.new }
+        ensures some { SaysSome self.old self.new }
     {
         if bytes.contains(&b'\n') {
             return;
@@ -203,7 +229,9 @@ impl<W: Sink> Tree<W> {
 
     // The same of any number of bytes.
     fn bytes(&mut self, bytes: &[u8])
-        ensures { Adds self.old self.new }
+        ensures adds { Adds self.old self.new }
+        ensures says { has_line_feed bytes.now ≡ false → Says bytes.now self.old self.new }
+        ensures some { SaysSome self.old self.new }
     {
         let mut rest = bytes;
         'pieces: while rest.len() > PAGE_BYTES {
@@ -226,14 +254,19 @@ impl<W: Sink> Tree<W> {
 
     /// Writes a text, which has no line feed, as it is.
     pub fn text(&mut self, text: &str)
-        ensures { Adds self.old self.new }
+        ensures adds { Adds self.old self.new }
+        ensures says { has_line_feed text.now ≡ false → Says text.now self.old self.new }
+        ensures some { SaysSome self.old self.new }
     {
         self.bytes(text.as_bytes());
     }
 
     /// Writes a blank and a word.
     pub fn word(&mut self, word: &str)
-        ensures { Adds self.old self.new }
+        ensures adds { Adds self.old self.new }
+        ensures says { has_line_feed word.now ≡ false
+            → Says (field_text (alone word.now)) self.old self.new }
+        ensures some { SaysSome self.old self.new }
     {
         self.text(" ");
         self.text(word);
@@ -241,7 +274,10 @@ impl<W: Sink> Tree<W> {
 
     /// Writes a blank, the name of a field, and `=`.
     pub fn field(&mut self, name: &str)
-        ensures { Adds self.old self.new }
+        ensures adds { Adds self.old self.new }
+        ensures says { has_line_feed name.now ≡ false
+            → Says (field_start name.now) self.old self.new }
+        ensures some { SaysSome self.old self.new }
     {
         self.word(name);
         self.text("=");
@@ -249,16 +285,31 @@ impl<W: Sink> Tree<W> {
 
     /// Writes a number in decimal digits.
     pub fn digits(&mut self, number: u64)
-        ensures { Adds self.old self.new }
+        ensures adds { Adds self.old self.new }
+        ensures says { Says (decimal number) self.old self.new }
+        ensures some { SaysSome self.old self.new }
     {
         let mut line = Line::new();
         line.number(number);
         self.bytes(line.as_bytes());
     }
 
+    /// Writes a field that is a word.
+    pub fn word_field(&mut self, name: &str, word: &str)
+        ensures adds { Adds self.old self.new }
+        ensures says { has_line_feed name.now ≡ false → has_line_feed word.now ≡ false
+            → Says (field_text (named name.now (word_value word.now))) self.old self.new }
+    {
+        self.field(name);
+        self.text(word);
+    }
+
     /// Writes a field that is a number.
     pub fn number(&mut self, name: &str, number: u64)
-        ensures { Adds self.old self.new }
+        ensures adds { Adds self.old self.new }
+        ensures says { has_line_feed name.now ≡ false
+            → Says (field_text (named name.now (number_value number))) self.old self.new }
+        ensures some { SaysSome self.old self.new }
     {
         self.field(name);
         self.digits(number);
@@ -274,7 +325,8 @@ impl<W: Sink> Tree<W> {
 
     /// Writes a number in decimal digits, with a sign where it is below 0.
     pub fn integer(&mut self, number: i64)
-        ensures { Adds self.old self.new }
+        ensures adds { Adds self.old self.new }
+        ensures some { SaysSome self.old self.new }
     {
         if number < 0 {
             self.text("-");
@@ -284,26 +336,34 @@ impl<W: Sink> Tree<W> {
 
     /// Writes a field that is a number, or `none`.
     pub fn number_if_any(&mut self, name: &str, number: Option<u64>)
-        ensures { Adds self.old self.new }
+        ensures adds { Adds self.old self.new }
+        ensures says { has_line_feed name.now ≡ false
+            → Says (field_text (named name.now (optional number))) self.old self.new }
     {
-        self.field(name);
         match number {
-            Some(number) => self.digits(number),
-            None => self.text("none"),
+            Some(number) => self.number(name, number),
+            None => self.word_field(name, "none"),
         }
     }
 
     /// Writes a field that is `true` or `false`.
     pub fn flag(&mut self, name: &str, flag: bool)
-        ensures { Adds self.old self.new }
+        ensures adds { Adds self.old self.new }
+        ensures says { has_line_feed name.now ≡ false
+            → Says (field_text (named name.now (flag_value flag))) self.old self.new }
     {
-        self.field(name);
-        self.text(if flag { "true" } else { "false" });
+        if flag {
+            self.word_field(name, "true");
+        } else {
+            self.word_field(name, "false");
+        }
     }
 
     // Writes two hexadecimal digits.
     fn hexadecimal(&mut self, byte: u8)
-        ensures { Adds self.old self.new }
+        ensures adds { Adds self.old self.new }
+        ensures says { Says (hexadecimal byte) self.old self.new }
+        ensures some { SaysSome self.old self.new }
     {
         let digits = b"0123456789abcdef";
         let (high, low) = (usize::from(byte / 16), usize::from(byte % 16));
@@ -312,9 +372,10 @@ impl<W: Sink> Tree<W> {
 
     // Writes a byte of a text in quotes.
     fn quoted_byte(&mut self, byte: u8)
-        ensures { Adds self.old self.new }
+        ensures adds { Adds self.old self.new }
+        ensures says { Says (quoted_byte byte) self.old self.new }
     {
-        if byte < 32 || byte > 126 || byte == b'"' || byte == b'\\' {
+        if is_escaped(byte) {
             self.text("\\");
             self.hexadecimal(byte);
         } else {
@@ -322,31 +383,45 @@ impl<W: Sink> Tree<W> {
         }
     }
 
+    // Writes the bytes of a text in quotes.
+    fn quoted_bytes(&mut self, bytes: &[u8])
+        ensures adds { Adds self.old self.new }
+        ensures says { Says (flat_map quoted_byte bytes.now) self.old self.new }
+    {
+        for byte in bytes {
+            self.quoted_byte(*byte);
+        }
+    }
+
     /// Writes a field that is a text: in double quotes, where `"`, `\` and bytes outside 32 to 126 are `\` and two
     /// hexadecimal digits.
     pub fn quoted(&mut self, name: &str, text: &str)
-        ensures { Adds self.old self.new }
+        ensures adds { Adds self.old self.new }
+        ensures says { has_line_feed name.now ≡ false
+            → Says (field_text (named name.now (quoted text.now))) self.old self.new }
     {
         self.field(name);
         self.text("\"");
-        for byte in text.as_bytes() {
-            self.quoted_byte(*byte);
-        }
+        self.quoted_bytes(text.as_bytes());
         self.text("\"");
     }
 
     /// Writes a field that is raw bytes: their count, a colon, and the first 16 in hexadecimal.
     pub fn raw(&mut self, name: &str, bytes: &[u8])
-        ensures { Adds self.old self.new }
+        ensures adds { Adds self.old self.new }
+        ensures says { has_line_feed name.now ≡ false
+            → Says (field_text (named name.now (raw bytes.now))) self.old self.new }
     {
         self.number(name, bytes.len() as u64);
         self.text(":");
-        self.hexadecimals(&bytes[..bytes.len().min(SHOWN)]);
+        self.hexadecimals(first_bytes(bytes));
     }
 
     /// Writes bytes, each as two hexadecimal digits.
     pub fn hexadecimals(&mut self, bytes: &[u8])
-        ensures { Adds self.old self.new }
+        ensures adds { Adds self.old self.new }
+        ensures says { Says (flat_map hexadecimal bytes.now) self.old self.new }
+        ensures some { SaysSome self.old self.new }
     {
         for byte in bytes {
             self.hexadecimal(*byte);
@@ -355,7 +430,9 @@ impl<W: Sink> Tree<W> {
 
     /// Writes a field that is a range of offsets in the whole stream: `start..end`.
     pub fn range(&mut self, name: &str, start: u64, end: u64)
-        ensures { Adds self.old self.new }
+        ensures adds { Adds self.old self.new }
+        ensures says { has_line_feed name.now ≡ false
+            → Says (field_text (named name.now (range start end))) self.old self.new }
     {
         self.number(name, start);
         self.text("..");
@@ -372,7 +449,8 @@ impl<W: Sink> Tree<W> {
 
     /// Writes a fault: `fault`, its offset in the whole stream, its message, and its number, if it has one.
     pub fn fault_text(&mut self, error: &Error)
-        ensures { Adds self.old self.new }
+        ensures adds { Adds self.old self.new }
+        ensures some { SaysSome self.old self.new }
     {
         self.text("fault ");
         self.digits(error.offset());

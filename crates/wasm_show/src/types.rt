@@ -1,5 +1,11 @@
 // Texts of types, in the standard's words.
-ghost use Rattle.wasm_show.specs.Tree.{Adds};
+ghost use Rattle.std.specs.Prelude.{◌≡◌, false};
+ghost use Rattle.wasm_show.specs.Fields.{field_text, named, word};
+ghost use Rattle.wasm_show.specs.ItemText.{global_type_fields, memory_fields, table_fields, tag_fields};
+ghost use Rattle.wasm_show.specs.Said.{Says, SaysFields};
+ghost use Rattle.wasm_show.specs.Tree.{Adds, has_line_feed};
+ghost use Rattle.wasm_show.specs.TypeText.{array_text, heap_word as word_of_heap, mutable_text, ref_start as start_of_ref, struct_text};
+ghost use Rattle.wasm_show.specs.TypeText.{sub_start as start_of_sub, supertype_text, types_text, val_text};
 
 use crate::lists::{under, write_lines, write_words};
 use crate::show::{Show, Text};
@@ -11,7 +17,10 @@ use wasm_items::{
 };
 
 // The word of a heap type that is no index.
-fn heap_word(heap: &HeapType) -> &'static str {
+fn heap_word(heap: &HeapType) -> &'static str
+    ensures word { result.now ≡ word_of_heap heap.now }
+    ensures one_line { has_line_feed result.now ≡ false }
+{
     match heap {
         HeapType::Func => "func",
         HeapType::Extern => "extern",
@@ -30,6 +39,10 @@ fn heap_word(heap: &HeapType) -> &'static str {
 }
 
 impl Text for HeapType {
+    ghost use Rattle.wasm_show.specs.TypeText.{heap_text};
+
+    ghost words = { heap_text };
+
     fn text<W: Sink>(&self, out: &mut Tree<W>) {
         if let HeapType::Concrete(index) = self {
             out.digits(u64::from(*index));
@@ -39,15 +52,31 @@ impl Text for HeapType {
     }
 }
 
+// How the text of a reference begins.
+fn ref_start(nullable: bool) -> &'static str
+    ensures word { result.now ≡ start_of_ref nullable }
+    ensures one_line { has_line_feed result.now ≡ false }
+{
+    if nullable { "(ref null " } else { "(ref " }
+}
+
 impl Text for RefType {
+    ghost use Rattle.wasm_show.specs.TypeText.{ref_text};
+
+    ghost words = { ref_text };
+
     fn text<W: Sink>(&self, out: &mut Tree<W>) {
-        out.text(if self.nullable { "(ref null " } else { "(ref " });
+        out.text(ref_start(self.nullable));
         self.heap.text(out);
         out.text(")");
     }
 }
 
 impl Text for ValType {
+    ghost use Rattle.wasm_show.specs.TypeText.{val_text};
+
+    ghost words = { val_text };
+
     fn text<W: Sink>(&self, out: &mut Tree<W>) {
         match self {
             ValType::I32 => out.text("i32"),
@@ -61,6 +90,10 @@ impl Text for ValType {
 }
 
 impl Text for StorageType {
+    ghost use Rattle.wasm_show.specs.TypeText.{storage_text};
+
+    ghost words = { storage_text };
+
     fn text<W: Sink>(&self, out: &mut Tree<W>) {
         match self {
             StorageType::I8 => out.text("i8"),
@@ -72,7 +105,8 @@ impl Text for StorageType {
 
 // Writes a type of what may be mutable.
 fn write_mutable<T: Text, W: Sink>(mutable: bool, ty: &T, out: &mut Tree<W>)
-    ensures { Adds out.old out.new }
+    ensures adds { Adds out.old out.new }
+    ensures says { Says (mutable_text mutable (T.words ty.now)) out.old out.new }
 {
     if !mutable {
         ty.text(out);
@@ -85,6 +119,10 @@ fn write_mutable<T: Text, W: Sink>(mutable: bool, ty: &T, out: &mut Tree<W>)
 
 /// A field of a structure.
 impl Text for FieldType {
+    ghost use Rattle.wasm_show.specs.TypeText.{field_type_text};
+
+    ghost words = { field_type_text };
+
     fn text<W: Sink>(&self, out: &mut Tree<W>) {
         out.text("(field ");
         write_mutable(self.mutable, &self.storage, out);
@@ -94,7 +132,9 @@ impl Text for FieldType {
 
 // Writes the types of parameters or results, if there are any.
 fn write_types<W: Sink>(start: &str, types: &[ValType], out: &mut Tree<W>)
-    ensures { Adds out.old out.new }
+    ensures adds { Adds out.old out.new }
+    ensures says { has_line_feed start.now ≡ false
+        → Says (types_text start.now types.now) out.old out.new }
 {
     if types.is_empty() {
         return;
@@ -105,6 +145,10 @@ fn write_types<W: Sink>(start: &str, types: &[ValType], out: &mut Tree<W>)
 }
 
 impl Text for FuncType {
+    ghost use Rattle.wasm_show.specs.TypeText.{func_text};
+
+    ghost words = { func_text };
+
     fn text<W: Sink>(&self, out: &mut Tree<W>) {
         out.text("(func");
         write_types(" (param", &self.params, out);
@@ -115,7 +159,8 @@ impl Text for FuncType {
 
 // Writes the type of an array.
 fn write_array<W: Sink>(field: &FieldType, out: &mut Tree<W>)
-    ensures { Adds out.old out.new }
+    ensures adds { Adds out.old out.new }
+    ensures says { Says (array_text field.now) out.old out.new }
 {
     out.text("(array ");
     write_mutable(field.mutable, &field.storage, out);
@@ -124,7 +169,8 @@ fn write_array<W: Sink>(field: &FieldType, out: &mut Tree<W>)
 
 // Writes the type of a structure.
 fn write_struct<W: Sink>(fields: &[FieldType], out: &mut Tree<W>)
-    ensures { Adds out.old out.new }
+    ensures adds { Adds out.old out.new }
+    ensures says { Says (struct_text fields.now) out.old out.new }
 {
     out.text("(struct");
     write_words(fields, out);
@@ -132,6 +178,10 @@ fn write_struct<W: Sink>(fields: &[FieldType], out: &mut Tree<W>)
 }
 
 impl Text for CompositeType {
+    ghost use Rattle.wasm_show.specs.TypeText.{composite_text};
+
+    ghost words = { composite_text };
+
     fn text<W: Sink>(&self, out: &mut Tree<W>) {
         match self {
             CompositeType::Func(ty) => ty.text(out),
@@ -141,17 +191,33 @@ impl Text for CompositeType {
     }
 }
 
+// How the text of a type begins.
+fn sub_start(is_final: bool) -> &'static str
+    ensures word { result.now ≡ start_of_sub is_final }
+    ensures one_line { has_line_feed result.now ≡ false }
+{
+    if is_final { "(sub final " } else { "(sub " }
+}
+
+// Writes the index of the type that is extended, if there is one.
+fn write_supertype<W: Sink>(supertype: Option<u32>, out: &mut Tree<W>)
+    ensures adds { Adds out.old out.new }
+    ensures says { Says (supertype_text supertype) out.old out.new }
+{
+    if let Some(index) = supertype {
+        out.digits(u64::from(index));
+        out.text(" ");
+    }
+}
+
 impl Text for SubType {
+    ghost use Rattle.wasm_show.specs.TypeText.{sub_text};
+
+    ghost words = { sub_text };
+
     fn text<W: Sink>(&self, out: &mut Tree<W>) {
-        out.text(if self.is_final {
-            "(sub final "
-        } else {
-            "(sub "
-        });
-        if let Some(index) = self.supertype {
-            out.digits(u64::from(index));
-            out.text(" ");
-        }
+        out.text(sub_start(self.is_final));
+        write_supertype(self.supertype, out);
         self.composite.text(out);
         out.text(")");
     }
@@ -159,10 +225,33 @@ impl Text for SubType {
 
 // Writes a type as a field of an item.
 fn show_type<T: Text, W: Sink>(name: &str, ty: &T, out: &mut Tree<W>)
-    ensures { Adds out.old out.new }
+    ensures adds { Adds out.old out.new }
+    ensures says { has_line_feed name.now ≡ false
+        → Says (field_text (named name.now (word (T.words ty.now)))) out.old out.new }
 {
     out.field(name);
     ty.text(out);
+}
+
+// Writes the type of what may be mutable as a field of an item.
+fn show_mutable<W: Sink>(name: &str, mutable: bool, ty: &ValType, out: &mut Tree<W>)
+    ensures adds { Adds out.old out.new }
+    ensures says { has_line_feed name.now ≡ false
+        → Says (field_text (named name.now (word (mutable_text mutable (val_text ty.now)))))
+        out.old out.new }
+{
+    out.field(name);
+    write_mutable(mutable, ty, out);
+}
+
+/// The same number in more bits.
+pub(crate) fn wide(number: Option<u32>) -> Option<u64>
+    ensures { result ≡ number }
+{
+    match number {
+        Some(number) => Some(u64::from(number)),
+        None => None,
+    }
 }
 
 impl Show for HeapType {
@@ -184,7 +273,10 @@ impl Show for ValType {
 }
 
 impl Show for TableType {
-    fn show<W: Sink>(&self, _level: usize, out: &mut Tree<W>) {
+    fn show<W: Sink>(&self, _level: usize, out: &mut Tree<W>)
+        ensures adds { Adds out.old out.new }
+        ensures says { SaysFields (table_fields self.now) out.old out.new }
+    {
         show_type("element_type", &self.element_type, out);
         out.flag("table64", self.table64);
         out.number("initial", self.initial);
@@ -194,30 +286,37 @@ impl Show for TableType {
 }
 
 impl Show for MemoryType {
-    fn show<W: Sink>(&self, _level: usize, out: &mut Tree<W>) {
+    fn show<W: Sink>(&self, _level: usize, out: &mut Tree<W>)
+        ensures adds { Adds out.old out.new }
+        ensures says { SaysFields (memory_fields self.now) out.old out.new }
+    {
         out.flag("memory64", self.memory64);
         out.flag("shared", self.shared);
         out.number("initial", self.initial);
         out.number_if_any("maximum", self.maximum);
-        out.number_if_any("page_size_log2", self.page_size_log2.map(u64::from));
+        out.number_if_any("page_size_log2", wide(self.page_size_log2));
     }
 }
 
 impl Show for GlobalType {
-    fn show<W: Sink>(&self, _level: usize, out: &mut Tree<W>) {
-        out.field("content_type");
-        write_mutable(self.mutable, &self.content_type, out);
+    fn show<W: Sink>(&self, _level: usize, out: &mut Tree<W>)
+        ensures adds { Adds out.old out.new }
+        ensures says { SaysFields (global_type_fields self.now) out.old out.new }
+    {
+        show_mutable("content_type", self.mutable, &self.content_type, out);
         out.flag("shared", self.shared);
     }
 }
 
 impl Show for TagType {
-    fn show<W: Sink>(&self, _level: usize, out: &mut Tree<W>) {
+    fn show<W: Sink>(&self, _level: usize, out: &mut Tree<W>)
+        ensures adds { Adds out.old out.new }
+        ensures says { SaysFields (tag_fields self.now) out.old out.new }
+    {
         match self.kind {
             TagKind::Exception => {}
         }
-        out.field("kind");
-        out.text("exception");
+        out.word_field("kind", "exception");
         out.number("func_type_idx", u64::from(self.func_type_idx));
     }
 }

@@ -4,8 +4,9 @@ use Rattle.wasm_base.specs.Window.{place}
 use Rattle.wasm_items.specs.Flattened.{flattened}
 use Rattle.wasm_show.specs.Numbers.{Found, import_numbers}
 use Rattle.wasm_show.specs.declared.numbers.Counts.{Counts}
-use Rattle.wasm_show.proofs.Numbering.{AddsAllBut, none_shown, import_shown}
+use Rattle.wasm_show.proofs.Numbering.{AddsAllBut, none_shown, import_shown, all_shown, goes_on}
 use Rattle.wasm_show.proofs.numbered.show_imports.Goals as goal
+use Rattle.wasm_show.proofs.numbered.show_imports.Goals.{in-None, in-Some+then-has_stopped}
 
 pub loop-import-init : goal.loop-import-init
 loop-import-init g c =
@@ -31,3 +32,11 @@ loop-import-preserved g c =
           (import_shown all c.loop-import.before _ _ _ _ _ _ c.loop-import.invariant.left c.in-Some.ensures.steps
           c.show_import.ensures.shows);
     }
+
+pub returns-clause-all : goal.returns-clause-all
+returns-clause-all g c none =
+    let all = import_numbers c.args.counts.now (flattened c.args.section.now.count (place c.args.section.now.reader)) in
+    elim c.match-next.branch [
+      | in-None w ↦ all_shown all c.loop-import.before _ _ _ _ c.loop-import.invariant.left w.in-None.ensures.steps
+      | in-Some+then-has_stopped w ↦ goes_on c.loop-import.out.why w.has_stopped.result none w.has_stopped.ensures w.if-has_stopped.true
+    ]

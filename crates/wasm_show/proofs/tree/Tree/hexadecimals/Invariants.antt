@@ -1,5 +1,13 @@
+use Rattle.std.proofs.Common.{take}
+use Rattle.std.specs.List.{flat_map}
+use Rattle.wasm_show.specs.Fields.{hexadecimal}
+use Rattle.wasm_show.specs.Said.{Says, SaysSome}
 use Rattle.wasm_show.specs.Tree.{Origin, IsWritten}
 use Rattle.wasm_show.proofs.tree.Tree.hexadecimals.Given as goal
 
 abbrev pub invariant-loop-byte : goal.invariant-loop-byte
-invariant-loop-byte g l = (o : Origin) → IsWritten o l.initial.self → IsWritten o l.self
+invariant-loop-byte g l = record {
+  adds : (o : Origin) → IsWritten o l.initial.self → IsWritten o l.self;
+  some : SaysSome l.initial.self l.self;
+  says : Says (flat_map hexadecimal (take l.byte-index l.bytes)) l.initial.self l.self;
+}

@@ -1,5 +1,0 @@
-use Rattle.wasm_show.specs.Tree.{Origin, IsWritten}
-use Rattle.wasm_show.proofs.expressions.show_expr.Given as goal
-
-abbrev pub invariant-loop : goal.invariant-loop
-invariant-loop g l = (o : Origin) → IsWritten o l.initial.out → IsWritten o l.out

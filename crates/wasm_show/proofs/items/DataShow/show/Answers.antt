@@ -1,0 +1,16 @@
+use Rattle.std.proofs.Common.{◌∷◌, [], List, ℕ, codes, refl, subst}
+use Rattle.wasm_show.specs.Fields.{named, raw, range}
+use Rattle.wasm_show.specs.ItemText.{data_kind_fields}
+use Rattle.wasm_show.specs.Said.{HasLine}
+use Rattle.wasm_show.proofs.Saying.{more_fields}
+use Rattle.wasm_show.proofs.items.DataShow.show.Goals as goal
+
+pub returns-clause-says : goal.returns-clause-says
+returns-clause-says g c since before h =
+    let d = c.args.self.now in
+    let kind = c.show_data_kind.ensures.says since before h in (
+      kind.0,
+      subst (λ (t : List ℕ). HasLine since t c.range.new.self) (more_fields before (data_kind_fields d.kind kind.0)
+          (named (codes "data") (raw d.bytes.now) ∷ named (codes "range") (range d.range.start d.range.end) ∷ []))
+          (c.range.ensures.says refl since _ (c.raw.ensures.says refl since _ kind.1)),
+    )

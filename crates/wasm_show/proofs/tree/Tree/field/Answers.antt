@@ -1,0 +1,7 @@
+use Rattle.std.proofs.Common.{codes, refl, ◌++◌}
+use Rattle.wasm_show.proofs.Saying.{says_then}
+use Rattle.wasm_show.proofs.tree.Tree.field.Goals as goal
+
+pub returns-clause-says : goal.returns-clause-says
+returns-clause-says g c none =
+    says_then (codes " " ++ c.args.name.now) (codes "=") _ _ _ (c.word.ensures.says none) (c.text.ensures.says refl)

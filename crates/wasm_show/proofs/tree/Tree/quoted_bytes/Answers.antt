@@ -1,0 +1,22 @@
+use Rattle.std.proofs.Common.{◌≡◌, ℕ, arith, length, rules, subst, take}
+use Rattle.std.specs.List.{flat_map}
+use Rattle.wasm_show.specs.Said.{Says}
+use Rattle.wasm_show.specs.Fields.{quoted_byte}
+use Rattle.wasm_show.proofs.Saying.{says_nothing, says_one_more, says_all}
+use Rattle.wasm_show.proofs.tree.Tree.quoted_bytes.Goals as goal
+
+pub loop-byte-init : goal.loop-byte-init
+loop-byte-init g c = record { adds = search rules; says = says_nothing _ }
+
+pub loop-byte-preserved : goal.loop-byte-preserved
+loop-byte-preserved g c = record {
+  adds = search rules;
+  says = says_one_more quoted_byte c.args.bytes.now _ 0 _ _ _ c.loop-byte-test.true c.loop-byte.invariant.says c.quoted_byte.ensures.says;
+}
+
+pub returns-clause-says : goal.returns-clause-says
+returns-clause-says g c =
+    let bytes = c.args.bytes.now in
+    let at_end : c.loop-byte.byte-index ≡ length bytes = omega arith in
+    says_all quoted_byte bytes _ _
+    (subst (λ (i : ℕ). Says (flat_map quoted_byte (take i bytes)) c.args.self.now c.loop-byte.self) at_end c.loop-byte.invariant.says)

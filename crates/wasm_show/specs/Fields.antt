@@ -1,0 +1,68 @@
+-- The text of an item's line, field by field.
+use Rattle.std.specs.Prelude.{ℕ, ◌/◌, ◌%◌, Bool, true, false, List, [], ◌∷◌, ◌++◌, codes, decimal, length, take}
+use Rattle.std.specs.Prelude.{slice_index, ◌||◌, nat_lt, nat_eq, if◌then◌else◌, Option, Some, None, ℤ}
+use Rattle.std.specs.Fmt.{signed_decimal}
+use Rattle.std.specs.List.{flat_map}
+
+-- what a field may say
+pub data Value : Type 0 where
+  -- a number, and one with a sign
+  number : ℕ → Value
+  signed : ℤ → Value
+  -- a text in quotes
+  quoted : List ℕ → Value
+  -- what stands as it is: `true`, the word of a kind, a type
+  word : List ℕ → Value
+  -- from one offset to another
+  range : (start end : ℕ) → Value
+  -- bytes that are no text
+  raw : List ℕ → Value
+
+-- a field with its name, or a word that has none
+pub data Field : Type 0 where
+  named : (name : List ℕ) → Value → Field
+  alone : List ℕ → Field
+
+-- two hexadecimal digits
+abbrev pub hexadecimal : ℕ → List ℕ
+hexadecimal byte =
+    slice_index (codes "0123456789abcdef") (byte / 16) ∷ slice_index (codes "0123456789abcdef") (byte % 16) ∷ []
+
+-- whether a byte of a text in quotes is written by its digits: a quote, a backslash, and all outside 32 to 126
+abbrev pub is_escaped : ℕ → Bool
+is_escaped byte = nat_lt byte 32 || nat_lt 126 byte || nat_eq byte 34 || nat_eq byte 92
+
+abbrev pub quoted_byte : ℕ → List ℕ
+quoted_byte byte = if is_escaped byte then 92 ∷ hexadecimal byte else byte ∷ []
+
+-- Raw bytes are their count and the first 16.
+abbrev pub value_text : Value → List ℕ
+value_text (number n) = decimal n
+value_text (signed z) = signed_decimal z
+value_text (quoted text) = codes "\"" ++ (flat_map quoted_byte text ++ codes "\"")
+value_text (word text) = text
+value_text (range start end) = decimal start ++ (codes ".." ++ decimal end)
+value_text (raw bytes) = decimal (length bytes) ++ (codes ":" ++ flat_map hexadecimal (take 16 bytes))
+
+-- what comes before the value of a field
+abbrev pub field_start : (name : List ℕ) → List ℕ
+field_start name = codes " " ++ (name ++ codes "=")
+
+abbrev pub field_text : Field → List ℕ
+field_text (named name value) = codes " " ++ (name ++ (codes "=" ++ value_text value))
+field_text (alone text) = codes " " ++ text
+
+-- a text with these fields after it
+abbrev pub with_fields : (before : List ℕ) → List Field → List ℕ
+with_fields before [] = before
+with_fields before (f ∷ later) = with_fields (before ++ field_text f) later
+
+-- ---- values
+
+abbrev pub flag : Bool → Value
+flag true = word (codes "true")
+flag false = word (codes "false")
+
+abbrev pub number_if_any : Option ℕ → Value
+number_if_any (Some n) = number n
+number_if_any None = word (codes "none")
