@@ -4,7 +4,7 @@ use Rattle.std.proofs.Common.{sym}
 use Rattle.std.proofs.Common.{◌∷◌, ◌^◌, ap, subst, subst₂, ◌∙◌, append-nil, length, inl, inr, arith}
 use Rattle.std.specs.Io.KnownBytes.{Appends, Consumes}
 use Rattle.std.proofs.KnownBytes.{Appends-nil, Consumes-nil, Consumes-trans, Consumes-kept}
-use Rattle.wasm_feed.specs.Calls.{from_to}
+use Rattle.wasm_feed.specs.Calls.{Change, from_to}
 use Rattle.wasm_feed.specs.Feed.{Feed, new_feed}
 use Rattle.wasm_feed.specs.Lists.{IsBeginning, Fills, Refills, input_failed}
 use Rattle.wasm_feed.specs.FeedersLaws.{IsAlong}
@@ -31,7 +31,7 @@ use Rattle.wasm_feed.proofs.ForCallers as progress
 use Rattle.wasm_show.specs.Chosen.{chosen_line}
 use Rattle.wasm_show.specs.Numbers.{Number, after, after_all, no_counts}
 use Rattle.wasm_show.specs.declared.numbers.Counts.{Counts}
-use Rattle.wasm_show.proofs.Numbering.{all_more, events_more, end_none}
+use Rattle.wasm_show.proofs.Numbering.{all_more, events_begin, events_more, end_none}
 use Rattle.wasm_show.specs.Dump.{AreOf, AreOfEvents, AreOfSource}
 use Rattle.wasm_show.specs.Dump.{WritesWhole, WritesSome, AreOfAnswer, after_answer, ShowsStep, origin, DumpsFrom}
 use Rattle.wasm_show.specs.Tree as Tree
@@ -40,9 +40,10 @@ use Rattle.wasm_show.specs.declared.only.Only.{Only}
 use Rattle.wasm_show.proofs.Writing.{as_going, as_short}
 use Rattle.wasm_base.specs.Features.{all_features}
 
--- what was written with these events, and their numbers
-abbrev pub WrittenWith : List Only → List Event → (taken : Option (List ℕ)) (failed : Bool) (outline : List ℕ) → Writing → Type 0
-WrittenWith only events taken failed outline now = (numbers : List Number) × AreOfEvents only no_counts events numbers
+-- what was written with these events, and their numbers, where the tree has not stopped
+abbrev pub WrittenWith : (why : Option ListError) → List Only → List Event → (taken : Option (List ℕ)) (failed : Bool) (outline : List ℕ)
+    → Writing → Type 0
+WrittenWith why only events taken failed outline now = (numbers : List Number) × AreOfEvents why only no_counts events numbers
     × IsWritten (origin taken failed outline numbers) now
 
 -- where the feeder is along what the source gave, and what is counted of its events
@@ -60,7 +61,7 @@ pub record Dumping (only : List Only) (full rest : Option (List ℕ)) (before : 
   pub listing : Progress (chosen_line only) (from_to full rest) (from_to (Some []) (Some outline)) f []
   pub counting : Counting full rest f c
   pub writing : (taken : Option (List ℕ)) (failed : Bool) → IsWritten (origin taken failed [] []) before
-      → WrittenWith only counting.events taken failed outline now
+      → WrittenWith None only counting.events taken failed outline now
 
 -- the same where the feeder is asked for more
 pub record Wanting (only : List Only) (full rest : Option (List ℕ)) (before : Writing) (f : Feed) (c : Counts) (now : Writing) :
@@ -69,7 +70,7 @@ pub record Wanting (only : List Only) (full rest : Option (List ℕ)) (before : 
   pub listing : Wants (chosen_line only) (from_to full rest) (from_to (Some []) (Some outline)) f []
   pub counting : Counting full rest f c
   pub writing : (taken : Option (List ℕ)) (failed : Bool) → IsWritten (origin taken failed [] []) before
-      → WrittenWith only counting.events taken failed outline now
+      → WrittenWith None only counting.events taken failed outline now
 
 -- nothing came
 abbrev counts_nothing : (full : Option (List ℕ)) → Counting full full (new_feed 0 all_features) no_counts
@@ -92,9 +93,10 @@ starts only full w = record {
 -- ---- what is counted
 
 -- the numbers of what the source gave
-numbers_at : (only : List Only) (full rest : Option (List ℕ)) (f : Feed) (c : Counts) (k : Counting full rest f c) (numbers : List Number)
-    → AreOfEvents only no_counts k.events numbers → AreOfSource only (from_to full rest) numbers
-numbers_at only full rest f c k numbers a = record {
+numbers_at : (why : Option ListError) (only : List Only) (full rest : Option (List ℕ)) (f : Feed) (c : Counts)
+    (k : Counting full rest f c) (numbers : List Number)
+    → AreOfEvents why only no_counts k.events numbers → AreOfSource why only (from_to full rest) numbers
+numbers_at why only full rest f c k numbers a = record {
   given = k.given;
   events = k.events;
   gave = k.gave;
@@ -103,10 +105,11 @@ numbers_at only full rest f c k numbers a = record {
 }
 
 -- where more bytes came that were not pushed
-numbers_after : (only : List Only) (full rest rest' : Option (List ℕ)) (f : Feed) (c : Counts) (k : Counting full rest f c) (piece : List ℕ)
-    → Consumes rest rest' piece → (numbers : List Number) → AreOfEvents only no_counts k.events numbers
-    → AreOfSource only (from_to full rest') numbers
-numbers_after only full rest rest' f c k piece more numbers a = record {
+numbers_after : (why : Option ListError) (only : List Only) (full rest rest' : Option (List ℕ)) (f : Feed) (c : Counts)
+    (k : Counting full rest f c) (piece : List ℕ)
+    → Consumes rest rest' piece → (numbers : List Number) → AreOfEvents why only no_counts k.events numbers
+    → AreOfSource why only (from_to full rest') numbers
+numbers_after why only full rest rest' f c k piece more numbers a = record {
   given = k.given ++ piece;
   events = k.events;
   gave = Consumes-trans full rest rest' k.given piece k.gave more;
@@ -134,8 +137,8 @@ module _ (only : List Only) (full rest : Option (List ℕ)) (f : Feed) (c : Coun
   -- what is counted after a step that goes on
   counted_on : (x : Result Step Error) → turn.Advance ≡ turn_after x → Steps f x g
       → (k' : Counting full rest g (after_answer c x))
-      × ((numbers shown : List Number) → AreOfEvents only no_counts k.events numbers → AreOfAnswer only c x shown
-      → AreOfEvents only no_counts k'.events (numbers ++ shown))
+      × ((why : Option ListError) (numbers shown : List Number) → AreOfEvents why only no_counts k.events numbers
+      → AreOfAnswer why only c x shown → AreOfEvents why only no_counts k'.events (numbers ++ shown))
   counted_on (Ok (NeedMoreData hint)) t s = cc
   counted_on (Err e) t s = cc
   counted_on (Ok (Parsed bytes payload)) t s =
@@ -148,8 +151,8 @@ module _ (only : List Only) (full rest : Option (List ℕ)) (f : Feed) (c : Coun
           counted = ap (λ (r : Report). after c r) same ∙ (ap (λ (d : Counts). after d e.report) k.counted
               ∙ sym (all_more no_counts k.events e));
         },
-        λ numbers shown a b. events_more only no_counts k.events numbers e shown a
-            (subst₂ (λ (d : Counts) (r : Report). AreOf only d r shown) k.counted same b),
+        λ why numbers shown a b. events_more why only no_counts k.events numbers e shown a
+            (subst₂ (λ (d : Counts) (r : Report). AreOf why only d r shown) k.counted same b),
       )
     where
       goes_on : (b : Bool) → turn.Advance ≡ (if b then turn.End End else turn.Advance) → b ≡ false
@@ -159,8 +162,8 @@ module _ (only : List Only) (full rest : Option (List ℕ)) (f : Feed) (c : Coun
   -- after a request
   counted_still : (x : Result Step Error) → turn.Read ≡ turn_after x → Steps f x g
       → (k' : Counting full rest g (after_answer c x))
-      × ((numbers shown : List Number) → AreOfEvents only no_counts k.events numbers → AreOfAnswer only c x shown
-      → AreOfEvents only no_counts k'.events (numbers ++ shown))
+      × ((why : Option ListError) (numbers shown : List Number) → AreOfEvents why only no_counts k.events numbers
+      → AreOfAnswer why only c x shown → AreOfEvents why only no_counts k'.events (numbers ++ shown))
   counted_still (Ok (NeedMoreData hint)) t s = (
     record {
       given = k.given;
@@ -170,7 +173,7 @@ module _ (only : List Only) (full rest : Option (List ℕ)) (f : Feed) (c : Coun
           (omega (arith, below (NeedMoreData hint) s)) s).1;
       counted = k.counted;
     },
-    λ numbers shown a b. subst (AreOfEvents only no_counts k.events)
+    λ why numbers shown a b. subst (AreOfEvents why only no_counts k.events)
         (sym (ap (λ (y : List Number). numbers ++ y) b ∙ append-nil numbers)) a,
   )
   counted_still (Err e) t s = cc
@@ -181,19 +184,21 @@ module _ (only : List Only) (full rest : Option (List ℕ)) (f : Feed) (c : Coun
       by_end false e = cc
 
   -- at an end
-  counted_last : (x : Result Step Error) (how : Ended) → turn.End how ≡ turn_after x → (numbers shown : List Number)
-      → AreOfEvents only no_counts k.events numbers → AreOfAnswer only c x shown → AreOfEvents only no_counts k.events (numbers ++ shown)
-  counted_last x how t numbers shown a b = subst (AreOfEvents only no_counts k.events)
+  counted_last : (x : Result Step Error) (how : Ended) → turn.End how ≡ turn_after x
+      → (why : Option ListError) (numbers shown : List Number)
+      → AreOfEvents why only no_counts k.events numbers → AreOfAnswer why only c x shown
+      → AreOfEvents why only no_counts k.events (numbers ++ shown)
+  counted_last x how t why numbers shown a b = subst (AreOfEvents why only no_counts k.events)
       (sym (ap (λ (y : List Number). numbers ++ y) (none x t b) ∙ append-nil numbers)) a
     where
       ends : (b : Bool) → turn.End how ≡ (if b then turn.End End else turn.Advance) → b ≡ true
       ends true e = refl
       ends false e = cc
 
-      none : (x : Result Step Error) → turn.End how ≡ turn_after x → AreOfAnswer only c x shown → shown ≡ []
+      none : (x : Result Step Error) → turn.End how ≡ turn_after x → AreOfAnswer why only c x shown → shown ≡ []
       none (Ok (NeedMoreData hint)) t b = b
       none (Err e) t b = b
-      none (Ok (Parsed bytes payload)) t b = end_none only c (report_of payload) shown (ends (is_end (report_of payload)) t) b
+      none (Ok (Parsed bytes payload)) t b = end_none why only c (report_of payload) shown (ends (is_end (report_of payload)) t) b
 
 -- ---- what was written, at an end
 
@@ -220,10 +225,28 @@ whole o w going out i =
 some_of : (o : Origin) (w : Writing) → WritesWhole o.taken w.taken o.outline o.numbers → WritesSome o.taken w.taken o.outline o.numbers
 some_of o w s = record { text = s.text; unwritten = []; outlined = rw (append-nil s.text) s.outlined; wrote = s.wrote }
 
+-- where the tree has stopped, some may be missing
+source_begins : (why : Option ListError) (stop : ListError) (only : List Only) (input : Change) (numbers : List Number)
+    → AreOfSource why only input numbers → AreOfSource (Some stop) only input numbers
+source_begins why stop only input numbers a = record {
+  given = a.given;
+  events = a.events;
+  gave = a.gave;
+  begins = a.begins;
+  are_of = events_begin why stop only no_counts a.events numbers a.are_of;
+}
+
+-- those where it goes on are such in any case
+events_are : (why : Option ListError) (only : List Only) (c : Counts) (events : List Event) (numbers : List Number)
+    → AreOfEvents None only c events numbers → AreOfEvents why only c events numbers
+events_are None only c events numbers a = a
+events_are (Some why) only c events numbers a = events_begin None why only c events numbers a
+
 -- a dump that was cut short, or whose input failed
 cut_off : (only : List Only) (full rest : Option (List ℕ)) (had has : Bool) → has ≡ had
     → (taken : Option (List ℕ)) (failed : Bool) (outline : List ℕ) (numbers : List Number) (why : ListError) (w : Writing)
-    → IsBeginning (chosen_line only) (from_to full rest) (from_to (Some []) (Some outline)) → AreOfSource only (from_to full rest) numbers
+    → IsBeginning (chosen_line only) (from_to full rest) (from_to (Some []) (Some outline))
+    → AreOfSource (Some why) only (from_to full rest) numbers
     → IsCutShort (origin taken failed outline numbers) why w → DumpsFrom only
     (record { before = full; after = rest; had_failed = had; has_failed = has }) taken failed (Err why) w
 cut_off only full rest had has h taken failed outline numbers Output w b n c = record {
@@ -254,7 +277,8 @@ cut_off only full rest had has h taken failed outline numbers Input w b n c = ab
 
 -- the same counts
 abbrev as_counted : (full rest : Option (List ℕ)) (f : Feed) (c d : Counts) → c ≡ d → Counting full rest f c → Counting full rest f d
-as_counted full rest f c d e k = record { given = k.given; events = k.events; gave = k.gave; along = k.along; counted = sym e ∙ k.counted }
+as_counted full rest f c d e k =
+    record { given = k.given; events = k.events; gave = k.gave; along = k.along; counted = sym e ∙ k.counted }
 
 -- more is read only where it was asked for
 reads_where_asked : (x : Result Step Error) → turn.Read ≡ turn_after x → is_request x ≡ true
@@ -277,43 +301,58 @@ module _ (only : List Only) (full rest : Option (List ℕ)) (before : Writing) (
   line = text_after (chosen_line only) s.answer
 
   -- what was written, with the numbers of events that go on as these by what is shown
-  written : (events : List Event) → ((numbers shown : List Number) → AreOfEvents only no_counts d.counting.events numbers
-      → AreOfAnswer only c s.answer shown → AreOfEvents only no_counts events (numbers ++ shown))
+  written : (events : List Event) → ((why : Option ListError) (numbers shown : List Number)
+      → AreOfEvents why only no_counts d.counting.events numbers → AreOfAnswer why only c s.answer shown
+      → AreOfEvents why only no_counts events (numbers ++ shown))
       → (taken : Option (List ℕ)) (failed : Bool) → IsWritten (origin taken failed [] []) before
-      → WrittenWith only events taken failed (d.outline ++ text_after (chosen_line only) s.answer) new
+      → WrittenWith new.why only events taken failed (d.outline ++ text_after (chosen_line only) s.answer) new
   written events more taken failed i =
       let (numbers, are, going) = d.writing taken failed i in
       let (shown, of, after) = s.shows (origin taken failed d.outline numbers) going in
-      (numbers ++ shown, more numbers shown are of, after)
+      (numbers ++ shown, more new.why numbers shown (events_are new.why only no_counts d.counting.events numbers are) of, after)
 
-  put : PutsBytes (Some d.outline) (Some (d.outline ++ text_after (chosen_line only) s.answer)) [] (text_after (chosen_line only) s.answer)
+  put : PutsBytes (Some d.outline) (Some (d.outline ++ text_after (chosen_line only) s.answer)) []
+      (text_after (chosen_line only) s.answer)
       []
   put = puts d.outline (text_after (chosen_line only) s.answer)
 
-  pub advanced : next ≡ turn.Advance → Dumping only full rest before g c' new × (weight g < weight f)
-  advanced t =
-      let (listing, less) = progress.advanced (chosen_line only) full rest (Some []) (Some d.outline) f [] d.listing g s.answer s.steps _ _
+  -- the same, where the tree goes on
+  going_on : new.why ≡ None → (events : List Event) → ((why : Option ListError) (numbers shown : List Number)
+      → AreOfEvents why only no_counts d.counting.events numbers → AreOfAnswer why only c s.answer shown
+      → AreOfEvents why only no_counts events (numbers ++ shown))
+      → (taken : Option (List ℕ)) (failed : Bool) → IsWritten (origin taken failed [] []) before
+      → WrittenWith None only events taken failed (d.outline ++ text_after (chosen_line only) s.answer) new
+  going_on going events more taken failed i =
+      subst (λ (why : Option ListError). WrittenWith why only events taken failed (d.outline ++ text_after (chosen_line only) s.answer)
+      new)
+      going (written events more taken failed i)
+
+  pub advanced : new.why ≡ None → next ≡ turn.Advance → Dumping only full rest before g c' new × (weight g < weight f)
+  advanced going t =
+      let (listing, less) =
+      progress.advanced (chosen_line only) full rest (Some []) (Some d.outline) f [] d.listing g s.answer s.steps _ _
       put (sym t ∙ s.turns) in
       let (k, more) = counted_on only full rest f c d.counting g s.answer (sym t ∙ s.turns) s.steps in (
         record {
           outline = d.outline ++ text_after (chosen_line only) s.answer;
           listing = listing;
           counting = as_counted full rest g (after_answer c s.answer) c' (sym s.counted) k;
-          writing = written k.events more;
+          writing = going_on going k.events more;
         },
         less,
       )
 
-  pub asked : next ≡ turn.Read → Wanting only full rest before g c' new × (weight g ≡ weight f)
-  asked t =
-      let (listing, same) = progress.asked (chosen_line only) full rest (Some []) (Some d.outline) f [] d.listing g s.answer s.steps _ _ put
+  pub asked : new.why ≡ None → next ≡ turn.Read → Wanting only full rest before g c' new × (weight g ≡ weight f)
+  asked going t =
+      let (listing, same) =
+      progress.asked (chosen_line only) full rest (Some []) (Some d.outline) f [] d.listing g s.answer s.steps _ _ put
       (sym t ∙ s.turns) in
       let (k, more) = counted_still only full rest f c d.counting g s.answer (sym t ∙ s.turns) s.steps in (
         record {
           outline = d.outline ++ text_after (chosen_line only) s.answer;
           listing = listing;
           counting = as_counted full rest g (after_answer c s.answer) c' (sym s.counted) k;
-          writing = written k.events more;
+          writing = going_on going k.events more;
         },
         same,
       )
@@ -328,7 +367,8 @@ module _ (only : List Only) (full rest : Option (List ℕ)) (before : Writing) (
   begins : (t : Turn) → next ≡ t → IsBeginning (chosen_line only) (from_to full rest)
       (from_to (Some []) (Some (d.outline ++ text_after (chosen_line only) s.answer)))
   begins turn.Advance t =
-      let (listing, less) = progress.advanced (chosen_line only) full rest (Some []) (Some d.outline) f [] d.listing g s.answer s.steps _ _
+      let (listing, less) =
+      progress.advanced (chosen_line only) full rest (Some []) (Some d.outline) f [] d.listing g s.answer s.steps _ _
       put (sym t ∙ s.turns) in
       progress.cut (chosen_line only) full rest (Some []) (Some (d.outline ++ text_after (chosen_line only) s.answer)) g [] listing
       (Some (d.outline ++ text_after (chosen_line only) s.answer)) Output
@@ -345,20 +385,20 @@ module _ (only : List Only) (full rest : Option (List ℕ)) (before : Writing) (
 
   -- what was written, with the numbers of what the source gave
   all_written : (t : Turn) → next ≡ t → (taken : Option (List ℕ)) (failed : Bool) → IsWritten (origin taken failed [] []) before
-      → (numbers : List Number) × AreOfSource only (from_to full rest) numbers
+      → (numbers : List Number) × AreOfSource new.why only (from_to full rest) numbers
       × IsWritten (origin taken failed (d.outline ++ text_after (chosen_line only) s.answer) numbers) new
   all_written turn.Advance t taken failed i =
       let (k, more) = counted_on only full rest f c d.counting g s.answer (sym t ∙ s.turns) s.steps in
       let (numbers, are, going) = written k.events more taken failed i in
-      (numbers, numbers_at only full rest g (after_answer c s.answer) k numbers are, going)
+      (numbers, numbers_at new.why only full rest g (after_answer c s.answer) k numbers are, going)
   all_written turn.Read t taken failed i =
       let (k, more) = counted_still only full rest f c d.counting g s.answer (sym t ∙ s.turns) s.steps in
       let (numbers, are, going) = written k.events more taken failed i in
-      (numbers, numbers_at only full rest g (after_answer c s.answer) k numbers are, going)
+      (numbers, numbers_at new.why only full rest g (after_answer c s.answer) k numbers are, going)
   all_written (turn.End how) t taken failed i =
       let last = counted_last only full rest f c d.counting g s.answer how (sym t ∙ s.turns) in
       let (numbers, are, going) = written d.counting.events last taken failed i in
-      (numbers, numbers_at only full rest f c d.counting numbers are, going)
+      (numbers, numbers_at new.why only full rest f c d.counting numbers are, going)
 
   -- the tree has stopped
   pub stopped : (had has : Bool) → has ≡ had → (why : ListError) → new.why ≡ Some why → (taken : Option (List ℕ)) (failed : Bool)
@@ -366,7 +406,8 @@ module _ (only : List Only) (full rest : Option (List ℕ)) (before : Writing) (
       → DumpsFrom only (record { before = full; after = rest; had_failed = had; has_failed = has }) taken failed (Err why) new
   stopped had has h why w taken failed i =
       let (numbers, are, going) = all_written next refl taken failed i in
-      cut_off only full rest had has h taken failed _ numbers why new (begins next refl) are (as_short _ new why w going)
+      cut_off only full rest had has h taken failed _ numbers why new (begins next refl)
+      (source_begins new.why why only _ numbers are) (as_short _ new why w going)
 
   -- it has after all was to be written
   pub stopped_at_last : (had has : Bool) → has ≡ had → (last : Writing) (why : ListError) → Adds new last → last.why ≡ Some why
@@ -374,13 +415,15 @@ module _ (only : List Only) (full rest : Option (List ℕ)) (before : Writing) (
       → DumpsFrom only (record { before = full; after = rest; had_failed = had; has_failed = has }) taken failed (Err why) last
   stopped_at_last had has h last why a w taken failed i =
       let (numbers, are, going) = all_written next refl taken failed i in
-      cut_off only full rest had has h taken failed _ numbers why last (begins next refl) are (as_short _ last why w (a _ going))
+      cut_off only full rest had has h taken failed _ numbers why last (begins next refl)
+      (source_begins new.why why only _ numbers are) (as_short _ last why w (a _ going))
 
   -- all is written
-  pub ended : (had has : Bool) → has ≡ had → (how : Ended) (last : Writing) → next ≡ turn.End how → Adds new last → IsOut last → last.why
+  pub ended : (had has : Bool) → has ≡ had → new.why ≡ None → (how : Ended) (last : Writing) → next ≡ turn.End how → Adds new last
+      → IsOut last → last.why
       ≡ None → (taken : Option (List ℕ)) (failed : Bool) → IsWritten (origin taken failed [] []) before
       → DumpsFrom only (record { before = full; after = rest; had_failed = had; has_failed = has }) taken failed (Ok how) last
-  ended had has h how last t a out going taken failed i =
+  ended had has h went how last t a out going taken failed i =
       let (numbers, are, wrote) = all_written next refl taken failed i in
       let o = origin taken failed (d.outline ++ text_after (chosen_line only) s.answer) numbers in
       let all = a o wrote in
@@ -388,10 +431,11 @@ module _ (only : List Only) (full rest : Option (List ℕ)) (before : Writing) (
         dumps = record {
           outline = d.outline ++ text_after (chosen_line only) s.answer;
           numbers = numbers;
-          lists = progress.listed_all (chosen_line only) full rest (Some []) (Some d.outline) f [] d.listing g s.answer s.steps _ _ put how
+          lists =
+              progress.listed_all (chosen_line only) full rest (Some []) (Some d.outline) f [] d.listing g s.answer s.steps _ _ put how
               (sym t ∙ s.turns) (Some (d.outline ++ text_after (chosen_line only) s.answer))
               (Appends-nil (Some (d.outline ++ text_after (chosen_line only) s.answer)));
-          counts = are;
+          counts = subst (λ (why : Option ListError). AreOfSource why only (from_to full rest) numbers) went are;
           writes = whole o last going out all;
         };
         source = h;
@@ -429,10 +473,10 @@ module _ (full rest : Option (List ℕ)) (f : Feed) (c : Counts) (k : Counting f
 module _ (only : List Only) (full rest : Option (List ℕ)) (before : Writing) (f : Feed) (c : Counts) (now last : Writing)
     (d : Wanting only full rest before f c now) (a : Adds now last) (out : IsOut last) (going : last.why ≡ None) where
   all : (events : List Event) → events ≡ d.counting.events → (taken : Option (List ℕ)) (failed : Bool)
-      → IsWritten (origin taken failed [] []) before → WrittenWith only events taken failed d.outline last
+      → IsWritten (origin taken failed [] []) before → WrittenWith None only events taken failed d.outline last
   all events same taken failed i =
       let (numbers, are, wrote) = d.writing taken failed i in
-      (numbers, subst (λ (es : List Event). AreOfEvents only no_counts es numbers) (sym same) are, a _ wrote)
+      (numbers, subst (λ (es : List Event). AreOfEvents None only no_counts es numbers) (sym same) are, a _ wrote)
 
   pub filled : (rest' : Option (List ℕ)) (g : Feed) → Refills rest rest' f g (Ok tt) → Dumping only full rest' before g c last
       × (weight g < weight f)
@@ -441,7 +485,8 @@ module _ (only : List Only) (full rest : Option (List ℕ)) (before : Writing) (
       let (k, same) = counted_filled full rest f c d.counting rest' g r in
       (record { outline = d.outline; listing = listing; counting = k; writing = all k.events same }, less)
 
-  pub not_filled : (had mid has : Bool) → mid ≡ had → (rest' : Option (List ℕ)) (g : Feed) (e : ListError) → Refills rest rest' f g (Err e)
+  pub not_filled : (had mid has : Bool) → mid ≡ had → (rest' : Option (List ℕ)) (g : Feed) (e : ListError)
+      → Refills rest rest' f g (Err e)
       → has ≡ input_failed {A = Unit {0}} (Err e) mid → (taken : Option (List ℕ)) (failed : Bool)
       → IsWritten (origin taken failed [] []) before
       → DumpsFrom only (record { before = full; after = rest'; had_failed = had; has_failed = has }) taken failed (Err e) last
@@ -454,7 +499,7 @@ module _ (only : List Only) (full rest : Option (List ℕ)) (before : Writing) (
           numbers = numbers;
           lists = progress.not_filled (chosen_line only) full rest (Some []) (Some d.outline) f d.listing
               rest' g Input r;
-          counts = numbers_at only full rest' f c (record {
+          counts = numbers_at None only full rest' f c (record {
             given = d.counting.given;
             events = d.counting.events;
             gave = Consumes-kept full rest rest' d.counting.given d.counting.gave r;
@@ -475,7 +520,8 @@ module _ (only : List Only) (full rest : Option (List ℕ)) (before : Writing) (
           numbers = numbers;
           lists = progress.not_filled (chosen_line only) full rest (Some []) (Some d.outline) f d.listing
               rest' g Memory r;
-          counts = numbers_after only full rest rest' f c d.counting r.0 r.1 numbers are;
+          counts = numbers_after (Some Memory) only full rest rest' f c d.counting r.0 r.1 numbers
+              (events_begin None Memory only no_counts d.counting.events numbers are);
           writes = some_of o last (whole o last going out wrote);
         };
         source = h ∙ m;
@@ -489,7 +535,8 @@ nothing_outlined : IsOutlined [] [] []
 nothing_outlined = record { lines = []; whole = refl; parts = refl; outlines = refl; numbered = refl }
 
 -- a writer that has written nothing
-pub fresh : (taken : Option (List ℕ)) (failed : Bool) (w : Writing) → w ≡ Tree.starts taken failed → IsWritten (origin taken failed [] []) w
+pub fresh : (taken : Option (List ℕ)) (failed : Bool) (w : Writing) → w ≡ Tree.starts taken failed
+    → IsWritten (origin taken failed [] []) w
 fresh taken failed w e = subst (IsWritten (origin taken failed [] [])) (sym e) (record {
   written = [];
   text = [];
@@ -507,14 +554,15 @@ fresh taken failed w e = subst (IsWritten (origin taken failed [] [])) (sym e) (
 pub no_room : (only : List Only) (full : Option (List ℕ)) (had : Bool) (taken : Option (List ℕ)) (failed : Bool) (w : Writing) → w
     ≡ Tree.starts taken failed
     → DumpsFrom only (record { before = full; after = full; had_failed = had; has_failed = had }) taken failed (Err Memory) w
-no_room only full had taken failed w e = subst (DumpsFrom only (record { before = full; after = full; had_failed = had; has_failed = had })
+no_room only full had taken failed w e =
+    subst (DumpsFrom only (record { before = full; after = full; had_failed = had; has_failed = had })
     taken failed (Err Memory)) (sym e) (record {
       dumps = record {
         outline = [];
         numbers = [];
         lists = progress.no_memory (chosen_line only) full full (Some []) (Some []) (new_feed 0 all_features) []
             (progress.begun (chosen_line only) full (Some [])) full [] (Consumes-nil full);
-        counts = numbers_at only full full (new_feed 0 all_features) no_counts (counts_nothing full) [] refl;
+        counts = numbers_at (Some Memory) only full full (new_feed 0 all_features) no_counts (counts_nothing full) [] refl;
         writes = record { text = []; unwritten = []; outlined = nothing_outlined; wrote = Appends-nil taken };
       };
       source = refl;

@@ -14,6 +14,12 @@ use Rattle.wasm_grammar.specs.Reading.{unknown_section, stream_end, Event}
 use Rattle.wasm_grammar.specs.Content.{Ending, fault, ended}
 use Rattle.wasm_base.specs.FaultAt.{fault_at}
 use Rattle.wasm_parser.specs.ParseAnswer.{report_of, is_end}
+use Rattle.wasm_parser.specs.declared.payload.Payload.{Payload}
+use Rattle.wasm_parser.specs.declared.payload.Payload.TheVariants.{Version, TypeSection, ImportSection, FunctionSection, TableSection}
+use Rattle.wasm_parser.specs.declared.payload.Payload.TheVariants.{MemorySection, TagSection, GlobalSection, ExportSection, StartSection}
+use Rattle.wasm_parser.specs.declared.payload.Payload.TheVariants.{ElementSection, DataCountSection, DataSection, CodeSectionStart}
+use Rattle.wasm_parser.specs.declared.payload.Payload.TheVariants.{CodeSectionEntry, CustomSection, UnknownSection}
+use Rattle.wasm_parser.specs.declared.payload.Payload.TheVariants as payloads
 use Rattle.wasm_feed.specs.Listing.{line_of}
 use Rattle.wasm_feed.specs.declared.feeder.Step.{Step}
 use Rattle.wasm_feed.specs.declared.feeder.Step.TheVariants.{NeedMoreData, Parsed}
@@ -24,14 +30,14 @@ use Rattle.wasm_items.specs.Flattened.{NextImport, found_at}
 use Rattle.wasm_items.specs.declared.imports.Import.{Import}
 use Rattle.wasm_show.specs.Numbers.{Number, Found, more, space_of, with_one, with_import, with_imports, import_number}
 use Rattle.wasm_show.specs.Numbers.{import_numbers}
-use Rattle.wasm_show.specs.Numbers.{numbers_from, imports_in, space_defined, AreNext, AreOfSection, AreOfItems}
+use Rattle.wasm_show.specs.Numbers.{numbers_from, imports_in, space_defined, AreShown, AreNext, AreOfSection, AreOfItems}
 use Rattle.wasm_show.specs.Numbers.{numbers_in_line, after, after_all}
 use Rattle.wasm_show.specs.Chosen.{is_chosen, shown_line, numbered_line}
 use Rattle.wasm_show.specs.Dump.{AreOfShown, AreOf, AreOfEvents, ShowsItems, ShowsReport, ShowsAnswer}
 use Rattle.wasm_show.specs.declared.only.Only.{Only}
 use Rattle.wasm_show.proofs.Lines.{line_is_first}
 use Rattle.wasm_show.specs.Tree.{Writing, Origin, IsWritten, with_line, with_numbers, Adds, AddsFirst, AddsThese, AddsNumber, AddsNumbers}
-use Rattle.wasm_show.specs.Tree.{AddsBeginning, AddsNext, AddsUpTo}
+use Rattle.wasm_show.specs.Tree.{AddsAll, AddsNext, AddsUpTo}
 use Rattle.wasm_show.specs.declared.numbers.Space.{Space}
 use Rattle.wasm_show.specs.declared.numbers.Counts.{Counts}
 
@@ -120,6 +126,12 @@ module _ (space : Space) (from : ℕ) (old : Writing) where
   pub up_to_next : (index : ℕ) (new : Writing) → AddsUpTo space from index old new → AddsNext space from old new
   up_to_next index new a o i = let (shown, held, going) = a o i in (shown, (held.0, held.1), going)
 
+-- where the writer has stopped, some of them may be missing
+all_begin : (why : Option ListError) (stop : ListError) (shown all : List Number) → AreShown why shown all
+    → AreShown (Some stop) shown all
+all_begin None stop shown all e = ([], sym e ∙ sym (append-nil shown))
+all_begin (Some why) stop shown all b = b
+
 -- ---- those of imports
 
 -- what is left of them, after those that were shown
@@ -141,50 +153,115 @@ import_shown all c s t x old mid new a n b o i =
       joined o shown one new (b (with_numbers o shown) going),
     )
 
-pub some_shown : (all left : List Number) (old new : Writing) → AddsAllBut all left old new → AddsBeginning all old new
-some_shown all left old new a o i = let (shown, held, going) = a o i in (shown, (left, held), going)
+-- a writer that has stopped may have shown some of them
+begin_shown : (why : Option ListError) (shown all left : List Number) → is_some why ≡ true → all ≡ shown ++ left → AreShown why shown all
+begin_shown None shown all left stopped held = cc
+begin_shown (Some why) shown all left stopped held = (left, held)
+
+pub some_shown : (all left : List Number) (old new : Writing) → is_some new.why ≡ true → AddsAllBut all left old new → AddsAll all old new
+some_shown all left old new stopped a o i =
+    let (shown, held, going) = a o i in
+    (shown, begin_shown new.why shown all left stopped held, going)
+
+-- all of them are such as are shown in any case
+all_are : (why : Option ListError) (shown all : List Number) → shown ≡ all → AreShown why shown all
+all_are None shown all e = e
+all_are (Some why) shown all e = all_begin None why shown all e
 
 -- none is left where no import comes next
 pub all_shown : (all : List Number) (c : Counts) (s t : List Found) (old new : Writing) → AddsAllBut all (import_numbers c s) old new
-    → NextImport {X = ℕ × Import} found_at s None t → AddsThese all old new
+    → NextImport {X = ℕ × Import} found_at s None t → AddsAll all old new
 all_shown all c s t old new a h o i =
     let (shown, held, going) = a o i in
     let whole : all ≡ shown = held ∙ (ap (λ (l : List Found). shown ++ import_numbers c l) h.0.0 ∙ append-nil shown) in
-    subst (λ (x : List Number). IsWritten (with_numbers o x) new) (sym whole) going
-
--- a writer that goes on hasn't stopped
-pub goes_on : {X : Type 0} (why : Option ListError) (stopped : Bool) → why ≡ None → stopped ≡ is_some why → stopped ≡ true → X
-goes_on why stopped none is t =
-    let no : true ≡ false = sym t ∙ (is ∙ ap (λ (x : Option ListError). is_some x) none) in
-    absurd (differ no)
-  where
-    differ : true ≡ false → ⊥
-    differ e = cc
+    (shown, all_are new.why shown all (sym whole), going)
 
 -- ---- those of what is reported
+
+section_begins : (why : Option ListError) (stop : ListError) (imports : Bool) (c : Counts) (id count : ℕ) (w : Window)
+    (shown : List Number)
+    → AreOfSection why imports c id count w shown → AreOfSection (Some stop) imports c id count w shown
+section_begins why stop true c id count w shown a = all_begin why stop shown (import_numbers c (imports_in count w)) a
+section_begins why stop false c id count w shown a = a
+
+items_begin : (why : Option ListError) (stop : ListError) (c : Counts) (r : Report) (shown : List Number) → AreOfItems why c r shown
+    → AreOfItems (Some stop) c r shown
+items_begin why stop c (counted id count window) shown a = section_begins why stop (nat_eq id import_id) c id count window shown a
+items_begin why stop c (version num encoding from to) shown a = a
+items_begin why stop c (start_section func from to) shown a = a
+items_begin why stop c (data_count_section count from to) shown a = a
+items_begin why stop c (code_start count from to size) shown a = a
+items_begin why stop c (code_entry window) shown a = a
+items_begin why stop c (custom_section name data_offset window) shown a = a
+items_begin why stop c (unknown_section id contents from to) shown a = a
+items_begin why stop c (stream_end end) shown a = a
+
+shown_begin : (why : Option ListError) (stop : ListError) (chosen : Bool) (c : Counts) (r : Report) (shown : List Number)
+    → AreOfShown why chosen c r shown → AreOfShown (Some stop) chosen c r shown
+shown_begin why stop true c r shown (items, parts, a) = (items, parts, items_begin why stop c r items a)
+shown_begin why stop false c r shown a = a
+
+pub events_begin : (why : Option ListError) (stop : ListError) (only : List Only) (c : Counts) (events : List Event)
+    (numbers : List Number)
+    → AreOfEvents why only c events numbers → AreOfEvents (Some stop) only c events numbers
+events_begin why stop only c [] numbers a = a
+events_begin why stop only c (x ∷ events) numbers (one, later, of, parts, rest) = (
+  one,
+  later,
+  shown_begin why stop (is_chosen only x.report) c x.report one of,
+  parts,
+  events_begin why stop only (after c x.report) events later rest,
+)
 
 next_none : (c : Counts) (space : Option Space) → AreNext c space []
 next_none c (Some space) = (0, refl)
 next_none c None = refl
 
-section_none : (imports : Bool) (c : Counts) (id count : ℕ) (w : Window) → AreOfSection imports c id count w []
-section_none true c id count w = (import_numbers c (imports_in count w), refl)
-section_none false c id count w = next_none c (space_defined id)
+section_none : (why : Option ListError) (imports : Bool) (c : Counts) (id count : ℕ) (w : Window) → imports ≡ false
+    → AreOfSection why imports c id count w []
+section_none why true c id count w isnt = cc
+section_none why false c id count w isnt = next_none c (space_defined id)
+
+-- whether imports are reported
+abbrev pub are_imports : Report → Bool
+are_imports (counted id count window) = nat_eq id import_id
+are_imports other = false
 
 -- none of them may be shown
-none_are : (c : Counts) (r : Report) → AreOfItems c r []
-none_are c (counted id count window) = section_none (nat_eq id import_id) c id count window
-none_are c (version num encoding from to) = refl
-none_are c (start_section func from to) = refl
-none_are c (data_count_section count from to) = refl
-none_are c (code_start count from to size) = refl
-none_are c (code_entry window) = refl
-none_are c (custom_section name data_offset window) = refl
-none_are c (unknown_section id contents from to) = refl
-none_are c (stream_end end) = refl
+none_are : (why : Option ListError) (c : Counts) (r : Report) → are_imports r ≡ false → AreOfItems why c r []
+none_are why c (counted id count window) isnt = section_none why (nat_eq id import_id) c id count window isnt
+none_are why c (version num encoding from to) isnt = refl
+none_are why c (start_section func from to) isnt = refl
+none_are why c (data_count_section count from to) isnt = refl
+none_are why c (code_start count from to size) isnt = refl
+none_are why c (code_entry window) isnt = refl
+none_are why c (custom_section name data_offset window) isnt = refl
+none_are why c (unknown_section id contents from to) isnt = refl
+none_are why c (stream_end end) isnt = refl
 
-pub shows_no_items : (c : Counts) (r : Report) (old new : Writing) → Adds old new → ShowsItems c r old new
-shows_no_items c r old new a = shows_none (AreOfItems c r) old new (none_are c r) a
+-- what is reported of a payload that isn't an import section
+pub none_imported : (p : Payload) → ((s : _) → p ≡ ImportSection s → ⊥) → are_imports (report_of p) ≡ false
+none_imported (Version num encoding range) isnt = refl
+none_imported (TypeSection s) isnt = refl
+none_imported (ImportSection s) isnt = absurd (isnt s refl)
+none_imported (FunctionSection s) isnt = refl
+none_imported (TableSection s) isnt = refl
+none_imported (MemorySection s) isnt = refl
+none_imported (TagSection s) isnt = refl
+none_imported (GlobalSection s) isnt = refl
+none_imported (ExportSection s) isnt = refl
+none_imported (StartSection func range) isnt = refl
+none_imported (ElementSection s) isnt = refl
+none_imported (DataCountSection count range) isnt = refl
+none_imported (DataSection s) isnt = refl
+none_imported (CodeSectionStart count range size) isnt = refl
+none_imported (CodeSectionEntry body) isnt = refl
+none_imported (CustomSection s) isnt = refl
+none_imported (UnknownSection id contents range) isnt = refl
+none_imported (payloads.End at) isnt = refl
+
+pub shows_no_items : (c : Counts) (r : Report) (old new : Writing) → are_imports r ≡ false → Adds old new → ShowsItems c r old new
+shows_no_items c r old new isnt a = shows_none (AreOfItems new.why c r) old new (none_are new.why c r isnt) a
 
 nothing_more : (o : Origin) (w : Writing) → IsWritten o w → IsWritten (with_numbers (with_line o []) []) w
 nothing_more o w i = subst₂ (λ (x : List ℕ) (y : List Number). IsWritten (record o { outline = x; numbers = y }) w)
@@ -198,7 +275,7 @@ module _ (only : List Only) (c : Counts) (r : Report) where
       let first = a (shown_line r) (numbers_in_line c r) (line_is_first c r) o i in
       let (items, held, going) = b (with_numbers (with_line o (shown_line r)) (numbers_in_line c r)) first in (
         numbers_in_line c r ++ items,
-        subst (λ (x : Bool). AreOfShown x c r (numbers_in_line c r ++ items)) (sym chosen) (items, refl, held),
+        subst (λ (x : Bool). AreOfShown new.why x c r (numbers_in_line c r ++ items)) (sym chosen) (items, refl, held),
         subst (λ (x : List ℕ). IsWritten (with_numbers (with_line o x) (numbers_in_line c r ++ items)) new)
             (sym (ap (λ (x : Bool). if x then shown_line r else []) chosen))
             (joined (with_line o (shown_line r)) (numbers_in_line c r) items new going),
@@ -207,7 +284,7 @@ module _ (only : List Only) (c : Counts) (r : Report) where
   pub shows_unchosen : (w : Writing) → is_chosen only r ≡ false → ShowsReport only c r w w
   shows_unchosen w chosen o i = (
     [],
-    subst (λ (x : Bool). AreOfShown x c r []) (sym chosen) refl,
+    subst (λ (x : Bool). AreOfShown w.why x c r []) (sym chosen) refl,
     subst (λ (x : List ℕ). IsWritten (with_numbers (with_line o x) []) w)
         (sym (ap (λ (x : Bool). if x then shown_line r else []) chosen))
         (nothing_more o w i),
@@ -250,27 +327,29 @@ pub all_more : (c : Counts) (events : List Event) (e : Event) → after_all c (e
 all_more c [] e = refl
 all_more c (x ∷ events) e = all_more (after c x.report) events e
 
-pub events_more : (only : List Only) (c : Counts) (events : List Event) (numbers : List Number) (e : Event) (shown : List Number)
-    → AreOfEvents only c events numbers → AreOf only (after_all c events) e.report shown
-    → AreOfEvents only c (events ++ e ∷ []) (numbers ++ shown)
-events_more only c [] numbers e shown a b = (shown, [], b, rw a (sym (append-nil shown)), refl)
-events_more only c (x ∷ events) numbers e shown (one, later, of, parts, rest) b = (
+pub events_more : (why : Option ListError) (only : List Only) (c : Counts) (events : List Event) (numbers : List Number) (e : Event)
+    (shown : List Number)
+    → AreOfEvents why only c events numbers → AreOf why only (after_all c events) e.report shown
+    → AreOfEvents why only c (events ++ e ∷ []) (numbers ++ shown)
+events_more why only c [] numbers e shown a b = (shown, [], b, rw a (sym (append-nil shown)), refl)
+events_more why only c (x ∷ events) numbers e shown (one, later, of, parts, rest) b = (
   one,
   later ++ shown,
   of,
   ap (λ (y : List Number). y ++ shown) parts ∙ append_assoc one later shown,
-  events_more only (after c x.report) events later e shown rest b,
+  events_more why only (after c x.report) events later e shown rest b,
 )
 
 -- the end has none
-pub end_none : (only : List Only) (c : Counts) (r : Report) (shown : List Number) → is_end r ≡ true → AreOf only c r shown → shown ≡ []
-end_none only c (stream_end (ended offset)) shown e (items, parts, none) = parts ∙ none
-end_none only c (stream_end (fault f)) shown e a = cc
-end_none only c (version num encoding from to) shown e a = cc
-end_none only c (counted id count window) shown e a = cc
-end_none only c (start_section func from to) shown e a = cc
-end_none only c (data_count_section count from to) shown e a = cc
-end_none only c (code_start count from to size) shown e a = cc
-end_none only c (code_entry window) shown e a = cc
-end_none only c (custom_section name data_offset window) shown e a = cc
-end_none only c (unknown_section id contents from to) shown e a = cc
+pub end_none : (why : Option ListError) (only : List Only) (c : Counts) (r : Report) (shown : List Number) → is_end r ≡ true
+    → AreOf why only c r shown → shown ≡ []
+end_none why only c (stream_end (ended offset)) shown e (items, parts, none) = parts ∙ none
+end_none why only c (stream_end (fault f)) shown e a = cc
+end_none why only c (version num encoding from to) shown e a = cc
+end_none why only c (counted id count window) shown e a = cc
+end_none why only c (start_section func from to) shown e a = cc
+end_none why only c (data_count_section count from to) shown e a = cc
+end_none why only c (code_start count from to size) shown e a = cc
+end_none why only c (code_entry window) shown e a = cc
+end_none why only c (custom_section name data_offset window) shown e a = cc
+end_none why only c (unknown_section id contents from to) shown e a = cc

@@ -1,5 +1,5 @@
 -- What a dump writes.
-use Rattle.std.specs.Prelude.{◌≡◌, ℕ, Bool, true, false, List, [], ◌∷◌, ◌++◌, Option, Some, Result, Ok, Err}
+use Rattle.std.specs.Prelude.{◌≡◌, ℕ, Bool, true, false, List, [], ◌∷◌, ◌++◌, Option, Some, None, Result, Ok, Err}
 use Rattle.std.specs.Io.KnownBytes.{Appends, Consumes}
 use Rattle.wasm_base.specs.Features.{all_features}
 use Rattle.wasm_base.specs.declared.error.Error.{Error}
@@ -24,20 +24,27 @@ use Rattle.wasm_show.specs.declared.numbers.Counts.{Counts}
 use Rattle.wasm_show.specs.declared.only.Only.{Only}
 
 -- The numbers are those of what is reported, of its line and its items, if it is shown; otherwise there are none.
-abbrev pub AreOfShown : (shown : Bool) → Counts → Report → List Number → Type 0
-AreOfShown true counts report numbers =
-    (items : List Number) × (numbers ≡ numbers_in_line counts report ++ items) × AreOfItems counts report items
-AreOfShown false counts report numbers = numbers ≡ []
+abbrev pub AreOfShown : (why : Option ListError) (shown : Bool) → Counts → Report → List Number → Type 0
+AreOfShown why true counts report numbers =
+    (items : List Number) × (numbers ≡ numbers_in_line counts report ++ items) × AreOfItems why counts report items
+AreOfShown why false counts report numbers = numbers ≡ []
 
-abbrev pub AreOf : List Only → Counts → Report → List Number → Type 0
-AreOf only counts report numbers = AreOfShown (is_chosen only report) counts report numbers
+abbrev pub AreOf : (why : Option ListError) → List Only → Counts → Report → List Number → Type 0
+AreOf why only counts report numbers = AreOfShown why (is_chosen only report) counts report numbers
 
 -- The numbers are those of these events, in order, after what came before.
-abbrev pub AreOfEvents : List Only → Counts → List Event → List Number → Type 0
-AreOfEvents only counts [] numbers = numbers ≡ []
-AreOfEvents only counts (e ∷ events) numbers = (one : List Number) × (later : List Number)
-    × AreOf only counts e.report one
-    × (numbers ≡ one ++ later) × AreOfEvents only (after counts e.report) events later
+abbrev pub AreOfEvents : (why : Option ListError) → List Only → Counts → List Event → List Number → Type 0
+AreOfEvents why only counts [] numbers = numbers ≡ []
+AreOfEvents why only counts (e ∷ events) numbers = (one : List Number) × (later : List Number)
+    × AreOf why only counts e.report one
+    × (numbers ≡ one ++ later) × AreOfEvents why only (after counts e.report) events later
+
+-- why the writing had stopped when a dump ended so, if it had; where the source failed it had not
+abbrev pub stopped_by : Result Ended ListError → Option ListError
+stopped_by (Ok how) = None
+stopped_by (Err Input) = None
+stopped_by (Err Output) = Some Output
+stopped_by (Err Memory) = Some Memory
 
 -- A text with this outline was written.
 pub record WritesWhole (taken written : Option (List ℕ)) (outline : List ℕ) (numbers : List Number) : Type 0 where
@@ -61,13 +68,14 @@ Writes (Err Output) taken written outline numbers = WritesSome taken written out
 Writes (Err Memory) taken written outline numbers = WritesSome taken written outline numbers
 
 -- What the source gave is read as events that begin with these, and the numbers are theirs: each is how many items came
--- before in its index space.
-pub record AreOfSource (only : List Only) (input : Change) (numbers : List Number) : Type 0 where
+-- before in its index space. No number of an import is missing, unless the writing had stopped.
+pub record AreOfSource (why : Option ListError) (only : List Only) (input : Change) (numbers : List Number) :
+    Type 0 where
   pub given : List ℕ
   pub events : List Event
   pub gave : Consumes input.before input.after given
   pub begins : ReadingBegins 0 all_features given events
-  pub are_of : AreOfEvents only no_counts events numbers
+  pub are_of : AreOfEvents why only no_counts events numbers
 
 -- The lines of the first level are those of the source's listing that are shown; all others begin with two blanks. The
 -- numbers of items count what came before.
@@ -75,14 +83,14 @@ pub record Dumps (only : List Only) (input output : Change) (result : Result End
   pub outline : List ℕ
   pub numbers : List Number
   pub lists : ListsBy (chosen_line only) input (from_to (Some []) (Some outline)) result
-  pub counts : AreOfSource only input numbers
+  pub counts : AreOfSource (stopped_by result) only input numbers
   pub writes : Writes result output.before output.after outline numbers
 
 -- ---- the parts of a dump
 
 -- The items of what is reported were shown, with their numbers after what came before.
 abbrev pub ShowsItems : Counts → Report → (old new : Writing) → Type 0
-ShowsItems counts report old new = AddsNumbers (AreOfItems counts report) old new
+ShowsItems counts report old new = AddsNumbers (AreOfItems new.why counts report) old new
 
 -- These lines of the first level were written, if any, and what is under them, with numbers of which this holds.
 abbrev pub ShowsLine : (line : List ℕ) (allowed : List Number → Type 0) (old new : Writing) → Type 0
@@ -91,13 +99,14 @@ ShowsLine line allowed old new = (o : Origin) → IsWritten o old
 
 -- What is reported was shown, if it was chosen.
 abbrev pub ShowsReport : List Only → Counts → Report → (old new : Writing) → Type 0
-ShowsReport only counts report old new = ShowsLine (chosen_line only report) (AreOf only counts report) old new
+ShowsReport only counts report old new =
+    ShowsLine (chosen_line only report) (AreOf new.why only counts report) old new
 
 -- the numbers that are shown of an answer, and what came before what is after it
-abbrev pub AreOfAnswer : List Only → Counts → Result Step Error → List Number → Type 0
-AreOfAnswer only counts (Ok (NeedMoreData hint)) shown = shown ≡ []
-AreOfAnswer only counts (Ok (Parsed bytes payload)) shown = AreOf only counts (report_of payload) shown
-AreOfAnswer only counts (Err e) shown = shown ≡ []
+abbrev pub AreOfAnswer : (why : Option ListError) → List Only → Counts → Result Step Error → List Number → Type 0
+AreOfAnswer why only counts (Ok (NeedMoreData hint)) shown = shown ≡ []
+AreOfAnswer why only counts (Ok (Parsed bytes payload)) shown = AreOf why only counts (report_of payload) shown
+AreOfAnswer why only counts (Err e) shown = shown ≡ []
 
 abbrev pub after_answer : Counts → Result Step Error → Counts
 after_answer counts (Ok (NeedMoreData hint)) = counts
@@ -107,7 +116,7 @@ after_answer counts (Err e) = counts
 -- An answer was shown, if it was chosen.
 abbrev pub ShowsAnswer : List Only → Counts → Result Step Error → (old new : Writing) → Type 0
 ShowsAnswer only counts answer old new =
-    ShowsLine (text_after (chosen_line only) answer) (AreOfAnswer only counts answer) old new
+    ShowsLine (text_after (chosen_line only) answer) (AreOfAnswer new.why only counts answer) old new
 
 -- A step of the feeder was shown, and this is done next.
 pub record ShowsStep (only : List Only) (counts counts' : Counts) (old new : Feed) (before after : Writing)

@@ -10,6 +10,7 @@ use Rattle.wasm_base.specs.declared.fault.NumberKind.TheVariants.{VarU32}
 use Rattle.wasm_grammar.specs.Ids.{type_id, import_id, function_id, table_id, memory_id, tag_id, global_id, element_id}
 use Rattle.wasm_grammar.specs.Ids.{data_id}
 use Rattle.wasm_grammar.specs.Reading.{Report, counted, code_entry, Event}
+use Rattle.wasm_feed.specs.declared.devices.ListError.{ListError}
 use Rattle.wasm_items.specs.Flattened.{flattened}
 use Rattle.wasm_items.specs.Imports.{ImportParts}
 use Rattle.wasm_items.specs.declared.imports.TypeRef.{TypeRef}
@@ -153,15 +154,21 @@ AreNext c None shown = shown ≡ []
 abbrev pub Begin : (shown all : List Number) → Type 0
 Begin shown all = (later : List Number) × (all ≡ shown ++ later)
 
--- The numbers are those of a section's items, imports or what a module defines.
-abbrev pub AreOfSection : (imports : Bool) → Counts → (id count : ℕ) → Window → List Number → Type 0
-AreOfSection true c id count window shown = Begin shown (import_numbers c (imports_in count window))
-AreOfSection false c id count window shown = AreNext c (space_defined id) shown
+-- The numbers are all of these; or they begin these, where the dump has stopped.
+abbrev pub AreShown : (why : Option ListError) → (shown all : List Number) → Type 0
+AreShown None shown all = shown ≡ all
+AreShown (Some why) shown all = Begin shown all
 
--- The numbers are those of the items that are reported, up to the first fault, or where the dump stopped.
-abbrev pub AreOfItems : Counts → Report → List Number → Type 0
-AreOfItems c (counted id count window) shown = AreOfSection (nat_eq id import_id) c id count window shown
-AreOfItems c other shown = shown ≡ []
+-- The numbers are those of a section's items, imports or what a module defines.
+abbrev pub AreOfSection : (why : Option ListError) (imports : Bool) → Counts → (id count : ℕ) → Window → List Number
+    → Type 0
+AreOfSection why true c id count window shown = AreShown why shown (import_numbers c (imports_in count window))
+AreOfSection why false c id count window shown = AreNext c (space_defined id) shown
+
+-- The numbers are those of the items that are reported, up to the first fault, or where the dump has stopped.
+abbrev pub AreOfItems : (why : Option ListError) → Counts → Report → List Number → Type 0
+AreOfItems why c (counted id count window) shown = AreOfSection why (nat_eq id import_id) c id count window shown
+AreOfItems why c other shown = shown ≡ []
 
 -- the number of the function that a body is of, which is in the line of the body
 abbrev pub numbers_in_line : Counts → Report → List Number

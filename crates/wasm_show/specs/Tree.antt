@@ -7,7 +7,7 @@ use Rattle.wasm_feed.specs.Lists.{output_failed}
 use Rattle.wasm_feed.specs.Page.{IsCut, PutsBytes}
 use Rattle.wasm_feed.specs.declared.devices.ListError.{ListError}
 use Rattle.wasm_show.specs.Chosen.{blank_numbers}
-use Rattle.wasm_show.specs.Numbers.{Number, number_text, Begin, AreFrom, AreUpTo}
+use Rattle.wasm_show.specs.Numbers.{Number, number_text, AreShown, AreFrom, AreUpTo}
 use Rattle.wasm_show.specs.declared.numbers.Space.{Space}
 use Rattle.wasm_feed.specs.declared.devices.ListError.TheVariants.{Input}
 
@@ -162,9 +162,9 @@ abbrev pub AddsNumbers : (allowed : List Number → Type 0) (old new : Writing) 
 AddsNumbers allowed old new = (o : Origin) → IsWritten o old
     → (shown : List Number) × allowed shown × IsWritten (with_numbers o shown) new
 
--- They are a beginning of these.
-abbrev pub AddsBeginning : List Number → (old new : Writing) → Type 0
-AddsBeginning all old new = AddsNumbers (λ shown. Begin shown all) old new
+-- They are all of these, or a beginning where the writer has stopped.
+abbrev pub AddsAll : List Number → (old new : Writing) → Type 0
+AddsAll all old new = AddsNumbers (λ shown. AreShown new.why shown all) old new
 
 -- They are so many of an index space, from this one on.
 abbrev pub AddsNext : Space → (from : ℕ) (old new : Writing) → Type 0

@@ -4,7 +4,7 @@ ghost use Rattle.wasm_base.specs.Window.{place};
 ghost use Rattle.wasm_items.specs.Flattened.{flattened, found_at};
 ghost use Rattle.wasm_show.specs.Numbers.{count_of, import_number, import_numbers, with_import};
 ghost use Rattle.wasm_show.specs.declared.numbers.Space.TheVariants.{Types};
-ghost use Rattle.wasm_show.specs.Tree.{AddsBeginning, AddsNext, AddsNumber, AddsThese, AddsUpTo};
+ghost use Rattle.wasm_show.specs.Tree.{AddsAll, AddsNext, AddsNumber, AddsThese, AddsUpTo};
 
 use crate::lists::show_fault;
 use crate::numbers::{Counts, Space, import_space};
@@ -92,10 +92,7 @@ pub(crate) fn show_imports<W: Sink>(
     section: &ImportSectionReader<'_>,
     out: &mut Tree<W>,
 )
-    ensures shows { AddsBeginning
-        (import_numbers counts.now (flattened section.now.count (place section.now.reader)))
-        out.old out.new }
-    ensures all { out.new.why ≡ None → AddsThese
+    ensures { AddsAll
         (import_numbers counts.now (flattened section.now.count (place section.now.reader)))
         out.old out.new }
 {

@@ -4,7 +4,7 @@ use Rattle.wasm_base.specs.Window.{place}
 use Rattle.wasm_items.specs.Flattened.{flattened}
 use Rattle.wasm_show.specs.Numbers.{Found, import_numbers}
 use Rattle.wasm_show.specs.declared.numbers.Counts.{Counts}
-use Rattle.wasm_show.proofs.Numbering.{AddsAllBut, none_shown, import_shown, all_shown, goes_on}
+use Rattle.wasm_show.proofs.Numbering.{AddsAllBut, none_shown, import_shown, all_shown, some_shown}
 use Rattle.wasm_show.proofs.numbered.show_imports.Goals as goal
 use Rattle.wasm_show.proofs.numbered.show_imports.Goals.{in-None, in-Some+then-has_stopped}
 
@@ -33,10 +33,10 @@ loop-import-preserved g c =
           c.show_import.ensures.shows);
     }
 
-pub returns-clause-all : goal.returns-clause-all
-returns-clause-all g c none =
+pub returns : goal.returns
+returns g c =
     let all = import_numbers c.args.counts.now (flattened c.args.section.now.count (place c.args.section.now.reader)) in
     elim c.match-next.branch [
       | in-None w ↦ all_shown all c.loop-import.before _ _ _ _ c.loop-import.invariant.left w.in-None.ensures.steps
-      | in-Some+then-has_stopped w ↦ goes_on c.loop-import.out.why w.has_stopped.result none w.has_stopped.ensures w.if-has_stopped.true
+      | in-Some+then-has_stopped w ↦ some_shown all _ _ _ (sym w.has_stopped.ensures ∙ w.if-has_stopped.true) c.loop-import.invariant.left
     ]
