@@ -5,7 +5,7 @@ use Rattle.std.proofs.Common.{append_assoc, append-nil, if◌then◌else◌, add
 use Rattle.std.proofs.Math.Nat.{min-eq_left}
 use Rattle.std.specs.Option.{is_some}
 use Rattle.wasm_feed.specs.declared.devices.ListError.{ListError}
-use Rattle.wasm_base.specs.Window.{Window}
+use Rattle.wasm_base.specs.Window.{Window, Place, place}
 use Rattle.wasm_base.specs.declared.error.Error.{Error}
 use Rattle.wasm_grammar.specs.Ids.{import_id}
 use Rattle.wasm_grammar.specs.Reading.{Report, version, counted, start_section, data_count_section, code_start, code_entry}
@@ -13,7 +13,7 @@ use Rattle.wasm_grammar.specs.Reading.{custom_section}
 use Rattle.wasm_grammar.specs.Reading.{unknown_section, stream_end, Event}
 use Rattle.wasm_grammar.specs.Content.{Ending, fault, ended}
 use Rattle.wasm_base.specs.FaultAt.{fault_at}
-use Rattle.wasm_parser.specs.ParseAnswer.{report_of, is_end}
+use Rattle.wasm_parser.specs.ParseAnswer.{BeginsAfterCount, counted_by, report_of, is_end, unread}
 use Rattle.wasm_parser.specs.declared.payload.Payload.{Payload}
 use Rattle.wasm_parser.specs.declared.payload.Payload.TheVariants.{Version, TypeSection, ImportSection, FunctionSection, TableSection}
 use Rattle.wasm_parser.specs.declared.payload.Payload.TheVariants.{MemorySection, TagSection, GlobalSection, ExportSection, StartSection}
@@ -39,6 +39,13 @@ use Rattle.wasm_show.proofs.Lines.{line_is_first}
 use Rattle.wasm_show.specs.Tree.{Writing, Origin, IsWritten, with_line, with_numbers, Adds, AddsFirst, AddsThese, AddsNumber, AddsNumbers}
 use Rattle.wasm_show.specs.Tree.{AddsAll, AddsNext, AddsUpTo}
 use Rattle.wasm_show.specs.declared.numbers.Space.{Space}
+use Rattle.wasm_show.specs.declared.numbers.Space.TheVariants.{Types, Functions, Tables, Memories, Tags, Globals, Elements, DataSegments}
+use Rattle.wasm_base.specs.Item.{ReadsAs, outcome_map}
+use Rattle.wasm_base.specs.Number.{unsigned_at}
+use Rattle.wasm_base.specs.Outcome.{Outcome}
+use Rattle.wasm_base.specs.Section.{Section}
+use Rattle.wasm_base.specs.declared.fault.NumberKind.TheVariants.{VarU32}
+use Rattle.wasm_show.specs.Numbers.{after_number, count_of, item_at, numbers_in, numbers_read, one_at, one_number}
 use Rattle.wasm_show.specs.declared.numbers.Counts.{Counts}
 
 -- ---- imports, one by one
@@ -56,10 +63,10 @@ imports_over c s t h = ap (with_imports c) h.0.0
 
 -- ---- numbers that are shown one after the other
 
-no_numbers : (o : Origin) (w : Writing) → IsWritten o w → IsWritten (with_numbers o []) w
+pub no_numbers : (o : Origin) (w : Writing) → IsWritten o w → IsWritten (with_numbers o []) w
 no_numbers o w i = subst (λ (x : List Number). IsWritten (record o { numbers = x }) w) (sym (append-nil o.numbers)) i
 
-joined : (o : Origin) (one later : List Number) (w : Writing) → IsWritten (with_numbers (with_numbers o one) later) w
+pub joined : (o : Origin) (one later : List Number) (w : Writing) → IsWritten (with_numbers (with_numbers o one) later) w
     → IsWritten (with_numbers o (one ++ later)) w
 joined o one later w i = subst (λ (x : List Number). IsWritten (record o { numbers = x }) w) (append_assoc o.numbers one later) i
 
@@ -69,13 +76,13 @@ shows_none allowed old new held a o i = ([], held, no_numbers o new (a o i))
 
 -- ---- so many of an index space
 
-more_none : (n : ℕ) → n < 2 ^ 64 → n ≡ more n 0
+pub more_none : (n : ℕ) → n < 2 ^ 64 → n ≡ more n 0
 more_none n h = rw add-zero (sym (min-eq_left (omega arith)))
 
-more_more : (n i k : ℕ) → more (more n i) k ≡ more n (i + k)
+pub more_more : (n i k : ℕ) → more (more n i) k ≡ more n (i + k)
 more_more n i k = omega arith
 
-numbers_more : (space : Space) (from i k : ℕ) → numbers_from space from i ++ numbers_from space (more from i) k
+pub numbers_more : (space : Space) (from i k : ℕ) → numbers_from space from i ++ numbers_from space (more from i) k
     ≡ numbers_from space from (i + k)
 numbers_more space from i zero = rw add-zero (append-nil (numbers_from space from i))
 numbers_more space from i (suc k) =
@@ -154,7 +161,8 @@ import_shown all c s t x old mid new a n b o i =
     )
 
 -- a writer that has stopped may have shown some of them
-begin_shown : (why : Option ListError) (shown all left : List Number) → is_some why ≡ true → all ≡ shown ++ left → AreShown why shown all
+pub begin_shown : (why : Option ListError) (shown all left : List Number) → is_some why ≡ true → all ≡ shown ++ left
+    → AreShown why shown all
 begin_shown None shown all left stopped held = cc
 begin_shown (Some why) shown all left stopped held = (left, held)
 
@@ -164,7 +172,7 @@ some_shown all left old new stopped a o i =
     (shown, begin_shown new.why shown all left stopped held, going)
 
 -- all of them are such as are shown in any case
-all_are : (why : Option ListError) (shown all : List Number) → shown ≡ all → AreShown why shown all
+pub all_are : (why : Option ListError) (shown all : List Number) → shown ≡ all → AreShown why shown all
 all_are None shown all e = e
 all_are (Some why) shown all e = all_begin None why shown all e
 
@@ -178,11 +186,23 @@ all_shown all c s t old new a h o i =
 
 -- ---- those of what is reported
 
+next_begins : (why : Option ListError) (stop : ListError) (c : Counts) (space : Option Space) (count : ℕ) (shown : List Number)
+    → AreNext why c space count shown → AreNext (Some stop) c space count shown
+next_begins why stop c None count shown a = a
+next_begins why stop c (Some Types) count shown a = a
+next_begins why stop c (Some Functions) count shown a = all_begin why stop shown (numbers_from Functions c.functions count) a
+next_begins why stop c (Some Tables) count shown a = all_begin why stop shown (numbers_from Tables c.tables count) a
+next_begins why stop c (Some Memories) count shown a = all_begin why stop shown (numbers_from Memories c.memories count) a
+next_begins why stop c (Some Tags) count shown a = all_begin why stop shown (numbers_from Tags c.tags count) a
+next_begins why stop c (Some Globals) count shown a = all_begin why stop shown (numbers_from Globals c.globals count) a
+next_begins why stop c (Some Elements) count shown a = all_begin why stop shown (numbers_from Elements 0 count) a
+next_begins why stop c (Some DataSegments) count shown a = all_begin why stop shown (numbers_from DataSegments 0 count) a
+
 section_begins : (why : Option ListError) (stop : ListError) (imports : Bool) (c : Counts) (id count : ℕ) (w : Window)
     (shown : List Number)
     → AreOfSection why imports c id count w shown → AreOfSection (Some stop) imports c id count w shown
 section_begins why stop true c id count w shown a = all_begin why stop shown (import_numbers c (imports_in count w)) a
-section_begins why stop false c id count w shown a = a
+section_begins why stop false c id count w shown a = next_begins why stop c (space_defined id) (numbers_in id count w) shown a
 
 items_begin : (why : Option ListError) (stop : ListError) (c : Counts) (r : Report) (shown : List Number) → AreOfItems why c r shown
     → AreOfItems (Some stop) c r shown
@@ -213,22 +233,28 @@ events_begin why stop only c (x ∷ events) numbers (one, later, of, parts, rest
   events_begin why stop only (after c x.report) events later rest,
 )
 
-next_none : (c : Counts) (space : Option Space) → AreNext c space []
-next_none c (Some space) = (0, refl)
-next_none c None = refl
+abbrev pub have_numbers : (imports : Bool) → Option Space → Bool
+have_numbers true space = true
+have_numbers false space = is_some space
 
-section_none : (why : Option ListError) (imports : Bool) (c : Counts) (id count : ℕ) (w : Window) → imports ≡ false
+next_none : (why : Option ListError) (c : Counts) (space : Option Space) (count : ℕ) → is_some space ≡ false
+    → AreNext why c space count []
+next_none why c (Some space) count isnt = cc
+next_none why c None count isnt = refl
+
+section_none : (why : Option ListError) (imports : Bool) (c : Counts) (id count : ℕ) (w : Window)
+    → have_numbers imports (space_defined id) ≡ false
     → AreOfSection why imports c id count w []
 section_none why true c id count w isnt = cc
-section_none why false c id count w isnt = next_none c (space_defined id)
+section_none why false c id count w isnt = next_none why c (space_defined id) (numbers_in id count w) isnt
 
--- whether imports are reported
-abbrev pub are_imports : Report → Bool
-are_imports (counted id count window) = nat_eq id import_id
-are_imports other = false
+-- whether what is reported has items with numbers
+abbrev pub has_numbers : Report → Bool
+has_numbers (counted id count window) = have_numbers (nat_eq id import_id) (space_defined id)
+has_numbers other = false
 
 -- none of them may be shown
-none_are : (why : Option ListError) (c : Counts) (r : Report) → are_imports r ≡ false → AreOfItems why c r []
+none_are : (why : Option ListError) (c : Counts) (r : Report) → has_numbers r ≡ false → AreOfItems why c r []
 none_are why c (counted id count window) isnt = section_none why (nat_eq id import_id) c id count window isnt
 none_are why c (version num encoding from to) isnt = refl
 none_are why c (start_section func from to) isnt = refl
@@ -239,29 +265,53 @@ none_are why c (custom_section name data_offset window) isnt = refl
 none_are why c (unknown_section id contents from to) isnt = refl
 none_are why c (stream_end end) isnt = refl
 
--- what is reported of a payload that isn't an import section
-pub none_imported : (p : Payload) → ((s : _) → p ≡ ImportSection s → ⊥) → are_imports (report_of p) ≡ false
-none_imported (Version num encoding range) isnt = refl
-none_imported (TypeSection s) isnt = refl
-none_imported (ImportSection s) isnt = absurd (isnt s refl)
-none_imported (FunctionSection s) isnt = refl
-none_imported (TableSection s) isnt = refl
-none_imported (MemorySection s) isnt = refl
-none_imported (TagSection s) isnt = refl
-none_imported (GlobalSection s) isnt = refl
-none_imported (ExportSection s) isnt = refl
-none_imported (StartSection func range) isnt = refl
-none_imported (ElementSection s) isnt = refl
-none_imported (DataCountSection count range) isnt = refl
-none_imported (DataSection s) isnt = refl
-none_imported (CodeSectionStart count range size) isnt = refl
-none_imported (CodeSectionEntry body) isnt = refl
-none_imported (CustomSection s) isnt = refl
-none_imported (UnknownSection id contents range) isnt = refl
-none_imported (payloads.End at) isnt = refl
+-- what is reported of a payload whose items have no numbers, or that has none
+pub none_numbered : (p : Payload)
+    → ((s : _) → p ≡ TypeSection s → ⊥) → ((s : _) → p ≡ ImportSection s → ⊥) → ((s : _) → p ≡ FunctionSection s → ⊥)
+    → ((s : _) → p ≡ TableSection s → ⊥) → ((s : _) → p ≡ MemorySection s → ⊥) → ((s : _) → p ≡ TagSection s → ⊥)
+    → ((s : _) → p ≡ GlobalSection s → ⊥) → ((s : _) → p ≡ ElementSection s → ⊥) → ((s : _) → p ≡ DataSection s → ⊥)
+    → has_numbers (report_of p) ≡ false
+none_numbered (Version num encoding range) n0 n1 n2 n3 n4 n5 n6 n7 n8 = refl
+none_numbered (TypeSection s) n0 n1 n2 n3 n4 n5 n6 n7 n8 = absurd (n0 s refl)
+none_numbered (ImportSection s) n0 n1 n2 n3 n4 n5 n6 n7 n8 = absurd (n1 s refl)
+none_numbered (FunctionSection s) n0 n1 n2 n3 n4 n5 n6 n7 n8 = absurd (n2 s refl)
+none_numbered (TableSection s) n0 n1 n2 n3 n4 n5 n6 n7 n8 = absurd (n3 s refl)
+none_numbered (MemorySection s) n0 n1 n2 n3 n4 n5 n6 n7 n8 = absurd (n4 s refl)
+none_numbered (TagSection s) n0 n1 n2 n3 n4 n5 n6 n7 n8 = absurd (n5 s refl)
+none_numbered (GlobalSection s) n0 n1 n2 n3 n4 n5 n6 n7 n8 = absurd (n6 s refl)
+none_numbered (ExportSection s) n0 n1 n2 n3 n4 n5 n6 n7 n8 = refl
+none_numbered (StartSection func range) n0 n1 n2 n3 n4 n5 n6 n7 n8 = refl
+none_numbered (ElementSection s) n0 n1 n2 n3 n4 n5 n6 n7 n8 = absurd (n7 s refl)
+none_numbered (DataCountSection count range) n0 n1 n2 n3 n4 n5 n6 n7 n8 = refl
+none_numbered (DataSection s) n0 n1 n2 n3 n4 n5 n6 n7 n8 = absurd (n8 s refl)
+none_numbered (CodeSectionStart count range size) n0 n1 n2 n3 n4 n5 n6 n7 n8 = refl
+none_numbered (CodeSectionEntry body) n0 n1 n2 n3 n4 n5 n6 n7 n8 = refl
+none_numbered (CustomSection s) n0 n1 n2 n3 n4 n5 n6 n7 n8 = refl
+none_numbered (UnknownSection id contents range) n0 n1 n2 n3 n4 n5 n6 n7 n8 = refl
+none_numbered (payloads.End at) n0 n1 n2 n3 n4 n5 n6 n7 n8 = refl
 
-pub shows_no_items : (c : Counts) (r : Report) (old new : Writing) → are_imports r ≡ false → Adds old new → ShowsItems c r old new
+pub shows_no_items : (c : Counts) (r : Report) (old new : Writing) → has_numbers r ≡ false → Adds old new → ShowsItems c r old new
 shows_no_items c r old new isnt a = shows_none (AreOfItems new.why c r) old new (none_are new.why c r isnt) a
+
+-- the numbers of what a module defines
+pub sized : {X Y : Type 0} (view : X → Y) (reading : Place → Outcome Y) (p : Place) (o : Outcome X) → ReadsAs view reading p o
+    → ReadsAs one_number (one_at reading) p o
+sized view reading p (Ok x) read = ap (outcome_map one_number) read
+sized view reading p (Err e) read = ap (outcome_map one_number) read
+
+pub shows_defined : (c : Counts) (id : ℕ) (space : Space) (s : Section) (old new : Writing) → BeginsAfterCount s
+    → nat_eq id import_id ≡ false
+    → ((n : ℕ) (shown : List Number) → AreShown new.why shown (numbers_from space (count_of c space) n)
+    → AreNext new.why c (space_defined id) n shown)
+    → AddsAll (numbers_from space (count_of c space) (numbers_read (item_at id) s.count (place s.reader))) old new
+    → ShowsItems c (counted_by id s) old new
+shows_defined c id space s old new begins isnt next a o i =
+    let (shown, held, wrote) = a o i in
+    let from = place (unread s.reader) in
+    let same : after_number (unsigned_at VarU32 from) from ≡ place s.reader = ap (λ (x : Outcome ℕ). after_number x from) begins in
+    let are = subst (λ (p : Place). AreNext new.why c (space_defined id) (numbers_read (item_at id) s.count p) shown) (sym same)
+    (next (numbers_read (item_at id) s.count (place s.reader)) shown held) in
+    (shown, subst (λ (b : Bool). AreOfSection new.why b c id s.count (unread s.reader) shown) (sym isnt) are, wrote)
 
 nothing_more : (o : Origin) (w : Writing) → IsWritten o w → IsWritten (with_numbers (with_line o []) []) w
 nothing_more o w i = subst₂ (λ (x : List ℕ) (y : List Number). IsWritten (record o { outline = x; numbers = y }) w)

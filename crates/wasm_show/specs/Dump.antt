@@ -68,7 +68,8 @@ Writes (Err Output) taken written outline numbers = WritesSome taken written out
 Writes (Err Memory) taken written outline numbers = WritesSome taken written outline numbers
 
 -- What the source gave is read as events that begin with these, and the numbers are theirs: each is how many items came
--- before in its index space. No number of an import is missing, unless the writing had stopped.
+-- before in its index space. But for types, no number is missing up to a section's first fault, unless the writing had
+-- stopped.
 pub record AreOfSource (why : Option ListError) (only : List Only) (input : Change) (numbers : List Number) :
     Type 0 where
   pub given : List ℕ

@@ -3,6 +3,7 @@
 use Rattle.std.specs.Prelude.{◌≡◌, ℕ, zero, suc, ◌+◌, ◌-◌, ◌^◌, min, Bool, true, false, List, [], ◌∷◌, ◌++◌}
 use Rattle.std.specs.Prelude.{codes, decimal, nat_eq, Option, Some, None, Result, Ok, Err, if◌then◌else◌}
 use Rattle.wasm_base.specs.FaultAt.{FaultAt}
+use Rattle.wasm_base.specs.Item.{outcome_map}
 use Rattle.wasm_base.specs.Number.{unsigned_at}
 use Rattle.wasm_base.specs.Outcome.{Outcome}
 use Rattle.wasm_base.specs.Window.{Window, Place, place}
@@ -11,8 +12,14 @@ use Rattle.wasm_grammar.specs.Ids.{type_id, import_id, function_id, table_id, me
 use Rattle.wasm_grammar.specs.Ids.{data_id}
 use Rattle.wasm_grammar.specs.Reading.{Report, counted, code_entry, Event}
 use Rattle.wasm_feed.specs.declared.devices.ListError.{ListError}
+use Rattle.wasm_items.specs.Data.{data_at}
+use Rattle.wasm_items.specs.Elements.{element_at}
 use Rattle.wasm_items.specs.Flattened.{flattened}
+use Rattle.wasm_items.specs.Globals.{global_at}
 use Rattle.wasm_items.specs.Imports.{ImportParts}
+use Rattle.wasm_items.specs.Memories.{memory_type_at}
+use Rattle.wasm_items.specs.Tables.{table_at}
+use Rattle.wasm_items.specs.Tags.{tag_type_at}
 use Rattle.wasm_items.specs.declared.imports.TypeRef.{TypeRef}
 use Rattle.wasm_items.specs.declared.imports.TypeRef.TheVariants as types
 use Rattle.wasm_show.specs.declared.numbers.Counts.{Counts}
@@ -137,6 +144,29 @@ space_defined id =
     else if nat_eq id data_id then Some DataSegments
     else None
 
+-- the numbers of an item, and those of what comes after it; a fault has none, and nothing comes after it
+abbrev pub with_later : (Place → ℕ) → Outcome ℕ → ℕ
+with_later later (Ok x) = x.0 + later x.1
+with_later later (Err f) = 0
+
+-- how many numbers the items from a place on have, of so many that are announced, up to the first fault; the reading
+-- says of an item how many it has
+abbrev pub numbers_read : (reading : Place → Outcome ℕ) (left : ℕ) → Place → ℕ
+numbers_read reading zero p = 0
+numbers_read reading (suc left) p = with_later (λ q. numbers_read reading left q) (reading p)
+
+-- what has one number, and an item or a fault that was read
+abbrev pub one_number : {T : Type 0} → T → ℕ
+one_number x = 1
+
+abbrev pub number_found : {T E : Type 0} → Space → (index : ℕ) → Result T E → List Number
+number_found space index (Ok x) = record { space = space; index = index } ∷ []
+number_found space index (Err e) = []
+
+abbrev pub after_found : {T E : Type 0} → (index : ℕ) → Result T E → ℕ
+after_found index (Ok x) = more index 1
+after_found index (Err e) = index
+
 -- The numbers are some of this index space, from this one on.
 abbrev pub AreFrom : Space → (first : ℕ) → List Number → Type 0
 AreFrom space first shown = (count : ℕ) × (shown ≡ numbers_from space first count)
@@ -144,11 +174,6 @@ AreFrom space first shown = (count : ℕ) × (shown ≡ numbers_from space first
 -- The same, and this is the next one.
 abbrev pub AreUpTo : Space → (first next : ℕ) → List Number → Type 0
 AreUpTo space first next shown = (count : ℕ) × (shown ≡ numbers_from space first count) × (next ≡ more first count)
-
--- The numbers are the next ones of this index space.
-abbrev pub AreNext : Counts → Option Space → List Number → Type 0
-AreNext c (Some space) shown = AreFrom space (count_of c space) shown
-AreNext c None shown = shown ≡ []
 
 -- The numbers begin these.
 abbrev pub Begin : (shown all : List Number) → Type 0
@@ -159,11 +184,36 @@ abbrev pub AreShown : (why : Option ListError) → (shown all : List Number) →
 AreShown None shown all = shown ≡ all
 AreShown (Some why) shown all = Begin shown all
 
+-- an item that has one number, where this is its reading
+abbrev pub one_at : {A : Type 0} → (Place → Outcome A) → Place → Outcome ℕ
+one_at reading p = outcome_map one_number (reading p)
+
+-- the reading of an item of the section with this id
+abbrev pub item_at : (id : ℕ) → Place → Outcome ℕ
+item_at id =
+    if nat_eq id function_id then one_at (unsigned_at VarU32)
+    else if nat_eq id table_id then one_at table_at
+    else if nat_eq id memory_id then one_at memory_type_at
+    else if nat_eq id tag_id then one_at tag_type_at
+    else if nat_eq id global_id then one_at global_at
+    else if nat_eq id element_id then one_at element_at
+    else one_at data_at
+
+-- how many numbers the items of a section have
+abbrev pub numbers_in : (id count : ℕ) → Window → ℕ
+numbers_in id count w = numbers_read (item_at id) count (after_number (unsigned_at VarU32 (place w)) (place w))
+
+-- The numbers are the next ones of this index space, so many of them; of types, some.
+abbrev pub AreNext : (why : Option ListError) → Counts → Option Space → (count : ℕ) → List Number → Type 0
+AreNext why c (Some Types) count shown = AreFrom Types 0 shown
+AreNext why c (Some space) count shown = AreShown why shown (numbers_from space (count_of c space) count)
+AreNext why c None count shown = shown ≡ []
+
 -- The numbers are those of a section's items, imports or what a module defines.
 abbrev pub AreOfSection : (why : Option ListError) (imports : Bool) → Counts → (id count : ℕ) → Window → List Number
     → Type 0
 AreOfSection why true c id count window shown = AreShown why shown (import_numbers c (imports_in count window))
-AreOfSection why false c id count window shown = AreNext c (space_defined id) shown
+AreOfSection why false c id count window shown = AreNext why c (space_defined id) (numbers_in id count window) shown
 
 -- The numbers are those of the items that are reported, up to the first fault, or where the dump has stopped.
 abbrev pub AreOfItems : (why : Option ListError) → Counts → Report → List Number → Type 0

@@ -3,11 +3,15 @@ use Rattle.std.specs.Prelude.{◌≡◌, ◌≢◌, ℕ, Bool, true, false, List
 use Rattle.std.specs.Prelude.{Err, nat_eq, if◌then◌else◌}
 use Rattle.std.specs.List.{flat_map, list_all, list_any}
 use Rattle.std.specs.Io.KnownBytes.{Appends}
+use Rattle.wasm_base.specs.Item.{ReadsAs}
+use Rattle.wasm_base.specs.Outcome.{Outcome}
+use Rattle.wasm_base.specs.Section.{Section}
+use Rattle.wasm_base.specs.Window.{Place, place}
 use Rattle.wasm_feed.specs.Lists.{output_failed}
 use Rattle.wasm_feed.specs.Page.{IsCut, PutsBytes}
 use Rattle.wasm_feed.specs.declared.devices.ListError.{ListError}
 use Rattle.wasm_show.specs.Chosen.{blank_numbers}
-use Rattle.wasm_show.specs.Numbers.{Number, number_text, AreShown, AreFrom, AreUpTo}
+use Rattle.wasm_show.specs.Numbers.{Number, number_text, numbers_from, numbers_read, AreShown, AreFrom, AreUpTo}
 use Rattle.wasm_show.specs.declared.numbers.Space.{Space}
 use Rattle.wasm_feed.specs.declared.devices.ListError.TheVariants.{Input}
 
@@ -165,6 +169,13 @@ AddsNumbers allowed old new = (o : Origin) → IsWritten o old
 -- They are all of these, or a beginning where the writer has stopped.
 abbrev pub AddsAll : List Number → (old new : Writing) → Type 0
 AddsAll all old new = AddsNumbers (λ shown. AreShown new.why shown all) old new
+
+-- They are those of the items of a section by whatever reading agrees with what the items mean, from this one on.
+abbrev pub AddsItems : {T : Type 0} → (Place → Outcome T → Type 0) → (size : T → ℕ) → Space → (from : ℕ) → Section
+    → (old new : Writing) → Type 0
+AddsItems {T} meaning size space from section old new = (reading : Place → Outcome ℕ)
+    → ((p : Place) (o : Outcome T) → meaning p o → ReadsAs size reading p o)
+    → AddsAll (numbers_from space from (numbers_read reading section.count (place section.reader))) old new
 
 -- They are so many of an index space, from this one on.
 abbrev pub AddsNext : Space → (from : ℕ) (old new : Writing) → Type 0

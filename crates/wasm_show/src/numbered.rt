@@ -2,9 +2,9 @@
 ghost use Rattle.std.specs.Prelude.{◌≡◌, None, Some};
 ghost use Rattle.wasm_base.specs.Window.{place};
 ghost use Rattle.wasm_items.specs.Flattened.{flattened, found_at};
-ghost use Rattle.wasm_show.specs.Numbers.{count_of, import_number, import_numbers, with_import};
+ghost use Rattle.wasm_show.specs.Numbers.{after_found, count_of, number_found, one_number, import_number, import_numbers, with_import};
 ghost use Rattle.wasm_show.specs.declared.numbers.Space.TheVariants.{Types};
-ghost use Rattle.wasm_show.specs.Tree.{AddsAll, AddsNext, AddsNumber, AddsThese, AddsUpTo};
+ghost use Rattle.wasm_show.specs.Tree.{AddsAll, AddsItems, AddsNext, AddsNumber, AddsThese, AddsUpTo};
 
 use crate::lists::show_fault;
 use crate::numbers::{Counts, Space, import_space};
@@ -33,7 +33,8 @@ fn show_one<T: Show, W: Sink>(
     item: &Result<(u64, T)>,
     out: &mut Tree<W>,
 ) -> u64
-    ensures { AddsUpTo space index result out.old out.new }
+    ensures shows { AddsThese (number_found space index item.now) out.old out.new }
+    ensures next { result ≡ after_found index item.now }
 {
     match item {
         Ok((offset, item)) => {
@@ -55,18 +56,16 @@ pub(crate) fn show_numbered<'a, T: FromReader<'a> + Show, W: Sink>(
     section: &SectionLimited<'a, T>,
     out: &mut Tree<W>,
 )
-    ensures { AddsNext space (count_of counts.now space) out.old out.new }
+    ensures next { AddsNext space (count_of counts.now space) out.old out.new }
+    ensures all { AddsItems T.meaning one_number space (count_of counts.now space) section.now
+        out.old out.new }
 {
-    let mut items = section.clone().unwrap().into_iter_with_offsets();
     let mut index = counts.of(space);
-    'items: for _ in 0..u64::MAX {
+    for item in section.clone().unwrap().into_iter_with_offsets() {
         if out.has_stopped() {
             break;
         }
-        match items.next() {
-            Some(item) => index = show_one(space, index, &item, out),
-            None => break,
-        }
+        index = show_one(space, index, &item, out);
     }
 }
 

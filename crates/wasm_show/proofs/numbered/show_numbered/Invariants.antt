@@ -1,6 +1,11 @@
 use Rattle.wasm_show.specs.Numbers.{count_of}
-use Rattle.wasm_show.specs.Tree.{AddsUpTo}
+use Rattle.wasm_show.proofs.Counted.{AddsSoFar}
 use Rattle.wasm_show.proofs.numbered.show_numbered.Given as goal
 
-abbrev pub invariant-items : goal.invariant-items
-invariant-items g l = AddsUpTo l.fn.space (count_of l.counts l.fn.space) l.index l.initial.out l.out
+abbrev pub invariant-loop-item : goal.invariant-loop-item
+invariant-loop-item g l = record {
+  can : (goal.iterator-loop-item g).can_next l.item-iterator;
+  finite : (goal.iterator-loop-item g).is_finite l.item-iterator;
+  left : AddsSoFar g.T.FromReader.meaning l.fn.space (count_of l.fn.counts l.fn.space) l.index l.fn.section l.item-iterator
+      l.initial.out l.out;
+}
