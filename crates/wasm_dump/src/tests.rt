@@ -1,3 +1,4 @@
 // Worked examples.
 mod colors;
+mod names;
 mod runs;

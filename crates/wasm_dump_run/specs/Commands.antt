@@ -4,15 +4,17 @@ use Rattle.std.specs.Prelude.{Bool, true, false, string_bytes, if◌then◌else�
 use Rattle.std.specs.IoError.{error_kind}
 use Rattle.std.specs.declared.io.Error.{Error}
 use Rattle.wasm_run.specs.Arguments.{is_no_text}
-use Rattle.wasm_dump_run.specs.Words.{is_colored_by, rest_of, words_of}
+use Rattle.wasm_dump_run.specs.Words.{is_colored_by, is_named_by, rest_of, words_of}
 use Rattle.wasm_dump_run.specs.declared.command.Command.{Command}
-use Rattle.wasm_dump_run.specs.declared.command.Command.TheVariants.{All, Sections, Help, Version, Unknown}
+use Rattle.wasm_dump_run.specs.declared.command.Command.TheVariants.{All, Sections, NamesOfInput, Help, Version}
+use Rattle.wasm_dump_run.specs.declared.command.Command.TheVariants.{Unknown}
 
--- what is asked for: to show all sections, or those that words choose, with colours or without; to say how the program
--- is used, or which version it is; or it isn't known
+-- what is asked for: to show all sections, or those that words choose, with colours or without; the names of an input
+-- that can't be read twice; to say how the program is used, or which version it is; or it isn't known
 pub data Asked : Type 0 where
   all : (is_colored : Bool) → Asked
   sections : (is_colored : Bool) → List (List ℕ) → Asked
+  names_of_input : Asked
   help : Asked
   version : Asked
   unknown : Asked
@@ -20,6 +22,7 @@ pub data Asked : Type 0 where
 abbrev pub asked_of : Command → Asked
 asked_of (All is_colored) = all is_colored
 asked_of (Sections is_colored words) = sections is_colored (map string_bytes words.items)
+asked_of NamesOfInput = names_of_input
 asked_of Help = help
 asked_of Version = version
 asked_of Unknown = unknown
@@ -31,18 +34,29 @@ asked_by_one word =
     else if bytes_eq word (codes "--version") then version
     else unknown
 
--- what words that choose sections ask for, and the arguments after them
-abbrev pub asked_after : (is_colored : Bool) (words rest : List (List ℕ)) → Asked
-asked_after is_colored [] [] = all is_colored
-asked_after is_colored (word ∷ words) [] = sections is_colored (word ∷ words)
-asked_after false [] (first ∷ []) = asked_by_one first
-asked_after true [] (first ∷ []) = unknown
-asked_after is_colored [] (first ∷ (second ∷ more)) = unknown
-asked_after is_colored (word ∷ words) (first ∷ more) = unknown
+-- what words that choose sections ask for, and the arguments after them, where names aren't asked for
+abbrev pub asked_unnamed : (is_colored : Bool) (words rest : List (List ℕ)) → Asked
+asked_unnamed is_colored [] [] = all is_colored
+asked_unnamed is_colored (word ∷ words) [] = sections is_colored (word ∷ words)
+asked_unnamed false [] (first ∷ []) = asked_by_one first
+asked_unnamed true [] (first ∷ []) = unknown
+asked_unnamed is_colored [] (first ∷ (second ∷ more)) = unknown
+asked_unnamed is_colored (word ∷ words) (first ∷ more) = unknown
+
+-- what names ask for, and the arguments after them: without a file they are those of the input
+abbrev pub asked_named : (rest : List (List ℕ)) → Asked
+asked_named [] = names_of_input
+asked_named (first ∷ more) = unknown
+
+-- what options ask for, and the arguments after them
+abbrev pub asked_after : (is_colored is_named : Bool) (words rest : List (List ℕ)) → Asked
+asked_after is_colored true words rest = asked_named rest
+asked_after is_colored false words rest = asked_unnamed is_colored words rest
 
 -- what all of them ask for
 abbrev pub asked_by : List (List ℕ) → Asked
-asked_by arguments = asked_after (is_colored_by arguments) (words_of arguments) (rest_of arguments)
+asked_by arguments =
+    asked_after (is_colored_by arguments) (is_named_by arguments) (words_of arguments) (rest_of arguments)
 
 -- the same, if they could be had: the first one is the program's own name. One that is no text is another argument.
 abbrev pub asked_if_any : {A : Type 0} → (A → List (List ℕ)) → Result A Error → Option Asked

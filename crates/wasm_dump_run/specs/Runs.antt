@@ -11,7 +11,7 @@ use Rattle.wasm_show.specs.declared.only.Only.TheVariants.{All}
 use Rattle.wasm_run.specs.Devices.{IsUntouched}
 use Rattle.wasm_run.specs.Endings.{status_of, Reports, RunsUsage, CannotBegin, WritesAll, WritesSome}
 use Rattle.wasm_dump_run.specs.Colors.{seen_as}
-use Rattle.wasm_dump_run.specs.Commands.{Asked, all, sections, help, version, unknown}
+use Rattle.wasm_dump_run.specs.Commands.{Asked, all, sections, names_of_input, help, version, unknown}
 use Rattle.wasm_dump_run.specs.Words.{ChooseInTurn}
 
 -- What was written was handed on, or the output failed to; after a dump that was given up nothing is done.
@@ -31,27 +31,32 @@ pub record RunsDump (only : List Only) (input output : Device) (handed_on : Bool
   pub ends : HandsOn how (output_failed how output.had_failed) output.has_failed handed_on result
 
 abbrev pub usage : List ℕ
-usage = codes "usage: wasm_dump [--help] [--version] [--color] [--section ID|NAME]... [FILE]...\n"
+usage = codes "usage: wasm_dump [--help] [--version] [--color] [--names] [--section ID|NAME]... [FILE]...\n"
+
+-- what is said where the names of an input are asked for
+abbrev pub names_usage : List ℕ
+names_usage = codes "wasm_dump: --names reads each file twice, and standard input can't be: name files\n"
 
 abbrev pub version_text : List ℕ
 version_text = codes "wasm_dump 0.263.0\n"
 
 abbrev pub help_text : List ℕ
 help_text =
-    codes "usage: wasm_dump [--color] [--section ID|NAME]... [FILE]...\n" ++ (
+    codes "usage: wasm_dump [--color] [--names] [--section ID|NAME]... [FILE]...\n" ++ (
     codes "\n" ++ (
     codes "Shows what the WebAssembly modules in the FILEs hold, each under its name where\n" ++ (
     codes "there are several; - or none is standard input. Each section and body has a\n" ++ (
     codes "line, and under it a line for each item, which begins with the offset of its\n" ++ (
     codes "bytes in the file. A fault of an item is a line at its place. With --section\n" ++ (
     codes "only the sections with this id or name are shown; several add up. With --color\n" ++ (
-    codes "the text has colours, as a terminal shows them.\n" ++ (
+    codes "the text has colours, as a terminal shows them. With --names each FILE is read\n" ++ (
+    codes "twice, and items have the names that its custom sections name have for them.\n" ++ (
     codes "\n" ++ (
     codes "  wasm_dump a.wasm                       all of it\n" ++ (
     codes "  wasm_dump --section import < a.wasm    its imports\n" ++ (
     codes "\n" ++ (
     codes "The status is 0, or 1 where a file has a fault at which reading stops, 2 for\n" ++ (
-    codes "other arguments, and 3 where a file, the output or memory failed.\n")))))))))))))
+    codes "other arguments, and 3 where a file, the output or memory failed.\n"))))))))))))))
 
 -- These sections of the input were shown, and how that ended is answered.
 pub record Shows (only : List Only) (handed_on : Bool) (input output errors : Device) (status : ℕ) : Type 0 where
@@ -91,6 +96,7 @@ pub record Runs (asked : Asked) (handed_on : Bool) (input output errors : Device
       → ShowsChosen words is_colored handed_on input output errors status
   pub helps : asked ≡ help → RunsTelling help_text handed_on input output errors status
   pub says_version : asked ≡ version → RunsTelling version_text handed_on input output errors status
+  pub refuses_names : asked ≡ names_of_input → RunsUsage names_usage input output errors status
   pub refuses : asked ≡ unknown → RunsUsage usage input output errors status
 
 -- The whole program, which was asked for this if the arguments could be had, or one was no text; unless memory was

@@ -1,10 +1,10 @@
 // What the program is asked for.
 ghost use Rattle.std.specs.Prelude.{◌≡◌, [], IfNone, IfSome, Some, drop, map, string_bytes};
 ghost use Rattle.std.specs.Vec.Iter.{into_iter_items};
-ghost use Rattle.wasm_dump_run.specs.Commands.{WantsMemory, asked_after, asked_by, asked_by_one, asked_if_any, asked_of};
+ghost use Rattle.wasm_dump_run.specs.Commands.{WantsMemory, asked_after, asked_by, asked_by_one, asked_if_any, asked_named, asked_of, asked_unnamed};
 ghost use Rattle.wasm_dump_run.specs.Words.{rest_given, words_of};
 
-use crate::words::{Split, split_words};
+use crate::words::{Rest, Split, split_words};
 use std::alloc::Global;
 use std::env::Args;
 use std::io;
@@ -22,6 +22,8 @@ pub(crate) enum Command {
         is_colored: bool,
         words: Vec<String>,
     },
+    /// To show the names of the input, which can't be read twice.
+    NamesOfInput,
     /// To say how it is used.
     Help,
     /// To say which version it is.
@@ -41,17 +43,21 @@ fn command_of_one(word: &str) -> Command
     }
 }
 
-// What words to choose sections by ask for, and the arguments after them.
-fn command_of(split: Split) -> Command
-    ensures { asked_of result
-        ≡ asked_after split.is_colored (map string_bytes split.words.items)
-        (rest_given split.rest) }
+// What names ask for, and the arguments after them.
+fn command_with_names(rest: Option<Rest>) -> Command
+    ensures { asked_of result ≡ asked_named (rest_given rest) }
 {
-    let Split {
-        words,
-        is_colored,
-        rest,
-    } = split;
+    match rest {
+        None => Command::NamesOfInput,
+        Some(_) => Command::Unknown,
+    }
+}
+
+// What words to choose sections by ask for, and the arguments after them, where names aren't asked for.
+fn command_without_names(words: Vec<String>, is_colored: bool, rest: Option<Rest>) -> Command
+    ensures { asked_of result
+        ≡ asked_unnamed is_colored (map string_bytes words.items) (rest_given rest) }
+{
     match rest {
         None => {
             if words.is_empty() {
@@ -69,6 +75,25 @@ fn command_of(split: Split) -> Command
             }
             command_of_one(rest.first.as_str())
         }
+    }
+}
+
+// What options ask for, and the arguments after them.
+fn command_of(split: Split) -> Command
+    ensures { asked_of result
+        ≡ asked_after split.is_colored split.is_named (map string_bytes split.words.items)
+        (rest_given split.rest) }
+{
+    let Split {
+        words,
+        is_colored,
+        is_named,
+        rest,
+    } = split;
+    if is_named {
+        command_with_names(rest)
+    } else {
+        command_without_names(words, is_colored, rest)
     }
 }
 

@@ -6,7 +6,7 @@ ghost use Rattle.wasm_dump_run.specs.Commands.{WantsMemory};
 ghost use Rattle.wasm_dump_run.specs.Files.{is_option, named_after, named_if_any, named_of};
 ghost use Rattle.wasm_dump_run.specs.Words.{rest_given};
 
-use crate::program::{answer, dump_as, show_input};
+use crate::program::{answer, dump_as, refuse_names, show_input};
 use crate::words::{Rest, Split, chosen_by, split_words};
 use std::alloc::{AllocError, Global};
 use std::env::Args;
@@ -14,13 +14,14 @@ use std::fs;
 use std::io::{self, Error, Write};
 use wasm_feed::{Ended, Failed, ListError, ReadSource, Sink, WriteSink, write_all};
 use wasm_run::{complain, give_up};
-use wasm_show::Only;
+use wasm_show::{ItemNames, Only, collect_names};
 
-/// Files that are to be dumped, the words that choose sections of them, and whether colours are asked for.
+/// Files that are to be dumped, the words that choose sections of them, and whether colours and names are asked for.
 #[derive(Drop)]
 pub(crate) struct Named {
     words: Vec<String>,
     is_colored: bool,
+    is_named: bool,
     files: Rest,
 }
 
@@ -37,12 +38,13 @@ fn is_an_option(word: &str) -> bool
 // The files that these arguments name, after words that choose sections.
 fn files_after(split: Split) -> Option<Named>
     ensures { option_map named_of result
-        ≡ named_after split.is_colored (map string_bytes split.words.items)
+        ≡ named_after split.is_colored split.is_named (map string_bytes split.words.items)
         (rest_given split.rest) }
 {
     let Split {
         words,
         is_colored,
+        is_named,
         rest,
     } = split;
     let files = rest?;
@@ -52,6 +54,7 @@ fn files_after(split: Split) -> Option<Named>
     Some(Named {
         words,
         is_colored,
+        is_named,
         files,
     })
 }
@@ -103,8 +106,44 @@ fn answer_for<E: Sink>(name: &str, how: Result<Ended, ListError>, errors: &mut E
     answer(how, errors)
 }
 
-// Dumps a file, or standard input where its name is `-`, and answers the status.
-fn dump_file<W: Write, E: Sink>(
+// Dumps standard input, unless names are asked for: it can't be read twice.
+fn dump_input<W: Write, E: Sink>(
+    rt: &HostRuntime,
+    only: &[Only<'_>],
+    is_colored: bool,
+    is_named: bool,
+    output: WriteSink<W>,
+    errors: &mut E,
+) -> (u8, WriteSink<W>) {
+    if is_named {
+        return (refuse_names(errors), output);
+    }
+    let mut input = ReadSource::new(rt.stdin());
+    show_input(rt.alloc(), only, is_colored, &mut input, output, errors)
+}
+
+// Opens a file, and dumps it with these names, if there are any.
+fn dump_opened<W: Write, E: Sink>(
+    rt: &HostRuntime,
+    only: &[Only<'_>],
+    is_colored: bool,
+    names: Option<ItemNames>,
+    name: &str,
+    output: WriteSink<W>,
+    errors: &mut E,
+) -> (u8, WriteSink<W>) {
+    match fs::open(rt, name) {
+        Ok(file) => {
+            let mut input = ReadSource::new(file);
+            let (how, output) = dump_as(rt.alloc(), only, is_colored, names, &mut input, output);
+            (answer_for(name, how, errors), output)
+        }
+        Err(error) => (complain_of(rt, name, &error, errors), output),
+    }
+}
+
+// Reads the names that a file has, and dumps it with these.
+fn dump_with_names<W: Write, E: Sink>(
     rt: &HostRuntime,
     only: &[Only<'_>],
     is_colored: bool,
@@ -112,24 +151,32 @@ fn dump_file<W: Write, E: Sink>(
     output: WriteSink<W>,
     errors: &mut E,
 ) -> (u8, WriteSink<W>) {
-    if name == "-" {
-        return show_input(
-            rt.alloc(),
-            only,
-            is_colored,
-            &mut ReadSource::new(rt.stdin()),
-            output,
-            errors,
-        );
-    }
     match fs::open(rt, name) {
-        Ok(file) => {
-            let mut input = ReadSource::new(file);
-            let (how, output) = dump_as(rt.alloc(), only, is_colored, &mut input, output);
-            (answer_for(name, how, errors), output)
-        }
+        Ok(file) => match collect_names(rt.alloc(), &mut ReadSource::new(file)) {
+            Ok(names) => dump_opened(rt, only, is_colored, Some(names), name, output, errors),
+            Err(why) => (give_up(errors, why), output),
+        },
         Err(error) => (complain_of(rt, name, &error, errors), output),
     }
+}
+
+// Dumps a file, or standard input where its name is `-`, and answers the status.
+fn dump_file<W: Write, E: Sink>(
+    rt: &HostRuntime,
+    only: &[Only<'_>],
+    is_colored: bool,
+    is_named: bool,
+    name: &str,
+    output: WriteSink<W>,
+    errors: &mut E,
+) -> (u8, WriteSink<W>) {
+    if name == "-" {
+        return dump_input(rt, only, is_colored, is_named, output, errors);
+    }
+    if is_named {
+        return dump_with_names(rt, only, is_colored, name, output, errors);
+    }
+    dump_opened(rt, only, is_colored, None, name, output, errors)
 }
 
 // The same after its name.
@@ -137,12 +184,13 @@ fn dump_under_name<W: Write, E: Sink>(
     rt: &HostRuntime,
     only: &[Only<'_>],
     is_colored: bool,
+    is_named: bool,
     name: &str,
     mut output: WriteSink<W>,
     errors: &mut E,
 ) -> (u8, WriteSink<W>) {
     match write_name(name, &mut output) {
-        Ok(()) => dump_file(rt, only, is_colored, name, output, errors),
+        Ok(()) => dump_file(rt, only, is_colored, is_named, name, output, errors),
         Err(_) => (give_up(errors, ListError::Output), output),
     }
 }
@@ -152,14 +200,25 @@ fn dump_files<W: Write + Drop, E: Sink>(
     rt: &HostRuntime,
     only: &[Only<'_>],
     is_colored: bool,
+    is_named: bool,
     first: &str,
     more: Args,
     output: WriteSink<W>,
     errors: &mut E,
 ) -> u8 {
-    let (mut status, mut output) = dump_under_name(rt, only, is_colored, first, output, errors);
+    let (mut status, mut output) = dump_under_name(
+        rt, only, is_colored, is_named, first, output, errors,
+    );
     for name in more {
-        let (one, after) = dump_under_name(rt, only, is_colored, name.as_str(), output, errors);
+        let (one, after) = dump_under_name(
+            rt,
+            only,
+            is_colored,
+            is_named,
+            name.as_str(),
+            output,
+            errors,
+        );
         output = after;
         status = status.max(one);
     }
@@ -172,15 +231,34 @@ fn dump_named<W: Write + Drop, E: Sink>(
     rt: &HostRuntime,
     only: &[Only<'_>],
     is_colored: bool,
+    is_named: bool,
     files: Rest,
     output: WriteSink<W>,
     errors: &mut E,
 ) -> u8 {
     let Rest { first, more } = files;
     if more.len() == 0 {
-        return dump_file(rt, only, is_colored, first.as_str(), output, errors).0;
+        return dump_file(
+            rt,
+            only,
+            is_colored,
+            is_named,
+            first.as_str(),
+            output,
+            errors,
+        )
+        .0;
     }
-    dump_files(rt, only, is_colored, first.as_str(), more, output, errors)
+    dump_files(
+        rt,
+        only,
+        is_colored,
+        is_named,
+        first.as_str(),
+        more,
+        output,
+        errors,
+    )
 }
 
 /// Dumps the files, or the sections of them that were chosen.
@@ -193,13 +271,22 @@ pub(crate) fn run_files<W: Write + Drop, E: Sink>(
     let Named {
         words,
         is_colored,
+        is_named,
         files,
     } = named;
     if words.is_empty() {
-        return dump_named(rt, &[Only::All], is_colored, files, output, errors);
+        return dump_named(
+            rt,
+            &[Only::All],
+            is_colored,
+            is_named,
+            files,
+            output,
+            errors,
+        );
     }
     match chosen_by(rt.alloc(), &words) {
-        Ok(only) => dump_named(rt, &only, is_colored, files, output, errors),
+        Ok(only) => dump_named(rt, &only, is_colored, is_named, files, output, errors),
         Err(_) => give_up(errors, ListError::Memory),
     }
 }

@@ -11,4 +11,4 @@ mod program;
 mod words;
 
 pub use colored::Colored;
-pub use program::{dump_in_colors, dump_input, run_host, run_program};
+pub use program::{dump_as, dump_in_colors, dump_input, run_host, run_program};

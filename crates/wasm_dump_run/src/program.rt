@@ -4,10 +4,11 @@ ghost use Rattle.std.specs.Io.KnownBytes.{Appends, Keeps};
 ghost use Rattle.std.specs.Process.{exit_status};
 ghost use Rattle.std.specs.Vec.Iter.{into_iter_items};
 ghost use Rattle.wasm_feed.specs.Calls.{device_of, writer_device};
+ghost use Rattle.wasm_run.specs.Devices.{Says};
 ghost use Rattle.wasm_run.specs.Endings.{Reports, status_of};
 ghost use Rattle.wasm_dump_run.specs.Colors.{plain_device, seen_as};
 ghost use Rattle.wasm_dump_run.specs.Commands.{WantsMemory, asked_if_any, asked_of};
-ghost use Rattle.wasm_dump_run.specs.Runs.{HandsOn, Runs, RunsDump, RunsProgram, Shows, ShowsChosen, Tells, help_text, version_text};
+ghost use Rattle.wasm_dump_run.specs.Runs.{HandsOn, Runs, RunsDump, RunsProgram, Shows, ShowsChosen, Tells, help_text, names_usage, version_text};
 
 use crate::colored::Colored;
 use crate::command::{Command, command_asked};
@@ -19,17 +20,18 @@ use std::io::{self, Write};
 use std::process::ExitCode;
 use wasm_feed::{Ended, Failed, ListError, ReadSource, Sink, Source, WriteSink, write_all};
 use wasm_run::{PIECE, complain, give_up};
-use wasm_show::{Only, Tree, dump};
+use wasm_show::{ItemNames, Only, Tree, dump};
 
 /// What `--help` says.
-const HELP: &[u8] = b"usage: wasm_dump [--color] [--section ID|NAME]... [FILE]...
+const HELP: &[u8] = b"usage: wasm_dump [--color] [--names] [--section ID|NAME]... [FILE]...
 
 Shows what the WebAssembly modules in the FILEs hold, each under its name where
 there are several; - or none is standard input. Each section and body has a
 line, and under it a line for each item, which begins with the offset of its
 bytes in the file. A fault of an item is a line at its place. With --section
 only the sections with this id or name are shown; several add up. With --color
-the text has colours, as a terminal shows them.
+the text has colours, as a terminal shows them. With --names each FILE is read
+twice, and items have the names that its custom sections name have for them.
 
   wasm_dump a.wasm                       all of it
   wasm_dump --section import < a.wasm    its imports
@@ -115,16 +117,29 @@ fn run_command<R: Source, W: Write, E: Sink>(
         Command::Sections { is_colored, words } => {
             show_chosen(alloc, &words, is_colored, input, output, errors)
         }
+        Command::NamesOfInput => (refuse_names(errors), output),
         Command::Help => show_text(help(), output, errors),
         Command::Version => show_text(version(), output, errors),
         Command::Unknown => {
             complain(
                 errors,
-                b"usage: wasm_dump [--help] [--version] [--color] [--section ID|NAME]... [FILE]...\n",
+                b"usage: wasm_dump [--help] [--version] [--color] [--names] [--section ID|NAME]... [FILE]...\n",
             );
             (2, output)
         }
     }
+}
+
+/// Says that names are for files alone, and answers the status.
+pub(crate) fn refuse_names<E: Sink>(errors: &mut E) -> u8
+    ensures status { result ≡ 2 }
+    ensures says { Says (device_of E.taken E.has_failed errors.old errors.new) names_usage }
+{
+    complain(
+        errors,
+        b"wasm_dump: --names reads each file twice, and standard input can't be: name files\n",
+    );
+    2
 }
 
 // Writes a text, and hands it on.
@@ -190,7 +205,7 @@ pub(crate) fn show_input<R: Source, W: Write, E: Sink>(
         (seen_as is_colored (writer_device W.contents output result.1))
         (device_of E.taken E.has_failed errors.old errors.new) result.0 }
 {
-    let (how, output) = dump_as(alloc, only, is_colored, input, output);
+    let (how, output) = dump_as(alloc, only, is_colored, None, input, output);
     (answer(how, errors), output)
 }
 
@@ -223,6 +238,42 @@ fn hand_on<W: Write>(
     }
 }
 
+// Shows these sections of the input, with these names, if there are any, and hands on all that was written.
+fn dump_plain<R: Source, W: Write>(
+    alloc: Global,
+    only: &[Only<'_>],
+    names: Option<ItemNames>,
+    input: &mut R,
+    output: WriteSink<W>,
+) -> (Result<Ended, ListError>, WriteSink<W>)
+    ensures { RunsDump only.now (device_of R.remaining R.has_failed input.old input.new)
+        (writer_device W.contents output result.1) result.1.handed_on result.0 }
+{
+    let mut tree = Tree::with_names(alloc, output, names);
+    let how = dump(alloc, only, input, &mut tree, PIECE);
+    let mut output = tree.into_output();
+    let result = hand_on(how, &mut output);
+    (result, output)
+}
+
+// The same with colours.
+fn dump_colored<R: Source, W: Write>(
+    alloc: Global,
+    only: &[Only<'_>],
+    names: Option<ItemNames>,
+    input: &mut R,
+    output: WriteSink<W>,
+) -> (Result<Ended, ListError>, WriteSink<W>)
+    ensures { RunsDump only.now (device_of R.remaining R.has_failed input.old input.new)
+        (plain_device (writer_device W.contents output result.1)) result.1.handed_on result.0 }
+{
+    let mut tree = Tree::with_names(alloc, Colored::new(output), names);
+    let how = dump(alloc, only, input, &mut tree, PIECE);
+    let mut output = tree.into_output().into_inner();
+    let result = hand_on(how, &mut output);
+    (result, output)
+}
+
 /// Shows these sections of the input, and hands on all that was written. Answers how it ended, and the output.
 pub fn dump_input<R: Source, W: Write>(
     alloc: Global,
@@ -233,11 +284,7 @@ pub fn dump_input<R: Source, W: Write>(
     ensures { RunsDump only.now (device_of R.remaining R.has_failed input.old input.new)
         (writer_device W.contents output result.1) result.1.handed_on result.0 }
 {
-    let mut tree = Tree::new(alloc, output);
-    let how = dump(alloc, only, input, &mut tree, PIECE);
-    let mut output = tree.into_output();
-    let result = hand_on(how, &mut output);
-    (result, output)
+    dump_plain(alloc, only, None, input, output)
 }
 
 /// The same with colours: what the output takes is the dump with sequences that set them between its bytes.
@@ -250,18 +297,15 @@ pub fn dump_in_colors<R: Source, W: Write>(
     ensures { RunsDump only.now (device_of R.remaining R.has_failed input.old input.new)
         (plain_device (writer_device W.contents output result.1)) result.1.handed_on result.0 }
 {
-    let mut tree = Tree::new(alloc, Colored::new(output));
-    let how = dump(alloc, only, input, &mut tree, PIECE);
-    let mut output = tree.into_output().into_inner();
-    let result = hand_on(how, &mut output);
-    (result, output)
+    dump_colored(alloc, only, None, input, output)
 }
 
-/// The one or the other.
-pub(crate) fn dump_as<R: Source, W: Write>(
+/// The one or the other, with these names, if there are any.
+pub fn dump_as<R: Source, W: Write>(
     alloc: Global,
     only: &[Only<'_>],
     is_colored: bool,
+    names: Option<ItemNames>,
     input: &mut R,
     output: WriteSink<W>,
 ) -> (Result<Ended, ListError>, WriteSink<W>)
@@ -269,8 +313,8 @@ pub(crate) fn dump_as<R: Source, W: Write>(
         (seen_as is_colored (writer_device W.contents output result.1)) result.1.handed_on result.0 }
 {
     if is_colored {
-        dump_in_colors(alloc, only, input, output)
+        dump_colored(alloc, only, names, input, output)
     } else {
-        dump_input(alloc, only, input, output)
+        dump_plain(alloc, only, names, input, output)
     }
 }

@@ -15,11 +15,12 @@ pub(crate) struct Rest {
     pub(crate) more: Args,
 }
 
-/// The words that arguments choose sections by, whether they ask for colours, and the arguments after these options.
+/// The words that arguments choose sections by, whether they ask for colours and for names, and the arguments after these options.
 #[derive(Drop)]
 pub(crate) struct Split {
     pub(crate) words: Vec<String>,
     pub(crate) is_colored: bool,
+    pub(crate) is_named: bool,
     pub(crate) rest: Option<Rest>,
 }
 
@@ -30,13 +31,15 @@ pub(crate) enum Beginning {
     Word(String),
     /// That colours are asked for.
     Color,
+    /// That names are asked for.
+    Names,
     /// Another argument.
     Other(String),
     /// Nothing.
     Nothing,
 }
 
-// Takes what arguments begin with: `--section` and a word, `--color`, or another argument.
+// Takes what arguments begin with: `--section` and a word, `--color`, `--names`, or another argument.
 fn take_beginning(arguments: &mut Args) -> Beginning
     ensures { Begins result (map string_bytes (into_iter_items arguments.old))
         (map string_bytes (into_iter_items arguments.new)) }
@@ -46,6 +49,9 @@ fn take_beginning(arguments: &mut Args) -> Beginning
     };
     if first.as_str() == "--color" {
         return Beginning::Color;
+    }
+    if first.as_str() == "--names" {
+        return Beginning::Names;
     }
     if first.as_str() != "--section" {
         return Beginning::Other(first);
@@ -63,10 +69,12 @@ pub(crate) fn split_words(alloc: Global, mut arguments: Args) -> Result<Split, A
 {
     let mut words = Vec::new(alloc);
     let mut is_colored = false;
+    let mut is_named = false;
     'words: loop {
         match take_beginning(&mut arguments) {
             Beginning::Word(word) => words.push(word)?,
             Beginning::Color => is_colored = true,
+            Beginning::Names => is_named = true,
             Beginning::Other(first) => {
                 let rest = Rest {
                     first,
@@ -75,6 +83,7 @@ pub(crate) fn split_words(alloc: Global, mut arguments: Args) -> Result<Split, A
                 return Ok(Split {
                     words,
                     is_colored,
+                    is_named,
                     rest: Some(rest),
                 });
             }
@@ -82,6 +91,7 @@ pub(crate) fn split_words(alloc: Global, mut arguments: Args) -> Result<Split, A
                 return Ok(Split {
                     words,
                     is_colored,
+                    is_named,
                     rest: None,
                 });
             }

@@ -1,11 +1,13 @@
 //! What a stream holds, as text: a line for each event and, under it, a line for each item.
 #![tactic(auto)]
 
+mod collected;
 mod coredumps;
 mod custom;
 mod expressions;
 mod heading;
 mod items;
+mod known_names;
 pub mod laws;
 mod linking;
 mod lists;
@@ -19,6 +21,8 @@ mod stream;
 mod tree;
 mod types;
 
+pub use collected::collect_names;
+pub use known_names::ItemNames;
 pub use lists::{Items, show_fault, show_items, show_list};
 pub use numbers::{Counts, Space};
 pub use only::Only;

@@ -8,6 +8,7 @@ ghost use Rattle.wasm_show.specs.Fields.{is_escaped as byte_is_escaped};
 ghost use Rattle.wasm_show.specs.Said.{Says, SaysSome};
 ghost use Rattle.wasm_show.specs.Tree.{Adds, AddsFirst, AddsNumber, IsOut, Puts, has_line_feed, starts};
 
+use crate::known_names::ItemNames;
 use crate::numbers::{Space, put_number};
 use std::alloc::Global;
 use std::marker::Model;
@@ -38,6 +39,14 @@ fn is_escaped(byte: u8) -> bool
     byte < 32 || byte > 126 || byte == b'"' || byte == b'\\'
 }
 
+// The name of an item, if there are names, and it has one.
+fn name_in(names: &Option<ItemNames>, space: Space, index: u64) -> Option<&str> {
+    match names {
+        Some(names) => names.of(space, index),
+        None => None,
+    }
+}
+
 /// Writes lines, each one under another by two blanks a level. They wait until there are many, so that the sink is called
 /// seldom.
 ///
@@ -48,6 +57,7 @@ pub struct Tree<W: Sink> {
     page: Page,
     is_begun: bool,
     why: Option<ListError>,
+    names: Option<ItemNames>,
 }
 
 impl<W: Sink> Model for Tree<W> {
@@ -68,6 +78,20 @@ impl<W: Sink> Tree<W> {
             page: Page::new(alloc),
             is_begun: false,
             why: None,
+            names: None,
+        }
+    }
+
+    /// The same, by which items that have one of these names, if there are any, have it after their numbers.
+    pub fn with_names(alloc: Global, output: W, names: Option<ItemNames>) -> Tree<W>
+        ensures { result ≡ starts (W.taken output) (W.has_failed output) }
+    {
+        Tree {
+            output,
+            page: Page::new(alloc),
+            is_begun: false,
+            why: None,
+            names,
         }
     }
 
@@ -81,6 +105,7 @@ impl<W: Sink> Tree<W> {
             page: _,
             is_begun: _,
             why: _,
+            names: _,
         } = self;
         output
     }
@@ -242,14 +267,62 @@ impl<W: Sink> Tree<W> {
         self.piece(rest);
     }
 
-    /// Writes the number of an item: the word of its index space, and its index in brackets.
+    /// Writes the number of an item: the word of its index space, and its index in brackets. Where the tree has a name of the
+    /// item, this comes after it, in quotes.
     pub fn item_number(&mut self, space: Space, index: u64)
+        ensures { AddsNumber space index self.old self.new }
+    {
+        self.number_alone(space, index);
+        self.name_after(space, index);
+    }
+
+    // Writes the number of an item, without its name.
+    fn number_alone(&mut self, space: Space, index: u64)
         ensures { AddsNumber space index self.old self.new }
     {
         let mut line = Line::new();
         put_number(&mut line, space, index);
         self.begin();
         self.push(line.as_bytes());
+    }
+
+    // Writes a blank and the name of an item, if the tree has it.
+    fn name_after(&mut self, space: Space, index: u64)
+        ensures { Adds self.old self.new }
+    {
+        if self.names.is_none() {
+            return;
+        }
+        let names = self.names.take();
+        if let Some(name) = name_in(&names, space, index) {
+            self.text(" ");
+            self.in_quotes(name);
+        }
+        self.names = names;
+    }
+
+    /// Writes the name of an item on a line under one of the first level, if the tree has it.
+    pub(crate) fn name_under(&mut self, space: Space, index: u64)
+        ensures { Adds self.old self.new }
+    {
+        if self.names.is_none() {
+            return;
+        }
+        let names = self.names.take();
+        if let Some(name) = name_in(&names, space, index) {
+            self.line(1, "name=");
+            self.in_quotes(name);
+        }
+        self.names = names;
+    }
+
+    // Writes a text in quotes.
+    fn in_quotes(&mut self, text: &str)
+        ensures { Adds self.old self.new }
+    {
+        self.text("\"");
+        self.quoted_bytes(text.as_bytes());
+        self.text("\"");
     }
 
     /// Writes a text, which has no line feed, as it is.

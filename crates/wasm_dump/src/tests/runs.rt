@@ -20,7 +20,10 @@ end 26
 ";
 
 const USAGE: &[u8] =
-    b"usage: wasm_dump [--help] [--version] [--color] [--section ID|NAME]... [FILE]...\n";
+    b"usage: wasm_dump [--help] [--version] [--color] [--names] [--section ID|NAME]... [FILE]...\n";
+
+const NAMES_USAGE: &[u8] =
+    b"wasm_dump: --names reads each file twice, and standard input can't be: name files\n";
 
 // The program's own name, and these arguments.
 fn arguments(alloc: Global, words: &[&str]) -> Result<Args, Fail> {
@@ -193,7 +196,7 @@ fn knows_the_names_of_the_standard(rt: HostRuntime) -> Result<(), Fail> {
 
 #[test]
 fn refuses_arguments(rt: HostRuntime) -> Result<(), Fail> {
-    let refused: [&[&str]; 14] = [
+    let refused: [&[&str]; 17] = [
         &["--section"],
         &["--sections", "3"],
         &["3"],
@@ -207,6 +210,9 @@ fn refuses_arguments(rt: HostRuntime) -> Result<(), Fail> {
         &["--color", "--help"],
         &["--color", "--section"],
         &["--version", "--color"],
+        &["--names", "--help"],
+        &["--names", "3"],
+        &["--names", "--section"],
         &[""],
     ];
     for words in refused {
@@ -217,6 +223,22 @@ fn refuses_arguments(rt: HostRuntime) -> Result<(), Fail> {
     runs(&rt, rt.alloc(), no_text, MODULE, (2, b"", USAGE))?;
     let none = Err(io::Error::from(io::ErrorKind::OutOfMemory));
     runs(&rt, rt.alloc(), none, MODULE, (3, b"", b"out of memory\n"))
+}
+
+// Standard input can't be read twice.
+#[test]
+fn refuses_names_of_the_input(rt: HostRuntime) -> Result<(), Fail> {
+    let refused: [&[&str]; 4] = [
+        &["--names"],
+        &["--names", "--names"],
+        &["--names", "--section", "3", "--color"],
+        &["--section", "--names", "--names"],
+    ];
+    for words in refused {
+        let given = Ok(arguments(rt.alloc(), words)?);
+        runs(&rt, rt.alloc(), given, MODULE, (2, b"", NAMES_USAGE))?;
+    }
+    Ok(())
 }
 
 #[test]
@@ -241,7 +263,7 @@ fn says_how_it_is_used(rt: HostRuntime) -> Result<(), Fail> {
     assert_eq!(rt; status, ExitCode::from(0));
     assert!(rt;
         written.as_slice().starts_with(
-            b"usage: wasm_dump [--color] [--section ID|NAME]... [FILE]...\n\n"
+            b"usage: wasm_dump [--color] [--names] [--section ID|NAME]... [FILE]...\n\n"
         )
     );
     assert!(rt; written.as_slice().ends_with(b"or memory failed.\n"));

@@ -1,11 +1,11 @@
 use Rattle.std.proofs.Common.{◌∙◌, ap}
 use Rattle.wasm_dump_run.specs.Colors.{plain}
 use Rattle.wasm_dump_run.proofs.Running.{colors_kept}
-use Rattle.wasm_dump_run.proofs.program.dump_in_colors.Goals as goal
+use Rattle.wasm_dump_run.proofs.program.dump_colored.Goals as goal
 
 pub returns : goal.returns
 returns g c =
-    let d = c.dump-how.ensures _ _ c.new-tree.ensures in
+    let d = c.dump-how.ensures _ _ c.with_names-tree.ensures in
     let same = c.into_inner-output.ensures in
     let dumps = colors_kept _ _ _ _ _ _ _ _ d.dumps
     (ap (λ s. plain (g.W.Write.contents s.writer)) same ∙ c.into_output.ensures.taken) c.hand_on-result.ensures.keeps in

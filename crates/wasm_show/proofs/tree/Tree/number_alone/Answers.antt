@@ -2,7 +2,7 @@ use Rattle.std.proofs.Common.{List, ℕ, ap, subst, ◌∙◌}
 use Rattle.wasm_show.specs.Numbers.{number_text}
 use Rattle.wasm_show.specs.Tree.{Puts}
 use Rattle.wasm_show.proofs.Writing.{puts_number}
-use Rattle.wasm_show.proofs.tree.Tree.item_number.Goals as goal
+use Rattle.wasm_show.proofs.tree.Tree.number_alone.Goals as goal
 
 pub returns : goal.returns
 returns g c o i =

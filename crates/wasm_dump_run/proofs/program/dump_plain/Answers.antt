@@ -1,10 +1,10 @@
 use Rattle.std.proofs.Common.{◌∙◌}
 use Rattle.wasm_dump_run.proofs.Running.{dumps_kept}
-use Rattle.wasm_dump_run.proofs.program.dump_input.Goals as goal
+use Rattle.wasm_dump_run.proofs.program.dump_plain.Goals as goal
 
 pub returns : goal.returns
 returns g c =
-    let d = c.dump-how.ensures _ _ c.new-tree.ensures in
+    let d = c.dump-how.ensures _ _ c.with_names-tree.ensures in
     record {
       how = c.dump-how.result;
       dumps = dumps_kept _ _ _ _ _ _ _ d.dumps (rw c.into_output-output.ensures.taken at c.hand_on-result.ensures.keeps);

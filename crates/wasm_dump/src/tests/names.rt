@@ -1,0 +1,116 @@
+// Dumps with names.
+use std::alloc::Global;
+use std::test::Fail;
+use wasm_dump_run::dump_as;
+use wasm_feed::{SliceSource, WriteSink};
+use wasm_show::{Only, collect_names};
+
+// The linked module of docs/DUMP.md, whose bodies are filled with a byte.
+const LINKED: &[u8] =
+    b"\0asm\x01\0\0\0\x01\x0e\x03`\0\x01\x7f`\x01\x7f\0`\x01\x7f\x01\x7f\x02\x12\x01\x03env\x0alog_number\0\x01\x03\x04\x03\0\x02\x02\x04\x05\x01p\x01\x02\x02\x05\x03\x01\0\x02\x06\x08\x01\x7f\x01A\xa0\x88\x04\x0b\x07\x1a\x03\x06memory\x02\0\x07name_of\0\x02\x03run\0\x03\x09\x07\x01\0A\x01\x0b\x01\x01\x0aZ\x03\x1d\0\x01\x01\x01\x01\x01\x01\x01\x01\x01\x01\x01\x01\x01\x01\x01\x01\x01\x01\x01\x01\x01\x01\x01\x01\x01\x01\x01\x0b\x14\0\x01\x01\x01\x01\x01\x01\x01\x01\x01\x01\x01\x01\x01\x01\x01\x01\x01\x01\x0b%\0\x01\x01\x01\x01\x01\x01\x01\x01\x01\x01\x01\x01\x01\x01\x01\x01\x01\x01\x01\x01\x01\x01\x01\x01\x01\x01\x01\x01\x01\x01\x01\x01\x01\x01\x01\x0b\x0b'\x02\0A\x80\x08\x0b\x16\x13\x04\0\0\x10\x04\0\0\x01\0\0\0\x01\0\0\0cd\0ab\0\0A\x98\x08\x0b\x04\x03\0\0\0\0O\x04name\x01!\x04\0\x0alog_number\x01\x04next\x02\x07name_of\x03\x03run\x07\x12\x01\0\x0f__stack_pointer\x09\x11\x02\0\x07.rodata\x01\x05.data\0-\x09producers\x01\x0cprocessed-by\x01\x0cDebian clang\x0614.0.6";
+
+const NAMED: &[u8] = b"version 0 8 1 module
+section 1 10 24 3 type
+  11 type[0] explicit=false type=(sub final (func (result i32)))
+  15 type[1] explicit=false type=(sub final (func (param i32)))
+  19 type[2] explicit=false type=(sub final (func (param i32) (result i32)))
+section 2 26 44 1 import
+  27 func[0] \"log_number\" module=\"env\" name=\"log_number\" ty=func index=1
+section 3 46 50 3 function
+  47 func[1] \"next\" index=0
+  48 func[2] \"name_of\" index=2
+  49 func[3] \"run\" index=2
+section 4 52 57 1 table
+  53 table[0] element_type=(ref null func) table64=false initial=2 maximum=2 shared=false init=null
+section 5 59 62 1 memory
+  60 memory[0] memory64=false shared=false initial=2 maximum=none page_size_log2=none
+section 6 64 72 1 global
+  65 global[0] \"__stack_pointer\" content_type=(mut i32) shared=false init_expr=(i32.const 66592)
+section 7 74 100 3 export
+  75 name=\"memory\" kind=memory index=0
+  84 name=\"name_of\" kind=func index=2
+  94 name=\"run\" kind=func index=3
+section 9 102 109 1 element
+  103 elem[0] kind=active table_index=none offset_expr=(i32.const 1) functions=107..109 count=1 range=103..109
+    108 index=1
+code 111 201 3 89
+body 113 142 func[1]
+  name=\"next\"
+body 143 163 func[2]
+  name=\"name_of\"
+body 164 201 func[3]
+  name=\"run\"
+section 11 203 242 2 data
+  204 data[0] \".rodata\" kind=active memory_index=0 offset_expr=(i32.const 1024) data=22:13040000100400000100000001000000 range=204..232
+  232 data[1] \".data\" kind=active memory_index=0 offset_expr=(i32.const 1048) data=4:03000000 range=232..242
+custom 244 323 249
+  section name=\"name\"
+    249 function
+      252 index=0 name=\"log_number\"
+      264 index=1 name=\"next\"
+      270 index=2 name=\"name_of\"
+      279 index=3 name=\"run\"
+    284 global
+      287 index=0 name=\"__stack_pointer\"
+    304 data
+      307 index=0 name=\".rodata\"
+      316 index=1 name=\".data\"
+custom 325 370 335
+  section name=\"producers\" fields=335..370 count=1
+    336 name=\"processed-by\" values=349..370 count=1
+      350 name=\"Debian clang\" version=\"14.0.6\"
+end 370
+";
+
+// What a stream is dumped as, with the names that it has.
+fn dumped(alloc: Global, stream: &[u8]) -> Result<Vec<u8>, Fail> {
+    let Ok(names) = collect_names(alloc, &mut SliceSource::new(stream)) else {
+        return Err(Fail::new("out of memory"));
+    };
+    let mut written = Vec::<u8>::new(alloc);
+    let output = WriteSink::new(&mut written);
+    let mut input = SliceSource::new(stream);
+    let (_how, _output) = dump_as(alloc, &[Only::All], false, Some(names), &mut input, output);
+    Ok(written)
+}
+
+#[test]
+fn shows_the_names_of_items(rt: HostRuntime) -> Result<(), Fail> {
+    let text = dumped(rt.alloc(), LINKED)?;
+    assert_eq!(rt; text.as_slice(), NAMED);
+    Ok(())
+}
+
+// The first section has the name of an item that another one has too.
+#[test]
+fn shows_the_first_name(rt: HostRuntime) -> Result<(), Fail> {
+    let stream =
+        b"\0asm\x01\0\0\0\x01\x04\x01`\0\0\x03\x03\x02\0\0\0\x0d\x04name\x01\x06\x01\x01\x03b\x0a\"\0\x14\x04name\x01\x07\x02\0\x01a\x01\x01c\x04\x04\x01\0\x01t";
+    let wanted = b"version 0 8 1 module
+section 1 10 14 1 type
+  11 type[0] \"t\" explicit=false type=(sub final (func))
+section 3 16 19 2 function
+  17 func[0] \"a\" index=0
+  18 func[1] \"b\\0a\\22\" index=0
+"
+        .as_slice();
+    assert!(rt; dumped(rt.alloc(), stream)?.as_slice().starts_with(wanted));
+    Ok(())
+}
+
+// Names are known up to the first fault, whatever comes after it.
+#[test]
+fn ends_at_a_fault_of_names(rt: HostRuntime) -> Result<(), Fail> {
+    let stream =
+        b"\0asm\x01\0\0\0\x01\x04\x01`\0\0\x03\x03\x02\0\0\0\x14\x04name\x01\x07\x02\x01\x01b\0\x01a\x04\x04\x01\0\x01t\0\x0b\x04name\x04\x04\x01\0\x01u";
+    let wanted = b"version 0 8 1 module
+section 1 10 14 1 type
+  11 type[0] explicit=false type=(sub final (func))
+section 3 16 19 2 function
+  17 func[0] index=0
+  18 func[1] \"b\" index=0
+"
+        .as_slice();
+    assert!(rt; dumped(rt.alloc(), stream)?.as_slice().starts_with(wanted));
+    Ok(())
+}

@@ -1,0 +1,68 @@
+// Names of items.
+ghost use Rattle.std.specs.Prelude.{◌≡◌, IfErr};
+ghost use Rattle.wasm_feed.specs.declared.devices.ListError.TheVariants.{Memory};
+
+use crate::numbers::Space;
+use std::alloc::Global;
+use std::collections::BTreeMap;
+use wasm_feed::ListError;
+
+/// Names of items, each by its number. Of two names of one item it keeps the first that was added.
+#[derive(Drop)]
+pub struct ItemNames {
+    names: BTreeMap<(u8, u32), String>,
+}
+
+// The rank of an index space among the keys.
+fn rank_of(space: Space) -> u8 {
+    match space {
+        Space::Types => 0,
+        Space::Functions => 1,
+        Space::Tables => 2,
+        Space::Memories => 3,
+        Space::Tags => 4,
+        Space::Globals => 5,
+        Space::Elements => 6,
+        Space::DataSegments => 7,
+    }
+}
+
+impl ItemNames {
+    /// No names. They take no memory.
+    pub fn new(alloc: Global) -> ItemNames {
+        ItemNames {
+            names: BTreeMap::new(alloc),
+        }
+    }
+
+    /// Adds the name of an item, unless it has one. `Memory` where a growth was refused, and no other error.
+    pub fn add(
+        &mut self,
+        alloc: Global,
+        space: Space,
+        index: u32,
+        name: &str,
+    ) -> Result<(), ListError>
+        ensures { IfErr result (λ why. why ≡ Memory) }
+    {
+        let key = (rank_of(space), index);
+        if self.names.contains_key(&key) {
+            return Ok(());
+        }
+        match self.names.insert(key, String::from_str(alloc, name)?) {
+            Ok(_) => Ok(()),
+            Err(_) => Err(ListError::Memory),
+        }
+    }
+
+    /// The name of an item, if it has one.
+    pub fn of(&self, space: Space, index: u64) -> Option<&str> {
+        match u32::try_from(index) {
+            Ok(index) => match self.names.get(&(rank_of(space), index)) {
+                Some(name) => Some(name.as_str()),
+                None => None,
+            },
+            Err(_) => None,
+        }
+    }
+}
