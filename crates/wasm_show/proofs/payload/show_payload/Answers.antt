@@ -19,7 +19,8 @@ returns-in-ExportSection g c begins =
     shows_no_items c.args.counts.now (report_of c.args.payload.now) _ _ (rw c.in-ExportSection.is refl) c.show_section.ensures
 
 pub returns-in-CodeSectionEntry : goal.returns-in-CodeSectionEntry
-returns-in-CodeSectionEntry g c begins = shows_no_items c.args.counts.now (report_of c.args.payload.now) _ _ c.name_under.ensures
+returns-in-CodeSectionEntry g c begins =
+    shows_no_items c.args.counts.now (report_of c.args.payload.now) _ _ (rw c.in-CodeSectionEntry.is refl) c.name_under.ensures
 
 pub returns-in-CustomSection : goal.returns-in-CustomSection
 returns-in-CustomSection g c begins =
