@@ -9,39 +9,41 @@ use Rattle.wasm_feed.specs.declared.devices.ListError.TheVariants.{Input, Output
 use Rattle.wasm_show.specs.Numbers.{Number}
 use Rattle.wasm_show.specs.Dump.{WritesWhole, WritesSome, Writes, Dumps}
 use Rattle.wasm_show.specs.declared.only.Only.{Only}
+use Rattle.wasm_show.specs.declared.tree.Style.{Style}
 use Rattle.wasm_feed.specs.declared.devices.Failed.{Failed}
 use Rattle.wasm_dump_run.specs.Colors.{plain, without_colors}
 
-whole_kept : (a b c : Option (List ℕ)) (outline : List ℕ) (numbers : List Number) → WritesWhole a b outline numbers → Keeps b c
-    → WritesWhole a c outline numbers
-whole_kept a b c outline numbers w k = record { text = w.text; outlined = w.outlined; wrote = appends_kept a b c w.text w.wrote k }
+module _ (style : Style) where
+  whole_kept : (a b c : Option (List ℕ)) (outline : List ℕ) (numbers : List Number) → WritesWhole style a b outline numbers → Keeps b c
+      → WritesWhole style a c outline numbers
+  whole_kept a b c outline numbers w k = record { text = w.text; shaped = w.shaped; wrote = appends_kept a b c w.text w.wrote k }
 
-some_kept : (a b c : Option (List ℕ)) (outline : List ℕ) (numbers : List Number) → WritesSome a b outline numbers → Keeps b c
-    → WritesSome a c outline numbers
-some_kept a b c outline numbers w k = record {
-  text = w.text;
-  unwritten = w.unwritten;
-  outlined = w.outlined;
-  wrote = appends_kept a b c w.text w.wrote k;
-}
+  some_kept : (a b c : Option (List ℕ)) (outline : List ℕ) (numbers : List Number) → WritesSome style a b outline numbers → Keeps b c
+      → WritesSome style a c outline numbers
+  some_kept a b c outline numbers w k = record {
+    text = w.text;
+    unwritten = w.unwritten;
+    shaped = w.shaped;
+    wrote = appends_kept a b c w.text w.wrote k;
+  }
 
-writes_kept : (how : Result Ended ListError) (a b c : Option (List ℕ)) (outline : List ℕ) (numbers : List Number)
-    → Writes how a b outline numbers → Keeps b c → Writes how a c outline numbers
-writes_kept (Ok ended) a b c outline numbers w k = whole_kept a b c outline numbers w k
-writes_kept (Err Input) a b c outline numbers w k = whole_kept a b c outline numbers w k
-writes_kept (Err Output) a b c outline numbers w k = some_kept a b c outline numbers w k
-writes_kept (Err Memory) a b c outline numbers w k = some_kept a b c outline numbers w k
+  writes_kept : (how : Result Ended ListError) (a b c : Option (List ℕ)) (outline : List ℕ) (numbers : List Number)
+      → Writes style how a b outline numbers → Keeps b c → Writes style how a c outline numbers
+  writes_kept (Ok ended) a b c outline numbers w k = whole_kept a b c outline numbers w k
+  writes_kept (Err Input) a b c outline numbers w k = whole_kept a b c outline numbers w k
+  writes_kept (Err Output) a b c outline numbers w k = some_kept a b c outline numbers w k
+  writes_kept (Err Memory) a b c outline numbers w k = some_kept a b c outline numbers w k
 
-pub dumps_kept : (only : List Only) (source rest a b c : Option (List ℕ)) (how : Result Ended ListError)
-    → Dumps only (from_to source rest) (from_to a b) how → Keeps b c
-    → Dumps only (from_to source rest) (from_to a c) how
-dumps_kept only source rest a b c how d k = record {
-  outline = d.outline;
-  numbers = d.numbers;
-  lists = d.lists;
-  counts = d.counts;
-  writes = writes_kept how a b c d.outline d.numbers d.writes k;
-}
+  pub dumps_kept : (only : List Only) (source rest a b c : Option (List ℕ)) (how : Result Ended ListError)
+      → Dumps style only (from_to source rest) (from_to a b) how → Keeps b c
+      → Dumps style only (from_to source rest) (from_to a c) how
+  dumps_kept only source rest a b c how d k = record {
+    outline = d.outline;
+    numbers = d.numbers;
+    lists = d.lists;
+    counts = d.counts;
+    writes = writes_kept how a b c d.outline d.numbers d.writes k;
+  }
 
 -- all of a text was written, and then the output failed to hand it on
 pub not_handed_on : (r : Result (Unit {0}) Failed) (a b c : Option (List ℕ)) (text : List ℕ) → Appends a b text → Keeps b c
@@ -59,8 +61,8 @@ plain_kept None b k = tt
 plain_kept (Some x) None k = absurd k
 plain_kept (Some x) (Some y) k = ap without_colors k
 
-pub colors_kept : (only : List Only) (source rest a b c taken : Option (List ℕ)) (how : Result Ended ListError)
-    → Dumps only (from_to source rest) (from_to (plain a) taken) how → plain b ≡ taken → Keeps b c
-    → Dumps only (from_to source rest) (from_to (plain a) (plain c)) how
-colors_kept only source rest a b c taken how d e k =
-    dumps_kept only source rest (plain a) taken (plain c) how d (subst (λ t. Keeps t (plain c)) e (plain_kept b c k))
+pub colors_kept : (style : Style) (only : List Only) (source rest a b c taken : Option (List ℕ)) (how : Result Ended ListError)
+    → Dumps style only (from_to source rest) (from_to (plain a) taken) how → plain b ≡ taken → Keeps b c
+    → Dumps style only (from_to source rest) (from_to (plain a) (plain c)) how
+colors_kept style only source rest a b c taken how d e k =
+    dumps_kept style only source rest (plain a) taken (plain c) how d (subst (λ t. Keeps t (plain c)) e (plain_kept b c k))

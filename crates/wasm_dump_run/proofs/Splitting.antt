@@ -1,15 +1,16 @@
 -- Arguments that are split, and what words choose.
-use Rattle.std.proofs.Common.{◌≡◌, ◌∙◌, ◌+◌, ◌<◌, ℕ, Bool, true, if◌then◌else◌, List, [], ◌∷◌, ◌++◌, ap, sym, subst₂, map, take}
+use Rattle.std.proofs.Common.{◌≡◌, ◌∙◌, ◌+◌, ◌<◌, ℕ, List, [], ◌∷◌, ◌++◌, ap, sym, subst₂, map, take}
 use Rattle.std.proofs.Common.{length, get_or}
 use Rattle.std.proofs.lemmas.List.{map-append, take_more}
-use Rattle.wasm_dump_run.specs.Words.{Chooses, ChooseInTurn, is_colored_by, is_named_by, words_of, rest_of}
+use Rattle.wasm_dump_run.specs.Words.{Chooses, ChooseInTurn, marks_of, options_of, words_of, rest_of}
+use Rattle.wasm_dump_run.specs.Options.{with_marks}
+use Rattle.wasm_dump_run.specs.declared.options.Options.{Options}
 use Rattle.wasm_show.specs.declared.only.Only.{Only}
 
--- These words have been kept of arguments, and whether they ask for colours and for names, and those are left.
-pub record Kept (all kept : List (List ℕ)) (is_colored is_named : Bool) (now : List (List ℕ)) : Type 0 where
+-- These words have been kept of arguments, and what else they ask for, and those are left.
+pub record Kept (all kept : List (List ℕ)) (options : Options) (now : List (List ℕ)) : Type 0 where
   pub words : words_of all ≡ kept ++ words_of now
-  pub colors : is_colored_by all ≡ (if is_colored then true else is_colored_by now)
-  pub names : is_named_by all ≡ (if is_named then true else is_named_by now)
+  pub asked : options_of all ≡ with_marks options (marks_of now)
   pub rest : rest_of all ≡ rest_of now
 
 choose_more : (words : List (List ℕ)) (only : List Only) (word : List ℕ) (choice : Only) → ChooseInTurn words only → Chooses word choice

@@ -1,27 +1,28 @@
 -- What arguments ask for.
 use Rattle.std.specs.Prelude.{◌≡◌, ℕ, List, [], ◌∷◌, codes, bytes_eq, drop, map, Option, Some, None, Result, Ok, Err}
-use Rattle.std.specs.Prelude.{Bool, true, false, string_bytes, if◌then◌else◌}
+use Rattle.std.specs.Prelude.{false, ◌&&◌, ◌||◌, string_bytes, if◌then◌else◌}
 use Rattle.std.specs.IoError.{error_kind}
 use Rattle.std.specs.declared.io.Error.{Error}
 use Rattle.wasm_run.specs.Arguments.{is_no_text}
-use Rattle.wasm_dump_run.specs.Words.{is_colored_by, is_named_by, rest_of, words_of}
+use Rattle.wasm_dump_run.specs.Words.{options_of, rest_of, words_of}
+use Rattle.wasm_dump_run.specs.declared.options.Options.{Options}
 use Rattle.wasm_dump_run.specs.declared.command.Command.{Command}
 use Rattle.wasm_dump_run.specs.declared.command.Command.TheVariants.{All, Sections, NamesOfInput, Help, Version}
 use Rattle.wasm_dump_run.specs.declared.command.Command.TheVariants.{Unknown}
 
--- what is asked for: to show all sections, or those that words choose, with colours or without; the names of an input
--- that can't be read twice; to say how the program is used, or which version it is; or it isn't known
+-- what is asked for: to show all sections, or those that words choose, with these options; the names of an input that
+-- can't be read twice; to say how the program is used, or which version it is; or it isn't known
 pub data Asked : Type 0 where
-  all : (is_colored : Bool) → Asked
-  sections : (is_colored : Bool) → List (List ℕ) → Asked
+  all : Options → Asked
+  sections : Options → List (List ℕ) → Asked
   names_of_input : Asked
   help : Asked
   version : Asked
   unknown : Asked
 
 abbrev pub asked_of : Command → Asked
-asked_of (All is_colored) = all is_colored
-asked_of (Sections is_colored words) = sections is_colored (map string_bytes words.items)
+asked_of (All options) = all options
+asked_of (Sections options words) = sections options (map string_bytes words.items)
 asked_of NamesOfInput = names_of_input
 asked_of Help = help
 asked_of Version = version
@@ -35,28 +36,29 @@ asked_by_one word =
     else unknown
 
 -- what words that choose sections ask for, and the arguments after them, where names aren't asked for
-abbrev pub asked_unnamed : (is_colored : Bool) (words rest : List (List ℕ)) → Asked
-asked_unnamed is_colored [] [] = all is_colored
-asked_unnamed is_colored (word ∷ words) [] = sections is_colored (word ∷ words)
-asked_unnamed false [] (first ∷ []) = asked_by_one first
-asked_unnamed true [] (first ∷ []) = unknown
-asked_unnamed is_colored [] (first ∷ (second ∷ more)) = unknown
-asked_unnamed is_colored (word ∷ words) (first ∷ more) = unknown
+abbrev pub asked_unnamed : Options → (words rest : List (List ℕ)) → Asked
+asked_unnamed options [] [] = all options
+asked_unnamed options (word ∷ words) [] = sections options (word ∷ words)
+asked_unnamed options [] (first ∷ []) =
+    if options.is_colored || options.is_json then unknown else asked_by_one first
+asked_unnamed options [] (first ∷ (second ∷ more)) = unknown
+asked_unnamed options (word ∷ words) (first ∷ more) = unknown
 
 -- what names ask for, and the arguments after them: without a file they are those of the input
 abbrev pub asked_named : (rest : List (List ℕ)) → Asked
 asked_named [] = names_of_input
 asked_named (first ∷ more) = unknown
 
--- what options ask for, and the arguments after them
-abbrev pub asked_after : (is_colored is_named : Bool) (words rest : List (List ℕ)) → Asked
-asked_after is_colored true words rest = asked_named rest
-asked_after is_colored false words rest = asked_unnamed is_colored words rest
+-- what options ask for, and the arguments after them. JSON has no colours.
+abbrev pub asked_after : Options → (words rest : List (List ℕ)) → Asked
+asked_after options words rest =
+    if options.is_colored && options.is_json then unknown
+    else if options.is_named then asked_named rest
+    else asked_unnamed options words rest
 
 -- what all of them ask for
 abbrev pub asked_by : List (List ℕ) → Asked
-asked_by arguments =
-    asked_after (is_colored_by arguments) (is_named_by arguments) (words_of arguments) (rest_of arguments)
+asked_by arguments = asked_after (options_of arguments) (words_of arguments) (rest_of arguments)
 
 -- the same, if they could be had: the first one is the program's own name. One that is no text is another argument.
 abbrev pub asked_if_any : {A : Type 0} → (A → List (List ℕ)) → Result A Error → Option Asked

@@ -1,21 +1,20 @@
 -- Which files arguments name.
-use Rattle.std.specs.Prelude.{ℕ, Bool, List, ◌∷◌, [], codes, bytes_eq, drop, map, Option, Some, None, Result, Ok, Err}
+use Rattle.std.specs.Prelude.{ℕ, Bool, ◌&&◌, List, ◌∷◌, [], codes, bytes_eq, drop, map, Option, Some, None, Result, Ok, Err}
 use Rattle.std.specs.Prelude.{string_bytes, take, if◌then◌else◌}
-use Rattle.wasm_dump_run.specs.Words.{is_colored_by, is_named_by, rest_items, rest_of, words_of}
+use Rattle.wasm_dump_run.specs.Words.{options_of, rest_items, rest_of, words_of}
 use Rattle.wasm_dump_run.specs.declared.files.Named.{Named}
+use Rattle.wasm_dump_run.specs.declared.options.Options.{Options}
 
--- files, the words that choose sections of them, and whether they are shown with colours and with names
+-- files, the words that choose sections of them, and what else is asked for
 pub record NamedFiles : Type 0 where
   pub words : List (List ℕ)
-  pub is_colored : Bool
-  pub is_named : Bool
+  pub options : Options
   pub files : List (List ℕ)
 
 abbrev pub named_of : Named → NamedFiles
 named_of named = record {
   words = map string_bytes named.words.items;
-  is_colored = named.is_colored;
-  is_named = named.is_named;
+  options = named.options;
   files = rest_items named.files;
 }
 
@@ -24,16 +23,16 @@ abbrev pub is_option : List ℕ → Bool
 is_option word = bytes_eq (take 2 word) (codes "--")
 
 -- the files that these arguments name, after words that choose sections
-abbrev pub named_after : (is_colored is_named : Bool) (words rest : List (List ℕ)) → Option NamedFiles
-named_after is_colored is_named words [] = None
-named_after is_colored is_named words (first ∷ more) =
-    if is_option first then None
-    else Some (record { words = words; is_colored = is_colored; is_named = is_named; files = first ∷ more })
+abbrev pub named_after : Options → (words rest : List (List ℕ)) → Option NamedFiles
+named_after options words [] = None
+named_after options words (first ∷ more) =
+    if options.is_colored && options.is_json then None
+    else if is_option first then None
+    else Some (record { words = words; options = options; files = first ∷ more })
 
 -- the files that the arguments after the program's own name name
 abbrev pub named_by : List (List ℕ) → Option NamedFiles
-named_by arguments =
-    named_after (is_colored_by arguments) (is_named_by arguments) (words_of arguments) (rest_of arguments)
+named_by arguments = named_after (options_of arguments) (words_of arguments) (rest_of arguments)
 
 -- the same, if the arguments could be had: the first one is the program's own name
 abbrev pub named_if_any : {A E : Type 0} → (A → List (List ℕ)) → Result A E → Option NamedFiles

@@ -12,7 +12,10 @@ use Rattle.wasm_run.specs.Devices.{IsUntouched}
 use Rattle.wasm_run.specs.Endings.{status_of, Reports, RunsUsage, CannotBegin, WritesAll, WritesSome}
 use Rattle.wasm_dump_run.specs.Colors.{seen_as}
 use Rattle.wasm_dump_run.specs.Commands.{Asked, all, sections, names_of_input, help, version, unknown}
+use Rattle.wasm_dump_run.specs.Options.{style_of}
 use Rattle.wasm_dump_run.specs.Words.{ChooseInTurn}
+use Rattle.wasm_dump_run.specs.declared.options.Options.{Options}
+use Rattle.wasm_show.specs.declared.tree.Style.{Style}
 
 -- What was written was handed on, or the output failed to; after a dump that was given up nothing is done.
 abbrev pub HandsOn : (how : Result Ended ListError) (had_failed has_failed handed_on : Bool) → Result Ended ListError
@@ -22,16 +25,16 @@ HandsOn (Ok ended) had_failed has_failed handed_on result =
     ⊎ ((result ≡ Err Output) × (has_failed ≡ true))
 HandsOn (Err why) had_failed has_failed handed_on result = (result ≡ Err why) × (has_failed ≡ had_failed)
 
--- The input was dumped, and what was written handed on.
-pub record RunsDump (only : List Only) (input output : Device) (handed_on : Bool) (result : Result Ended ListError) :
-    Type 0 where
+-- The input was dumped in this style, and what was written handed on.
+pub record RunsDump (style : Style) (only : List Only) (input output : Device) (handed_on : Bool)
+    (result : Result Ended ListError) : Type 0 where
   pub how : Result Ended ListError
-  pub dumps : Dumps only (bytes_of input) (bytes_of output) how
+  pub dumps : Dumps style only (bytes_of input) (bytes_of output) how
   pub source : input.has_failed ≡ input_failed how input.had_failed
   pub ends : HandsOn how (output_failed how output.had_failed) output.has_failed handed_on result
 
 abbrev pub usage : List ℕ
-usage = codes "usage: wasm_dump [--help] [--version] [--color] [--names] [--section ID|NAME]... [FILE]...\n"
+usage = codes "usage: wasm_dump [--help] [--version] [OPTION]... [--section ID|NAME]... [FILE]...\n"
 
 -- what is said where the names of an input are asked for
 abbrev pub names_usage : List ℕ
@@ -42,41 +45,46 @@ version_text = codes "wasm_dump 0.263.0\n"
 
 abbrev pub help_text : List ℕ
 help_text =
-    codes "usage: wasm_dump [--color] [--names] [--section ID|NAME]... [FILE]...\n" ++ (
+    codes "usage: wasm_dump [OPTION]... [--section ID|NAME]... [FILE]...\n" ++ (
     codes "\n" ++ (
     codes "Shows what the WebAssembly modules in the FILEs hold, each under its name where\n" ++ (
     codes "there are several; - or none is standard input. Each section and body has a\n" ++ (
     codes "line, and under it a line for each item, which begins with the offset of its\n" ++ (
     codes "bytes in the file. A fault of an item is a line at its place. With --section\n" ++ (
-    codes "only the sections with this id or name are shown; several add up. With --color\n" ++ (
-    codes "the text has colours, as a terminal shows them. With --names each FILE is read\n" ++ (
-    codes "twice, and items have the names that its custom sections name have for them.\n" ++ (
+    codes "only the sections with this id or name are shown; several add up. The options:\n" ++ (
+    codes "\n" ++ (
+    codes "  --color   the text has colours, as a terminal shows them\n" ++ (
+    codes "  --names   each FILE is read twice, and items have the names that its custom\n" ++ (
+    codes "            sections name have for them\n" ++ (
+    codes "  --json    each line is an object of JSON, for programs\n" ++ (
     codes "\n" ++ (
     codes "  wasm_dump a.wasm                       all of it\n" ++ (
     codes "  wasm_dump --section import < a.wasm    its imports\n" ++ (
     codes "\n" ++ (
     codes "The status is 0, or 1 where a file has a fault at which reading stops, 2 for\n" ++ (
-    codes "other arguments, and 3 where a file, the output or memory failed.\n"))))))))))))))
+    codes "other arguments, and 3 where a file, the output or memory failed.\n")))))))))))))))))
 
 -- These sections of the input were shown, and how that ended is answered.
-pub record Shows (only : List Only) (handed_on : Bool) (input output errors : Device) (status : ℕ) : Type 0 where
+pub record Shows (style : Style) (only : List Only) (handed_on : Bool) (input output errors : Device) (status : ℕ) :
+    Type 0 where
   pub how : Result Ended ListError
-  pub runs : RunsDump only input output handed_on how
+  pub runs : RunsDump style only input output handed_on how
   pub answers : status ≡ status_of how
   pub reports : Reports how errors
 
 -- the same of those that words choose
-pub record ShowsThose (words : List (List ℕ)) (handed_on : Bool) (input output errors : Device) (status : ℕ) : Type 0
-  where
-    pub only : List Only
-    pub chosen : ChooseInTurn words only
-    pub shows : Shows only handed_on input output errors status
+pub record ShowsThose (style : Style) (words : List (List ℕ)) (handed_on : Bool) (input output errors : Device)
+    (status : ℕ) : Type 0 where
+  pub only : List Only
+  pub chosen : ChooseInTurn words only
+  pub shows : Shows style only handed_on input output errors status
 
--- the same with colours or without, unless memory was refused for what the words choose
-abbrev pub ShowsChosen : (words : List (List ℕ)) (is_colored handed_on : Bool) (input output errors : Device)
+-- the same with these options, unless memory was refused for what the words choose
+abbrev pub ShowsChosen : (words : List (List ℕ)) → Options → (handed_on : Bool) (input output errors : Device)
     (status : ℕ) → Type 0
-ShowsChosen words is_colored handed_on input output errors status =
-    ShowsThose words handed_on input (seen_as is_colored output) errors status ⊎ CannotBegin input output errors status
+ShowsChosen words options handed_on input output errors status =
+    ShowsThose (style_of options) words handed_on input (seen_as options.is_colored output) errors status
+    ⊎ CannotBegin input output errors status
 
 -- a text was written and handed on, or the output failed
 abbrev pub Tells : (text : List ℕ) (handed_on : Bool) (output errors : Device) (status : ℕ) → Type 0
@@ -90,10 +98,10 @@ pub record RunsTelling (text : List ℕ) (handed_on : Bool) (input output errors
 
 -- A run that was asked for this. Where colours were asked for, what the output took says the same without them.
 pub record Runs (asked : Asked) (handed_on : Bool) (input output errors : Device) (status : ℕ) : Type 0 where
-  pub shows : (is_colored : Bool) → asked ≡ all is_colored
-      → Shows (All ∷ []) handed_on input (seen_as is_colored output) errors status
-  pub shows_chosen : (is_colored : Bool) (words : List (List ℕ)) → asked ≡ sections is_colored words
-      → ShowsChosen words is_colored handed_on input output errors status
+  pub shows : (options : Options) → asked ≡ all options
+      → Shows (style_of options) (All ∷ []) handed_on input (seen_as options.is_colored output) errors status
+  pub shows_chosen : (options : Options) (words : List (List ℕ)) → asked ≡ sections options words
+      → ShowsChosen words options handed_on input output errors status
   pub helps : asked ≡ help → RunsTelling help_text handed_on input output errors status
   pub says_version : asked ≡ version → RunsTelling version_text handed_on input output errors status
   pub refuses_names : asked ≡ names_of_input → RunsUsage names_usage input output errors status

@@ -4,6 +4,7 @@ ghost use Rattle.std.specs.Vec.Iter.{into_iter_items};
 ghost use Rattle.wasm_dump_run.specs.Commands.{WantsMemory, asked_after, asked_by, asked_by_one, asked_if_any, asked_named, asked_of, asked_unnamed};
 ghost use Rattle.wasm_dump_run.specs.Words.{rest_given, words_of};
 
+use crate::options::Options;
 use crate::words::{Rest, Split, split_words};
 use std::alloc::Global;
 use std::env::Args;
@@ -15,11 +16,11 @@ use wasm_run::is_no_text;
 pub(crate) enum Command {
     /// To show all sections.
     All {
-        is_colored: bool,
+        options: Options,
     },
     /// To show those with these ids and names.
     Sections {
-        is_colored: bool,
+        options: Options,
         words: Vec<String>,
     },
     /// To show the names of the input, which can't be read twice.
@@ -54,20 +55,20 @@ fn command_with_names(rest: Option<Rest>) -> Command
 }
 
 // What words to choose sections by ask for, and the arguments after them, where names aren't asked for.
-fn command_without_names(words: Vec<String>, is_colored: bool, rest: Option<Rest>) -> Command
+fn command_without_names(words: Vec<String>, options: Options, rest: Option<Rest>) -> Command
     ensures { asked_of result
-        ≡ asked_unnamed is_colored (map string_bytes words.items) (rest_given rest) }
+        ≡ asked_unnamed options (map string_bytes words.items) (rest_given rest) }
 {
     match rest {
         None => {
             if words.is_empty() {
-                Command::All { is_colored }
+                Command::All { options }
             } else {
-                Command::Sections { is_colored, words }
+                Command::Sections { options, words }
             }
         }
         Some(rest) => {
-            if is_colored || !words.is_empty() {
+            if options.say_how() || !words.is_empty() {
                 return Command::Unknown;
             }
             if rest.more.len() > 0 {
@@ -81,19 +82,20 @@ fn command_without_names(words: Vec<String>, is_colored: bool, rest: Option<Rest
 // What options ask for, and the arguments after them.
 fn command_of(split: Split) -> Command
     ensures { asked_of result
-        ≡ asked_after split.is_colored split.is_named (map string_bytes split.words.items)
+        ≡ asked_after split.options (map string_bytes split.words.items)
         (rest_given split.rest) }
 {
     let Split {
         words,
-        is_colored,
-        is_named,
+        options,
         rest,
     } = split;
-    if is_named {
+    if options.contradict() {
+        Command::Unknown
+    } else if options.is_named {
         command_with_names(rest)
     } else {
-        command_without_names(words, is_colored, rest)
+        command_without_names(words, options, rest)
     }
 }
 

@@ -6,6 +6,7 @@ ghost use Rattle.wasm_dump_run.specs.Commands.{WantsMemory};
 ghost use Rattle.wasm_dump_run.specs.Files.{is_option, named_after, named_if_any, named_of};
 ghost use Rattle.wasm_dump_run.specs.Words.{rest_given};
 
+use crate::options::Options;
 use crate::program::{answer, dump_as, refuse_names, show_input};
 use crate::words::{Rest, Split, chosen_by, split_words};
 use std::alloc::{AllocError, Global};
@@ -14,15 +15,21 @@ use std::fs;
 use std::io::{self, Error, Write};
 use wasm_feed::{Ended, Failed, ListError, ReadSource, Sink, WriteSink, write_all};
 use wasm_run::{complain, give_up};
-use wasm_show::{ItemNames, Only, collect_names};
+use wasm_show::{ItemNames, Only, Style, Tree, collect_names};
 
-/// Files that are to be dumped, the words that choose sections of them, and whether colours and names are asked for.
+//// Files that are to be dumped, the words that choose sections of them, and what else is asked for.
 #[derive(Drop)]
 pub(crate) struct Named {
     words: Vec<String>,
-    is_colored: bool,
-    is_named: bool,
+    options: Options,
     files: Rest,
+}
+
+/// What is shown of each file, and how.
+#[derive(Clone, Copy)]
+struct Plan<'w> {
+    only: &'w [Only<'w>],
+    options: Options,
 }
 
 // Whether an argument is none of the files: it begins with two dashes.
@@ -35,26 +42,26 @@ fn is_an_option(word: &str) -> bool
     }
 }
 
-// The files that these arguments name, after words that choose sections.
+// The files that these arguments name, after options.
 fn files_after(split: Split) -> Option<Named>
     ensures { option_map named_of result
-        ≡ named_after split.is_colored split.is_named (map string_bytes split.words.items)
-        (rest_given split.rest) }
+        ≡ named_after split.options (map string_bytes split.words.items) (rest_given split.rest) }
 {
     let Split {
         words,
-        is_colored,
-        is_named,
+        options,
         rest,
     } = split;
     let files = rest?;
+    if options.contradict() {
+        return None;
+    }
     if is_an_option(files.first.as_str()) {
         return None;
     }
     Some(Named {
         words,
-        is_colored,
-        is_named,
+        options,
         files,
     })
 }
@@ -78,10 +85,42 @@ pub(crate) fn files_named(
     }
 }
 
-// Writes the name of a file, before its dump.
+// Writes the name of a file on a line, before its dump.
 fn write_name<W: Write>(name: &str, output: &mut WriteSink<W>) -> Result<(), Failed> {
     write_all(output, name.as_bytes())?;
     write_all(output, b":\n")
+}
+
+// Writes the object of a file, before its dump.
+fn write_file_object<W: Write>(
+    alloc: Global,
+    name: &str,
+    output: WriteSink<W>,
+) -> (Result<(), ListError>, WriteSink<W>) {
+    let mut tree = Tree::with_names(alloc, output, Style::Objects, None);
+    tree.quoted("file", name);
+    tree.write_out();
+    let result = match tree.stopped() {
+        Some(why) => Err(why),
+        None => Ok(()),
+    };
+    (result, tree.into_output())
+}
+
+// The one or the other.
+fn write_heading<W: Write>(
+    alloc: Global,
+    options: Options,
+    name: &str,
+    mut output: WriteSink<W>,
+) -> (Result<(), ListError>, WriteSink<W>) {
+    if options.is_json {
+        return write_file_object(alloc, name, output);
+    }
+    match write_name(name, &mut output) {
+        Ok(()) => (Ok(()), output),
+        Err(_) => (Err(ListError::Output), output),
+    }
 }
 
 // Says that a file could not be opened, and why.
@@ -107,26 +146,30 @@ fn answer_for<E: Sink>(name: &str, how: Result<Ended, ListError>, errors: &mut E
 }
 
 // Dumps standard input, unless names are asked for: it can't be read twice.
-fn dump_input<W: Write, E: Sink>(
+fn dump_standard_input<W: Write, E: Sink>(
     rt: &HostRuntime,
-    only: &[Only<'_>],
-    is_colored: bool,
-    is_named: bool,
+    plan: Plan<'_>,
     output: WriteSink<W>,
     errors: &mut E,
 ) -> (u8, WriteSink<W>) {
-    if is_named {
+    if plan.options.is_named {
         return (refuse_names(errors), output);
     }
     let mut input = ReadSource::new(rt.stdin());
-    show_input(rt.alloc(), only, is_colored, &mut input, output, errors)
+    show_input(
+        rt.alloc(),
+        plan.only,
+        plan.options,
+        &mut input,
+        output,
+        errors,
+    )
 }
 
 // Opens a file, and dumps it with these names, if there are any.
 fn dump_opened<W: Write, E: Sink>(
     rt: &HostRuntime,
-    only: &[Only<'_>],
-    is_colored: bool,
+    plan: Plan<'_>,
     names: Option<ItemNames>,
     name: &str,
     output: WriteSink<W>,
@@ -135,7 +178,14 @@ fn dump_opened<W: Write, E: Sink>(
     match fs::open(rt, name) {
         Ok(file) => {
             let mut input = ReadSource::new(file);
-            let (how, output) = dump_as(rt.alloc(), only, is_colored, names, &mut input, output);
+            let (how, output) = dump_as(
+                rt.alloc(),
+                plan.only,
+                plan.options,
+                names,
+                &mut input,
+                output,
+            );
             (answer_for(name, how, errors), output)
         }
         Err(error) => (complain_of(rt, name, &error, errors), output),
@@ -145,15 +195,14 @@ fn dump_opened<W: Write, E: Sink>(
 // Reads the names that a file has, and dumps it with these.
 fn dump_with_names<W: Write, E: Sink>(
     rt: &HostRuntime,
-    only: &[Only<'_>],
-    is_colored: bool,
+    plan: Plan<'_>,
     name: &str,
     output: WriteSink<W>,
     errors: &mut E,
 ) -> (u8, WriteSink<W>) {
     match fs::open(rt, name) {
         Ok(file) => match collect_names(rt.alloc(), &mut ReadSource::new(file)) {
-            Ok(names) => dump_opened(rt, only, is_colored, Some(names), name, output, errors),
+            Ok(names) => dump_opened(rt, plan, Some(names), name, output, errors),
             Err(why) => (give_up(errors, why), output),
         },
         Err(error) => (complain_of(rt, name, &error, errors), output),
@@ -163,62 +212,47 @@ fn dump_with_names<W: Write, E: Sink>(
 // Dumps a file, or standard input where its name is `-`, and answers the status.
 fn dump_file<W: Write, E: Sink>(
     rt: &HostRuntime,
-    only: &[Only<'_>],
-    is_colored: bool,
-    is_named: bool,
+    plan: Plan<'_>,
     name: &str,
     output: WriteSink<W>,
     errors: &mut E,
 ) -> (u8, WriteSink<W>) {
     if name == "-" {
-        return dump_input(rt, only, is_colored, is_named, output, errors);
+        return dump_standard_input(rt, plan, output, errors);
     }
-    if is_named {
-        return dump_with_names(rt, only, is_colored, name, output, errors);
+    if plan.options.is_named {
+        return dump_with_names(rt, plan, name, output, errors);
     }
-    dump_opened(rt, only, is_colored, None, name, output, errors)
+    dump_opened(rt, plan, None, name, output, errors)
 }
 
 // The same after its name.
 fn dump_under_name<W: Write, E: Sink>(
     rt: &HostRuntime,
-    only: &[Only<'_>],
-    is_colored: bool,
-    is_named: bool,
+    plan: Plan<'_>,
     name: &str,
-    mut output: WriteSink<W>,
+    output: WriteSink<W>,
     errors: &mut E,
 ) -> (u8, WriteSink<W>) {
-    match write_name(name, &mut output) {
-        Ok(()) => dump_file(rt, only, is_colored, is_named, name, output, errors),
-        Err(_) => (give_up(errors, ListError::Output), output),
+    let (headed, output) = write_heading(rt.alloc(), plan.options, name, output);
+    match headed {
+        Ok(()) => dump_file(rt, plan, name, output, errors),
+        Err(why) => (give_up(errors, why), output),
     }
 }
 
 // Dumps files, each under its name, and answers the greatest of their statuses.
 fn dump_files<W: Write + Drop, E: Sink>(
     rt: &HostRuntime,
-    only: &[Only<'_>],
-    is_colored: bool,
-    is_named: bool,
+    plan: Plan<'_>,
     first: &str,
     more: Args,
     output: WriteSink<W>,
     errors: &mut E,
 ) -> u8 {
-    let (mut status, mut output) = dump_under_name(
-        rt, only, is_colored, is_named, first, output, errors,
-    );
+    let (mut status, mut output) = dump_under_name(rt, plan, first, output, errors);
     for name in more {
-        let (one, after) = dump_under_name(
-            rt,
-            only,
-            is_colored,
-            is_named,
-            name.as_str(),
-            output,
-            errors,
-        );
+        let (one, after) = dump_under_name(rt, plan, name.as_str(), output, errors);
         output = after;
         status = status.max(one);
     }
@@ -229,36 +263,16 @@ fn dump_files<W: Write + Drop, E: Sink>(
 // Dumps the files, each under its name where there are several, and answers the greatest of their statuses.
 fn dump_named<W: Write + Drop, E: Sink>(
     rt: &HostRuntime,
-    only: &[Only<'_>],
-    is_colored: bool,
-    is_named: bool,
+    plan: Plan<'_>,
     files: Rest,
     output: WriteSink<W>,
     errors: &mut E,
 ) -> u8 {
     let Rest { first, more } = files;
     if more.len() == 0 {
-        return dump_file(
-            rt,
-            only,
-            is_colored,
-            is_named,
-            first.as_str(),
-            output,
-            errors,
-        )
-        .0;
+        return dump_file(rt, plan, first.as_str(), output, errors).0;
     }
-    dump_files(
-        rt,
-        only,
-        is_colored,
-        is_named,
-        first.as_str(),
-        more,
-        output,
-        errors,
-    )
+    dump_files(rt, plan, first.as_str(), more, output, errors)
 }
 
 /// Dumps the files, or the sections of them that were chosen.
@@ -270,23 +284,21 @@ pub(crate) fn run_files<W: Write + Drop, E: Sink>(
 ) -> u8 {
     let Named {
         words,
-        is_colored,
-        is_named,
+        options,
         files,
     } = named;
     if words.is_empty() {
-        return dump_named(
-            rt,
-            &[Only::All],
-            is_colored,
-            is_named,
-            files,
-            output,
-            errors,
-        );
+        let only = &[Only::All];
+        return dump_named(rt, Plan { only, options }, files, output, errors);
     }
     match chosen_by(rt.alloc(), &words) {
-        Ok(only) => dump_named(rt, &only, is_colored, is_named, files, output, errors),
+        Ok(only) => {
+            let plan = Plan {
+                only: &only,
+                options,
+            };
+            dump_named(rt, plan, files, output, errors)
+        }
         Err(_) => give_up(errors, ListError::Memory),
     }
 }

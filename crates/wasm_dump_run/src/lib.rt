@@ -6,9 +6,11 @@ mod command;
 mod files;
 mod gathered;
 mod inks;
+mod options;
 mod plain;
 mod program;
 mod words;
 
 pub use colored::Colored;
-pub use program::{dump_as, dump_in_colors, dump_input, run_host, run_program};
+pub use options::Options;
+pub use program::{dump_as, run_host, run_program};

@@ -8,11 +8,13 @@ ghost use Rattle.wasm_run.specs.Devices.{Says};
 ghost use Rattle.wasm_run.specs.Endings.{Reports, status_of};
 ghost use Rattle.wasm_dump_run.specs.Colors.{plain_device, seen_as};
 ghost use Rattle.wasm_dump_run.specs.Commands.{WantsMemory, asked_if_any, asked_of};
+ghost use Rattle.wasm_dump_run.specs.Options.{style_of};
 ghost use Rattle.wasm_dump_run.specs.Runs.{HandsOn, Runs, RunsDump, RunsProgram, Shows, ShowsChosen, Tells, help_text, names_usage, version_text};
 
 use crate::colored::Colored;
 use crate::command::{Command, command_asked};
 use crate::files::{files_named, run_files};
+use crate::options::Options;
 use crate::words::chosen_by;
 use std::alloc::Global;
 use std::env::{self, Args};
@@ -20,18 +22,21 @@ use std::io::{self, Write};
 use std::process::ExitCode;
 use wasm_feed::{Ended, Failed, ListError, ReadSource, Sink, Source, WriteSink, write_all};
 use wasm_run::{PIECE, complain, give_up};
-use wasm_show::{ItemNames, Only, Tree, dump};
+use wasm_show::{ItemNames, Only, Style, Tree, dump};
 
 /// What `--help` says.
-const HELP: &[u8] = b"usage: wasm_dump [--color] [--names] [--section ID|NAME]... [FILE]...
+const HELP: &[u8] = b"usage: wasm_dump [OPTION]... [--section ID|NAME]... [FILE]...
 
 Shows what the WebAssembly modules in the FILEs hold, each under its name where
 there are several; - or none is standard input. Each section and body has a
 line, and under it a line for each item, which begins with the offset of its
 bytes in the file. A fault of an item is a line at its place. With --section
-only the sections with this id or name are shown; several add up. With --color
-the text has colours, as a terminal shows them. With --names each FILE is read
-twice, and items have the names that its custom sections name have for them.
+only the sections with this id or name are shown; several add up. The options:
+
+  --color   the text has colours, as a terminal shows them
+  --names   each FILE is read twice, and items have the names that its custom
+            sections name have for them
+  --json    each line is an object of JSON, for programs
 
   wasm_dump a.wasm                       all of it
   wasm_dump --section import < a.wasm    its imports
@@ -111,11 +116,11 @@ fn run_command<R: Source, W: Write, E: Sink>(
         (device_of E.taken E.has_failed errors.old errors.new) result.0 }
 {
     match command {
-        Command::All { is_colored } => {
-            show_input(alloc, &[Only::All], is_colored, input, output, errors)
+        Command::All { options } => {
+            show_input(alloc, &[Only::All], options, input, output, errors)
         }
-        Command::Sections { is_colored, words } => {
-            show_chosen(alloc, &words, is_colored, input, output, errors)
+        Command::Sections { options, words } => {
+            show_chosen(alloc, &words, options, input, output, errors)
         }
         Command::NamesOfInput => (refuse_names(errors), output),
         Command::Help => show_text(help(), output, errors),
@@ -123,7 +128,7 @@ fn run_command<R: Source, W: Write, E: Sink>(
         Command::Unknown => {
             complain(
                 errors,
-                b"usage: wasm_dump [--help] [--version] [--color] [--names] [--section ID|NAME]... [FILE]...\n",
+                b"usage: wasm_dump [--help] [--version] [OPTION]... [--section ID|NAME]... [FILE]...\n",
             );
             (2, output)
         }
@@ -175,18 +180,18 @@ fn show_text<W: Write, E: Sink>(
 fn show_chosen<R: Source, W: Write, E: Sink>(
     alloc: Global,
     words: &[String],
-    is_colored: bool,
+    options: Options,
     input: &mut R,
     output: WriteSink<W>,
     errors: &mut E,
 ) -> (u8, WriteSink<W>)
-    ensures { ShowsChosen (map string_bytes words.now) is_colored result.1.handed_on
+    ensures { ShowsChosen (map string_bytes words.now) options result.1.handed_on
         (device_of R.remaining R.has_failed input.old input.new)
         (writer_device W.contents output result.1)
         (device_of E.taken E.has_failed errors.old errors.new) result.0 }
 {
     match chosen_by(alloc, words) {
-        Ok(only) => show_input(alloc, &only, is_colored, input, output, errors),
+        Ok(only) => show_input(alloc, &only, options, input, output, errors),
         Err(_) => (give_up(errors, ListError::Memory), output),
     }
 }
@@ -195,17 +200,17 @@ fn show_chosen<R: Source, W: Write, E: Sink>(
 pub(crate) fn show_input<R: Source, W: Write, E: Sink>(
     alloc: Global,
     only: &[Only<'_>],
-    is_colored: bool,
+    options: Options,
     input: &mut R,
     output: WriteSink<W>,
     errors: &mut E,
 ) -> (u8, WriteSink<W>)
-    ensures { Shows only.now result.1.handed_on
+    ensures { Shows (style_of options) only.now result.1.handed_on
         (device_of R.remaining R.has_failed input.old input.new)
-        (seen_as is_colored (writer_device W.contents output result.1))
+        (seen_as options.is_colored (writer_device W.contents output result.1))
         (device_of E.taken E.has_failed errors.old errors.new) result.0 }
 {
-    let (how, output) = dump_as(alloc, only, is_colored, None, input, output);
+    let (how, output) = dump_as(alloc, only, options, None, input, output);
     (answer(how, errors), output)
 }
 
@@ -238,18 +243,19 @@ fn hand_on<W: Write>(
     }
 }
 
-// Shows these sections of the input, with these names, if there are any, and hands on all that was written.
+// Shows these sections of the input in this style, with these names, if there are any, and hands on all that was written.
 fn dump_plain<R: Source, W: Write>(
     alloc: Global,
     only: &[Only<'_>],
+    style: Style,
     names: Option<ItemNames>,
     input: &mut R,
     output: WriteSink<W>,
 ) -> (Result<Ended, ListError>, WriteSink<W>)
-    ensures { RunsDump only.now (device_of R.remaining R.has_failed input.old input.new)
+    ensures { RunsDump style only.now (device_of R.remaining R.has_failed input.old input.new)
         (writer_device W.contents output result.1) result.1.handed_on result.0 }
 {
-    let mut tree = Tree::with_names(alloc, output, names);
+    let mut tree = Tree::with_names(alloc, output, style, names);
     let how = dump(alloc, only, input, &mut tree, PIECE);
     let mut output = tree.into_output();
     let result = hand_on(how, &mut output);
@@ -260,61 +266,40 @@ fn dump_plain<R: Source, W: Write>(
 fn dump_colored<R: Source, W: Write>(
     alloc: Global,
     only: &[Only<'_>],
+    style: Style,
     names: Option<ItemNames>,
     input: &mut R,
     output: WriteSink<W>,
 ) -> (Result<Ended, ListError>, WriteSink<W>)
-    ensures { RunsDump only.now (device_of R.remaining R.has_failed input.old input.new)
+    ensures { RunsDump style only.now (device_of R.remaining R.has_failed input.old input.new)
         (plain_device (writer_device W.contents output result.1)) result.1.handed_on result.0 }
 {
-    let mut tree = Tree::with_names(alloc, Colored::new(output), names);
+    let mut tree = Tree::with_names(alloc, Colored::new(output), style, names);
     let how = dump(alloc, only, input, &mut tree, PIECE);
     let mut output = tree.into_output().into_inner();
     let result = hand_on(how, &mut output);
     (result, output)
 }
 
-/// Shows these sections of the input, and hands on all that was written. Answers how it ended, and the output.
-pub fn dump_input<R: Source, W: Write>(
-    alloc: Global,
-    only: &[Only<'_>],
-    input: &mut R,
-    output: WriteSink<W>,
-) -> (Result<Ended, ListError>, WriteSink<W>)
-    ensures { RunsDump only.now (device_of R.remaining R.has_failed input.old input.new)
-        (writer_device W.contents output result.1) result.1.handed_on result.0 }
-{
-    dump_plain(alloc, only, None, input, output)
-}
-
-/// The same with colours: what the output takes is the dump with sequences that set them between its bytes.
-pub fn dump_in_colors<R: Source, W: Write>(
-    alloc: Global,
-    only: &[Only<'_>],
-    input: &mut R,
-    output: WriteSink<W>,
-) -> (Result<Ended, ListError>, WriteSink<W>)
-    ensures { RunsDump only.now (device_of R.remaining R.has_failed input.old input.new)
-        (plain_device (writer_device W.contents output result.1)) result.1.handed_on result.0 }
-{
-    dump_colored(alloc, only, None, input, output)
-}
-
-/// The one or the other, with these names, if there are any.
+/// Shows these sections of the input, as the options say, with these names, if there are any, and hands on all that was written.
+/// Answers how it ended, and the output. With colours, what the output takes is the dump with sequences that set them between
+/// its bytes.
 pub fn dump_as<R: Source, W: Write>(
     alloc: Global,
     only: &[Only<'_>],
-    is_colored: bool,
+    options: Options,
     names: Option<ItemNames>,
     input: &mut R,
     output: WriteSink<W>,
 ) -> (Result<Ended, ListError>, WriteSink<W>)
-    ensures { RunsDump only.now (device_of R.remaining R.has_failed input.old input.new)
-        (seen_as is_colored (writer_device W.contents output result.1)) result.1.handed_on result.0 }
+    ensures { RunsDump (style_of options) only.now
+        (device_of R.remaining R.has_failed input.old input.new)
+        (seen_as options.is_colored (writer_device W.contents output result.1))
+        result.1.handed_on result.0 }
 {
-    if is_colored {
-        dump_colored(alloc, only, names, input, output)
+    if options.is_colored {
+        dump_colored(alloc, only, options.style(), names, input, output)
     } else {
-        dump_plain(alloc, only, names, input, output)
+        dump_plain(alloc, only, options.style(), names, input, output)
     }
 }

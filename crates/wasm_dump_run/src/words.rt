@@ -3,6 +3,7 @@ ghost use Rattle.std.specs.Prelude.{◌≡◌, IfOk, OnErr, [], map, string_byte
 ghost use Rattle.std.specs.Vec.Iter.{into_iter_items};
 ghost use Rattle.wasm_dump_run.specs.Words.{Begins, ChooseInTurn, Chooses, IsSplit, words_of};
 
+use crate::options::{Mark, Options, mark_of};
 use std::alloc::{AllocError, Global};
 use std::env::Args;
 use wasm_grammar::section_named;
@@ -15,12 +16,11 @@ pub(crate) struct Rest {
     pub(crate) more: Args,
 }
 
-/// The words that arguments choose sections by, whether they ask for colours and for names, and the arguments after these options.
+/// The words that arguments choose sections by, what else their options ask for, and the arguments after these.
 #[derive(Drop)]
 pub(crate) struct Split {
     pub(crate) words: Vec<String>,
-    pub(crate) is_colored: bool,
-    pub(crate) is_named: bool,
+    pub(crate) options: Options,
     pub(crate) rest: Option<Rest>,
 }
 
@@ -29,17 +29,15 @@ pub(crate) struct Split {
 pub(crate) enum Beginning {
     /// A word that chooses sections.
     Word(String),
-    /// That colours are asked for.
-    Color,
-    /// That names are asked for.
-    Names,
+    /// An option that stands alone.
+    Marked(Mark),
     /// Another argument.
     Other(String),
     /// Nothing.
     Nothing,
 }
 
-// Takes what arguments begin with: `--section` and a word, `--color`, `--names`, or another argument.
+// Takes what arguments begin with: `--section` and a word, another option, or another argument.
 fn take_beginning(arguments: &mut Args) -> Beginning
     ensures { Begins result (map string_bytes (into_iter_items arguments.old))
         (map string_bytes (into_iter_items arguments.new)) }
@@ -47,11 +45,8 @@ fn take_beginning(arguments: &mut Args) -> Beginning
     let Some(first) = arguments.next() else {
         return Beginning::Nothing;
     };
-    if first.as_str() == "--color" {
-        return Beginning::Color;
-    }
-    if first.as_str() == "--names" {
-        return Beginning::Names;
+    if let Some(mark) = mark_of(first.as_str()) {
+        return Beginning::Marked(mark);
     }
     if first.as_str() != "--section" {
         return Beginning::Other(first);
@@ -68,13 +63,11 @@ pub(crate) fn split_words(alloc: Global, mut arguments: Args) -> Result<Split, A
     ensures err { OnErr result (¬ (words_of (map string_bytes (into_iter_items arguments)) ≡ [])) }
 {
     let mut words = Vec::new(alloc);
-    let mut is_colored = false;
-    let mut is_named = false;
+    let mut options = Options::new();
     'words: loop {
         match take_beginning(&mut arguments) {
             Beginning::Word(word) => words.push(word)?,
-            Beginning::Color => is_colored = true,
-            Beginning::Names => is_named = true,
+            Beginning::Marked(mark) => options = options.with(mark),
             Beginning::Other(first) => {
                 let rest = Rest {
                     first,
@@ -82,16 +75,14 @@ pub(crate) fn split_words(alloc: Global, mut arguments: Args) -> Result<Split, A
                 };
                 return Ok(Split {
                     words,
-                    is_colored,
-                    is_named,
+                    options,
                     rest: Some(rest),
                 });
             }
             Beginning::Nothing => {
                 return Ok(Split {
                     words,
-                    is_colored,
-                    is_named,
+                    options,
                     rest: None,
                 });
             }

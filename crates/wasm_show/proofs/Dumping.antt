@@ -4,7 +4,7 @@ use Rattle.std.proofs.Common.{sym}
 use Rattle.std.proofs.Common.{◌∷◌, ◌^◌, ap, subst, subst₂, ◌∙◌, append-nil, length, inl, inr, arith}
 use Rattle.std.specs.Io.KnownBytes.{Appends, Consumes}
 use Rattle.std.proofs.KnownBytes.{Appends-nil, Consumes-nil, Consumes-trans, Consumes-kept}
-use Rattle.wasm_feed.specs.Calls.{Change, from_to}
+use Rattle.wasm_feed.specs.Calls.{Change, Device, from_to}
 use Rattle.wasm_feed.specs.Feed.{Feed, new_feed}
 use Rattle.wasm_feed.specs.Lists.{IsBeginning, Fills, Refills, input_failed}
 use Rattle.wasm_feed.specs.FeedersLaws.{IsAlong}
@@ -33,18 +33,25 @@ use Rattle.wasm_show.specs.Numbers.{Number, after, after_all, no_counts}
 use Rattle.wasm_show.specs.declared.numbers.Counts.{Counts}
 use Rattle.wasm_show.proofs.Numbering.{all_more, events_begin, events_more, end_none}
 use Rattle.wasm_show.specs.Dump.{AreOf, AreOfEvents, AreOfSource}
-use Rattle.wasm_show.specs.Dump.{WritesWhole, WritesSome, AreOfAnswer, after_answer, ShowsStep, origin, DumpsFrom}
+use Rattle.wasm_show.specs.Dump.{WritesWhole, WritesSome, AreOfAnswer, after_answer, ShowsStep, origin, DumpsFrom, DumpsInto}
+use Rattle.wasm_show.specs.Dump.{DumpsByTree}
 use Rattle.wasm_show.specs.Tree as Tree
-use Rattle.wasm_show.specs.Tree.{IsOutlined, Part, Writing, Origin, begun, begun_numbers, IsGoing, IsCutShort, IsWritten, Adds, IsOut}
+use Rattle.wasm_show.specs.Tree.{IsOutlined, Part, Writing, Origin, begun, begun_numbers, IsGoingIn, IsCutShort, IsWritten, Adds, IsOut}
+use Rattle.wasm_show.specs.Tree.{IsShaped}
+use Rattle.wasm_show.specs.Json.{IsAt}
+use Rattle.wasm_show.specs.Json as json
+use Rattle.wasm_show.specs.declared.tree.Spot.{Spot}
+use Rattle.wasm_show.specs.declared.tree.Style.{Style}
+use Rattle.wasm_show.specs.declared.tree.Style.TheVariants.{Lines, Objects}
 use Rattle.wasm_show.specs.declared.only.Only.{Only}
 use Rattle.wasm_show.proofs.Writing.{as_going, as_short}
 use Rattle.wasm_base.specs.Features.{all_features}
 
 -- what was written with these events, and their numbers, where the tree has not stopped
-abbrev pub WrittenWith : (why : Option ListError) → List Only → List Event → (taken : Option (List ℕ)) (failed : Bool) (outline : List ℕ)
-    → Writing → Type 0
-WrittenWith why only events taken failed outline now = (numbers : List Number) × AreOfEvents why only no_counts events numbers
-    × IsWritten (origin taken failed outline numbers) now
+abbrev pub WrittenWith : (why : Option ListError) → List Only → List Event → Style → (taken : Option (List ℕ)) (failed : Bool)
+    (outline : List ℕ) → Writing → Type 0
+WrittenWith why only events style taken failed outline now = (numbers : List Number) × AreOfEvents why only no_counts events numbers
+    × IsWritten (origin style taken failed outline numbers) now
 
 -- where the feeder is along what the source gave, and what is counted of its events
 pub record Counting (full rest : Option (List ℕ)) (f : Feed) (c : Counts) : Type 0 where
@@ -60,8 +67,8 @@ pub record Dumping (only : List Only) (full rest : Option (List ℕ)) (before : 
   pub outline : List ℕ
   pub listing : Progress (chosen_line only) (from_to full rest) (from_to (Some []) (Some outline)) f []
   pub counting : Counting full rest f c
-  pub writing : (taken : Option (List ℕ)) (failed : Bool) → IsWritten (origin taken failed [] []) before
-      → WrittenWith None only counting.events taken failed outline now
+  pub writing : (taken : Option (List ℕ)) (failed : Bool) → IsWritten (origin before.style taken failed [] []) before
+      → WrittenWith None only counting.events before.style taken failed outline now
 
 -- the same where the feeder is asked for more
 pub record Wanting (only : List Only) (full rest : Option (List ℕ)) (before : Writing) (f : Feed) (c : Counts) (now : Writing) :
@@ -69,8 +76,8 @@ pub record Wanting (only : List Only) (full rest : Option (List ℕ)) (before : 
   pub outline : List ℕ
   pub listing : Wants (chosen_line only) (from_to full rest) (from_to (Some []) (Some outline)) f []
   pub counting : Counting full rest f c
-  pub writing : (taken : Option (List ℕ)) (failed : Bool) → IsWritten (origin taken failed [] []) before
-      → WrittenWith None only counting.events taken failed outline now
+  pub writing : (taken : Option (List ℕ)) (failed : Bool) → IsWritten (origin before.style taken failed [] []) before
+      → WrittenWith None only counting.events before.style taken failed outline now
 
 -- nothing came
 abbrev counts_nothing : (full : Option (List ℕ)) → Counting full full (new_feed 0 all_features) no_counts
@@ -209,21 +216,45 @@ no_numbers_begun : (b : Bool) (line : List Part) → b ≡ false → begun_numbe
 no_numbers_begun b line e = ap (λ (x : Bool). begun_numbers x line) e
 
 -- all of it
-whole : (o : Origin) (w : Writing) → w.why ≡ None → IsOut w → IsWritten o w → WritesWhole o.taken w.taken o.outline o.numbers
-whole o w going out i =
-    let g = as_going o w going i in
+whole_in : (style : Style) (o : Origin) (w : Writing) → w.style ≡ style → w.why ≡ None → IsOut w → IsGoingIn style o w
+    → WritesWhole style o.taken w.taken o.outline o.numbers
+whole_in Lines o w same going out g =
+    let ended : w.is_begun ≡ false = out.none_begun going same in
     let all : g.written ≡ g.text = sym (append-nil g.written) ∙ (ap (λ (x : List ℕ). g.written ++ x) (sym (out.none_waits going))
-    ∙ (g.parts ∙ (ap (λ (x : List ℕ). g.text ++ x) (none_begun w.is_begun g.line (out.none_begun going)) ∙ append-nil g.text))) in
+    ∙ (g.parts ∙ (ap (λ (x : List ℕ). g.text ++ x) (none_begun w.is_begun g.line ended) ∙ append-nil g.text))) in
     let numbered : g.lined ≡ o.numbers = sym (g.numbered
-    ∙ (ap (λ (x : List Number). g.lined ++ x) (no_numbers_begun w.is_begun g.line (out.none_begun going)) ∙ append-nil g.lined)) in
+    ∙ (ap (λ (x : List Number). g.lined ++ x) (no_numbers_begun w.is_begun g.line ended) ∙ append-nil g.lined)) in
     record {
       text = g.text;
-      outlined = subst (IsOutlined g.text o.outline) numbered g.outlined;
+      shaped = subst (IsOutlined g.text o.outline) numbered g.outlined;
       wrote = subst (Appends o.taken w.taken) all g.took;
     }
+whole_in Objects o w same going out g = record {
+  text = g.written;
+  shaped = subst₂ (λ (x : List ℕ) (spot : Spot). IsAt spot (json.after_all json.start x))
+      (ap (λ (x : List ℕ). g.written ++ x) (out.none_waits going) ∙ append-nil g.written) (out.outside going same) g.is_at;
+  wrote = g.took;
+}
 
-some_of : (o : Origin) (w : Writing) → WritesWhole o.taken w.taken o.outline o.numbers → WritesSome o.taken w.taken o.outline o.numbers
-some_of o w s = record { text = s.text; unwritten = []; outlined = rw (append-nil s.text) s.outlined; wrote = s.wrote }
+whole : (o : Origin) (w : Writing) → w.why ≡ None → IsOut w → IsWritten o w → WritesWhole o.style o.taken w.taken o.outline o.numbers
+whole o w going out i = whole_in o.style o w i.0 going out (as_going o w going i)
+
+some_of : (o : Origin) (w : Writing) → WritesWhole o.style o.taken w.taken o.outline o.numbers
+    → WritesSome o.style o.taken w.taken o.outline o.numbers
+some_of o w s = record {
+  text = s.text;
+  unwritten = [];
+  shaped = subst (λ (x : List ℕ). IsShaped o.style x o.outline o.numbers) (sym (append-nil s.text)) s.shaped;
+  wrote = s.wrote;
+}
+
+failed_in : (style : Style) (o : Origin) (w : Writing) → IsGoingIn style o w → w.has_failed ≡ o.has_failed
+failed_in Lines o w g = g.failed
+failed_in Objects o w g = g.failed
+
+-- the sink has failed only if it had
+has_failed : (o : Origin) (w : Writing) → w.why ≡ None → IsWritten o w → w.has_failed ≡ o.has_failed
+has_failed o w going i = failed_in o.style o w (as_going o w going i)
 
 -- where the tree has stopped, some may be missing
 source_begins : (why : Option ListError) (stop : ListError) (only : List Only) (input : Change) (numbers : List Number)
@@ -243,35 +274,35 @@ events_are None only c events numbers a = a
 events_are (Some why) only c events numbers a = events_begin None why only c events numbers a
 
 -- a dump that was cut short, or whose input failed
-cut_off : (only : List Only) (full rest : Option (List ℕ)) (had has : Bool) → has ≡ had
+cut_off : (style : Style) (only : List Only) (full rest : Option (List ℕ)) (had has : Bool) → has ≡ had
     → (taken : Option (List ℕ)) (failed : Bool) (outline : List ℕ) (numbers : List Number) (why : ListError) (w : Writing)
     → IsBeginning (chosen_line only) (from_to full rest) (from_to (Some []) (Some outline))
     → AreOfSource (Some why) only (from_to full rest) numbers
-    → IsCutShort (origin taken failed outline numbers) why w → DumpsFrom only
+    → IsCutShort (origin style taken failed outline numbers) why w → DumpsFrom style only
     (record { before = full; after = rest; had_failed = had; has_failed = has }) taken failed (Err why) w
-cut_off only full rest had has h taken failed outline numbers Output w b n c = record {
+cut_off style only full rest had has h taken failed outline numbers Output w b n c = record {
   dumps = record {
     outline = outline;
     numbers = numbers;
     lists = b;
     counts = n;
-    writes = record { text = c.written; unwritten = c.unwritten; outlined = c.outlined; wrote = c.took };
+    writes = record { text = c.written; unwritten = c.unwritten; shaped = c.shaped; wrote = c.took };
   };
   source = h;
   sink = c.failed;
 }
-cut_off only full rest had has h taken failed outline numbers Memory w b n c = record {
+cut_off style only full rest had has h taken failed outline numbers Memory w b n c = record {
   dumps = record {
     outline = outline;
     numbers = numbers;
     lists = b;
     counts = n;
-    writes = record { text = c.written; unwritten = c.unwritten; outlined = c.outlined; wrote = c.took };
+    writes = record { text = c.written; unwritten = c.unwritten; shaped = c.shaped; wrote = c.took };
   };
   source = h;
   sink = c.failed;
 }
-cut_off only full rest had has h taken failed outline numbers Input w b n c = absurd (c.no_input refl)
+cut_off style only full rest had has h taken failed outline numbers Input w b n c = absurd (c.no_input refl)
 
 -- ---- a step
 
@@ -304,11 +335,11 @@ module _ (only : List Only) (full rest : Option (List ℕ)) (before : Writing) (
   written : (events : List Event) → ((why : Option ListError) (numbers shown : List Number)
       → AreOfEvents why only no_counts d.counting.events numbers → AreOfAnswer why only c s.answer shown
       → AreOfEvents why only no_counts events (numbers ++ shown))
-      → (taken : Option (List ℕ)) (failed : Bool) → IsWritten (origin taken failed [] []) before
-      → WrittenWith new.why only events taken failed (d.outline ++ text_after (chosen_line only) s.answer) new
+      → (taken : Option (List ℕ)) (failed : Bool) → IsWritten (origin before.style taken failed [] []) before
+      → WrittenWith new.why only events before.style taken failed (d.outline ++ text_after (chosen_line only) s.answer) new
   written events more taken failed i =
       let (numbers, are, going) = d.writing taken failed i in
-      let (shown, of, after) = s.shows (origin taken failed d.outline numbers) going in
+      let (shown, of, after) = s.shows (origin before.style taken failed d.outline numbers) going in
       (numbers ++ shown, more new.why numbers shown (events_are new.why only no_counts d.counting.events numbers are) of, after)
 
   put : PutsBytes (Some d.outline) (Some (d.outline ++ text_after (chosen_line only) s.answer)) []
@@ -320,10 +351,10 @@ module _ (only : List Only) (full rest : Option (List ℕ)) (before : Writing) (
   going_on : new.why ≡ None → (events : List Event) → ((why : Option ListError) (numbers shown : List Number)
       → AreOfEvents why only no_counts d.counting.events numbers → AreOfAnswer why only c s.answer shown
       → AreOfEvents why only no_counts events (numbers ++ shown))
-      → (taken : Option (List ℕ)) (failed : Bool) → IsWritten (origin taken failed [] []) before
-      → WrittenWith None only events taken failed (d.outline ++ text_after (chosen_line only) s.answer) new
+      → (taken : Option (List ℕ)) (failed : Bool) → IsWritten (origin before.style taken failed [] []) before
+      → WrittenWith None only events before.style taken failed (d.outline ++ text_after (chosen_line only) s.answer) new
   going_on going events more taken failed i =
-      subst (λ (why : Option ListError). WrittenWith why only events taken failed (d.outline ++ text_after (chosen_line only) s.answer)
+      subst (λ (why : Option ListError). WrittenWith why only events before.style taken failed (d.outline ++ text_after (chosen_line only) s.answer)
       new)
       going (written events more taken failed i)
 
@@ -384,9 +415,9 @@ module _ (only : List Only) (full rest : Option (List ℕ)) (before : Writing) (
       (nothing_cut (Some (d.outline ++ text_after (chosen_line only) s.answer)))
 
   -- what was written, with the numbers of what the source gave
-  all_written : (t : Turn) → next ≡ t → (taken : Option (List ℕ)) (failed : Bool) → IsWritten (origin taken failed [] []) before
+  all_written : (t : Turn) → next ≡ t → (taken : Option (List ℕ)) (failed : Bool) → IsWritten (origin before.style taken failed [] []) before
       → (numbers : List Number) × AreOfSource new.why only (from_to full rest) numbers
-      × IsWritten (origin taken failed (d.outline ++ text_after (chosen_line only) s.answer) numbers) new
+      × IsWritten (origin before.style taken failed (d.outline ++ text_after (chosen_line only) s.answer) numbers) new
   all_written turn.Advance t taken failed i =
       let (k, more) = counted_on only full rest f c d.counting g s.answer (sym t ∙ s.turns) s.steps in
       let (numbers, are, going) = written k.events more taken failed i in
@@ -402,30 +433,30 @@ module _ (only : List Only) (full rest : Option (List ℕ)) (before : Writing) (
 
   -- the tree has stopped
   pub stopped : (had has : Bool) → has ≡ had → (why : ListError) → new.why ≡ Some why → (taken : Option (List ℕ)) (failed : Bool)
-      → IsWritten (origin taken failed [] []) before
-      → DumpsFrom only (record { before = full; after = rest; had_failed = had; has_failed = has }) taken failed (Err why) new
+      → IsWritten (origin before.style taken failed [] []) before
+      → DumpsFrom before.style only (record { before = full; after = rest; had_failed = had; has_failed = has }) taken failed (Err why) new
   stopped had has h why w taken failed i =
       let (numbers, are, going) = all_written next refl taken failed i in
-      cut_off only full rest had has h taken failed _ numbers why new (begins next refl)
+      cut_off before.style only full rest had has h taken failed _ numbers why new (begins next refl)
       (source_begins new.why why only _ numbers are) (as_short _ new why w going)
 
   -- it has after all was to be written
   pub stopped_at_last : (had has : Bool) → has ≡ had → (last : Writing) (why : ListError) → Adds new last → last.why ≡ Some why
-      → (taken : Option (List ℕ)) (failed : Bool) → IsWritten (origin taken failed [] []) before
-      → DumpsFrom only (record { before = full; after = rest; had_failed = had; has_failed = has }) taken failed (Err why) last
+      → (taken : Option (List ℕ)) (failed : Bool) → IsWritten (origin before.style taken failed [] []) before
+      → DumpsFrom before.style only (record { before = full; after = rest; had_failed = had; has_failed = has }) taken failed (Err why) last
   stopped_at_last had has h last why a w taken failed i =
       let (numbers, are, going) = all_written next refl taken failed i in
-      cut_off only full rest had has h taken failed _ numbers why last (begins next refl)
+      cut_off before.style only full rest had has h taken failed _ numbers why last (begins next refl)
       (source_begins new.why why only _ numbers are) (as_short _ last why w (a _ going))
 
   -- all is written
   pub ended : (had has : Bool) → has ≡ had → new.why ≡ None → (how : Ended) (last : Writing) → next ≡ turn.End how → Adds new last
       → IsOut last → last.why
-      ≡ None → (taken : Option (List ℕ)) (failed : Bool) → IsWritten (origin taken failed [] []) before
-      → DumpsFrom only (record { before = full; after = rest; had_failed = had; has_failed = has }) taken failed (Ok how) last
+      ≡ None → (taken : Option (List ℕ)) (failed : Bool) → IsWritten (origin before.style taken failed [] []) before
+      → DumpsFrom before.style only (record { before = full; after = rest; had_failed = had; has_failed = has }) taken failed (Ok how) last
   ended had has h went how last t a out going taken failed i =
       let (numbers, are, wrote) = all_written next refl taken failed i in
-      let o = origin taken failed (d.outline ++ text_after (chosen_line only) s.answer) numbers in
+      let o = origin before.style taken failed (d.outline ++ text_after (chosen_line only) s.answer) numbers in
       let all = a o wrote in
       record {
         dumps = record {
@@ -439,7 +470,7 @@ module _ (only : List Only) (full rest : Option (List ℕ)) (before : Writing) (
           writes = whole o last going out all;
         };
         source = h;
-        sink = (as_going o last going all).failed;
+        sink = has_failed o last going all;
       }
 
 -- ---- a read
@@ -473,7 +504,7 @@ module _ (full rest : Option (List ℕ)) (f : Feed) (c : Counts) (k : Counting f
 module _ (only : List Only) (full rest : Option (List ℕ)) (before : Writing) (f : Feed) (c : Counts) (now last : Writing)
     (d : Wanting only full rest before f c now) (a : Adds now last) (out : IsOut last) (going : last.why ≡ None) where
   all : (events : List Event) → events ≡ d.counting.events → (taken : Option (List ℕ)) (failed : Bool)
-      → IsWritten (origin taken failed [] []) before → WrittenWith None only events taken failed d.outline last
+      → IsWritten (origin before.style taken failed [] []) before → WrittenWith None only events before.style taken failed d.outline last
   all events same taken failed i =
       let (numbers, are, wrote) = d.writing taken failed i in
       (numbers, subst (λ (es : List Event). AreOfEvents None only no_counts es numbers) (sym same) are, a _ wrote)
@@ -488,11 +519,11 @@ module _ (only : List Only) (full rest : Option (List ℕ)) (before : Writing) (
   pub not_filled : (had mid has : Bool) → mid ≡ had → (rest' : Option (List ℕ)) (g : Feed) (e : ListError)
       → Refills rest rest' f g (Err e)
       → has ≡ input_failed {A = Unit {0}} (Err e) mid → (taken : Option (List ℕ)) (failed : Bool)
-      → IsWritten (origin taken failed [] []) before
-      → DumpsFrom only (record { before = full; after = rest'; had_failed = had; has_failed = has }) taken failed (Err e) last
+      → IsWritten (origin before.style taken failed [] []) before
+      → DumpsFrom before.style only (record { before = full; after = rest'; had_failed = had; has_failed = has }) taken failed (Err e) last
   not_filled had mid has m rest' g Input r h taken failed i =
       let (numbers, are, wrote) = all d.counting.events refl taken failed i in
-      let o = origin taken failed d.outline numbers in
+      let o = origin before.style taken failed d.outline numbers in
       record {
         dumps = record {
           outline = d.outline;
@@ -509,11 +540,11 @@ module _ (only : List Only) (full rest : Option (List ℕ)) (before : Writing) (
           writes = whole o last going out wrote;
         };
         source = h;
-        sink = (as_going o last going wrote).failed;
+        sink = has_failed o last going wrote;
       }
   not_filled had mid has m rest' g Memory r h taken failed i =
       let (numbers, are, wrote) = all d.counting.events refl taken failed i in
-      let o = origin taken failed d.outline numbers in
+      let o = origin before.style taken failed d.outline numbers in
       record {
         dumps = record {
           outline = d.outline;
@@ -525,7 +556,7 @@ module _ (only : List Only) (full rest : Option (List ℕ)) (before : Writing) (
           writes = some_of o last (whole o last going out wrote);
         };
         source = h ∙ m;
-        sink = (as_going o last going wrote).failed;
+        sink = has_failed o last going wrote;
       }
   not_filled had mid has m rest' g Output r h taken failed i = absurd r
 
@@ -535,9 +566,9 @@ nothing_outlined : IsOutlined [] [] []
 nothing_outlined = record { lines = []; whole = refl; parts = refl; outlines = refl; numbered = refl }
 
 -- a writer that has written nothing
-pub fresh : (taken : Option (List ℕ)) (failed : Bool) (w : Writing) → w ≡ Tree.starts taken failed
-    → IsWritten (origin taken failed [] []) w
-fresh taken failed w e = subst (IsWritten (origin taken failed [] [])) (sym e) (record {
+fresh_in : (style : Style) (taken : Option (List ℕ)) (failed : Bool)
+    → IsGoingIn style (origin style taken failed [] []) (Tree.starts_in style taken failed)
+fresh_in Lines taken failed = record {
   written = [];
   text = [];
   lined = [];
@@ -548,14 +579,30 @@ fresh taken failed w e = subst (IsWritten (origin taken failed [] [])) (sym e) (
   numbered = refl;
   took = Appends-nil taken;
   failed = refl;
-})
+}
+fresh_in Objects taken failed = record { written = []; is_at = refl; took = Appends-nil taken; failed = refl }
+
+pub fresh : (style : Style) (taken : Option (List ℕ)) (failed : Bool) (w : Writing) → w ≡ Tree.starts_in style taken failed
+    → IsWritten (origin w.style taken failed [] []) w
+fresh style taken failed w e =
+    subst (λ (x : Writing). IsWritten (origin x.style taken failed [] []) x) (sym e) (refl, fresh_in style taken failed)
+
+pub by_tree : (only : List Only) (input : Device) (old new : Writing) (result : Result Ended ListError)
+    → DumpsInto only input old result new → DumpsByTree only input old result new
+by_tree only input old new result d style taken failed s =
+    subst (λ (x : Style). DumpsFrom x only input taken failed result new) (ap (λ (w : Writing). w.style) s)
+    (d taken failed (fresh style taken failed old s))
+
+nothing_shaped : (style : Style) → IsShaped style [] [] []
+nothing_shaped Lines = nothing_outlined
+nothing_shaped Objects = refl
 
 -- no memory to begin with
-pub no_room : (only : List Only) (full : Option (List ℕ)) (had : Bool) (taken : Option (List ℕ)) (failed : Bool) (w : Writing) → w
-    ≡ Tree.starts taken failed
-    → DumpsFrom only (record { before = full; after = full; had_failed = had; has_failed = had }) taken failed (Err Memory) w
-no_room only full had taken failed w e =
-    subst (DumpsFrom only (record { before = full; after = full; had_failed = had; has_failed = had })
+pub no_room : (style : Style) (only : List Only) (full : Option (List ℕ)) (had : Bool) (taken : Option (List ℕ)) (failed : Bool)
+    (w : Writing) → w ≡ Tree.starts_in style taken failed
+    → DumpsFrom style only (record { before = full; after = full; had_failed = had; has_failed = had }) taken failed (Err Memory) w
+no_room style only full had taken failed w e =
+    subst (DumpsFrom style only (record { before = full; after = full; had_failed = had; has_failed = had })
     taken failed (Err Memory)) (sym e) (record {
       dumps = record {
         outline = [];
@@ -563,7 +610,7 @@ no_room only full had taken failed w e =
         lists = progress.no_memory (chosen_line only) full full (Some []) (Some []) (new_feed 0 all_features) []
             (progress.begun (chosen_line only) full (Some [])) full [] (Consumes-nil full);
         counts = numbers_at (Some Memory) only full full (new_feed 0 all_features) no_counts (counts_nothing full) [] refl;
-        writes = record { text = []; unwritten = []; outlined = nothing_outlined; wrote = Appends-nil taken };
+        writes = record { text = []; unwritten = []; shaped = nothing_shaped style; wrote = Appends-nil taken };
       };
       source = refl;
       sink = refl;

@@ -2,5 +2,6 @@ pub mod Counted
 pub mod Dumping
 pub mod Lines
 pub mod Numbering
+pub mod Objects
 pub mod Saying
 pub mod Writing

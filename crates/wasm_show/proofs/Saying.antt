@@ -21,6 +21,8 @@ use Rattle.wasm_feed.specs.declared.devices.ListError.TheVariants.{Input, Output
 use Rattle.wasm_show.specs.ItemText.{expression_field}
 use Rattle.wasm_show.specs.Said.{StopsIn, PutsText, HasLine, Says, HasMore, SaysSome, SaysWith}
 use Rattle.wasm_show.specs.Tree.{Writing, IsPushed, IsStuck, PutsAs, Puts, has_line_feed}
+use Rattle.wasm_show.specs.declared.tree.Style.{Style}
+use Rattle.wasm_show.specs.declared.tree.Style.TheVariants.{Lines, Objects}
 
 -- ---- bytes after bytes
 
@@ -84,6 +86,8 @@ module _ (since now new : Writing) (text bytes : List ℕ) where
         cut = cut_still since.taken now.taken since.waiting text bytes why p.cut;
         begun = p.begun;
         failed = p.failed;
+        style = p.style;
+        spot = p.spot;
       }))
   more None None None ea eb ec p q = record {
     puts = record {
@@ -95,15 +99,19 @@ module _ (since now new : Writing) (text bytes : List ℕ) where
     begun = q.begun ∙ p.begun;
     failed = q.failed ∙ p.failed;
     why = q.why ∙ p.why;
+    style = q.style ∙ p.style;
+    spot = q.spot ∙ p.spot;
   }
   more None None (Some why) ea eb ec p q = record {
     cut = cut_after since.taken now.taken new.taken since.waiting text p.puts.moved now.waiting bytes why p.puts.writes p.puts.waits q.cut;
     begun = q.begun ∙ p.begun;
     failed = q.failed ∙ ap (λ (b : Bool). output_failed {A = Unit {0}} (Err why) b) p.failed;
+    style = q.style ∙ p.style;
+    spot = q.spot ∙ p.spot;
   }
 
   pub puts_more : HasLine since text now → Puts bytes now new → HasLine since (text ++ bytes) new
-  puts_more h q = record { begun = h.begun; puts = more since.why now.why new.why refl refl refl h.puts q }
+  puts_more h q = record { begun = h.begun; lines = h.lines; puts = more since.why now.why new.why refl refl refl h.puts q }
 
 begun_by : (since now : Writing) (text : List ℕ) (a b : Option ListError) → since.is_begun ≡ true → PutsText a b text since now
     → now.is_begun ≡ true
@@ -122,11 +130,34 @@ nothing_by w None e = record {
   begun = refl;
   failed = refl;
   why = refl;
+  style = refl;
+  spot = refl;
 }
 
 -- nothing was put on a line that is begun
-pub has_nothing : (w : Writing) → w.is_begun ≡ true → HasLine w [] w
-has_nothing w e = record { begun = e; puts = nothing_by w w.why refl }
+pub has_nothing : (w : Writing) → w.is_begun ≡ true → w.style ≡ Lines → HasLine w [] w
+has_nothing w e lines = record { begun = e; lines = lines; puts = nothing_by w w.why refl }
+
+lines_by : (since now : Writing) (text : List ℕ) (a b : Option ListError) → since.style ≡ Lines → PutsText a b text since now
+    → now.style ≡ Lines
+lines_by since now text (Some why) b e p = ap (λ (w : Writing). w.style) p ∙ e
+lines_by since now text None None e p = p.style ∙ e
+lines_by since now text None (Some why) e p = p.style ∙ e
+
+-- lines are still written
+pub still_lines : (since now : Writing) (text : List ℕ) → HasLine since text now → now.style ≡ Lines
+still_lines since now text h = lines_by since now text since.why now.why h.lines h.puts
+
+no_lines : (style : Style) → style ≡ Lines → style ≡ Objects → ⊥
+no_lines Lines e f = cc
+no_lines Objects e f = cc
+
+-- in objects there are no lines
+pub says_never : (text : List ℕ) (old new : Writing) → old.style ≡ Objects → Says text old new
+says_never text old new objects since before h = absurd (no_lines old.style (still_lines since old before h) objects)
+
+pub says_none_ever : (old new : Writing) → old.style ≡ Objects → SaysSome old new
+says_none_ever old new objects since m = absurd (no_lines old.style (still_lines since old m.text m.has) objects)
 
 -- ---- texts
 
@@ -193,16 +224,20 @@ module _ (since now new : Writing) (text bytes : List ℕ) where
         cut = cut_still since.taken now.taken since.waiting text bytes why p.cut;
         begun = p.begun;
         failed = p.failed;
+        style = p.style;
+        spot = p.spot;
       }))
   joined None None None ea eb ec p q = more since now new text bytes None None None ea eb ec p q
   joined None None (Some why) ea eb ec p q = record {
     cut = cut_later since.taken now.taken new.taken since.waiting text p.puts.moved now.waiting bytes why p.puts.writes p.puts.waits q.cut;
     begun = q.begun ∙ p.begun;
     failed = q.failed ∙ ap (λ (b : Bool). output_failed {A = Unit {0}} (Err why) b) p.failed;
+    style = q.style ∙ p.style;
+    spot = q.spot ∙ p.spot;
   }
 
   joins : HasLine since text now → HasLine now bytes new → HasLine since (text ++ bytes) new
-  joins h k = record { begun = h.begun; puts = joined since.why now.why new.why refl refl refl h.puts k.puts }
+  joins h k = record { begun = h.begun; lines = h.lines; puts = joined since.why now.why new.why refl refl refl h.puts k.puts }
 
 -- a field whose value is some text
 pub says_named : (name : List ℕ) (x y z : Writing) → Says (codes " " ++ (name ++ codes "=")) x y → SaysSome y z
@@ -210,7 +245,7 @@ pub says_named : (name : List ℕ) (x y z : Writing) → Says (codes " " ++ (nam
 says_named name x y z p q since before h =
     let start = codes " " ++ (name ++ codes "=") in
     let m = p since before h in
-    let r = q y (record { text = []; has = has_nothing y (still_begun since y (before ++ start) m) }) in (
+    let r = q y (record { text = []; has = has_nothing y (still_begun since y (before ++ start) m) (still_lines since y (before ++ start) m) }) in (
       r.text,
       subst (λ (t : List ℕ). HasLine since t z) (append_assoc before start r.text
           ∙ ap (λ (t : List ℕ). before ++ (codes " " ++ t)) (append_assoc name (codes "=") r.text))

@@ -15,7 +15,13 @@ use Rattle.wasm_feed.specs.declared.devices.ListError.TheVariants.{Input, Output
 use Rattle.wasm_show.specs.Numbers.{Number, number_text}
 use Rattle.wasm_show.specs.Tree.{Part, words, number, Line, first, under, has_line_feed, is_part, is_line, part_text, text_of, first_of}
 use Rattle.wasm_show.specs.Tree.{part_numbers, numbers_of, IsFirst, IsOutlined, Writing, Origin, with_numbers}
-use Rattle.wasm_show.specs.Tree.{IsGoing, IsCutShort, IsWrittenAs, IsWritten, with_line, IsPushed, IsStuck, PutsAs, Puts}
+use Rattle.wasm_show.specs.Tree.{IsGoing, IsGoingInObjects, IsGoingIn, IsCutShort, IsWrittenAs, IsWritten, IsShaped, with_line}
+use Rattle.wasm_show.specs.Tree.{IsPushed, IsStuck, PutsAs, Puts, Adds, AddsFirst, AddsThese, is_objects}
+use Rattle.wasm_show.specs.Json.{AreObjects, IsAt, Leads, after_all, start}
+use Rattle.wasm_show.specs.declared.tree.Spot.{Spot}
+use Rattle.wasm_show.specs.declared.tree.Style.{Style}
+use Rattle.wasm_show.specs.declared.tree.Style.TheVariants.{Lines, Objects}
+use Rattle.wasm_show.proofs.Objects.{after_all-append, completes, completion}
 
 -- ---- lines after lines
 
@@ -72,25 +78,51 @@ no_input taken written waiting Input w = absurd w
 more_parts : {A : Type 0} (f : Part → List A) (line : List Part) (p : Part) → flat_map f (line ++ p ∷ []) ≡ flat_map f line ++ f p
 more_parts f line p = flat_map-append f line (p ∷ []) ∙ ap (λ x. flat_map f line ++ x) (append-nil (f p))
 
--- a writer that goes on, or has stopped
-pub as_going : (o : Origin) (w : Writing) → w.why ≡ None → IsWritten o w → IsGoing o w
-as_going o w e i = subst (λ (y : Option ListError). IsWrittenAs y o w) e i
+-- ---- in which style
 
-from_going : (o : Origin) (w : Writing) → w.why ≡ None → IsGoing o w → IsWritten o w
-from_going o w e i = subst (λ (y : Option ListError). IsWrittenAs y o w) (sym e) i
+shaped_lines : (style : Style) (text outline : List ℕ) (numbers : List Number) → style ≡ Lines → IsOutlined text outline numbers
+    → IsShaped style text outline numbers
+shaped_lines style text outline numbers e i = subst (λ (x : Style). IsShaped x text outline numbers) (sym e) i
 
+lines_shaped : (style : Style) (text outline : List ℕ) (numbers : List Number) → style ≡ Lines → IsShaped style text outline numbers
+    → IsOutlined text outline numbers
+lines_shaped style text outline numbers e i = subst (λ (x : Style). IsShaped x text outline numbers) e i
+
+-- objects have no outline
+shaped_objects : (style : Style) (text outline outline' : List ℕ) (numbers numbers' : List Number) → style ≡ Objects
+    → IsShaped style text outline numbers → IsShaped style text outline' numbers'
+shaped_objects style text outline outline' numbers numbers' e i = subst (λ (x : Style). IsShaped x text outline' numbers') (sym e)
+    (subst (λ (x : Style). IsShaped x text outline numbers) e i)
+
+-- ---- what was written before
+
+-- a writer that goes on
+pub as_going : (o : Origin) (w : Writing) → w.why ≡ None → IsWritten o w → IsGoingIn o.style o w
+as_going o w e i = subst (λ (y : Option ListError). IsWrittenAs y o w) e i.1
+
+pub in_lines : (o : Origin) (w : Writing) → o.style ≡ Lines → IsGoingIn o.style o w → IsGoing o w
+in_lines o w e i = subst (λ (s : Style). IsGoingIn s o w) e i
+
+pub in_objects : (o : Origin) (w : Writing) → o.style ≡ Objects → IsGoingIn o.style o w → IsGoingInObjects o w
+in_objects o w e i = subst (λ (s : Style). IsGoingIn s o w) e i
+
+from_lines : (o to : Origin) (w : Writing) → to.style ≡ o.style → o.style ≡ Lines → IsGoing to w → IsGoingIn to.style to w
+from_lines o to w s e i = subst (λ (x : Style). IsGoingIn x to w) (sym (s ∙ e)) i
+
+from_objects : (o : Origin) (w : Writing) → o.style ≡ Objects → IsGoingInObjects o w → IsGoingIn o.style o w
+from_objects o w e i = subst (λ (x : Style). IsGoingIn x o w) (sym e) i
+
+-- one that has stopped
 pub as_short : (o : Origin) (w : Writing) (why : ListError) → w.why ≡ Some why → IsWritten o w → IsCutShort o why w
-as_short o w why e i = subst (λ (y : Option ListError). IsWrittenAs y o w) e i
+as_short o w why e i = subst (λ (y : Option ListError). IsWrittenAs y o w) e i.1
 
-from_short : (o : Origin) (w : Writing) (why : ListError) → w.why ≡ Some why → IsCutShort o why w → IsWritten o w
-from_short o w why e i = subst (λ (y : Option ListError). IsWrittenAs y o w) (sym e) i
-
--- a line that is begun or ended changes nothing of what was cut short
-short_still : (o : Origin) (w : Writing) (why : ListError) (b : Bool) → IsCutShort o why w → IsCutShort o why (record w { is_begun = b })
-short_still o w why b c = record {
+-- a line that is begun or ended, or another spot, changes nothing of what was cut short
+short_still : (o : Origin) (w : Writing) (why : ListError) (b : Bool) (spot : Spot) → IsCutShort o why w
+    → IsCutShort o why (record w { is_begun = b; spot = spot })
+short_still o w why b spot c = record {
   written = c.written;
   unwritten = c.unwritten;
-  outlined = c.outlined;
+  shaped = c.shaped;
   took = c.took;
   failed = c.failed;
   no_input = c.no_input;
@@ -98,29 +130,33 @@ short_still o w why b c = record {
 
 -- a line of the first level, of which nothing could be written
 first_short : (o : Origin) (w : Writing) (why : ListError) (line outline : List ℕ) (numbers : List Number) → IsFirst line outline numbers
-    → IsCutShort o why w
+    → o.style ≡ Lines → IsCutShort o why w
     → IsCutShort (with_numbers (with_line o outline) numbers) why w
-first_short o w why line outline numbers e c = record {
+first_short o w why line outline numbers e lines c = record {
   written = c.written;
   unwritten = c.unwritten ++ line;
-  outlined = subst (λ (x : List ℕ). IsOutlined x (o.outline ++ outline) (o.numbers ++ numbers)) (append_assoc c.written c.unwritten line)
-      (first_more (c.written ++ c.unwritten) o.outline o.numbers line outline numbers e c.outlined);
+  shaped = shaped_lines o.style (c.written ++ (c.unwritten ++ line)) (o.outline ++ outline) (o.numbers ++ numbers) lines
+      (subst (λ (x : List ℕ). IsOutlined x (o.outline ++ outline) (o.numbers ++ numbers)) (append_assoc c.written c.unwritten line)
+      (first_more (c.written ++ c.unwritten) o.outline o.numbers line outline numbers e
+      (lines_shaped o.style (c.written ++ c.unwritten) o.outline o.numbers lines c.shaped)));
   took = c.took;
   failed = c.failed;
   no_input = c.no_input;
 }
 
 -- a part of a line under another, of which nothing could be written
-part_short : (o : Origin) (w : Writing) (why : ListError) (p : Part) → is_part p ≡ true → IsCutShort o why w
+part_short : (o : Origin) (w : Writing) (why : ListError) (p : Part) → is_part p ≡ true → o.style ≡ Lines → IsCutShort o why w
     → IsCutShort (with_numbers o (part_numbers p)) why w
-part_short o w why p one c =
+part_short o w why p one lines c =
     let line = codes "  " ++ (flat_map part_text (p ∷ []) ++ codes "\n") in
     record {
       written = c.written;
       unwritten = c.unwritten ++ line;
-      outlined = subst₂ (λ (x : List ℕ) (y : List Number). IsOutlined x o.outline (o.numbers ++ y))
+      shaped = shaped_lines o.style (c.written ++ (c.unwritten ++ line)) o.outline (o.numbers ++ part_numbers p) lines
+          (subst₂ (λ (x : List ℕ) (y : List Number). IsOutlined x o.outline (o.numbers ++ y))
           (append_assoc c.written c.unwritten line) (append-nil (part_numbers p))
-          (under_more (c.written ++ c.unwritten) o.outline o.numbers (p ∷ []) (rw one refl) c.outlined);
+          (under_more (c.written ++ c.unwritten) o.outline o.numbers (p ∷ []) (rw one refl)
+          (lines_shaped o.style (c.written ++ c.unwritten) o.outline o.numbers lines c.shaped)));
       took = c.took;
       failed = c.failed;
       no_input = c.no_input;
@@ -226,56 +262,108 @@ module _ (o : Origin) (old new : Writing) (i : IsGoing o old) where
       (sym (append-nil (i.written ++ old.waiting) ∙ (i.parts ∙ rw b (append-nil i.text))))
       (sym (i.numbered ∙ rw b (append-nil i.lined))) i.outlined
 
-  -- of all that was written or waited, a beginning is written
-  cut_at : (moved unwritten more : List ℕ) → old.waiting ≡ moved ++ unwritten → (i.written ++ moved) ++ (unwritten ++ more)
-      ≡ (i.written ++ old.waiting) ++ more
-  cut_at moved unwritten more e = append_assoc i.written moved (unwritten ++ more)
-      ∙ (ap (λ (x : List ℕ). i.written ++ x) (sym (append_assoc moved unwritten more) ∙ ap (λ (x : List ℕ). x ++ more) (sym e))
-      ∙ sym (append_assoc i.written old.waiting more))
+-- of all that was written or waited, a beginning is written
+cut_at : (written waiting moved unwritten more : List ℕ) → waiting ≡ moved ++ unwritten → (written ++ moved) ++ (unwritten ++ more)
+    ≡ (written ++ waiting) ++ more
+cut_at written waiting moved unwritten more e = append_assoc written moved (unwritten ++ more)
+    ∙ (ap (λ (x : List ℕ). written ++ x) (sym (append_assoc moved unwritten more) ∙ ap (λ (x : List ℕ). x ++ more) (sym e))
+    ∙ sym (append_assoc written waiting more))
 
-  is_stuck : (why : ListError) → IsStuck why old new → IsCutShort o why new
-  is_stuck why s =
+module _ (o : Origin) (old new : Writing) (why : ListError) (s : IsStuck why old new) where
+  stuck_in : (style : Style) → o.style ≡ style → IsGoingIn style o old → IsCutShort o why new
+  stuck_in Lines e i =
       let w = beginning old.taken new.taken old.waiting why s.cut in
+      let more = if old.is_begun then codes "\n" else [] in
       record {
         written = i.written ++ w.moved;
-        unwritten = w.unwritten ++ (if old.is_begun then codes "\n" else []);
-        outlined = subst (λ (x : List ℕ). IsOutlined x o.outline o.numbers) (sym
-            (cut_at w.moved w.unwritten (if old.is_begun then codes "\n" else []) w.parts)) (completed old.is_begun refl);
+        unwritten = w.unwritten ++ more;
+        shaped = shaped_lines o.style ((i.written ++ w.moved) ++ (w.unwritten ++ more)) o.outline o.numbers e
+            (subst (λ (x : List ℕ). IsOutlined x o.outline o.numbers)
+            (sym (cut_at i.written old.waiting w.moved w.unwritten more w.parts)) (completed o old new i old.is_begun refl));
+        took = Appends-trans o.taken old.taken new.taken i.written w.moved i.took w.wrote;
+        failed = s.failed ∙ ap (λ (b : Bool). output_failed {A = Unit {0}} (Err why) b) i.failed;
+        no_input = no_input old.taken new.taken old.waiting why s.cut;
+      }
+  stuck_in Objects e i =
+      let w = beginning old.taken new.taken old.waiting why s.cut in
+      let more = completion old.spot in
+      let objects : AreObjects ((i.written ++ old.waiting) ++ more) = after_all-append start (i.written ++ old.waiting) more
+      ∙ completes old.spot (after_all start (i.written ++ old.waiting)) i.is_at in
+      record {
+        written = i.written ++ w.moved;
+        unwritten = w.unwritten ++ more;
+        shaped = subst (λ (x : Style). IsShaped x ((i.written ++ w.moved) ++ (w.unwritten ++ more)) o.outline o.numbers) (sym e)
+            (subst AreObjects (sym (cut_at i.written old.waiting w.moved w.unwritten more w.parts)) objects);
         took = Appends-trans o.taken old.taken new.taken i.written w.moved i.took w.wrote;
         failed = s.failed ∙ ap (λ (b : Bool). output_failed {A = Unit {0}} (Err why) b) i.failed;
         no_input = no_input old.taken new.taken old.waiting why s.cut;
       }
 
+  is_stuck : IsGoingIn o.style o old → IsCutShort o why new
+  is_stuck i = stuck_in o.style refl i
+
 -- ---- the calls
 
 -- memory was refused before anything was put
 pub stops : (o : Origin) (w : Writing) → w.why ≡ None → IsWritten o w → IsWritten o (record w { why = Some Memory })
-stops o w e i = is_stuck o w (record w { why = Some Memory }) (as_going o w e i) Memory (record {
-  cut = record { moved = []; unwritten = w.waiting; parts = refl; wrote = Appends-nil w.taken };
-  begun = refl;
-  failed = refl;
-})
+stops o w e i = (
+  i.0,
+  is_stuck o w (record w { why = Some Memory }) Memory (record {
+    cut = record { moved = []; unwritten = w.waiting; parts = refl; wrote = Appends-nil w.taken };
+    begun = refl;
+    failed = refl;
+    style = refl;
+    spot = refl;
+  }) (as_going o w e i),
+)
 
 pub none_there : (why : Option ListError) → is_some why ≡ false → why ≡ None
 none_there None e = refl
 none_there (Some why) e = let no : true ≡ false = e in cc
 
-module _ (o : Origin) (old new : Writing) where
+-- the style stays
+style_by : (before after : Option ListError) (bytes : List ℕ) (old new : Writing) → PutsAs before after bytes old new
+    → new.style ≡ old.style
+style_by (Some why) after bytes old new p = ap (λ (w : Writing). w.style) p
+style_by None None bytes old new p = p.style
+style_by None (Some why) bytes old new p = p.style
+
+pub same_style : (bytes : List ℕ) (old new : Writing) → Puts bytes old new → new.style ≡ old.style
+same_style bytes old new p = style_by old.why new.why bytes old new p
+
+module _ (o : Origin) (old new : Writing) (b : Bool) (spot : Spot) where
+  -- a writer that is then in a line or not, or at another spot
+  abbrev moved_on : Writing → Writing
+  moved_on w = record w { is_begun = b; spot = spot }
+
   -- by whether the writer had stopped, and has: what goes on, and what was cut, with this outline
   by_why : (to : Origin) (bytes : List ℕ) (before after : Option ListError) → old.why ≡ before → new.why ≡ after
       → PutsAs before after bytes old new → IsWritten o old
-      → (IsGoing o old → IsPushed bytes old new → IsGoing to new)
-      → ((why : ListError) (w : Writing) → IsCutShort o why w → IsCutShort to why w) → IsWritten to new
-  by_why to bytes (Some why) after b a p i going short = subst (IsWritten to) (sym p)
-      (from_short to old why b (short why old (as_short o old why b i)))
-  by_why to bytes None None b a p i going short = from_going to new a (going (as_going o old b i) p)
-  by_why to bytes None (Some why) b a p i going short = from_short to new why a
-      (short why new (is_stuck o old new (as_going o old b i) why p))
+      → (IsGoingIn o.style o old → IsPushed bytes old new → IsGoingIn to.style to (moved_on new))
+      → ((why : ListError) (w : Writing) → IsCutShort o why w → IsCutShort to why w)
+      → IsWrittenAs new.why to (moved_on new)
+  by_why to bytes (Some why) after e a p i going short = subst (λ (w : Writing). IsWrittenAs w.why to (moved_on w)) (sym p)
+      (subst (λ (y : Option ListError). IsWrittenAs y to (moved_on old)) (sym e)
+      (short_still to old why b spot (short why old (as_short o old why e i))))
+  by_why to bytes None None e a p i going short = subst (λ (y : Option ListError). IsWrittenAs y to (moved_on new)) (sym a)
+      (going (as_going o old e i) p)
+  by_why to bytes None (Some why) e a p i going short = subst (λ (y : Option ListError). IsWrittenAs y to (moved_on new)) (sym a)
+      (short_still to new why b spot (short why new (is_stuck o old new why p (as_going o old e i))))
 
+  changes : (to : Origin) (bytes : List ℕ) → to.style ≡ o.style → Puts bytes old new → IsWritten o old
+      → (IsGoingIn o.style o old → IsPushed bytes old new → IsGoingIn to.style to (moved_on new))
+      → ((why : ListError) (w : Writing) → IsCutShort o why w → IsCutShort to why w) → IsWritten to (moved_on new)
+  changes to bytes same p i going short =
+      (same_style bytes old new p ∙ (i.0 ∙ sym same), by_why to bytes old.why new.why refl refl p i going short)
+
+module _ (o : Origin) (old new : Writing) (lines : old.style ≡ Lines) where
   puts_of : (p : Part) → old.is_begun ≡ true → is_part p ≡ true → Puts (part_text p) old new → IsWritten o old
       → IsWritten (with_numbers o (part_numbers p)) new
-  puts_of p b one h i = by_why (with_numbers o (part_numbers p)) (part_text p) old.why new.why refl refl h i
-      (λ g s. part_grows o old new g p b one s) (λ why w c. part_short o w why p one c)
+  puts_of p b one h i =
+      let e : o.style ≡ Lines = sym i.0 ∙ lines in
+      changes o old new new.is_begun new.spot (with_numbers o (part_numbers p)) (part_text p) refl h i
+      (λ g s. from_lines o (with_numbers o (part_numbers p)) new refl e (part_grows o old new (in_lines o old e g) p b one s))
+      (λ why w c. part_short o w why p one e c)
 
   pub puts_part : (bytes : List ℕ) → old.is_begun ≡ true → has_line_feed bytes ≡ false → Puts bytes old new → IsWritten o old
       → IsWritten o new
@@ -288,24 +376,96 @@ module _ (o : Origin) (old new : Writing) where
 
   pub puts_first : (line outline : List ℕ) (numbers : List Number) → IsFirst line outline numbers → old.is_begun ≡ false
       → Puts line old new → IsWritten o old → IsWritten (with_numbers (with_line o outline) numbers) new
-  puts_first line outline numbers e b p i = by_why (with_numbers (with_line o outline) numbers) line old.why new.why refl refl p i
-      (λ g h. first_grows o old new g line outline numbers e b h) (λ why w c. first_short o w why line outline numbers e c)
+  puts_first line outline numbers e b p i =
+      let s : o.style ≡ Lines = sym i.0 ∙ lines in
+      changes o old new new.is_begun new.spot (with_numbers (with_line o outline) numbers) line refl p i
+      (λ g h. from_lines o (with_numbers (with_line o outline) numbers) new refl s
+      (first_grows o old new (in_lines o old s g) line outline numbers e b h))
+      (λ why w c. first_short o w why line outline numbers e s c)
 
-  pub puts_all : Puts [] old new → IsWritten o old → IsWritten o new
-  puts_all p i = by_why o [] old.why new.why refl refl p i (λ g h. all_moves o old new g h) (λ why w c. c)
-
-  -- the same, where a line is then begun or ended
-  marked : (bytes : List ℕ) (b : Bool) (before after : Option ListError) → old.why ≡ before → new.why ≡ after
-      → PutsAs before after bytes old new → IsWritten o old
-      → (IsGoing o old → IsPushed bytes old new → IsGoing o (record new { is_begun = b })) → IsWritten o (record new { is_begun = b })
-  marked bytes b (Some why) after e a p i going = subst (λ (w : Writing). IsWritten o (record w { is_begun = b })) (sym p)
-      (from_short o (record old { is_begun = b }) why e (short_still o old why b (as_short o old why e i)))
-  marked bytes b None None e a p i going = from_going o (record new { is_begun = b }) a (going (as_going o old e i) p)
-  marked bytes b None (Some why) e a p i going = from_short o (record new { is_begun = b }) why a
-      (short_still o new why b (is_stuck o old new (as_going o old e i) why p))
-
+  -- a line is then begun or ended
   pub begins : old.is_begun ≡ false → Puts (codes "  ") old new → IsWritten o old → IsWritten o (record new { is_begun = true })
-  begins b p i = marked (codes "  ") true old.why new.why refl refl p i (λ g h. part_begins o old new g b h)
+  begins b p i =
+      let e : o.style ≡ Lines = sym i.0 ∙ lines in
+      changes o old new true new.spot o (codes "  ") refl p i
+      (λ g h. from_lines o o (record new { is_begun = true }) refl e (part_begins o old new (in_lines o old e g) b h)) (λ why w c. c)
 
   pub ends : old.is_begun ≡ true → Puts (codes "\n") old new → IsWritten o old → IsWritten o (record new { is_begun = false })
-  ends b p i = marked (codes "\n") false old.why new.why refl refl p i (λ g h. part_ends o old new g b h)
+  ends b p i =
+      let e : o.style ≡ Lines = sym i.0 ∙ lines in
+      changes o old new false new.spot o (codes "\n") refl p i
+      (λ g h. from_lines o o (record new { is_begun = false }) refl e (part_ends o old new (in_lines o old e g) b h)) (λ why w c. c)
+
+-- in an object, bytes that lead to another spot
+object_grows : (o : Origin) (old new : Writing) (bytes : List ℕ) (spot : Spot) → IsGoingInObjects o old → Leads old.spot bytes spot
+    → IsPushed bytes old new → IsGoingInObjects o (record new { spot = spot })
+object_grows o old new bytes spot i leads p = record {
+  written = i.written ++ p.puts.moved;
+  is_at = subst (λ (x : List ℕ). IsAt spot (after_all start x))
+      (sym (grown i.written old.waiting bytes p.puts.moved new.waiting p.puts.waits))
+      (subst (IsAt spot) (sym (after_all-append start (i.written ++ old.waiting) bytes))
+      (leads (after_all start (i.written ++ old.waiting)) i.is_at));
+  took = Appends-trans o.taken old.taken new.taken i.written p.puts.moved i.took p.puts.writes;
+  failed = p.failed ∙ i.failed;
+}
+
+module _ (o : Origin) (old new : Writing) where
+  pub puts_in_object : (bytes : List ℕ) (spot : Spot) → old.style ≡ Objects → Leads old.spot bytes spot → Puts bytes old new
+      → IsWritten o old → IsWritten o (record new { spot = spot })
+  puts_in_object bytes spot objects leads p i =
+      let e : o.style ≡ Objects = sym i.0 ∙ objects in
+      changes o old new new.is_begun spot o bytes refl p i
+      (λ g h. from_objects o (record new { spot = spot }) e (object_grows o old new bytes spot (in_objects o old e g) leads h))
+      (λ why w c. c)
+
+  all_in : (style : Style) → o.style ≡ style → IsGoingIn style o old → IsPushed [] old new → IsGoingIn style o new
+  all_in Lines e i p = all_moves o old new i p
+  all_in Objects e i p = record {
+    written = i.written ++ p.puts.moved;
+    is_at = subst₂ (λ (x : List ℕ) (spot : Spot). IsAt spot (after_all start x))
+        (sym (grown i.written old.waiting [] p.puts.moved new.waiting p.puts.waits ∙ append-nil (i.written ++ old.waiting)))
+        (sym p.spot) i.is_at;
+    took = Appends-trans o.taken old.taken new.taken i.written p.puts.moved i.took p.puts.writes;
+    failed = p.failed ∙ i.failed;
+  }
+
+  pub puts_all : Puts [] old new → IsWritten o old → IsWritten o new
+  puts_all p i = changes o old new new.is_begun new.spot o [] refl p i (λ g h. all_in o.style refl g h) (λ why w c. c)
+
+-- ---- in the style of objects nothing is said of lines
+
+module _ (o : Origin) (w : Writing) (outline : List ℕ) (numbers : List Number) where
+  abbrev with_others : Origin
+  with_others = record o { outline = outline; numbers = numbers }
+
+  other_by : (why : Option ListError) → o.style ≡ Objects → IsWrittenAs why o w → IsWrittenAs why with_others w
+  other_by None e i =
+      let g = in_objects o w e i in
+      from_objects with_others w e (record { written = g.written; is_at = g.is_at; took = g.took; failed = g.failed })
+  other_by (Some why) e c = record {
+    written = c.written;
+    unwritten = c.unwritten;
+    shaped = shaped_objects o.style (c.written ++ c.unwritten) o.outline outline o.numbers numbers e c.shaped;
+    took = c.took;
+    failed = c.failed;
+    no_input = c.no_input;
+  }
+
+  pub other_lines : o.style ≡ Objects → IsWritten o w → IsWritten with_others w
+  other_lines e i = (i.0, other_by w.why e i.1)
+
+module _ (old new : Writing) (objects : old.style ≡ Objects) (a : Adds old new) where
+  pub first_in_objects : (line : List ℕ) → AddsFirst line old new
+  first_in_objects line outline numbers e o i =
+      other_lines o new (o.outline ++ outline) (o.numbers ++ numbers) (sym i.0 ∙ objects) (a o i)
+
+  pub numbers_in_objects : (numbers : List Number) → AddsThese numbers old new
+  numbers_in_objects numbers o i = other_lines o new o.outline (o.numbers ++ numbers) (sym i.0 ∙ objects) (a o i)
+
+pub are_objects : (style : Style) → is_objects style ≡ true → style ≡ Objects
+are_objects Lines e = cc
+are_objects Objects e = refl
+
+pub are_lines : (style : Style) → is_objects style ≡ false → style ≡ Lines
+are_lines Lines e = refl
+are_lines Objects e = cc

@@ -19,7 +19,8 @@ use Rattle.wasm_feed.specs.declared.devices.ListError.TheVariants.{Input, Output
 use Rattle.wasm_feed.specs.declared.listing.Turn.{Turn}
 use Rattle.wasm_show.specs.Chosen.{is_chosen, chosen_line}
 use Rattle.wasm_show.specs.Numbers.{Number, after, no_counts, numbers_in_line, AreOfItems}
-use Rattle.wasm_show.specs.Tree.{IsOutlined, Writing, Origin, IsWritten, AddsNumbers, with_line, with_numbers, starts}
+use Rattle.wasm_show.specs.Tree.{IsShaped, Writing, Origin, IsWritten, AddsNumbers, with_line, with_numbers, starts_in}
+use Rattle.wasm_show.specs.declared.tree.Style.{Style}
 use Rattle.wasm_show.specs.declared.numbers.Counts.{Counts}
 use Rattle.wasm_show.specs.declared.only.Only.{Only}
 
@@ -46,26 +47,28 @@ stopped_by (Err Input) = None
 stopped_by (Err Output) = Some Output
 stopped_by (Err Memory) = Some Memory
 
--- A text with this outline was written.
-pub record WritesWhole (taken written : Option (List ℕ)) (outline : List ℕ) (numbers : List Number) : Type 0 where
+-- A text in this style was written: lines with this outline that show these numbers, or objects.
+pub record WritesWhole (style : Style) (taken written : Option (List ℕ)) (outline : List ℕ) (numbers : List Number) :
+    Type 0 where
   pub text : List ℕ
-  pub outlined : IsOutlined text outline numbers
+  pub shaped : IsShaped style text outline numbers
   pub wrote : Appends taken written text
 
 -- A beginning of one was written.
-pub record WritesSome (taken written : Option (List ℕ)) (outline : List ℕ) (numbers : List Number) : Type 0 where
+pub record WritesSome (style : Style) (taken written : Option (List ℕ)) (outline : List ℕ) (numbers : List Number) :
+    Type 0 where
   pub text : List ℕ
   pub unwritten : List ℕ
-  pub outlined : IsOutlined (text ++ unwritten) outline numbers
+  pub shaped : IsShaped style (text ++ unwritten) outline numbers
   pub wrote : Appends taken written text
 
--- what was written of a text with this outline and these numbers, by how the dump ended
-abbrev pub Writes : Result Ended ListError → (taken written : Option (List ℕ)) (outline : List ℕ)
+-- what was written of such a text, by how the dump ended
+abbrev pub Writes : Style → Result Ended ListError → (taken written : Option (List ℕ)) (outline : List ℕ)
     (numbers : List Number) → Type 0
-Writes (Ok how) taken written outline numbers = WritesWhole taken written outline numbers
-Writes (Err Input) taken written outline numbers = WritesWhole taken written outline numbers
-Writes (Err Output) taken written outline numbers = WritesSome taken written outline numbers
-Writes (Err Memory) taken written outline numbers = WritesSome taken written outline numbers
+Writes style (Ok how) taken written outline numbers = WritesWhole style taken written outline numbers
+Writes style (Err Input) taken written outline numbers = WritesWhole style taken written outline numbers
+Writes style (Err Output) taken written outline numbers = WritesSome style taken written outline numbers
+Writes style (Err Memory) taken written outline numbers = WritesSome style taken written outline numbers
 
 -- What the source gave is read as events that begin with these, and the numbers are theirs: each is how many items came
 -- before in its index space. But for types, no number is missing up to a section's first fault, unless the writing had
@@ -79,13 +82,15 @@ pub record AreOfSource (why : Option ListError) (only : List Only) (input : Chan
   pub are_of : AreOfEvents why only no_counts events numbers
 
 -- The lines of the first level are those of the source's listing that are shown; all others begin with two blanks. The
--- numbers of items count what came before.
-pub record Dumps (only : List Only) (input output : Change) (result : Result Ended ListError) : Type 0 where
+-- numbers of items count what came before. In the style of objects each line is one object, and the dump ends as it does
+-- in lines.
+pub record Dumps (style : Style) (only : List Only) (input output : Change) (result : Result Ended ListError) :
+    Type 0 where
   pub outline : List ℕ
   pub numbers : List Number
   pub lists : ListsBy (chosen_line only) input (from_to (Some []) (Some outline)) result
   pub counts : AreOfSource (stopped_by result) only input numbers
-  pub writes : Writes result output.before output.after outline numbers
+  pub writes : Writes style result output.before output.after outline numbers
 
 -- ---- the parts of a dump
 
@@ -129,14 +134,15 @@ pub record ShowsStep (only : List Only) (counts counts' : Counts) (old new : Fee
   pub counted : counts' ≡ after_answer counts answer
 
 -- a dump's origin: what the sink had taken, and whether it had failed
-abbrev pub origin : (taken : Option (List ℕ)) (failed : Bool) (outline : List ℕ) (numbers : List Number) → Origin
-origin taken failed outline numbers =
-    record { taken = taken; has_failed = failed; outline = outline; numbers = numbers }
+abbrev pub origin : Style → (taken : Option (List ℕ)) (failed : Bool) (outline : List ℕ) (numbers : List Number)
+    → Origin
+origin style taken failed outline numbers =
+    record { taken = taken; has_failed = failed; style = style; outline = outline; numbers = numbers }
 
 -- A dump by a writer over a sink that had taken this.
-pub record DumpsFrom (only : List Only) (input : Device) (taken : Option (List ℕ)) (failed : Bool)
+pub record DumpsFrom (style : Style) (only : List Only) (input : Device) (taken : Option (List ℕ)) (failed : Bool)
     (result : Result Ended ListError) (new : Writing) : Type 0 where
-  pub dumps : Dumps only (bytes_of input) (from_to taken new.taken) result
+  pub dumps : Dumps style only (bytes_of input) (from_to taken new.taken) result
   pub source : input.has_failed ≡ input_failed result input.had_failed
   pub sink : new.has_failed ≡ output_failed result failed
 
@@ -144,10 +150,10 @@ pub record DumpsFrom (only : List Only) (input : Device) (taken : Option (List �
 abbrev pub DumpsInto : (only : List Only) (input : Device) (old : Writing) (result : Result Ended ListError)
     (new : Writing) → Type 0
 DumpsInto only input old result new = (taken : Option (List ℕ)) (failed : Bool)
-    → IsWritten (origin taken failed [] []) old → DumpsFrom only input taken failed result new
+    → IsWritten (origin old.style taken failed [] []) old → DumpsFrom old.style only input taken failed result new
 
 -- The same by a tree that has written nothing yet.
 abbrev pub DumpsByTree : (only : List Only) (input : Device) (old : Writing) (result : Result Ended ListError)
     (new : Writing) → Type 0
-DumpsByTree only input old result new = (taken : Option (List ℕ)) (failed : Bool) → old ≡ starts taken failed
-    → DumpsFrom only input taken failed result new
+DumpsByTree only input old result new = (style : Style) (taken : Option (List ℕ)) (failed : Bool)
+    → old ≡ starts_in style taken failed → DumpsFrom style only input taken failed result new

@@ -2,6 +2,7 @@ pub mod Chosen
 pub mod Dump
 pub mod Fields
 pub mod ItemText
+pub mod Json
 pub mod Numbers
 pub mod Said
 pub mod SymbolText

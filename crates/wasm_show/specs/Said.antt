@@ -5,12 +5,15 @@ use Rattle.wasm_feed.specs.Page.{IsCut}
 use Rattle.wasm_feed.specs.declared.devices.ListError.{ListError}
 use Rattle.wasm_show.specs.Fields.{Field, with_fields}
 use Rattle.wasm_show.specs.Tree.{Writing, IsPushed}
+use Rattle.wasm_show.specs.declared.tree.Style.TheVariants.{Lines}
 
 -- The writer stopped on the way: a beginning of what waited and of this text was written, and no more could be.
 pub record StopsIn (text : List ℕ) (why : ListError) (since now : Writing) : Type 0 where
   pub cut : IsCut since.taken now.taken (since.waiting ++ text) why
   pub begun : now.is_begun ≡ since.is_begun
   pub failed : now.has_failed ≡ output_failed {A = Unit {0}} (Err why) since.has_failed
+  pub style : now.style ≡ since.style
+  pub spot : now.spot ≡ since.spot
 
 -- what becomes of a text that is put by a writer: nothing, if it had stopped
 abbrev pub PutsText : (before after : Option ListError) (text : List ℕ) (since now : Writing) → Type 0
@@ -18,9 +21,10 @@ PutsText (Some why) after text since now = now ≡ since
 PutsText None None text since now = IsPushed text since now
 PutsText None (Some why) text since now = StopsIn text why since now
 
--- A line was begun, and this is what was put on it since.
+-- A line was begun, and this is what was put on it since. In the style of objects there are none.
 pub record HasLine (since : Writing) (text : List ℕ) (now : Writing) : Type 0 where
   pub begun : since.is_begun ≡ true
+  pub lines : since.style ≡ Lines
   pub puts : PutsText since.why now.why text since now
 
 -- This text was put on the line that is begun, after what it had.

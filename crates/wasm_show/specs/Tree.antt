@@ -14,6 +14,11 @@ use Rattle.wasm_show.specs.Chosen.{blank_numbers}
 use Rattle.wasm_show.specs.Numbers.{Number, number_text, numbers_from, numbers_read, AreShown, AreFrom, AreUpTo}
 use Rattle.wasm_show.specs.declared.numbers.Space.{Space}
 use Rattle.wasm_feed.specs.declared.devices.ListError.TheVariants.{Input}
+use Rattle.wasm_show.specs.Json.{AreObjects, IsAt, after_all, start}
+use Rattle.wasm_show.specs.declared.tree.Spot.{Spot}
+use Rattle.wasm_show.specs.declared.tree.Spot.TheVariants.{Outside}
+use Rattle.wasm_show.specs.declared.tree.Style.{Style}
+use Rattle.wasm_show.specs.declared.tree.Style.TheVariants.{Lines, Objects}
 
 -- a part of a line under another: words, or the number of an item
 pub data Part : Type 0 where
@@ -76,23 +81,48 @@ pub record IsOutlined (text outline : List ℕ) (numbers : List Number) : Type 0
   pub outlines : outline ≡ flat_map first_of lines
   pub numbered : numbers ≡ flat_map numbers_of lines
 
+-- A text is what it is to be: lines with this outline that show these numbers; or lines of JSON, each one object.
+abbrev pub IsShaped : Style → (text outline : List ℕ) → List Number → Type 0
+IsShaped Lines text outline numbers = IsOutlined text outline numbers
+IsShaped Objects text outline numbers = AreObjects text
+
 -- what a writer is: the bytes that its sink has taken, where these are known, those that wait, whether a line was begun
--- and not ended, whether the sink has failed, and why the writer has stopped, if it has
+-- and not ended, whether the sink has failed, and why the writer has stopped, if it has; in which style it writes, and
+-- in that of objects at which spot of one it is
 pub record Writing : Type 0 where
   pub taken : Option (List ℕ)
   pub waiting : List ℕ
   pub is_begun : Bool
   pub has_failed : Bool
   pub why : Option ListError
+  pub style : Style
+  pub spot : Spot
+
+abbrev pub is_objects : Style → Bool
+is_objects Lines = false
+is_objects Objects = true
 
 -- a writer that has written nothing yet
-abbrev pub starts : (taken : Option (List ℕ)) (failed : Bool) → Writing
-starts taken failed = record { taken = taken; waiting = []; is_begun = false; has_failed = failed; why = None }
+abbrev pub starts_in : Style → (taken : Option (List ℕ)) (failed : Bool) → Writing
+starts_in style taken failed = record {
+  taken = taken;
+  waiting = [];
+  is_begun = false;
+  has_failed = failed;
+  why = None;
+  style = style;
+  spot = Outside;
+}
 
--- what there was at first, and the outline and the numbers since
+-- one that writes lines
+abbrev pub starts : (taken : Option (List ℕ)) (failed : Bool) → Writing
+starts taken failed = starts_in Lines taken failed
+
+-- what there was at first, in which style is written, and the outline and the numbers since
 pub record Origin : Type 0 where
   pub taken : Option (List ℕ)
   pub has_failed : Bool
+  pub style : Style
   pub outline : List ℕ
   pub numbers : List Number
 
@@ -119,22 +149,33 @@ pub record IsGoing (o : Origin) (w : Writing) : Type 0 where
   pub took : Appends o.taken w.taken written
   pub failed : w.has_failed ≡ o.has_failed
 
--- A beginning of such lines was written, and no more could be.
+-- All that was written or waits is whole objects, and perhaps one that was begun, up to the spot where the writer is.
+pub record IsGoingInObjects (o : Origin) (w : Writing) : Type 0 where
+  pub written : List ℕ
+  pub is_at : IsAt w.spot (after_all start (written ++ w.waiting))
+  pub took : Appends o.taken w.taken written
+  pub failed : w.has_failed ≡ o.has_failed
+
+abbrev pub IsGoingIn : Style → Origin → Writing → Type 0
+IsGoingIn Lines o w = IsGoing o w
+IsGoingIn Objects o w = IsGoingInObjects o w
+
+-- A beginning of such a text was written, and no more could be.
 pub record IsCutShort (o : Origin) (why : ListError) (w : Writing) : Type 0 where
   pub written : List ℕ
   pub unwritten : List ℕ
-  pub outlined : IsOutlined (written ++ unwritten) o.outline o.numbers
+  pub shaped : IsShaped o.style (written ++ unwritten) o.outline o.numbers
   pub took : Appends o.taken w.taken written
   pub failed : w.has_failed ≡ output_failed {A = Unit {0}} (Err why) o.has_failed
   pub no_input : why ≢ Input
 
--- Lines with this outline were written, as far as they could be.
+-- A text with this outline was written, as far as it could be, in this style.
 abbrev pub IsWrittenAs : Option ListError → Origin → Writing → Type 0
-IsWrittenAs None o w = IsGoing o w
+IsWrittenAs None o w = IsGoingIn o.style o w
 IsWrittenAs (Some why) o w = IsCutShort o why w
 
 abbrev pub IsWritten : Origin → Writing → Type 0
-IsWritten o w = IsWrittenAs w.why o w
+IsWritten o w = (w.style ≡ o.style) × IsWrittenAs w.why o w
 
 -- What was written is under the lines before it.
 abbrev pub Adds : (old new : Writing) → Type 0
@@ -193,12 +234,16 @@ pub record IsPushed (bytes : List ℕ) (old new : Writing) : Type 0 where
   pub begun : new.is_begun ≡ old.is_begun
   pub failed : new.has_failed ≡ old.has_failed
   pub why : new.why ≡ old.why
+  pub style : new.style ≡ old.style
+  pub spot : new.spot ≡ old.spot
 
 -- A beginning of those that waited was written, and no more could be.
 pub record IsStuck (why : ListError) (old new : Writing) : Type 0 where
   pub cut : IsCut old.taken new.taken old.waiting why
   pub begun : new.is_begun ≡ old.is_begun
   pub failed : new.has_failed ≡ output_failed {A = Unit {0}} (Err why) old.has_failed
+  pub style : new.style ≡ old.style
+  pub spot : new.spot ≡ old.spot
 
 -- what becomes of bytes that are put by a writer, which stops where it is stuck
 abbrev pub PutsAs : (before after : Option ListError) (bytes : List ℕ) (old new : Writing) → Type 0
@@ -209,7 +254,8 @@ PutsAs None (Some why) bytes old new = IsStuck why old new
 abbrev pub Puts : (bytes : List ℕ) (old new : Writing) → Type 0
 Puts bytes old new = PutsAs old.why new.why bytes old new
 
--- nothing waits, and no line is begun, unless the writer has stopped
+-- nothing waits, and no line or object is begun, unless the writer has stopped
 pub record IsOut (w : Writing) : Type 0 where
   pub none_waits : w.why ≡ None → w.waiting ≡ []
-  pub none_begun : w.why ≡ None → w.is_begun ≡ false
+  pub none_begun : w.why ≡ None → w.style ≡ Lines → w.is_begun ≡ false
+  pub outside : w.why ≡ None → w.style ≡ Objects → w.spot ≡ Outside

@@ -26,8 +26,8 @@ impl Show for CoreDumpModulesSection<'_> {
 impl Show for CoreDumpInstance {
     fn show<W: Sink>(&self, level: usize, out: &mut Tree<W>) {
         out.number("module_index", u64::from(self.module_index));
-        write_lines(under(level), "memory=", &self.memories, out);
-        write_lines(under(level), "global=", &self.globals, out);
+        write_lines(under(level), "memory", &self.memories, out);
+        write_lines(under(level), "global", &self.globals, out);
     }
 }
 
@@ -42,7 +42,7 @@ impl Show for CoreDumpInstancesSection {
 impl Show for CoreDumpValue {
     fn show<W: Sink>(&self, _level: usize, out: &mut Tree<W>) {
         match self {
-            CoreDumpValue::Missing => out.word("missing"),
+            CoreDumpValue::Missing => out.label("value", "missing"),
             CoreDumpValue::I32(number) => out.signed("i32", i64::from(*number)),
             CoreDumpValue::I64(number) => out.signed("i64", *number),
             CoreDumpValue::F32(float) => out.number("f32_bits", u64::from(float.bits())),

@@ -79,6 +79,6 @@ fn show_known<W: Sink>(level: usize, known: &KnownCustom<'_>, out: &mut Tree<W>)
         KnownCustom::CoreDumpModules(section) => section.show(level, out),
         KnownCustom::Linking(section) => section.show(level, out),
         KnownCustom::Reloc(section) => section.show(level, out),
-        KnownCustom::Unknown => out.word("unknown"),
+        KnownCustom::Unknown => out.label("known", "unknown"),
     }
 }

@@ -49,6 +49,15 @@ fn write_integer<W: Sink>(number: i64, out: &mut Tree<W>)
     out.integer(number);
 }
 
+// Writes the bits of a float, as a number.
+fn write_bits<W: Sink>(bits: u64, out: &mut Tree<W>)
+    ensures adds { Adds out.old out.new }
+    ensures some { SaysSome out.old out.new }
+{
+    out.text(" bits=");
+    out.digits(bits);
+}
+
 // Writes the operands of an operator, each after a blank.
 fn write_operands<W: Sink>(operator: &ConstOperator, out: &mut Tree<W>)
     ensures adds { Adds out.old out.new }
@@ -58,8 +67,8 @@ fn write_operands<W: Sink>(operator: &ConstOperator, out: &mut Tree<W>)
         ConstOperator::GlobalGet { global_index } => write_word(global_index, out),
         ConstOperator::I32Const { value } => write_integer(i64::from(*value), out),
         ConstOperator::I64Const { value } => write_integer(*value, out),
-        ConstOperator::F32Const { value } => out.number("bits", u64::from(value.bits())),
-        ConstOperator::F64Const { value } => out.number("bits", value.bits()),
+        ConstOperator::F32Const { value } => write_bits(u64::from(value.bits()), out),
+        ConstOperator::F64Const { value } => write_bits(value.bits(), out),
         ConstOperator::V128Const { value } => {
             out.text(" ");
             out.hexadecimals(value.bytes());

@@ -4,6 +4,7 @@
 mod collected;
 mod coredumps;
 mod custom;
+mod events;
 mod expressions;
 mod heading;
 mod items;
@@ -29,4 +30,4 @@ pub use only::Only;
 pub use payload::show_payload;
 pub use show::Show;
 pub use stream::dump;
-pub use tree::Tree;
+pub use tree::{Style, Tree};

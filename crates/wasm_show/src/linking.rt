@@ -68,7 +68,7 @@ fn show_indexed<W: Sink>(kind: &str, flags: u32, index: u32, name: &Option<&str>
         → SaysFields (indexed_fields kind.now flags index (text_if_any name.now (λ text. text.now)))
         out.old out.new }
 {
-    out.word(kind);
+    out.label("kind", kind);
     out.number("flags", u64::from(flags));
     out.number("index", u64::from(index));
     match name {
@@ -88,7 +88,7 @@ fn show_defined<W: Sink>(symbol: &Option<DefinedDataSymbol>, out: &mut Tree<W>)
             out.number("offset", u64::from(symbol.offset));
             out.number("size", u64::from(symbol.size));
         }
-        None => out.word("undefined"),
+        None => out.label("symbol", "undefined"),
     }
 }
 
@@ -97,7 +97,7 @@ fn show_data<W: Sink>(flags: u32, name: &str, symbol: &Option<DefinedDataSymbol>
     ensures adds { Adds out.old out.new }
     ensures says { SaysFields (data_symbol_fields flags name.now symbol.now) out.old out.new }
 {
-    out.word("data");
+    out.label("kind", "data");
     out.number("flags", u64::from(flags));
     out.quoted("name", name);
     show_defined(symbol, out);
@@ -108,7 +108,7 @@ fn show_section_symbol<W: Sink>(flags: u32, section: u32, out: &mut Tree<W>)
     ensures adds { Adds out.old out.new }
     ensures says { SaysFields (section_symbol_fields flags section) out.old out.new }
 {
-    out.word("section");
+    out.label("kind", "section");
     out.number("flags", u64::from(flags));
     out.number("section", u64::from(section));
 }
@@ -181,7 +181,7 @@ impl Show for Dylink0SectionReader<'_> {
 
 impl Show for MemInfo {
     fn show<W: Sink>(&self, _level: usize, out: &mut Tree<W>) {
-        out.word("mem_info");
+        out.label("kind", "mem_info");
         out.number("memory_size", u64::from(self.memory_size));
         out.number("memory_alignment", u64::from(self.memory_alignment));
         out.number("table_size", u64::from(self.table_size));
@@ -214,7 +214,7 @@ fn show_words<T: Show, W: Sink>(
 )
     ensures { Adds out.old out.new }
 {
-    out.word(list);
+    out.label("kind", list);
     show_lines(under(level), item, items, out);
 }
 

@@ -117,17 +117,17 @@ pub(crate) fn show_lines<T: Show, W: Sink>(level: usize, word: &str, items: &[T]
     }
 }
 
-/// Writes texts, each on a line at this level that begins with this word.
+/// Writes texts, each on a line at this level that begins with a field of this name.
 pub(crate) fn write_lines<T: Text, W: Sink>(
     level: usize,
-    word: &str,
+    name: &str,
     items: &[T],
     out: &mut Tree<W>,
 )
     ensures { Adds out.old out.new }
 {
     for item in items {
-        out.line(level, word);
+        out.line_field(level, name);
         item.text(out);
     }
 }

@@ -41,7 +41,7 @@ impl Show for IndirectNameMap<'_> {
 fn show_map<T: Show, W: Sink>(word: &str, level: usize, names: &T, out: &mut Tree<W>)
     ensures { Adds out.old out.new }
 {
-    out.word(word);
+    out.label("kind", word);
     names.show(level, out);
 }
 
@@ -49,7 +49,7 @@ fn show_map<T: Show, W: Sink>(word: &str, level: usize, names: &T, out: &mut Tre
 pub(crate) fn show_unknown<W: Sink>(ty: u8, contents: &[u8], range: &Range<u64>, out: &mut Tree<W>)
     ensures { Adds out.old out.new }
 {
-    out.word("unknown");
+    out.label("kind", "unknown");
     out.number("ty", u64::from(ty));
     out.raw("contents", contents);
     out.range("range", range.start, range.end);
@@ -59,7 +59,7 @@ pub(crate) fn show_unknown<W: Sink>(ty: u8, contents: &[u8], range: &Range<u64>,
 fn show_module_name<W: Sink>(name: &str, range: &Range<u64>, out: &mut Tree<W>)
     ensures { Adds out.old out.new }
 {
-    out.word("module");
+    out.label("kind", "module");
     out.quoted("name", name);
     out.range("range", range.start, range.end);
 }

@@ -108,7 +108,7 @@ pub(crate) fn show_imports<W: Sink>(
 fn show_type<W: Sink>(index: u64, ty: &SubType, out: &mut Tree<W>)
     ensures { AddsNumber Types index out.old out.new }
 {
-    out.line(2, "");
+    out.begin_line(2);
     out.item_number(Space::Types, index);
     out.field("type");
     ty.text(out);

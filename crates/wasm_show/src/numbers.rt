@@ -30,8 +30,8 @@ pub enum Space {
     DataSegments,
 }
 
-// The word of an index space.
-fn space_word(space: Space) -> &'static str
+/// The word of an index space.
+pub(crate) fn space_word(space: Space) -> &'static str
     ensures word { result.now ≡ word_of space }
     ensures short { length result.now ≤ 6 }
 {

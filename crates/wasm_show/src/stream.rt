@@ -6,13 +6,13 @@ ghost use Rattle.wasm_feed.specs.Step.{answer_of};
 ghost use Rattle.wasm_feed.specs.Turns.{turn_after};
 ghost use Rattle.wasm_show.specs.Dump.{DumpsByTree, DumpsInto, ShowsAnswer, ShowsReport, ShowsStep, after_answer};
 
-use crate::heading::shown_line;
+use crate::events::{show_event, show_last_fault};
 use crate::numbers::Counts;
 use crate::only::{Only, chooses};
 use crate::payload::show_payload;
 use crate::tree::Tree;
 use std::alloc::Global;
-use wasm_feed::{Ended, Feeder, Line, ListError, Sink, Source, Step, Turn, fault_line};
+use wasm_feed::{Ended, Feeder, Line, ListError, Sink, Source, Step, Turn};
 use wasm_parser::{Parser, Payload, Result as ParserResult};
 
 // Writes the line of a payload and what it holds, if it is shown.
@@ -28,8 +28,7 @@ fn show_chosen<W: Sink>(
         → ShowsReport only.now counts.now (report_of payload.now) out.old out.new }
 {
     if chooses(only, payload) {
-        shown_line(line, counts, payload);
-        out.first(line.as_bytes());
+        show_event(counts, line, payload, out);
         show_payload(alloc, counts, payload, out);
     }
 }
@@ -60,8 +59,7 @@ fn show_answer<W: Sink>(
             }
         }
         Err(error) => {
-            fault_line(line, error);
-            out.first(line.as_bytes());
+            show_last_fault(line, error, out);
             Turn::End(Ended::Fault(*error))
         }
     }

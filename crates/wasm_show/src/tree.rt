@@ -1,15 +1,19 @@
 // Lines of text, some of them under others.
-ghost use Rattle.std.specs.Prelude.{◌≡◌, ◌≤◌, [], None, true, false, length, take, decimal};
+ghost use Rattle.std.specs.Prelude.{◌≡◌, ◌≤◌, ◌++◌, [], None, true, false, codes, length, take, decimal};
 ghost use Rattle.std.specs.Option.{is_some};
 ghost use Rattle.std.specs.List.{flat_map};
 ghost use Rattle.wasm_show.specs.Fields.{alone, field_start, field_text, named, number as number_value, word as word_value, quoted, raw};
 ghost use Rattle.wasm_show.specs.Fields.{range, flag as flag_value, number_if_any as optional, hexadecimal, quoted_byte};
 ghost use Rattle.wasm_show.specs.Fields.{is_escaped as byte_is_escaped};
 ghost use Rattle.wasm_show.specs.Said.{Says, SaysSome};
-ghost use Rattle.wasm_show.specs.Tree.{Adds, AddsFirst, AddsNumber, IsOut, Puts, has_line_feed, starts};
+ghost use Rattle.wasm_show.specs.Tree.{Adds, AddsFirst, AddsNumber, IsOut, Puts, has_line_feed, is_objects, starts, starts_in};
+ghost use Rattle.wasm_show.specs.declared.tree.Spot.TheVariants.{Outside};
+ghost use Rattle.wasm_show.specs.declared.tree.Style.TheVariants.{Lines, Objects};
+
+mod objects;
 
 use crate::known_names::ItemNames;
-use crate::numbers::{Space, put_number};
+use crate::numbers::{Space, put_number, space_word};
 use std::alloc::Global;
 use std::marker::Model;
 use wasm_base::Error;
@@ -39,6 +43,17 @@ fn is_escaped(byte: u8) -> bool
     byte < 32 || byte > 126 || byte == b'"' || byte == b'\\'
 }
 
+// The two hexadecimal digits of a byte.
+fn hexadecimal_digits(byte: u8) -> [u8; 2]
+    ensures { result ≡ hexadecimal byte }
+{
+    let digits = b"0123456789abcdef";
+    [
+        digits[usize::from(byte / 16)],
+        digits[usize::from(byte % 16)],
+    ]
+}
+
 // The name of an item, if there are names, and it has one.
 fn name_in(names: &Option<ItemNames>, space: Space, index: u64) -> Option<&str> {
     match names {
@@ -47,15 +62,43 @@ fn name_in(names: &Option<ItemNames>, space: Space, index: u64) -> Option<&str> 
     }
 }
 
-/// Writes lines, each one under another by two blanks a level. They wait until there are many, so that the sink is called
-/// seldom.
+/// How a tree writes.
+#[derive(Clone, Copy)]
+pub enum Style {
+    /// Lines of text, each one under another by two blanks a level.
+    Lines,
+    /// Lines of JSON (RFC 8259), each one object.
+    Objects,
+}
+
+/// Where a tree of objects is.
+#[derive(Clone, Copy)]
+pub(crate) enum Spot {
+    /// Before an object.
+    Outside,
+    /// In an object, after a member.
+    Ended,
+    /// In the name of a member.
+    InName,
+    /// Before the value of a member.
+    AtValue,
+    /// In a text, which is the value of a member.
+    InText,
+}
+
+/// Writes lines, each one under another by two blanks a level; or objects of JSON, each on a line. They wait until there are
+/// many, so that the sink is called seldom.
 ///
 /// A line under another is begun by `item` or `line`, put together from the parts that the other calls write, and ended by `end`
 /// or by the next one. Where the sink fails, or memory is refused, the tree stops and writes nothing more: `stopped` says why.
+///
+/// An object has a member for each field; texts outside of fields are left out.
 pub struct Tree<W: Sink> {
     output: W,
     page: Page,
+    style: Style,
     is_begun: bool,
+    spot: Spot,
     why: Option<ListError>,
     names: Option<ItemNames>,
 }
@@ -65,31 +108,27 @@ impl<W: Sink> Model for Tree<W> {
 
     ghost Value = { Writing };
 
-    ghost view = { λ t. record { taken = W.taken t.output; waiting = t.page; is_begun = t.is_begun; has_failed = W.has_failed t.output; why = t.why } };
+    ghost view = { λ t. record { taken = W.taken t.output; waiting = t.page; is_begun = t.is_begun; has_failed = W.has_failed t.output; why = t.why; style = t.style; spot = t.spot } };
 }
 
 impl<W: Sink> Tree<W> {
-    /// Writes to this sink. Nothing is written yet.
+    /// Writes lines to this sink. Nothing is written yet.
     pub fn new(alloc: Global, output: W) -> Tree<W>
         ensures { result ≡ starts (W.taken output) (W.has_failed output) }
     {
-        Tree {
-            output,
-            page: Page::new(alloc),
-            is_begun: false,
-            why: None,
-            names: None,
-        }
+        Tree::with_names(alloc, output, Style::Lines, None)
     }
 
-    /// The same, by which items that have one of these names, if there are any, have it after their numbers.
-    pub fn with_names(alloc: Global, output: W, names: Option<ItemNames>) -> Tree<W>
-        ensures { result ≡ starts (W.taken output) (W.has_failed output) }
+    /// Writes in this style. Items that have one of these names, if there are any, have it after their numbers.
+    pub fn with_names(alloc: Global, output: W, style: Style, names: Option<ItemNames>) -> Tree<W>
+        ensures { result ≡ starts_in style (W.taken output) (W.has_failed output) }
     {
         Tree {
             output,
             page: Page::new(alloc),
+            style,
             is_begun: false,
+            spot: Spot::Outside,
             why: None,
             names,
         }
@@ -103,7 +142,9 @@ impl<W: Sink> Tree<W> {
         let Tree {
             output,
             page: _,
+            style: _,
             is_begun: _,
+            spot: _,
             why: _,
             names: _,
         } = self;
@@ -122,6 +163,16 @@ impl<W: Sink> Tree<W> {
         ensures { result ≡ is_some self.now.why }
     {
         self.why.is_some()
+    }
+
+    /// Whether the tree writes objects.
+    pub fn writes_objects(&self) -> bool
+        ensures { result ≡ is_objects self.now.style }
+    {
+        match self.style {
+            Style::Lines => false,
+            Style::Objects => true,
+        }
     }
 
     // Puts bytes after those that wait, unless the tree has stopped; it stops where this can't be.
@@ -176,13 +227,37 @@ impl<W: Sink> Tree<W> {
         self.page.len()
     }
 
-    /// Writes a line of the first level, which has its line feed, and at most 65,536 bytes. It may end with numbers of items.
+    /// Writes a line of the first level, which has its line feed, and at most 65,536 bytes. It may end with numbers of items. In
+    /// the style of objects it is one with the line as a text.
     pub fn first(&mut self, line: &[u8])
         requires { length line.now ≤ 65536 }
         ensures { AddsFirst line.now self.old self.new }
     {
-        self.end();
+        match self.style {
+            Style::Lines => self.first_of_lines(line),
+            Style::Objects => self.first_of_objects(line),
+        }
+    }
+
+    // The same in the style of lines.
+    fn first_of_lines(&mut self, line: &[u8])
+        requires lines { self.old.style ≡ Lines }
+        requires short { length line.now ≤ 65536 }
+        ensures { AddsFirst line.now self.old self.new }
+    {
+        self.end_line();
         self.push(line);
+    }
+
+    // The same in that of objects.
+    fn first_of_objects(&mut self, line: &[u8])
+        requires { self.old.style ≡ Objects }
+        ensures { Adds self.old self.new }
+    {
+        self.end_object();
+        self.text_member("line");
+        self.more_text(line);
+        self.end_object();
     }
 
     /// Begins a line under another: that of an item whose bytes begin at this offset in the whole stream. At level 1 it is
@@ -190,34 +265,67 @@ impl<W: Sink> Tree<W> {
     pub fn item(&mut self, level: usize, offset: u64)
         ensures { Adds self.old self.new }
     {
-        self.indent(level);
-        self.digits(offset);
+        self.begin_line(level);
+        match self.style {
+            Style::Lines => self.digits(offset),
+            Style::Objects => self.number_member("at", offset),
+        }
     }
 
     /// Begins a line under another, with this word: that of what has no offset of its own.
     pub fn line(&mut self, level: usize, word: &str)
         ensures { Adds self.old self.new }
     {
-        self.indent(level);
-        self.text(word);
+        self.begin_line(level);
+        match self.style {
+            Style::Lines => self.text(word),
+            Style::Objects => self.word_field("line", word),
+        }
     }
 
-    // Begins a line at this level.
-    fn indent(&mut self, level: usize)
+    /// Begins a line under another, with a field of this name.
+    pub fn line_field(&mut self, level: usize, name: &str)
+        ensures { Adds self.old self.new }
+    {
+        self.begin_line(level);
+        match self.style {
+            Style::Lines => {
+                self.text(name);
+                self.text("=");
+            }
+            Style::Objects => self.text_member(name),
+        }
+    }
+
+    /// Begins a line at this level, with nothing in it yet.
+    pub fn begin_line(&mut self, level: usize)
         ensures { Adds self.old self.new }
     {
         self.end();
+        match self.style {
+            Style::Lines => self.indent(level),
+            Style::Objects => self.number_member("level", level as u64),
+        }
+    }
+
+    // Begins a line of text at this level.
+    fn indent(&mut self, level: usize)
+        requires { self.old.style ≡ Lines }
+        ensures { Adds self.old self.new }
+    {
         self.begin();
         for _ in 1..level {
             self.text("  ");
         }
     }
 
-    // Begins a line, if none is begun.
+    // Begins a line of text, if none is begun.
     fn begin(&mut self)
+        requires { self.old.style ≡ Lines }
         ensures adds { Adds self.old self.new }
         ensures begun { self.new.is_begun ≡ true }
         ensures same { self.old.is_begun ≡ true → self.new ≡ self.old }
+        ensures lines { self.new.style ≡ Lines }
     {
         if self.is_begun {
             return;
@@ -229,7 +337,22 @@ impl<W: Sink> Tree<W> {
     /// Ends the line that is begun, if one is.
     pub fn end(&mut self)
         ensures adds { Adds self.old self.new }
+        ensures ended { self.new.style ≡ Lines → self.new.is_begun ≡ false }
+        ensures outside { self.new.style ≡ Objects → self.new.spot ≡ Outside }
+        ensures style { self.new.style ≡ self.old.style }
+    {
+        match self.style {
+            Style::Lines => self.end_line(),
+            Style::Objects => self.end_object(),
+        }
+    }
+
+    // Ends the line of text that is begun, if one is.
+    fn end_line(&mut self)
+        requires { self.old.style ≡ Lines }
+        ensures adds { Adds self.old self.new }
         ensures ended { self.new.is_begun ≡ false }
+        ensures lines { self.new.style ≡ Lines }
     {
         if !self.is_begun {
             return;
@@ -238,9 +361,23 @@ impl<W: Sink> Tree<W> {
         self.is_begun = false;
     }
 
-    // Writes bytes that are no line feeds, for which there is room; with one they are left out.
+    // Writes bytes, for which there is room, on the line that is begun, or in the text of an object that is open.
     fn piece(&mut self, bytes: &[u8])
         requires { length bytes.now ≤ 65536 }
+        ensures adds { Adds self.old self.new }
+        ensures says { has_line_feed bytes.now ≡ false → Says bytes.now self.old self.new }
+        ensures some { SaysSome self.old self.new }
+    {
+        match self.style {
+            Style::Lines => self.piece_of_line(bytes),
+            Style::Objects => self.more_text(bytes),
+        }
+    }
+
+    // Writes bytes that are no line feeds, for which there is room; with one they are left out.
+    fn piece_of_line(&mut self, bytes: &[u8])
+        requires lines { self.old.style ≡ Lines }
+        requires short { length bytes.now ≤ 65536 }
         ensures adds { Adds self.old self.new }
         ensures says { has_line_feed bytes.now ≡ false → Says bytes.now self.old self.new }
         ensures some { SaysSome self.old self.new }
@@ -276,8 +413,44 @@ impl<W: Sink> Tree<W> {
         self.name_after(space, index);
     }
 
+    /// Writes the number of an item and its name, if the tree has it, in the object of an event. A line of the first level has
+    /// its numbers already.
+    pub(crate) fn event_number(&mut self, space: Space, index: u64)
+        ensures { Adds self.old self.new }
+    {
+        match self.style {
+            Style::Lines => {}
+            Style::Objects => {
+                self.number_in_object(space, index);
+                self.name_after(space, index);
+            }
+        }
+    }
+
     // Writes the number of an item, without its name.
     fn number_alone(&mut self, space: Space, index: u64)
+        ensures { AddsNumber space index self.old self.new }
+    {
+        match self.style {
+            Style::Lines => self.number_in_line(space, index),
+            Style::Objects => self.number_in_object(space, index),
+        }
+    }
+
+    // The same in an object.
+    fn number_in_object(&mut self, space: Space, index: u64)
+        requires { self.old.style ≡ Objects }
+        ensures adds { Adds self.old self.new }
+        ensures objects { self.new.style ≡ Objects }
+    {
+        self.text_member("space");
+        self.more_text(space_word(space).as_bytes());
+        self.number_member("number", index);
+    }
+
+    // The same in a line of text.
+    fn number_in_line(&mut self, space: Space, index: u64)
+        requires { self.old.style ≡ Lines }
         ensures { AddsNumber space index self.old self.new }
     {
         let mut line = Line::new();
@@ -286,7 +459,7 @@ impl<W: Sink> Tree<W> {
         self.push(line.as_bytes());
     }
 
-    // Writes a blank and the name of an item, if the tree has it.
+    // Writes the name of an item, if the tree has it.
     fn name_after(&mut self, space: Space, index: u64)
         ensures { Adds self.old self.new }
     {
@@ -295,22 +468,35 @@ impl<W: Sink> Tree<W> {
         }
         let names = self.names.take();
         if let Some(name) = name_in(&names, space, index) {
-            self.text(" ");
-            self.in_quotes(name);
+            self.item_name(name);
         }
         self.names = names;
     }
 
-    /// Writes the name of an item on a line under one of the first level, if the tree has it.
+    // Writes the name of an item: after a blank, or as a field of an object.
+    fn item_name(&mut self, name: &str)
+        ensures { Adds self.old self.new }
+    {
+        match self.style {
+            Style::Lines => {
+                self.text(" ");
+                self.in_quotes(name);
+            }
+            Style::Objects => self.word_field("item_name", name),
+        }
+    }
+
+    /// Writes the name of an item on a line under one of the first level, if the tree has it. Objects have it where they have the
+    /// item's number.
     pub(crate) fn name_under(&mut self, space: Space, index: u64)
         ensures { Adds self.old self.new }
     {
-        if self.names.is_none() {
+        if self.names.is_none() || self.writes_objects() {
             return;
         }
         let names = self.names.take();
         if let Some(name) = name_in(&names, space, index) {
-            self.line(1, "name=");
+            self.line_field(1, "name");
             self.in_quotes(name);
         }
         self.names = names;
@@ -318,7 +504,8 @@ impl<W: Sink> Tree<W> {
 
     // Writes a text in quotes.
     fn in_quotes(&mut self, text: &str)
-        ensures { Adds self.old self.new }
+        ensures adds { Adds self.old self.new }
+        ensures says { Says (codes "\"" ++ (flat_map quoted_byte text.now ++ codes "\"")) self.old self.new }
     {
         self.text("\"");
         self.quoted_bytes(text.as_bytes());
@@ -345,8 +532,33 @@ impl<W: Sink> Tree<W> {
         self.text(word);
     }
 
-    /// Writes a blank, the name of a field, and `=`.
+    /// Writes a word that stands alone, without the name of its field, which an object has.
+    pub fn label(&mut self, name: &str, word: &str)
+        ensures adds { Adds self.old self.new }
+        ensures says { has_line_feed word.now ≡ false
+            → Says (field_text (alone word.now)) self.old self.new }
+    {
+        match self.style {
+            Style::Lines => self.word(word),
+            Style::Objects => self.word_field(name, word),
+        }
+    }
+
+    /// Begins a field, whose value is the texts that come next: writes a blank, its name, and `=`.
     pub fn field(&mut self, name: &str)
+        ensures adds { Adds self.old self.new }
+        ensures says { has_line_feed name.now ≡ false
+            → Says (field_start name.now) self.old self.new }
+        ensures some { SaysSome self.old self.new }
+    {
+        match self.style {
+            Style::Lines => self.field_of_line(name),
+            Style::Objects => self.text_member(name),
+        }
+    }
+
+    // Writes a blank, the name of a field, and `=`.
+    fn field_of_line(&mut self, name: &str)
         ensures adds { Adds self.old self.new }
         ensures says { has_line_feed name.now ≡ false
             → Says (field_start name.now) self.old self.new }
@@ -382,7 +594,18 @@ impl<W: Sink> Tree<W> {
         ensures adds { Adds self.old self.new }
         ensures says { has_line_feed name.now ≡ false
             → Says (field_text (named name.now (number_value number))) self.old self.new }
-        ensures some { SaysSome self.old self.new }
+    {
+        match self.style {
+            Style::Lines => self.digits_field(name, number),
+            Style::Objects => self.number_member(name, number),
+        }
+    }
+
+    /// Writes a field that is a number, as a text.
+    pub fn digits_field(&mut self, name: &str, number: u64)
+        ensures adds { Adds self.old self.new }
+        ensures says { has_line_feed name.now ≡ false
+            → Says (field_text (named name.now (number_value number))) self.old self.new }
     {
         self.field(name);
         self.digits(number);
@@ -392,8 +615,13 @@ impl<W: Sink> Tree<W> {
     pub fn signed(&mut self, name: &str, number: i64)
         ensures { Adds self.old self.new }
     {
-        self.field(name);
-        self.integer(number);
+        match self.style {
+            Style::Lines => {
+                self.field(name);
+                self.integer(number);
+            }
+            Style::Objects => self.signed_member(name, number),
+        }
     }
 
     /// Writes a number in decimal digits, with a sign where it is below 0.
@@ -415,12 +643,36 @@ impl<W: Sink> Tree<W> {
     {
         match number {
             Some(number) => self.number(name, number),
-            None => self.word_field(name, "none"),
+            None => self.nothing(name),
+        }
+    }
+
+    /// Writes a field that has no value: `none`.
+    pub fn nothing(&mut self, name: &str)
+        ensures adds { Adds self.old self.new }
+        ensures says { has_line_feed name.now ≡ false
+            → Says (field_text (named name.now (optional None))) self.old self.new }
+    {
+        match self.style {
+            Style::Lines => self.word_field(name, "none"),
+            Style::Objects => self.null_member(name),
         }
     }
 
     /// Writes a field that is `true` or `false`.
     pub fn flag(&mut self, name: &str, flag: bool)
+        ensures adds { Adds self.old self.new }
+        ensures says { has_line_feed name.now ≡ false
+            → Says (field_text (named name.now (flag_value flag))) self.old self.new }
+    {
+        match self.style {
+            Style::Lines => self.flag_of_line(name, flag),
+            Style::Objects => self.flag_member(name, flag),
+        }
+    }
+
+    // The same on a line of text.
+    fn flag_of_line(&mut self, name: &str, flag: bool)
         ensures adds { Adds self.old self.new }
         ensures says { has_line_feed name.now ≡ false
             → Says (field_text (named name.now (flag_value flag))) self.old self.new }
@@ -438,9 +690,7 @@ impl<W: Sink> Tree<W> {
         ensures says { Says (hexadecimal byte) self.old self.new }
         ensures some { SaysSome self.old self.new }
     {
-        let digits = b"0123456789abcdef";
-        let (high, low) = (usize::from(byte / 16), usize::from(byte % 16));
-        self.bytes(&[digits[high], digits[low]]);
+        self.bytes(&hexadecimal_digits(byte));
     }
 
     // Writes a byte of a text in quotes.
@@ -473,10 +723,23 @@ impl<W: Sink> Tree<W> {
         ensures says { has_line_feed name.now ≡ false
             → Says (field_text (named name.now (quoted text.now))) self.old self.new }
     {
+        match self.style {
+            Style::Lines => self.quoted_of_line(name, text),
+            Style::Objects => {
+                self.text_member(name);
+                self.more_text(text.as_bytes());
+            }
+        }
+    }
+
+    // The same on a line of text.
+    fn quoted_of_line(&mut self, name: &str, text: &str)
+        ensures adds { Adds self.old self.new }
+        ensures says { has_line_feed name.now ≡ false
+            → Says (field_text (named name.now (quoted text.now))) self.old self.new }
+    {
         self.field(name);
-        self.text("\"");
-        self.quoted_bytes(text.as_bytes());
-        self.text("\"");
+        self.in_quotes(text);
     }
 
     /// Writes a field that is raw bytes: their count, a colon, and the first 16 in hexadecimal.
@@ -485,7 +748,7 @@ impl<W: Sink> Tree<W> {
         ensures says { has_line_feed name.now ≡ false
             → Says (field_text (named name.now (raw bytes.now))) self.old self.new }
     {
-        self.number(name, bytes.len() as u64);
+        self.digits_field(name, bytes.len() as u64);
         self.text(":");
         self.hexadecimals(first_bytes(bytes));
     }
@@ -507,7 +770,19 @@ impl<W: Sink> Tree<W> {
         ensures says { has_line_feed name.now ≡ false
             → Says (field_text (named name.now (range start end))) self.old self.new }
     {
-        self.number(name, start);
+        match self.style {
+            Style::Lines => self.range_of_line(name, start, end),
+            Style::Objects => self.range_member(name, start, end),
+        }
+    }
+
+    // The same on a line of text.
+    fn range_of_line(&mut self, name: &str, start: u64, end: u64)
+        ensures adds { Adds self.old self.new }
+        ensures says { has_line_feed name.now ≡ false
+            → Says (field_text (named name.now (range start end))) self.old self.new }
+    {
+        self.digits_field(name, start);
         self.text("..");
         self.digits(end);
     }
@@ -516,8 +791,20 @@ impl<W: Sink> Tree<W> {
     pub fn fault(&mut self, level: usize, error: &Error)
         ensures { Adds self.old self.new }
     {
-        self.indent(level);
-        self.fault_text(error);
+        self.begin_line(level);
+        match self.style {
+            Style::Lines => self.fault_text(error),
+            Style::Objects => self.fault_fields(error),
+        }
+    }
+
+    /// Writes a fault as fields: its message, its offset in the whole stream, and its number, if it has one.
+    pub(crate) fn fault_fields(&mut self, error: &Error)
+        ensures { Adds self.old self.new }
+    {
+        self.word_field("fault", error.message());
+        self.number("offset", error.offset());
+        self.number_if_any("number", error.number());
     }
 
     /// Writes a fault: `fault`, its offset in the whole stream, its message, and its number, if it has one.

@@ -326,7 +326,7 @@ impl Show for RecGroup {
     fn show<W: Sink>(&self, level: usize, out: &mut Tree<W>) {
         out.flag("explicit", self.explicit);
         if self.explicit {
-            write_lines(under(level), "type=", &self.types, out);
+            write_lines(under(level), "type", &self.types, out);
             return;
         }
         match self.types.get(0) {

@@ -5,9 +5,9 @@ use Rattle.wasm_dump_run.proofs.program.dump_colored.Goals as goal
 
 pub returns : goal.returns
 returns g c =
-    let d = c.dump-how.ensures _ _ c.with_names-tree.ensures in
+    let d = c.dump-how.ensures c.args.style _ _ c.with_names-tree.ensures in
     let same = c.into_inner-output.ensures in
-    let dumps = colors_kept _ _ _ _ _ _ _ _ d.dumps
+    let dumps = colors_kept c.args.style _ _ _ _ _ _ _ _ d.dumps
     (ap (λ s. plain (g.W.Write.contents s.writer)) same ∙ c.into_output.ensures.taken) c.hand_on-result.ensures.keeps in
     record {
       how = c.dump-how.result;

@@ -5,8 +5,8 @@ use Rattle.wasm_dump_run.proofs.words.split_words.Given as goal
 
 abbrev pub invariant-words : goal.invariant-words
 invariant-words l =
-    Kept (map string_bytes (into_iter_items l.initial.arguments)) (map string_bytes l.words.items) l.is_colored
-    l.is_named (map string_bytes (into_iter_items l.arguments))
+    Kept (map string_bytes (into_iter_items l.initial.arguments)) (map string_bytes l.words.items) l.options
+    (map string_bytes (into_iter_items l.arguments))
 
 abbrev pub decreases-words : goal.decreases-words
 decreases-words l = length (map string_bytes (into_iter_items l.arguments))

@@ -1,7 +1,6 @@
-use Rattle.std.proofs.Common.{rules, ◌≡◌, List, ℕ, subst, ◌∙◌}
+use Rattle.std.proofs.Common.{rules, ◌≡◌}
 use Rattle.wasm_feed.specs.Turns.{turn_after}
 use Rattle.wasm_feed.specs.declared.listing.Turn.TheVariants as turn
-use Rattle.wasm_show.specs.Tree.{AddsFirst}
 use Rattle.wasm_show.proofs.Numbering.{shows_fault, shows_request}
 use Rattle.wasm_show.proofs.stream.show_answer.Goals as goal
 
@@ -12,4 +11,4 @@ returns-in-Ok-NeedMoreData-clause-shows g c begins =
 
 pub returns-in-Err-clause-shows : goal.returns-in-Err-clause-shows
 returns-in-Err-clause-shows g c begins = shows_fault c.args.only.now c.args.counts.now c.args.answer.now _ _ _ c.in-Err.is
-    (subst (λ (x : List ℕ). AddsFirst x c.args.out.now c.first.new.self) (c.as_bytes.ensures.bytes ∙ c.fault_line.ensures) c.first.ensures)
+    c.show_last_fault.ensures

@@ -1,13 +1,12 @@
-use Rattle.std.proofs.Common.{List, ℕ, sym, subst, ◌∙◌}
+use Rattle.std.proofs.Common.{sym, ◌∙◌}
 use Rattle.wasm_parser.specs.ParseAnswer.{report_of}
-use Rattle.wasm_show.specs.Tree.{AddsFirst}
 use Rattle.wasm_show.proofs.Numbering.{shows_chosen, shows_unchosen}
 use Rattle.wasm_show.proofs.stream.show_chosen.Goals as goal
 
 pub returns-then-chooses : goal.returns-then-chooses
 returns-then-chooses g c begins = shows_chosen c.args.only.now c.args.counts.now (report_of c.args.payload.now) _ _ _
     (sym c.chooses.ensures ∙ c.if-chooses.true)
-    (subst (λ (x : List ℕ). AddsFirst x c.args.out.now c.first.new.self) (c.as_bytes.ensures.bytes ∙ c.shown_line.ensures) c.first.ensures)
+    c.show_event.ensures
     (c.show_payload.ensures begins)
 
 pub returns-else-chooses : goal.returns-else-chooses

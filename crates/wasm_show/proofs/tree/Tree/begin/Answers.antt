@@ -6,4 +6,4 @@ use Rattle.wasm_show.proofs.tree.Tree.begin.Goals as goal
 pub returns-clause-adds : goal.returns-clause-adds
 returns-clause-adds g c o i =
     subst (λ (w : Writing). IsWritten o (record w { is_begun = true })) (sym c.self-2.view_is)
-    (begins o _ _ (ap (λ (w : Writing). w.is_begun) (sym c.self.view_is) ∙ c.if-self.false) c.push.ensures i)
+    (begins o _ _ c.requires (ap (λ (w : Writing). w.is_begun) (sym c.self.view_is) ∙ c.if-self.false) c.push.ensures i)

@@ -1,6 +1,11 @@
-use Rattle.wasm_show.proofs.Saying.{none_in_digits}
+use Rattle.std.proofs.Common.{◌/◌, ◌%◌, ap, ◌∙◌}
+use Rattle.wasm_show.specs.Fields.{hexadecimal}
+use Rattle.wasm_show.specs.Tree.{has_line_feed}
+use Rattle.wasm_show.proofs.Saying.{none_in_digits, says_same}
 use Rattle.wasm_show.proofs.tree.Tree.hexadecimal.Goals as goal
 
 pub returns-clause-says : goal.returns-clause-says
 returns-clause-says g c =
-    rw (← c.from-high.ensures, ← c.from-low.ensures) (c.bytes.ensures.says (none_in_digits c.from-high.result c.from-low.result))
+    let text = c.hexadecimal_digits.ensures in
+    says_same c.hexadecimal_digits.result (hexadecimal c.args.byte) _ _ text
+    (c.bytes.ensures.says (ap has_line_feed text ∙ none_in_digits (c.args.byte / 16) (c.args.byte % 16)))

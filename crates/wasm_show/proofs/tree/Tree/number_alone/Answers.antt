@@ -1,12 +1,9 @@
-use Rattle.std.proofs.Common.{List, ℕ, ap, subst, ◌∙◌}
-use Rattle.wasm_show.specs.Numbers.{number_text}
-use Rattle.wasm_show.specs.Tree.{Puts}
-use Rattle.wasm_show.proofs.Writing.{puts_number}
+use Rattle.std.proofs.Common.{ap, sym, ◌∙◌, ◌∷◌, []}
+use Rattle.wasm_show.specs.Tree.{Writing}
+use Rattle.wasm_show.proofs.Writing.{numbers_in_objects}
 use Rattle.wasm_show.proofs.tree.Tree.number_alone.Goals as goal
 
-pub returns : goal.returns
-returns g c o i =
-    let text = c.as_bytes.ensures.bytes ∙ (c.put_number.ensures.line
-    ∙ ap (number_text (record { space = c.args.space; index = c.args.index })) c.new-line.ensures) in
-    puts_number o _ _ _ c.begin.ensures.begun (subst (λ (x : List ℕ). Puts x c.begin.new.self c.push.new.self) text c.push.ensures)
-    (c.begin.ensures.adds o i)
+pub returns-in-Objects : goal.returns-in-Objects
+returns-in-Objects g c =
+    numbers_in_objects _ _ (ap (λ (w : Writing). w.style) (sym c.self.view_is) ∙ c.in-Objects.is) c.number_in_object.ensures.adds
+    (record { space = c.args.space; index = c.args.index } ∷ [])

@@ -1,6 +1,6 @@
 use Rattle.std.proofs.Common.{codes, refl, ◌++◌}
 use Rattle.wasm_show.proofs.Saying.{says_then}
-use Rattle.wasm_show.proofs.tree.Tree.field.Goals as goal
+use Rattle.wasm_show.proofs.tree.Tree.field_of_line.Goals as goal
 
 pub returns-clause-says : goal.returns-clause-says
 returns-clause-says g c none =

@@ -1,5 +1,5 @@
 use Rattle.std.proofs.Common.{refl}
-use Rattle.wasm_show.proofs.tree.Tree.flag.Goals as goal
+use Rattle.wasm_show.proofs.tree.Tree.flag_of_line.Goals as goal
 
 pub returns-then-flag-clause-says : goal.returns-then-flag-clause-says
 returns-then-flag-clause-says g c none = rw c.if-flag.true (c.word_field.ensures.says none refl)

@@ -1,6 +1,6 @@
 use Rattle.std.proofs.Common.{decimal}
 use Rattle.wasm_show.proofs.Saying.{says_value}
-use Rattle.wasm_show.proofs.tree.Tree.number.Goals as goal
+use Rattle.wasm_show.proofs.tree.Tree.digits_field.Goals as goal
 
 pub returns-clause-says : goal.returns-clause-says
 returns-clause-says g c none =

@@ -1,7 +1,7 @@
 use Rattle.std.proofs.Common.{◌++◌, codes, decimal, append_assoc, refl}
 use Rattle.wasm_show.specs.Fields.{field_text, named, number, range}
 use Rattle.wasm_show.proofs.Saying.{says_same, says_then}
-use Rattle.wasm_show.proofs.tree.Tree.range.Goals as goal
+use Rattle.wasm_show.proofs.tree.Tree.range_of_line.Goals as goal
 
 pub returns-clause-says : goal.returns-clause-says
 returns-clause-says g c none =
@@ -9,4 +9,4 @@ returns-clause-says g c none =
     says_same ((start ++ codes "..") ++ decimal c.args.end) (field_text (named c.args.name.now (range c.args.start c.args.end))) _ _
     (simp append_assoc)
     (says_then (start ++ codes "..") (decimal c.args.end) _ _ _
-    (says_then start (codes "..") _ _ _ (c.number.ensures.says none) (c.text.ensures.says refl)) c.digits.ensures.says)
+    (says_then start (codes "..") _ _ _ (c.digits_field.ensures.says none) (c.text.ensures.says refl)) c.digits.ensures.says)

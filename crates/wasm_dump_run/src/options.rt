@@ -1,0 +1,97 @@
+// The options of the program, besides those that choose sections.
+ghost use Rattle.std.specs.Prelude.{◌≡◌, ◌&&◌, ◌||◌};
+ghost use Rattle.wasm_dump_run.specs.Options.{mark_named, no_options, style_of, with_mark};
+
+use wasm_show::Style;
+
+/// How a dump is to look, and what it is to show besides the items.
+#[derive(Clone, Copy)]
+pub struct Options {
+    /// With colours, as a terminal shows them.
+    pub is_colored: bool,
+    /// With the names that custom sections have for items.
+    pub is_named: bool,
+    /// As objects of JSON, one on each line.
+    pub is_json: bool,
+}
+
+/// An option that stands alone.
+#[derive(Clone, Copy)]
+pub(crate) enum Mark {
+    /// Colours are asked for.
+    Color,
+    /// Names are asked for.
+    Names,
+    /// JSON is asked for.
+    Json,
+}
+
+/// The option that a word is, if it is one that stands alone.
+pub(crate) fn mark_of(word: &str) -> Option<Mark>
+    ensures { result ≡ mark_named word.now }
+{
+    match word {
+        "--color" => Some(Mark::Color),
+        "--names" => Some(Mark::Names),
+        "--json" => Some(Mark::Json),
+        _ => None,
+    }
+}
+
+impl Options {
+    /// No option.
+    pub fn new() -> Options
+        ensures { result ≡ no_options }
+    {
+        Options {
+            is_colored: false,
+            is_named: false,
+            is_json: false,
+        }
+    }
+
+    /// One option more.
+    pub(crate) fn with(self, mark: Mark) -> Options
+        ensures { result ≡ with_mark self mark }
+    {
+        match mark {
+            Mark::Color => Options {
+                is_colored: true,
+                ..self
+            },
+            Mark::Names => Options {
+                is_named: true,
+                ..self
+            },
+            Mark::Json => Options {
+                is_json: true,
+                ..self
+            },
+        }
+    }
+
+    /// Whether no dump can be all of this: JSON has no colours.
+    pub(crate) fn contradict(self) -> bool
+        ensures { result ≡ (self.is_colored && self.is_json) }
+    {
+        self.is_colored && self.is_json
+    }
+
+    /// Whether an option says how a dump is to look.
+    pub(crate) fn say_how(self) -> bool
+        ensures { result ≡ (self.is_colored || self.is_json) }
+    {
+        self.is_colored || self.is_json
+    }
+
+    /// How the tree writes.
+    pub(crate) fn style(self) -> Style
+        ensures { result ≡ style_of self }
+    {
+        if self.is_json {
+            Style::Objects
+        } else {
+            Style::Lines
+        }
+    }
+}

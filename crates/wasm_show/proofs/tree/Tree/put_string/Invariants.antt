@@ -1,0 +1,11 @@
+use Rattle.std.proofs.Common.{◌≡◌}
+use Rattle.wasm_show.specs.Tree.{Origin, IsWritten}
+use Rattle.wasm_show.specs.declared.tree.Style.TheVariants.{Objects}
+use Rattle.wasm_show.proofs.tree.Tree.put_string.Given as goal
+
+abbrev pub invariant-loop-byte : goal.invariant-loop-byte
+invariant-loop-byte g l = record {
+  adds : (o : Origin) → IsWritten o l.initial.self → IsWritten o l.self;
+  spot : l.self.spot ≡ l.initial.self.spot;
+  style : l.self.style ≡ Objects;
+}

@@ -1,0 +1,231 @@
+// Lines of JSON, each an object.
+ghost use Rattle.std.specs.Prelude.{◌≡◌, ◌≤◌, ◌<◌, [], length, true};
+ghost use Rattle.wasm_show.specs.Json.{escaped_byte, is_in_string, Leads};
+ghost use Rattle.wasm_show.specs.Tree.{Adds};
+ghost use Rattle.wasm_show.specs.declared.tree.Spot.TheVariants.{Outside, Ended, InName, AtValue, InText};
+ghost use Rattle.wasm_show.specs.declared.tree.Style.TheVariants.{Objects};
+
+use crate::tree::{Spot, Tree, hexadecimal_digits};
+use wasm_feed::{Line, Sink};
+
+// What leads into the name of the next member.
+fn before_name(spot: Spot) -> &'static str
+    ensures leads { Leads spot result.now InName }
+    ensures short { length result.now ≤ 8 }
+{
+    match spot {
+        Spot::Outside => "{\"",
+        Spot::Ended => ",\"",
+        Spot::InName => "\":null,\"",
+        Spot::AtValue => "null,\"",
+        Spot::InText => "\",\"",
+    }
+}
+
+// What ends the line.
+fn after_last(spot: Spot) -> &'static str
+    ensures leads { Leads spot result.now Outside }
+    ensures short { length result.now ≤ 8 }
+{
+    match spot {
+        Spot::Outside => "",
+        Spot::Ended => "}\n",
+        Spot::InName => "\":null}\n",
+        Spot::AtValue => "null}\n",
+        Spot::InText => "\"}\n",
+    }
+}
+
+// What stands in a string for a byte that can't stand there itself.
+fn control_escape(byte: u8) -> [u8; 6]
+    requires { byte < 32 }
+    ensures { result ≡ escaped_byte byte }
+{
+    let digits = hexadecimal_digits(byte);
+    [b'\\', b'u', b'0', b'0', digits[0], digits[1]]
+}
+
+// Puts a number in a line.
+fn put_number(line: &mut Line, number: u64)
+    requires { line.old ≡ [] }
+    ensures leads { Leads AtValue line.new Ended }
+    ensures short { length line.new ≤ 20 }
+{
+    line.number(number);
+}
+
+// Puts a number with its sign in a line.
+fn put_signed(line: &mut Line, number: i64)
+    requires { line.old ≡ [] }
+    ensures leads { Leads AtValue line.new Ended }
+    ensures short { length line.new ≤ 21 }
+{
+    line.number(number.unsigned_abs());
+    if number < 0 {
+        line.word("-");
+    }
+}
+
+// Puts a range in a line, as an array of two numbers.
+fn put_range(line: &mut Line, start: u64, end: u64)
+    requires { line.old ≡ [] }
+    ensures leads { Leads AtValue line.new Ended }
+    ensures short { length line.new ≤ 50 }
+{
+    line.word("]");
+    line.number(end);
+    line.word(",");
+    line.number(start);
+    line.word("[");
+}
+
+impl<W: Sink> Tree<W> {
+    // Puts bytes that lead to this spot.
+    fn put(&mut self, bytes: &[u8], spot: Spot)
+        requires objects { self.old.style ≡ Objects }
+        requires short { length bytes.now ≤ 65536 }
+        requires leads { Leads self.old.spot bytes.now spot }
+        ensures adds { Adds self.old self.new }
+        ensures spot { self.new.spot ≡ spot }
+        ensures style { self.new.style ≡ Objects }
+    {
+        self.push(bytes);
+        self.spot = spot;
+    }
+
+    // Puts what stands for a byte of a string.
+    fn put_escaped(&mut self, byte: u8)
+        requires objects { self.old.style ≡ Objects }
+        requires in_string { is_in_string self.old.spot ≡ true }
+        ensures adds { Adds self.old self.new }
+        ensures spot { self.new.spot ≡ self.old.spot }
+        ensures style { self.new.style ≡ Objects }
+    {
+        let spot = self.spot;
+        if byte < 32 {
+            self.put(&control_escape(byte), spot);
+        } else if byte == b'"' || byte == b'\\' {
+            self.put(&[b'\\', byte], spot);
+        } else {
+            self.put(&[byte], spot);
+        }
+    }
+
+    // Puts more of a string.
+    fn put_string(&mut self, bytes: &[u8])
+        requires objects { self.old.style ≡ Objects }
+        requires in_string { is_in_string self.old.spot ≡ true }
+        ensures adds { Adds self.old self.new }
+        ensures spot { self.new.spot ≡ self.old.spot }
+        ensures style { self.new.style ≡ Objects }
+    {
+        for byte in bytes {
+            self.put_escaped(*byte);
+        }
+    }
+
+    // Puts more of the text that is open, if one is.
+    pub(super) fn more_text(&mut self, bytes: &[u8])
+        requires objects { self.old.style ≡ Objects }
+        ensures adds { Adds self.old self.new }
+        ensures style { self.new.style ≡ Objects }
+    {
+        if let Spot::InText = self.spot {
+            self.put_string(bytes);
+        }
+    }
+
+    // Begins a member, after which its value is to come. An object is begun if none is.
+    fn begin_member(&mut self, name: &str)
+        requires objects { self.old.style ≡ Objects }
+        ensures adds { Adds self.old self.new }
+        ensures spot { self.new.spot ≡ AtValue }
+        ensures style { self.new.style ≡ Objects }
+    {
+        let before = before_name(self.spot);
+        self.put(before.as_bytes(), Spot::InName);
+        self.put_string(name.as_bytes());
+        self.put(b"\":", Spot::AtValue);
+    }
+
+    // Ends the line, if an object is begun.
+    pub(super) fn end_object(&mut self)
+        requires objects { self.old.style ≡ Objects }
+        ensures adds { Adds self.old self.new }
+        ensures spot { self.new.spot ≡ Outside }
+        ensures style { self.new.style ≡ Objects }
+    {
+        let after = after_last(self.spot);
+        self.put(after.as_bytes(), Spot::Outside);
+    }
+
+    // A member whose value is a text, of which more may come.
+    pub(super) fn text_member(&mut self, name: &str)
+        requires objects { self.old.style ≡ Objects }
+        ensures adds { Adds self.old self.new }
+        ensures style { self.new.style ≡ Objects }
+    {
+        self.begin_member(name);
+        self.put(b"\"", Spot::InText);
+    }
+
+    // A member whose value is a number.
+    pub(super) fn number_member(&mut self, name: &str, number: u64)
+        requires objects { self.old.style ≡ Objects }
+        ensures adds { Adds self.old self.new }
+        ensures style { self.new.style ≡ Objects }
+    {
+        let mut line = Line::new();
+        put_number(&mut line, number);
+        self.begin_member(name);
+        self.put(line.as_bytes(), Spot::Ended);
+    }
+
+    // One whose value is a number with a sign.
+    pub(super) fn signed_member(&mut self, name: &str, number: i64)
+        requires objects { self.old.style ≡ Objects }
+        ensures adds { Adds self.old self.new }
+        ensures style { self.new.style ≡ Objects }
+    {
+        let mut line = Line::new();
+        put_signed(&mut line, number);
+        self.begin_member(name);
+        self.put(line.as_bytes(), Spot::Ended);
+    }
+
+    // One whose value is `null`.
+    pub(super) fn null_member(&mut self, name: &str)
+        requires objects { self.old.style ≡ Objects }
+        ensures adds { Adds self.old self.new }
+        ensures style { self.new.style ≡ Objects }
+    {
+        self.begin_member(name);
+        self.put(b"null", Spot::Ended);
+    }
+
+    // One whose value is `true` or `false`.
+    pub(super) fn flag_member(&mut self, name: &str, flag: bool)
+        requires objects { self.old.style ≡ Objects }
+        ensures adds { Adds self.old self.new }
+        ensures style { self.new.style ≡ Objects }
+    {
+        self.begin_member(name);
+        if flag {
+            self.put(b"true", Spot::Ended);
+        } else {
+            self.put(b"false", Spot::Ended);
+        }
+    }
+
+    // One whose value is a range of offsets: the first one, and the one after the last.
+    pub(super) fn range_member(&mut self, name: &str, start: u64, end: u64)
+        requires objects { self.old.style ≡ Objects }
+        ensures adds { Adds self.old self.new }
+        ensures style { self.new.style ≡ Objects }
+    {
+        let mut line = Line::new();
+        put_range(&mut line, start, end);
+        self.begin_member(name);
+        self.put(line.as_bytes(), Spot::Ended);
+    }
+}
