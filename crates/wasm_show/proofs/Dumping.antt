@@ -1,7 +1,7 @@
 -- How far a dump has come. Its outline is what a listing by the lines that are shown would have written.
 use Rattle.std.proofs.Common.{◌≡◌, ℕ, ◌<◌, Bool, true, false, if◌then◌else◌, List, [], ◌++◌, Option, Some, None, Result, Ok, Err, refl}
 use Rattle.std.proofs.Common.{sym}
-use Rattle.std.proofs.Common.{◌∷◌, ◌^◌, ap, subst, subst₂, ◌∙◌, append-nil, length, inl, inr, arith}
+use Rattle.std.proofs.Common.{◌∷◌, ◌^◌, ap, subst, subst₂, ◌∙◌, append-nil, append_assoc, length, inl, inr, arith, nat_eq}
 use Rattle.std.specs.Io.KnownBytes.{Appends, Consumes}
 use Rattle.std.proofs.KnownBytes.{Appends-nil, Consumes-nil, Consumes-trans, Consumes-kept}
 use Rattle.wasm_feed.specs.Calls.{Change, Device, from_to}
@@ -11,6 +11,7 @@ use Rattle.wasm_feed.specs.FeedersLaws.{IsAlong}
 use Rattle.wasm_parser.specs.Along.{Came}
 use Rattle.wasm_parser.specs.declared.payload.Payload.{Payload}
 use Rattle.wasm_parser.proofs.ForCallers.{answers_go_along}
+use Rattle.wasm_grammar.specs.EventRanges.{consumed_by}
 use Rattle.wasm_grammar.specs.Reading.{Report, Event}
 use Rattle.wasm_feed.proofs.ForCallers.{feeders_go_along}
 use Rattle.wasm_feed.specs.Page.{WritesBeginning, PutsBytes}
@@ -28,11 +29,14 @@ use Rattle.wasm_feed.specs.declared.listing.Turn.{Turn}
 use Rattle.wasm_feed.specs.declared.listing.Turn.TheVariants as turn
 use Rattle.wasm_feed.specs.Progress.{weight, Progress, Wants}
 use Rattle.wasm_feed.proofs.ForCallers as progress
-use Rattle.wasm_show.specs.Chosen.{chosen_line}
+use Rattle.wasm_show.specs.Chosen.{chosen_line, is_chosen}
 use Rattle.wasm_show.specs.Numbers.{Number, after, after_all, no_counts}
 use Rattle.wasm_show.specs.declared.numbers.Counts.{Counts}
 use Rattle.wasm_show.proofs.Numbering.{all_more, events_begin, events_more, end_none}
-use Rattle.wasm_show.specs.Dump.{AreOf, AreOfEvents, AreOfSource}
+use Rattle.wasm_show.specs.Dump.{AreOf, AreOfEvents, AreOfSource, bytes_of_answer, bytes_of_event, bytes_of_events, shown_bytes}
+use Rattle.std.specs.Prelude.{flat_map}
+use Rattle.std.proofs.lemmas.Grind.{flat_map-append}
+use Rattle.std.proofs.lemmas.Bool.Decides.{nat_tests}
 use Rattle.wasm_show.specs.Dump.{WritesWhole, WritesSome, AreOfAnswer, after_answer, ShowsStep, origin, DumpsFrom, DumpsInto}
 use Rattle.wasm_show.specs.Dump.{DumpsByTree}
 use Rattle.wasm_show.specs.Tree as Tree
@@ -48,10 +52,18 @@ use Rattle.wasm_show.proofs.Writing.{as_going, as_short}
 use Rattle.wasm_base.specs.Features.{all_features}
 
 -- what was written with these events, and their numbers, where the tree has not stopped
-abbrev pub WrittenWith : (why : Option ListError) → List Only → List Event → Style → (taken : Option (List ℕ)) (failed : Bool)
-    (outline : List ℕ) → Writing → Type 0
-WrittenWith why only events style taken failed outline now = (numbers : List Number) × AreOfEvents why only no_counts events numbers
-    × IsWritten (origin style taken failed outline numbers) now
+abbrev pub WrittenWith : (why : Option ListError) → List Only → (has_bytes : Bool) → List Event → Style
+    → (taken : Option (List ℕ)) (failed : Bool) (outline : List ℕ) → Writing → Type 0
+WrittenWith why only has_bytes events style taken failed outline now =
+    (numbers : List Number) × AreOfEvents why only no_counts events numbers
+    × IsWritten (origin style taken failed outline numbers (bytes_of_events has_bytes only events)) now
+
+-- what is shown of an answer goes on from what was shown of events to that of these
+abbrev pub Continues : List Only → (has_bytes : Bool) → Counts → Result Step Error → (old new : List Event) → Type 0
+Continues only has_bytes c x old new = ((why : Option ListError) (numbers shown : List Number)
+    → AreOfEvents why only no_counts old numbers → AreOfAnswer why only c x shown
+    → AreOfEvents why only no_counts new (numbers ++ shown))
+    × (bytes_of_events has_bytes only new ≡ bytes_of_events has_bytes only old ++ bytes_of_answer has_bytes only x)
 
 -- where the feeder is along what the source gave, and what is counted of its events
 pub record Counting (full rest : Option (List ℕ)) (f : Feed) (c : Counts) : Type 0 where
@@ -62,22 +74,22 @@ pub record Counting (full rest : Option (List ℕ)) (f : Feed) (c : Counts) : Ty
   pub counted : c ≡ after_all no_counts events
 
 -- the outline so far, the listing that has written it, what is counted, and what was written with it
-pub record Dumping (only : List Only) (full rest : Option (List ℕ)) (before : Writing) (f : Feed) (c : Counts) (now : Writing) :
-    Type 0 where
+pub record Dumping (only : List Only) (has_bytes : Bool) (full rest : Option (List ℕ)) (before : Writing) (f : Feed) (c : Counts)
+    (now : Writing) : Type 0 where
   pub outline : List ℕ
   pub listing : Progress (chosen_line only) (from_to full rest) (from_to (Some []) (Some outline)) f []
   pub counting : Counting full rest f c
-  pub writing : (taken : Option (List ℕ)) (failed : Bool) → IsWritten (origin before.style taken failed [] []) before
-      → WrittenWith None only counting.events before.style taken failed outline now
+  pub writing : (taken : Option (List ℕ)) (failed : Bool) → IsWritten (origin before.style taken failed [] [] []) before
+      → WrittenWith None only has_bytes counting.events before.style taken failed outline now
 
 -- the same where the feeder is asked for more
-pub record Wanting (only : List Only) (full rest : Option (List ℕ)) (before : Writing) (f : Feed) (c : Counts) (now : Writing) :
-    Type 0 where
+pub record Wanting (only : List Only) (has_bytes : Bool) (full rest : Option (List ℕ)) (before : Writing) (f : Feed) (c : Counts)
+    (now : Writing) : Type 0 where
   pub outline : List ℕ
   pub listing : Wants (chosen_line only) (from_to full rest) (from_to (Some []) (Some outline)) f []
   pub counting : Counting full rest f c
-  pub writing : (taken : Option (List ℕ)) (failed : Bool) → IsWritten (origin before.style taken failed [] []) before
-      → WrittenWith None only counting.events before.style taken failed outline now
+  pub writing : (taken : Option (List ℕ)) (failed : Bool) → IsWritten (origin before.style taken failed [] [] []) before
+      → WrittenWith None only has_bytes counting.events before.style taken failed outline now
 
 -- nothing came
 abbrev counts_nothing : (full : Option (List ℕ)) → Counting full full (new_feed 0 all_features) no_counts
@@ -89,42 +101,81 @@ counts_nothing full = record {
   counted = refl;
 }
 
-pub starts : (only : List Only) (full : Option (List ℕ)) (w : Writing) → Dumping only full full w (new_feed 0 all_features) no_counts w
-starts only full w = record {
+none_of_events : (has_bytes : Bool) (only : List Only) → [] ≡ bytes_of_events has_bytes only []
+none_of_events true only = refl
+none_of_events false only = refl
+
+pub starts : (only : List Only) (has_bytes : Bool) (full : Option (List ℕ)) (w : Writing)
+    → Dumping only has_bytes full full w (new_feed 0 all_features) no_counts w
+starts only has_bytes full w = record {
   outline = [];
   listing = progress.begun (chosen_line only) full (Some []);
   counting = counts_nothing full;
-  writing = λ taken failed i. ([], refl, i);
+  writing = λ taken failed i. ([], refl, subst (λ (x : List ℕ). IsWritten (origin w.style taken failed [] [] x) w)
+      (none_of_events has_bytes only) i);
 }
 
 -- ---- what is counted
 
 -- the numbers of what the source gave
-numbers_at : (why : Option ListError) (only : List Only) (full rest : Option (List ℕ)) (f : Feed) (c : Counts)
-    (k : Counting full rest f c) (numbers : List Number)
-    → AreOfEvents why only no_counts k.events numbers → AreOfSource why only (from_to full rest) numbers
-numbers_at why only full rest f c k numbers a = record {
+numbers_at : (why : Option ListError) (only : List Only) (has_bytes : Bool) (full rest : Option (List ℕ)) (f : Feed) (c : Counts)
+    (k : Counting full rest f c) (numbers : List Number) → AreOfEvents why only no_counts k.events numbers
+    → AreOfSource why only has_bytes (from_to full rest) numbers (bytes_of_events has_bytes only k.events)
+numbers_at why only has_bytes full rest f c k numbers a = record {
   given = k.given;
   events = k.events;
   gave = k.gave;
+  left = f.held;
+  consumed = answers_go_along.consumed 0 all_features k.given f.state f.held k.events k.along;
+  are_bytes = refl;
   begins = answers_go_along.first 0 all_features k.given f.state f.held k.events true k.along k.given refl;
   are_of = a;
 }
 
 -- where more bytes came that were not pushed
-numbers_after : (why : Option ListError) (only : List Only) (full rest rest' : Option (List ℕ)) (f : Feed) (c : Counts)
-    (k : Counting full rest f c) (piece : List ℕ)
+numbers_after : (why : Option ListError) (only : List Only) (has_bytes : Bool) (full rest rest' : Option (List ℕ)) (f : Feed)
+    (c : Counts) (k : Counting full rest f c) (piece : List ℕ)
     → Consumes rest rest' piece → (numbers : List Number) → AreOfEvents why only no_counts k.events numbers
-    → AreOfSource why only (from_to full rest') numbers
-numbers_after why only full rest rest' f c k piece more numbers a = record {
+    → AreOfSource why only has_bytes (from_to full rest') numbers (bytes_of_events has_bytes only k.events)
+numbers_after why only has_bytes full rest rest' f c k piece more numbers a = record {
   given = k.given ++ piece;
   events = k.events;
+  left = f.held ++ piece;
+  consumed = ap (λ (x : List ℕ). x ++ piece) (answers_go_along.consumed 0 all_features k.given f.state f.held k.events k.along)
+      ∙ append_assoc (consumed_by k.events) f.held piece;
+  are_bytes = refl;
   gave = Consumes-trans full rest rest' k.given piece k.gave more;
   begins = answers_go_along.first 0 all_features k.given f.state f.held k.events false k.along (k.given ++ piece) (piece, refl);
   are_of = a;
 }
 
-module _ (only : List Only) (full rest : Option (List ℕ)) (f : Feed) (c : Counts) (k : Counting full rest f c) (g : Feed) where
+-- the bytes of one event more
+bytes_more : (has_bytes : Bool) (only : List Only) (events : List Event) (e : Event) (r : Report) (bytes : List ℕ) → r ≡ e.report
+    → e.consumed ≡ bytes → bytes_of_events has_bytes only (events ++ e ∷ [])
+    ≡ bytes_of_events has_bytes only events ++ shown_bytes has_bytes only r bytes
+bytes_more true only events e r bytes same is = flat_map-append (λ x. bytes_of_event only x) events (e ∷ [])
+    ∙ ap (λ (x : List ℕ). flat_map (λ y. bytes_of_event only y) events ++ x) (append-nil (bytes_of_event only e)
+    ∙ (ap (λ (x : Report). if is_chosen only x then e.consumed else []) (sym same)
+    ∙ ap (λ (x : List ℕ). if is_chosen only r then x else []) is))
+bytes_more false only events e r bytes same is = refl
+
+empty : (bytes : List ℕ) → length bytes ≡ 0 → bytes ≡ []
+empty [] e = refl
+empty (b ∷ bytes) e = absurd (omega arith)
+
+abbrev nothing : List ℕ
+nothing = []
+
+nothing_either : (b : Bool) → (if b then nothing else nothing) ≡ nothing
+nothing_either true = refl
+nothing_either false = refl
+
+none_shown : (has_bytes : Bool) (only : List Only) (r : Report) (bytes : List ℕ) → bytes ≡ [] → shown_bytes has_bytes only r bytes ≡ []
+none_shown true only r bytes e = ap (λ (x : List ℕ). if is_chosen only r then x else nothing) e ∙ nothing_either (is_chosen only r)
+none_shown false only r bytes e = refl
+
+module _ (only : List Only) (has_bytes : Bool) (full rest : Option (List ℕ)) (f : Feed) (c : Counts) (k : Counting full rest f c)
+    (g : Feed) where
   below : (step : Step) → Steps f (Ok step) g → length k.given < 2 ^ 64
   below step s =
       let o = answers_go_along.below f.state g.state f.eof f.held (chunk_of step) s.parses in
@@ -134,22 +185,21 @@ module _ (only : List Only) (full rest : Option (List ℕ)) (f : Feed) (c : Coun
   -- a payload that isn't the end is the next event
   next_event : (bytes : _) (payload : Payload) → Steps f (Ok (Parsed bytes payload)) g → is_end (report_of payload) ≡ false
       → (e : Event) × (report_of payload ≡ e.report) × IsAlong 0 all_features k.given g (k.events ++ e ∷ [])
+      × (e.consumed ≡ bytes.now)
   next_event bytes payload s n =
       let came : Came 0 all_features f.eof k.given k.events bytes.now payload g.state g.held =
       feeders_go_along.steps 0 all_features k.given f g k.events (Ok (Parsed bytes payload)) k.along
       (omega (arith, below (Parsed bytes payload) s)) s in
       let (after, some) = came.goes_on n in
-      (came.event, came.is_payload.0, after)
+      (came.event, came.is_payload.0, after, came.consumed)
 
   -- what is counted after a step that goes on
   counted_on : (x : Result Step Error) → turn.Advance ≡ turn_after x → Steps f x g
-      → (k' : Counting full rest g (after_answer c x))
-      × ((why : Option ListError) (numbers shown : List Number) → AreOfEvents why only no_counts k.events numbers
-      → AreOfAnswer why only c x shown → AreOfEvents why only no_counts k'.events (numbers ++ shown))
+      → (k' : Counting full rest g (after_answer c x)) × Continues only has_bytes c x k.events k'.events
   counted_on (Ok (NeedMoreData hint)) t s = cc
   counted_on (Err e) t s = cc
   counted_on (Ok (Parsed bytes payload)) t s =
-      let (e, same, along) = next_event bytes payload s (goes_on (is_end (report_of payload)) t) in (
+      let (e, same, along, consumed) = next_event bytes payload s (goes_on (is_end (report_of payload)) t) in (
         record {
           given = k.given;
           events = k.events ++ e ∷ [];
@@ -158,8 +208,11 @@ module _ (only : List Only) (full rest : Option (List ℕ)) (f : Feed) (c : Coun
           counted = ap (λ (r : Report). after c r) same ∙ (ap (λ (d : Counts). after d e.report) k.counted
               ∙ sym (all_more no_counts k.events e));
         },
-        λ why numbers shown a b. events_more why only no_counts k.events numbers e shown a
-            (subst₂ (λ (d : Counts) (r : Report). AreOf why only d r shown) k.counted same b),
+        (
+          λ why numbers shown a b. events_more why only no_counts k.events numbers e shown a
+              (subst₂ (λ (d : Counts) (r : Report). AreOf why only d r shown) k.counted same b),
+          bytes_more has_bytes only k.events e (report_of payload) bytes.now same consumed,
+        ),
       )
     where
       goes_on : (b : Bool) → turn.Advance ≡ (if b then turn.End End else turn.Advance) → b ≡ false
@@ -168,9 +221,7 @@ module _ (only : List Only) (full rest : Option (List ℕ)) (f : Feed) (c : Coun
 
   -- after a request
   counted_still : (x : Result Step Error) → turn.Read ≡ turn_after x → Steps f x g
-      → (k' : Counting full rest g (after_answer c x))
-      × ((why : Option ListError) (numbers shown : List Number) → AreOfEvents why only no_counts k.events numbers
-      → AreOfAnswer why only c x shown → AreOfEvents why only no_counts k'.events (numbers ++ shown))
+      → (k' : Counting full rest g (after_answer c x)) × Continues only has_bytes c x k.events k'.events
   counted_still (Ok (NeedMoreData hint)) t s = (
     record {
       given = k.given;
@@ -180,8 +231,11 @@ module _ (only : List Only) (full rest : Option (List ℕ)) (f : Feed) (c : Coun
           (omega (arith, below (NeedMoreData hint) s)) s).1;
       counted = k.counted;
     },
-    λ why numbers shown a b. subst (AreOfEvents why only no_counts k.events)
-        (sym (ap (λ (y : List Number). numbers ++ y) b ∙ append-nil numbers)) a,
+    (
+      λ why numbers shown a b. subst (AreOfEvents why only no_counts k.events)
+          (sym (ap (λ (y : List Number). numbers ++ y) b ∙ append-nil numbers)) a,
+      sym (append-nil (bytes_of_events has_bytes only k.events)),
+    ),
   )
   counted_still (Err e) t s = cc
   counted_still (Ok (Parsed bytes payload)) t s = absurd (by_end (is_end (report_of payload)) t)
@@ -191,21 +245,36 @@ module _ (only : List Only) (full rest : Option (List ℕ)) (f : Feed) (c : Coun
       by_end false e = cc
 
   -- at an end
-  counted_last : (x : Result Step Error) (how : Ended) → turn.End how ≡ turn_after x
-      → (why : Option ListError) (numbers shown : List Number)
-      → AreOfEvents why only no_counts k.events numbers → AreOfAnswer why only c x shown
-      → AreOfEvents why only no_counts k.events (numbers ++ shown)
-  counted_last x how t why numbers shown a b = subst (AreOfEvents why only no_counts k.events)
-      (sym (ap (λ (y : List Number). numbers ++ y) (none x t b) ∙ append-nil numbers)) a
-    where
-      ends : (b : Bool) → turn.End how ≡ (if b then turn.End End else turn.Advance) → b ≡ true
-      ends true e = refl
-      ends false e = cc
+  ends : (how : Ended) (b : Bool) → turn.End how ≡ (if b then turn.End End else turn.Advance) → b ≡ true
+  ends how true e = refl
+  ends how false e = cc
 
-      none : (x : Result Step Error) → turn.End how ≡ turn_after x → AreOfAnswer why only c x shown → shown ≡ []
-      none (Ok (NeedMoreData hint)) t b = b
-      none (Err e) t b = b
-      none (Ok (Parsed bytes payload)) t b = end_none why only c (report_of payload) shown (ends (is_end (report_of payload)) t) b
+  no_number : (x : Result Step Error) (how : Ended) → turn.End how ≡ turn_after x → (why : Option ListError) (shown : List Number)
+      → AreOfAnswer why only c x shown → shown ≡ []
+  no_number (Ok (NeedMoreData hint)) how t why shown b = b
+  no_number (Err e) how t why shown b = b
+  no_number (Ok (Parsed bytes payload)) how t why shown b =
+      end_none why only c (report_of payload) shown (ends how (is_end (report_of payload)) t) b
+
+  zero_is : (n : ℕ) (b : Bool) → nat_eq n 0 ≡ b → b ≡ true → n ≡ 0
+  zero_is n b e t = let is : nat_eq n 0 ≡ true = e ∙ t in grind (arith, nat_tests)
+
+  no_byte : (x : Result Step Error) (how : Ended) → turn.End how ≡ turn_after x → Steps f x g → bytes_of_answer has_bytes only x ≡ []
+  no_byte (Ok (NeedMoreData hint)) how t s = refl
+  no_byte (Err e) how t s = refl
+  no_byte (Ok (Parsed bytes payload)) how t s =
+      let consumes = answers_go_along.consumes f.state g.state f.eof f.held (Ok (chunk_of (Parsed bytes payload))) s.parses in
+      none_shown has_bytes only (report_of payload) bytes.now (empty bytes.now
+      (zero_is (length bytes.now) (is_end (report_of payload)) consumes.1 (ends how (is_end (report_of payload)) t)))
+
+  counted_last : (x : Result Step Error) (how : Ended) → turn.End how ≡ turn_after x → Steps f x g
+      → Continues only has_bytes c x k.events k.events
+  counted_last x how t s = (
+    λ why numbers shown a b. subst (AreOfEvents why only no_counts k.events)
+        (sym (ap (λ (y : List Number). numbers ++ y) (no_number x how t why shown b) ∙ append-nil numbers)) a,
+    sym (ap (λ (y : List ℕ). bytes_of_events has_bytes only k.events ++ y) (no_byte x how t s)
+        ∙ append-nil (bytes_of_events has_bytes only k.events)),
+  )
 
 -- ---- what was written, at an end
 
@@ -217,16 +286,18 @@ no_numbers_begun b line e = ap (λ (x : Bool). begun_numbers x line) e
 
 -- all of it
 whole_in : (style : Style) (o : Origin) (w : Writing) → w.style ≡ style → w.why ≡ None → IsOut w → IsGoingIn style o w
-    → WritesWhole style o.taken w.taken o.outline o.numbers
+    → WritesWhole style o.taken w.taken o.outline o.numbers o.bytes
 whole_in Lines o w same going out g =
     let ended : w.is_begun ≡ false = out.none_begun going same in
     let all : g.written ≡ g.text = sym (append-nil g.written) ∙ (ap (λ (x : List ℕ). g.written ++ x) (sym (out.none_waits going))
     ∙ (g.parts ∙ (ap (λ (x : List ℕ). g.text ++ x) (none_begun w.is_begun g.line ended) ∙ append-nil g.text))) in
     let numbered : g.lined ≡ o.numbers = sym (g.numbered
     ∙ (ap (λ (x : List Number). g.lined ++ x) (no_numbers_begun w.is_begun g.line ended) ∙ append-nil g.lined)) in
+    let rowed : g.rows ≡ o.bytes = sym (g.rowed
+    ∙ (ap (λ (x : List ℕ). g.rows ++ x) (out.all_shown going same) ∙ append-nil g.rows)) in
     record {
       text = g.text;
-      shaped = subst (IsOutlined g.text o.outline) numbered g.outlined;
+      shaped = subst₂ (λ (x : List Number) (y : List ℕ). IsOutlined g.text o.outline x y) numbered rowed g.outlined;
       wrote = subst (Appends o.taken w.taken) all g.took;
     }
 whole_in Objects o w same going out g = record {
@@ -236,15 +307,15 @@ whole_in Objects o w same going out g = record {
   wrote = g.took;
 }
 
-whole : (o : Origin) (w : Writing) → w.why ≡ None → IsOut w → IsWritten o w → WritesWhole o.style o.taken w.taken o.outline o.numbers
+whole : (o : Origin) (w : Writing) → w.why ≡ None → IsOut w → IsWritten o w → WritesWhole o.style o.taken w.taken o.outline o.numbers o.bytes
 whole o w going out i = whole_in o.style o w i.0 going out (as_going o w going i)
 
-some_of : (o : Origin) (w : Writing) → WritesWhole o.style o.taken w.taken o.outline o.numbers
-    → WritesSome o.style o.taken w.taken o.outline o.numbers
+some_of : (o : Origin) (w : Writing) → WritesWhole o.style o.taken w.taken o.outline o.numbers o.bytes
+    → WritesSome o.style o.taken w.taken o.outline o.numbers o.bytes
 some_of o w s = record {
   text = s.text;
   unwritten = [];
-  shaped = subst (λ (x : List ℕ). IsShaped o.style x o.outline o.numbers) (sym (append-nil s.text)) s.shaped;
+  shaped = subst (λ (x : List ℕ). IsShaped o.style x o.outline o.numbers o.bytes) (sym (append-nil s.text)) s.shaped;
   wrote = s.wrote;
 }
 
@@ -257,12 +328,16 @@ has_failed : (o : Origin) (w : Writing) → w.why ≡ None → IsWritten o w →
 has_failed o w going i = failed_in o.style o w (as_going o w going i)
 
 -- where the tree has stopped, some may be missing
-source_begins : (why : Option ListError) (stop : ListError) (only : List Only) (input : Change) (numbers : List Number)
-    → AreOfSource why only input numbers → AreOfSource (Some stop) only input numbers
-source_begins why stop only input numbers a = record {
+source_begins : (why : Option ListError) (stop : ListError) (only : List Only) (has_bytes : Bool) (input : Change)
+    (numbers : List Number) (bytes : List ℕ) → AreOfSource why only has_bytes input numbers bytes
+    → AreOfSource (Some stop) only has_bytes input numbers bytes
+source_begins why stop only has_bytes input numbers bytes a = record {
   given = a.given;
   events = a.events;
   gave = a.gave;
+  left = a.left;
+  consumed = a.consumed;
+  are_bytes = a.are_bytes;
   begins = a.begins;
   are_of = events_begin why stop only no_counts a.events numbers a.are_of;
 }
@@ -274,16 +349,18 @@ events_are None only c events numbers a = a
 events_are (Some why) only c events numbers a = events_begin None why only c events numbers a
 
 -- a dump that was cut short, or whose input failed
-cut_off : (style : Style) (only : List Only) (full rest : Option (List ℕ)) (had has : Bool) → has ≡ had
-    → (taken : Option (List ℕ)) (failed : Bool) (outline : List ℕ) (numbers : List Number) (why : ListError) (w : Writing)
+cut_off : (style : Style) (only : List Only) (has_bytes : Bool) (full rest : Option (List ℕ)) (had has : Bool) → has ≡ had
+    → (taken : Option (List ℕ)) (failed : Bool) (outline : List ℕ) (numbers : List Number) (bytes : List ℕ) (why : ListError)
+    (w : Writing)
     → IsBeginning (chosen_line only) (from_to full rest) (from_to (Some []) (Some outline))
-    → AreOfSource (Some why) only (from_to full rest) numbers
-    → IsCutShort (origin style taken failed outline numbers) why w → DumpsFrom style only
+    → AreOfSource (Some why) only has_bytes (from_to full rest) numbers bytes
+    → IsCutShort (origin style taken failed outline numbers bytes) why w → DumpsFrom style only has_bytes
     (record { before = full; after = rest; had_failed = had; has_failed = has }) taken failed (Err why) w
-cut_off style only full rest had has h taken failed outline numbers Output w b n c = record {
+cut_off style only has_bytes full rest had has h taken failed outline numbers bytes Output w b n c = record {
   dumps = record {
     outline = outline;
     numbers = numbers;
+    bytes = bytes;
     lists = b;
     counts = n;
     writes = record { text = c.written; unwritten = c.unwritten; shaped = c.shaped; wrote = c.took };
@@ -291,10 +368,11 @@ cut_off style only full rest had has h taken failed outline numbers Output w b n
   source = h;
   sink = c.failed;
 }
-cut_off style only full rest had has h taken failed outline numbers Memory w b n c = record {
+cut_off style only has_bytes full rest had has h taken failed outline numbers bytes Memory w b n c = record {
   dumps = record {
     outline = outline;
     numbers = numbers;
+    bytes = bytes;
     lists = b;
     counts = n;
     writes = record { text = c.written; unwritten = c.unwritten; shaped = c.shaped; wrote = c.took };
@@ -302,7 +380,7 @@ cut_off style only full rest had has h taken failed outline numbers Memory w b n
   source = h;
   sink = c.failed;
 }
-cut_off style only full rest had has h taken failed outline numbers Input w b n c = absurd (c.no_input refl)
+cut_off style only has_bytes full rest had has h taken failed outline numbers bytes Input w b n c = absurd (c.no_input refl)
 
 -- ---- a step
 
@@ -325,22 +403,25 @@ reads_where_asked (Ok (Parsed bytes payload)) t = by_end (is_end (report_of payl
 puts : (outline line : List ℕ) → PutsBytes (Some outline) (Some (outline ++ line)) [] line []
 puts outline line = record { moved = line; writes = refl; waits = sym (append-nil line) }
 
-module _ (only : List Only) (full rest : Option (List ℕ)) (before : Writing) (f : Feed) (c : Counts) (now : Writing)
-    (d : Dumping only full rest before f c now) (g : Feed) (c' : Counts) (new : Writing) (next : Turn)
-    (s : ShowsStep only c c' f g now new next) where
+module _ (only : List Only) (has_bytes : Bool) (full rest : Option (List ℕ)) (before : Writing) (f : Feed) (c : Counts) (now : Writing)
+    (d : Dumping only has_bytes full rest before f c now) (g : Feed) (c' : Counts) (new : Writing) (next : Turn)
+    (s : ShowsStep only has_bytes c c' f g now new next) where
   line : List ℕ
   line = text_after (chosen_line only) s.answer
 
   -- what was written, with the numbers of events that go on as these by what is shown
-  written : (events : List Event) → ((why : Option ListError) (numbers shown : List Number)
-      → AreOfEvents why only no_counts d.counting.events numbers → AreOfAnswer why only c s.answer shown
-      → AreOfEvents why only no_counts events (numbers ++ shown))
-      → (taken : Option (List ℕ)) (failed : Bool) → IsWritten (origin before.style taken failed [] []) before
-      → WrittenWith new.why only events before.style taken failed (d.outline ++ text_after (chosen_line only) s.answer) new
+  written : (events : List Event) → Continues only has_bytes c s.answer d.counting.events events
+      → (taken : Option (List ℕ)) (failed : Bool) → IsWritten (origin before.style taken failed [] [] []) before
+      → WrittenWith new.why only has_bytes events before.style taken failed (d.outline ++ text_after (chosen_line only) s.answer) new
   written events more taken failed i =
       let (numbers, are, going) = d.writing taken failed i in
-      let (shown, of, after) = s.shows (origin before.style taken failed d.outline numbers) going in
-      (numbers ++ shown, more new.why numbers shown (events_are new.why only no_counts d.counting.events numbers are) of, after)
+      let was = bytes_of_events has_bytes only d.counting.events in
+      let (shown, of, after) = s.shows (origin before.style taken failed d.outline numbers was) going in (
+        numbers ++ shown,
+        more.0 new.why numbers shown (events_are new.why only no_counts d.counting.events numbers are) of,
+        subst (λ (x : List ℕ). IsWritten (origin before.style taken failed (d.outline ++ text_after (chosen_line only) s.answer)
+            (numbers ++ shown) x) new) (sym more.1) after,
+      )
 
   put : PutsBytes (Some d.outline) (Some (d.outline ++ text_after (chosen_line only) s.answer)) []
       (text_after (chosen_line only) s.answer)
@@ -348,22 +429,19 @@ module _ (only : List Only) (full rest : Option (List ℕ)) (before : Writing) (
   put = puts d.outline (text_after (chosen_line only) s.answer)
 
   -- the same, where the tree goes on
-  going_on : new.why ≡ None → (events : List Event) → ((why : Option ListError) (numbers shown : List Number)
-      → AreOfEvents why only no_counts d.counting.events numbers → AreOfAnswer why only c s.answer shown
-      → AreOfEvents why only no_counts events (numbers ++ shown))
-      → (taken : Option (List ℕ)) (failed : Bool) → IsWritten (origin before.style taken failed [] []) before
-      → WrittenWith None only events before.style taken failed (d.outline ++ text_after (chosen_line only) s.answer) new
+  going_on : new.why ≡ None → (events : List Event) → Continues only has_bytes c s.answer d.counting.events events
+      → (taken : Option (List ℕ)) (failed : Bool) → IsWritten (origin before.style taken failed [] [] []) before
+      → WrittenWith None only has_bytes events before.style taken failed (d.outline ++ text_after (chosen_line only) s.answer) new
   going_on going events more taken failed i =
-      subst (λ (why : Option ListError). WrittenWith why only events before.style taken failed (d.outline ++ text_after (chosen_line only) s.answer)
-      new)
-      going (written events more taken failed i)
+      subst (λ (why : Option ListError). WrittenWith why only has_bytes events before.style taken failed
+      (d.outline ++ text_after (chosen_line only) s.answer) new) going (written events more taken failed i)
 
-  pub advanced : new.why ≡ None → next ≡ turn.Advance → Dumping only full rest before g c' new × (weight g < weight f)
+  pub advanced : new.why ≡ None → next ≡ turn.Advance → Dumping only has_bytes full rest before g c' new × (weight g < weight f)
   advanced going t =
       let (listing, less) =
       progress.advanced (chosen_line only) full rest (Some []) (Some d.outline) f [] d.listing g s.answer s.steps _ _
       put (sym t ∙ s.turns) in
-      let (k, more) = counted_on only full rest f c d.counting g s.answer (sym t ∙ s.turns) s.steps in (
+      let (k, more) = counted_on only has_bytes full rest f c d.counting g s.answer (sym t ∙ s.turns) s.steps in (
         record {
           outline = d.outline ++ text_after (chosen_line only) s.answer;
           listing = listing;
@@ -373,12 +451,12 @@ module _ (only : List Only) (full rest : Option (List ℕ)) (before : Writing) (
         less,
       )
 
-  pub asked : new.why ≡ None → next ≡ turn.Read → Wanting only full rest before g c' new × (weight g ≡ weight f)
+  pub asked : new.why ≡ None → next ≡ turn.Read → Wanting only has_bytes full rest before g c' new × (weight g ≡ weight f)
   asked going t =
       let (listing, same) =
       progress.asked (chosen_line only) full rest (Some []) (Some d.outline) f [] d.listing g s.answer s.steps _ _ put
       (sym t ∙ s.turns) in
-      let (k, more) = counted_still only full rest f c d.counting g s.answer (sym t ∙ s.turns) s.steps in (
+      let (k, more) = counted_still only has_bytes full rest f c d.counting g s.answer (sym t ∙ s.turns) s.steps in (
         record {
           outline = d.outline ++ text_after (chosen_line only) s.answer;
           listing = listing;
@@ -415,58 +493,62 @@ module _ (only : List Only) (full rest : Option (List ℕ)) (before : Writing) (
       (nothing_cut (Some (d.outline ++ text_after (chosen_line only) s.answer)))
 
   -- what was written, with the numbers of what the source gave
-  all_written : (t : Turn) → next ≡ t → (taken : Option (List ℕ)) (failed : Bool) → IsWritten (origin before.style taken failed [] []) before
-      → (numbers : List Number) × AreOfSource new.why only (from_to full rest) numbers
-      × IsWritten (origin before.style taken failed (d.outline ++ text_after (chosen_line only) s.answer) numbers) new
+  all_written : (t : Turn) → next ≡ t → (taken : Option (List ℕ)) (failed : Bool) → IsWritten (origin before.style taken failed [] [] []) before
+      → (numbers : List Number) × (bytes : List ℕ) × AreOfSource new.why only has_bytes (from_to full rest) numbers bytes
+      × IsWritten (origin before.style taken failed (d.outline ++ text_after (chosen_line only) s.answer) numbers bytes) new
   all_written turn.Advance t taken failed i =
-      let (k, more) = counted_on only full rest f c d.counting g s.answer (sym t ∙ s.turns) s.steps in
+      let (k, more) = counted_on only has_bytes full rest f c d.counting g s.answer (sym t ∙ s.turns) s.steps in
       let (numbers, are, going) = written k.events more taken failed i in
-      (numbers, numbers_at new.why only full rest g (after_answer c s.answer) k numbers are, going)
+      (numbers, bytes_of_events has_bytes only k.events, numbers_at new.why only has_bytes full rest g (after_answer c s.answer) k numbers are,
+      going)
   all_written turn.Read t taken failed i =
-      let (k, more) = counted_still only full rest f c d.counting g s.answer (sym t ∙ s.turns) s.steps in
+      let (k, more) = counted_still only has_bytes full rest f c d.counting g s.answer (sym t ∙ s.turns) s.steps in
       let (numbers, are, going) = written k.events more taken failed i in
-      (numbers, numbers_at new.why only full rest g (after_answer c s.answer) k numbers are, going)
+      (numbers, bytes_of_events has_bytes only k.events, numbers_at new.why only has_bytes full rest g (after_answer c s.answer) k numbers are,
+      going)
   all_written (turn.End how) t taken failed i =
-      let last = counted_last only full rest f c d.counting g s.answer how (sym t ∙ s.turns) in
+      let last = counted_last only has_bytes full rest f c d.counting g s.answer how (sym t ∙ s.turns) s.steps in
       let (numbers, are, going) = written d.counting.events last taken failed i in
-      (numbers, numbers_at new.why only full rest f c d.counting numbers are, going)
+      (numbers, bytes_of_events has_bytes only d.counting.events, numbers_at new.why only has_bytes full rest f c d.counting numbers are,
+      going)
 
   -- the tree has stopped
   pub stopped : (had has : Bool) → has ≡ had → (why : ListError) → new.why ≡ Some why → (taken : Option (List ℕ)) (failed : Bool)
-      → IsWritten (origin before.style taken failed [] []) before
-      → DumpsFrom before.style only (record { before = full; after = rest; had_failed = had; has_failed = has }) taken failed (Err why) new
+      → IsWritten (origin before.style taken failed [] [] []) before
+      → DumpsFrom before.style only has_bytes (record { before = full; after = rest; had_failed = had; has_failed = has }) taken failed (Err why) new
   stopped had has h why w taken failed i =
-      let (numbers, are, going) = all_written next refl taken failed i in
-      cut_off before.style only full rest had has h taken failed _ numbers why new (begins next refl)
-      (source_begins new.why why only _ numbers are) (as_short _ new why w going)
+      let (numbers, bytes, are, going) = all_written next refl taken failed i in
+      cut_off before.style only has_bytes full rest had has h taken failed _ numbers bytes why new (begins next refl)
+      (source_begins new.why why only has_bytes _ numbers bytes are) (as_short _ new why w going)
 
   -- it has after all was to be written
   pub stopped_at_last : (had has : Bool) → has ≡ had → (last : Writing) (why : ListError) → Adds new last → last.why ≡ Some why
-      → (taken : Option (List ℕ)) (failed : Bool) → IsWritten (origin before.style taken failed [] []) before
-      → DumpsFrom before.style only (record { before = full; after = rest; had_failed = had; has_failed = has }) taken failed (Err why) last
+      → (taken : Option (List ℕ)) (failed : Bool) → IsWritten (origin before.style taken failed [] [] []) before
+      → DumpsFrom before.style only has_bytes (record { before = full; after = rest; had_failed = had; has_failed = has }) taken failed (Err why) last
   stopped_at_last had has h last why a w taken failed i =
-      let (numbers, are, going) = all_written next refl taken failed i in
-      cut_off before.style only full rest had has h taken failed _ numbers why last (begins next refl)
-      (source_begins new.why why only _ numbers are) (as_short _ last why w (a _ going))
+      let (numbers, bytes, are, going) = all_written next refl taken failed i in
+      cut_off before.style only has_bytes full rest had has h taken failed _ numbers bytes why last (begins next refl)
+      (source_begins new.why why only has_bytes _ numbers bytes are) (as_short _ last why w (a _ going))
 
   -- all is written
   pub ended : (had has : Bool) → has ≡ had → new.why ≡ None → (how : Ended) (last : Writing) → next ≡ turn.End how → Adds new last
       → IsOut last → last.why
-      ≡ None → (taken : Option (List ℕ)) (failed : Bool) → IsWritten (origin before.style taken failed [] []) before
-      → DumpsFrom before.style only (record { before = full; after = rest; had_failed = had; has_failed = has }) taken failed (Ok how) last
+      ≡ None → (taken : Option (List ℕ)) (failed : Bool) → IsWritten (origin before.style taken failed [] [] []) before
+      → DumpsFrom before.style only has_bytes (record { before = full; after = rest; had_failed = had; has_failed = has }) taken failed (Ok how) last
   ended had has h went how last t a out going taken failed i =
-      let (numbers, are, wrote) = all_written next refl taken failed i in
-      let o = origin before.style taken failed (d.outline ++ text_after (chosen_line only) s.answer) numbers in
+      let (numbers, bytes, are, wrote) = all_written next refl taken failed i in
+      let o = origin before.style taken failed (d.outline ++ text_after (chosen_line only) s.answer) numbers bytes in
       let all = a o wrote in
       record {
         dumps = record {
           outline = d.outline ++ text_after (chosen_line only) s.answer;
           numbers = numbers;
+          bytes = bytes;
           lists =
               progress.listed_all (chosen_line only) full rest (Some []) (Some d.outline) f [] d.listing g s.answer s.steps _ _ put how
               (sym t ∙ s.turns) (Some (d.outline ++ text_after (chosen_line only) s.answer))
               (Appends-nil (Some (d.outline ++ text_after (chosen_line only) s.answer)));
-          counts = subst (λ (why : Option ListError). AreOfSource why only (from_to full rest) numbers) went are;
+          counts = subst (λ (why : Option ListError). AreOfSource why only has_bytes (from_to full rest) numbers bytes) went are;
           writes = whole o last going out all;
         };
         source = h;
@@ -501,15 +583,20 @@ module _ (full rest : Option (List ℕ)) (f : Feed) (c : Counts) (k : Counting f
     refl,
   )
 
-module _ (only : List Only) (full rest : Option (List ℕ)) (before : Writing) (f : Feed) (c : Counts) (now last : Writing)
-    (d : Wanting only full rest before f c now) (a : Adds now last) (out : IsOut last) (going : last.why ≡ None) where
+module _ (only : List Only) (has_bytes : Bool) (full rest : Option (List ℕ)) (before : Writing) (f : Feed) (c : Counts) (now last : Writing)
+    (d : Wanting only has_bytes full rest before f c now) (a : Adds now last) (out : IsOut last) (going : last.why ≡ None) where
   all : (events : List Event) → events ≡ d.counting.events → (taken : Option (List ℕ)) (failed : Bool)
-      → IsWritten (origin before.style taken failed [] []) before → WrittenWith None only events before.style taken failed d.outline last
+      → IsWritten (origin before.style taken failed [] [] []) before → WrittenWith None only has_bytes events before.style taken failed d.outline last
   all events same taken failed i =
       let (numbers, are, wrote) = d.writing taken failed i in
-      (numbers, subst (λ (es : List Event). AreOfEvents None only no_counts es numbers) (sym same) are, a _ wrote)
+      (
+        numbers,
+        subst (λ (es : List Event). AreOfEvents None only no_counts es numbers) (sym same) are,
+        subst (λ (es : List Event). IsWritten (origin before.style taken failed d.outline numbers (bytes_of_events has_bytes only es)) last)
+            (sym same) (a _ wrote),
+      )
 
-  pub filled : (rest' : Option (List ℕ)) (g : Feed) → Refills rest rest' f g (Ok tt) → Dumping only full rest' before g c last
+  pub filled : (rest' : Option (List ℕ)) (g : Feed) → Refills rest rest' f g (Ok tt) → Dumping only has_bytes full rest' before g c last
       × (weight g < weight f)
   filled rest' g r =
       let (listing, less) = progress.filled (chosen_line only) full rest (Some []) (Some d.outline) f d.listing rest' g r in
@@ -519,18 +606,20 @@ module _ (only : List Only) (full rest : Option (List ℕ)) (before : Writing) (
   pub not_filled : (had mid has : Bool) → mid ≡ had → (rest' : Option (List ℕ)) (g : Feed) (e : ListError)
       → Refills rest rest' f g (Err e)
       → has ≡ input_failed {A = Unit {0}} (Err e) mid → (taken : Option (List ℕ)) (failed : Bool)
-      → IsWritten (origin before.style taken failed [] []) before
-      → DumpsFrom before.style only (record { before = full; after = rest'; had_failed = had; has_failed = has }) taken failed (Err e) last
+      → IsWritten (origin before.style taken failed [] [] []) before
+      → DumpsFrom before.style only has_bytes (record { before = full; after = rest'; had_failed = had; has_failed = has }) taken failed (Err e) last
   not_filled had mid has m rest' g Input r h taken failed i =
       let (numbers, are, wrote) = all d.counting.events refl taken failed i in
-      let o = origin before.style taken failed d.outline numbers in
+      let bytes = bytes_of_events has_bytes only d.counting.events in
+      let o = origin before.style taken failed d.outline numbers bytes in
       record {
         dumps = record {
           outline = d.outline;
           numbers = numbers;
+          bytes = bytes;
           lists = progress.not_filled (chosen_line only) full rest (Some []) (Some d.outline) f d.listing
               rest' g Input r;
-          counts = numbers_at None only full rest' f c (record {
+          counts = numbers_at None only has_bytes full rest' f c (record {
             given = d.counting.given;
             events = d.counting.events;
             gave = Consumes-kept full rest rest' d.counting.given d.counting.gave r;
@@ -544,14 +633,16 @@ module _ (only : List Only) (full rest : Option (List ℕ)) (before : Writing) (
       }
   not_filled had mid has m rest' g Memory r h taken failed i =
       let (numbers, are, wrote) = all d.counting.events refl taken failed i in
-      let o = origin before.style taken failed d.outline numbers in
+      let bytes = bytes_of_events has_bytes only d.counting.events in
+      let o = origin before.style taken failed d.outline numbers bytes in
       record {
         dumps = record {
           outline = d.outline;
           numbers = numbers;
+          bytes = bytes;
           lists = progress.not_filled (chosen_line only) full rest (Some []) (Some d.outline) f d.listing
               rest' g Memory r;
-          counts = numbers_after (Some Memory) only full rest rest' f c d.counting r.0 r.1 numbers
+          counts = numbers_after (Some Memory) only has_bytes full rest rest' f c d.counting r.0 r.1 numbers
               (events_begin None Memory only no_counts d.counting.events numbers are);
           writes = some_of o last (whole o last going out wrote);
         };
@@ -562,54 +653,58 @@ module _ (only : List Only) (full rest : Option (List ℕ)) (before : Writing) (
 
 -- ---- the whole
 
-nothing_outlined : IsOutlined [] [] []
-nothing_outlined = record { lines = []; whole = refl; parts = refl; outlines = refl; numbered = refl }
+nothing_outlined : IsOutlined [] [] [] []
+nothing_outlined = record { lines = []; whole = refl; parts = refl; outlines = refl; numbered = refl; rowed = refl }
 
 -- a writer that has written nothing
 fresh_in : (style : Style) (taken : Option (List ℕ)) (failed : Bool)
-    → IsGoingIn style (origin style taken failed [] []) (Tree.starts_in style taken failed)
+    → IsGoingIn style (origin style taken failed [] [] []) (Tree.starts_in style taken failed)
 fresh_in Lines taken failed = record {
   written = [];
   text = [];
   lined = [];
+  rows = [];
   line = [];
   outlined = nothing_outlined;
   one_line = refl;
   parts = refl;
   numbered = refl;
+  rowed = refl;
   took = Appends-nil taken;
   failed = refl;
 }
 fresh_in Objects taken failed = record { written = []; is_at = refl; took = Appends-nil taken; failed = refl }
 
 pub fresh : (style : Style) (taken : Option (List ℕ)) (failed : Bool) (w : Writing) → w ≡ Tree.starts_in style taken failed
-    → IsWritten (origin w.style taken failed [] []) w
+    → IsWritten (origin w.style taken failed [] [] []) w
 fresh style taken failed w e =
-    subst (λ (x : Writing). IsWritten (origin x.style taken failed [] []) x) (sym e) (refl, fresh_in style taken failed)
+    subst (λ (x : Writing). IsWritten (origin x.style taken failed [] [] []) x) (sym e) (refl, fresh_in style taken failed)
 
-pub by_tree : (only : List Only) (input : Device) (old new : Writing) (result : Result Ended ListError)
-    → DumpsInto only input old result new → DumpsByTree only input old result new
-by_tree only input old new result d style taken failed s =
-    subst (λ (x : Style). DumpsFrom x only input taken failed result new) (ap (λ (w : Writing). w.style) s)
+pub by_tree : (only : List Only) (has_bytes : Bool) (input : Device) (old new : Writing) (result : Result Ended ListError)
+    → DumpsInto only has_bytes input old result new → DumpsByTree only has_bytes input old result new
+by_tree only has_bytes input old new result d style taken failed s =
+    subst (λ (x : Style). DumpsFrom x only has_bytes input taken failed result new) (ap (λ (w : Writing). w.style) s)
     (d taken failed (fresh style taken failed old s))
 
-nothing_shaped : (style : Style) → IsShaped style [] [] []
+nothing_shaped : (style : Style) → IsShaped style [] [] [] []
 nothing_shaped Lines = nothing_outlined
 nothing_shaped Objects = refl
 
 -- no memory to begin with
-pub no_room : (style : Style) (only : List Only) (full : Option (List ℕ)) (had : Bool) (taken : Option (List ℕ)) (failed : Bool)
+pub no_room : (style : Style) (only : List Only) (has_bytes : Bool) (full : Option (List ℕ)) (had : Bool) (taken : Option (List ℕ)) (failed : Bool)
     (w : Writing) → w ≡ Tree.starts_in style taken failed
-    → DumpsFrom style only (record { before = full; after = full; had_failed = had; has_failed = had }) taken failed (Err Memory) w
-no_room style only full had taken failed w e =
-    subst (DumpsFrom style only (record { before = full; after = full; had_failed = had; has_failed = had })
+    → DumpsFrom style only has_bytes (record { before = full; after = full; had_failed = had; has_failed = had }) taken failed (Err Memory) w
+no_room style only has_bytes full had taken failed w e =
+    subst (DumpsFrom style only has_bytes (record { before = full; after = full; had_failed = had; has_failed = had })
     taken failed (Err Memory)) (sym e) (record {
       dumps = record {
         outline = [];
         numbers = [];
+        bytes = [];
         lists = progress.no_memory (chosen_line only) full full (Some []) (Some []) (new_feed 0 all_features) []
             (progress.begun (chosen_line only) full (Some [])) full [] (Consumes-nil full);
-        counts = numbers_at (Some Memory) only full full (new_feed 0 all_features) no_counts (counts_nothing full) [] refl;
+        counts = subst (AreOfSource (Some Memory) only has_bytes (from_to full full) []) (sym (none_of_events has_bytes only))
+            (numbers_at (Some Memory) only has_bytes full full (new_feed 0 all_features) no_counts (counts_nothing full) [] refl);
         writes = record { text = []; unwritten = []; shaped = nothing_shaped style; wrote = Appends-nil taken };
       };
       source = refl;

@@ -33,11 +33,11 @@ use Rattle.wasm_show.specs.Numbers.{import_numbers}
 use Rattle.wasm_show.specs.Numbers.{numbers_from, imports_in, space_defined, AreShown, AreNext, AreOfSection, AreOfItems}
 use Rattle.wasm_show.specs.Numbers.{numbers_in_line, after, after_all}
 use Rattle.wasm_show.specs.Chosen.{is_chosen, shown_line, numbered_line}
-use Rattle.wasm_show.specs.Dump.{AreOfShown, AreOf, AreOfEvents, ShowsItems, ShowsReport, ShowsAnswer}
+use Rattle.wasm_show.specs.Dump.{AreOfShown, AreOf, AreOfEvents, ShowsItems, ShowsReport, ShowsAnswer, shown_bytes}
 use Rattle.wasm_show.specs.declared.only.Only.{Only}
 use Rattle.wasm_show.proofs.Lines.{line_is_first}
 use Rattle.wasm_show.specs.Tree.{Writing, Origin, IsWritten, with_line, with_numbers, Adds, AddsFirst, AddsThese, AddsNumber, AddsNumbers}
-use Rattle.wasm_show.specs.Tree.{AddsAll, AddsNext, AddsUpTo}
+use Rattle.wasm_show.specs.Tree.{AddsAll, AddsBytes, AddsNext, AddsUpTo, with_bytes}
 use Rattle.wasm_show.specs.declared.numbers.Space.{Space}
 use Rattle.wasm_show.specs.declared.numbers.Space.TheVariants.{Types, Functions, Tables, Memories, Tags, Globals, Elements, DataSegments}
 use Rattle.wasm_base.specs.Item.{ReadsAs, outcome_map}
@@ -313,59 +313,77 @@ shows_defined c id space s old new begins isnt next a o i =
     (next (numbers_read (item_at id) s.count (place s.reader)) shown held) in
     (shown, subst (λ (b : Bool). AreOfSection new.why b c id s.count (unread s.reader) shown) (sym isnt) are, wrote)
 
-nothing_more : (o : Origin) (w : Writing) → IsWritten o w → IsWritten (with_numbers (with_line o []) []) w
-nothing_more o w i = subst₂ (λ (x : List ℕ) (y : List Number). IsWritten (record o { outline = x; numbers = y }) w)
-    (sym (append-nil o.outline)) (sym (append-nil o.numbers)) i
+no_bytes : (o : Origin) (w : Writing) → IsWritten o w → IsWritten (with_bytes o []) w
+no_bytes o w i = subst (λ (x : List ℕ). IsWritten (record o { bytes = x }) w) (sym (append-nil o.bytes)) i
+
+nothing_more : (o : Origin) (w : Writing) → IsWritten o w → IsWritten (with_bytes (with_numbers (with_line o []) []) []) w
+nothing_more o w i = no_bytes (with_numbers (with_line o []) []) w
+    (subst₂ (λ (x : List ℕ) (y : List Number). IsWritten (record o { outline = x; numbers = y }) w)
+    (sym (append-nil o.outline)) (sym (append-nil o.numbers)) i)
+
+-- the bytes that are shown, by whether what is reported of them is
+bytes_chosen : (has_bytes : Bool) (only : List Only) (r : Report) (bytes : List ℕ) → is_chosen only r ≡ true
+    → shown_bytes has_bytes only r bytes ≡ (if has_bytes then bytes else [])
+bytes_chosen true only r bytes chosen = ap (λ (x : Bool). if x then bytes else []) chosen
+bytes_chosen false only r bytes chosen = refl
+
+bytes_unchosen : (has_bytes : Bool) (only : List Only) (r : Report) (bytes : List ℕ) → is_chosen only r ≡ false
+    → shown_bytes has_bytes only r bytes ≡ []
+bytes_unchosen true only r bytes chosen = ap (λ (x : Bool). if x then bytes else []) chosen
+bytes_unchosen false only r bytes chosen = refl
 
 -- a line of the first level, if it is shown, and its items
-module _ (only : List Only) (c : Counts) (r : Report) where
-  pub shows_chosen : (old mid new : Writing) → is_chosen only r ≡ true → AddsFirst (numbered_line c r) old mid → ShowsItems c r mid new
-      → ShowsReport only c r old new
-  shows_chosen old mid new chosen a b o i =
-      let first = a (shown_line r) (numbers_in_line c r) (line_is_first c r) o i in
-      let (items, held, going) = b (with_numbers (with_line o (shown_line r)) (numbers_in_line c r)) first in (
+module _ (only : List Only) (has_bytes : Bool) (c : Counts) (r : Report) (bytes : List ℕ) where
+  pub shows_chosen : (old begun mid new : Writing) → is_chosen only r ≡ true → AddsBytes (if has_bytes then bytes else []) old begun
+      → AddsFirst (numbered_line c r) begun mid → ShowsItems c r mid new → ShowsReport only has_bytes c r bytes old new
+  shows_chosen old begun mid new chosen p a b o i =
+      let shown = if has_bytes then bytes else [] in
+      let before = with_bytes o shown in
+      let first = a (shown_line r) (numbers_in_line c r) (line_is_first c r) before (p o i) in
+      let (items, held, going) = b (with_numbers (with_line before (shown_line r)) (numbers_in_line c r)) first in (
         numbers_in_line c r ++ items,
         subst (λ (x : Bool). AreOfShown new.why x c r (numbers_in_line c r ++ items)) (sym chosen) (items, refl, held),
-        subst (λ (x : List ℕ). IsWritten (with_numbers (with_line o x) (numbers_in_line c r ++ items)) new)
-            (sym (ap (λ (x : Bool). if x then shown_line r else []) chosen))
-            (joined (with_line o (shown_line r)) (numbers_in_line c r) items new going),
+        subst₂ (λ (x y : List ℕ). IsWritten (with_bytes (with_numbers (with_line o x) (numbers_in_line c r ++ items)) y) new)
+            (sym (ap (λ (x : Bool). if x then shown_line r else []) chosen)) (sym (bytes_chosen has_bytes only r bytes chosen))
+            (joined (with_line before (shown_line r)) (numbers_in_line c r) items new going),
       )
 
-  pub shows_unchosen : (w : Writing) → is_chosen only r ≡ false → ShowsReport only c r w w
+  pub shows_unchosen : (w : Writing) → is_chosen only r ≡ false → ShowsReport only has_bytes c r bytes w w
   shows_unchosen w chosen o i = (
     [],
     subst (λ (x : Bool). AreOfShown w.why x c r []) (sym chosen) refl,
-    subst (λ (x : List ℕ). IsWritten (with_numbers (with_line o x) []) w)
-        (sym (ap (λ (x : Bool). if x then shown_line r else []) chosen))
+    subst₂ (λ (x y : List ℕ). IsWritten (with_bytes (with_numbers (with_line o x) []) y) w)
+        (sym (ap (λ (x : Bool). if x then shown_line r else []) chosen)) (sym (bytes_unchosen has_bytes only r bytes chosen))
         (nothing_more o w i),
   )
 
 last_chosen : (only : List Only) (end : Ending) → is_chosen only (stream_end end) ≡ true
 last_chosen only end = refl
 
-fault_shown : (only : List Only) (c : Counts) (e : Error) (old new : Writing)
-    → AddsFirst (line_of (stream_end (fault (fault_at e)))) old new → ShowsAnswer only c (Err e) old new
-fault_shown only c e old new a o i =
+fault_shown : (only : List Only) (has_bytes : Bool) (c : Counts) (e : Error) (old new : Writing)
+    → AddsFirst (line_of (stream_end (fault (fault_at e)))) old new → ShowsAnswer only has_bytes c (Err e) old new
+fault_shown only has_bytes c e old new a o i =
     let r = stream_end (fault (fault_at e)) in (
       [],
       refl,
-      subst (λ (x : List ℕ). IsWritten (with_numbers (with_line o x) []) new)
+      subst (λ (x : List ℕ). IsWritten (with_bytes (with_numbers (with_line o x) []) []) new)
           (sym (ap (λ (x : Bool). if x then shown_line r else []) (last_chosen only (fault (fault_at e)))))
-          (a (shown_line r) [] (line_is_first c r) o i),
+          (no_bytes (with_numbers (with_line o (shown_line r)) []) new (a (shown_line r) [] (line_is_first c r) o i)),
     )
 
 -- a fault of the stream
-module _ (only : List Only) (c : Counts) (answer : Result Step Error) where
+module _ (only : List Only) (has_bytes : Bool) (c : Counts) (answer : Result Step Error) where
   pub shows_fault : (e : Error) (old new : Writing) → answer ≡ Err e → AddsFirst (line_of (stream_end (fault (fault_at e)))) old new
-      → ShowsAnswer only c answer old new
-  shows_fault e old new is a = subst (λ (x : Result Step Error). ShowsAnswer only c x old new) (sym is) (fault_shown only c e old new a)
+      → ShowsAnswer only has_bytes c answer old new
+  shows_fault e old new is a = subst (λ (x : Result Step Error). ShowsAnswer only has_bytes c x old new) (sym is)
+      (fault_shown only has_bytes c e old new a)
 
 -- where more is asked for, nothing is shown
-pub shows_request : (only : List Only) (c : Counts) (answer : Result Step Error) (w : Writing) → turn.Read ≡ turn_after answer
-    → ShowsAnswer only c answer w w
-shows_request only c (Ok (NeedMoreData hint)) w t = λ o i. ([], refl, nothing_more o w i)
-shows_request only c (Err e) w t = cc
-shows_request only c (Ok (Parsed bytes payload)) w t = absurd (by_end (is_end (report_of payload)) t)
+pub shows_request : (only : List Only) (has_bytes : Bool) (c : Counts) (answer : Result Step Error) (w : Writing)
+    → turn.Read ≡ turn_after answer → ShowsAnswer only has_bytes c answer w w
+shows_request only has_bytes c (Ok (NeedMoreData hint)) w t = λ o i. ([], refl, nothing_more o w i)
+shows_request only has_bytes c (Err e) w t = cc
+shows_request only has_bytes c (Ok (Parsed bytes payload)) w t = absurd (by_end (is_end (report_of payload)) t)
   where
     by_end : (b : Bool) → turn.Read ≡ (if b then turn.End End else turn.Advance) → ⊥
     by_end true e = cc

@@ -101,6 +101,7 @@ module _ (since now new : Writing) (text bytes : List ℕ) where
     why = q.why ∙ p.why;
     style = q.style ∙ p.style;
     spot = q.spot ∙ p.spot;
+    unshown = q.unshown ∙ p.unshown;
   }
   more None None (Some why) ea eb ec p q = record {
     cut = cut_after since.taken now.taken new.taken since.waiting text p.puts.moved now.waiting bytes why p.puts.writes p.puts.waits q.cut;
@@ -132,6 +133,7 @@ nothing_by w None e = record {
   why = refl;
   style = refl;
   spot = refl;
+  unshown = refl;
 }
 
 -- nothing was put on a line that is begun

@@ -13,7 +13,8 @@ use Rattle.wasm_feed.specs.declared.devices.ListError.{ListError}
 use Rattle.wasm_feed.specs.Page.{WritesBeginning, IsCut}
 use Rattle.wasm_feed.specs.declared.devices.ListError.TheVariants.{Input, Output, Memory}
 use Rattle.wasm_show.specs.Numbers.{Number, number_text}
-use Rattle.wasm_show.specs.Tree.{Part, words, number, Line, first, under, has_line_feed, is_part, is_line, part_text, text_of, first_of}
+use Rattle.wasm_show.specs.Tree.{Part, words, number, Line, first, under, row, has_line_feed, is_part, is_line, part_text, text_of}
+use Rattle.wasm_show.specs.Tree.{bytes_of, first_of, row_text, with_bytes, AddsBytes}
 use Rattle.wasm_show.specs.Tree.{part_numbers, numbers_of, IsFirst, IsOutlined, Writing, Origin, with_numbers}
 use Rattle.wasm_show.specs.Tree.{IsGoing, IsGoingInObjects, IsGoingIn, IsCutShort, IsWrittenAs, IsWritten, IsShaped, with_line}
 use Rattle.wasm_show.specs.Tree.{IsPushed, IsStuck, PutsAs, Puts, Adds, AddsFirst, AddsThese, is_objects}
@@ -30,29 +31,47 @@ more_lines : {A : Type 0} (f : Line → List A) (lines : List Line) (l : Line) (
 more_lines f lines l all e = ap (λ x. x ++ f l) e ∙ (ap (λ x. flat_map f lines ++ x) (sym (append-nil (f l)))
     ∙ sym (flat_map-append f lines (l ∷ [])))
 
-outlined_more : (text outline : List ℕ) (numbers : List Number) (l : Line) → is_line l ≡ true → IsOutlined text outline numbers
-    → IsOutlined (text ++ text_of l) (outline ++ first_of l) (numbers ++ numbers_of l)
-outlined_more text outline numbers l one i = record {
+outlined_more : (text outline : List ℕ) (numbers : List Number) (bytes : List ℕ) (l : Line) → is_line l ≡ true
+    → IsOutlined text outline numbers bytes
+    → IsOutlined (text ++ text_of l) (outline ++ first_of l) (numbers ++ numbers_of l) (bytes ++ bytes_of l)
+outlined_more text outline numbers bytes l one i = record {
   lines = i.lines ++ l ∷ [];
   whole = list_all-append is_line i.lines (l ∷ []) ∙ rw (i.whole, one) refl;
   parts = more_lines text_of i.lines l text i.parts;
   outlines = more_lines first_of i.lines l outline i.outlines;
   numbered = more_lines numbers_of i.lines l numbers i.numbered;
+  rowed = more_lines bytes_of i.lines l bytes i.rowed;
 }
 
+-- the same line, by what it adds
+outlined_with : (text outline : List ℕ) (numbers : List Number) (bytes : List ℕ) (l : Line) (text' outline' : List ℕ)
+    (numbers' : List Number) (bytes' : List ℕ) → is_line l ≡ true → text ++ text_of l ≡ text' → outline ++ first_of l ≡ outline'
+    → numbers ++ numbers_of l ≡ numbers' → bytes ++ bytes_of l ≡ bytes' → IsOutlined text outline numbers bytes
+    → IsOutlined text' outline' numbers' bytes'
+outlined_with text outline numbers bytes l text' outline' numbers' bytes' one e f g h i =
+    rw (← e, ← f, ← g, ← h) (outlined_more text outline numbers bytes l one i)
+
 -- a line under another
-under_more : (text outline : List ℕ) (numbers : List Number) (line : List Part) → list_all is_part line ≡ true
-    → IsOutlined text outline numbers
-    → IsOutlined (text ++ (codes "  " ++ (flat_map part_text line ++ codes "\n"))) outline (numbers ++ flat_map part_numbers line)
-under_more text outline numbers line one i =
-    subst (λ (x : List ℕ). IsOutlined (text ++ text_of (under line)) x (numbers ++ flat_map part_numbers line)) (append-nil outline)
-    (outlined_more text outline numbers (under line) one i)
+under_more : (text outline : List ℕ) (numbers : List Number) (bytes : List ℕ) (line : List Part) → list_all is_part line ≡ true
+    → IsOutlined text outline numbers bytes
+    → IsOutlined (text ++ (codes "  " ++ (flat_map part_text line ++ codes "\n"))) outline (numbers ++ flat_map part_numbers line) bytes
+under_more text outline numbers bytes line one i =
+    outlined_with text outline numbers bytes (under line) (text ++ text_of (under line)) outline (numbers ++ flat_map part_numbers line)
+    bytes one refl (append-nil outline) refl (append-nil bytes) i
+
+-- a row of bytes
+row_more : (text outline : List ℕ) (numbers : List Number) (bytes : List ℕ) (offset : ℕ) (more : List ℕ)
+    → IsOutlined text outline numbers bytes → IsOutlined (text ++ row_text offset more) outline numbers (bytes ++ more)
+row_more text outline numbers bytes offset more i =
+    outlined_with text outline numbers bytes (row offset more) (text ++ row_text offset more) outline numbers (bytes ++ more) refl refl
+    (append-nil outline) (append-nil numbers) refl i
 
 -- a line of the first level
-first_more : (text outline : List ℕ) (numbers : List Number) (line more : List ℕ) (after : List Number) → IsFirst line more after
-    → IsOutlined text outline numbers → IsOutlined (text ++ line) (outline ++ more) (numbers ++ after)
-first_more text outline numbers line more after e i = subst₂ (λ (x y : List ℕ). IsOutlined (text ++ x) (outline ++ y) (numbers ++ after))
-    (sym e.parts) (sym e.outlines) (outlined_more text outline numbers (first e.front after) refl i)
+first_more : (text outline : List ℕ) (numbers : List Number) (bytes line more : List ℕ) (after : List Number) → IsFirst line more after
+    → IsOutlined text outline numbers bytes → IsOutlined (text ++ line) (outline ++ more) (numbers ++ after) bytes
+first_more text outline numbers bytes line more after e i =
+    outlined_with text outline numbers bytes (first e.front after) (text ++ line) (outline ++ more) (numbers ++ after) bytes refl
+    (ap (λ (x : List ℕ). text ++ x) (sym e.parts)) (ap (λ (x : List ℕ). outline ++ x) (sym e.outlines)) refl (append-nil bytes) i
 
 -- ---- bytes put after those that wait
 
@@ -80,19 +99,20 @@ more_parts f line p = flat_map-append f line (p ∷ []) ∙ ap (λ x. flat_map f
 
 -- ---- in which style
 
-shaped_lines : (style : Style) (text outline : List ℕ) (numbers : List Number) → style ≡ Lines → IsOutlined text outline numbers
-    → IsShaped style text outline numbers
-shaped_lines style text outline numbers e i = subst (λ (x : Style). IsShaped x text outline numbers) (sym e) i
+shaped_lines : (style : Style) (text outline : List ℕ) (numbers : List Number) (bytes : List ℕ) → style ≡ Lines
+    → IsOutlined text outline numbers bytes → IsShaped style text outline numbers bytes
+shaped_lines style text outline numbers bytes e i = subst (λ (x : Style). IsShaped x text outline numbers bytes) (sym e) i
 
-lines_shaped : (style : Style) (text outline : List ℕ) (numbers : List Number) → style ≡ Lines → IsShaped style text outline numbers
-    → IsOutlined text outline numbers
-lines_shaped style text outline numbers e i = subst (λ (x : Style). IsShaped x text outline numbers) e i
+lines_shaped : (style : Style) (text outline : List ℕ) (numbers : List Number) (bytes : List ℕ) → style ≡ Lines
+    → IsShaped style text outline numbers bytes → IsOutlined text outline numbers bytes
+lines_shaped style text outline numbers bytes e i = subst (λ (x : Style). IsShaped x text outline numbers bytes) e i
 
 -- objects have no outline
-shaped_objects : (style : Style) (text outline outline' : List ℕ) (numbers numbers' : List Number) → style ≡ Objects
-    → IsShaped style text outline numbers → IsShaped style text outline' numbers'
-shaped_objects style text outline outline' numbers numbers' e i = subst (λ (x : Style). IsShaped x text outline' numbers') (sym e)
-    (subst (λ (x : Style). IsShaped x text outline numbers) e i)
+shaped_objects : (style : Style) (text outline outline' : List ℕ) (numbers numbers' : List Number) (bytes bytes' : List ℕ)
+    → style ≡ Objects → IsShaped style text outline numbers bytes → IsShaped style text outline' numbers' bytes'
+shaped_objects style text outline outline' numbers numbers' bytes bytes' e i =
+    subst (λ (x : Style). IsShaped x text outline' numbers' bytes') (sym e)
+    (subst (λ (x : Style). IsShaped x text outline numbers bytes) e i)
 
 -- ---- what was written before
 
@@ -117,9 +137,9 @@ pub as_short : (o : Origin) (w : Writing) (why : ListError) → w.why ≡ Some w
 as_short o w why e i = subst (λ (y : Option ListError). IsWrittenAs y o w) e i.1
 
 -- a line that is begun or ended, or another spot, changes nothing of what was cut short
-short_still : (o : Origin) (w : Writing) (why : ListError) (b : Bool) (spot : Spot) → IsCutShort o why w
-    → IsCutShort o why (record w { is_begun = b; spot = spot })
-short_still o w why b spot c = record {
+short_still : (o : Origin) (w : Writing) (why : ListError) (b : Bool) (spot : Spot) (unshown : List ℕ) → IsCutShort o why w
+    → IsCutShort o why (record w { is_begun = b; spot = spot; unshown = unshown })
+short_still o w why b spot unshown c = record {
   written = c.written;
   unwritten = c.unwritten;
   shaped = c.shaped;
@@ -135,10 +155,27 @@ first_short : (o : Origin) (w : Writing) (why : ListError) (line outline : List 
 first_short o w why line outline numbers e lines c = record {
   written = c.written;
   unwritten = c.unwritten ++ line;
-  shaped = shaped_lines o.style (c.written ++ (c.unwritten ++ line)) (o.outline ++ outline) (o.numbers ++ numbers) lines
-      (subst (λ (x : List ℕ). IsOutlined x (o.outline ++ outline) (o.numbers ++ numbers)) (append_assoc c.written c.unwritten line)
-      (first_more (c.written ++ c.unwritten) o.outline o.numbers line outline numbers e
-      (lines_shaped o.style (c.written ++ c.unwritten) o.outline o.numbers lines c.shaped)));
+  shaped = shaped_lines o.style (c.written ++ (c.unwritten ++ line)) (o.outline ++ outline) (o.numbers ++ numbers) o.bytes lines
+      (subst (λ (x : List ℕ). IsOutlined x (o.outline ++ outline) (o.numbers ++ numbers) o.bytes)
+      (append_assoc c.written c.unwritten line)
+      (first_more (c.written ++ c.unwritten) o.outline o.numbers o.bytes line outline numbers e
+      (lines_shaped o.style (c.written ++ c.unwritten) o.outline o.numbers o.bytes lines c.shaped)));
+  took = c.took;
+  failed = c.failed;
+  no_input = c.no_input;
+}
+
+-- bytes that are to be shown, of which nothing could be written
+bytes_short : (o : Origin) (w : Writing) (why : ListError) (bytes : List ℕ) → o.style ≡ Lines → IsCutShort o why w
+    → IsCutShort (with_bytes o bytes) why w
+bytes_short o w why bytes lines c = record {
+  written = c.written;
+  unwritten = c.unwritten ++ row_text 0 bytes;
+  shaped = shaped_lines o.style (c.written ++ (c.unwritten ++ row_text 0 bytes)) o.outline o.numbers (o.bytes ++ bytes) lines
+      (subst (λ (x : List ℕ). IsOutlined x o.outline o.numbers (o.bytes ++ bytes))
+      (append_assoc c.written c.unwritten (row_text 0 bytes))
+      (row_more (c.written ++ c.unwritten) o.outline o.numbers o.bytes 0 bytes
+      (lines_shaped o.style (c.written ++ c.unwritten) o.outline o.numbers o.bytes lines c.shaped)));
   took = c.took;
   failed = c.failed;
   no_input = c.no_input;
@@ -152,17 +189,21 @@ part_short o w why p one lines c =
     record {
       written = c.written;
       unwritten = c.unwritten ++ line;
-      shaped = shaped_lines o.style (c.written ++ (c.unwritten ++ line)) o.outline (o.numbers ++ part_numbers p) lines
-          (subst₂ (λ (x : List ℕ) (y : List Number). IsOutlined x o.outline (o.numbers ++ y))
+      shaped = shaped_lines o.style (c.written ++ (c.unwritten ++ line)) o.outline (o.numbers ++ part_numbers p) o.bytes lines
+          (subst₂ (λ (x : List ℕ) (y : List Number). IsOutlined x o.outline (o.numbers ++ y) o.bytes)
           (append_assoc c.written c.unwritten line) (append-nil (part_numbers p))
-          (under_more (c.written ++ c.unwritten) o.outline o.numbers (p ∷ []) (rw one refl)
-          (lines_shaped o.style (c.written ++ c.unwritten) o.outline o.numbers lines c.shaped)));
+          (under_more (c.written ++ c.unwritten) o.outline o.numbers o.bytes (p ∷ []) (rw one refl)
+          (lines_shaped o.style (c.written ++ c.unwritten) o.outline o.numbers o.bytes lines c.shaped)));
       took = c.took;
       failed = c.failed;
       no_input = c.no_input;
     }
 
 module _ (o : Origin) (old new : Writing) (i : IsGoing o old) where
+  -- the same bytes are to be shown
+  same_unshown : new.unshown ≡ old.unshown → o.bytes ≡ i.rows ++ new.unshown
+  same_unshown e = i.rowed ∙ ap (λ (x : List ℕ). i.rows ++ x) (sym e)
+
   -- to a line that is begun
   part_grows : (p : Part) → old.is_begun ≡ true → is_part p ≡ true → IsPushed (part_text p) old new
       → IsGoing (with_numbers o (part_numbers p)) new
@@ -170,6 +211,7 @@ module _ (o : Origin) (old new : Writing) (i : IsGoing o old) where
     written = i.written ++ h.puts.moved;
     text = i.text;
     lined = i.lined;
+    rows = i.rows;
     line = i.line ++ p ∷ [];
     outlined = i.outlined;
     one_line = list_all-append is_part i.line (p ∷ []) ∙ rw (i.one_line, one) refl;
@@ -180,6 +222,7 @@ module _ (o : Origin) (old new : Writing) (i : IsGoing o old) where
     numbered = rw (h.begun, b) (ap (λ (x : List Number). x ++ part_numbers p) (i.numbered ∙ rw b refl)
         ∙ (append_assoc i.lined (flat_map part_numbers i.line) (part_numbers p)
         ∙ ap (λ (x : List Number). i.lined ++ x) (sym (more_parts part_numbers i.line p))));
+    rowed = same_unshown h.unshown;
     took = Appends-trans o.taken old.taken new.taken i.written h.puts.moved i.took h.puts.writes;
     failed = h.failed ∙ i.failed;
   }
@@ -190,12 +233,14 @@ module _ (o : Origin) (old new : Writing) (i : IsGoing o old) where
     written = i.written ++ p.puts.moved;
     text = i.text;
     lined = i.lined;
+    rows = i.rows;
     line = [];
     outlined = i.outlined;
     one_line = refl;
     parts = grown i.written old.waiting (codes "  ") p.puts.moved new.waiting p.puts.waits
         ∙ ap (λ (x : List ℕ). x ++ codes "  ") (i.parts ∙ rw b (append-nil i.text));
     numbered = i.numbered ∙ rw b refl;
+    rowed = same_unshown p.unshown;
     took = Appends-trans o.taken old.taken new.taken i.written p.puts.moved i.took p.puts.writes;
     failed = p.failed ∙ i.failed;
   }
@@ -206,14 +251,16 @@ module _ (o : Origin) (old new : Writing) (i : IsGoing o old) where
     written = i.written ++ p.puts.moved;
     text = i.text ++ (codes "  " ++ (flat_map part_text i.line ++ codes "\n"));
     lined = i.lined ++ flat_map part_numbers i.line;
+    rows = i.rows;
     line = [];
-    outlined = under_more i.text o.outline i.lined i.line i.one_line i.outlined;
+    outlined = under_more i.text o.outline i.lined i.rows i.line i.one_line i.outlined;
     one_line = refl;
     parts = grown i.written old.waiting (codes "\n") p.puts.moved new.waiting p.puts.waits
         ∙ (ap (λ (x : List ℕ). x ++ codes "\n") (i.parts ∙ rw b refl)
         ∙ (append_assoc i.text (codes "  " ++ flat_map part_text i.line) (codes "\n")
         ∙ sym (append-nil (i.text ++ (codes "  " ++ (flat_map part_text i.line ++ codes "\n"))))));
     numbered = i.numbered ∙ (rw b refl ∙ sym (append-nil (i.lined ++ flat_map part_numbers i.line)));
+    rowed = same_unshown p.unshown;
     took = Appends-trans o.taken old.taken new.taken i.written p.puts.moved i.took p.puts.writes;
     failed = p.failed ∙ i.failed;
   }
@@ -225,13 +272,15 @@ module _ (o : Origin) (old new : Writing) (i : IsGoing o old) where
     written = i.written ++ p.puts.moved;
     text = i.text ++ line;
     lined = i.lined ++ numbers;
+    rows = i.rows;
     line = [];
-    outlined = first_more i.text o.outline i.lined line outline numbers e i.outlined;
+    outlined = first_more i.text o.outline i.lined i.rows line outline numbers e i.outlined;
     one_line = refl;
     parts = grown i.written old.waiting line p.puts.moved new.waiting p.puts.waits
         ∙ rw (p.begun, b) (ap (λ (x : List ℕ). x ++ line) (i.parts ∙ rw b (append-nil i.text)) ∙ sym (append-nil (i.text ++ line)));
     numbered = rw (p.begun, b) (ap (λ (x : List Number). x ++ numbers) (i.numbered ∙ rw b (append-nil i.lined))
         ∙ sym (append-nil (i.lined ++ numbers)));
+    rowed = same_unshown p.unshown;
     took = Appends-trans o.taken old.taken new.taken i.written p.puts.moved i.took p.puts.writes;
     failed = p.failed ∙ i.failed;
   }
@@ -242,25 +291,56 @@ module _ (o : Origin) (old new : Writing) (i : IsGoing o old) where
     written = i.written ++ p.puts.moved;
     text = i.text;
     lined = i.lined;
+    rows = i.rows;
     line = i.line;
     outlined = i.outlined;
     one_line = i.one_line;
     parts = grown i.written old.waiting [] p.puts.moved new.waiting p.puts.waits
         ∙ (append-nil (i.written ++ old.waiting) ∙ rw p.begun i.parts);
     numbered = rw p.begun i.numbered;
+    rowed = same_unshown p.unshown;
     took = Appends-trans o.taken old.taken new.taken i.written p.puts.moved i.took p.puts.writes;
     failed = p.failed ∙ i.failed;
   }
 
-  -- the text that was cut, with what completes the line that was begun
-  completed : (b : Bool) → old.is_begun ≡ b → IsOutlined ((i.written ++ old.waiting) ++ (if b then codes "\n" else [])) o.outline o.numbers
-  completed true b = subst₂ (λ (x : List ℕ) (y : List Number). IsOutlined x o.outline y)
+  -- a row of bytes
+  row_grows : (offset : ℕ) (bytes left : List ℕ) → old.is_begun ≡ false → IsPushed (row_text offset bytes) old new
+      → old.unshown ≡ bytes ++ left → IsGoing o (record new { unshown = left })
+  row_grows offset bytes left b p e = record {
+    written = i.written ++ p.puts.moved;
+    text = i.text ++ row_text offset bytes;
+    lined = i.lined;
+    rows = i.rows ++ bytes;
+    line = [];
+    outlined = row_more i.text o.outline i.lined i.rows offset bytes i.outlined;
+    one_line = refl;
+    parts = grown i.written old.waiting (row_text offset bytes) p.puts.moved new.waiting p.puts.waits
+        ∙ rw (p.begun, b) (ap (λ (x : List ℕ). x ++ row_text offset bytes) (i.parts ∙ rw b (append-nil i.text))
+        ∙ sym (append-nil (i.text ++ row_text offset bytes)));
+    numbered = rw (p.begun, b) (i.numbered ∙ rw b refl);
+    rowed = i.rowed ∙ (ap (λ (x : List ℕ). i.rows ++ x) e ∙ sym (append_assoc i.rows bytes left));
+    took = Appends-trans o.taken old.taken new.taken i.written p.puts.moved i.took p.puts.writes;
+    failed = p.failed ∙ i.failed;
+  }
+
+  -- the text that was cut, with what completes the line that was begun, and the bytes that weren't shown
+  abbrev after_cut : Bool → List ℕ
+  after_cut b = (if b then codes "\n" else []) ++ row_text 0 old.unshown
+
+  rest_of_line : (b : Bool) → old.is_begun ≡ b → IsOutlined ((i.written ++ old.waiting) ++ (if b then codes "\n" else [])) o.outline o.numbers
+      i.rows
+  rest_of_line true b = subst₂ (λ (x : List ℕ) (y : List Number). IsOutlined x o.outline y i.rows)
       (sym (ap (λ (x : List ℕ). x ++ codes "\n") (i.parts ∙ rw b refl)
       ∙ append_assoc i.text (codes "  " ++ flat_map part_text i.line) (codes "\n")))
-      (sym (i.numbered ∙ rw b refl)) (under_more i.text o.outline i.lined i.line i.one_line i.outlined)
-  completed false b = subst₂ (λ (x : List ℕ) (y : List Number). IsOutlined x o.outline y)
+      (sym (i.numbered ∙ rw b refl)) (under_more i.text o.outline i.lined i.rows i.line i.one_line i.outlined)
+  rest_of_line false b = subst₂ (λ (x : List ℕ) (y : List Number). IsOutlined x o.outline y i.rows)
       (sym (append-nil (i.written ++ old.waiting) ∙ (i.parts ∙ rw b (append-nil i.text))))
       (sym (i.numbered ∙ rw b (append-nil i.lined))) i.outlined
+
+  completed : (b : Bool) → old.is_begun ≡ b → IsOutlined ((i.written ++ old.waiting) ++ after_cut b) o.outline o.numbers o.bytes
+  completed b e = subst₂ (λ (x bytes : List ℕ). IsOutlined x o.outline o.numbers bytes)
+      (append_assoc (i.written ++ old.waiting) (if b then codes "\n" else []) (row_text 0 old.unshown)) (sym i.rowed)
+      (row_more ((i.written ++ old.waiting) ++ (if b then codes "\n" else [])) o.outline o.numbers i.rows 0 old.unshown (rest_of_line b e))
 
 -- of all that was written or waited, a beginning is written
 cut_at : (written waiting moved unwritten more : List ℕ) → waiting ≡ moved ++ unwritten → (written ++ moved) ++ (unwritten ++ more)
@@ -273,12 +353,12 @@ module _ (o : Origin) (old new : Writing) (why : ListError) (s : IsStuck why old
   stuck_in : (style : Style) → o.style ≡ style → IsGoingIn style o old → IsCutShort o why new
   stuck_in Lines e i =
       let w = beginning old.taken new.taken old.waiting why s.cut in
-      let more = if old.is_begun then codes "\n" else [] in
+      let more = after_cut o old new i old.is_begun in
       record {
         written = i.written ++ w.moved;
         unwritten = w.unwritten ++ more;
-        shaped = shaped_lines o.style ((i.written ++ w.moved) ++ (w.unwritten ++ more)) o.outline o.numbers e
-            (subst (λ (x : List ℕ). IsOutlined x o.outline o.numbers)
+        shaped = shaped_lines o.style ((i.written ++ w.moved) ++ (w.unwritten ++ more)) o.outline o.numbers o.bytes e
+            (subst (λ (x : List ℕ). IsOutlined x o.outline o.numbers o.bytes)
             (sym (cut_at i.written old.waiting w.moved w.unwritten more w.parts)) (completed o old new i old.is_begun refl));
         took = Appends-trans o.taken old.taken new.taken i.written w.moved i.took w.wrote;
         failed = s.failed ∙ ap (λ (b : Bool). output_failed {A = Unit {0}} (Err why) b) i.failed;
@@ -292,7 +372,7 @@ module _ (o : Origin) (old new : Writing) (why : ListError) (s : IsStuck why old
       record {
         written = i.written ++ w.moved;
         unwritten = w.unwritten ++ more;
-        shaped = subst (λ (x : Style). IsShaped x ((i.written ++ w.moved) ++ (w.unwritten ++ more)) o.outline o.numbers) (sym e)
+        shaped = subst (λ (x : Style). IsShaped x ((i.written ++ w.moved) ++ (w.unwritten ++ more)) o.outline o.numbers o.bytes) (sym e)
             (subst AreObjects (sym (cut_at i.written old.waiting w.moved w.unwritten more w.parts)) objects);
         took = Appends-trans o.taken old.taken new.taken i.written w.moved i.took w.wrote;
         failed = s.failed ∙ ap (λ (b : Bool). output_failed {A = Unit {0}} (Err why) b) i.failed;
@@ -314,6 +394,7 @@ stops o w e i = (
     failed = refl;
     style = refl;
     spot = refl;
+    unshown = refl;
   }) (as_going o w e i),
 )
 
@@ -321,20 +402,28 @@ pub none_there : (why : Option ListError) → is_some why ≡ false → why ≡ 
 none_there None e = refl
 none_there (Some why) e = let no : true ≡ false = e in cc
 
--- the style stays
-style_by : (before after : Option ListError) (bytes : List ℕ) (old new : Writing) → PutsAs before after bytes old new
-    → new.style ≡ old.style
-style_by (Some why) after bytes old new p = ap (λ (w : Writing). w.style) p
-style_by None None bytes old new p = p.style
-style_by None (Some why) bytes old new p = p.style
+-- nothing else changes
+pub record AreSame (old new : Writing) : Type 0 where
+  pub begun : new.is_begun ≡ old.is_begun
+  pub style : new.style ≡ old.style
+  pub unshown : new.unshown ≡ old.unshown
 
-pub same_style : (bytes : List ℕ) (old new : Writing) → Puts bytes old new → new.style ≡ old.style
-same_style bytes old new p = style_by old.why new.why bytes old new p
+same_by : (before after : Option ListError) (bytes : List ℕ) (old new : Writing) → PutsAs before after bytes old new → AreSame old new
+same_by (Some why) after bytes old new p = record {
+  begun = ap (λ (w : Writing). w.is_begun) p;
+  style = ap (λ (w : Writing). w.style) p;
+  unshown = ap (λ (w : Writing). w.unshown) p;
+}
+same_by None None bytes old new p = record { begun = p.begun; style = p.style; unshown = p.unshown }
+same_by None (Some why) bytes old new p = record { begun = p.begun; style = p.style; unshown = p.unshown }
 
-module _ (o : Origin) (old new : Writing) (b : Bool) (spot : Spot) where
-  -- a writer that is then in a line or not, or at another spot
+pub are_same : (bytes : List ℕ) (old new : Writing) → Puts bytes old new → AreSame old new
+are_same bytes old new p = same_by old.why new.why bytes old new p
+
+module _ (o : Origin) (old new : Writing) (b : Bool) (spot : Spot) (unshown : List ℕ) where
+  -- a writer that is then in a line or not, or at another spot, or has other bytes to show
   abbrev moved_on : Writing → Writing
-  moved_on w = record w { is_begun = b; spot = spot }
+  moved_on w = record w { is_begun = b; spot = spot; unshown = unshown }
 
   -- by whether the writer had stopped, and has: what goes on, and what was cut, with this outline
   by_why : (to : Origin) (bytes : List ℕ) (before after : Option ListError) → old.why ≡ before → new.why ≡ after
@@ -344,24 +433,24 @@ module _ (o : Origin) (old new : Writing) (b : Bool) (spot : Spot) where
       → IsWrittenAs new.why to (moved_on new)
   by_why to bytes (Some why) after e a p i going short = subst (λ (w : Writing). IsWrittenAs w.why to (moved_on w)) (sym p)
       (subst (λ (y : Option ListError). IsWrittenAs y to (moved_on old)) (sym e)
-      (short_still to old why b spot (short why old (as_short o old why e i))))
+      (short_still to old why b spot unshown (short why old (as_short o old why e i))))
   by_why to bytes None None e a p i going short = subst (λ (y : Option ListError). IsWrittenAs y to (moved_on new)) (sym a)
       (going (as_going o old e i) p)
   by_why to bytes None (Some why) e a p i going short = subst (λ (y : Option ListError). IsWrittenAs y to (moved_on new)) (sym a)
-      (short_still to new why b spot (short why new (is_stuck o old new why p (as_going o old e i))))
+      (short_still to new why b spot unshown (short why new (is_stuck o old new why p (as_going o old e i))))
 
   changes : (to : Origin) (bytes : List ℕ) → to.style ≡ o.style → Puts bytes old new → IsWritten o old
       → (IsGoingIn o.style o old → IsPushed bytes old new → IsGoingIn to.style to (moved_on new))
       → ((why : ListError) (w : Writing) → IsCutShort o why w → IsCutShort to why w) → IsWritten to (moved_on new)
   changes to bytes same p i going short =
-      (same_style bytes old new p ∙ (i.0 ∙ sym same), by_why to bytes old.why new.why refl refl p i going short)
+      ((are_same bytes old new p).style ∙ (i.0 ∙ sym same), by_why to bytes old.why new.why refl refl p i going short)
 
 module _ (o : Origin) (old new : Writing) (lines : old.style ≡ Lines) where
   puts_of : (p : Part) → old.is_begun ≡ true → is_part p ≡ true → Puts (part_text p) old new → IsWritten o old
       → IsWritten (with_numbers o (part_numbers p)) new
   puts_of p b one h i =
       let e : o.style ≡ Lines = sym i.0 ∙ lines in
-      changes o old new new.is_begun new.spot (with_numbers o (part_numbers p)) (part_text p) refl h i
+      changes o old new new.is_begun new.spot new.unshown (with_numbers o (part_numbers p)) (part_text p) refl h i
       (λ g s. from_lines o (with_numbers o (part_numbers p)) new refl e (part_grows o old new (in_lines o old e g) p b one s))
       (λ why w c. part_short o w why p one e c)
 
@@ -378,7 +467,7 @@ module _ (o : Origin) (old new : Writing) (lines : old.style ≡ Lines) where
       → Puts line old new → IsWritten o old → IsWritten (with_numbers (with_line o outline) numbers) new
   puts_first line outline numbers e b p i =
       let s : o.style ≡ Lines = sym i.0 ∙ lines in
-      changes o old new new.is_begun new.spot (with_numbers (with_line o outline) numbers) line refl p i
+      changes o old new new.is_begun new.spot new.unshown (with_numbers (with_line o outline) numbers) line refl p i
       (λ g h. from_lines o (with_numbers (with_line o outline) numbers) new refl s
       (first_grows o old new (in_lines o old s g) line outline numbers e b h))
       (λ why w c. first_short o w why line outline numbers e s c)
@@ -387,14 +476,60 @@ module _ (o : Origin) (old new : Writing) (lines : old.style ≡ Lines) where
   pub begins : old.is_begun ≡ false → Puts (codes "  ") old new → IsWritten o old → IsWritten o (record new { is_begun = true })
   begins b p i =
       let e : o.style ≡ Lines = sym i.0 ∙ lines in
-      changes o old new true new.spot o (codes "  ") refl p i
+      changes o old new true new.spot new.unshown o (codes "  ") refl p i
       (λ g h. from_lines o o (record new { is_begun = true }) refl e (part_begins o old new (in_lines o old e g) b h)) (λ why w c. c)
 
   pub ends : old.is_begun ≡ true → Puts (codes "\n") old new → IsWritten o old → IsWritten o (record new { is_begun = false })
   ends b p i =
       let e : o.style ≡ Lines = sym i.0 ∙ lines in
-      changes o old new false new.spot o (codes "\n") refl p i
+      changes o old new false new.spot new.unshown o (codes "\n") refl p i
       (λ g h. from_lines o o (record new { is_begun = false }) refl e (part_ends o old new (in_lines o old e g) b h)) (λ why w c. c)
+
+  -- a row of bytes that were to be shown
+  pub puts_row : (offset : ℕ) (bytes left : List ℕ) → old.is_begun ≡ false → Puts (row_text offset bytes) old new
+      → old.unshown ≡ bytes ++ left → IsWritten o old → IsWritten o (record new { unshown = left })
+  puts_row offset bytes left b p u i =
+      let e : o.style ≡ Lines = sym i.0 ∙ lines in
+      changes o old new new.is_begun new.spot left o (row_text offset bytes) refl p i
+      (λ g h. from_lines o o (record new { unshown = left }) refl e (row_grows o old new (in_lines o old e g) offset bytes left b h u))
+      (λ why w c. c)
+
+-- bytes are to be shown, where all that were to be were
+bytes_to_show : (o : Origin) (w : Writing) (bytes : List ℕ) → w.unshown ≡ [] → IsGoing o w
+    → IsGoing (with_bytes o bytes) (record w { unshown = bytes })
+bytes_to_show o w bytes e i = record {
+  written = i.written;
+  text = i.text;
+  lined = i.lined;
+  rows = i.rows;
+  line = i.line;
+  outlined = i.outlined;
+  one_line = i.one_line;
+  parts = i.parts;
+  numbered = i.numbered;
+  rowed = ap (λ (x : List ℕ). x ++ bytes) (i.rowed ∙ (ap (λ (x : List ℕ). i.rows ++ x) e ∙ append-nil i.rows));
+  took = i.took;
+  failed = i.failed;
+}
+
+module _ (o : Origin) (w : Writing) (bytes : List ℕ) (lines : w.style ≡ Lines) where
+  -- by a writer that goes on
+  pub to_show : w.why ≡ None → w.unshown ≡ [] → IsWritten o w → IsWritten (with_bytes o bytes) (record w { unshown = bytes })
+  to_show going none i =
+      let e : o.style ≡ Lines = sym i.0 ∙ lines in (
+        i.0,
+        subst (λ (y : Option ListError). IsWrittenAs y (with_bytes o bytes) (record w { unshown = bytes })) (sym going)
+            (from_lines o (with_bytes o bytes) (record w { unshown = bytes }) refl e
+            (bytes_to_show o w bytes none (in_lines o w e (as_going o w going i)))),
+      )
+
+  short_by : (why : Option ListError) → is_some why ≡ true → o.style ≡ Lines → IsWrittenAs why o w → IsWrittenAs why (with_bytes o bytes) w
+  short_by None s e i = cc
+  short_by (Some why) s e i = bytes_short o w why bytes e i
+
+  -- by one that has stopped
+  pub never_shown : is_some w.why ≡ true → IsWritten o w → IsWritten (with_bytes o bytes) w
+  never_shown s i = (i.0, short_by w.why s (sym i.0 ∙ lines) i.1)
 
 -- in an object, bytes that lead to another spot
 object_grows : (o : Origin) (old new : Writing) (bytes : List ℕ) (spot : Spot) → IsGoingInObjects o old → Leads old.spot bytes spot
@@ -414,7 +549,7 @@ module _ (o : Origin) (old new : Writing) where
       → IsWritten o old → IsWritten o (record new { spot = spot })
   puts_in_object bytes spot objects leads p i =
       let e : o.style ≡ Objects = sym i.0 ∙ objects in
-      changes o old new new.is_begun spot o bytes refl p i
+      changes o old new new.is_begun spot new.unshown o bytes refl p i
       (λ g h. from_objects o (record new { spot = spot }) e (object_grows o old new bytes spot (in_objects o old e g) leads h))
       (λ why w c. c)
 
@@ -430,13 +565,13 @@ module _ (o : Origin) (old new : Writing) where
   }
 
   pub puts_all : Puts [] old new → IsWritten o old → IsWritten o new
-  puts_all p i = changes o old new new.is_begun new.spot o [] refl p i (λ g h. all_in o.style refl g h) (λ why w c. c)
+  puts_all p i = changes o old new new.is_begun new.spot new.unshown o [] refl p i (λ g h. all_in o.style refl g h) (λ why w c. c)
 
 -- ---- in the style of objects nothing is said of lines
 
-module _ (o : Origin) (w : Writing) (outline : List ℕ) (numbers : List Number) where
+module _ (o : Origin) (w : Writing) (outline : List ℕ) (numbers : List Number) (bytes : List ℕ) where
   abbrev with_others : Origin
-  with_others = record o { outline = outline; numbers = numbers }
+  with_others = record o { outline = outline; numbers = numbers; bytes = bytes }
 
   other_by : (why : Option ListError) → o.style ≡ Objects → IsWrittenAs why o w → IsWrittenAs why with_others w
   other_by None e i =
@@ -445,7 +580,7 @@ module _ (o : Origin) (w : Writing) (outline : List ℕ) (numbers : List Number)
   other_by (Some why) e c = record {
     written = c.written;
     unwritten = c.unwritten;
-    shaped = shaped_objects o.style (c.written ++ c.unwritten) o.outline outline o.numbers numbers e c.shaped;
+    shaped = shaped_objects o.style (c.written ++ c.unwritten) o.outline outline o.numbers numbers o.bytes bytes e c.shaped;
     took = c.took;
     failed = c.failed;
     no_input = c.no_input;
@@ -457,10 +592,13 @@ module _ (o : Origin) (w : Writing) (outline : List ℕ) (numbers : List Number)
 module _ (old new : Writing) (objects : old.style ≡ Objects) (a : Adds old new) where
   pub first_in_objects : (line : List ℕ) → AddsFirst line old new
   first_in_objects line outline numbers e o i =
-      other_lines o new (o.outline ++ outline) (o.numbers ++ numbers) (sym i.0 ∙ objects) (a o i)
+      other_lines o new (o.outline ++ outline) (o.numbers ++ numbers) o.bytes (sym i.0 ∙ objects) (a o i)
+
+  pub bytes_in_objects : (bytes : List ℕ) → AddsBytes bytes old new
+  bytes_in_objects bytes o i = other_lines o new o.outline o.numbers (o.bytes ++ bytes) (sym i.0 ∙ objects) (a o i)
 
   pub numbers_in_objects : (numbers : List Number) → AddsThese numbers old new
-  numbers_in_objects numbers o i = other_lines o new o.outline (o.numbers ++ numbers) (sym i.0 ∙ objects) (a o i)
+  numbers_in_objects numbers o i = other_lines o new o.outline (o.numbers ++ numbers) o.bytes (sym i.0 ∙ objects) (a o i)
 
 pub are_objects : (style : Style) → is_objects style ≡ true → style ≡ Objects
 are_objects Lines e = cc

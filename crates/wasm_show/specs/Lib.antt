@@ -4,6 +4,7 @@ pub mod Fields
 pub mod ItemText
 pub mod Json
 pub mod Numbers
+pub mod Rows
 pub mod Said
 pub mod SymbolText
 pub mod Tree

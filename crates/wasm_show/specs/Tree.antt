@@ -1,6 +1,6 @@
 -- Lines of text, some of them under others, and what a writer has written of them.
 use Rattle.std.specs.Prelude.{◌≡◌, ◌≢◌, ℕ, Bool, true, false, List, [], ◌∷◌, ◌++◌, codes, Option, Some, None}
-use Rattle.std.specs.Prelude.{Err, nat_eq, if◌then◌else◌}
+use Rattle.std.specs.Prelude.{Err, nat_eq, decimal, if◌then◌else◌}
 use Rattle.std.specs.List.{flat_map, list_all, list_any}
 use Rattle.std.specs.Io.KnownBytes.{Appends}
 use Rattle.wasm_base.specs.Item.{ReadsAs}
@@ -11,6 +11,7 @@ use Rattle.wasm_feed.specs.Lists.{output_failed}
 use Rattle.wasm_feed.specs.Page.{IsCut, PutsBytes}
 use Rattle.wasm_feed.specs.declared.devices.ListError.{ListError}
 use Rattle.wasm_show.specs.Chosen.{blank_numbers}
+use Rattle.wasm_show.specs.Fields.{hexadecimal}
 use Rattle.wasm_show.specs.Numbers.{Number, number_text, numbers_from, numbers_read, AreShown, AreFrom, AreUpTo}
 use Rattle.wasm_show.specs.declared.numbers.Space.{Space}
 use Rattle.wasm_feed.specs.declared.devices.ListError.TheVariants.{Input}
@@ -25,11 +26,13 @@ pub data Part : Type 0 where
   words : List ℕ → Part
   number : Number → Part
 
--- a line of the first level, without its line feed, and the numbers of items that come after it; or one that is under
--- another, by its parts, without its first two blanks and its line feed
+-- a line of the first level, without its line feed, and the numbers of items that come after it; one that is under
+-- another, by its parts, without its first two blanks and its line feed; or a row of bytes of the stream, after the
+-- offset of the first one
 pub data Line : Type 0 where
   first : List ℕ → List Number → Line
   under : List Part → Line
+  row : (offset : ℕ) → (bytes : List ℕ) → Line
 
 abbrev pub has_line_feed : List ℕ → Bool
 has_line_feed text = list_any (λ b. nat_eq b 10) text
@@ -43,19 +46,29 @@ is_part (number n) = true
 abbrev pub is_line : Line → Bool
 is_line (first text numbers) = true
 is_line (under parts) = list_all is_part parts
+is_line (row offset bytes) = true
 
 abbrev pub part_text : Part → List ℕ
 part_text (words text) = text
 part_text (number n) = number_text n []
 
+abbrev pub after_blank : ℕ → List ℕ
+after_blank byte = codes " " ++ hexadecimal byte
+
+-- the text of a row
+abbrev pub row_text : (offset : ℕ) (bytes : List ℕ) → List ℕ
+row_text offset bytes = (decimal offset ++ codes " |") ++ (flat_map after_blank bytes ++ codes "\n")
+
 abbrev pub text_of : Line → List ℕ
 text_of (first text numbers) = text ++ blank_numbers numbers (codes "\n")
 text_of (under parts) = codes "  " ++ (flat_map part_text parts ++ codes "\n")
+text_of (row offset bytes) = row_text offset bytes
 
 -- what it adds to the outline
 abbrev pub first_of : Line → List ℕ
 first_of (first text numbers) = text ++ codes "\n"
 first_of (under parts) = []
+first_of (row offset bytes) = []
 
 -- the numbers that it shows
 abbrev pub part_numbers : Part → List Number
@@ -65,6 +78,13 @@ part_numbers (number n) = n ∷ []
 abbrev pub numbers_of : Line → List Number
 numbers_of (first text numbers) = numbers
 numbers_of (under parts) = flat_map part_numbers parts
+numbers_of (row offset bytes) = []
+
+-- the bytes of the stream that it shows
+abbrev pub bytes_of : Line → List ℕ
+bytes_of (first text numbers) = []
+bytes_of (under parts) = []
+bytes_of (row offset bytes) = bytes
 
 -- The text is one line of the first level with these numbers after it, which adds this to the outline.
 pub record IsFirst (text outline : List ℕ) (numbers : List Number) : Type 0 where
@@ -73,22 +93,24 @@ pub record IsFirst (text outline : List ℕ) (numbers : List Number) : Type 0 wh
   pub outlines : outline ≡ front ++ codes "\n"
 
 -- The text is made of lines, and its outline is those of the first level, without numbers: the others begin with two
--- blanks. The numbers are those that its lines show, in order.
-pub record IsOutlined (text outline : List ℕ) (numbers : List Number) : Type 0 where
+-- blanks, but for rows of bytes. The numbers are those that its lines show, in order, and the bytes those of its rows.
+pub record IsOutlined (text outline : List ℕ) (numbers : List Number) (bytes : List ℕ) : Type 0 where
   pub lines : List Line
   pub whole : list_all is_line lines ≡ true
   pub parts : text ≡ flat_map text_of lines
   pub outlines : outline ≡ flat_map first_of lines
   pub numbered : numbers ≡ flat_map numbers_of lines
+  pub rowed : bytes ≡ flat_map bytes_of lines
 
--- A text is what it is to be: lines with this outline that show these numbers; or lines of JSON, each one object.
-abbrev pub IsShaped : Style → (text outline : List ℕ) → List Number → Type 0
-IsShaped Lines text outline numbers = IsOutlined text outline numbers
-IsShaped Objects text outline numbers = AreObjects text
+-- A text is what it is to be: lines with this outline that show these numbers and bytes; or lines of JSON, each one
+-- object.
+abbrev pub IsShaped : Style → (text outline : List ℕ) → List Number → (bytes : List ℕ) → Type 0
+IsShaped Lines text outline numbers bytes = IsOutlined text outline numbers bytes
+IsShaped Objects text outline numbers bytes = AreObjects text
 
 -- what a writer is: the bytes that its sink has taken, where these are known, those that wait, whether a line was begun
 -- and not ended, whether the sink has failed, and why the writer has stopped, if it has; in which style it writes, and
--- in that of objects at which spot of one it is
+-- in that of objects at which spot of one it is; and the bytes of the stream that are to be shown and weren't yet
 pub record Writing : Type 0 where
   pub taken : Option (List ℕ)
   pub waiting : List ℕ
@@ -97,6 +119,7 @@ pub record Writing : Type 0 where
   pub why : Option ListError
   pub style : Style
   pub spot : Spot
+  pub unshown : List ℕ
 
 abbrev pub is_objects : Style → Bool
 is_objects Lines = false
@@ -112,19 +135,22 @@ starts_in style taken failed = record {
   why = None;
   style = style;
   spot = Outside;
+  unshown = [];
 }
 
 -- one that writes lines
 abbrev pub starts : (taken : Option (List ℕ)) (failed : Bool) → Writing
 starts taken failed = starts_in Lines taken failed
 
--- what there was at first, in which style is written, and the outline and the numbers since
+-- what there was at first, in which style is written, and the outline and the numbers since, and the bytes that are to
+-- be shown
 pub record Origin : Type 0 where
   pub taken : Option (List ℕ)
   pub has_failed : Bool
   pub style : Style
   pub outline : List ℕ
   pub numbers : List Number
+  pub bytes : List ℕ
 
 -- a line under another that was begun, and its numbers
 abbrev pub begun : Bool → List Part → List ℕ
@@ -136,16 +162,18 @@ begun_numbers true parts = flat_map part_numbers parts
 begun_numbers false parts = []
 
 -- All that was written or waits is whole lines with this outline, and perhaps a line that was begun, and shows these
--- numbers.
+-- numbers, and these bytes but those that weren't shown yet.
 pub record IsGoing (o : Origin) (w : Writing) : Type 0 where
   pub written : List ℕ
   pub text : List ℕ
   pub lined : List Number
+  pub rows : List ℕ
   pub line : List Part
-  pub outlined : IsOutlined text o.outline lined
+  pub outlined : IsOutlined text o.outline lined rows
   pub one_line : list_all is_part line ≡ true
   pub parts : written ++ w.waiting ≡ text ++ begun w.is_begun line
   pub numbered : o.numbers ≡ lined ++ begun_numbers w.is_begun line
+  pub rowed : o.bytes ≡ rows ++ w.unshown
   pub took : Appends o.taken w.taken written
   pub failed : w.has_failed ≡ o.has_failed
 
@@ -164,7 +192,7 @@ IsGoingIn Objects o w = IsGoingInObjects o w
 pub record IsCutShort (o : Origin) (why : ListError) (w : Writing) : Type 0 where
   pub written : List ℕ
   pub unwritten : List ℕ
-  pub shaped : IsShaped o.style (written ++ unwritten) o.outline o.numbers
+  pub shaped : IsShaped o.style (written ++ unwritten) o.outline o.numbers o.bytes
   pub took : Appends o.taken w.taken written
   pub failed : w.has_failed ≡ output_failed {A = Unit {0}} (Err why) o.has_failed
   pub no_input : why ≢ Input
@@ -188,6 +216,14 @@ with_line o line = record o { outline = o.outline ++ line }
 -- with these numbers more
 abbrev pub with_numbers : Origin → List Number → Origin
 with_numbers o numbers = record o { numbers = o.numbers ++ numbers }
+
+-- with these bytes more
+abbrev pub with_bytes : Origin → List ℕ → Origin
+with_bytes o bytes = record o { bytes = o.bytes ++ bytes }
+
+-- These bytes are to be shown before what comes next, and all before them were.
+abbrev pub AddsBytes : List ℕ → (old new : Writing) → Type 0
+AddsBytes bytes old new = (o : Origin) → IsWritten o old → IsWritten (with_bytes o bytes) new
 
 -- This line of the first level was written, which may end with numbers.
 abbrev pub AddsFirst : (line : List ℕ) (old new : Writing) → Type 0
@@ -236,6 +272,7 @@ pub record IsPushed (bytes : List ℕ) (old new : Writing) : Type 0 where
   pub why : new.why ≡ old.why
   pub style : new.style ≡ old.style
   pub spot : new.spot ≡ old.spot
+  pub unshown : new.unshown ≡ old.unshown
 
 -- A beginning of those that waited was written, and no more could be.
 pub record IsStuck (why : ListError) (old new : Writing) : Type 0 where
@@ -244,6 +281,7 @@ pub record IsStuck (why : ListError) (old new : Writing) : Type 0 where
   pub failed : new.has_failed ≡ output_failed {A = Unit {0}} (Err why) old.has_failed
   pub style : new.style ≡ old.style
   pub spot : new.spot ≡ old.spot
+  pub unshown : new.unshown ≡ old.unshown
 
 -- what becomes of bytes that are put by a writer, which stops where it is stuck
 abbrev pub PutsAs : (before after : Option ListError) (bytes : List ℕ) (old new : Writing) → Type 0
@@ -254,8 +292,9 @@ PutsAs None (Some why) bytes old new = IsStuck why old new
 abbrev pub Puts : (bytes : List ℕ) (old new : Writing) → Type 0
 Puts bytes old new = PutsAs old.why new.why bytes old new
 
--- nothing waits, and no line or object is begun, unless the writer has stopped
+-- nothing waits, no line or object is begun, and all bytes were shown, unless the writer has stopped
 pub record IsOut (w : Writing) : Type 0 where
   pub none_waits : w.why ≡ None → w.waiting ≡ []
   pub none_begun : w.why ≡ None → w.style ≡ Lines → w.is_begun ≡ false
   pub outside : w.why ≡ None → w.style ≡ Objects → w.spot ≡ Outside
+  pub all_shown : w.why ≡ None → w.style ≡ Lines → w.unshown ≡ []

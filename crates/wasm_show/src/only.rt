@@ -18,6 +18,15 @@ pub enum Only<'n> {
     Name(&'n str),
 }
 
+/// What a dump shows.
+#[derive(Clone, Copy)]
+pub struct Shown<'n> {
+    /// The events that any of these chooses, and the last one.
+    pub only: &'n [Only<'n>],
+    /// Whether the bytes of these are shown too.
+    pub has_bytes: bool,
+}
+
 // The id of the section that a payload is, or is a part of.
 fn id_of(payload: &Payload<'_>) -> Option<u8>
     ensures { result ≡ id_reported (report_of payload.now) }

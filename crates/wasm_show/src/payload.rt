@@ -37,3 +37,10 @@ pub fn show_payload<W: Sink>(
         _ => {}
     }
 }
+
+/// The offsets at which items begin that are shown under a payload, in the order of their lines, as far as there is memory for them.
+pub(crate) fn offsets_of_items(alloc: Global, counts: &Counts, payload: &Payload<'_>) -> Vec<u64> {
+    let mut tree = Tree::noting(alloc);
+    show_payload(alloc, counts, payload, &mut tree);
+    tree.into_noted(alloc)
+}

@@ -1,33 +1,60 @@
 // The dump of a stream.
-ghost use Rattle.std.specs.Prelude.{◌≡◌, ◌≤◌, ◌<◌, length, Some, None, OnOk, IfErr};
+ghost use Rattle.std.specs.Prelude.{◌≡◌, ◌≤◌, ◌<◌, [], length, Some, None, OnOk, IfErr, if◌then◌else◌};
 ghost use Rattle.wasm_parser.specs.ParseAnswer.{AnswerBegins, ItemsBegin, report_of};
 ghost use Rattle.wasm_feed.specs.Calls.{device_of};
 ghost use Rattle.wasm_feed.specs.Step.{answer_of};
 ghost use Rattle.wasm_feed.specs.Turns.{turn_after};
 ghost use Rattle.wasm_show.specs.Dump.{DumpsByTree, DumpsInto, ShowsAnswer, ShowsReport, ShowsStep, after_answer};
+ghost use Rattle.wasm_show.specs.Tree.{AddsBytes};
 
 use crate::events::{show_event, show_last_fault};
 use crate::numbers::Counts;
-use crate::only::{Only, chooses};
-use crate::payload::show_payload;
+use crate::only::{Shown, chooses};
+use crate::payload::{offsets_of_items, show_payload};
 use crate::tree::Tree;
 use std::alloc::Global;
 use wasm_feed::{Ended, Feeder, Line, ListError, Sink, Source, Step, Turn};
 use wasm_parser::{Parser, Payload, Result as ParserResult};
 
-// Writes the line of a payload and what it holds, if it is shown.
-fn show_chosen<W: Sink>(
+// Bytes of the stream that were read together, and the offset in it at which they begin.
+#[derive(Clone, Copy)]
+struct Part<'b> {
+    offset: u64,
+    bytes: &'b [u8],
+}
+
+// Has bytes shown with what is read from them, if bytes are shown.
+fn show_bytes<W: Sink>(
     alloc: Global,
-    only: &[Only<'_>],
+    has_bytes: bool,
     counts: &Counts,
-    line: &mut Line,
+    part: Part<'_>,
     payload: &Payload<'_>,
     out: &mut Tree<W>,
 )
-    ensures { ItemsBegin payload.now
-        → ShowsReport only.now counts.now (report_of payload.now) out.old out.new }
+    ensures { AddsBytes (if has_bytes then part.entry.bytes.now else []) out.old out.new }
 {
-    if chooses(only, payload) {
+    if has_bytes {
+        let cuts = offsets_of_items(alloc, counts, payload);
+        out.begin_part(alloc, part.offset, part.bytes, cuts);
+    }
+}
+
+// Writes the line of a payload and what it holds, if it is shown.
+fn show_chosen<W: Sink>(
+    alloc: Global,
+    shown: Shown<'_>,
+    counts: &Counts,
+    line: &mut Line,
+    part: Part<'_>,
+    payload: &Payload<'_>,
+    out: &mut Tree<W>,
+)
+    ensures { ItemsBegin payload.now → ShowsReport shown.entry.only.now shown.entry.has_bytes
+        counts.now (report_of payload.now) part.entry.bytes.now out.old out.new }
+{
+    if chooses(shown.only, payload) {
+        show_bytes(alloc, shown.has_bytes, counts, part, payload, out);
         show_event(counts, line, payload, out);
         show_payload(alloc, counts, payload, out);
     }
@@ -36,23 +63,29 @@ fn show_chosen<W: Sink>(
 // Writes what a step answered, and says what is to be done next.
 fn show_answer<W: Sink>(
     alloc: Global,
-    only: &[Only<'_>],
+    shown: Shown<'_>,
     counts: &mut Counts,
     line: &mut Line,
+    offset: &mut u64,
     answer: &ParserResult<Step<'_>>,
     out: &mut Tree<W>,
 ) -> Turn
     ensures turns { result ≡ turn_after answer.now }
-    ensures shows { AnswerBegins (answer_of answer.now)
-        → ShowsAnswer only.now counts.old answer.now out.old out.new }
+    ensures shows { AnswerBegins (answer_of answer.now) → ShowsAnswer shown.entry.only.now
+        shown.entry.has_bytes counts.old answer.now out.old out.new }
     ensures counts { AnswerBegins (answer_of answer.now)
         → counts.new ≡ after_answer counts.old answer.now }
 {
     match answer {
         Ok(Step::NeedMoreData(_)) => Turn::Read,
-        Ok(Step::Parsed { payload, .. }) => {
-            show_chosen(alloc, only, counts, line, payload, out);
+        Ok(Step::Parsed { bytes, payload }) => {
+            let part = Part {
+                offset: *offset,
+                bytes,
+            };
+            show_chosen(alloc, shown, counts, line, part, payload, out);
             counts.pass(payload);
+            *offset = offset.saturating_add(bytes.len() as u64);
             match payload {
                 Payload::End(_) => Turn::End(Ended::End),
                 _ => Turn::Advance,
@@ -68,17 +101,18 @@ fn show_answer<W: Sink>(
 // Goes one step along the stream, and writes what it answered.
 fn show_step<W: Sink>(
     alloc: Global,
-    only: &[Only<'_>],
+    shown: Shown<'_>,
     counts: &mut Counts,
     line: &mut Line,
+    offset: &mut u64,
     feeder: &mut Feeder,
     out: &mut Tree<W>,
 ) -> Turn
-    ensures { ShowsStep only.now counts.old counts.new feeder.old feeder.new
-        out.old out.new result }
+    ensures { ShowsStep shown.entry.only.now shown.entry.has_bytes counts.old counts.new
+        feeder.old feeder.new out.old out.new result }
 {
     let answer = feeder.open().step();
-    show_answer(alloc, only, counts, line, &answer, out)
+    show_answer(alloc, shown, counts, line, offset, &answer, out)
 }
 
 // Whether the tree goes on, or why it has stopped.
@@ -95,20 +129,29 @@ fn go_on<W: Sink>(out: &Tree<W>) -> Result<(), ListError>
 // The same as `dump`, by a tree over the output that has written nothing yet, and with a buffer to read into.
 fn dump_into<R: Source, W: Sink>(
     alloc: Global,
-    only: &[Only<'_>],
+    shown: Shown<'_>,
     input: &mut R,
     out: &mut Tree<W>,
     buffer: &mut [u8],
 ) -> Result<Ended, ListError>
     requires { 0 < length buffer.old }
-    ensures { DumpsInto only.now (device_of R.remaining R.has_failed input.old input.new)
-        out.old result out.new }
+    ensures { DumpsInto shown.entry.only.now shown.entry.has_bytes
+        (device_of R.remaining R.has_failed input.old input.new) out.old result out.new }
 {
     let mut line = Line::new();
     let mut counts = Counts::new();
+    let mut offset = 0;
     let mut feeder = Feeder::new(alloc, 0, Parser::new(0).features());
     'events: loop {
-        let turn = show_step(alloc, only, &mut counts, &mut line, &mut feeder, out);
+        let turn = show_step(
+            alloc,
+            shown,
+            &mut counts,
+            &mut line,
+            &mut offset,
+            &mut feeder,
+            out,
+        );
         go_on(out)?;
         match turn {
             Turn::Advance => {}
@@ -128,25 +171,27 @@ fn dump_into<R: Source, W: Sink>(
 
 /// Reads the input, at most `piece` bytes at once and at least one, and writes what it holds as text. Each event that is shown
 /// has its line, as `list` writes it and with the name of its section, or the number of its function, and under it a line for each
-/// item, indented by two blanks a level, with its number in its index space. Offsets count bytes from the start of the stream, which is at 0. The tree must be one that has written nothing.
+/// item, indented by two blanks a level, with its number in its index space. Offsets count bytes from the start of the stream, which
+/// is at 0. Where bytes are shown, they are in rows before the lines that are read from them. In the style of objects each line is
+/// an object of JSON. The tree must be one that has written nothing.
 ///
 /// It keeps what the parser has not decided, the piece that came last, the buffer that it was read into, and the lines that wait,
-/// of which the tree's invariant bounds the bytes.
+/// of which the tree's invariant bounds the bytes; where bytes are shown, a copy of the part at hand and where its items begin.
 ///
 /// A fault of the stream ends it; a fault of an item is a line at its place. An error leaves a beginning of the dump written:
 /// `Input` where the source failed, all of what it gave but the last event; `Output` where the sink did; `Memory` where a growth was
 /// refused. A device that had failed before the call is still known to have failed.
 pub fn dump<R: Source, W: Sink>(
     alloc: Global,
-    only: &[Only<'_>],
+    shown: Shown<'_>,
     input: &mut R,
     out: &mut Tree<W>,
     piece: usize,
 ) -> Result<Ended, ListError>
     requires { 1 ≤ piece }
-    ensures { DumpsByTree only.now (device_of R.remaining R.has_failed input.old input.new)
-        out.old result out.new }
+    ensures { DumpsByTree shown.entry.only.now shown.entry.has_bytes
+        (device_of R.remaining R.has_failed input.old input.new) out.old result out.new }
 {
     let mut buffer = vec![in alloc; 0u8; piece]?;
-    dump_into(alloc, only, input, out, buffer.as_mut_slice())
+    dump_into(alloc, shown, input, out, buffer.as_mut_slice())
 }

@@ -10,10 +10,12 @@ ghost use Rattle.wasm_show.specs.Tree.{Adds, AddsFirst, AddsNumber, IsOut, Puts,
 ghost use Rattle.wasm_show.specs.declared.tree.Spot.TheVariants.{Outside};
 ghost use Rattle.wasm_show.specs.declared.tree.Style.TheVariants.{Lines, Objects};
 
+mod bytes;
 mod objects;
 
 use crate::known_names::ItemNames;
 use crate::numbers::{Space, put_number, space_word};
+use crate::rows::Rows;
 use std::alloc::Global;
 use std::marker::Model;
 use wasm_base::Error;
@@ -43,8 +45,8 @@ fn is_escaped(byte: u8) -> bool
     byte < 32 || byte > 126 || byte == b'"' || byte == b'\\'
 }
 
-// The two hexadecimal digits of a byte.
-fn hexadecimal_digits(byte: u8) -> [u8; 2]
+/// The two hexadecimal digits of a byte.
+pub(crate) fn hexadecimal_digits(byte: u8) -> [u8; 2]
     ensures { result ≡ hexadecimal byte }
 {
     let digits = b"0123456789abcdef";
@@ -101,6 +103,9 @@ pub struct Tree<W: Sink> {
     spot: Spot,
     why: Option<ListError>,
     names: Option<ItemNames>,
+    rows: Rows,
+    // Where items begin, if that is noted.
+    noted: Option<Vec<u64>>,
 }
 
 impl<W: Sink> Model for Tree<W> {
@@ -108,7 +113,7 @@ impl<W: Sink> Model for Tree<W> {
 
     ghost Value = { Writing };
 
-    ghost view = { λ t. record { taken = W.taken t.output; waiting = t.page; is_begun = t.is_begun; has_failed = W.has_failed t.output; why = t.why; style = t.style; spot = t.spot } };
+    ghost view = { λ t. record { taken = W.taken t.output; waiting = t.page; is_begun = t.is_begun; has_failed = W.has_failed t.output; why = t.why; style = t.style; spot = t.spot; unshown = t.rows } };
 }
 
 impl<W: Sink> Tree<W> {
@@ -131,6 +136,8 @@ impl<W: Sink> Tree<W> {
             spot: Spot::Outside,
             why: None,
             names,
+            rows: Rows::new(alloc),
+            noted: None,
         }
     }
 
@@ -147,6 +154,8 @@ impl<W: Sink> Tree<W> {
             spot: _,
             why: _,
             names: _,
+            rows: _,
+            noted: _,
         } = self;
         output
     }
@@ -201,18 +210,21 @@ impl<W: Sink> Tree<W> {
         }
     }
 
-    /// Writes what waits. A line that is begun is ended first.
+    /// Writes what waits. A line that is begun is ended first, and the bytes of the stream that are to be shown are.
     pub fn write_out(&mut self)
         ensures adds { Adds self.old self.new }
         ensures out { IsOut self.new }
     {
         self.end();
+        self.show_rest();
         self.move_all();
     }
 
     /// Stops, since memory was refused.
     pub fn out_of_memory(&mut self)
-        ensures { Adds self.old self.new }
+        ensures adds { Adds self.old self.new }
+        ensures stops { is_some self.new.why ≡ true }
+        ensures style { self.new.style ≡ self.old.style }
     {
         if self.why.is_none() {
             self.why = Some(ListError::Memory);
@@ -245,7 +257,7 @@ impl<W: Sink> Tree<W> {
         requires short { length line.now ≤ 65536 }
         ensures { AddsFirst line.now self.old self.new }
     {
-        self.end_line();
+        self.rows_to_cut();
         self.push(line);
     }
 
@@ -265,6 +277,8 @@ impl<W: Sink> Tree<W> {
     pub fn item(&mut self, level: usize, offset: u64)
         ensures { Adds self.old self.new }
     {
+        self.note(offset);
+        self.rows_before();
         self.begin_line(level);
         match self.style {
             Style::Lines => self.digits(offset),

@@ -5,7 +5,7 @@ use Rattle.wasm_show.proofs.stream.dump.Goals as goal
 pub returns-in_err-buffer : goal.returns-in_err-buffer
 returns-in_err-buffer g c style taken failed s =
     let e = err_from_is_err_and c.from_residual.result c.from_residual.ensures.1 in
-    rw (e.1, e.2) (no_room style _ _ _ taken failed _ s)
+    rw (e.1, e.2) (no_room style _ _ _ _ taken failed _ s)
 
 pub returns : goal.returns
-returns g c style taken failed s = by_tree _ _ _ _ _ c.dump_into.ensures style taken failed s
+returns g c style taken failed s = by_tree _ _ _ _ _ _ c.dump_into.ensures style taken failed s

@@ -4,8 +4,8 @@ use Rattle.wasm_show.specs.Tree.{Writing, IsWritten}
 use Rattle.wasm_show.proofs.Writing.{none_there, stops}
 use Rattle.wasm_show.proofs.tree.Tree.out_of_memory.Goals as goal
 
-pub returns-then-is_none : goal.returns-then-is_none
-returns-then-is_none g c o i =
+pub returns-then-is_none-clause-adds : goal.returns-then-is_none-clause-adds
+returns-then-is_none-clause-adds g c o i =
     let none = none_there c.self.inside.why (c.is_none.ensures ∙ ap not c.if-is_none.true) in
     subst (λ (w : Writing). IsWritten o (record w { why = Some Memory })) (sym c.self.view_is)
     (stops o c.args.self.now (ap (λ (w : Writing). w.why) (sym c.self.view_is) ∙ none) i)
