@@ -1,4 +1,5 @@
 // Worked examples.
 mod colors;
+mod forms;
 mod names;
 mod runs;

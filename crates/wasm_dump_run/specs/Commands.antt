@@ -1,9 +1,10 @@
 -- What arguments ask for.
 use Rattle.std.specs.Prelude.{◌≡◌, ℕ, List, [], ◌∷◌, codes, bytes_eq, drop, map, Option, Some, None, Result, Ok, Err}
-use Rattle.std.specs.Prelude.{false, ◌&&◌, ◌||◌, string_bytes, if◌then◌else◌}
+use Rattle.std.specs.Prelude.{false, string_bytes, if◌then◌else◌}
 use Rattle.std.specs.IoError.{error_kind}
 use Rattle.std.specs.declared.io.Error.{Error}
 use Rattle.wasm_run.specs.Arguments.{is_no_text}
+use Rattle.wasm_dump_run.specs.Options.{contradict, say_how}
 use Rattle.wasm_dump_run.specs.Words.{options_of, rest_of, words_of}
 use Rattle.wasm_dump_run.specs.declared.options.Options.{Options}
 use Rattle.wasm_dump_run.specs.declared.command.Command.{Command}
@@ -40,7 +41,7 @@ abbrev pub asked_unnamed : Options → (words rest : List (List ℕ)) → Asked
 asked_unnamed options [] [] = all options
 asked_unnamed options (word ∷ words) [] = sections options (word ∷ words)
 asked_unnamed options [] (first ∷ []) =
-    if options.is_colored || options.is_json then unknown else asked_by_one first
+    if say_how options then unknown else asked_by_one first
 asked_unnamed options [] (first ∷ (second ∷ more)) = unknown
 asked_unnamed options (word ∷ words) (first ∷ more) = unknown
 
@@ -49,10 +50,10 @@ abbrev pub asked_named : (rest : List (List ℕ)) → Asked
 asked_named [] = names_of_input
 asked_named (first ∷ more) = unknown
 
--- what options ask for, and the arguments after them. JSON has no colours.
+-- what options ask for, and the arguments after them
 abbrev pub asked_after : Options → (words rest : List (List ℕ)) → Asked
 asked_after options words rest =
-    if options.is_colored && options.is_json then unknown
+    if contradict options then unknown
     else if options.is_named then asked_named rest
     else asked_unnamed options words rest
 

@@ -1,6 +1,7 @@
 -- Which files arguments name.
-use Rattle.std.specs.Prelude.{ℕ, Bool, ◌&&◌, List, ◌∷◌, [], codes, bytes_eq, drop, map, Option, Some, None, Result, Ok, Err}
+use Rattle.std.specs.Prelude.{ℕ, Bool, List, ◌∷◌, [], codes, bytes_eq, drop, map, Option, Some, None, Result, Ok, Err}
 use Rattle.std.specs.Prelude.{string_bytes, take, if◌then◌else◌}
+use Rattle.wasm_dump_run.specs.Options.{contradict}
 use Rattle.wasm_dump_run.specs.Words.{options_of, rest_items, rest_of, words_of}
 use Rattle.wasm_dump_run.specs.declared.files.Named.{Named}
 use Rattle.wasm_dump_run.specs.declared.options.Options.{Options}
@@ -26,7 +27,7 @@ is_option word = bytes_eq (take 2 word) (codes "--")
 abbrev pub named_after : Options → (words rest : List (List ℕ)) → Option NamedFiles
 named_after options words [] = None
 named_after options words (first ∷ more) =
-    if options.is_colored && options.is_json then None
+    if contradict options then None
     else if is_option first then None
     else Some (record { words = words; options = options; files = first ∷ more })
 

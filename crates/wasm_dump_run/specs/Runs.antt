@@ -15,7 +15,6 @@ use Rattle.wasm_dump_run.specs.Commands.{Asked, all, sections, names_of_input, h
 use Rattle.wasm_dump_run.specs.Options.{style_of}
 use Rattle.wasm_dump_run.specs.Words.{ChooseInTurn}
 use Rattle.wasm_dump_run.specs.declared.options.Options.{Options}
-use Rattle.wasm_show.specs.declared.tree.Style.{Style}
 
 -- What was written was handed on, or the output failed to; after a dump that was given up nothing is done.
 abbrev pub HandsOn : (how : Result Ended ListError) (had_failed has_failed handed_on : Bool) → Result Ended ListError
@@ -25,11 +24,11 @@ HandsOn (Ok ended) had_failed has_failed handed_on result =
     ⊎ ((result ≡ Err Output) × (has_failed ≡ true))
 HandsOn (Err why) had_failed has_failed handed_on result = (result ≡ Err why) × (has_failed ≡ had_failed)
 
--- The input was dumped in this style, and what was written handed on.
-pub record RunsDump (style : Style) (only : List Only) (input output : Device) (handed_on : Bool)
+-- The input was dumped as these options say, and what was written handed on.
+pub record RunsDump (options : Options) (only : List Only) (input output : Device) (handed_on : Bool)
     (result : Result Ended ListError) : Type 0 where
   pub how : Result Ended ListError
-  pub dumps : Dumps style only (bytes_of input) (bytes_of output) how
+  pub dumps : Dumps (style_of options) only options.has_bytes (bytes_of input) (bytes_of output) how
   pub source : input.has_failed ≡ input_failed how input.had_failed
   pub ends : HandsOn how (output_failed how output.had_failed) output.has_failed handed_on result
 
@@ -57,33 +56,34 @@ help_text =
     codes "  --names   each FILE is read twice, and items have the names that its custom\n" ++ (
     codes "            sections name have for them\n" ++ (
     codes "  --json    each line is an object of JSON, for programs\n" ++ (
+    codes "  --bytes   before a line the bytes that it is read from, in hexadecimal\n" ++ (
     codes "\n" ++ (
     codes "  wasm_dump a.wasm                       all of it\n" ++ (
     codes "  wasm_dump --section import < a.wasm    its imports\n" ++ (
     codes "\n" ++ (
     codes "The status is 0, or 1 where a file has a fault at which reading stops, 2 for\n" ++ (
-    codes "other arguments, and 3 where a file, the output or memory failed.\n")))))))))))))))))
+    codes "other arguments, and 3 where a file, the output or memory failed.\n"))))))))))))))))))
 
 -- These sections of the input were shown, and how that ended is answered.
-pub record Shows (style : Style) (only : List Only) (handed_on : Bool) (input output errors : Device) (status : ℕ) :
+pub record Shows (options : Options) (only : List Only) (handed_on : Bool) (input output errors : Device) (status : ℕ) :
     Type 0 where
   pub how : Result Ended ListError
-  pub runs : RunsDump style only input output handed_on how
+  pub runs : RunsDump options only input output handed_on how
   pub answers : status ≡ status_of how
   pub reports : Reports how errors
 
 -- the same of those that words choose
-pub record ShowsThose (style : Style) (words : List (List ℕ)) (handed_on : Bool) (input output errors : Device)
+pub record ShowsThose (options : Options) (words : List (List ℕ)) (handed_on : Bool) (input output errors : Device)
     (status : ℕ) : Type 0 where
   pub only : List Only
   pub chosen : ChooseInTurn words only
-  pub shows : Shows style only handed_on input output errors status
+  pub shows : Shows options only handed_on input output errors status
 
 -- the same with these options, unless memory was refused for what the words choose
 abbrev pub ShowsChosen : (words : List (List ℕ)) → Options → (handed_on : Bool) (input output errors : Device)
     (status : ℕ) → Type 0
 ShowsChosen words options handed_on input output errors status =
-    ShowsThose (style_of options) words handed_on input (seen_as options.is_colored output) errors status
+    ShowsThose options words handed_on input (seen_as options.is_colored output) errors status
     ⊎ CannotBegin input output errors status
 
 -- a text was written and handed on, or the output failed
@@ -99,7 +99,7 @@ pub record RunsTelling (text : List ℕ) (handed_on : Bool) (input output errors
 -- A run that was asked for this. Where colours were asked for, what the output took says the same without them.
 pub record Runs (asked : Asked) (handed_on : Bool) (input output errors : Device) (status : ℕ) : Type 0 where
   pub shows : (options : Options) → asked ≡ all options
-      → Shows (style_of options) (All ∷ []) handed_on input (seen_as options.is_colored output) errors status
+      → Shows options (All ∷ []) handed_on input (seen_as options.is_colored output) errors status
   pub shows_chosen : (options : Options) (words : List (List ℕ)) → asked ≡ sections options words
       → ShowsChosen words options handed_on input output errors status
   pub helps : asked ≡ help → RunsTelling help_text handed_on input output errors status

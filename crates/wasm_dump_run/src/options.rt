@@ -1,8 +1,8 @@
 // The options of the program, besides those that choose sections.
-ghost use Rattle.std.specs.Prelude.{◌≡◌, ◌&&◌, ◌||◌};
-ghost use Rattle.wasm_dump_run.specs.Options.{mark_named, no_options, style_of, with_mark};
+ghost use Rattle.std.specs.Prelude.{◌≡◌};
+ghost use Rattle.wasm_dump_run.specs.Options.{contradict, mark_named, no_options, say_how, style_of, with_mark};
 
-use wasm_show::Style;
+use wasm_show::{Only, Shown, Style};
 
 /// How a dump is to look, and what it is to show besides the items.
 #[derive(Clone, Copy)]
@@ -13,6 +13,8 @@ pub struct Options {
     pub is_named: bool,
     /// As objects of JSON, one on each line.
     pub is_json: bool,
+    /// With the bytes that each line is read from.
+    pub has_bytes: bool,
 }
 
 /// An option that stands alone.
@@ -24,6 +26,8 @@ pub(crate) enum Mark {
     Names,
     /// JSON is asked for.
     Json,
+    /// Bytes are asked for.
+    Bytes,
 }
 
 /// The option that a word is, if it is one that stands alone.
@@ -34,6 +38,7 @@ pub(crate) fn mark_of(word: &str) -> Option<Mark>
         "--color" => Some(Mark::Color),
         "--names" => Some(Mark::Names),
         "--json" => Some(Mark::Json),
+        "--bytes" => Some(Mark::Bytes),
         _ => None,
     }
 }
@@ -47,6 +52,7 @@ impl Options {
             is_colored: false,
             is_named: false,
             is_json: false,
+            has_bytes: false,
         }
     }
 
@@ -67,21 +73,36 @@ impl Options {
                 is_json: true,
                 ..self
             },
+            Mark::Bytes => Options {
+                has_bytes: true,
+                ..self
+            },
         }
     }
 
-    /// Whether no dump can be all of this: JSON has no colours.
+    /// Whether no dump can be all of this: JSON has neither colours nor rows of bytes.
     pub(crate) fn contradict(self) -> bool
-        ensures { result ≡ (self.is_colored && self.is_json) }
+        ensures { result ≡ contradict self }
     {
-        self.is_colored && self.is_json
+        self.is_json && (self.is_colored || self.has_bytes)
     }
 
     /// Whether an option says how a dump is to look.
     pub(crate) fn say_how(self) -> bool
-        ensures { result ≡ (self.is_colored || self.is_json) }
+        ensures { result ≡ say_how self }
     {
-        self.is_colored || self.is_json
+        self.is_colored || self.is_json || self.has_bytes
+    }
+
+    /// What is shown of these sections.
+    pub(crate) fn shown<'n>(self, only: &'n [Only<'n>]) -> Shown<'n>
+        ensures only { result.only.now ≡ only.now }
+        ensures bytes { result.has_bytes ≡ self.has_bytes }
+    {
+        Shown {
+            only,
+            has_bytes: self.has_bytes,
+        }
     }
 
     /// How the tree writes.

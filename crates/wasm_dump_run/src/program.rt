@@ -8,7 +8,6 @@ ghost use Rattle.wasm_run.specs.Devices.{Says};
 ghost use Rattle.wasm_run.specs.Endings.{Reports, status_of};
 ghost use Rattle.wasm_dump_run.specs.Colors.{plain_device, seen_as};
 ghost use Rattle.wasm_dump_run.specs.Commands.{WantsMemory, asked_if_any, asked_of};
-ghost use Rattle.wasm_dump_run.specs.Options.{style_of};
 ghost use Rattle.wasm_dump_run.specs.Runs.{HandsOn, Runs, RunsDump, RunsProgram, Shows, ShowsChosen, Tells, help_text, names_usage, version_text};
 
 use crate::colored::Colored;
@@ -22,7 +21,7 @@ use std::io::{self, Write};
 use std::process::ExitCode;
 use wasm_feed::{Ended, Failed, ListError, ReadSource, Sink, Source, WriteSink, write_all};
 use wasm_run::{PIECE, complain, give_up};
-use wasm_show::{ItemNames, Only, Style, Tree, dump};
+use wasm_show::{ItemNames, Only, Tree, dump};
 
 /// What `--help` says.
 const HELP: &[u8] = b"usage: wasm_dump [OPTION]... [--section ID|NAME]... [FILE]...
@@ -37,6 +36,7 @@ only the sections with this id or name are shown; several add up. The options:
   --names   each FILE is read twice, and items have the names that its custom
             sections name have for them
   --json    each line is an object of JSON, for programs
+  --bytes   before a line the bytes that it is read from, in hexadecimal
 
   wasm_dump a.wasm                       all of it
   wasm_dump --section import < a.wasm    its imports
@@ -205,7 +205,7 @@ pub(crate) fn show_input<R: Source, W: Write, E: Sink>(
     output: WriteSink<W>,
     errors: &mut E,
 ) -> (u8, WriteSink<W>)
-    ensures { Shows (style_of options) only.now result.1.handed_on
+    ensures { Shows options only.now result.1.handed_on
         (device_of R.remaining R.has_failed input.old input.new)
         (seen_as options.is_colored (writer_device W.contents output result.1))
         (device_of E.taken E.has_failed errors.old errors.new) result.0 }
@@ -243,20 +243,21 @@ fn hand_on<W: Write>(
     }
 }
 
-// Shows these sections of the input in this style, with these names, if there are any, and hands on all that was written.
+// Shows these sections of the input, as the options say but without colours, with these names, if there are any, and hands on all
+// that was written.
 fn dump_plain<R: Source, W: Write>(
     alloc: Global,
     only: &[Only<'_>],
-    style: Style,
+    options: Options,
     names: Option<ItemNames>,
     input: &mut R,
     output: WriteSink<W>,
 ) -> (Result<Ended, ListError>, WriteSink<W>)
-    ensures { RunsDump style only.now (device_of R.remaining R.has_failed input.old input.new)
+    ensures { RunsDump options only.now (device_of R.remaining R.has_failed input.old input.new)
         (writer_device W.contents output result.1) result.1.handed_on result.0 }
 {
-    let mut tree = Tree::with_names(alloc, output, style, names);
-    let how = dump(alloc, only, input, &mut tree, PIECE);
+    let mut tree = Tree::with_names(alloc, output, options.style(), names);
+    let how = dump(alloc, options.shown(only), input, &mut tree, PIECE);
     let mut output = tree.into_output();
     let result = hand_on(how, &mut output);
     (result, output)
@@ -266,16 +267,16 @@ fn dump_plain<R: Source, W: Write>(
 fn dump_colored<R: Source, W: Write>(
     alloc: Global,
     only: &[Only<'_>],
-    style: Style,
+    options: Options,
     names: Option<ItemNames>,
     input: &mut R,
     output: WriteSink<W>,
 ) -> (Result<Ended, ListError>, WriteSink<W>)
-    ensures { RunsDump style only.now (device_of R.remaining R.has_failed input.old input.new)
+    ensures { RunsDump options only.now (device_of R.remaining R.has_failed input.old input.new)
         (plain_device (writer_device W.contents output result.1)) result.1.handed_on result.0 }
 {
-    let mut tree = Tree::with_names(alloc, Colored::new(output), style, names);
-    let how = dump(alloc, only, input, &mut tree, PIECE);
+    let mut tree = Tree::with_names(alloc, Colored::new(output), options.style(), names);
+    let how = dump(alloc, options.shown(only), input, &mut tree, PIECE);
     let mut output = tree.into_output().into_inner();
     let result = hand_on(how, &mut output);
     (result, output)
@@ -292,14 +293,14 @@ pub fn dump_as<R: Source, W: Write>(
     input: &mut R,
     output: WriteSink<W>,
 ) -> (Result<Ended, ListError>, WriteSink<W>)
-    ensures { RunsDump (style_of options) only.now
+    ensures { RunsDump options only.now
         (device_of R.remaining R.has_failed input.old input.new)
         (seen_as options.is_colored (writer_device W.contents output result.1))
         result.1.handed_on result.0 }
 {
     if options.is_colored {
-        dump_colored(alloc, only, options.style(), names, input, output)
+        dump_colored(alloc, only, options, names, input, output)
     } else {
-        dump_plain(alloc, only, options.style(), names, input, output)
+        dump_plain(alloc, only, options, names, input, output)
     }
 }

@@ -1,7 +1,7 @@
 // Dumps with names.
 use std::alloc::Global;
 use std::test::Fail;
-use wasm_dump_run::dump_as;
+use wasm_dump_run::{Options, dump_as};
 use wasm_feed::{SliceSource, WriteSink};
 use wasm_show::{Only, collect_names};
 
@@ -70,7 +70,14 @@ fn dumped(alloc: Global, stream: &[u8]) -> Result<Vec<u8>, Fail> {
     let mut written = Vec::<u8>::new(alloc);
     let output = WriteSink::new(&mut written);
     let mut input = SliceSource::new(stream);
-    let (_how, _output) = dump_as(alloc, &[Only::All], false, Some(names), &mut input, output);
+    let (_how, _output) = dump_as(
+        alloc,
+        &[Only::All],
+        Options::new(),
+        Some(names),
+        &mut input,
+        output,
+    );
     Ok(written)
 }
 

@@ -7,7 +7,8 @@ use std::test::Fail;
 use wasm_dump_run::run_program;
 use wasm_feed::{BoundedSink, Failed, ReadSource, Sink, SliceSource, Source, WriteSink};
 
-const MODULE: &[u8] = b"\0asm\x01\0\0\0\x03\x02\x01\x05\x0a\x04\x01\x02\0\x0b\0\x06\x04type\xff";
+pub(crate) const MODULE: &[u8] =
+    b"\0asm\x01\0\0\0\x03\x02\x01\x05\x0a\x04\x01\x02\0\x0b\0\x06\x04type\xff";
 
 const DUMP: &[u8] = b"version 0 8 1 module
 section 3 10 12 1 function
@@ -19,14 +20,14 @@ custom 20 26 25
 end 26
 ";
 
-const USAGE: &[u8] =
-    b"usage: wasm_dump [--help] [--version] [--color] [--names] [--section ID|NAME]... [FILE]...\n";
+pub(crate) const USAGE: &[u8] =
+    b"usage: wasm_dump [--help] [--version] [OPTION]... [--section ID|NAME]... [FILE]...\n";
 
 const NAMES_USAGE: &[u8] =
     b"wasm_dump: --names reads each file twice, and standard input can't be: name files\n";
 
 // The program's own name, and these arguments.
-fn arguments(alloc: Global, words: &[&str]) -> Result<Args, Fail> {
+pub(crate) fn arguments(alloc: Global, words: &[&str]) -> Result<Args, Fail> {
     let mut arguments = vec![in alloc; String::from_str(alloc, "wasm_dump")?]?;
     for word in words {
         arguments.push(String::from_str(alloc, word)?)?;
@@ -48,7 +49,7 @@ fn run_over<R: Source, W: Write + Drop>(
 }
 
 // A run with these arguments over this stream answers, writes and says this.
-fn runs(
+pub(crate) fn runs(
     rt: &impl Abort,
     alloc: Global,
     given: io::Result<Args>,
@@ -263,7 +264,7 @@ fn says_how_it_is_used(rt: HostRuntime) -> Result<(), Fail> {
     assert_eq!(rt; status, ExitCode::from(0));
     assert!(rt;
         written.as_slice().starts_with(
-            b"usage: wasm_dump [--color] [--names] [--section ID|NAME]... [FILE]...\n\n"
+            b"usage: wasm_dump [OPTION]... [--section ID|NAME]... [FILE]...\n\n"
         )
     );
     assert!(rt; written.as_slice().ends_with(b"or memory failed.\n"));

@@ -6,7 +6,7 @@ use std::process::Abort;
 use std::test::Fail;
 use wasm_feed::{BoundedSink, Ended, Failed, ListError, SliceSource, Source};
 use wasm_parser::{Error, Fault};
-use wasm_show::{Only, Tree, dump};
+use wasm_show::{Only, Shown, Tree, dump};
 
 /// A module with an item in each of its sections, and names that don't ascend.
 const MODULE: &[u8] =
@@ -50,7 +50,11 @@ fn dumped<R: Source>(
     piece: usize,
 ) -> (Result<Ended, ListError>, BoundedSink) {
     let mut tree = Tree::new(alloc, output);
-    let ended = dump(alloc, only, input, &mut tree, piece.max(1));
+    let shown = Shown {
+        only,
+        has_bytes: false,
+    };
+    let ended = dump(alloc, shown, input, &mut tree, piece.max(1));
     (ended, tree.into_output())
 }
 
