@@ -13,7 +13,7 @@ ghost use Rattle.wasm_parser.specs.ParseAnswer.{Advances, AsksForSome, Consumes,
 ghost use Rattle.wasm_parser.specs.ParserState.{initial_state, is_at_section as at_section, skippable_of, skipped_state};
 ghost use Rattle.wasm_parser.specs.ReadsPart.{HasSection, IsBegun, ReadsAfterId, ReadsAfterLength, ReadsBody, ReadsContent, ReadsNext, ReadsNextSection, Refuses};
 ghost use Rattle.wasm_parser.specs.Skipped.{SkipsSection};
-ghost use Rattle.wasm_parser.specs.StateAfter.{knowing, missing_bytes};
+ghost use Rattle.wasm_parser.specs.StateAfter.{knowing, missing_bytes, state_after, state_after_section};
 ghost use Rattle.wasm_parser.specs.AsksWhereOpen.{AsksWhereOpen};
 ghost use Rattle.wasm_grammar.specs.declared.encoding.Encoding.TheVariants.{Module, Component};
 
@@ -444,9 +444,33 @@ impl Parser {
     }
 
     // Goes on to the end of what was read, which is at this offset. A section that has a rank ranks above all earlier ones.
+    // Sections that say nothing of the parts to come are told apart first, so that they cost no further look at their kind.
     fn advance(&mut self, payload: &Payload, end: u64)
         requires { end + missing_bytes (report_of payload.now) (end - self.old.offset) self.old.code_bytes < 2 ^ 64 }
         ensures { Advances self.old payload.now end self.new }
+    {
+        match payload {
+            Payload::CustomSection(_) => self.pass_section(end),
+            Payload::UnknownSection { .. } => self.pass_section(end),
+            _ => self.learn_and_pass(payload, end),
+        }
+    }
+
+    // Goes on to the end of a section that says nothing of the parts to come.
+    fn pass_section(&mut self, end: u64)
+        ensures { self.new ≡ state_after_section self.old end }
+    {
+        self.offset = end;
+        self.expects_header = false;
+        self.bodies = 0;
+        self.code_bytes = 0;
+        self.in_code = false;
+    }
+
+    // Goes on to the end of any part.
+    fn learn_and_pass(&mut self, payload: &Payload, end: u64)
+        requires { end + missing_bytes (report_of payload.now) (end - self.old.offset) self.old.code_bytes < 2 ^ 64 }
+        ensures { self.new ≡ state_after self.old end (report_of payload.now) }
     {
         self.learn(payload);
         let taken = end.saturating_sub(self.offset);

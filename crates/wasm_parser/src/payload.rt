@@ -27,10 +27,10 @@ use wasm_items::{
 pub enum Payload<'a> {
     /// The header: its version, and what it announces.
     Version {
-        /// The 16-bit version: 1 of a module, 13 of a component.
-        num: u16,
         /// What the header announces.
         encoding: Encoding,
+        /// The 16-bit version: 1 of a module, 13 of a component.
+        num: u16,
         /// The offsets of the eight bytes, in the whole stream.
         range: Range<u64>,
     },
@@ -73,10 +73,10 @@ pub enum Payload<'a> {
     CodeSectionStart {
         /// How many bodies follow.
         count: u32,
-        /// The offsets of the content in the whole stream, the count among it. Not all of it needs to be there.
-        unchecked_range: Range<u64>,
         /// How many bytes of the content come after the count.
         size: u32,
+        /// The offsets of the content in the whole stream, the count among it. Not all of it needs to be there.
+        unchecked_range: Range<u64>,
     },
     /// One body of a code section.
     CodeSectionEntry(FunctionBody<'a>),
