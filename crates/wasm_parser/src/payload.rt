@@ -25,6 +25,7 @@ use wasm_items::{
 /// the parser's features.
 #[derive(Drop)]
 pub enum Payload<'a> {
+    // Fields of less than eight bytes come first: so they share a word, and lie over no pointer or offset of another kind.
     /// The header: its version, and what it announces.
     Version {
         /// What the header announces.
