@@ -447,7 +447,8 @@ impl Parser {
     // Sections that say nothing of the parts to come are told apart first, so that they cost no further look at their kind.
     fn advance(&mut self, payload: &Payload, end: u64)
         requires after { self.old.offset ≤ end }
-        requires fits { end + missing_bytes (report_of payload.now) (end - self.old.offset) self.old.code_bytes < 2 ^ 64 }
+        requires fits { end + missing_bytes (report_of payload.now)
+            (end - self.old.offset) self.old.code_bytes < 2 ^ 64 }
         ensures { Advances self.old payload.now end self.new }
     {
         match payload {
@@ -471,7 +472,8 @@ impl Parser {
     // Goes on to the end of any part.
     fn learn_and_pass(&mut self, payload: &Payload, end: u64)
         requires after { self.old.offset ≤ end }
-        requires fits { end + missing_bytes (report_of payload.now) (end - self.old.offset) self.old.code_bytes < 2 ^ 64 }
+        requires fits { end + missing_bytes (report_of payload.now)
+            (end - self.old.offset) self.old.code_bytes < 2 ^ 64 }
         ensures { self.new ≡ state_after self.old end (report_of payload.now) }
     {
         self.learn(payload);
