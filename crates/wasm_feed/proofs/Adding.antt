@@ -32,7 +32,7 @@ use Rattle.wasm_feed.proofs.Joining.{joined_more, joined_parts}
 
 -- the end alone is the last payload
 last_is_end : (payload : Payload) (kind : EventKind) → IsKindOf (report_of payload) kind → is_last kind ≡ is_end (report_of payload)
-last_is_end (Version num encoding range) kind h = ap is_last h
+last_is_end (Version encoding num range) kind h = ap is_last h
 last_is_end (TypeSection s) kind h = ap is_last h
 last_is_end (ImportSection s) kind h = ap is_last h
 last_is_end (FunctionSection s) kind h = ap is_last h
@@ -45,7 +45,7 @@ last_is_end (StartSection func range) kind h = ap is_last h
 last_is_end (ElementSection s) kind h = ap is_last h
 last_is_end (DataCountSection count range) kind h = ap is_last h
 last_is_end (DataSection s) kind h = ap is_last h
-last_is_end (CodeSectionStart count unchecked_range size) kind h = ap is_last h
+last_is_end (CodeSectionStart count size unchecked_range) kind h = ap is_last h
 last_is_end (CodeSectionEntry body) kind h = ap is_last h
 last_is_end (CustomSection s) kind h = ap is_last h
 last_is_end (UnknownSection id contents range) kind h = ap is_last h

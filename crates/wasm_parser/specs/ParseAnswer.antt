@@ -39,7 +39,7 @@ counted_by id s = counted id s.count (unread s.reader)
 
 -- what a payload reports
 abbrev pub report_of : Payload → Report
-report_of (Version num encoding range) = version num encoding range.start range.end
+report_of (Version encoding num range) = version num encoding range.start range.end
 report_of (TypeSection s) = counted_by type_id s
 report_of (ImportSection s) = counted_by import_id s
 report_of (FunctionSection s) = counted_by function_id s
@@ -52,7 +52,7 @@ report_of (StartSection func range) = start_section func range.start range.end
 report_of (ElementSection s) = counted_by element_id s
 report_of (DataCountSection count range) = data_count_section count range.start range.end
 report_of (DataSection s) = counted_by data_id s
-report_of (CodeSectionStart count unchecked_range size) =
+report_of (CodeSectionStart count size unchecked_range) =
     code_start count unchecked_range.start unchecked_range.end size
 report_of (CodeSectionEntry body) = code_entry (body_window body)
 report_of (CustomSection s) = custom_section s.name (place s.reader).offset (unread s.reader)

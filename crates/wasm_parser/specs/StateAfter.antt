@@ -61,6 +61,16 @@ knowing p report = record p {
   data_counts = known_count data_count_id (count_report report) p.data_counts;
 }
 
+-- the same after a section that says nothing of the parts to come, which ends at this offset
+abbrev pub state_after_section : ParserState → (to : ℕ) → ParserState
+state_after_section p to = record p {
+  offset = to;
+  expects_header = false;
+  bodies = 0;
+  code_bytes = 0;
+  in_code = false;
+}
+
 -- the state of a parser after it reported this, which ends at this offset
 abbrev pub state_after : ParserState → (to : ℕ) → Report → ParserState
 state_after p to report = record (knowing p report) {

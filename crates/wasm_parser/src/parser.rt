@@ -1,5 +1,5 @@
 // The parser of a stream.
-ghost use Rattle.std.specs.Prelude.{⊤, ◌≡◌, ◌+◌, ◌<◌, ◌^◌, ◌&&◌, ◌-◌, not, true, [], length, nat_lt, nat_eq};
+ghost use Rattle.std.specs.Prelude.{⊤, ◌≡◌, ◌+◌, ◌<◌, ◌≤◌, ◌^◌, ◌&&◌, ◌-◌, not, true, [], length, nat_lt, nat_eq};
 ghost use Rattle.std.specs.Option.{IsSome};
 ghost use Rattle.wasm_base.specs.Features.{feature_bits, all_features};
 ghost use Rattle.wasm_base.specs.Window.{place, window_over};
@@ -13,7 +13,7 @@ ghost use Rattle.wasm_parser.specs.ParseAnswer.{Advances, AsksForSome, Consumes,
 ghost use Rattle.wasm_parser.specs.ParserState.{initial_state, is_at_section as at_section, skippable_of, skipped_state};
 ghost use Rattle.wasm_parser.specs.ReadsPart.{HasSection, IsBegun, ReadsAfterId, ReadsAfterLength, ReadsBody, ReadsContent, ReadsNext, ReadsNextSection, Refuses};
 ghost use Rattle.wasm_parser.specs.Skipped.{SkipsSection};
-ghost use Rattle.wasm_parser.specs.StateAfter.{knowing, missing_bytes};
+ghost use Rattle.wasm_parser.specs.StateAfter.{knowing, missing_bytes, state_after, state_after_section};
 ghost use Rattle.wasm_parser.specs.AsksWhereOpen.{AsksWhereOpen};
 ghost use Rattle.wasm_grammar.specs.declared.encoding.Encoding.TheVariants.{Module, Component};
 
@@ -444,12 +444,40 @@ impl Parser {
     }
 
     // Goes on to the end of what was read, which is at this offset. A section that has a rank ranks above all earlier ones.
+    // Sections that say nothing of the parts to come are told apart first, so that they cost no further look at their kind.
     fn advance(&mut self, payload: &Payload, end: u64)
-        requires { end + missing_bytes (report_of payload.now) (end - self.old.offset) self.old.code_bytes < 2 ^ 64 }
+        requires after { self.old.offset ≤ end }
+        requires fits { end + missing_bytes (report_of payload.now)
+            (end - self.old.offset) self.old.code_bytes < 2 ^ 64 }
         ensures { Advances self.old payload.now end self.new }
     {
+        match payload {
+            Payload::CustomSection(_) => self.pass_section(end),
+            Payload::UnknownSection { .. } => self.pass_section(end),
+            _ => self.learn_and_pass(payload, end),
+        }
+    }
+
+    // Goes on to the end of a section that says nothing of the parts to come.
+    fn pass_section(&mut self, end: u64)
+        ensures { self.new ≡ state_after_section self.old end }
+    {
+        self.offset = end;
+        self.expects_header = false;
+        self.bodies = 0;
+        self.code_bytes = 0;
+        self.in_code = false;
+    }
+
+    // Goes on to the end of any part.
+    fn learn_and_pass(&mut self, payload: &Payload, end: u64)
+        requires after { self.old.offset ≤ end }
+        requires fits { end + missing_bytes (report_of payload.now)
+            (end - self.old.offset) self.old.code_bytes < 2 ^ 64 }
+        ensures { self.new ≡ state_after self.old end (report_of payload.now) }
+    {
         self.learn(payload);
-        let taken = end.saturating_sub(self.offset);
+        let taken = end - self.offset;
         self.offset = end;
         self.expects_header = false;
         self.bodies = missing_bodies(payload, self.bodies);
@@ -543,9 +571,11 @@ impl Parser {
 fn passes(code_bytes: u32, width: u64, size: u32) -> bool
     ensures { result ≡ nat_lt code_bytes (width + size) }
 {
-    match u64::from(code_bytes).checked_sub(width) {
-        Some(room) => u64::from(size) > room,
-        None => true,
+    let left = u64::from(code_bytes);
+    if width > left {
+        true
+    } else {
+        u64::from(size) > left - width
     }
 }
 

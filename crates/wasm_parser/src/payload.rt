@@ -25,12 +25,13 @@ use wasm_items::{
 /// the parser's features.
 #[derive(Drop)]
 pub enum Payload<'a> {
+    // Fields of less than eight bytes come first: so they share a word, and lie over no pointer or offset of another kind.
     /// The header: its version, and what it announces.
     Version {
-        /// The 16-bit version: 1 of a module, 13 of a component.
-        num: u16,
         /// What the header announces.
         encoding: Encoding,
+        /// The 16-bit version: 1 of a module, 13 of a component.
+        num: u16,
         /// The offsets of the eight bytes, in the whole stream.
         range: Range<u64>,
     },
@@ -73,10 +74,10 @@ pub enum Payload<'a> {
     CodeSectionStart {
         /// How many bodies follow.
         count: u32,
-        /// The offsets of the content in the whole stream, the count among it. Not all of it needs to be there.
-        unchecked_range: Range<u64>,
         /// How many bytes of the content come after the count.
         size: u32,
+        /// The offsets of the content in the whole stream, the count among it. Not all of it needs to be there.
+        unchecked_range: Range<u64>,
     },
     /// One body of a code section.
     CodeSectionEntry(FunctionBody<'a>),

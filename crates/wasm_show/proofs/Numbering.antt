@@ -271,7 +271,7 @@ pub none_numbered : (p : Payload)
     → ((s : _) → p ≡ TableSection s → ⊥) → ((s : _) → p ≡ MemorySection s → ⊥) → ((s : _) → p ≡ TagSection s → ⊥)
     → ((s : _) → p ≡ GlobalSection s → ⊥) → ((s : _) → p ≡ ElementSection s → ⊥) → ((s : _) → p ≡ DataSection s → ⊥)
     → has_numbers (report_of p) ≡ false
-none_numbered (Version num encoding range) n0 n1 n2 n3 n4 n5 n6 n7 n8 = refl
+none_numbered (Version encoding num range) n0 n1 n2 n3 n4 n5 n6 n7 n8 = refl
 none_numbered (TypeSection s) n0 n1 n2 n3 n4 n5 n6 n7 n8 = absurd (n0 s refl)
 none_numbered (ImportSection s) n0 n1 n2 n3 n4 n5 n6 n7 n8 = absurd (n1 s refl)
 none_numbered (FunctionSection s) n0 n1 n2 n3 n4 n5 n6 n7 n8 = absurd (n2 s refl)
@@ -284,7 +284,7 @@ none_numbered (StartSection func range) n0 n1 n2 n3 n4 n5 n6 n7 n8 = refl
 none_numbered (ElementSection s) n0 n1 n2 n3 n4 n5 n6 n7 n8 = absurd (n7 s refl)
 none_numbered (DataCountSection count range) n0 n1 n2 n3 n4 n5 n6 n7 n8 = refl
 none_numbered (DataSection s) n0 n1 n2 n3 n4 n5 n6 n7 n8 = absurd (n8 s refl)
-none_numbered (CodeSectionStart count range size) n0 n1 n2 n3 n4 n5 n6 n7 n8 = refl
+none_numbered (CodeSectionStart count size range) n0 n1 n2 n3 n4 n5 n6 n7 n8 = refl
 none_numbered (CodeSectionEntry body) n0 n1 n2 n3 n4 n5 n6 n7 n8 = refl
 none_numbered (CustomSection s) n0 n1 n2 n3 n4 n5 n6 n7 n8 = refl
 none_numbered (UnknownSection id contents range) n0 n1 n2 n3 n4 n5 n6 n7 n8 = refl

@@ -22,7 +22,7 @@ abbrev pub Known : List (Result Payload Error) → Option ℕ → Type 0
 Known given start = (later : List Report) → start_from None (map given_report given ++ later) ≡ start_from start later
 
 no_stop : (payload : Payload) (r : Result (Option ℕ) FaultAt) → unless_stopped (report_of payload) r ≡ r
-no_stop (Version num encoding range) r = refl
+no_stop (Version encoding num range) r = refl
 no_stop (TypeSection s) r = refl
 no_stop (ImportSection s) r = refl
 no_stop (FunctionSection s) r = refl
@@ -35,7 +35,7 @@ no_stop (StartSection func range) r = refl
 no_stop (ElementSection s) r = refl
 no_stop (DataCountSection count range) r = refl
 no_stop (DataSection s) r = refl
-no_stop (CodeSectionStart count unchecked_range size) r = refl
+no_stop (CodeSectionStart count size unchecked_range) r = refl
 no_stop (CodeSectionEntry entry) r = refl
 no_stop (CustomSection s) r = refl
 no_stop (UnknownSection id contents range) r = refl

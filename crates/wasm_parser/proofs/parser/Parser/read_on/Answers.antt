@@ -4,8 +4,8 @@ use Rattle.wasm_parser.specs.ParserState.{ParserState}
 use Rattle.wasm_parser.proofs.NextParts.{window_fits, window_answered, window_refused}
 use Rattle.wasm_parser.proofs.parser.Parser.read_on.Goals as goal
 
-pub advance-requires : goal.advance-requires
-advance-requires c =
+pub advance-requires-clause-fits : goal.advance-requires-clause-fits
+advance-requires-clause-fits c =
     let o = ap (λ (s : ParserState). s.offset) c.self.view_is in
     let l = ap (λ (s : ParserState). s.code_bytes) c.self.view_is in
     window_fits c.args.self.now c.reader-reader.result c.args.bytes.now (place c.read.new.reader) c.in-Ok.payload
