@@ -1,5 +1,6 @@
 -- A dump, after which the output hands on what it has taken.
-use Rattle.std.proofs.Common.{◌≡◌, List, ℕ, length, take, take_all, le_refl, Bool, Option, Some, None, Result, Ok, Err, OnErr, ap, subst, sym}
+use Rattle.std.proofs.Common.{◌≡◌, List, ℕ, length, take, take_all, le_refl, Bool, Option, Some, None, Result, Ok, Err, OnErr, ap, subst}
+use Rattle.std.proofs.Common.{sym}
 use Rattle.std.specs.Io.KnownBytes.{Appends, Keeps}
 use Rattle.wasm_run.proofs.ForCallers.{appends_kept}
 use Rattle.wasm_feed.specs.Calls.{from_to}
@@ -14,11 +15,13 @@ use Rattle.wasm_feed.specs.declared.devices.Failed.{Failed}
 use Rattle.wasm_dump_run.specs.Colors.{plain, without_colors}
 
 module _ (style : Style) where
-  whole_kept : (a b c : Option (List ℕ)) (outline : List ℕ) (numbers : List Number) (bytes : List ℕ) → WritesWhole style a b outline numbers bytes → Keeps b c
+  whole_kept : (a b c : Option (List ℕ)) (outline : List ℕ) (numbers : List Number) (bytes : List ℕ)
+      → WritesWhole style a b outline numbers bytes → Keeps b c
       → WritesWhole style a c outline numbers bytes
   whole_kept a b c outline numbers bytes w k = record { text = w.text; shaped = w.shaped; wrote = appends_kept a b c w.text w.wrote k }
 
-  some_kept : (a b c : Option (List ℕ)) (outline : List ℕ) (numbers : List Number) (bytes : List ℕ) → WritesSome style a b outline numbers bytes → Keeps b c
+  some_kept : (a b c : Option (List ℕ)) (outline : List ℕ) (numbers : List Number) (bytes : List ℕ)
+      → WritesSome style a b outline numbers bytes → Keeps b c
       → WritesSome style a c outline numbers bytes
   some_kept a b c outline numbers bytes w k = record {
     text = w.text;
@@ -62,7 +65,8 @@ plain_kept None b k = tt
 plain_kept (Some x) None k = absurd k
 plain_kept (Some x) (Some y) k = ap without_colors k
 
-pub colors_kept : (style : Style) (only : List Only) (has_bytes : Bool) (source rest a b c taken : Option (List ℕ)) (how : Result Ended ListError)
+pub colors_kept : (style : Style) (only : List Only) (has_bytes : Bool) (source rest a b c taken : Option (List ℕ))
+    (how : Result Ended ListError)
     → Dumps style only has_bytes (from_to source rest) (from_to (plain a) taken) how → plain b ≡ taken → Keeps b c
     → Dumps style only has_bytes (from_to source rest) (from_to (plain a) (plain c)) how
 colors_kept style only has_bytes source rest a b c taken how d e k =

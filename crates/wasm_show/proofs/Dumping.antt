@@ -111,8 +111,12 @@ starts only has_bytes full w = record {
   outline = [];
   listing = progress.begun (chosen_line only) full (Some []);
   counting = counts_nothing full;
-  writing = λ taken failed i. ([], refl, subst (λ (x : List ℕ). IsWritten (origin w.style taken failed [] [] x) w)
-      (none_of_events has_bytes only) i);
+  writing = λ taken failed i. (
+    [],
+    refl,
+    subst (λ (x : List ℕ). IsWritten (origin w.style taken failed [] [] x) w)
+        (none_of_events has_bytes only) i,
+  );
 }
 
 -- ---- what is counted
@@ -307,7 +311,8 @@ whole_in Objects o w same going out g = record {
   wrote = g.took;
 }
 
-whole : (o : Origin) (w : Writing) → w.why ≡ None → IsOut w → IsWritten o w → WritesWhole o.style o.taken w.taken o.outline o.numbers o.bytes
+whole : (o : Origin) (w : Writing) → w.why ≡ None → IsOut w → IsWritten o w
+    → WritesWhole o.style o.taken w.taken o.outline o.numbers o.bytes
 whole o w going out i = whole_in o.style o w i.0 going out (as_going o w going i)
 
 some_of : (o : Origin) (w : Writing) → WritesWhole o.style o.taken w.taken o.outline o.numbers o.bytes
@@ -493,29 +498,42 @@ module _ (only : List Only) (has_bytes : Bool) (full rest : Option (List ℕ)) (
       (nothing_cut (Some (d.outline ++ text_after (chosen_line only) s.answer)))
 
   -- what was written, with the numbers of what the source gave
-  all_written : (t : Turn) → next ≡ t → (taken : Option (List ℕ)) (failed : Bool) → IsWritten (origin before.style taken failed [] [] []) before
+  all_written : (t : Turn) → next ≡ t → (taken : Option (List ℕ)) (failed : Bool)
+      → IsWritten (origin before.style taken failed [] [] []) before
       → (numbers : List Number) × (bytes : List ℕ) × AreOfSource new.why only has_bytes (from_to full rest) numbers bytes
       × IsWritten (origin before.style taken failed (d.outline ++ text_after (chosen_line only) s.answer) numbers bytes) new
   all_written turn.Advance t taken failed i =
       let (k, more) = counted_on only has_bytes full rest f c d.counting g s.answer (sym t ∙ s.turns) s.steps in
-      let (numbers, are, going) = written k.events more taken failed i in
-      (numbers, bytes_of_events has_bytes only k.events, numbers_at new.why only has_bytes full rest g (after_answer c s.answer) k numbers are,
-      going)
+      let (numbers, are, going) = written k.events more taken failed i in (
+        numbers,
+        bytes_of_events has_bytes only k.events,
+        numbers_at new.why only has_bytes full rest g
+            (after_answer c s.answer) k numbers are,
+        going,
+      )
   all_written turn.Read t taken failed i =
       let (k, more) = counted_still only has_bytes full rest f c d.counting g s.answer (sym t ∙ s.turns) s.steps in
-      let (numbers, are, going) = written k.events more taken failed i in
-      (numbers, bytes_of_events has_bytes only k.events, numbers_at new.why only has_bytes full rest g (after_answer c s.answer) k numbers are,
-      going)
+      let (numbers, are, going) = written k.events more taken failed i in (
+        numbers,
+        bytes_of_events has_bytes only k.events,
+        numbers_at new.why only has_bytes full rest g
+            (after_answer c s.answer) k numbers are,
+        going,
+      )
   all_written (turn.End how) t taken failed i =
       let last = counted_last only has_bytes full rest f c d.counting g s.answer how (sym t ∙ s.turns) s.steps in
-      let (numbers, are, going) = written d.counting.events last taken failed i in
-      (numbers, bytes_of_events has_bytes only d.counting.events, numbers_at new.why only has_bytes full rest f c d.counting numbers are,
-      going)
+      let (numbers, are, going) = written d.counting.events last taken failed i in (
+        numbers,
+        bytes_of_events has_bytes only d.counting.events,
+        numbers_at new.why only has_bytes full rest f c d.counting numbers are,
+        going,
+      )
 
   -- the tree has stopped
   pub stopped : (had has : Bool) → has ≡ had → (why : ListError) → new.why ≡ Some why → (taken : Option (List ℕ)) (failed : Bool)
       → IsWritten (origin before.style taken failed [] [] []) before
-      → DumpsFrom before.style only has_bytes (record { before = full; after = rest; had_failed = had; has_failed = has }) taken failed (Err why) new
+      → DumpsFrom before.style only has_bytes (record { before = full; after = rest; had_failed = had; has_failed = has }) taken failed
+      (Err why) new
   stopped had has h why w taken failed i =
       let (numbers, bytes, are, going) = all_written next refl taken failed i in
       cut_off before.style only has_bytes full rest had has h taken failed _ numbers bytes why new (begins next refl)
@@ -524,7 +542,8 @@ module _ (only : List Only) (has_bytes : Bool) (full rest : Option (List ℕ)) (
   -- it has after all was to be written
   pub stopped_at_last : (had has : Bool) → has ≡ had → (last : Writing) (why : ListError) → Adds new last → last.why ≡ Some why
       → (taken : Option (List ℕ)) (failed : Bool) → IsWritten (origin before.style taken failed [] [] []) before
-      → DumpsFrom before.style only has_bytes (record { before = full; after = rest; had_failed = had; has_failed = has }) taken failed (Err why) last
+      → DumpsFrom before.style only has_bytes (record { before = full; after = rest; had_failed = had; has_failed = has }) taken failed
+      (Err why) last
   stopped_at_last had has h last why a w taken failed i =
       let (numbers, bytes, are, going) = all_written next refl taken failed i in
       cut_off before.style only has_bytes full rest had has h taken failed _ numbers bytes why last (begins next refl)
@@ -534,7 +553,8 @@ module _ (only : List Only) (has_bytes : Bool) (full rest : Option (List ℕ)) (
   pub ended : (had has : Bool) → has ≡ had → new.why ≡ None → (how : Ended) (last : Writing) → next ≡ turn.End how → Adds new last
       → IsOut last → last.why
       ≡ None → (taken : Option (List ℕ)) (failed : Bool) → IsWritten (origin before.style taken failed [] [] []) before
-      → DumpsFrom before.style only has_bytes (record { before = full; after = rest; had_failed = had; has_failed = has }) taken failed (Ok how) last
+      → DumpsFrom before.style only has_bytes (record { before = full; after = rest; had_failed = had; has_failed = has }) taken failed
+      (Ok how) last
   ended had has h went how last t a out going taken failed i =
       let (numbers, bytes, are, wrote) = all_written next refl taken failed i in
       let o = origin before.style taken failed (d.outline ++ text_after (chosen_line only) s.answer) numbers bytes in
@@ -586,10 +606,10 @@ module _ (full rest : Option (List ℕ)) (f : Feed) (c : Counts) (k : Counting f
 module _ (only : List Only) (has_bytes : Bool) (full rest : Option (List ℕ)) (before : Writing) (f : Feed) (c : Counts) (now last : Writing)
     (d : Wanting only has_bytes full rest before f c now) (a : Adds now last) (out : IsOut last) (going : last.why ≡ None) where
   all : (events : List Event) → events ≡ d.counting.events → (taken : Option (List ℕ)) (failed : Bool)
-      → IsWritten (origin before.style taken failed [] [] []) before → WrittenWith None only has_bytes events before.style taken failed d.outline last
+      → IsWritten (origin before.style taken failed [] [] []) before
+      → WrittenWith None only has_bytes events before.style taken failed d.outline last
   all events same taken failed i =
-      let (numbers, are, wrote) = d.writing taken failed i in
-      (
+      let (numbers, are, wrote) = d.writing taken failed i in (
         numbers,
         subst (λ (es : List Event). AreOfEvents None only no_counts es numbers) (sym same) are,
         subst (λ (es : List Event). IsWritten (origin before.style taken failed d.outline numbers (bytes_of_events has_bytes only es)) last)
@@ -607,7 +627,8 @@ module _ (only : List Only) (has_bytes : Bool) (full rest : Option (List ℕ)) (
       → Refills rest rest' f g (Err e)
       → has ≡ input_failed {A = Unit {0}} (Err e) mid → (taken : Option (List ℕ)) (failed : Bool)
       → IsWritten (origin before.style taken failed [] [] []) before
-      → DumpsFrom before.style only has_bytes (record { before = full; after = rest'; had_failed = had; has_failed = has }) taken failed (Err e) last
+      → DumpsFrom before.style only has_bytes (record { before = full; after = rest'; had_failed = had; has_failed = has }) taken failed
+      (Err e) last
   not_filled had mid has m rest' g Input r h taken failed i =
       let (numbers, are, wrote) = all d.counting.events refl taken failed i in
       let bytes = bytes_of_events has_bytes only d.counting.events in
@@ -691,9 +712,11 @@ nothing_shaped Lines = nothing_outlined
 nothing_shaped Objects = refl
 
 -- no memory to begin with
-pub no_room : (style : Style) (only : List Only) (has_bytes : Bool) (full : Option (List ℕ)) (had : Bool) (taken : Option (List ℕ)) (failed : Bool)
+pub no_room : (style : Style) (only : List Only) (has_bytes : Bool) (full : Option (List ℕ)) (had : Bool) (taken : Option (List ℕ))
+    (failed : Bool)
     (w : Writing) → w ≡ Tree.starts_in style taken failed
-    → DumpsFrom style only has_bytes (record { before = full; after = full; had_failed = had; has_failed = had }) taken failed (Err Memory) w
+    → DumpsFrom style only has_bytes (record { before = full; after = full; had_failed = had; has_failed = had }) taken failed
+    (Err Memory) w
 no_room style only has_bytes full had taken failed w e =
     subst (DumpsFrom style only has_bytes (record { before = full; after = full; had_failed = had; has_failed = had })
     taken failed (Err Memory)) (sym e) (record {

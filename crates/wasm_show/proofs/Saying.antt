@@ -247,7 +247,11 @@ pub says_named : (name : List ℕ) (x y z : Writing) → Says (codes " " ++ (nam
 says_named name x y z p q since before h =
     let start = codes " " ++ (name ++ codes "=") in
     let m = p since before h in
-    let r = q y (record { text = []; has = has_nothing y (still_begun since y (before ++ start) m) (still_lines since y (before ++ start) m) }) in (
+    let r = q y (record {
+      text = [];
+      has = has_nothing y (still_begun since y (before ++ start) m) (still_lines since y
+          (before ++ start) m);
+    }) in (
       r.text,
       subst (λ (t : List ℕ). HasLine since t z) (append_assoc before start r.text
           ∙ ap (λ (t : List ℕ). before ++ (codes " " ++ t)) (append_assoc name (codes "=") r.text))

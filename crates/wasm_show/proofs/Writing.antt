@@ -327,7 +327,8 @@ module _ (o : Origin) (old new : Writing) (i : IsGoing o old) where
   abbrev after_cut : Bool → List ℕ
   after_cut b = (if b then codes "\n" else []) ++ row_text 0 old.unshown
 
-  rest_of_line : (b : Bool) → old.is_begun ≡ b → IsOutlined ((i.written ++ old.waiting) ++ (if b then codes "\n" else [])) o.outline o.numbers
+  rest_of_line : (b : Bool) → old.is_begun ≡ b → IsOutlined ((i.written ++ old.waiting) ++
+      (if b then codes "\n" else [])) o.outline o.numbers
       i.rows
   rest_of_line true b = subst₂ (λ (x : List ℕ) (y : List Number). IsOutlined x o.outline y i.rows)
       (sym (ap (λ (x : List ℕ). x ++ codes "\n") (i.parts ∙ rw b refl)

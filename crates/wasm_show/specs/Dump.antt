@@ -21,7 +21,8 @@ use Rattle.wasm_feed.specs.declared.devices.ListError.TheVariants.{Input, Output
 use Rattle.wasm_feed.specs.declared.listing.Turn.{Turn}
 use Rattle.wasm_show.specs.Chosen.{is_chosen, chosen_line}
 use Rattle.wasm_show.specs.Numbers.{Number, after, no_counts, numbers_in_line, AreOfItems}
-use Rattle.wasm_show.specs.Tree.{IsShaped, Writing, Origin, IsWritten, AddsNumbers, with_bytes, with_line, with_numbers, starts_in}
+use Rattle.wasm_show.specs.Tree.{IsShaped, Writing, Origin, IsWritten, AddsNumbers, with_bytes, with_line, with_numbers}
+use Rattle.wasm_show.specs.Tree.{starts_in}
 use Rattle.wasm_show.specs.declared.tree.Style.{Style}
 use Rattle.wasm_show.specs.declared.numbers.Counts.{Counts}
 use Rattle.wasm_show.specs.declared.only.Only.{Only}
@@ -175,14 +176,16 @@ pub record DumpsFrom (style : Style) (only : List Only) (has_bytes : Bool) (inpu
   pub sink : new.has_failed ≡ output_failed result failed
 
 -- The same by a writer whose outline is empty.
-abbrev pub DumpsInto : (only : List Only) (has_bytes : Bool) (input : Device) (old : Writing) (result : Result Ended ListError)
+abbrev pub DumpsInto : (only : List Only) (has_bytes : Bool) (input : Device) (old : Writing)
+    (result : Result Ended ListError)
     (new : Writing) → Type 0
 DumpsInto only has_bytes input old result new = (taken : Option (List ℕ)) (failed : Bool)
     → IsWritten (origin old.style taken failed [] [] []) old
     → DumpsFrom old.style only has_bytes input taken failed result new
 
 -- The same by a tree that has written nothing yet.
-abbrev pub DumpsByTree : (only : List Only) (has_bytes : Bool) (input : Device) (old : Writing) (result : Result Ended ListError)
+abbrev pub DumpsByTree : (only : List Only) (has_bytes : Bool) (input : Device) (old : Writing)
+    (result : Result Ended ListError)
     (new : Writing) → Type 0
 DumpsByTree only has_bytes input old result new = (style : Style) (taken : Option (List ℕ)) (failed : Bool)
     → old ≡ starts_in style taken failed → DumpsFrom style only has_bytes input taken failed result new

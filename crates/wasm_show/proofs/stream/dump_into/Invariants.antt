@@ -8,7 +8,8 @@ abbrev pub invariant-events : goal.invariant-events
 invariant-events g l =
     let source = g.R.Source in
     record {
-      dumping : Dumping l.shown.only.now l.shown.has_bytes (source.remaining l.initial.input) (source.remaining l.input) l.initial.out l.feeder l.counts l.out;
+      dumping : Dumping l.shown.only.now l.shown.has_bytes (source.remaining l.initial.input)
+          (source.remaining l.input) l.initial.out l.feeder l.counts l.out;
       input : source.has_failed l.input ≡ source.has_failed l.initial.input;
       buffer : 0 < length l.buffer;
     }

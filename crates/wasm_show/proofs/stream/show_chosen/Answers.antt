@@ -11,6 +11,7 @@ returns-then-chooses g c begins = shows_chosen c.args.shown.only.now c.args.show
     (c.show_payload.ensures begins)
 
 pub returns-else-chooses : goal.returns-else-chooses
-returns-else-chooses g c begins = shows_unchosen c.args.shown.only.now c.args.shown.has_bytes c.args.counts.now (report_of c.args.payload.now)
+returns-else-chooses g c begins = shows_unchosen c.args.shown.only.now c.args.shown.has_bytes c.args.counts.now
+    (report_of c.args.payload.now)
     c.args.part.bytes.now _
     (sym c.chooses.ensures ∙ c.if-chooses.false)

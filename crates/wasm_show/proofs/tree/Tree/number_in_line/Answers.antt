@@ -8,5 +8,6 @@ pub returns : goal.returns
 returns g c o i =
     let text = c.as_bytes.ensures.bytes ∙ (c.put_number.ensures.line
     ∙ ap (number_text (record { space = c.args.space; index = c.args.index })) c.new-line.ensures) in
-    puts_number o _ _ c.begin.ensures.lines _ c.begin.ensures.begun (subst (λ (x : List ℕ). Puts x c.begin.new.self c.push.new.self) text c.push.ensures)
+    puts_number o _ _ c.begin.ensures.lines _ c.begin.ensures.begun (subst (λ
+    (x : List ℕ). Puts x c.begin.new.self c.push.new.self) text c.push.ensures)
     (c.begin.ensures.adds o i)

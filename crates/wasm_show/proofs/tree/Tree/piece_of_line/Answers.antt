@@ -4,7 +4,8 @@ use Rattle.wasm_show.proofs.Writing.{puts_part}
 use Rattle.wasm_show.proofs.tree.Tree.piece_of_line.Goals as goal
 
 pub returns-clause-adds : goal.returns-clause-adds
-returns-clause-adds g c o i = puts_part o _ _ c.begin.ensures.lines _ c.begin.ensures.begun (sym c.contains.ensures.value ∙ c.if-contains.false)
+returns-clause-adds g c o i = puts_part o _ _ c.begin.ensures.lines _ c.begin.ensures.begun (sym c.contains.ensures.value
+    ∙ c.if-contains.false)
     c.push.ensures (c.begin.ensures.adds o i)
 
 pub returns-clause-says : goal.returns-clause-says
