@@ -21,8 +21,8 @@ pub(crate) fn append<A: Allocator>(
     Ok(())
 }
 
-// Takes the first bytes out.
-fn drop_front<A: Allocator>(bytes: &mut Vec<u8, A>, count: usize)
+/// Takes the first bytes out.
+pub(crate) fn drop_front<A: Allocator>(bytes: &mut Vec<u8, A>, count: usize)
     requires { count ≤ vec_len bytes.old }
     ensures items { bytes.new.items ≡ drop count bytes.old.items }
     ensures capacity { vec_capacity bytes.new ≡ vec_capacity bytes.old }

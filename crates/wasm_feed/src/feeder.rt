@@ -4,14 +4,19 @@ ghost use Rattle.wasm_base.specs.FaultAt.{fault_at};
 ghost use Rattle.wasm_base.specs.Features.{feature_bits};
 ghost use Rattle.wasm_base.specs.Owned.{out_of_memory};
 ghost use Rattle.wasm_parser.specs.ParseAnswer.{ParseAnswer};
+ghost use Rattle.wasm_feed.specs.Beside.{storing};
 ghost use Rattle.wasm_feed.specs.Cursors.{feed_of, finished_cursor};
 ghost use Rattle.wasm_feed.specs.Feed.{empty_feed, new_feed, pushed, finished, RefusesPush};
 ghost use Rattle.wasm_feed.specs.Lists.{Refills, input_failed};
 ghost use Rattle.wasm_feed.specs.Step.{answer_of, shown, is_request, GivesStep};
 
+mod lending;
+
+pub(crate) use lending::{keep, make_ready, pass_lent, seen};
+
 use crate::buffer::{after, append};
 use crate::devices::{ListError, Source};
-use std::alloc::{Allocator, Global};
+use std::alloc::{AllocError, Allocator, Global};
 use std::marker::Model;
 use wasm_parser::{Chunk, Error, Fault, Parser, Payload, Result, WasmFeatures, fits};
 
@@ -278,12 +283,26 @@ pub(crate) fn refill<A: Allocator>(
         ≡ feed_of bytes.old.items cursor.old) }
     ensures memory { IfErr result (λ e. fault_at e ≡ out_of_memory) }
 {
-    let spent = cursor.mark.min(bytes.len());
-    if append(bytes, spent, piece).is_err() {
+    if store(cursor, bytes, piece).is_err() {
         return Err(Error::new(Fault::OutOfMemory, 0));
     }
-    cursor.mark = 0;
     cursor.wants_more = false;
+    Ok(())
+}
+
+/// The same, and what the feeder waits for stays.
+fn store<A: Allocator>(
+    cursor: &mut Cursor,
+    bytes: &mut Vec<u8, A>,
+    piece: &[u8],
+) -> std::result::Result<(), AllocError>
+    ensures ok { OnOk result (feed_of bytes.new.items cursor.new
+        ≡ storing (feed_of bytes.old.items cursor.old) piece.now) }
+    ensures unchanged { OnErr result (feed_of bytes.new.items cursor.new
+        ≡ feed_of bytes.old.items cursor.old) }
+{
+    append(bytes, cursor.mark.min(bytes.len()), piece)?;
+    cursor.mark = 0;
     Ok(())
 }
 
