@@ -1,8 +1,9 @@
 -- That what a step answers beside a piece is what it answers on all of the piece.
 use Rattle.std.proofs.Common.{◌≡◌, ℕ, ◌+◌, ◌-◌, ◌^◌, ◌<◌, ◌≤◌, Bool, true, false, List, [], ◌∷◌, ◌++◌, length, take, drop, Result, Ok, Err}
-use Rattle.std.proofs.Common.{refl, sym, ap, subst, ◌∙◌, arith, append_assoc, append-nil, length-append, inl, inr, Option}
+use Rattle.std.proofs.Common.{refl, sym, ap, subst, subst₂, ◌∙◌, arith, append_assoc, append-nil, length-append, inl, inr, Option}
 use Rattle.std.specs.Io.KnownBytes.{Consumes, Appends, IsAtEnd, Keeps}
 use Rattle.wasm_base.specs.declared.error.Error.{Error}
+use Rattle.wasm_base.specs.Features.{all_features}
 use Rattle.wasm_grammar.specs.Reading.{Report}
 use Rattle.wasm_parser.specs.Along.{SaysTheSame}
 use Rattle.wasm_parser.specs.ParseAnswer.{IsRequest, ParseAnswer}
@@ -11,12 +12,16 @@ use Rattle.wasm_parser.specs.ParserState.{ParserState}
 use Rattle.wasm_parser.specs.declared.payload.Chunk.{Chunk}
 use Rattle.wasm_parser.specs.declared.payload.Chunk.TheVariants as chunk
 use Rattle.wasm_parser.proofs.ForCallers.{answers_go_along}
-use Rattle.wasm_feed.specs.Feed.{Feed}
-use Rattle.wasm_feed.specs.Beside.{MakesReady, beside, seen, unseen, lending, SeesEnough, AreEnough, ReadsEnough}
+use Rattle.wasm_feed.specs.Beside.{beside, seen, unseen, lending, SeesEnough, AreEnough, ReadsEnough, MakesReady, IsAlike, FillsAlike}
+use Rattle.wasm_feed.specs.Calls.{Change, from_to}
 use Rattle.wasm_feed.specs.Cursors.{feed_of}
+use Rattle.wasm_feed.specs.Feed.{Feed, new_feed, pushed, finished}
+use Rattle.wasm_feed.specs.Progress.{weight, Progress, Wants}
 use Rattle.wasm_feed.specs.Step.{answer_of, shown, is_request, Steps}
 use Rattle.wasm_feed.specs.declared.feeder.Cursor.{Cursor}
 use Rattle.wasm_feed.specs.declared.feeder.Step.{Step}
+use Rattle.wasm_feed.proofs.Progress.{begun, filled}
+use Rattle.wasm_feed.proofs.Stepping.{steps_from}
 
 -- ---- enough bytes
 
@@ -58,3 +63,73 @@ ready old piece (x ∷ xs) count c within first same state eof wants sees = reco
       ap (λ (m : ℕ). drop m (x ∷ xs) ++ drop count piece) first ∙ same in cc;
   enough = rw first sees;
 }
+
+-- ---- a step
+
+-- what the cursor says of a step is what the feeder beside the piece does
+pub lent : (f : Feed) (stored piece items rest bytes : List ℕ) (old new : Cursor) (x : Result Step Error) → lending stored piece old ≡ f
+    → ReadsEnough stored piece old → bytes ≡ seen items rest → items ≡ stored → rest ≡ piece
+    → ParseAnswer old.parser old.is_finished (drop old.mark bytes) (answer_of x) new.parser
+    → drop old.mark bytes ≡ shown x ++ drop new.mark bytes → new.is_finished ≡ old.is_finished → new.wants_more ≡ is_request x
+    → Steps f x (lending stored piece new)
+lent f stored piece items rest bytes old new x from sees read items_are rest_is parses shows finished wants =
+    steps_from (lending stored piece old) f x (lending stored piece new) from (record {
+      parses = sees (answer_of x) new.parser
+          (subst (λ (l : List ℕ). ParseAnswer old.parser old.is_finished (drop old.mark l) (answer_of x) new.parser) same parses);
+      shows = subst (λ (l : List ℕ). drop old.mark l ++ unseen stored piece ≡ shown x ++ (drop new.mark l ++ unseen stored piece)) same
+          (ap (λ (l : List ℕ). l ++ unseen stored piece) shows ∙ append_assoc (shown x) (drop new.mark bytes) (unseen stored piece));
+      stored = refl;
+      eof = finished;
+      wants_more = wants;
+    })
+  where
+    same : bytes ≡ seen stored piece
+    same = read ∙ (ap (λ (l : List ℕ). seen l rest) items_are ∙ ap (seen stored) rest_is)
+
+-- ---- a listing
+
+-- how far it has come is seen by where the feeder is, what it holds, and whether the end was told
+alike : (text_of : Report → List ℕ) (input output : Change) (f g : Feed) (page : List ℕ) → IsAlike f g
+    → Progress text_of input output f page → Progress text_of input output g page
+alike text_of input output f g page a p = record {
+  given = p.given;
+  events = p.events;
+  is_along = rw (← a.state, ← a.held) p.is_along;
+  gave = p.gave;
+  at_end = λ e. p.at_end (a.eof ∙ e);
+  lines = p.lines;
+  listed = p.listed;
+  parts = p.parts;
+}
+
+pub begun_beside : (text_of : Report → List ℕ) (source taken : Option (List ℕ)) (stored piece : List ℕ) (c : Cursor) → stored ≡ []
+    → piece ≡ [] → feed_of [] c ≡ new_feed 0 all_features
+    → Progress text_of (from_to source source) (from_to taken taken) (beside (feed_of stored c) piece) []
+begun_beside text_of source taken stored piece c none no_piece new =
+    subst₂ (λ (s p : List ℕ). Progress text_of (from_to source source) (from_to taken taken) (beside (feed_of s c) p) [])
+    (sym none) (sym no_piece)
+    (alike text_of (from_to source source) (from_to taken taken) (new_feed 0 all_features) (beside (feed_of [] c) []) [] (record {
+      state = sym (ap (λ (f : Feed). f.state) new);
+      held = sym (append-nil (drop c.mark []) ∙ ap (λ (f : Feed). f.held) new);
+      eof = sym (ap (λ (f : Feed). f.eof) new);
+    }) (begun text_of source taken))
+
+alike_lighter : (text_of : Report → List ℕ) (input output : Change) (e f g : Feed) (page : List ℕ) → IsAlike f g
+    → Progress text_of input output f page × (weight f < weight e) → Progress text_of input output g page × (weight g < weight e)
+alike_lighter text_of input output e f g page a (p, less) = (alike text_of input output f g page a p, rw (← a.state, ← a.held, ← a.eof) less)
+
+pub same_lighter : (text_of : Report → List ℕ) (input output : Change) (e f g : Feed) (page : List ℕ) → g ≡ f
+    → Progress text_of input output f page × (weight f < weight e) → Progress text_of input output g page × (weight g < weight e)
+same_lighter text_of input output e f g page same p =
+    subst (λ (h : Feed). Progress text_of input output h page × (weight h < weight e)) (sym same) p
+
+-- what comes next was read, or the source ended
+pub filled_alike : (text_of : Report → List ℕ) (source rest taken written rest' : Option (List ℕ)) (f g : Feed)
+    → Wants text_of (from_to source rest) (from_to taken written) f [] → FillsAlike rest rest' f g
+    → Progress text_of (from_to source rest') (from_to taken written) g [] × (weight g < weight f)
+filled_alike text_of source rest taken written rest' f g w (inl (none, at_end, a)) =
+    alike_lighter text_of (from_to source rest') (from_to taken written) f (finished f) g [] a
+    (filled text_of source rest taken written f w rest' (finished f) (inl (none, at_end, refl)))
+filled_alike text_of source rest taken written rest' f g w (inr (piece, gave, some, a)) =
+    alike_lighter text_of (from_to source rest') (from_to taken written) f (pushed f piece) g [] a
+    (filled text_of source rest taken written f w rest' (pushed f piece) (inr (piece, gave, some, refl)))
