@@ -1,6 +1,7 @@
 -- That what a step answers beside a piece is what it answers on all of the piece.
 use Rattle.std.proofs.Common.{◌≡◌, ℕ, ◌+◌, ◌-◌, ◌^◌, ◌<◌, ◌≤◌, Bool, true, false, List, [], ◌∷◌, ◌++◌, length, take, drop, Result, Ok, Err}
-use Rattle.std.proofs.Common.{refl, sym, ap, subst, subst₂, ◌∙◌, arith, append_assoc, append-nil, length-append, inl, inr, Option}
+use Rattle.std.proofs.Common.{refl, sym, ap, subst, subst₂, ◌∙◌, arith, append_assoc, append-nil, length-append, max, inl, inr, Option}
+use Rattle.std.proofs.lemmas.List.{length-drop}
 use Rattle.std.specs.Io.KnownBytes.{Consumes, Appends, IsAtEnd, Keeps}
 use Rattle.wasm_base.specs.declared.error.Error.{Error}
 use Rattle.wasm_base.specs.Features.{all_features}
@@ -47,17 +48,25 @@ nothing_more p eof bytes more e answer new a = subst (λ (l : List ℕ). ParseAn
 
 -- ---- bytes that were stored
 
+bounded_by : (old : Feed) (piece stored : List ℕ) (count : ℕ) → count ≤ length piece → stored ++ drop count piece ≡ old.held ++ piece
+    → length stored + (length piece - count) ≤ max old.stored (length old.held + length piece)
+bounded_by old piece stored count within same =
+    let sizes = ap (λ (l : List ℕ). length l) same in
+    omega (arith, sizes, length-append stored (drop count piece), length-append old.held piece, length-drop count piece)
+
 -- a cursor at the first of the stored bytes, where these and what is left of the piece are what was held and the piece
 pub ready : (old : Feed) (piece stored : List ℕ) (count : ℕ) (c : Cursor) → count ≤ length piece → c.mark ≡ 0
     → stored ++ drop count piece ≡ old.held ++ piece → c.parser ≡ old.state → c.is_finished ≡ old.eof → c.wants_more ≡ old.wants_more
     → SeesEnough c.parser c.is_finished stored (drop count piece) → MakesReady old piece count stored c
 ready old piece [] count c within first same state eof wants sees = record {
+  bounded = bounded_by old piece [] count within same;
   within = within;
   same = let h : drop c.mark (drop count piece) ++ [] ≡ old.held ++ piece = append-nil (drop c.mark (drop count piece))
       ∙ (ap (λ (m : ℕ). drop m (drop count piece)) first ∙ same) in cc;
   enough = nothing_more c.parser c.is_finished (drop c.mark (drop count piece)) [] refl;
 }
 ready old piece (x ∷ xs) count c within first same state eof wants sees = record {
+  bounded = bounded_by old piece (x ∷ xs) count within same;
   within = within;
   same = let h : drop c.mark (x ∷ xs) ++ drop count piece ≡ old.held ++ piece =
       ap (λ (m : ℕ). drop m (x ∷ xs) ++ drop count piece) first ∙ same in cc;

@@ -1,5 +1,5 @@
 -- A feeder beside a piece, of which it stores nothing, a part or all.
-use Rattle.std.specs.Prelude.{◌≡◌, ◌⊎◌, ℕ, ◌+◌, ◌<◌, ◌≤◌, ◌^◌, Bool, false, List, [], ◌∷◌, ◌++◌, length, take, drop}
+use Rattle.std.specs.Prelude.{◌≡◌, ◌⊎◌, ℕ, ◌+◌, ◌-◌, ◌<◌, ◌≤◌, ◌^◌, max, Bool, true, false, List, [], ◌∷◌, ◌++◌, length, take, drop}
 use Rattle.std.specs.Prelude.{Option, Result, Ok, Err}
 use Rattle.std.specs.Io.KnownBytes.{Consumes, IsAtEnd, Keeps}
 use Rattle.wasm_base.specs.declared.error.Error.{Error}
@@ -9,13 +9,11 @@ use Rattle.wasm_parser.specs.declared.payload.Chunk.{Chunk}
 use Rattle.wasm_feed.specs.Cursors.{feed_of}
 use Rattle.wasm_feed.specs.Feed.{Feed, pushed, finished}
 use Rattle.wasm_feed.specs.Lists.{Refills}
+use Rattle.wasm_feed.specs.Step.{is_request, Steps}
 use Rattle.wasm_feed.specs.declared.devices.Failed.{Failed}
 use Rattle.wasm_feed.specs.declared.devices.ListError.{ListError}
 use Rattle.wasm_feed.specs.declared.feeder.Cursor.{Cursor}
-
--- a feeder with these bytes stored after those that it held
-abbrev pub storing : Feed → (piece : List ℕ) → Feed
-storing f piece = record f { held = f.held ++ piece; stored = length f.held + length piece }
+use Rattle.wasm_feed.specs.declared.feeder.Step.{Step}
 
 -- a feeder and the bytes that come next, as one that holds both; how many are stored is left out
 abbrev pub beside : Feed → (rest : List ℕ) → Feed
@@ -60,6 +58,15 @@ pub record MakesReady (old : Feed) (piece : List ℕ) (count : ℕ) (stored : Li
   pub within : count ≤ length piece
   pub same : lending stored (drop count piece) c ≡ beside old piece
   pub enough : ReadsEnough stored (drop count piece) c
+  pub bounded : length stored + (length piece - count) ≤ max old.stored (length old.held + length piece)
+
+-- A step along what a feeder holds and then a piece, of which it took so many bytes: all where more is asked for. Where it
+-- stores more than before, these are no more than after a push of the piece.
+pub record StepsOver (old : Feed) (piece : List ℕ) (result : Result Step Error) (taken : ℕ) (new : Feed) : Type 0 where
+  pub within : taken ≤ length piece
+  pub steps : Steps (beside old piece) result (beside new (drop taken piece))
+  pub asks : is_request result ≡ true → taken ≡ length piece
+  pub bounded : new.stored ≤ max old.stored (pushed old piece).stored
 
 -- Two feeders are in one place, with the same bytes.
 pub record IsAlike (f g : Feed) : Type 0 where

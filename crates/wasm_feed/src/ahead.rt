@@ -1,5 +1,5 @@
 // A piece of a source, beside what is stored of the stream before it.
-ghost use Rattle.std.specs.Prelude.{◌≡◌, ◌<◌, ◌≤◌, [], drop, length, vec_len, is_ok, true, IfErr, OnOk, if◌then◌else◌};
+ghost use Rattle.std.specs.Prelude.{◌≡◌, ◌+◌, ◌<◌, ◌≤◌, [], drop, length, vec_len, vec_capacity, is_ok, true, IfErr, OnOk, if◌then◌else◌};
 ghost use Rattle.wasm_feed.specs.Beside.{beside, lending, Fetches, ReadsEnough, RefillsAlike};
 ghost use Rattle.wasm_feed.specs.Cursors.{feed_of};
 ghost use Rattle.wasm_feed.specs.Lists.{input_failed};
@@ -79,6 +79,8 @@ impl<A: Allocator> Ahead<A> {
         ensures same { OnOk result (lending stored.new.items self.new cursor.new
             ≡ beside (feed_of stored.old.items cursor.old) self.old) }
         ensures enough { OnOk result (ReadsEnough stored.new.items self.new cursor.new) }
+        ensures room { OnOk result (vec_len stored.new + length self.new
+            ≤ vec_capacity stored.new) }
         ensures memory { IfErr result (λ e. e ≡ Memory) }
     {
         let count = make_ready(cursor, stored, self.bytes())?;
@@ -95,20 +97,21 @@ impl<A: Allocator> Ahead<A> {
         self.pass(count);
     }
 
-    /// Stores what a step left, and reads once: the next piece, or that the stream has ended.
+    /// Stores what a step left, for which there must be room, and reads once: the next piece, or that the stream has ended.
     pub(crate) fn refill<R: Source>(
         &mut self,
         cursor: &mut Cursor,
         stored: &mut Vec<u8, A>,
         input: &mut R,
     ) -> Result<(), ListError>
+        requires { vec_len stored.old + length self.old ≤ vec_capacity stored.old }
         ensures refills { RefillsAlike (R.remaining input.old) (R.remaining input.new)
             (lending stored.old.items self.old cursor.old)
             (beside (feed_of stored.new.items cursor.new) self.new) result }
         ensures failed { R.has_failed input.new
             ≡ input_failed result (R.has_failed input.old) }
     {
-        keep(cursor, stored, self.bytes())?;
+        keep(cursor, stored, self.bytes());
         if self.fetch(input).is_err() {
             return Err(ListError::Input);
         }

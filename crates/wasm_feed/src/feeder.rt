@@ -1,22 +1,24 @@
 // A feeder: it is given the bytes of a stream in pieces, and lends its payloads one by one.
-ghost use Rattle.std.specs.Prelude.{◌≡◌, ◌+◌, ◌<◌, ◌++◌, true, [], drop, length, OnOk, OnErr, IfErr};
+ghost use Rattle.std.specs.Prelude.{◌≡◌, ◌+◌, ◌<◌, ◌++◌, true, [], drop, length, OnOk, OnErr, IfErr, IfOk};
 ghost use Rattle.wasm_base.specs.FaultAt.{fault_at};
 ghost use Rattle.wasm_base.specs.Features.{feature_bits};
 ghost use Rattle.wasm_base.specs.Owned.{out_of_memory};
 ghost use Rattle.wasm_parser.specs.ParseAnswer.{ParseAnswer};
-ghost use Rattle.wasm_feed.specs.Beside.{storing};
+ghost use Rattle.wasm_feed.specs.Beside.{StepsOver};
 ghost use Rattle.wasm_feed.specs.Cursors.{feed_of, finished_cursor};
 ghost use Rattle.wasm_feed.specs.Feed.{empty_feed, new_feed, pushed, finished, RefusesPush};
+ghost use Rattle.wasm_feed.specs.FeedersLaws.{WaitsUndecided};
 ghost use Rattle.wasm_feed.specs.Lists.{Refills, input_failed};
 ghost use Rattle.wasm_feed.specs.Step.{answer_of, shown, is_request, GivesStep};
 
 mod lending;
 
 pub(crate) use lending::{keep, make_ready, pass_lent, seen};
+use lending::take_left;
 
 use crate::buffer::{after, append};
 use crate::devices::{ListError, Source};
-use std::alloc::{AllocError, Allocator, Global};
+use std::alloc::{Allocator, Global};
 use std::marker::Model;
 use wasm_parser::{Chunk, Error, Fault, Parser, Payload, Result, WasmFeatures, fits};
 
@@ -247,6 +249,51 @@ impl<A: Allocator> Feeder<A> {
     {
         look(parse_next(&mut self.cursor, &self.bytes))
     }
+
+    /// One step along the bytes that are held and then a piece, what is made of it, and how many bytes of the piece the feeder
+    /// took: all of it where the step asks for more. The others are to come first the next time. What is told is what `step_with`
+    /// would tell after a push of the piece, but parts that lie whole in the piece are read where they are, and nothing is
+    /// stored of them. A download is read so:
+    ///
+    /// ```text
+    /// let mut rest = download.next()?;
+    /// loop {
+    ///     let (taken, is_over) = feeder.step_over(rest, |step| ..)?;
+    ///     if is_over? {
+    ///         return Ok(());
+    ///     }
+    ///     rest = &rest[taken..];
+    ///     if feeder.wants_more() {
+    ///         match download.next()? {
+    ///             Some(piece) => rest = piece,
+    ///             None => feeder.finish(),
+    ///         }
+    ///     }
+    /// }
+    /// ```
+    ///
+    /// A stream that passes the offset 2^64 - 1 is a fault of the step. `OutOfMemory` where the growth was refused that
+    /// the piece may need: the feeder is then as it was, and nothing was told.
+    pub fn step_over<R, F: FnOnce(Result<Step<'_>>) -> R>(
+        &mut self,
+        piece: &[u8],
+        look: F,
+    ) -> Result<(usize, R)>
+        requires { F.IsAlwaysCallable look }
+        ensures steps { IfOk result (λ told. (s : _) × F.post look s told.1
+            × StepsOver self.old piece.now s told.0 self.new) }
+        ensures waits { OnOk result (WaitsUndecided self.new) }
+        ensures unchanged { OnErr result (self.new ≡ self.old) }
+        ensures memory { IfErr result (λ e. fault_at e ≡ out_of_memory) }
+    {
+        let Ok(ready) = make_ready(&mut self.cursor, &mut self.bytes, piece) else {
+            return Err(Error::new(Fault::OutOfMemory, 0));
+        };
+        let rest = &piece[ready..];
+        let told = look(parse_next(&mut self.cursor, seen(&self.bytes, rest)));
+        let taken = take_left(&mut self.cursor, &mut self.bytes, rest);
+        Ok((ready + taken, told))
+    }
 }
 
 /// A feeder that is taken apart.
@@ -283,26 +330,12 @@ pub(crate) fn refill<A: Allocator>(
         ≡ feed_of bytes.old.items cursor.old) }
     ensures memory { IfErr result (λ e. fault_at e ≡ out_of_memory) }
 {
-    if store(cursor, bytes, piece).is_err() {
+    let spent = cursor.mark.min(bytes.len());
+    if append(bytes, spent, piece).is_err() {
         return Err(Error::new(Fault::OutOfMemory, 0));
     }
-    cursor.wants_more = false;
-    Ok(())
-}
-
-/// The same, and what the feeder waits for stays.
-fn store<A: Allocator>(
-    cursor: &mut Cursor,
-    bytes: &mut Vec<u8, A>,
-    piece: &[u8],
-) -> std::result::Result<(), AllocError>
-    ensures ok { OnOk result (feed_of bytes.new.items cursor.new
-        ≡ storing (feed_of bytes.old.items cursor.old) piece.now) }
-    ensures unchanged { OnErr result (feed_of bytes.new.items cursor.new
-        ≡ feed_of bytes.old.items cursor.old) }
-{
-    append(bytes, cursor.mark.min(bytes.len()), piece)?;
     cursor.mark = 0;
+    cursor.wants_more = false;
     Ok(())
 }
 

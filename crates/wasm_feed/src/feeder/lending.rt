@@ -1,10 +1,10 @@
 // How a piece is lent: parts that lie whole in it are parsed where they are, and only what is left of it is stored.
-ghost use Rattle.std.specs.Prelude.{◌≡◌, ℕ, ◌+◌, ◌<◌, ◌≤◌, ◌^◌, false, [], ◌++◌, take, drop, length, vec_len, IfOk, OnOk, OnErr};
+ghost use Rattle.std.specs.Prelude.{◌≡◌, ◌+◌, ◌-◌, ◌<◌, ◌≤◌, ◌^◌, true, false, [], drop, length, vec_len, vec_capacity, IfOk, OnErr};
 ghost use Rattle.wasm_feed.specs.Beside.{beside, lending, seen, AreEnough, Gathers, MakesReady};
 ghost use Rattle.wasm_feed.specs.Cursors.{feed_of};
 
-use super::{Cursor, store};
-use crate::buffer::{after, drop_front};
+use super::Cursor;
+use crate::buffer::{drop_front, make_room, put};
 use std::alloc::{AllocError, Allocator};
 use wasm_parser::laws::answers_last;
 use wasm_parser::{Chunk, Parser, fits};
@@ -21,7 +21,8 @@ pub(crate) fn seen<'a>(stored: &'a [u8], piece: &'a [u8]) -> &'a [u8]
 }
 
 /// Stores as many bytes of the piece as the next step has to read after those that are held, and says how many: none where
-/// nothing is held, since the piece is read where it is then. A growth that is refused changes nothing of what is held.
+/// nothing is held, since the piece is read where it is then. There is room for the others too. A growth that is refused changes
+/// nothing.
 pub(crate) fn make_ready<A: Allocator>(
     cursor: &mut Cursor,
     stored: &mut Vec<u8, A>,
@@ -29,23 +30,24 @@ pub(crate) fn make_ready<A: Allocator>(
 ) -> Result<usize, AllocError>
     ensures ok { IfOk result (λ count. MakesReady (feed_of stored.old.items cursor.old) piece.now
         count stored.new.items cursor.new) }
-    ensures unchanged { OnErr result (beside (feed_of stored.new.items cursor.new) []
-        ≡ beside (feed_of stored.old.items cursor.old) []) }
+    ensures room { IfOk result (λ count. vec_len stored.new + (length piece.now - count)
+        ≤ vec_capacity stored.new) }
+    ensures unchanged { OnErr result (feed_of stored.new.items cursor.new
+        ≡ feed_of stored.old.items cursor.old) }
 {
     if piece.is_empty() {
         return Ok(0);
     }
-    let held = after(stored, cursor.mark).len();
-    if held == 0 {
-        stored.clear();
-        cursor.mark = 0;
+    make_room(stored, cursor.mark.min(stored.len()), piece.len())?;
+    cursor.mark = 0;
+    if stored.is_empty() {
         return Ok(0);
     }
-    if goes_whole(cursor, held, piece.len()) {
-        store(cursor, stored, piece)?;
+    if goes_whole(cursor, stored.len(), piece.len()) {
+        put(stored, piece);
         return Ok(piece.len());
     }
-    store_missing(cursor, stored, piece)
+    Ok(gather(&cursor.parser, stored, piece))
 }
 
 // Whether so many bytes are stored whole after so many that are held: also where they pass the top of the offsets, or the
@@ -64,54 +66,24 @@ fn goes_whole(cursor: &Cursor, held: usize, size: usize) -> bool
     !fits(offset + held as u64, size)
 }
 
-// Stores as many bytes of the piece as those that are held miss.
-fn store_missing<A: Allocator>(
-    cursor: &mut Cursor,
-    stored: &mut Vec<u8, A>,
-    piece: &[u8],
-) -> Result<usize, AllocError>
-    requires goes_on { cursor.old.is_finished ≡ false }
-    requires below { cursor.old.parser.offset
-        + (length (drop cursor.old.mark stored.old.items) + length piece.now) < 2 ^ 64 }
-    ensures ok { IfOk result (λ count. MakesReady (feed_of stored.old.items cursor.old) piece.now
-        count stored.new.items cursor.new) }
-    ensures unchanged { OnErr result (beside (feed_of stored.new.items cursor.new) []
-        ≡ beside (feed_of stored.old.items cursor.old) []) }
-{
-    drop_front(stored, cursor.mark.min(stored.len()));
-    cursor.mark = 0;
-    let held = stored.len();
-    match gather(&cursor.parser, stored, piece) {
-        Ok(count) => Ok(count),
-        Err(refused) => {
-            stored.truncate(held);
-            Err(refused)
-        }
-    }
-}
-
-// Puts bytes of the piece after those that are held until they are enough, and says how many. Where a growth is refused some were put.
-fn gather<A: Allocator>(
-    parser: &Parser,
-    held: &mut Vec<u8, A>,
-    piece: &[u8],
-) -> Result<usize, AllocError>
-    requires { parser.now.offset + (vec_len held.old + length piece.now) < 2 ^ 64 }
-    ensures ok { IfOk result (λ count. Gathers parser.now held.old.items piece.now
-        count held.new.items) }
-    ensures err { OnErr result (take (vec_len held.old) held.new.items ≡ held.old.items) }
+// Puts bytes of the piece after those that are held until they are enough, and says how many.
+fn gather<A: Allocator>(parser: &Parser, held: &mut Vec<u8, A>, piece: &[u8]) -> usize
+    requires below { parser.now.offset + (vec_len held.old + length piece.now) < 2 ^ 64 }
+    requires room { vec_len held.old + length piece.now ≤ vec_capacity held.old }
+    ensures gathers { Gathers parser.now held.old.items piece.now result held.new.items }
+    ensures room { vec_len held.new + (length piece.now - result) ≤ vec_capacity held.new }
 {
     let mut count = 0;
     'parts: while count < piece.len() {
         let missing = missing(parser, held);
         if missing == 0 {
-            return Ok(count);
+            return count;
         }
         let end = count + missing.min(piece.len() - count);
-        held.extend_from_slice(&piece[count..end])?;
+        put(held, &piece[count..end]);
         count = end;
     }
-    Ok(count)
+    count
 }
 
 // About how many bytes these miss: none where they are enough for the parser.
@@ -141,15 +113,36 @@ pub(crate) fn pass_lent(cursor: &mut Cursor, stored: &[u8], piece: &[u8]) -> usi
     count
 }
 
-/// Stores what a step left of the piece.
-pub(crate) fn keep<A: Allocator>(
+/// Stores what a step left of the piece, for which there must be room.
+pub(crate) fn keep<A: Allocator>(cursor: &mut Cursor, stored: &mut Vec<u8, A>, piece: &[u8])
+    requires { vec_len stored.old + length piece.now ≤ vec_capacity stored.old }
+    ensures keeps { beside (feed_of stored.new.items cursor.new) []
+        ≡ lending stored.old.items piece.now cursor.old }
+    ensures bounded { vec_len stored.new ≤ vec_len stored.old + length piece.now }
+{
+    let count = pass_lent(cursor, stored, piece);
+    drop_front(stored, cursor.mark.min(stored.len()));
+    cursor.mark = 0;
+    put(stored, &piece[count..]);
+}
+
+/// Takes of the piece what a step consumed, or all that is left where it asked for more, and says how many bytes these are.
+pub(super) fn take_left<A: Allocator>(
     cursor: &mut Cursor,
     stored: &mut Vec<u8, A>,
     piece: &[u8],
-) -> Result<(), AllocError>
-    ensures ok { OnOk result (beside (feed_of stored.new.items cursor.new) []
-        ≡ lending stored.old.items piece.now cursor.old) }
+) -> usize
+    requires { vec_len stored.old + length piece.now ≤ vec_capacity stored.old }
+    ensures takes { beside (feed_of stored.new.items cursor.new) (drop result piece.now)
+        ≡ lending stored.old.items piece.now cursor.old }
+    ensures within { result ≤ length piece.now }
+    ensures asks { cursor.old.wants_more ≡ true → result ≡ length piece.now }
+    ensures bounded { vec_len stored.new ≤ vec_len stored.old + length piece.now }
+    ensures wants { cursor.new.wants_more ≡ cursor.old.wants_more }
 {
-    let count = pass_lent(cursor, stored, piece);
-    store(cursor, stored, &piece[count..])
+    if cursor.wants_more {
+        keep(cursor, stored, piece);
+        return piece.len();
+    }
+    pass_lent(cursor, stored, piece)
 }

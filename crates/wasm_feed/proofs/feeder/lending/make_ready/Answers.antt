@@ -3,16 +3,16 @@ use Rattle.std.proofs.lemmas.Grind.{common_steps}
 use Rattle.std.proofs.lemmas.List.{take-append-drop}
 use Rattle.wasm_feed.specs.Cursors.{feed_of}
 use Rattle.wasm_feed.proofs.Beside.{ready}
-use Rattle.wasm_feed.proofs.feeder.lending.store_missing.Goals as goal
+use Rattle.wasm_feed.proofs.feeder.lending.make_ready.Goals as goal
 
-pub returns-in-Ok-clause-ok : goal.returns-in-Ok-clause-ok
-returns-in-Ok-clause-ok g c =
-    let w = c.in-Ok.ensures.ok in
-    let count = c.in-Ok.count in
+pub returns-clause-ok : goal.returns-clause-ok
+returns-clause-ok g c =
+    let w = c.gather.ensures.gathers in
+    let count = c.gather.result in
     let piece = c.args.piece.now in
-    let front = c.drop_front.new.bytes.items in
+    let front = c.make_room.new.bytes.items in
     let held : front ≡ drop c.args.cursor.now.mark c.args.stored.now.items = grind (arith, common_steps) in
     let same = ap (λ (l : List ℕ). l ++ drop count piece) w.stores ∙ (append_assoc front (take count piece) (drop count piece)
     ∙ (ap (λ (l : List ℕ). front ++ l) (take-append-drop count piece) ∙ ap (λ (l : List ℕ). l ++ piece) held)) in
     ready (feed_of c.args.stored.now.items c.args.cursor.now) piece c.gather.new.held.items count _ w.within refl same refl refl refl
-    (rw c.requires.goes_on w.enough)
+    (rw (c.if-goes_whole.ensures.finished refl) w.enough)
