@@ -1,12 +1,13 @@
 -- That what a step answers beside a piece is what it answers on all of the piece.
 use Rattle.std.proofs.Common.{◌≡◌, ℕ, ◌+◌, ◌-◌, ◌^◌, ◌<◌, ◌≤◌, Bool, true, false, List, [], ◌∷◌, ◌++◌, length, take, drop, Result, Ok, Err}
 use Rattle.std.proofs.Common.{refl, sym, ap, subst, subst₂, ◌∙◌, arith, append_assoc, append-nil, length-append, max, inl, inr, Option}
-use Rattle.std.proofs.lemmas.List.{length-drop}
+use Rattle.std.proofs.lemmas.List.{length-drop, drop-drop, drop_all}
 use Rattle.std.specs.Io.KnownBytes.{Consumes, Appends, IsAtEnd, Keeps}
 use Rattle.wasm_base.specs.declared.error.Error.{Error}
 use Rattle.wasm_base.specs.Features.{all_features}
 use Rattle.wasm_grammar.specs.Reading.{Report}
 use Rattle.wasm_parser.specs.Along.{SaysTheSame}
+use Rattle.wasm_parser.specs.GivesNextEvent.{IsUndecided}
 use Rattle.wasm_parser.specs.ParseAnswer.{IsRequest, ParseAnswer}
 use Rattle.wasm_parser.specs.ParserLaws.{AnswersLast}
 use Rattle.wasm_parser.specs.ParserState.{ParserState}
@@ -14,15 +15,18 @@ use Rattle.wasm_parser.specs.declared.payload.Chunk.{Chunk}
 use Rattle.wasm_parser.specs.declared.payload.Chunk.TheVariants as chunk
 use Rattle.wasm_parser.proofs.ForCallers.{answers_go_along}
 use Rattle.wasm_feed.specs.Beside.{beside, seen, unseen, lending, SeesEnough, AreEnough, ReadsEnough, MakesReady, IsAlike, FillsAlike}
+use Rattle.wasm_feed.specs.Beside.{StepsOver}
 use Rattle.wasm_feed.specs.Calls.{Change, from_to}
 use Rattle.wasm_feed.specs.Cursors.{feed_of}
-use Rattle.wasm_feed.specs.Feed.{Feed, new_feed, pushed, finished}
+use Rattle.wasm_feed.specs.Feed.{Feed, new_feed, pushed, finished, end_of}
+use Rattle.wasm_feed.specs.FeedersLaws.{WaitsUndecided}
 use Rattle.wasm_feed.specs.Progress.{weight, Progress, Wants}
 use Rattle.wasm_feed.specs.Step.{answer_of, shown, is_request, Steps}
 use Rattle.wasm_feed.specs.declared.feeder.Cursor.{Cursor}
 use Rattle.wasm_feed.specs.declared.feeder.Step.{Step}
+use Rattle.wasm_feed.specs.declared.feeder.Step.TheVariants.{NeedMoreData, Parsed}
 use Rattle.wasm_feed.proofs.Progress.{begun, filled}
-use Rattle.wasm_feed.proofs.Stepping.{steps_from}
+use Rattle.wasm_feed.proofs.Stepping.{steps_from, asked, asked_below}
 
 -- ---- enough bytes
 
@@ -142,3 +146,50 @@ filled_alike text_of source rest taken written rest' f g w (inl (none, at_end, a
 filled_alike text_of source rest taken written rest' f g w (inr (piece, gave, some, a)) =
     alike_lighter text_of (from_to source rest') (from_to taken written) f (pushed f piece) g [] a
     (filled text_of source rest taken written f w rest' (pushed f piece) (inr (piece, gave, some, refl)))
+
+-- ---- a step over a piece
+
+pub over : (f : Feed) (piece rest stored : List ℕ) (count : ℕ) (old new : Cursor) (x : Result Step Error)
+    → MakesReady f piece count stored old → rest ≡ drop count piece → Steps (beside f piece) x (lending stored (drop count piece) new)
+    → new.wants_more ≡ is_request x → (taken : ℕ) (stored' : List ℕ) (last : Cursor)
+    → beside (feed_of stored' last) (drop taken rest) ≡ lending stored rest new → taken ≤ length rest
+    → (new.wants_more ≡ true → taken ≡ length rest) → length stored' ≤ length stored + length rest
+    → StepsOver f piece x (count + taken) (feed_of stored' last)
+over f piece rest stored count old new x r left s w taken stored' last takes within asks bounded = record {
+  within = omega (arith, size, sizes, within, r.within);
+  steps = subst (λ (g : Feed). Steps (beside f piece) x g) (sym same) s;
+  asks = λ e. let all = asks (w ∙ e) in omega (arith, all, size, sizes, r.within);
+  bounded = omega (arith, bounded, r.bounded, size, sizes);
+}
+  where
+    size : length rest ≡ length (drop count piece)
+    size = ap (λ (l : List ℕ). length l) left
+
+    sizes : length (drop count piece) ≡ length piece - count
+    sizes = length-drop count piece
+
+    same : beside (feed_of stored' last) (drop (count + taken) piece) ≡ lending stored (drop count piece) new
+    same = ap (beside (feed_of stored' last)) (sym (ap (drop taken) left ∙ drop-drop taken count piece))
+        ∙ (takes ∙ ap (λ (l : List ℕ). lending stored l new) left)
+
+-- after a step over a piece the feeder wants more only where its parser is undecided
+pub over_waits : (f new : Feed) (piece : List ℕ) (x : Result Step Error) (taken : ℕ) → StepsOver f piece x taken new
+    → length new.held ≤ new.stored → WaitsUndecided new
+over_waits f new piece x taken s l = record {
+  stores = l;
+  below = λ e. let b = (by_answer x s.steps (sym s.steps.wants_more ∙ e)).1 in
+      omega (arith, b, length-append new.held (drop taken piece));
+  undecided = λ e. let (hint, u) = (by_answer x s.steps (sym s.steps.wants_more ∙ e)).0 in
+      (hint, subst (λ (l : List ℕ). IsUndecided new.state new.eof l hint) (all (sym s.steps.wants_more ∙ e)) u);
+}
+  where
+    all : is_request x ≡ true → new.held ++ drop taken piece ≡ new.held
+    all e = ap (λ (l : List ℕ). new.held ++ l) (drop_all taken piece (omega (arith, s.asks e))) ∙ append-nil new.held
+
+    by_answer : (y : Result Step Error) → Steps (beside f piece) y (beside new (drop taken piece)) → is_request y ≡ true
+        → ((hint : ℕ) × IsUndecided new.state new.eof (new.held ++ drop taken piece) hint)
+        × (end_of (beside new (drop taken piece)) < 2 ^ 64)
+    by_answer (Ok (NeedMoreData hint)) t e = ((hint, asked (beside f piece) (beside new (drop taken piece)) hint t),
+        asked_below (beside f piece) (beside new (drop taken piece)) hint t)
+    by_answer (Ok (Parsed bytes payload)) t e = cc
+    by_answer (Err error) t e = cc
