@@ -1,4 +1,6 @@
 // The events of a stream, read in several ways.
+ghost use Rattle.std.specs.Prelude.{⊤};
+
 use crate::tally::Tally;
 use bitflags::Flags;
 use std::alloc::Global;
@@ -42,16 +44,24 @@ pub(crate) fn feed(alloc: Global, bytes: &[u8], size: usize) -> Result<Tally> {
     let mut tally = Tally::new();
     let mut feeder = Feeder::new(alloc, 0, WasmFeatures::all());
     let mut rest = bytes;
+    let mut piece = rest.split_at(0).0;
     for _ in 0..u64::MAX {
-        if tally_step(feeder.open().step()?, &mut tally) {
+        let (taken, is_last) = feeder.step_over(
+            piece,
+            |step|
+                ensures { ⊤ }
+            { tally_step(step, &mut tally) },
+        )?;
+        if is_last? {
             break;
         }
+        piece = piece.split_at(taken).1;
         if feeder.wants_more() {
             if rest.is_empty() {
                 feeder.finish();
             } else {
-                let (piece, later) = rest.split_at(size.min(rest.len()));
-                feeder.push(piece)?;
+                let (next, later) = rest.split_at(size.min(rest.len()));
+                piece = next;
                 rest = later;
             }
         }
@@ -60,10 +70,10 @@ pub(crate) fn feed(alloc: Global, bytes: &[u8], size: usize) -> Result<Tally> {
 }
 
 // Whether this was the last step.
-fn tally_step(step: Step<'_>, tally: &mut Tally) -> bool {
-    match step {
-        Step::Parsed { payload, .. } => tally_payload(payload, tally),
-        Step::NeedMoreData(_) => false,
+fn tally_step(step: Result<Step<'_>>, tally: &mut Tally) -> Result<bool> {
+    match step? {
+        Step::Parsed { payload, .. } => Ok(tally_payload(payload, tally)),
+        Step::NeedMoreData(_) => Ok(false),
     }
 }
 

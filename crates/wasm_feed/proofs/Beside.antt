@@ -1,8 +1,7 @@
 -- That what a step answers beside a piece is what it answers on all of the piece.
-use Rattle.std.proofs.Common.{◌≡◌, ℕ, ◌+◌, ◌-◌, ◌^◌, ◌<◌, ◌≤◌, Bool, true, false, List, [], ◌∷◌, ◌++◌, length, take, drop, Result, Ok, Err}
+use Rattle.std.proofs.Common.{◌≡◌, ℕ, ◌+◌, ◌-◌, ◌^◌, ◌<◌, ◌≤◌, Bool, true, false, List, [], ◌∷◌, ◌++◌, length, drop, Result, Ok, Err}
 use Rattle.std.proofs.Common.{refl, sym, ap, subst, subst₂, ◌∙◌, arith, append_assoc, append-nil, length-append, max, inl, inr, Option}
 use Rattle.std.proofs.lemmas.List.{length-drop, drop-drop, drop_all}
-use Rattle.std.specs.Io.KnownBytes.{Consumes, Appends, IsAtEnd, Keeps}
 use Rattle.wasm_base.specs.declared.error.Error.{Error}
 use Rattle.wasm_base.specs.Features.{all_features}
 use Rattle.wasm_grammar.specs.Reading.{Report}
@@ -156,7 +155,6 @@ pub over : (f : Feed) (piece rest stored : List ℕ) (count : ℕ) (old new : Cu
     → (new.wants_more ≡ true → taken ≡ length rest) → length stored' ≤ length stored + length rest
     → StepsOver f piece x (count + taken) (feed_of stored' last)
 over f piece rest stored count old new x r left s w taken stored' last takes within asks bounded = record {
-  within = omega (arith, size, sizes, within, r.within);
   steps = subst (λ (g : Feed). Steps (beside f piece) x g) (sym same) s;
   asks = λ e. let all = asks (w ∙ e) in omega (arith, all, size, sizes, r.within);
   bounded = omega (arith, bounded, r.bounded, size, sizes);
@@ -189,7 +187,9 @@ over_waits f new piece x taken s l = record {
     by_answer : (y : Result Step Error) → Steps (beside f piece) y (beside new (drop taken piece)) → is_request y ≡ true
         → ((hint : ℕ) × IsUndecided new.state new.eof (new.held ++ drop taken piece) hint)
         × (end_of (beside new (drop taken piece)) < 2 ^ 64)
-    by_answer (Ok (NeedMoreData hint)) t e = ((hint, asked (beside f piece) (beside new (drop taken piece)) hint t),
-        asked_below (beside f piece) (beside new (drop taken piece)) hint t)
+    by_answer (Ok (NeedMoreData hint)) t e = (
+      (hint, asked (beside f piece) (beside new (drop taken piece)) hint t),
+      asked_below (beside f piece) (beside new (drop taken piece)) hint t,
+    )
     by_answer (Ok (Parsed bytes payload)) t e = cc
     by_answer (Err error) t e = cc

@@ -63,7 +63,6 @@ pub record MakesReady (old : Feed) (piece : List ℕ) (count : ℕ) (stored : Li
 -- A step along what a feeder holds and then a piece, of which it took so many bytes: all where more is asked for. Where it
 -- stores more than before, these are no more than after a push of the piece.
 pub record StepsOver (old : Feed) (piece : List ℕ) (result : Result Step Error) (taken : ℕ) (new : Feed) : Type 0 where
-  pub within : taken ≤ length piece
   pub steps : Steps (beside old piece) result (beside new (drop taken piece))
   pub asks : is_request result ≡ true → taken ≡ length piece
   pub bounded : new.stored ≤ max old.stored (pushed old piece).stored

@@ -1,5 +1,5 @@
 // A feeder: it is given the bytes of a stream in pieces, and lends its payloads one by one.
-ghost use Rattle.std.specs.Prelude.{◌≡◌, ◌+◌, ◌<◌, ◌++◌, true, [], drop, length, OnOk, OnErr, IfErr, IfOk};
+ghost use Rattle.std.specs.Prelude.{◌≡◌, ◌+◌, ◌<◌, ◌≤◌, ◌++◌, true, [], drop, length, OnOk, OnErr, IfErr, IfOk};
 ghost use Rattle.wasm_base.specs.FaultAt.{fault_at};
 ghost use Rattle.wasm_base.specs.Features.{feature_bits};
 ghost use Rattle.wasm_base.specs.Owned.{out_of_memory};
@@ -13,11 +13,10 @@ ghost use Rattle.wasm_feed.specs.Step.{answer_of, shown, is_request, GivesStep};
 
 mod lending;
 
-pub(crate) use lending::{keep, make_ready, pass_lent, seen};
-use lending::take_left;
-
 use crate::buffer::{after, append};
 use crate::devices::{ListError, Source};
+use lending::take_left;
+pub(crate) use lending::{keep, make_ready, pass_lent, seen};
 use std::alloc::{Allocator, Global};
 use std::marker::Model;
 use wasm_parser::{Chunk, Error, Fault, Parser, Payload, Result, WasmFeatures, fits};
@@ -282,6 +281,7 @@ impl<A: Allocator> Feeder<A> {
         requires { F.IsAlwaysCallable look }
         ensures steps { IfOk result (λ told. (s : _) × F.post look s told.1
             × StepsOver self.old piece.now s told.0 self.new) }
+        ensures within { IfOk result (λ told. told.0 ≤ length piece.now) }
         ensures waits { OnOk result (WaitsUndecided self.new) }
         ensures unchanged { OnErr result (self.new ≡ self.old) }
         ensures memory { IfErr result (λ e. fault_at e ≡ out_of_memory) }

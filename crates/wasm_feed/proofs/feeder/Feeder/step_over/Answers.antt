@@ -14,10 +14,12 @@ returns-clause-steps g c =
     let t = c.take_left-taken.ensures in
     let r = c.in-Ok.ensures.ok in
     let s = lent _ _ _ _ _ _ _ _ _ r.same r.enough c.seen.ensures c.deref.ensures.value left a.parses a.shows a.finished a.wants in
-    let new = feed_of c.take_left-taken.new.stored.items c.take_left-taken.new.cursor in
-    (c.parse_next.result, c.look-told.ensures,
-    subst (λ (f : Feed). StepsOver f piece c.parse_next.result (c.in-Ok.ready + c.take_left-taken.result) new) c.self.view_is
-    (over _ piece _ _ _ _ _ _ r left s a.wants _ c.take_left-taken.new.stored.items _ t.takes t.within t.asks (omega (arith, t.bounded))))
+    let new = feed_of c.take_left-taken.new.stored.items c.take_left-taken.new.cursor in (
+      c.parse_next.result,
+      c.look-told.ensures,
+      subst (λ (f : Feed). StepsOver f piece c.parse_next.result (c.in-Ok.ready + c.take_left-taken.result) new) c.self.view_is
+          (over _ piece _ _ _ _ _ _ r left s a.wants _ c.take_left-taken.new.stored.items _ t.takes t.within t.asks (omega (arith, t.bounded))),
+    )
 
 pub returns-clause-waits : goal.returns-clause-waits
 returns-clause-waits g c =
