@@ -4,7 +4,7 @@ ghost use Rattle.std.specs.Prelude.{⊤};
 use crate::tally::Tally;
 use bitflags::Flags;
 use std::alloc::Global;
-use wasm_base::{Result, WasmFeatures};
+use wasm_base::{Error, Result, WasmFeatures};
 use wasm_feed::{Feeder, Step};
 use wasm_parser::{Chunk, Parser, Payload};
 
@@ -45,14 +45,15 @@ pub(crate) fn feed(alloc: Global, bytes: &[u8], size: usize) -> Result<Tally> {
     let mut feeder = Feeder::new(alloc, 0, WasmFeatures::all());
     let mut rest = bytes;
     let mut piece = rest.split_at(0).0;
+    let mut fault = None;
     for _ in 0..u64::MAX {
         let (taken, is_last) = feeder.step_over(
             piece,
             |step|
                 ensures { ⊤ }
-            { tally_step(step, &mut tally) },
+            { tally_step(step, &mut tally, &mut fault) },
         )?;
-        if is_last? {
+        if is_last {
             break;
         }
         piece = piece.split_at(taken).1;
@@ -66,14 +67,21 @@ pub(crate) fn feed(alloc: Global, bytes: &[u8], size: usize) -> Result<Tally> {
             }
         }
     }
-    Ok(tally)
+    match fault {
+        Some(error) => Err(error),
+        None => Ok(tally),
+    }
 }
 
-// Whether this was the last step.
-fn tally_step(step: Result<Step<'_>>, tally: &mut Tally) -> Result<bool> {
-    match step? {
-        Step::Parsed { payload, .. } => Ok(tally_payload(payload, tally)),
-        Step::NeedMoreData(_) => Ok(false),
+// Whether this was the last step. Its fault is kept.
+fn tally_step(step: Result<Step<'_>>, tally: &mut Tally, fault: &mut Option<Error>) -> bool {
+    match step {
+        Ok(Step::Parsed { payload, .. }) => tally_payload(payload, tally),
+        Ok(Step::NeedMoreData(_)) => false,
+        Err(error) => {
+            *fault = Some(error);
+            true
+        }
     }
 }
 

@@ -128,7 +128,8 @@ begun_beside text_of source taken stored piece c none no_piece new =
 
 alike_lighter : (text_of : Report → List ℕ) (input output : Change) (e f g : Feed) (page : List ℕ) → IsAlike f g
     → Progress text_of input output f page × (weight f < weight e) → Progress text_of input output g page × (weight g < weight e)
-alike_lighter text_of input output e f g page a (p, less) = (alike text_of input output f g page a p, rw (← a.state, ← a.held, ← a.eof) less)
+alike_lighter text_of input output e f g page a (p, less) =
+    (alike text_of input output f g page a p, rw (← a.state, ← a.held, ← a.eof) less)
 
 pub same_lighter : (text_of : Report → List ℕ) (input output : Change) (e f g : Feed) (page : List ℕ) → g ≡ f
     → Progress text_of input output f page × (weight f < weight e) → Progress text_of input output g page × (weight g < weight e)

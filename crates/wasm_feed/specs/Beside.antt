@@ -1,6 +1,6 @@
 -- A feeder beside a piece, of which it stores nothing, a part or all.
-use Rattle.std.specs.Prelude.{◌≡◌, ◌⊎◌, ℕ, ◌+◌, ◌-◌, ◌<◌, ◌≤◌, ◌^◌, max, Bool, true, false, List, [], ◌∷◌, ◌++◌, length, take, drop}
-use Rattle.std.specs.Prelude.{Option, Result, Ok, Err}
+use Rattle.std.specs.Prelude.{◌≡◌, ℕ, ◌+◌, ◌-◌, ◌<◌, ◌≤◌, ◌^◌, max, Bool, true, false, List, [], ◌∷◌, ◌++◌, length}
+use Rattle.std.specs.Prelude.{◌⊎◌, take, drop, Option, Result, Ok, Err}
 use Rattle.std.specs.Io.KnownBytes.{Consumes, IsAtEnd, Keeps}
 use Rattle.wasm_base.specs.declared.error.Error.{Error}
 use Rattle.wasm_parser.specs.ParseAnswer.{ParseAnswer}
@@ -60,8 +60,8 @@ pub record MakesReady (old : Feed) (piece : List ℕ) (count : ℕ) (stored : Li
   pub enough : ReadsEnough stored (drop count piece) c
   pub bounded : length stored + (length piece - count) ≤ max old.stored (length old.held + length piece)
 
--- A step along what a feeder holds and then a piece, of which it took so many bytes: all where more is asked for. Where it
--- stores more than before, these are no more than after a push of the piece.
+-- A step along what a feeder holds and then a piece, of which it took so many bytes: all where more is asked for. It
+-- stores no more than before, or than after a push of the piece.
 pub record StepsOver (old : Feed) (piece : List ℕ) (result : Result Step Error) (taken : ℕ) (new : Feed) : Type 0 where
   pub steps : Steps (beside old piece) result (beside new (drop taken piece))
   pub asks : is_request result ≡ true → taken ≡ length piece

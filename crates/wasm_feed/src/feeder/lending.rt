@@ -50,13 +50,16 @@ pub(crate) fn make_ready<A: Allocator>(
     Ok(gather(&cursor.parser, stored, piece))
 }
 
-// Whether so many bytes are stored whole after so many that are held: also where they pass the top of the offsets, or the
-// end was told before them.
+// Whether so many bytes are stored whole after so many that are held: few, where more was asked for; or where they pass the top of
+// the offsets, or the end was told before them.
 fn goes_whole(cursor: &Cursor, held: usize, size: usize) -> bool
     ensures finished { result ≡ false → cursor.now.is_finished ≡ false }
     ensures below { result ≡ false → cursor.now.parser.offset + (held + size) < 2 ^ 64 }
 {
-    if size <= SMALL_PIECE || cursor.is_finished {
+    if size <= SMALL_PIECE && cursor.wants_more {
+        return true;
+    }
+    if cursor.is_finished {
         return true;
     }
     let offset = cursor.parser.offset();
@@ -121,6 +124,9 @@ pub(crate) fn keep<A: Allocator>(cursor: &mut Cursor, stored: &mut Vec<u8, A>, p
     ensures bounded { vec_len stored.new ≤ vec_len stored.old + length piece.now }
 {
     let count = pass_lent(cursor, stored, piece);
+    if count == piece.len() {
+        return;
+    }
     drop_front(stored, cursor.mark.min(stored.len()));
     cursor.mark = 0;
     put(stored, &piece[count..]);

@@ -25,7 +25,10 @@ fn tells<A: Allocator>(
     for (told, held, stored) in rows {
         let (now, left) = over(feeder, rest)?;
         rest = left;
-        assert_eq!(rt; (now, feeder.held(), feeder.stored()), (*told, *held, *stored));
+        assert_eq!(rt;
+            (now, feeder.held(), feeder.stored()),
+            (*told, *held, *stored)
+        );
     }
     assert!(rt; rest.is_empty());
     Ok(())
@@ -55,11 +58,16 @@ fn parts_that_lie_whole_in_a_piece_are_not_stored(
         &[
             (Told::Shows(3), 3, 6),
             (Told::Shows(3), 0, 6),
-            (Told::Asks(1), 0, 0),
+            (Told::Asks(1), 0, 6),
         ],
     )?;
     feeder.finish();
-    tells(&rt, &mut feeder, b"", &[(Told::Ends(18), 0, 0), (Told::Ends(18), 0, 0)])?;
+    tells(
+        &rt,
+        &mut feeder,
+        b"",
+        &[(Told::Ends(18), 0, 6), (Told::Ends(18), 0, 6)],
+    )?;
     Ok(())
 }
 
@@ -72,7 +80,12 @@ fn only_what_a_part_misses_is_stored(rt: HostRuntime) -> std::result::Result<(),
     stream.extend_from_slice(&[0; 600])?;
     stream.extend_from_slice(b"\x03\x02\x01\0")?;
     let (first, second) = stream.as_slice().split_at(stream.len().min(20));
-    tells(&rt, &mut feeder, first, &[(Told::Shows(8), 0, 0), (Told::Asks(593), 12, 12)])?;
+    tells(
+        &rt,
+        &mut feeder,
+        first,
+        &[(Told::Shows(8), 0, 0), (Told::Asks(593), 12, 12)],
+    )?;
     tells(
         &rt,
         &mut feeder,
@@ -96,9 +109,18 @@ fn a_piece_comes_after_what_was_pushed(rt: HostRuntime) -> std::result::Result<(
         &rt,
         &mut feeder,
         b"",
-        &[(Told::Shows(8), 5, 13), (Told::Shows(4), 1, 13), (Told::Asks(1), 1, 1)],
+        &[
+            (Told::Shows(8), 5, 13),
+            (Told::Shows(4), 1, 13),
+            (Told::Asks(1), 1, 13),
+        ],
     )?;
-    tells(&rt, &mut feeder, second, &[(Told::Shows(3), 3, 6), (Told::Shows(3), 0, 6)])?;
+    tells(
+        &rt,
+        &mut feeder,
+        second,
+        &[(Told::Shows(3), 3, 6), (Told::Shows(3), 0, 6)],
+    )?;
     Ok(())
 }
 

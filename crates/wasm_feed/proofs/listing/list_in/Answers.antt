@@ -102,7 +102,8 @@ returns-in_err-refill-in-Read g c =
     let written = wants_written line_of _ _ _ _ _ _ _ asks c.in_ok-write_out-in-Read.ensures.writes.0 in
     let e = err_from_is_err_and c.from_residual-in_err-refill-in-Read.result c.from_residual-in_err-refill-in-Read.ensures.1 in
     record {
-      lists = rw (e.1, e.2) (not_filled line_of _ _ _ _ _ written _ (beside (feed_of c.refill.new.stored.items c.refill.new.cursor) c.refill.new.self) _
+      lists = rw (e.1, e.2) (not_filled line_of _ _ _ _ _ written _
+          (beside (feed_of c.refill.new.stored.items c.refill.new.cursor) c.refill.new.self) _
           c.in_err-refill-in-Read.ensures.refills);
       source = grind (arith, common_steps);
       sink = grind (arith, common_steps);

@@ -14,11 +14,12 @@ returns-clause-steps g c =
     let t = c.take_left-taken.ensures in
     let r = c.in-Ok.ensures.ok in
     let s = lent _ _ _ _ _ _ _ _ _ r.same r.enough c.seen.ensures c.deref.ensures.value left a.parses a.shows a.finished a.wants in
-    let new = feed_of c.take_left-taken.new.stored.items c.take_left-taken.new.cursor in (
+    let stored = c.take_left-taken.new.stored.items in
+    let new = feed_of stored c.take_left-taken.new.cursor in (
       c.parse_next.result,
       c.look-told.ensures,
       subst (λ (f : Feed). StepsOver f piece c.parse_next.result (c.in-Ok.ready + c.take_left-taken.result) new) c.self.view_is
-          (over _ piece _ _ _ _ _ _ r left s a.wants _ c.take_left-taken.new.stored.items _ t.takes t.within t.asks (omega (arith, t.bounded))),
+          (over _ piece _ _ _ _ _ _ r left s a.wants _ stored _ t.takes t.within t.asks (omega (arith, t.bounded))),
     )
 
 pub returns-clause-waits : goal.returns-clause-waits
@@ -29,7 +30,8 @@ returns-clause-waits g c =
     let t = c.take_left-taken.ensures in
     let r = c.in-Ok.ensures.ok in
     let s = lent _ _ _ _ _ _ _ _ _ r.same r.enough c.seen.ensures c.deref.ensures.value left a.parses a.shows a.finished a.wants in
-    let new = feed_of c.take_left-taken.new.stored.items c.take_left-taken.new.cursor in
+    let stored = c.take_left-taken.new.stored.items in
+    let new = feed_of stored c.take_left-taken.new.cursor in
     over_waits _ new piece c.parse_next.result _
-    (over _ piece _ _ _ _ _ _ r left s a.wants _ c.take_left-taken.new.stored.items _ t.takes t.within t.asks (omega (arith, t.bounded)))
+    (over _ piece _ _ _ _ _ _ r left s a.wants _ stored _ t.takes t.within t.asks (omega (arith, t.bounded)))
     (omega (arith, length-drop c.take_left-taken.new.cursor.mark c.take_left-taken.new.stored.items))

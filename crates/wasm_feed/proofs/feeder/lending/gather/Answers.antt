@@ -14,10 +14,11 @@ parts-preserved g c =
     let within = c.parts.invariant.within in
     let size : c.parts.count + c.min.result - c.parts.count ≡ c.min.result = omega arith in
     let sizes = length-take c.min.result (drop c.parts.count c.args.piece.now) in
+    let put = ap (λ (k : ℕ). length (take k (drop c.parts.count c.args.piece.now))) size in
     let left = length-drop c.parts.count c.args.piece.now in
     record {
       within = omega (arith, c.min.ensures);
       put = more_put c.args.held.now.items c.parts.held.items c.put.new.bytes.items _ c.args.piece.now c.parts.count c.min.result
           c.parts.invariant.put c.put.ensures.items (ap (λ (k : ℕ). take k (drop c.parts.count c.args.piece.now)) size);
-      room = omega (arith, c.put.ensures.len, c.put.ensures.capacity, c.parts.invariant.room, c.min.ensures, sizes, left, ap (λ (k : ℕ). length (take k (drop c.parts.count c.args.piece.now))) size);
+      room = omega (arith, c.put.ensures.len, c.put.ensures.capacity, c.parts.invariant.room, c.min.ensures, sizes, left, put);
     }
