@@ -35,6 +35,12 @@ pub(crate) fn make_ready<A: Allocator>(
     ensures unchanged { OnErr result (feed_of stored.new.items cursor.new
         ≡ feed_of stored.old.items cursor.old) }
 {
+    if stored.is_empty() {
+        if piece.len() <= stored.capacity() {
+            cursor.mark = 0;
+            return Ok(0);
+        }
+    }
     if piece.is_empty() {
         return Ok(0);
     }
