@@ -44,11 +44,11 @@ pub(crate) fn feed(alloc: Global, bytes: &[u8], size: usize) -> Result<Tally> {
     let mut tally = Tally::new();
     let mut feeder = Feeder::new(alloc, 0, WasmFeatures::all());
     let mut rest = bytes;
-    let mut piece = rest.split_at(0).0;
+    let mut left = 0;
     let mut fault = None;
-    for _ in 0..u64::MAX {
+    'steps: for _ in 0..u64::MAX {
         let (taken, is_last) = feeder.step_over(
-            piece,
+            rest.split_at(left).0,
             |step|
                 ensures { ⊤ }
             { tally_step(step, &mut tally, &mut fault) },
@@ -56,14 +56,13 @@ pub(crate) fn feed(alloc: Global, bytes: &[u8], size: usize) -> Result<Tally> {
         if is_last {
             break;
         }
-        piece = piece.split_at(taken).1;
+        rest = rest.split_at(taken).1;
+        left -= taken;
         if feeder.wants_more() {
             if rest.is_empty() {
                 feeder.finish();
             } else {
-                let (next, later) = rest.split_at(size.min(rest.len()));
-                piece = next;
-                rest = later;
+                left = size.min(rest.len());
             }
         }
     }
