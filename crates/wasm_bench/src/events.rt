@@ -8,6 +8,9 @@ use wasm_base::{Error, Result, WasmFeatures};
 use wasm_feed::{Feeder, Step};
 use wasm_parser::{Chunk, Parser, Payload};
 
+/// Pieces of at most so many bytes are pushed.
+const SMALL_PIECE: usize = 512;
+
 /// Reads a whole stream part by part.
 #[inline(never)]
 pub(crate) fn parse(bytes: &[u8]) -> Result<Tally> {
@@ -38,9 +41,38 @@ pub(crate) fn parse_all(bytes: &[u8]) -> Result<Tally> {
     Ok(tally)
 }
 
-/// Reads a stream that comes in pieces of this size.
+/// Reads a stream that comes in pieces of this size: small ones are pushed to a feeder, and the others lent to it.
 #[inline(never)]
 pub(crate) fn feed(alloc: Global, bytes: &[u8], size: usize) -> Result<Tally> {
+    if size <= SMALL_PIECE {
+        push_pieces(alloc, bytes, size)
+    } else {
+        lend_pieces(alloc, bytes, size)
+    }
+}
+
+fn push_pieces(alloc: Global, bytes: &[u8], size: usize) -> Result<Tally> {
+    let mut tally = Tally::new();
+    let mut feeder = Feeder::new(alloc, 0, WasmFeatures::all());
+    let mut rest = bytes;
+    for _ in 0..u64::MAX {
+        if tally_step(feeder.open().step()?, &mut tally) {
+            break;
+        }
+        if feeder.wants_more() {
+            if rest.is_empty() {
+                feeder.finish();
+            } else {
+                let (piece, later) = rest.split_at(size.min(rest.len()));
+                feeder.push(piece)?;
+                rest = later;
+            }
+        }
+    }
+    Ok(tally)
+}
+
+fn lend_pieces(alloc: Global, bytes: &[u8], size: usize) -> Result<Tally> {
     let mut tally = Tally::new();
     let mut feeder = Feeder::new(alloc, 0, WasmFeatures::all());
     let mut rest = bytes;
@@ -51,7 +83,7 @@ pub(crate) fn feed(alloc: Global, bytes: &[u8], size: usize) -> Result<Tally> {
             rest.split_at(left).0,
             |step|
                 ensures { ⊤ }
-            { tally_step(step, &mut tally, &mut fault) },
+            { tally_lent(step, &mut tally, &mut fault) },
         )?;
         if is_last {
             break;
@@ -72,15 +104,22 @@ pub(crate) fn feed(alloc: Global, bytes: &[u8], size: usize) -> Result<Tally> {
     }
 }
 
-// Whether this was the last step. Its fault is kept.
-fn tally_step(step: Result<Step<'_>>, tally: &mut Tally, fault: &mut Option<Error>) -> bool {
+// Whether this was the last step, of which a fault is kept.
+fn tally_lent(step: Result<Step<'_>>, tally: &mut Tally, fault: &mut Option<Error>) -> bool {
     match step {
-        Ok(Step::Parsed { payload, .. }) => tally_payload(payload, tally),
-        Ok(Step::NeedMoreData(_)) => false,
+        Ok(step) => tally_step(step, tally),
         Err(error) => {
             *fault = Some(error);
             true
         }
+    }
+}
+
+// Whether this was the last step.
+fn tally_step(step: Step<'_>, tally: &mut Tally) -> bool {
+    match step {
+        Step::Parsed { payload, .. } => tally_payload(payload, tally),
+        Step::NeedMoreData(_) => false,
     }
 }
 
