@@ -1,10 +1,15 @@
 // The events of a stream, read in several ways.
+ghost use Rattle.std.specs.Prelude.{⊤};
+
 use crate::tally::Tally;
 use bitflags::Flags;
 use std::alloc::Global;
-use wasm_base::{Result, WasmFeatures};
+use wasm_base::{Error, Result, WasmFeatures};
 use wasm_feed::{Feeder, Step};
 use wasm_parser::{Chunk, Parser, Payload};
+
+/// Pieces of at most so many bytes are pushed.
+const SMALL_PIECE: usize = 512;
 
 /// Reads a whole stream part by part.
 #[inline(never)]
@@ -36,9 +41,17 @@ pub(crate) fn parse_all(bytes: &[u8]) -> Result<Tally> {
     Ok(tally)
 }
 
-/// Reads a stream that comes in pieces of this size.
+/// Reads a stream that comes in pieces of this size: small ones are pushed to a feeder, and the others lent to it.
 #[inline(never)]
 pub(crate) fn feed(alloc: Global, bytes: &[u8], size: usize) -> Result<Tally> {
+    if size <= SMALL_PIECE {
+        push_pieces(alloc, bytes, size)
+    } else {
+        lend_pieces(alloc, bytes, size)
+    }
+}
+
+fn push_pieces(alloc: Global, bytes: &[u8], size: usize) -> Result<Tally> {
     let mut tally = Tally::new();
     let mut feeder = Feeder::new(alloc, 0, WasmFeatures::all());
     let mut rest = bytes;
@@ -57,6 +70,49 @@ pub(crate) fn feed(alloc: Global, bytes: &[u8], size: usize) -> Result<Tally> {
         }
     }
     Ok(tally)
+}
+
+fn lend_pieces(alloc: Global, bytes: &[u8], size: usize) -> Result<Tally> {
+    let mut tally = Tally::new();
+    let mut feeder = Feeder::new(alloc, 0, WasmFeatures::all());
+    let mut rest = bytes;
+    let mut left = 0;
+    let mut fault = None;
+    'steps: for _ in 0..u64::MAX {
+        let (taken, is_last) = feeder.step_over(
+            rest.split_at(left).0,
+            |step|
+                ensures { ⊤ }
+            { tally_lent(step, &mut tally, &mut fault) },
+        )?;
+        if is_last {
+            break;
+        }
+        rest = rest.split_at(taken).1;
+        left -= taken;
+        if feeder.wants_more() {
+            if rest.is_empty() {
+                feeder.finish();
+            } else {
+                left = size.min(rest.len());
+            }
+        }
+    }
+    match fault {
+        Some(error) => Err(error),
+        None => Ok(tally),
+    }
+}
+
+// Whether this was the last step, of which a fault is kept.
+fn tally_lent(step: Result<Step<'_>>, tally: &mut Tally, fault: &mut Option<Error>) -> bool {
+    match step {
+        Ok(step) => tally_step(step, tally),
+        Err(error) => {
+            *fault = Some(error);
+            true
+        }
+    }
 }
 
 // Whether this was the last step.

@@ -1,4 +1,5 @@
 pub mod Adding
+pub mod Beside
 pub mod ByHand
 pub mod Cut
 pub mod Decimal

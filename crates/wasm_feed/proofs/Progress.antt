@@ -1,5 +1,5 @@
 -- How far a listing has come, and what each turn does to it.
-use Rattle.std.proofs.Common.{◌≡◌, ℕ, ◌+◌, ◌^◌, ◌<◌, ◌≤◌, Bool, true, false, if◌then◌else◌, List, [], ◌∷◌, ◌++◌, length, drop}
+use Rattle.std.proofs.Common.{◌≡◌, ℕ, ◌+◌, ◌^◌, ◌<◌, ◌≤◌, Bool, true, false, if◌then◌else◌, List, [], ◌∷◌, ◌++◌, length}
 use Rattle.std.proofs.Common.{Option, Some, None, IfSome, Result, Ok, Err, refl, sym, ap, subst, ◌∙◌, arith, append_assoc}
 use Rattle.std.proofs.Common.{append-nil, length-append, inl, inr}
 use Rattle.std.specs.Io.KnownBytes.{Consumes, Appends, IsAtEnd, Keeps}
@@ -10,7 +10,7 @@ use Rattle.wasm_base.specs.declared.fault.Fault.TheVariants.{OffsetRange}
 use Rattle.wasm_grammar.specs.Content.{Ending, fault, ended}
 use Rattle.wasm_grammar.specs.EventRanges.{consumed_by}
 use Rattle.wasm_parser.specs.GivesNextEvent.{MayBe, IsUndecided}
-use Rattle.wasm_parser.specs.ParseAnswer.{report_of, is_end, ParseAnswer}
+use Rattle.wasm_parser.specs.ParseAnswer.{report_of, is_end}
 use Rattle.wasm_grammar.specs.Reading.{Report, stream_end, Event, events_of, last_event, Reading}
 use Rattle.wasm_parser.specs.declared.payload.Payload.{Payload}
 use Rattle.wasm_parser.specs.Along.{ReadingBegins, BeginsEach, ReadsEach, Came}
@@ -21,9 +21,7 @@ use Rattle.wasm_feed.specs.Listing.{listing_by}
 use Rattle.wasm_feed.specs.Lists.{IsEndedBy, IsWhole, IsListed, Begins, IsBeginning, Fills, Refills, ListsBy}
 use Rattle.wasm_feed.specs.Progress.{weight, Progress, Wants}
 use Rattle.wasm_feed.specs.Page.{WritesBeginning, IsCut, PutsBytes}
-use Rattle.wasm_feed.specs.Cursors.{feed_of}
-use Rattle.wasm_feed.specs.Step.{chunk_of, answer_of, shown, is_request, Stepped, Steps}
-use Rattle.wasm_feed.specs.declared.feeder.Cursor.{Cursor}
+use Rattle.wasm_feed.specs.Step.{chunk_of, answer_of, shown, Stepped, Steps}
 use Rattle.wasm_feed.specs.Turns.{text_after, turn_after}
 use Rattle.wasm_feed.specs.declared.feeder.Step.{Step}
 use Rattle.wasm_feed.specs.declared.feeder.Step.TheVariants.{NeedMoreData, Parsed}
@@ -50,15 +48,6 @@ whole_begins start features eof given events r stream m = record {
 -- a source that kept its bytes
 kept : (source rest rest' : Option (List ℕ)) (given : List ℕ) → Consumes source rest given → Keeps rest rest' → Consumes source rest' given
 kept source rest rest' given g k = Consumes-kept source rest rest' given g k
-
--- a step, by what the cursor says of it
-pub steps_by : (bytes items : List ℕ) (old new : Cursor) (x : Result Step Error) → bytes ≡ items
-    → ParseAnswer old.parser old.is_finished (drop old.mark bytes) (answer_of x) new.parser → drop old.mark bytes ≡ shown x
-    ++ drop new.mark bytes
-    → new.is_finished ≡ old.is_finished → new.wants_more ≡ is_request x → Steps (feed_of items old) x (feed_of items new)
-steps_by bytes items old new x same parses shows finished wants =
-    subst (λ (l : List ℕ). Steps (feed_of l old) x (feed_of l new)) same
-    (record { parses = parses; shows = shows; stored = refl; eof = finished; wants_more = wants })
 
 -- ---- the last event
 

@@ -1,3 +1,4 @@
+pub mod Beside
 pub mod Calls
 pub mod Cursors
 pub mod Devices

@@ -1,11 +1,9 @@
 // The bytes that a feeder stores.
-ghost use Rattle.std.specs.Prelude.{◌≡◌, ◌≤◌, ◌++◌, drop, vec_len, vec_capacity, OnOk, OnErr};
+ghost use Rattle.std.specs.Prelude.{◌≡◌, ◌+◌, ◌≤◌, ◌++◌, drop, length, vec_len, vec_capacity, OnOk, OnErr};
 
 use std::alloc::{AllocError, Allocator};
 
-/// Puts a piece after the bytes that are left, and takes those before them out. Memory grows for these bytes and the piece
-/// alone, before anything is moved: a growth that is refused changes nothing. It grows by more than it must, so that many
-/// small pieces cost no more than a large one.
+/// Puts a piece after the bytes that are left, and takes those before them out. A growth that is refused changes nothing.
 pub(crate) fn append<A: Allocator>(
     bytes: &mut Vec<u8, A>,
     spent: usize,
@@ -15,14 +13,41 @@ pub(crate) fn append<A: Allocator>(
     ensures ok { OnOk result (bytes.new.items ≡ drop spent bytes.old.items ++ piece.now) }
     ensures err { OnErr result (bytes.new.items ≡ bytes.old.items) }
 {
-    bytes.reserve(piece.len().saturating_sub(spent))?;
-    drop_front(bytes, spent);
-    bytes.extend_from_slice(piece).unwrap();
+    make_room(bytes, spent, piece.len())?;
+    put(bytes, piece);
     Ok(())
 }
 
-// Takes the first bytes out.
-fn drop_front<A: Allocator>(bytes: &mut Vec<u8, A>, count: usize)
+/// Takes the first bytes out, and makes room for so many after those that are left. Memory grows for these alone, before
+/// anything is moved: a growth that is refused changes nothing. It grows by more than it must, so that many small pieces cost
+/// no more than a large one.
+pub(crate) fn make_room<A: Allocator>(
+    bytes: &mut Vec<u8, A>,
+    spent: usize,
+    size: usize,
+) -> Result<(), AllocError>
+    requires { spent ≤ vec_len bytes.old }
+    ensures ok { OnOk result (bytes.new.items ≡ drop spent bytes.old.items) }
+    ensures room { OnOk result (vec_len bytes.new + size ≤ vec_capacity bytes.new) }
+    ensures err { OnErr result (bytes.new.items ≡ bytes.old.items) }
+{
+    bytes.reserve(size.saturating_sub(spent))?;
+    drop_front(bytes, spent);
+    Ok(())
+}
+
+/// Puts a piece after the bytes, for which there must be room.
+pub(crate) fn put<A: Allocator>(bytes: &mut Vec<u8, A>, piece: &[u8])
+    requires { vec_len bytes.old + length piece.now ≤ vec_capacity bytes.old }
+    ensures items { bytes.new.items ≡ bytes.old.items ++ piece.now }
+    ensures len { vec_len bytes.new ≡ vec_len bytes.old + length piece.now }
+    ensures capacity { vec_capacity bytes.old ≤ vec_capacity bytes.new }
+{
+    bytes.extend_from_slice(piece).unwrap();
+}
+
+/// Takes the first bytes out.
+pub(crate) fn drop_front<A: Allocator>(bytes: &mut Vec<u8, A>, count: usize)
     requires { count ≤ vec_len bytes.old }
     ensures items { bytes.new.items ≡ drop count bytes.old.items }
     ensures capacity { vec_capacity bytes.new ≡ vec_capacity bytes.old }

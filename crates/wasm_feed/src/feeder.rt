@@ -1,16 +1,22 @@
 // A feeder: it is given the bytes of a stream in pieces, and lends its payloads one by one.
-ghost use Rattle.std.specs.Prelude.{◌≡◌, ◌+◌, ◌<◌, ◌++◌, true, [], drop, length, OnOk, OnErr, IfErr};
+ghost use Rattle.std.specs.Prelude.{◌≡◌, ◌+◌, ◌<◌, ◌≤◌, ◌++◌, true, [], drop, length, OnOk, OnErr, IfErr, IfOk};
 ghost use Rattle.wasm_base.specs.FaultAt.{fault_at};
 ghost use Rattle.wasm_base.specs.Features.{feature_bits};
 ghost use Rattle.wasm_base.specs.Owned.{out_of_memory};
 ghost use Rattle.wasm_parser.specs.ParseAnswer.{ParseAnswer};
+ghost use Rattle.wasm_feed.specs.Beside.{StepsOver};
 ghost use Rattle.wasm_feed.specs.Cursors.{feed_of, finished_cursor};
 ghost use Rattle.wasm_feed.specs.Feed.{empty_feed, new_feed, pushed, finished, RefusesPush};
+ghost use Rattle.wasm_feed.specs.FeedersLaws.{WaitsUndecided};
 ghost use Rattle.wasm_feed.specs.Lists.{Refills, input_failed};
 ghost use Rattle.wasm_feed.specs.Step.{answer_of, shown, is_request, GivesStep};
 
+mod lending;
+
 use crate::buffer::{after, append};
 use crate::devices::{ListError, Source};
+use lending::take_left;
+pub(crate) use lending::{keep, make_ready, pass_lent, seen};
 use std::alloc::{Allocator, Global};
 use std::marker::Model;
 use wasm_parser::{Chunk, Error, Fault, Parser, Payload, Result, WasmFeatures, fits};
@@ -241,6 +247,52 @@ impl<A: Allocator> Feeder<A> {
         ensures { (s : _) × F.post look s result × Steps self.old s self.new }
     {
         look(parse_next(&mut self.cursor, &self.bytes))
+    }
+
+    /// One step along the bytes that are held and then a piece, what is made of it, and how many bytes of the piece the feeder
+    /// took: all of it where the step asks for more. The others are to come first the next time. What is told is what `step_with`
+    /// would tell after a push of the piece, but parts that lie whole in the piece are read where they are, and nothing is
+    /// stored of them. A download is read so:
+    ///
+    /// ```text
+    /// let mut rest = download.next()?;
+    /// loop {
+    ///     let (taken, is_over) = feeder.step_over(rest, |step| ..)?;
+    ///     if is_over? {
+    ///         return Ok(());
+    ///     }
+    ///     rest = &rest[taken..];
+    ///     if feeder.wants_more() {
+    ///         match download.next()? {
+    ///             Some(piece) => rest = piece,
+    ///             None => feeder.finish(),
+    ///         }
+    ///     }
+    /// }
+    /// ```
+    ///
+    /// A stream that passes the offset 2^64 - 1 is a fault of the step. `OutOfMemory` where the growth was refused that
+    /// the piece may need: the feeder is then as it was, and nothing was told.
+    pub fn step_over<R, F: FnOnce(Result<Step<'_>>) -> R>(
+        &mut self,
+        piece: &[u8],
+        look: F,
+    ) -> Result<(usize, R)>
+        requires { F.IsAlwaysCallable look }
+        ensures steps { IfOk result (λ told. (s : _) × F.post look s told.1
+            × StepsOver self.old piece.now s told.0 self.new) }
+        ensures within { IfOk result (λ told. told.0 ≤ length piece.now) }
+        ensures waits { OnOk result (WaitsUndecided self.new) }
+        ensures unchanged { OnErr result (self.new ≡ self.old) }
+        ensures memory { IfErr result (λ e. fault_at e ≡ out_of_memory) }
+    {
+        let Ok(ready) = make_ready(&mut self.cursor, &mut self.bytes, piece) else {
+            return Err(Error::new(Fault::OutOfMemory, 0));
+        };
+        let rest = &piece[ready..];
+        let told = look(parse_next(&mut self.cursor, seen(&self.bytes, rest)));
+        let taken = take_left(&mut self.cursor, &mut self.bytes, rest);
+        Ok((ready + taken, told))
     }
 }
 

@@ -2,6 +2,7 @@
 //! its custom sections, and the events of one that is cut into pieces.
 #![tactic(auto)]
 
+mod ahead;
 mod buffer;
 mod devices;
 mod digits;

@@ -4,8 +4,9 @@ ghost use Rattle.wasm_feed.specs.Calls.{device_of};
 ghost use Rattle.wasm_feed.specs.Lists.{ListsSource, output_failed};
 ghost use Rattle.wasm_feed.specs.Turns.{TakesTurn};
 
+use crate::ahead::Ahead;
 use crate::devices::{ListError, Sink, Source};
-use crate::feeder::{Cursor, Step, parse_next, read_more};
+use crate::feeder::{Cursor, Step, parse_next, seen};
 use crate::line::Line;
 use crate::lines::{fault_line, payload_line};
 use crate::page::Page;
@@ -73,20 +74,21 @@ pub fn list_in<A: Allocator + Copy, R: Source, W: Sink>(
     ensures { ListsSource (device_of R.remaining R.has_failed input.old input.new)
         (device_of W.taken W.has_failed output.old output.new) result }
 {
-    let mut buffer = vec![in alloc; 0u8; piece]?;
+    let mut ahead = Ahead::new(vec![in alloc; 0u8; piece]?);
     let mut page = Page::new(alloc);
     let mut line = Line::new();
     let mut stored = Vec::new(alloc);
     let mut cursor = Cursor::new(Parser::new(0));
     'events: loop {
-        let answer = parse_next(&mut cursor, &stored);
+        ahead.make_ready(&mut cursor, &mut stored)?;
+        let answer = parse_next(&mut cursor, seen(&stored, ahead.bytes()));
         let turn = put_answer(&mut page, &mut line, output, &answer);
         drop(answer);
         match turn? {
-            Turn::Advance => {}
+            Turn::Advance => ahead.pass_lent(&mut cursor, &stored),
             Turn::Read => {
                 page.write_out(output)?;
-                read_more(&mut cursor, &mut stored, input, buffer.as_mut_slice())?;
+                ahead.refill(&mut cursor, &mut stored, input)?;
             }
             Turn::End(ended) => {
                 page.write_out(output)?;

@@ -6,6 +6,7 @@ mod endings;
 mod equal_events;
 mod feeding;
 mod golden;
+mod lending;
 mod listings;
 mod modules;
 mod pieces;

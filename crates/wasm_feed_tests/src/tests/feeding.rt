@@ -9,21 +9,21 @@ use wasm_parser::{Error, Fault, Payload, Result, WasmFeatures};
 use wasm_test_heap::Sparing;
 
 // A header, a function section, and a code section with one body.
-const MODULE: &[u8] = b"\0asm\x01\0\0\0\x03\x02\x01\0\x0a\x04\x01\x02\0\x0b";
+pub(super) const MODULE: &[u8] = b"\0asm\x01\0\0\0\x03\x02\x01\0\x0a\x04\x01\x02\0\x0b";
 
 // More blocks than any of these feeders takes.
 const AMPLE: u64 = 20;
 
 // What a step is: how many bytes it shows, or how many it asks for.
 #[derive(Clone, Copy, Debug, PartialEq, Eq)]
-enum Told {
+pub(super) enum Told {
     Shows(usize),
     Asks(usize),
     Ends(u64),
     Refuses(Error),
 }
 
-fn say(step: Result<Step<'_>>) -> Told {
+pub(super) fn say(step: Result<Step<'_>>) -> Told {
     match step {
         Ok(Step::NeedMoreData(hint)) => Told::Asks(hint),
         Ok(

@@ -1,16 +1,19 @@
-use Rattle.std.proofs.Common.{refl, sym, ◌∙◌, arith}
+use Rattle.std.proofs.Common.{◌≡◌, ℕ, List, refl, sym, ap, subst, ◌∙◌, arith}
 use Rattle.std.proofs.lemmas.Grind.{common_steps}
 use Rattle.std.proofs.lemmas.Result.{err_from_is_err_and}
 use Rattle.std.proofs.KnownBytes.{Consumes-nil}
+use Rattle.wasm_feed.specs.Beside.{beside, lending}
 use Rattle.wasm_feed.specs.Cursors.{feed_of}
+use Rattle.wasm_feed.specs.Feed.{empty_feed}
 use Rattle.wasm_feed.specs.Listing.{line_of}
+use Rattle.wasm_feed.proofs.Beside.{lent, begun_beside, same_lighter, filled_alike}
 use Rattle.wasm_feed.proofs.Cut.{cut_of}
-use Rattle.wasm_feed.proofs.Progress.{begun, no_memory, cut, wants_written, steps_by, advanced, asked, listed_all, end_cut, filled}
+use Rattle.wasm_feed.proofs.Progress.{begun, no_memory, cut, wants_written, advanced, asked, listed_all, end_cut}
 use Rattle.wasm_feed.proofs.Progress.{not_filled}
 use Rattle.wasm_feed.proofs.listing.list_in.Goals as goal
 
-pub returns-in_err-buffer : goal.returns-in_err-buffer
-returns-in_err-buffer g c =
+pub returns-in_err-vec : goal.returns-in_err-vec
+returns-in_err-vec g c =
     let e = err_from_is_err_and c.from_residual.result c.from_residual.ensures.1 in
     record {
       lists = rw (e.1, e.2) (no_memory line_of _ _ _ _ _ _ (begun line_of _ _) _ _ (Consumes-nil _));
@@ -20,12 +23,21 @@ returns-in_err-buffer g c =
 
 pub events-init : goal.events-init
 events-init g c = record {
-  progress = rw (c.new-stored.ensures.items, c.new-cursor.ensures, c.new.ensures, c.new-page.ensures)
-      (begun line_of _ _);
+  progress = rw c.new-page.ensures (begun_beside line_of _ _ _ _ _ c.new-stored.ensures.items c.new-ahead.ensures
+      (c.new-cursor.ensures ∙ ap empty_feed c.new.ensures));
   input = refl;
   output = refl;
-  buffer = grind (arith, common_steps);
 }
+
+pub returns-in_err-make_ready : goal.returns-in_err-make_ready
+returns-in_err-make_ready g c =
+    let e = err_from_is_err_and c.from_residual-in_err-make_ready.result c.from_residual-in_err-make_ready.ensures.1 in
+    record {
+      lists = rw (e.1, e.2, c.in_err-make_ready.ensures.memory)
+          (no_memory line_of _ _ _ _ _ _ c.events.invariant.progress _ _ (Consumes-nil _));
+      source = grind (arith, common_steps);
+      sink = grind (arith, common_steps);
+    }
 
 pub returns-in_err-turn : goal.returns-in_err-turn
 returns-in_err-turn g c =
@@ -39,26 +51,37 @@ returns-in_err-turn g c =
 pub events-smaller-in-Advance : goal.events-smaller-in-Advance
 events-smaller-in-Advance g c =
     let a = c.parse_next-answer.ensures in
-    let s = steps_by _ c.events.stored.items _ _ _ c.deref.ensures.value a.parses a.shows a.finished a.wants in
+    let ready = c.in_ok-make_ready.ensures in
+    let s = lent _ _ _ _ _ _ _ _ _ ready.same ready.enough c.seen.ensures c.deref.ensures.value c.bytes.ensures a.parses a.shows a.finished
+    a.wants in
     let t = c.in_ok-turn.ensures.takes in
-    (advanced line_of _ _ _ _ _ _ c.events.invariant.progress _ _ s _ _ t.0 (sym c.in-Advance.is ∙ t.1)).1
+    (same_lighter line_of _ _ (beside (feed_of c.events.stored.items c.events.cursor) c.events.ahead) _ _ _
+    (subst (λ (l : List ℕ). beside (feed_of l c.pass_lent.new.cursor) c.pass_lent.new.self
+    ≡ lending l c.make_ready.new.self c.parse_next-answer.new.cursor) c.deref-in-Advance.ensures.value c.pass_lent.ensures)
+    (advanced line_of _ _ _ _ _ _ c.events.invariant.progress _ _ s _ _ t.0 (sym c.in-Advance.is ∙ t.1))).1
 
 pub events-preserved-in-Advance : goal.events-preserved-in-Advance
 events-preserved-in-Advance g c =
     let a = c.parse_next-answer.ensures in
-    let s = steps_by _ c.events.stored.items _ _ _ c.deref.ensures.value a.parses a.shows a.finished a.wants in
+    let ready = c.in_ok-make_ready.ensures in
+    let s = lent _ _ _ _ _ _ _ _ _ ready.same ready.enough c.seen.ensures c.deref.ensures.value c.bytes.ensures a.parses a.shows a.finished
+    a.wants in
     let t = c.in_ok-turn.ensures.takes in
     record {
-      progress = (advanced line_of _ _ _ _ _ _ c.events.invariant.progress _ _ s _ _ t.0 (sym c.in-Advance.is ∙ t.1)).0;
+      progress = (same_lighter line_of _ _ (beside (feed_of c.events.stored.items c.events.cursor) c.events.ahead) _ _ _
+          (subst (λ (l : List ℕ). beside (feed_of l c.pass_lent.new.cursor) c.pass_lent.new.self
+          ≡ lending l c.make_ready.new.self c.parse_next-answer.new.cursor) c.deref-in-Advance.ensures.value c.pass_lent.ensures)
+          (advanced line_of _ _ _ _ _ _ c.events.invariant.progress _ _ s _ _ t.0 (sym c.in-Advance.is ∙ t.1))).0;
       input = c.events.invariant.input;
       output = grind (arith, common_steps);
-      buffer = c.events.invariant.buffer;
     }
 
 pub returns-in_err-write_out-in-Read : goal.returns-in_err-write_out-in-Read
 returns-in_err-write_out-in-Read g c =
     let a = c.parse_next-answer.ensures in
-    let s = steps_by _ c.events.stored.items _ _ _ c.deref.ensures.value a.parses a.shows a.finished a.wants in
+    let ready = c.in_ok-make_ready.ensures in
+    let s = lent _ _ _ _ _ _ _ _ _ ready.same ready.enough c.seen.ensures c.deref.ensures.value c.bytes.ensures a.parses a.shows a.finished
+    a.wants in
     let t = c.in_ok-turn.ensures.takes in
     let asks = (asked line_of _ _ _ _ _ _ c.events.invariant.progress _ _ s _ _ t.0 (sym c.in-Read.is ∙ t.1)).0 in
     let e = err_from_is_err_and c.from_residual-in_err-write_out-in-Read.result c.from_residual-in_err-write_out-in-Read.ensures.1 in
@@ -68,17 +91,20 @@ returns-in_err-write_out-in-Read g c =
       sink = grind (arith, common_steps);
     }
 
-pub returns-in_err-read_more-in-Read : goal.returns-in_err-read_more-in-Read
-returns-in_err-read_more-in-Read g c =
+pub returns-in_err-refill-in-Read : goal.returns-in_err-refill-in-Read
+returns-in_err-refill-in-Read g c =
     let a = c.parse_next-answer.ensures in
-    let s = steps_by _ c.events.stored.items _ _ _ c.deref.ensures.value a.parses a.shows a.finished a.wants in
+    let ready = c.in_ok-make_ready.ensures in
+    let s = lent _ _ _ _ _ _ _ _ _ ready.same ready.enough c.seen.ensures c.deref.ensures.value c.bytes.ensures a.parses a.shows a.finished
+    a.wants in
     let t = c.in_ok-turn.ensures.takes in
     let asks = (asked line_of _ _ _ _ _ _ c.events.invariant.progress _ _ s _ _ t.0 (sym c.in-Read.is ∙ t.1)).0 in
     let written = wants_written line_of _ _ _ _ _ _ _ asks c.in_ok-write_out-in-Read.ensures.writes.0 in
-    let e = err_from_is_err_and c.from_residual-in_err-read_more-in-Read.result c.from_residual-in_err-read_more-in-Read.ensures.1 in
+    let e = err_from_is_err_and c.from_residual-in_err-refill-in-Read.result c.from_residual-in_err-refill-in-Read.ensures.1 in
     record {
-      lists = rw (e.1, e.2) (not_filled line_of _ _ _ _ _ written _ (feed_of c.read_more.new.stored.items c.read_more.new.cursor) _
-          c.in_err-read_more-in-Read.ensures.refills);
+      lists = rw (e.1, e.2) (not_filled line_of _ _ _ _ _ written _
+          (beside (feed_of c.refill.new.stored.items c.refill.new.cursor) c.refill.new.self) _
+          c.in_err-refill-in-Read.ensures.refills);
       source = grind (arith, common_steps);
       sink = grind (arith, common_steps);
     }
@@ -86,33 +112,38 @@ returns-in_err-read_more-in-Read g c =
 pub events-smaller : goal.events-smaller
 events-smaller g c =
     let a = c.parse_next-answer.ensures in
-    let s = steps_by _ c.events.stored.items _ _ _ c.deref.ensures.value a.parses a.shows a.finished a.wants in
+    let ready = c.in_ok-make_ready.ensures in
+    let s = lent _ _ _ _ _ _ _ _ _ ready.same ready.enough c.seen.ensures c.deref.ensures.value c.bytes.ensures a.parses a.shows a.finished
+    a.wants in
     let t = c.in_ok-turn.ensures.takes in
     let (asks, same) = asked line_of _ _ _ _ _ _ c.events.invariant.progress _ _ s _ _ t.0 (sym c.in-Read.is ∙ t.1) in
     let written = wants_written line_of _ _ _ _ _ _ _ asks c.in_ok-write_out-in-Read.ensures.writes.0 in
-    let less = (filled line_of _ _ _ _ _ written _ _ c.in_ok-read_more-in-Read.ensures.refills).1 in
+    let less = (filled_alike line_of _ _ _ _ _ _ _ written c.in_ok-refill-in-Read.ensures.refills).1 in
     rw same at less
 
 pub events-preserved : goal.events-preserved
 events-preserved g c =
     let a = c.parse_next-answer.ensures in
-    let s = steps_by _ c.events.stored.items _ _ _ c.deref.ensures.value a.parses a.shows a.finished a.wants in
+    let ready = c.in_ok-make_ready.ensures in
+    let s = lent _ _ _ _ _ _ _ _ _ ready.same ready.enough c.seen.ensures c.deref.ensures.value c.bytes.ensures a.parses a.shows a.finished
+    a.wants in
     let t = c.in_ok-turn.ensures.takes in
     let asks = (asked line_of _ _ _ _ _ _ c.events.invariant.progress _ _ s _ _ t.0 (sym c.in-Read.is ∙ t.1)).0 in
     let (written, none) = c.in_ok-write_out-in-Read.ensures.writes in
-    let after = (filled line_of _ _ _ _ _ (wants_written line_of _ _ _ _ _ _ _ asks written) _ _
-    c.in_ok-read_more-in-Read.ensures.refills).0 in
+    let after = (filled_alike line_of _ _ _ _ _ _ _ (wants_written line_of _ _ _ _ _ _ _ asks written)
+    c.in_ok-refill-in-Read.ensures.refills).0 in
     record {
       progress = rw none after;
       input = grind (arith, common_steps);
       output = grind (arith, common_steps);
-      buffer = grind (arith, common_steps);
     }
 
 pub returns-in_err-write_out-in-End : goal.returns-in_err-write_out-in-End
 returns-in_err-write_out-in-End g c =
     let a = c.parse_next-answer.ensures in
-    let s = steps_by _ c.events.stored.items _ _ _ c.deref.ensures.value a.parses a.shows a.finished a.wants in
+    let ready = c.in_ok-make_ready.ensures in
+    let s = lent _ _ _ _ _ _ _ _ _ ready.same ready.enough c.seen.ensures c.deref.ensures.value c.bytes.ensures a.parses a.shows a.finished
+    a.wants in
     let t = c.in_ok-turn.ensures.takes in
     let e = err_from_is_err_and c.from_residual-in_err-write_out-in-End.result c.from_residual-in_err-write_out-in-End.ensures.1 in
     record {
@@ -125,7 +156,9 @@ returns-in_err-write_out-in-End g c =
 pub returns-in-End : goal.returns-in-End
 returns-in-End g c =
     let a = c.parse_next-answer.ensures in
-    let s = steps_by _ c.events.stored.items _ _ _ c.deref.ensures.value a.parses a.shows a.finished a.wants in
+    let ready = c.in_ok-make_ready.ensures in
+    let s = lent _ _ _ _ _ _ _ _ _ ready.same ready.enough c.seen.ensures c.deref.ensures.value c.bytes.ensures a.parses a.shows a.finished
+    a.wants in
     let t = c.in_ok-turn.ensures.takes in
     record {
       lists = listed_all line_of _ _ _ _ _ _ c.events.invariant.progress _ _ s _ _ t.0 _ (sym c.in-End.is ∙ t.1) _

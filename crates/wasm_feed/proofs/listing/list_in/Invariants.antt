@@ -1,4 +1,5 @@
-use Rattle.std.proofs.Common.{◌≡◌, ◌<◌, vec_len}
+use Rattle.std.proofs.Common.{◌≡◌}
+use Rattle.wasm_feed.specs.Beside.{beside}
 use Rattle.wasm_feed.specs.Calls.{from_to}
 use Rattle.wasm_feed.specs.Cursors.{feed_of}
 use Rattle.wasm_feed.specs.Listing.{line_of}
@@ -13,11 +14,10 @@ invariant-events g l =
     record {
       progress : Progress line_of (from_to (source.remaining l.initial.input) (source.remaining l.input))
           (from_to (sink.taken l.initial.output) (sink.taken l.output))
-          (feed_of l.stored.items l.cursor) l.page;
+          (beside (feed_of l.stored.items l.cursor) l.ahead) l.page;
       input : source.has_failed l.input ≡ source.has_failed l.initial.input;
       output : sink.has_failed l.output ≡ sink.has_failed l.initial.output;
-      buffer : 0 < vec_len l.buffer;
     }
 
 abbrev pub decreases-events : goal.decreases-events
-decreases-events g l = weight (feed_of l.stored.items l.cursor)
+decreases-events g l = weight (beside (feed_of l.stored.items l.cursor) l.ahead)

@@ -1,0 +1,13 @@
+use Rattle.std.proofs.Common.{length, ◌+◌, ◌-◌, ◌≡◌, ◌≤◌, ◌++◌, take, vec_len, vec_capacity}
+use Rattle.wasm_feed.proofs.feeder.lending.gather.Given as goal
+
+-- the first bytes of the piece were put
+abbrev pub invariant-parts : goal.invariant-parts
+invariant-parts g l = record {
+  within : l.count ≤ length l.piece;
+  put : l.held.items ≡ l.initial.held.items ++ take l.count l.piece;
+  room : vec_len l.held + (length l.piece - l.count) ≤ vec_capacity l.held;
+}
+
+abbrev pub decreases-parts : goal.decreases-parts
+decreases-parts g l = length l.piece - l.count

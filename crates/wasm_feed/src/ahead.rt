@@ -1,0 +1,123 @@
+// A piece of a source, beside what is stored of the stream before it.
+ghost use Rattle.std.specs.Prelude.{◌≡◌, ◌+◌, ◌<◌, ◌≤◌, [], drop, length, vec_len, vec_capacity, is_ok, true, IfErr, OnOk, if◌then◌else◌};
+ghost use Rattle.wasm_feed.specs.Beside.{beside, lending, Fetches, ReadsEnough, RefillsAlike};
+ghost use Rattle.wasm_feed.specs.Cursors.{feed_of};
+ghost use Rattle.wasm_feed.specs.Lists.{input_failed};
+ghost use Rattle.wasm_feed.specs.declared.devices.ListError.TheVariants.{Memory};
+
+use crate::devices::{Failed, ListError, Source};
+use crate::feeder::{Cursor, keep, make_ready, pass_lent};
+use std::alloc::Allocator;
+use std::marker::Model;
+
+/// What is left of the piece that was read last, in the buffer that it was read into.
+#[derive(Drop)]
+pub(crate) struct Ahead<A: Allocator> {
+    buffer: Vec<u8, A>,
+    start: usize,
+    end: usize,
+}
+
+impl<A: Allocator> Model for Ahead<A> {
+    ghost use Rattle.std.specs.Prelude.{ℕ, ◌-◌, ◌<◌, ◌≤◌, List, take, drop, vec_len};
+
+    ghost Value = { List ℕ };
+
+    ghost view = { λ a. take (a.end - a.start) (drop a.start a.buffer.items) };
+
+    ghost invariant = { λ a. (a.start ≤ a.end) × (a.end ≤ vec_len a.buffer)
+        × (0 < vec_len a.buffer) };
+}
+
+impl<A: Allocator> Ahead<A> {
+    /// Nothing yet, and a buffer to read into, which has a byte.
+    pub(crate) fn new(buffer: Vec<u8, A>) -> Self
+        requires { 0 < vec_len buffer }
+        ensures { result ≡ [] }
+    {
+        Ahead {
+            buffer,
+            start: 0,
+            end: 0,
+        }
+    }
+
+    /// What is left of the piece.
+    pub(crate) fn bytes(&self) -> &[u8]
+        ensures { result.now ≡ self.now }
+    {
+        &self.buffer[self.start..self.end]
+    }
+
+    // Passes so many bytes of it.
+    fn pass(&mut self, count: usize)
+        requires { count ≤ length self.old }
+        ensures { self.new ≡ drop count self.old }
+    {
+        self.start += count;
+    }
+
+    // Reads the next piece in place of what is left. It is empty only at the end of the source.
+    fn fetch<R: Source>(&mut self, input: &mut R) -> Result<(), Failed>
+        ensures fetches { Fetches (R.remaining input.old) (R.remaining input.new)
+            self.new result }
+        ensures failed { R.has_failed input.new
+            ≡ (if is_ok result then R.has_failed input.old else true) }
+    {
+        let count = input.read(self.buffer.as_mut_slice())?;
+        self.start = 0;
+        self.end = count;
+        Ok(())
+    }
+
+    /// Stores what the next step has to read after the bytes that are held.
+    pub(crate) fn make_ready(
+        &mut self,
+        cursor: &mut Cursor,
+        stored: &mut Vec<u8, A>,
+    ) -> Result<(), ListError>
+        ensures same { OnOk result (lending stored.new.items self.new cursor.new
+            ≡ beside (feed_of stored.old.items cursor.old) self.old) }
+        ensures enough { OnOk result (ReadsEnough stored.new.items self.new cursor.new) }
+        ensures room { OnOk result (vec_len stored.new + length self.new
+            ≤ vec_capacity stored.new) }
+        ensures memory { IfErr result (λ e. e ≡ Memory) }
+    {
+        let count = make_ready(cursor, stored, self.bytes())?;
+        self.pass(count);
+        Ok(())
+    }
+
+    /// Passes what a step consumed.
+    pub(crate) fn pass_lent(&mut self, cursor: &mut Cursor, stored: &[u8])
+        ensures { beside (feed_of stored.now cursor.new) self.new
+            ≡ lending stored.now self.old cursor.old }
+    {
+        let count = pass_lent(cursor, stored, self.bytes());
+        self.pass(count);
+    }
+
+    /// Stores what a step left, for which there must be room, and reads once: the next piece, or that the stream has ended.
+    pub(crate) fn refill<R: Source>(
+        &mut self,
+        cursor: &mut Cursor,
+        stored: &mut Vec<u8, A>,
+        input: &mut R,
+    ) -> Result<(), ListError>
+        requires { vec_len stored.old + length self.old ≤ vec_capacity stored.old }
+        ensures refills { RefillsAlike (R.remaining input.old) (R.remaining input.new)
+            (lending stored.old.items self.old cursor.old)
+            (beside (feed_of stored.new.items cursor.new) self.new) result }
+        ensures failed { R.has_failed input.new
+            ≡ input_failed result (R.has_failed input.old) }
+    {
+        keep(cursor, stored, self.bytes());
+        if self.fetch(input).is_err() {
+            return Err(ListError::Input);
+        }
+        if self.bytes().is_empty() {
+            cursor.finish();
+        }
+        Ok(())
+    }
+}

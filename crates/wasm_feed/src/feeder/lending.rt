@@ -1,0 +1,160 @@
+// How a piece is lent: parts that lie whole in it are parsed where they are, and only what is left of it is stored.
+ghost use Rattle.std.specs.Prelude.{◌≡◌, ◌+◌, ◌-◌, ◌<◌, ◌≤◌, ◌^◌, true, false, [], drop, length, vec_len, vec_capacity, IfOk, OnErr};
+ghost use Rattle.wasm_feed.specs.Beside.{beside, lending, seen, AreEnough, Gathers, MakesReady};
+ghost use Rattle.wasm_feed.specs.Cursors.{feed_of};
+
+use super::Cursor;
+use crate::buffer::{drop_front, make_room, put};
+use std::alloc::{AllocError, Allocator};
+use wasm_parser::laws::answers_last;
+use wasm_parser::{Chunk, Parser, fits};
+
+/// A piece of at most so many bytes is stored whole after bytes that are held: its copy costs less than asking the parser
+/// what they miss.
+const SMALL_PIECE: usize = 512;
+
+/// The bytes that a step reads: those that are stored, or the piece where there are none.
+pub(crate) fn seen<'a>(stored: &'a [u8], piece: &'a [u8]) -> &'a [u8]
+    ensures { result.now ≡ seen stored.now piece.now }
+{
+    if stored.is_empty() { piece } else { stored }
+}
+
+/// Stores as many bytes of the piece as the next step has to read after those that are held, and says how many: none where
+/// nothing is held, since the piece is read where it is then. There is room for the others too. A growth that is refused changes
+/// nothing.
+pub(crate) fn make_ready<A: Allocator>(
+    cursor: &mut Cursor,
+    stored: &mut Vec<u8, A>,
+    piece: &[u8],
+) -> Result<usize, AllocError>
+    ensures ok { IfOk result (λ count. MakesReady (feed_of stored.old.items cursor.old) piece.now
+        count stored.new.items cursor.new) }
+    ensures room { IfOk result (λ count. vec_len stored.new + (length piece.now - count)
+        ≤ vec_capacity stored.new) }
+    ensures unchanged { OnErr result (feed_of stored.new.items cursor.new
+        ≡ feed_of stored.old.items cursor.old) }
+{
+    if stored.is_empty() {
+        if piece.len() <= stored.capacity() {
+            cursor.mark = 0;
+            return Ok(0);
+        }
+    }
+    if piece.is_empty() {
+        return Ok(0);
+    }
+    make_room(stored, cursor.mark.min(stored.len()), piece.len())?;
+    cursor.mark = 0;
+    if stored.is_empty() {
+        return Ok(0);
+    }
+    if goes_whole(cursor, stored.len(), piece.len()) {
+        put(stored, piece);
+        return Ok(piece.len());
+    }
+    Ok(gather(&cursor.parser, stored, piece))
+}
+
+// Whether so many bytes are stored whole after so many that are held: few, where more was asked for; or where they pass the top of
+// the offsets, or the end was told before them.
+fn goes_whole(cursor: &Cursor, held: usize, size: usize) -> bool
+    ensures finished { result ≡ false → cursor.now.is_finished ≡ false }
+    ensures below { result ≡ false → cursor.now.parser.offset + (held + size) < 2 ^ 64 }
+{
+    if size <= SMALL_PIECE && cursor.wants_more {
+        return true;
+    }
+    if cursor.is_finished {
+        return true;
+    }
+    let offset = cursor.parser.offset();
+    if !fits(offset, held) {
+        return true;
+    }
+    !fits(offset + held as u64, size)
+}
+
+// Puts bytes of the piece after those that are held until they are enough, and says how many.
+fn gather<A: Allocator>(parser: &Parser, held: &mut Vec<u8, A>, piece: &[u8]) -> usize
+    requires below { parser.now.offset + (vec_len held.old + length piece.now) < 2 ^ 64 }
+    requires room { vec_len held.old + length piece.now ≤ vec_capacity held.old }
+    ensures gathers { Gathers parser.now held.old.items piece.now result held.new.items }
+    ensures room { vec_len held.new + (length piece.now - result) ≤ vec_capacity held.new }
+{
+    let mut count = 0;
+    'parts: while count < piece.len() {
+        let missing = missing(parser, held);
+        if missing == 0 {
+            return count;
+        }
+        let end = count + missing.min(piece.len() - count);
+        put(held, &piece[count..end]);
+        count = end;
+    }
+    count
+}
+
+// About how many bytes these miss: none where they are enough for the parser.
+fn missing(parser: &Parser, bytes: &[u8]) -> usize
+    ensures { result ≡ 0 → AreEnough parser.now bytes.now }
+{
+    answers_last();
+    let mut trial = Parser::resume(parser.checkpoint());
+    match trial.parse(bytes, false) {
+        Ok(Chunk::NeedMoreData(hint)) => hint,
+        Ok(Chunk::Parsed { .. }) => 0,
+        Err(_) => 0,
+    }
+}
+
+/// Passes the bytes that a step consumed of a piece that it read where it is, and says how many.
+pub(crate) fn pass_lent(cursor: &mut Cursor, stored: &[u8], piece: &[u8]) -> usize
+    ensures passes { beside (feed_of stored.now cursor.new) (drop result piece.now)
+        ≡ lending stored.now piece.now cursor.old }
+    ensures within { result ≤ length piece.now }
+{
+    if !stored.is_empty() {
+        return 0;
+    }
+    let count = cursor.mark.min(piece.len());
+    cursor.mark = 0;
+    count
+}
+
+/// Stores what a step left of the piece, for which there must be room.
+pub(crate) fn keep<A: Allocator>(cursor: &mut Cursor, stored: &mut Vec<u8, A>, piece: &[u8])
+    requires { vec_len stored.old + length piece.now ≤ vec_capacity stored.old }
+    ensures keeps { beside (feed_of stored.new.items cursor.new) []
+        ≡ lending stored.old.items piece.now cursor.old }
+    ensures bounded { vec_len stored.new ≤ vec_len stored.old + length piece.now }
+{
+    let count = pass_lent(cursor, stored, piece);
+    if count == piece.len() {
+        return;
+    }
+    drop_front(stored, cursor.mark.min(stored.len()));
+    cursor.mark = 0;
+    put(stored, &piece[count..]);
+}
+
+/// Takes of the piece what a step consumed, or all that is left where it asked for more, and says how many bytes these are.
+pub(super) fn take_left<A: Allocator>(
+    cursor: &mut Cursor,
+    stored: &mut Vec<u8, A>,
+    piece: &[u8],
+) -> usize
+    requires { vec_len stored.old + length piece.now ≤ vec_capacity stored.old }
+    ensures takes { beside (feed_of stored.new.items cursor.new) (drop result piece.now)
+        ≡ lending stored.old.items piece.now cursor.old }
+    ensures within { result ≤ length piece.now }
+    ensures asks { cursor.old.wants_more ≡ true → result ≡ length piece.now }
+    ensures bounded { vec_len stored.new ≤ vec_len stored.old + length piece.now }
+    ensures wants { cursor.new.wants_more ≡ cursor.old.wants_more }
+{
+    if cursor.wants_more {
+        keep(cursor, stored, piece);
+        return piece.len();
+    }
+    pass_lent(cursor, stored, piece)
+}

@@ -1,0 +1,139 @@
+// Pieces that a feeder lends.
+use super::feeding::{MODULE, Told, push, say};
+use bitflags::Flags;
+use std::alloc::Allocator;
+use std::process::Abort;
+use std::test::Fail;
+use wasm_feed::Feeder;
+use wasm_parser::{Error, Fault, Result, WasmFeatures};
+use wasm_test_heap::Sparing;
+
+// One step over a piece: what it tells, and what is left of the piece.
+fn over<'a, A: Allocator>(feeder: &mut Feeder<A>, piece: &'a [u8]) -> Result<(Told, &'a [u8])> {
+    let (taken, told) = feeder.step_over(piece, say)?;
+    Ok((told, piece.split_at(taken).1))
+}
+
+// The steps over a piece are these, after each of which so many bytes are held and stored.
+fn tells<A: Allocator>(
+    rt: &impl Abort,
+    feeder: &mut Feeder<A>,
+    piece: &[u8],
+    rows: &[(Told, usize, usize)],
+) -> Result<()> {
+    let mut rest = piece;
+    for (told, held, stored) in rows {
+        let (now, left) = over(feeder, rest)?;
+        rest = left;
+        assert_eq!(rt;
+            (now, feeder.held(), feeder.stored()),
+            (*told, *held, *stored)
+        );
+    }
+    assert!(rt; rest.is_empty());
+    Ok(())
+}
+
+#[test]
+fn parts_that_lie_whole_in_a_piece_are_not_stored(
+    rt: HostRuntime,
+) -> std::result::Result<(), Fail> {
+    let mut feeder = Feeder::new(rt.alloc(), 0, WasmFeatures::all());
+    let (first, second) = MODULE.split_at(14);
+    tells(
+        &rt,
+        &mut feeder,
+        first,
+        &[
+            (Told::Shows(8), 0, 0),
+            (Told::Shows(4), 0, 0),
+            (Told::Asks(1), 2, 2),
+        ],
+    )?;
+    assert!(rt; feeder.wants_more());
+    tells(
+        &rt,
+        &mut feeder,
+        second,
+        &[
+            (Told::Shows(3), 3, 6),
+            (Told::Shows(3), 0, 6),
+            (Told::Asks(1), 0, 6),
+        ],
+    )?;
+    feeder.finish();
+    tells(
+        &rt,
+        &mut feeder,
+        b"",
+        &[(Told::Ends(18), 0, 6), (Told::Ends(18), 0, 6)],
+    )?;
+    Ok(())
+}
+
+// A custom section of 605 bytes, and a function section: of the second piece only what the first one misses is stored.
+#[test]
+fn only_what_a_part_misses_is_stored(rt: HostRuntime) -> std::result::Result<(), Fail> {
+    let mut feeder = Feeder::new(rt.alloc(), 0, WasmFeatures::all());
+    let mut stream = Vec::new(rt.alloc());
+    stream.extend_from_slice(b"\0asm\x01\0\0\0\0\xda\x04\x01x")?;
+    stream.extend_from_slice(&[0; 600])?;
+    stream.extend_from_slice(b"\x03\x02\x01\0")?;
+    let (first, second) = stream.as_slice().split_at(stream.len().min(20));
+    tells(
+        &rt,
+        &mut feeder,
+        first,
+        &[(Told::Shows(8), 0, 0), (Told::Asks(593), 12, 12)],
+    )?;
+    tells(
+        &rt,
+        &mut feeder,
+        second,
+        &[
+            (Told::Shows(605), 0, 605),
+            (Told::Shows(4), 0, 0),
+            (Told::Asks(1), 0, 0),
+        ],
+    )?;
+    Ok(())
+}
+
+// Pushes and steps over pieces take turns.
+#[test]
+fn a_piece_comes_after_what_was_pushed(rt: HostRuntime) -> std::result::Result<(), Fail> {
+    let mut feeder = Feeder::new(rt.alloc(), 0, WasmFeatures::all());
+    let (first, second) = MODULE.split_at(13);
+    push(&mut feeder, first)?;
+    tells(
+        &rt,
+        &mut feeder,
+        b"",
+        &[
+            (Told::Shows(8), 5, 13),
+            (Told::Shows(4), 1, 13),
+            (Told::Asks(1), 1, 13),
+        ],
+    )?;
+    tells(
+        &rt,
+        &mut feeder,
+        second,
+        &[(Told::Shows(3), 3, 6), (Told::Shows(3), 0, 6)],
+    )?;
+    Ok(())
+}
+
+// Where the growth for a piece is refused, nothing is told, and the same piece can be given again.
+#[test]
+fn a_refused_piece_is_given_again(rt: HostRuntime) -> std::result::Result<(), Fail> {
+    let heap = Sparing::new(rt.alloc(), 0);
+    let mut feeder = Feeder::new_in(&heap, 0, WasmFeatures::all());
+    let refused = over(&mut feeder, MODULE).err();
+    assert_eq!(rt; refused, Some(Error::new(Fault::OutOfMemory, 0)));
+    assert!(rt; feeder.wants_more());
+    heap.give(20);
+    let (told, left) = over(&mut feeder, MODULE)?;
+    assert_eq!(rt; (told, left.len()), (Told::Shows(8), 10));
+    Ok(())
+}
