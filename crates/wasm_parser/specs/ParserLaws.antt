@@ -1,7 +1,9 @@
 -- Laws of what a parser knows and answers.
 use Rattle.std.specs.Prelude.{◌≡◌, ℕ, ◌+◌, ◌^◌, ◌<◌, ◌≤◌, ◌↔◌, Bool, false, Result, List, [], ◌∷◌, ◌++◌, length}
 use Rattle.wasm_grammar.specs.Grammar.{Tile, tile, verdict}
-use Rattle.wasm_grammar.specs.Reading.{Event, Reading}
+use Rattle.wasm_grammar.specs.Content.{ended}
+use Rattle.wasm_grammar.specs.EventRanges.{consumed_by}
+use Rattle.wasm_grammar.specs.Reading.{Event, last_event, Reading}
 use Rattle.wasm_grammar.specs.NextEvent.{NextEvent}
 use Rattle.wasm_parser.specs.ParseAnswer.{IsRequest, ParseAnswer}
 use Rattle.wasm_parser.specs.declared.payload.Chunk.{Chunk}
@@ -29,3 +31,8 @@ abbrev pub AnswersLast : Type 0
 AnswersLast = (p new : ParserState) (bytes more : List ℕ) (result : Result Chunk Error)
     → ParseAnswer p false bytes result new → ¬ IsRequest result → p.offset + length (bytes ++ more) < 2 ^ 64
     → (eof : Bool) → ParseAnswer p eof (bytes ++ more) result new
+
+-- the events of a reading that ends at the stream's end consumed all of the stream
+abbrev pub EndConsumesAll : Type 0
+EndConsumesAll = (stream : List ℕ) (start features : ℕ) (events : List Event) (offset : ℕ)
+    → Reading stream start features (events ++ last_event (ended offset) ∷ []) → stream ≡ consumed_by events

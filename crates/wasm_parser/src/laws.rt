@@ -1,7 +1,7 @@
 //! Laws of the definitions of framing, each the contract of a function that does nothing: those of the grammar, and those
 //! that tie a parser to it.
 ghost use Rattle.wasm_parser.specs.Along.{AnswersGoAlong};
-ghost use Rattle.wasm_parser.specs.ParserLaws.{AnswersLast, ParserSuffices, SomeNextEvent};
+ghost use Rattle.wasm_parser.specs.ParserLaws.{AnswersLast, EndConsumesAll, ParserSuffices, SomeNextEvent};
 ghost use Rattle.wasm_parser.specs.PayloadItems.{GivesTypes, GivesImports, GivesFunctions, GivesTables};
 ghost use Rattle.wasm_parser.specs.PayloadItems.{GivesMemories, GivesTags, GivesGlobals, GivesExports};
 ghost use Rattle.wasm_parser.specs.PayloadItems.{GivesElements, GivesData, NoOthersAreCounted};
@@ -60,6 +60,11 @@ pub fn short_is_undecided(offset: u64, front: &[u8], data: &[u8])
 /// Wherever a parser is in a stream, the reading of that stream has a next event.
 pub fn some_next_event()
     ensures { SomeNextEvent }
+{}
+
+/// The events of a reading that ends at the stream's end consumed all of the stream.
+pub fn end_consumes_all()
+    ensures { EndConsumesAll }
 {}
 
 /// The items of a payload that begins with a count are those of its window, by the grammar of its kind of section. They are

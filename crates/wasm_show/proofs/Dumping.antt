@@ -1,7 +1,7 @@
 -- How far a dump has come. Its outline is what a listing by the lines that are shown would have written.
 use Rattle.std.proofs.Common.{◌≡◌, ℕ, ◌<◌, Bool, true, false, if◌then◌else◌, List, [], ◌++◌, Option, Some, None, Result, Ok, Err, refl}
 use Rattle.std.proofs.Common.{sym}
-use Rattle.std.proofs.Common.{◌∷◌, ◌^◌, ap, subst, subst₂, ◌∙◌, append-nil, append_assoc, length, inl, inr, arith, nat_eq}
+use Rattle.std.proofs.Common.{◌∷◌, ◌^◌, ap, subst, subst₂, ◌∙◌, append-nil, append_assoc, length, length-append, inl, inr, arith, nat_eq}
 use Rattle.std.specs.Io.KnownBytes.{Appends, Consumes}
 use Rattle.std.proofs.KnownBytes.{Appends-nil, Consumes-nil, Consumes-trans, Consumes-kept}
 use Rattle.wasm_feed.specs.Calls.{Change, Device, from_to}
@@ -10,9 +10,10 @@ use Rattle.wasm_feed.specs.Lists.{IsBeginning, Fills, Refills, input_failed}
 use Rattle.wasm_feed.specs.FeedersLaws.{IsAlong}
 use Rattle.wasm_parser.specs.Along.{Came}
 use Rattle.wasm_parser.specs.declared.payload.Payload.{Payload}
-use Rattle.wasm_parser.proofs.ForCallers.{answers_go_along}
+use Rattle.wasm_parser.proofs.ForCallers.{answers_go_along, end_consumes_all}
+use Rattle.wasm_parser.specs.GivesNextEvent.{MayBe}
 use Rattle.wasm_grammar.specs.EventRanges.{consumed_by}
-use Rattle.wasm_grammar.specs.Reading.{Report, Event}
+use Rattle.wasm_grammar.specs.Reading.{Report, Event, Reading}
 use Rattle.wasm_feed.proofs.ForCallers.{feeders_go_along}
 use Rattle.wasm_feed.specs.Page.{WritesBeginning, PutsBytes}
 use Rattle.wasm_base.specs.declared.error.Error.{Error}
@@ -22,7 +23,7 @@ use Rattle.wasm_feed.specs.Turns.{text_after, turn_after}
 use Rattle.wasm_feed.specs.declared.feeder.Step.{Step}
 use Rattle.wasm_feed.specs.declared.feeder.Step.TheVariants.{NeedMoreData, Parsed}
 use Rattle.wasm_feed.specs.declared.listing.Ended.{Ended}
-use Rattle.wasm_feed.specs.declared.listing.Ended.TheVariants.{End}
+use Rattle.wasm_feed.specs.declared.listing.Ended.TheVariants.{End, Fault}
 use Rattle.wasm_feed.specs.declared.devices.ListError.{ListError}
 use Rattle.wasm_feed.specs.declared.devices.ListError.TheVariants.{Input, Output, Memory}
 use Rattle.wasm_feed.specs.declared.listing.Turn.{Turn}
@@ -33,7 +34,7 @@ use Rattle.wasm_show.specs.Chosen.{chosen_line, is_chosen}
 use Rattle.wasm_show.specs.Numbers.{Number, after, after_all, no_counts}
 use Rattle.wasm_show.specs.declared.numbers.Counts.{Counts}
 use Rattle.wasm_show.proofs.Numbering.{all_more, events_begin, events_more, end_none}
-use Rattle.wasm_show.specs.Dump.{AreOf, AreOfEvents, AreOfSource, bytes_of_answer, bytes_of_event, bytes_of_events, shown_bytes}
+use Rattle.wasm_show.specs.Dump.{AreOf, AreOfEvents, AreOfSource, bytes_of_answer, bytes_of_event, bytes_of_events, shown_bytes, is_whole}
 use Rattle.std.specs.Prelude.{flat_map}
 use Rattle.std.proofs.lemmas.Grind.{flat_map-append}
 use Rattle.std.proofs.lemmas.Bool.Decides.{nat_tests}
@@ -121,11 +122,17 @@ starts only has_bytes full w = record {
 
 -- ---- what is counted
 
+-- no whole stream was read
+not_whole : (left : List ℕ) → false ≡ true → left ≡ []
+not_whole left e = cc
+
 -- the numbers of what the source gave
-numbers_at : (why : Option ListError) (only : List Only) (has_bytes : Bool) (full rest : Option (List ℕ)) (f : Feed) (c : Counts)
-    (k : Counting full rest f c) (numbers : List Number) → AreOfEvents why only no_counts k.events numbers
-    → AreOfSource why only has_bytes (from_to full rest) numbers (bytes_of_events has_bytes only k.events)
-numbers_at why only has_bytes full rest f c k numbers a = record {
+numbers_at : (why : Option ListError) (whole : Bool) (only : List Only) (has_bytes : Bool) (full rest : Option (List ℕ)) (f : Feed)
+    (c : Counts) (k : Counting full rest f c) (numbers : List Number) → (whole ≡ true → f.held ≡ [])
+    → AreOfEvents why only no_counts k.events numbers
+    → AreOfSource why whole only has_bytes (from_to full rest) numbers (bytes_of_events has_bytes only k.events)
+numbers_at why whole only has_bytes full rest f c k numbers none a = record {
+  none_left = none;
   given = k.given;
   events = k.events;
   gave = k.gave;
@@ -140,8 +147,9 @@ numbers_at why only has_bytes full rest f c k numbers a = record {
 numbers_after : (why : Option ListError) (only : List Only) (has_bytes : Bool) (full rest rest' : Option (List ℕ)) (f : Feed)
     (c : Counts) (k : Counting full rest f c) (piece : List ℕ)
     → Consumes rest rest' piece → (numbers : List Number) → AreOfEvents why only no_counts k.events numbers
-    → AreOfSource why only has_bytes (from_to full rest') numbers (bytes_of_events has_bytes only k.events)
+    → AreOfSource why false only has_bytes (from_to full rest') numbers (bytes_of_events has_bytes only k.events)
 numbers_after why only has_bytes full rest rest' f c k piece more numbers a = record {
+  none_left = not_whole (f.held ++ piece);
   given = k.given ++ piece;
   events = k.events;
   left = f.held ++ piece;
@@ -162,6 +170,11 @@ bytes_more true only events e r bytes same is = flat_map-append (λ x. bytes_of_
     ∙ (ap (λ (x : Report). if is_chosen only x then e.consumed else []) (sym same)
     ∙ ap (λ (x : List ℕ). if is_chosen only r then x else []) is))
 bytes_more false only events e r bytes same is = refl
+
+-- what was given may be all
+may_be : (eof : Bool) (given : List ℕ) → MayBe eof given given
+may_be true given = refl
+may_be false given = ([], sym (append-nil given))
 
 empty : (bytes : List ℕ) → length bytes ≡ 0 → bytes ≡ []
 empty [] e = refl
@@ -280,6 +293,24 @@ module _ (only : List Only) (has_bytes : Bool) (full rest : Option (List ℕ)) (
         ∙ append-nil (bytes_of_events has_bytes only k.events)),
   )
 
+  -- at the stream's end nothing is held
+  held_none : (x : Result Step Error) → turn.End End ≡ turn_after x → Steps f x g → f.held ≡ []
+  held_none (Ok (NeedMoreData hint)) t s = cc
+  held_none (Err e) t s = cc
+  held_none (Ok (Parsed bytes payload)) t s =
+      let is = ends End (is_end (report_of payload)) t in
+      let came : Came 0 all_features f.eof k.given k.events bytes.now payload g.state g.held =
+      feeders_go_along.steps 0 all_features k.given f g k.events (Ok (Parsed bytes payload)) k.along
+      (omega (arith, below (Parsed bytes payload) s)) s in
+      let (offset, last) = came.last is in
+      let reading = subst (λ (e : Event). Reading k.given 0 all_features (k.events ++ e ∷ [])) last
+      (came.ends is k.given (may_be f.eof k.given)) in
+      let all = end_consumes_all k.given 0 all_features k.events offset reading in
+      let parts = answers_go_along.consumed 0 all_features k.given f.state f.held k.events k.along in
+      let same : length (consumed_by k.events) ≡ length (consumed_by k.events ++ f.held) =
+      ap (λ (x : List ℕ). length x) (sym all ∙ parts) in
+      empty f.held (omega (arith, length-append (consumed_by k.events) f.held))
+
 -- ---- what was written, at an end
 
 none_begun : (b : Bool) (line : List Part) → b ≡ false → begun b line ≡ []
@@ -333,10 +364,11 @@ has_failed : (o : Origin) (w : Writing) → w.why ≡ None → IsWritten o w →
 has_failed o w going i = failed_in o.style o w (as_going o w going i)
 
 -- where the tree has stopped, some may be missing
-source_begins : (why : Option ListError) (stop : ListError) (only : List Only) (has_bytes : Bool) (input : Change)
-    (numbers : List Number) (bytes : List ℕ) → AreOfSource why only has_bytes input numbers bytes
-    → AreOfSource (Some stop) only has_bytes input numbers bytes
-source_begins why stop only has_bytes input numbers bytes a = record {
+source_begins : (why : Option ListError) (whole : Bool) (stop : ListError) (only : List Only) (has_bytes : Bool) (input : Change)
+    (numbers : List Number) (bytes : List ℕ) → AreOfSource why whole only has_bytes input numbers bytes
+    → AreOfSource (Some stop) false only has_bytes input numbers bytes
+source_begins why whole stop only has_bytes input numbers bytes a = record {
+  none_left = not_whole a.left;
   given = a.given;
   events = a.events;
   gave = a.gave;
@@ -358,7 +390,7 @@ cut_off : (style : Style) (only : List Only) (has_bytes : Bool) (full rest : Opt
     → (taken : Option (List ℕ)) (failed : Bool) (outline : List ℕ) (numbers : List Number) (bytes : List ℕ) (why : ListError)
     (w : Writing)
     → IsBeginning (chosen_line only) (from_to full rest) (from_to (Some []) (Some outline))
-    → AreOfSource (Some why) only has_bytes (from_to full rest) numbers bytes
+    → AreOfSource (Some why) false only has_bytes (from_to full rest) numbers bytes
     → IsCutShort (origin style taken failed outline numbers bytes) why w → DumpsFrom style only has_bytes
     (record { before = full; after = rest; had_failed = had; has_failed = has }) taken failed (Err why) w
 cut_off style only has_bytes full rest had has h taken failed outline numbers bytes Output w b n c = record {
@@ -497,18 +529,26 @@ module _ (only : List Only) (has_bytes : Bool) (full rest : Option (List ℕ)) (
       put how (sym t ∙ s.turns) (Some (d.outline ++ text_after (chosen_line only) s.answer)) Output
       (nothing_cut (Some (d.outline ++ text_after (chosen_line only) s.answer)))
 
+  -- whether all of the stream was read, by what is done next
+  abbrev ends_whole : Turn → Bool
+  ends_whole (turn.End how) = is_whole (Ok how)
+  ends_whole other = false
+
+  none_held : (how : Ended) → next ≡ turn.End how → is_whole (Ok how) ≡ true → f.held ≡ []
+  none_held End t w = held_none only has_bytes full rest f c d.counting g s.answer (sym t ∙ s.turns) s.steps
+  none_held (Fault e) t w = cc
+
   -- what was written, with the numbers of what the source gave
   all_written : (t : Turn) → next ≡ t → (taken : Option (List ℕ)) (failed : Bool)
       → IsWritten (origin before.style taken failed [] [] []) before
-      → (numbers : List Number) × (bytes : List ℕ) × AreOfSource new.why only has_bytes (from_to full rest) numbers bytes
+      → (numbers : List Number) × (bytes : List ℕ) × AreOfSource new.why (ends_whole t) only has_bytes (from_to full rest) numbers bytes
       × IsWritten (origin before.style taken failed (d.outline ++ text_after (chosen_line only) s.answer) numbers bytes) new
   all_written turn.Advance t taken failed i =
       let (k, more) = counted_on only has_bytes full rest f c d.counting g s.answer (sym t ∙ s.turns) s.steps in
       let (numbers, are, going) = written k.events more taken failed i in (
         numbers,
         bytes_of_events has_bytes only k.events,
-        numbers_at new.why only has_bytes full rest g
-            (after_answer c s.answer) k numbers are,
+        numbers_at new.why false only has_bytes full rest g (after_answer c s.answer) k numbers (not_whole g.held) are,
         going,
       )
   all_written turn.Read t taken failed i =
@@ -516,8 +556,7 @@ module _ (only : List Only) (has_bytes : Bool) (full rest : Option (List ℕ)) (
       let (numbers, are, going) = written k.events more taken failed i in (
         numbers,
         bytes_of_events has_bytes only k.events,
-        numbers_at new.why only has_bytes full rest g
-            (after_answer c s.answer) k numbers are,
+        numbers_at new.why false only has_bytes full rest g (after_answer c s.answer) k numbers (not_whole g.held) are,
         going,
       )
   all_written (turn.End how) t taken failed i =
@@ -525,7 +564,7 @@ module _ (only : List Only) (has_bytes : Bool) (full rest : Option (List ℕ)) (
       let (numbers, are, going) = written d.counting.events last taken failed i in (
         numbers,
         bytes_of_events has_bytes only d.counting.events,
-        numbers_at new.why only has_bytes full rest f c d.counting numbers are,
+        numbers_at new.why (is_whole (Ok how)) only has_bytes full rest f c d.counting numbers (none_held how t) are,
         going,
       )
 
@@ -537,7 +576,7 @@ module _ (only : List Only) (has_bytes : Bool) (full rest : Option (List ℕ)) (
   stopped had has h why w taken failed i =
       let (numbers, bytes, are, going) = all_written next refl taken failed i in
       cut_off before.style only has_bytes full rest had has h taken failed _ numbers bytes why new (begins next refl)
-      (source_begins new.why why only has_bytes _ numbers bytes are) (as_short _ new why w going)
+      (source_begins new.why (ends_whole next) why only has_bytes _ numbers bytes are) (as_short _ new why w going)
 
   -- it has after all was to be written
   pub stopped_at_last : (had has : Bool) → has ≡ had → (last : Writing) (why : ListError) → Adds new last → last.why ≡ Some why
@@ -547,7 +586,7 @@ module _ (only : List Only) (has_bytes : Bool) (full rest : Option (List ℕ)) (
   stopped_at_last had has h last why a w taken failed i =
       let (numbers, bytes, are, going) = all_written next refl taken failed i in
       cut_off before.style only has_bytes full rest had has h taken failed _ numbers bytes why last (begins next refl)
-      (source_begins new.why why only has_bytes _ numbers bytes are) (as_short _ last why w (a _ going))
+      (source_begins new.why (ends_whole next) why only has_bytes _ numbers bytes are) (as_short _ last why w (a _ going))
 
   -- all is written
   pub ended : (had has : Bool) → has ≡ had → new.why ≡ None → (how : Ended) (last : Writing) → next ≡ turn.End how → Adds new last
@@ -556,7 +595,7 @@ module _ (only : List Only) (has_bytes : Bool) (full rest : Option (List ℕ)) (
       → DumpsFrom before.style only has_bytes (record { before = full; after = rest; had_failed = had; has_failed = has }) taken failed
       (Ok how) last
   ended had has h went how last t a out going taken failed i =
-      let (numbers, bytes, are, wrote) = all_written next refl taken failed i in
+      let (numbers, bytes, are, wrote) = all_written (turn.End how) t taken failed i in
       let o = origin before.style taken failed (d.outline ++ text_after (chosen_line only) s.answer) numbers bytes in
       let all = a o wrote in
       record {
@@ -568,7 +607,8 @@ module _ (only : List Only) (has_bytes : Bool) (full rest : Option (List ℕ)) (
               progress.listed_all (chosen_line only) full rest (Some []) (Some d.outline) f [] d.listing g s.answer s.steps _ _ put how
               (sym t ∙ s.turns) (Some (d.outline ++ text_after (chosen_line only) s.answer))
               (Appends-nil (Some (d.outline ++ text_after (chosen_line only) s.answer)));
-          counts = subst (λ (why : Option ListError). AreOfSource why only has_bytes (from_to full rest) numbers bytes) went are;
+          counts = subst (λ (why : Option ListError). AreOfSource why (is_whole (Ok how)) only has_bytes
+              (from_to full rest) numbers bytes) went are;
           writes = whole o last going out all;
         };
         source = h;
@@ -640,13 +680,13 @@ module _ (only : List Only) (has_bytes : Bool) (full rest : Option (List ℕ)) (
           bytes = bytes;
           lists = progress.not_filled (chosen_line only) full rest (Some []) (Some d.outline) f d.listing
               rest' g Input r;
-          counts = numbers_at None only has_bytes full rest' f c (record {
+          counts = numbers_at None false only has_bytes full rest' f c (record {
             given = d.counting.given;
             events = d.counting.events;
             gave = Consumes-kept full rest rest' d.counting.given d.counting.gave r;
             along = d.counting.along;
             counted = d.counting.counted;
-          }) numbers are;
+          }) numbers (not_whole f.held) are;
           writes = whole o last going out wrote;
         };
         source = h;
@@ -726,8 +766,9 @@ no_room style only has_bytes full had taken failed w e =
         bytes = [];
         lists = progress.no_memory (chosen_line only) full full (Some []) (Some []) (new_feed 0 all_features) []
             (progress.begun (chosen_line only) full (Some [])) full [] (Consumes-nil full);
-        counts = subst (AreOfSource (Some Memory) only has_bytes (from_to full full) []) (sym (none_of_events has_bytes only))
-            (numbers_at (Some Memory) only has_bytes full full (new_feed 0 all_features) no_counts (counts_nothing full) [] refl);
+        counts = subst (AreOfSource (Some Memory) false only has_bytes (from_to full full) []) (sym (none_of_events has_bytes only))
+            (numbers_at (Some Memory) false only has_bytes full full (new_feed 0 all_features) no_counts (counts_nothing full) []
+            (not_whole []) refl);
         writes = record { text = []; unwritten = []; shaped = nothing_shaped style; wrote = Appends-nil taken };
       };
       source = refl;

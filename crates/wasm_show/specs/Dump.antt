@@ -16,6 +16,7 @@ use Rattle.wasm_feed.specs.Turns.{text_after, turn_after}
 use Rattle.wasm_feed.specs.declared.feeder.Step.{Step}
 use Rattle.wasm_feed.specs.declared.feeder.Step.TheVariants.{NeedMoreData, Parsed}
 use Rattle.wasm_feed.specs.declared.listing.Ended.{Ended}
+use Rattle.wasm_feed.specs.declared.listing.Ended.TheVariants.{End}
 use Rattle.wasm_feed.specs.declared.devices.ListError.{ListError}
 use Rattle.wasm_feed.specs.declared.devices.ListError.TheVariants.{Input, Output, Memory}
 use Rattle.wasm_feed.specs.declared.listing.Turn.{Turn}
@@ -82,16 +83,22 @@ abbrev pub bytes_of_events : (has_bytes : Bool) → List Only → List Event →
 bytes_of_events true only events = flat_map (λ e. bytes_of_event only e) events
 bytes_of_events false only events = []
 
--- What the source gave is read as events that begin with these, which consumed all of it but what is left. The numbers
--- are theirs: each is how many items came before in its index space. But for types, no number is missing up to a
+-- whether a dump ended at the stream's end
+abbrev pub is_whole : Result Ended ListError → Bool
+is_whole (Ok End) = true
+is_whole other = false
+
+-- What the source gave is read as events that begin with these, which consumed all of it but what is left: nothing, if
+-- that was the whole stream. The numbers are theirs: each is how many items came before in its index space. But for types, no number is missing up to a
 -- section's first fault, unless the writing had stopped. The bytes are those that they consumed, where these are shown.
-pub record AreOfSource (why : Option ListError) (only : List Only) (has_bytes : Bool) (input : Change)
+pub record AreOfSource (why : Option ListError) (whole : Bool) (only : List Only) (has_bytes : Bool) (input : Change)
     (numbers : List Number) (bytes : List ℕ) : Type 0 where
   pub given : List ℕ
   pub events : List Event
   pub gave : Consumes input.before input.after given
   pub left : List ℕ
   pub consumed : given ≡ consumed_by events ++ left
+  pub none_left : whole ≡ true → left ≡ []
   pub begins : ReadingBegins 0 all_features given events
   pub are_of : AreOfEvents why only no_counts events numbers
   pub are_bytes : bytes ≡ bytes_of_events has_bytes only events
@@ -105,7 +112,7 @@ pub record Dumps (style : Style) (only : List Only) (has_bytes : Bool) (input ou
   pub numbers : List Number
   pub bytes : List ℕ
   pub lists : ListsBy (chosen_line only) input (from_to (Some []) (Some outline)) result
-  pub counts : AreOfSource (stopped_by result) only has_bytes input numbers bytes
+  pub counts : AreOfSource (stopped_by result) (is_whole result) only has_bytes input numbers bytes
   pub writes : Writes style result output.before output.after outline numbers bytes
 
 -- ---- the parts of a dump

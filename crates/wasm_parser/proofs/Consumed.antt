@@ -1,0 +1,47 @@
+-- What the events of a reading consumed that ends at the stream's end.
+use Rattle.std.proofs.Common.{◌≡◌, ℕ, ◌+◌, List, [], ◌∷◌, ◌++◌, length, nat_eq, refl, ap, sym, ◌∙◌, append-nil}
+use Rattle.std.proofs.lemmas.Grind.{flat_map-append}
+use Rattle.wasm_grammar.specs.Content.{Ending, ended}
+use Rattle.wasm_grammar.specs.Grammar.{Tile, final, verdict}
+use Rattle.wasm_grammar.specs.Reading.{stream_end, Event, events_of, last_event}
+use Rattle.wasm_grammar.specs.EventRanges.{consumed_by}
+use Rattle.wasm_grammar.specs.Tiling.{bytes_of, grammar, context_of, bodies_to_come, bytes_to_come}
+use Rattle.wasm_grammar.proofs.readings.EndToEnd.{tiles_consume}
+use Rattle.wasm_grammar.proofs.readings.Endings.{header_end, inside_end}
+use Rattle.wasm_parser.specs.ParserLaws.{EndConsumesAll}
+
+-- the last of a list that has one more
+abbrev last_of : Event → List Event → Event
+last_of e [] = e
+last_of e (x ∷ xs) = last_of x xs
+
+last_is : (d e : Event) (xs : List Event) → last_of d (xs ++ e ∷ []) ≡ e
+last_is d e [] = refl
+last_is d e (x ∷ xs) = last_is x e xs
+
+same_end : (a b : Ending) → stream_end a ≡ stream_end b → a ≡ b
+same_end a b e = cc
+
+-- where a stream ends, nothing is left
+rest_is_none : (start : ℕ) (tiles : List Tile) (rest : List ℕ) (offset : ℕ) → verdict (grammar start tiles) rest ≡ final (ended offset)
+    → rest ≡ []
+rest_is_none start [] rest offset e = absurd (header_end start rest offset e)
+rest_is_none start (t ∷ ts) rest offset e =
+    let us : List Tile = t ∷ ts in
+    (inside_end (nat_eq (bodies_to_come us + bytes_to_come us) 0) (context_of us) (bodies_to_come us) (bytes_to_come us)
+    (start + length (bytes_of us)) rest offset e).1
+
+-- the last event consumes nothing
+last_consumes : (events : List Event) (end : Ending) → consumed_by (events ++ last_event end ∷ []) ≡ consumed_by events
+last_consumes events end = flat_map-append (λ e. e.consumed) events (last_event end ∷ []) ∙ append-nil (consumed_by events)
+
+pub end_consumes_all : EndConsumesAll
+end_consumes_all stream start features events offset r =
+    let last = last_event (ended offset) in
+    let all = events_of start features r.tiles in
+    let same : last ≡ last_event r.end = sym (last_is last last events) ∙ (ap (last_of last) r.listed ∙ last_is last (last_event r.end) all) in
+    let end : r.end ≡ ended offset = same_end r.end (ended offset) (ap (λ (e : Event). e.report) (sym same)) in
+    let none : r.reads.rest ≡ [] = rest_is_none start r.tiles r.reads.rest offset (r.reads.stops ∙ ap final end) in
+    let joined : consumed_by events ≡ bytes_of r.tiles = sym (last_consumes events (ended offset))
+    ∙ (ap consumed_by r.listed ∙ (last_consumes all r.end ∙ tiles_consume start features r.tiles)) in
+    r.reads.whole ∙ (ap (λ (x : List ℕ). bytes_of r.tiles ++ x) none ∙ (append-nil (bytes_of r.tiles) ∙ sym joined))
