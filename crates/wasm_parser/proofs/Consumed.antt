@@ -39,7 +39,8 @@ pub end_consumes_all : EndConsumesAll
 end_consumes_all stream start features events offset r =
     let last = last_event (ended offset) in
     let all = events_of start features r.tiles in
-    let same : last ≡ last_event r.end = sym (last_is last last events) ∙ (ap (last_of last) r.listed ∙ last_is last (last_event r.end) all) in
+    let same : last ≡ last_event r.end = sym (last_is last last events)
+    ∙ (ap (last_of last) r.listed ∙ last_is last (last_event r.end) all) in
     let end : r.end ≡ ended offset = same_end r.end (ended offset) (ap (λ (e : Event). e.report) (sym same)) in
     let none : r.reads.rest ≡ [] = rest_is_none start r.tiles r.reads.rest offset (r.reads.stops ∙ ap final end) in
     let joined : consumed_by events ≡ bytes_of r.tiles = sym (last_consumes events (ended offset))
