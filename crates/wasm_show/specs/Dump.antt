@@ -90,8 +90,8 @@ is_whole other = false
 
 -- What the source gave is read as events that begin with these, which consumed all of it but what is left: nothing, if
 -- that was the whole stream. The numbers are theirs: each is how many items came before in its index space. But for
--- types, no number is missing up to a
--- section's first fault, unless the writing had stopped. The bytes are those that they consumed, where these are shown.
+-- types, no number is missing up to a section's first fault, unless the writing had stopped. The bytes are those that
+-- they consumed, where these are shown.
 pub record AreOfSource (why : Option ListError) (whole : Bool) (only : List Only) (has_bytes : Bool) (input : Change)
     (numbers : List Number) (bytes : List ℕ) : Type 0 where
   pub given : List ℕ
