@@ -2,13 +2,14 @@
 use Rattle.std.proofs.Common.{◌≡◌, ℕ, zero, suc, ◌+◌, ◌<◌, ◌≤◌, ◌%◌, ◌/◌, Bool, true, false, List, [], ◌∷◌, ◌++◌, codes, refl, sym, ap}
 use Rattle.std.proofs.Common.{◌∙◌, ◌^◌, subst, nat_lt, nat_eq, decimal, arith, length, ◌&&◌, ◌||◌}
 use Rattle.std.specs.Prelude.{slice_index}
-use Rattle.std.specs.List.{list_all}
+use Rattle.std.specs.List.{list_all, list_any}
 use Rattle.std.proofs.lemmas.Bool.Decides.{nat_tests}
 use Rattle.std.proofs.lemmas.Fmt.{decimal_by_steps}
 use Rattle.wasm_show.specs.Json.{Place, State, Bracket, object, array, here, start, after_all, after_byte, has_value, is_digit}
 use Rattle.wasm_show.specs.Json.{line_start, line_end, first_name, name, colon, first_value, value, string, escape, digits_of_escape}
 use Rattle.wasm_show.specs.Json.{after_minus, after_zero, digits, word, ended, wrong, IsAt, Leads, StaysInString, after_value}
 use Rattle.wasm_show.specs.Json.{begins_value, escaped_byte, is_hexadecimal}
+use Rattle.wasm_show.specs.Fields.{is_escaped}
 use Rattle.wasm_show.specs.declared.tree.Spot.{Spot}
 use Rattle.wasm_show.specs.declared.tree.Spot.TheVariants.{Outside, Ended, InName, AtValue, InText}
 
@@ -80,6 +81,15 @@ module _ (k : Bool) (inside : List Bracket) where
       let (quote, slash) = neither (nat_eq b 34) (nat_eq b 92) e in
       rw (quote, slash, low) refl
 
+  run_stays : (xs : List ℕ) → list_any is_escaped xs ≡ false → after_all (here (string k) inside) xs ≡ here (string k) inside
+  run_stays [] e = refl
+  run_stays (x ∷ xs) e =
+      let (first, later) = neither (is_escaped x) (list_any is_escaped xs) e in
+      let (unquoted, slash) = neither (nat_lt x 32 || nat_lt 126 x || nat_eq x 34) (nat_eq x 92) first in
+      let (within, quote) = neither (nat_lt x 32 || nat_lt 126 x) (nat_eq x 34) unquoted in
+      let low = (neither (nat_lt x 32) (nat_lt 126 x) within).0 in
+      ap (λ (s : State). after_all s xs) (plain_stays x low (rw (quote, slash) refl)) ∙ run_stays xs later
+
   digits_stay : (high low : ℕ) → is_hexadecimal high ≡ true → is_hexadecimal low ≡ true
       → after_all (here (string k) inside) (92 ∷ 117 ∷ 48 ∷ 48 ∷ high ∷ low ∷ []) ≡ here (string k) inside
   digits_stay high low h l = rw (h, l) refl
@@ -110,6 +120,14 @@ escaped_stays b h InText i s e = rw e (escaped_by false (object ∷ []) b h (nat
 escaped_stays b h Outside i s e = cc
 escaped_stays b h Ended i s e = cc
 escaped_stays b h AtValue i s e = cc
+
+-- nor do bytes end it that stand for themselves in quotes
+pub plain_run_stays : (xs : List ℕ) → list_any is_escaped xs ≡ false → StaysInString xs
+plain_run_stays xs p InName i s e = rw e (run_stays true (object ∷ []) xs p)
+plain_run_stays xs p InText i s e = rw e (run_stays false (object ∷ []) xs p)
+plain_run_stays xs p Outside i s e = cc
+plain_run_stays xs p Ended i s e = cc
+plain_run_stays xs p AtValue i s e = cc
 
 -- ---- numbers
 

@@ -3,7 +3,7 @@ use Rattle.std.proofs.Common.{◌≡◌, ℕ, ◌+◌, ◌<◌, ◌^◌, zero, s
 use Rattle.std.proofs.Common.{Option, Some, None, refl, sym}
 use Rattle.std.proofs.Common.{Err, ◌%◌, ◌/◌, ◌≤◌, nat_lt}
 use Rattle.std.specs.Prelude.{slice_index}
-use Rattle.wasm_show.specs.Fields.{Field, field_text, with_fields, is_escaped}
+use Rattle.wasm_show.specs.Fields.{Field, field_text, with_fields, is_escaped, quoted_byte}
 use Rattle.std.proofs.Common.{ap, subst, ◌∙◌, append_assoc, append-nil, ◌||◌, nat_eq, decimal, length, take, get_or, arith}
 use Rattle.std.specs.List.{flat_map, list_any}
 use Rattle.std.proofs.KnownBytes.{Appends-nil, Appends-trans}
@@ -325,6 +325,43 @@ none_in_quoted byte e =
   where
     other : (n : ℕ) → nat_lt n 32 ≡ false → nat_eq n 10 ≡ false
     other n h = grind (arith, nat_tests)
+
+-- ---- bytes that stand for themselves in quotes
+
+pub plain_quoted : (xs : List ℕ) → list_any is_escaped xs ≡ false → flat_map quoted_byte xs ≡ xs
+plain_quoted [] e = refl
+plain_quoted (x ∷ xs) e =
+    let (first, later) = neither (is_escaped x) (list_any is_escaped xs) e in rw (first, plain_quoted xs later) refl
+
+pub none_in_plain : (xs : List ℕ) → list_any is_escaped xs ≡ false → has_line_feed xs ≡ false
+none_in_plain [] e = refl
+none_in_plain (x ∷ xs) e =
+    let (first, later) = neither (is_escaped x) (list_any is_escaped xs) e in
+    rw ((neither (nat_eq x 10) false (none_in_quoted x first)).0, none_in_plain xs later) refl
+
+-- all but this rest of it in quotes
+abbrev pub QuotesAllBut : (all rest : List ℕ) (old new : Writing) → Type 0
+QuotesAllBut all rest old new = (done : List ℕ) × (all ≡ done ++ rest) × Says (flat_map quoted_byte done) old new
+
+pub quotes_none : (all : List ℕ) (w : Writing) → QuotesAllBut all all w w
+quotes_none all w = ([], refl, says_nothing w)
+
+pub quotes_more : (all rest first later text : List ℕ) (old mid new : Writing) → rest ≡ first ++ later
+    → flat_map quoted_byte first ≡ text → QuotesAllBut all rest old mid → Says text mid new → QuotesAllBut all later old new
+quotes_more all rest first later text old mid new e t p q =
+    let (done, parts, says) = p in (
+      done ++ first,
+      parts ∙ (ap (λ (x : List ℕ). done ++ x) e ∙ sym (append_assoc done first later)),
+      says_same (flat_map quoted_byte done ++ text) (flat_map quoted_byte (done ++ first)) old new
+          (sym (flat_map-append quoted_byte done first ∙ ap (λ (x : List ℕ). flat_map quoted_byte done ++ x) t))
+          (says_then (flat_map quoted_byte done) text old mid new says q),
+    )
+
+pub quotes_all : (all : List ℕ) (old new : Writing) → QuotesAllBut all [] old new → Says (flat_map quoted_byte all) old new
+quotes_all all old new p =
+    let (done, parts, says) = p in
+    says_same (flat_map quoted_byte done) (flat_map quoted_byte all) old new
+    (ap (flat_map quoted_byte) (sym (parts ∙ append-nil done))) says
 
 -- ---- one more of a list
 

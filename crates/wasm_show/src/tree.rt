@@ -1,7 +1,7 @@
 // Lines of text, some of them under others.
 ghost use Rattle.std.specs.Prelude.{◌≡◌, ◌≤◌, ◌++◌, [], None, true, false, codes, length, take, decimal};
 ghost use Rattle.std.specs.Option.{is_some};
-ghost use Rattle.std.specs.List.{flat_map};
+ghost use Rattle.std.specs.List.{flat_map, list_any};
 ghost use Rattle.wasm_show.specs.Fields.{alone, field_start, field_text, named, number as number_value, word as word_value, quoted, raw};
 ghost use Rattle.wasm_show.specs.Fields.{range, flag as flag_value, number_if_any as optional, hexadecimal, quoted_byte};
 ghost use Rattle.wasm_show.specs.Fields.{is_escaped as byte_is_escaped};
@@ -43,6 +43,20 @@ fn is_escaped(byte: u8) -> bool
     ensures { result ≡ byte_is_escaped byte }
 {
     byte < 32 || byte > 126 || byte == b'"' || byte == b'\\'
+}
+
+/// How many bytes at first stand for themselves in a text in quotes, and in a string of JSON too: at most a page of them.
+pub(crate) fn plain_count(bytes: &[u8]) -> usize
+    ensures within { result ≤ length bytes.now }
+    ensures short { result ≤ 65536 }
+    ensures plain { list_any byte_is_escaped (take result bytes.now) ≡ false }
+{
+    let most = bytes.len().min(PAGE_BYTES);
+    let mut count = 0;
+    'plain: while count < most && !is_escaped(bytes[count]) {
+        count += 1;
+    }
+    count
 }
 
 /// The two hexadecimal digits of a byte.
@@ -590,7 +604,7 @@ impl<W: Sink> Tree<W> {
     {
         let mut line = Line::new();
         line.number(number);
-        self.bytes(line.as_bytes());
+        self.piece(line.as_bytes());
     }
 
     /// Writes a field that is a word.
@@ -720,13 +734,22 @@ impl<W: Sink> Tree<W> {
         }
     }
 
-    // Writes the bytes of a text in quotes.
+    // Writes the bytes of a text in quotes: those that stand for themselves as many at once as come together.
     fn quoted_bytes(&mut self, bytes: &[u8])
         ensures adds { Adds self.old self.new }
         ensures says { Says (flat_map quoted_byte bytes.now) self.old self.new }
     {
-        for byte in bytes {
-            self.quoted_byte(*byte);
+        let mut rest = bytes;
+        'runs: while let Some((byte, later)) = rest.split_first() {
+            let count = plain_count(rest);
+            if count == 0 {
+                self.quoted_byte(*byte);
+                rest = later;
+            } else {
+                let (plain, others) = rest.split_at(count);
+                self.piece(plain);
+                rest = others;
+            }
         }
     }
 

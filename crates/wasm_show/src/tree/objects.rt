@@ -5,7 +5,7 @@ ghost use Rattle.wasm_show.specs.Tree.{Adds};
 ghost use Rattle.wasm_show.specs.declared.tree.Spot.TheVariants.{Outside, Ended, InName, AtValue, InText};
 ghost use Rattle.wasm_show.specs.declared.tree.Style.TheVariants.{Objects};
 
-use crate::tree::{Spot, Tree, hexadecimal_digits};
+use crate::tree::{Spot, Tree, hexadecimal_digits, plain_count};
 use wasm_feed::{Line, Sink};
 
 // What leads into the name of the next member.
@@ -119,8 +119,18 @@ impl<W: Sink> Tree<W> {
         ensures spot { self.new.spot ≡ self.old.spot }
         ensures style { self.new.style ≡ Objects }
     {
-        for byte in bytes {
-            self.put_escaped(*byte);
+        let mut rest = bytes;
+        'runs: while let Some((byte, later)) = rest.split_first() {
+            let count = plain_count(rest);
+            if count == 0 {
+                self.put_escaped(*byte);
+                rest = later;
+            } else {
+                let (plain, others) = rest.split_at(count);
+                let spot = self.spot;
+                self.put(plain, spot);
+                rest = others;
+            }
         }
     }
 

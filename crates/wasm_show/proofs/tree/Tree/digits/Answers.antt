@@ -8,4 +8,4 @@ returns-clause-says g c =
     let text : c.as_bytes.result.now ≡ decimal c.args.number = c.as_bytes.ensures.bytes ∙ (c.number.ensures.line
     ∙ (ap (λ (x : List ℕ). decimal c.args.number ++ x) c.new-line.ensures ∙ append-nil (decimal c.args.number))) in
     says_same c.as_bytes.result.now (decimal c.args.number) _ _ text
-    (c.bytes.ensures.says (ap has_line_feed text ∙ none_in_decimal c.args.number (omega arith)))
+    (c.piece.ensures.says (ap has_line_feed text ∙ none_in_decimal c.args.number (omega arith)))

@@ -1,11 +1,14 @@
-use Rattle.std.proofs.Common.{◌≡◌}
+use Rattle.std.proofs.Common.{◌≡◌, length}
 use Rattle.wasm_show.specs.Tree.{Origin, IsWritten}
 use Rattle.wasm_show.specs.declared.tree.Style.TheVariants.{Objects}
 use Rattle.wasm_show.proofs.tree.Tree.put_string.Given as goal
 
-abbrev pub invariant-loop-byte : goal.invariant-loop-byte
-invariant-loop-byte g l = record {
+abbrev pub invariant-runs : goal.invariant-runs
+invariant-runs g l = record {
   adds : (o : Origin) → IsWritten o l.initial.self → IsWritten o l.self;
   spot : l.self.spot ≡ l.initial.self.spot;
   style : l.self.style ≡ Objects;
 }
+
+abbrev pub decreases-runs : goal.decreases-runs
+decreases-runs g l = length l.rest

@@ -1,22 +1,24 @@
-use Rattle.std.proofs.Common.{◌≡◌, ℕ, arith, length, rules, subst, take}
-use Rattle.std.specs.List.{flat_map}
-use Rattle.wasm_show.specs.Said.{Says}
-use Rattle.wasm_show.specs.Fields.{quoted_byte}
-use Rattle.wasm_show.proofs.Saying.{says_nothing, says_one_more, says_all}
+use Rattle.std.proofs.Common.{◌≡◌, List, ℕ, [], ◌∷◌, false, rules, sym, subst, append-nil, ◌∙◌}
+use Rattle.std.specs.List.{list_any}
+use Rattle.wasm_show.specs.Fields.{is_escaped, quoted_byte}
+use Rattle.wasm_show.proofs.Saying.{quotes_more, plain_quoted, none_in_plain}
 use Rattle.wasm_show.proofs.tree.Tree.quoted_bytes.Goals as goal
 
-pub loop-byte-init : goal.loop-byte-init
-loop-byte-init g c = record { adds = search rules; says = says_nothing _ }
+pub runs-preserved-then-count-eq0 : goal.runs-preserved-then-count-eq0
+runs-preserved-then-count-eq0 g c =
+    let byte = c.in-Some.byte.now in
+    record {
+      adds = search rules;
+      says = quotes_more c.args.bytes.now c.runs.rest.now (byte ∷ []) c.in-Some.later.now (quoted_byte byte) _ _ _
+          c.in-Some.ensures.cases.0 (append-nil (quoted_byte byte)) c.runs.invariant.says c.quoted_byte.ensures.says;
+    }
 
-pub loop-byte-preserved : goal.loop-byte-preserved
-loop-byte-preserved g c = record {
-  adds = search rules;
-  says = says_one_more quoted_byte c.args.bytes.now _ 0 _ _ _ c.loop-byte-test.true c.loop-byte.invariant.says c.quoted_byte.ensures.says;
-}
-
-pub returns-clause-says : goal.returns-clause-says
-returns-clause-says g c =
-    let bytes = c.args.bytes.now in
-    let at_end : c.loop-byte.byte-index ≡ length bytes = omega arith in
-    says_all quoted_byte bytes _ _
-    (subst (λ (i : ℕ). Says (flat_map quoted_byte (take i bytes)) c.args.self.now c.loop-byte.self) at_end c.loop-byte.invariant.says)
+pub runs-preserved : goal.runs-preserved
+runs-preserved g c =
+    let run = c.split_at.result.0.now in
+    let plain = subst (λ (x : List ℕ). list_any is_escaped x ≡ false) (sym c.split_at.ensures.front) c.plain_count-count.ensures.plain in
+    record {
+      adds = search rules;
+      says = quotes_more c.args.bytes.now c.runs.rest.now run c.split_at.result.1.now run _ _ _ c.split_at.ensures.by_index.0
+          (plain_quoted run plain) c.runs.invariant.says (c.piece.ensures.says (none_in_plain run plain));
+    }

@@ -1,12 +1,13 @@
-use Rattle.std.proofs.Common.{take}
-use Rattle.std.specs.List.{flat_map}
-use Rattle.wasm_show.specs.Fields.{quoted_byte}
-use Rattle.wasm_show.specs.Said.{Says}
+use Rattle.std.proofs.Common.{length}
 use Rattle.wasm_show.specs.Tree.{Origin, IsWritten}
+use Rattle.wasm_show.proofs.Saying.{QuotesAllBut}
 use Rattle.wasm_show.proofs.tree.Tree.quoted_bytes.Given as goal
 
-abbrev pub invariant-loop-byte : goal.invariant-loop-byte
-invariant-loop-byte g l = record {
+abbrev pub invariant-runs : goal.invariant-runs
+invariant-runs g l = record {
   adds : (o : Origin) → IsWritten o l.initial.self → IsWritten o l.self;
-  says : Says (flat_map quoted_byte (take l.byte-index l.bytes)) l.initial.self l.self;
+  says : QuotesAllBut l.fn.bytes l.rest l.initial.self l.self;
 }
+
+abbrev pub decreases-runs : goal.decreases-runs
+decreases-runs g l = length l.rest
