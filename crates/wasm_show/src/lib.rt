@@ -6,6 +6,7 @@ mod coredumps;
 mod custom;
 mod events;
 mod expressions;
+mod gathered;
 mod heading;
 mod items;
 mod known_names;
@@ -24,6 +25,7 @@ mod tree;
 mod types;
 
 pub use collected::collect_names;
+pub use gathered::Gathered;
 pub use known_names::ItemNames;
 pub use lists::{Items, show_fault, show_items, show_list};
 pub use numbers::{Counts, Space};

@@ -3,6 +3,7 @@ ghost use Rattle.std.specs.Prelude.{◌≡◌, ◌≤◌, ◌+◌, ◌++◌, [],
 ghost use Rattle.wasm_show.specs.Rows.{BeginsWithRow};
 ghost use Rattle.wasm_show.specs.Tree.{after_blank, row_text};
 
+use crate::gathered::Gathered;
 use crate::tree::hexadecimal_digits;
 use std::alloc::{AllocError, Global};
 use std::marker::Model;
@@ -15,51 +16,7 @@ const WIDTH: usize = 16;
 const ROOM: usize = 71;
 
 /// The text of a row.
-#[derive(Drop)]
-pub(crate) struct Row {
-    text: [u8; ROOM],
-    len: usize,
-}
-
-impl Model for Row {
-    ghost use Rattle.std.specs.Prelude.{ℕ, ◌≤◌, List, take};
-
-    ghost Value = { List ℕ };
-
-    ghost view = { λ r. take r.len r.text };
-
-    ghost invariant = { λ r. r.len ≤ 71 };
-}
-
-impl Row {
-    // Nothing yet.
-    fn new() -> Row
-        ensures { result ≡ [] }
-    {
-        Row {
-            text: [0; ROOM],
-            len: 0,
-        }
-    }
-
-    // Puts bytes after it.
-    fn put(&mut self, bytes: &[u8])
-        requires { length self.old + length bytes.now ≤ 71 }
-        ensures { self.new ≡ self.old ++ bytes.now }
-    {
-        let end = self.len + bytes.len();
-        self.text[self.len..end].copy_from_slice(bytes);
-        self.len = end;
-    }
-
-    /// Its bytes.
-    pub(crate) fn as_bytes(&self) -> &[u8]
-        ensures bytes { result.now ≡ self.now }
-        ensures short { length result.now ≤ 71 }
-    {
-        &self.text[..self.len]
-    }
-}
+pub(crate) type Row = Gathered<ROOM>;
 
 // Puts a byte in a row, after a blank.
 fn put_byte(row: &mut Row, byte: u8)

@@ -1,0 +1,60 @@
+// Bytes that are put together.
+ghost use Rattle.std.specs.Prelude.{◌≡◌, ◌≤◌, ◌+◌, ◌++◌, [], length};
+
+use std::marker::Model;
+
+/// Bytes that are put together, at most `N` of them. They take no memory from an allocator.
+#[derive(Drop)]
+pub struct Gathered<const N: usize> {
+    bytes: [u8; N],
+    len: usize,
+}
+
+impl<const N: usize> Model for Gathered<N> {
+    ghost use Rattle.std.specs.Prelude.{ℕ, ◌≤◌, List, take};
+
+    ghost Value = { List ℕ };
+
+    ghost view = { λ g. take g.len g.bytes };
+
+    ghost invariant = { λ g. g.len ≤ N };
+}
+
+impl<const N: usize> Gathered<N> {
+    /// None yet.
+    pub fn new() -> Gathered<N>
+        ensures { result ≡ [] }
+    {
+        Gathered {
+            bytes: [0; N],
+            len: 0,
+        }
+    }
+
+    /// How many they are.
+    pub fn len(&self) -> usize
+        ensures { result ≡ length self.now }
+    {
+        self.len
+    }
+
+    /// Puts bytes after them, for which there must be room.
+    pub fn put(&mut self, bytes: &[u8])
+        requires { length self.old + length bytes.now ≤ N }
+        ensures { self.new ≡ self.old ++ bytes.now }
+    {
+        let end = self.len + bytes.len();
+        let room = &mut self.bytes[..];
+        room[self.len..end].copy_from_slice(bytes);
+        self.len = end;
+    }
+
+    /// The bytes.
+    pub fn as_bytes(&self) -> &[u8]
+        ensures bytes { result.now ≡ self.now }
+        ensures short { length result.now ≤ N }
+    {
+        let room = &self.bytes[..];
+        &room[..self.len]
+    }
+}
