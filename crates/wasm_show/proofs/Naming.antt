@@ -1,6 +1,6 @@
 -- What names are after one was added, by the keys of a map.
 use Rattle.std.proofs.Common.{◌≡◌, ◌≢◌, ℕ, ◌^◌, ◌<◌, ◌≤◌, ◌⊎◌, inl, inr, Bool, true, false, cond, List, map, Option, Some, None}
-use Rattle.std.proofs.Common.{IfSome, nat_eq, nat_lt, if◌then◌else◌, refl, sym, ap, ap₂, subst, ◌∙◌}
+use Rattle.std.proofs.Common.{nat_eq, nat_lt, if◌then◌else◌, refl, sym, ap, ap₂, ◌∙◌}
 use Rattle.std.proofs.lemmas.Bool.{cases_Bool, false_from_ne_true, le-ltb, lt-ltb, true≢false}
 use Rattle.std.proofs.lemmas.Map.Lookups.{exact_pairs, exact_unsigned}
 use Rattle.std.proofs.lemmas.Map.Made.{lookup-map_values}
@@ -102,25 +102,15 @@ module _ {A : Type 0} where
 
 -- ---- names that stay, and one that is added
 
-kept_by : (o p : Option (List ℕ)) → p ≡ o → IfSome o (λ name. p ≡ Some name)
-kept_by None p same = tt
-kept_by (Some name) p same = same
-
 pub same_kept : (old new : Names) → new ≡ old → KeepsNames old new
-unfolding KeepsNames
-same_kept old new same = λ number. kept_by (named old number) (named new number) (ap (λ names. named names number) same)
+same_kept old new same = λ number name has. ap (λ names. named names number) same ∙ has
 
-first_kept : (o p : Option (List ℕ)) (name : List ℕ) → p ≡ Some (unwrap_or o name) → IfSome o (λ name. p ≡ Some name)
-first_kept None p name first = tt
-first_kept (Some old) p name first = first
-
-pub added_kept : (old new : Names) (number : Number) (name : List ℕ) → AddsName old number name new → KeepsNames old new
-unfolding KeepsNames
-added_kept old new number name adds = λ other. elim (same_or_other other number) [
+pub added_kept : (old new : Names) (number : Number) (text : List ℕ) → AddsName old number text new → KeepsNames old new
+added_kept old new number text adds = λ other name has. elim (same_or_other other number) [
   | inl same ↦
-      subst (λ n. IfSome (named old n) (λ x. named new n ≡ Some x)) (sym same)
-      (first_kept (named old number) (named new number) name adds.first)
-  | inr apart ↦ kept_by (named old other) (named new other) (adds.others other apart)
+      let had = sym (ap (named old) same) ∙ has in
+      ap (named new) same ∙ (adds.first ∙ ap (λ o. Some (unwrap_or o text)) had)
+  | inr apart ↦ adds.others other apart ∙ has
 ]
 
 has_first : (o : Option (List ℕ)) (name : List ℕ) → is_some o ≡ true → o ≡ Some (unwrap_or o name)

@@ -1,5 +1,5 @@
 -- Names of items, each by the item's number.
-use Rattle.std.specs.Prelude.{◌≡◌, ◌≢◌, ℕ, ◌^◌, List, map, Option, Some, None, IfSome, nat_lt, if◌then◌else◌}
+use Rattle.std.specs.Prelude.{◌≡◌, ◌≢◌, ℕ, ◌^◌, List, map, Option, Some, None, nat_lt, if◌then◌else◌}
 use Rattle.std.specs.BTreeMap.{BTreeMap, is_at}
 use Rattle.std.specs.Map.{lookup}
 use Rattle.std.specs.Option.{unwrap_or}
@@ -58,5 +58,5 @@ pub record AddsName (old : Names) (number : Number) (name : List ℕ) (new : Nam
   pub others : (other : Number) → other ≢ number → named new other ≡ named old other
 
 -- an item that had a name has it still
-unfoldable pub KeepsNames : Names → Names → Type 0
-KeepsNames old new = (number : Number) → IfSome (named old number) (λ name. named new number ≡ Some name)
+abbrev pub KeepsNames : Names → Names → Type 0
+KeepsNames old new = (number : Number) (name : List ℕ) → named old number ≡ Some name → named new number ≡ Some name

@@ -5,18 +5,18 @@ ghost use Rattle.wasm_feed.specs.declared.devices.ListError.TheVariants.{Memory}
 ghost use Rattle.wasm_show.specs.ItemNames.{AddsName, KeepsNames, item, named, rank_of as rank};
 
 use crate::numbers::Space;
-use std::alloc::Global;
+use std::alloc::{Allocator, Global};
 use std::collections::BTreeMap;
 use std::marker::Model;
 use wasm_feed::ListError;
 
 /// Names of items, each by its number. Of two names of one item it keeps the first that was added.
 #[derive(Drop)]
-pub struct ItemNames {
-    names: BTreeMap<(u8, u32), String>,
+pub struct ItemNames<A: Allocator = Global> {
+    names: BTreeMap<(u8, u32), String<A>, A>,
 }
 
-impl Model for ItemNames {
+impl<A: Allocator> Model for ItemNames<A> {
     ghost use Rattle.wasm_show.specs.ItemNames.{Names, names_in};
 
     ghost Value = { Names };
@@ -45,6 +45,15 @@ impl ItemNames {
     pub fn new(alloc: Global) -> ItemNames
         ensures { result ≡ [] }
     {
+        ItemNames::new_in(alloc)
+    }
+}
+
+impl<A: Allocator> ItemNames<A> {
+    /// No names, with memory from any allocator.
+    pub fn new_in(alloc: A) -> ItemNames<A>
+        ensures { result ≡ [] }
+    {
         ItemNames {
             names: BTreeMap::new(alloc),
         }
@@ -52,13 +61,9 @@ impl ItemNames {
 
     /// Adds the name of an item, unless it has one. `Memory` where a growth was refused, and no other error: the names are then
     /// what they were.
-    pub fn add(
-        &mut self,
-        alloc: Global,
-        space: Space,
-        index: u32,
-        name: &str,
-    ) -> Result<(), ListError>
+    pub fn add(&mut self, alloc: A, space: Space, index: u32, name: &str) -> Result<(), ListError>
+    where
+        A: Clone,
         ensures added { OnOk result (AddsName self.old (item space index) name.now self.new) }
         ensures keeps { KeepsNames self.old self.new }
         ensures refused { OnErr result (self.new ≡ self.old) }

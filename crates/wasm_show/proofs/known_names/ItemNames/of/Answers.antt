@@ -5,7 +5,7 @@ use Rattle.wasm_show.proofs.Naming.{got_name, named_far}
 use Rattle.wasm_show.proofs.known_names.ItemNames.of.Goals as goal
 
 pub returns-in-Some : goal.returns-in-Some
-returns-in-Some c =
+returns-in-Some g c =
     let number = item c.args.space c.args.index in
     let got : Some c.in-Some.name.now ≡ get_by (key_cmp (c.rank_of.result, c.in-Ok.index)) c.self.inside.names = c.in-Some.ensures.value in
     ap Some c.as_str.ensures.value
@@ -13,11 +13,11 @@ returns-in-Some c =
     ∙ ap (λ names. named names number) c.self.view_is)
 
 pub returns-in-None : goal.returns-in-None
-returns-in-None c =
+returns-in-None g c =
     let number = item c.args.space c.args.index in
     let got : None ≡ get_by (key_cmp (c.rank_of.result, c.in-Ok.index)) c.self.inside.names = c.in-None.ensures.value in
     got_name c.self.inside.names number None c.in-Ok.ensures.0 (rw (c.rank_of.ensures, c.in-Ok.ensures.1) at got)
     ∙ ap (λ names. named names number) c.self.view_is
 
 pub returns-in-Err : goal.returns-in-Err
-returns-in-Err c = sym (named_far _ _ (omega (arith, c.in-Err.ensures)))
+returns-in-Err g c = sym (named_far _ _ (omega (arith, c.in-Err.ensures)))
