@@ -9,6 +9,7 @@ mod golden;
 mod lending;
 mod listings;
 mod modules;
+mod naming;
 mod pieces;
 mod reads;
 mod refusals;

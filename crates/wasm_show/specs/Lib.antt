@@ -1,6 +1,7 @@
 pub mod Chosen
 pub mod Dump
 pub mod Fields
+pub mod ItemNames
 pub mod ItemText
 pub mod Json
 pub mod Numbers

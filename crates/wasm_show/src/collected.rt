@@ -1,6 +1,7 @@
 // The names of items that the custom sections `name` of a stream have.
 ghost use Rattle.std.specs.Prelude.{◌≡◌, IfErr};
 ghost use Rattle.wasm_feed.specs.declared.devices.ListError.TheVariants.{Memory};
+ghost use Rattle.wasm_show.specs.ItemNames.{KeepsNames};
 
 use crate::known_names::ItemNames;
 use crate::numbers::Space;
@@ -35,7 +36,8 @@ fn add_map(
     space: Space,
     map: &NameMap<'_>,
 ) -> Result<bool, ListError>
-    ensures { IfErr result (λ why. why ≡ Memory) }
+    ensures keeps { KeepsNames names.old names.new }
+    ensures memory { IfErr result (λ why. why ≡ Memory) }
 {
     let mut map = map.clone().unwrap();
     'names: for _ in 0..u64::MAX {
@@ -54,7 +56,8 @@ fn add_subsection(
     names: &mut ItemNames,
     subsection: &Name<'_>,
 ) -> Result<bool, ListError>
-    ensures { IfErr result (λ why. why ≡ Memory) }
+    ensures keeps { KeepsNames names.old names.new }
+    ensures memory { IfErr result (λ why. why ≡ Memory) }
 {
     match subsection {
         Name::Function(map) => add_map(alloc, names, Space::Functions, map),
@@ -75,7 +78,8 @@ fn add_subsections(
     names: &mut ItemNames,
     mut section: NameSectionReader<'_>,
 ) -> Result<bool, ListError>
-    ensures { IfErr result (λ why. why ≡ Memory) }
+    ensures keeps { KeepsNames names.old names.new }
+    ensures memory { IfErr result (λ why. why ≡ Memory) }
 {
     'subsections: for _ in 0..u64::MAX {
         match section.next() {
@@ -97,7 +101,8 @@ fn add_section(
     names: &mut ItemNames,
     section: &CustomSectionReader<'_>,
 ) -> Result<bool, ListError>
-    ensures { IfErr result (λ why. why ≡ Memory) }
+    ensures keeps { KeepsNames names.old names.new }
+    ensures memory { IfErr result (λ why. why ≡ Memory) }
 {
     if section.name() != "name" {
         return Ok(true);
@@ -112,7 +117,8 @@ fn add_payload(
     names: &mut ItemNames,
     payload: &Payload<'_>,
 ) -> Result<Next, ListError>
-    ensures { IfErr result (λ why. why ≡ Memory) }
+    ensures keeps { KeepsNames names.old names.new }
+    ensures memory { IfErr result (λ why. why ≡ Memory) }
 {
     match payload {
         Payload::CustomSection(section) => Ok(after_names(add_section(alloc, names, section)?)),
@@ -127,7 +133,8 @@ fn add_answer(
     names: &mut ItemNames,
     answer: &ParserResult<Step<'_>>,
 ) -> Result<Next, ListError>
-    ensures { IfErr result (λ why. why ≡ Memory) }
+    ensures keeps { KeepsNames names.old names.new }
+    ensures memory { IfErr result (λ why. why ≡ Memory) }
 {
     match answer {
         Ok(Step::NeedMoreData(_)) => Ok(Next::Read),
@@ -138,7 +145,8 @@ fn add_answer(
 
 // Goes one step along the stream, and adds the names of what it answered.
 fn add_step(alloc: Global, names: &mut ItemNames, feeder: &mut Feeder) -> Result<Next, ListError>
-    ensures { IfErr result (λ why. why ≡ Memory) }
+    ensures keeps { KeepsNames names.old names.new }
+    ensures memory { IfErr result (λ why. why ≡ Memory) }
 {
     let answer = feeder.step();
     add_answer(alloc, names, &answer)
@@ -172,7 +180,8 @@ fn collect_into<R: Source>(
     input: &mut R,
     buffer: &mut [u8],
 ) -> Result<(), ListError>
-    ensures { IfErr result (λ why. why ≡ Memory) }
+    ensures keeps { KeepsNames names.old names.new }
+    ensures memory { IfErr result (λ why. why ≡ Memory) }
 {
     let mut feeder = Feeder::new(alloc, 0, Parser::new(0).features());
     'steps: for _ in 0..u64::MAX {

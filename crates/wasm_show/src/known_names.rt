@@ -1,20 +1,33 @@
 // Names of items.
-ghost use Rattle.std.specs.Prelude.{◌≡◌, IfErr};
+ghost use Rattle.std.specs.Prelude.{◌≡◌, [], IfErr, OnErr, OnOk};
+ghost use Rattle.std.specs.Option.{option_copied};
 ghost use Rattle.wasm_feed.specs.declared.devices.ListError.TheVariants.{Memory};
+ghost use Rattle.wasm_show.specs.ItemNames.{AddsName, KeepsNames, item, named, rank_of as rank};
 
 use crate::numbers::Space;
-use std::alloc::Global;
+use std::alloc::{Allocator, Global};
 use std::collections::BTreeMap;
+use std::marker::Model;
 use wasm_feed::ListError;
 
 /// Names of items, each by its number. Of two names of one item it keeps the first that was added.
 #[derive(Drop)]
-pub struct ItemNames {
-    names: BTreeMap<(u8, u32), String>,
+pub struct ItemNames<A: Allocator = Global> {
+    names: BTreeMap<(u8, u32), String<A>, A>,
+}
+
+impl<A: Allocator> Model for ItemNames<A> {
+    ghost use Rattle.wasm_show.specs.ItemNames.{Names, names_in};
+
+    ghost Value = { Names };
+
+    ghost view = { λ a. names_in a.names };
 }
 
 // The rank of an index space among the keys.
-fn rank_of(space: Space) -> u8 {
+fn rank_of(space: Space) -> u8
+    ensures { result ≡ rank space }
+{
     match space {
         Space::Types => 0,
         Space::Functions => 1,
@@ -29,21 +42,32 @@ fn rank_of(space: Space) -> u8 {
 
 impl ItemNames {
     /// No names. They take no memory.
-    pub fn new(alloc: Global) -> ItemNames {
+    pub fn new(alloc: Global) -> ItemNames
+        ensures { result ≡ [] }
+    {
+        ItemNames::new_in(alloc)
+    }
+}
+
+impl<A: Allocator> ItemNames<A> {
+    /// No names, with memory from any allocator.
+    pub fn new_in(alloc: A) -> ItemNames<A>
+        ensures { result ≡ [] }
+    {
         ItemNames {
             names: BTreeMap::new(alloc),
         }
     }
 
-    /// Adds the name of an item, unless it has one. `Memory` where a growth was refused, and no other error.
-    pub fn add(
-        &mut self,
-        alloc: Global,
-        space: Space,
-        index: u32,
-        name: &str,
-    ) -> Result<(), ListError>
-        ensures { IfErr result (λ why. why ≡ Memory) }
+    /// Adds the name of an item, unless it has one. `Memory` where a growth was refused, and no other error: the names are then
+    /// what they were.
+    pub fn add(&mut self, alloc: A, space: Space, index: u32, name: &str) -> Result<(), ListError>
+    where
+        A: Clone,
+        ensures added { OnOk result (AddsName self.old (item space index) name.now self.new) }
+        ensures keeps { KeepsNames self.old self.new }
+        ensures refused { OnErr result (self.new ≡ self.old) }
+        ensures memory { IfErr result (λ why. why ≡ Memory) }
     {
         let key = (rank_of(space), index);
         if self.names.contains_key(&key) {
@@ -56,7 +80,9 @@ impl ItemNames {
     }
 
     /// The name of an item, if it has one.
-    pub fn of(&self, space: Space, index: u64) -> Option<&str> {
+    pub fn of(&self, space: Space, index: u64) -> Option<&str>
+        ensures { option_copied result ≡ named self.now (item space index) }
+    {
         match u32::try_from(index) {
             Ok(index) => match self.names.get(&(rank_of(space), index)) {
                 Some(name) => Some(name.as_str()),
