@@ -1,16 +1,17 @@
 -- Each line of an event is one line of the first level, and begins with its text in a listing.
 use Rattle.std.proofs.Common.{◌≡◌, ℕ, zero, suc, ◌≤◌, List, [], ◌∷◌, ◌++◌, IfSome, option_map, slice_get, lit≤, length, codes}
-use Rattle.std.proofs.Common.{Option, Some, None, sym, ◌∙◌, append_assoc}
+use Rattle.std.proofs.Common.{Option, Some, None, sym, ap, ◌∙◌, append_assoc}
 use Rattle.wasm_base.specs.Message.{message_of}
 use Rattle.wasm_grammar.specs.Content.{ended, fault}
 use Rattle.wasm_grammar.specs.Ids.{names, name_of}
 use Rattle.wasm_grammar.specs.Reading.{Report, version, counted, start_section, data_count_section, code_start, code_entry, custom_section}
 use Rattle.wasm_grammar.specs.Reading.{unknown_section, stream_end}
 use Rattle.wasm_feed.specs.Listing.{field, fault_number, text_before}
-use Rattle.wasm_show.specs.Chosen.{blank_numbers, numbered_line, section_words, shown_line, BeginAlike}
+use Rattle.wasm_show.specs.Chosen.{blank_numbers, numbered_line, numbered_text, section_words, shown_line, BeginAlike}
 use Rattle.wasm_show.specs.Numbers.{numbers_in_line}
 use Rattle.wasm_show.specs.Tree.{IsFirst}
 use Rattle.wasm_show.specs.declared.numbers.Counts.{Counts}
+use Rattle.wasm_show.proofs.Writing.{blank_before}
 
 -- ---- the text of a line, and what comes after it
 
@@ -41,6 +42,17 @@ begin_alike r = (
   text_parts r (section_words r ++ codes "\n"),
   λ c. text_parts r (section_words r ++ blank_numbers (numbers_in_line c r) (codes "\n")),
 )
+
+-- the line of an event is its text, and a line feed
+pub text_fed : (c : Counts) (r : Report) → numbered_text c r [] ++ codes "\n" ≡ numbered_line c r
+text_fed c r =
+    let front = text_before r [] in
+    let numbers = numbers_in_line c r in
+    ap (λ (x : List ℕ). x ++ codes "\n") (text_parts r (section_words r ++ blank_numbers numbers []))
+    ∙ (append_assoc front (section_words r ++ blank_numbers numbers []) (codes "\n")
+    ∙ (ap (λ (x : List ℕ). front ++ x) (append_assoc (section_words r) (blank_numbers numbers []) (codes "\n"))
+    ∙ (ap (λ (x : List ℕ). front ++ (section_words r ++ x)) (sym (blank_before numbers (codes "\n")))
+    ∙ sym (text_parts r (section_words r ++ blank_numbers numbers (codes "\n"))))))
 
 -- the line of an event is one line of the first level, with its numbers after it
 pub line_is_first : (c : Counts) (r : Report) → IsFirst (numbered_line c r) (shown_line r) (numbers_in_line c r)

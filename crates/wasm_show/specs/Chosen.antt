@@ -66,10 +66,14 @@ abbrev pub blank_numbers : List Number → (rest : List ℕ) → List ℕ
 blank_numbers [] rest = rest
 blank_numbers (n ∷ later) rest = codes " " ++ number_text n (blank_numbers later rest)
 
--- the same line with the numbers of items that it has, after what came before
+-- the same line with the numbers of items that it has, after what came before, and with this after it
+abbrev pub numbered_text : Counts → Report → (rest : List ℕ) → List ℕ
+numbered_text counts report rest =
+    text_before report (section_words report ++ blank_numbers (numbers_in_line counts report) rest)
+
+-- the line itself
 abbrev pub numbered_line : Counts → Report → List ℕ
-numbered_line counts report =
-    text_before report (section_words report ++ blank_numbers (numbers_in_line counts report) (codes "\n"))
+numbered_line counts report = numbered_text counts report (codes "\n")
 
 -- the line of what is reported, where it is shown
 abbrev pub chosen_line : List Only → Report → List ℕ

@@ -8,7 +8,7 @@ ghost use Rattle.wasm_parser.specs.ParseAnswer.{report_of};
 ghost use Rattle.wasm_show.specs.Chosen.{numbered_line};
 ghost use Rattle.wasm_show.specs.Tree.{Adds, AddsFirst};
 
-use crate::heading::shown_line;
+use crate::heading::shown_text;
 use crate::numbers::{Counts, Space};
 use crate::tree::Tree;
 use std::ops::Range;
@@ -44,14 +44,13 @@ fn version_event<W: Sink>(num: u16, encoding: Encoding, range: &Range<u64>, out:
     out.word_field("encoding", encoding_word(encoding));
 }
 
-// That of a body, with the number of its function.
-fn body_event<W: Sink>(counts: &Counts, body: &FunctionBody<'_>, out: &mut Tree<W>)
+// That of a body.
+fn body_event<W: Sink>(body: &FunctionBody<'_>, out: &mut Tree<W>)
     ensures { Adds out.old out.new }
 {
     let range = body.range();
     begin_event("body", out);
     out.range("range", range.start, range.end);
-    out.event_number(Space::Functions, counts.bodies);
 }
 
 // The name of the sections with this id, where the section is one of them.
@@ -97,8 +96,8 @@ fn section_event<W: Sink>(payload: &Payload<'_>, out: &mut Tree<W>)
     section_fields(payload, out);
 }
 
-// The object of an event.
-fn event_object<W: Sink>(counts: &Counts, payload: &Payload<'_>, out: &mut Tree<W>)
+// The object of an event, without the number of an item.
+fn event_object<W: Sink>(payload: &Payload<'_>, out: &mut Tree<W>)
     ensures { Adds out.old out.new }
 {
     match payload {
@@ -107,7 +106,7 @@ fn event_object<W: Sink>(counts: &Counts, payload: &Payload<'_>, out: &mut Tree<
             encoding,
             range,
         } => version_event(*num, *encoding, range, out),
-        Payload::CodeSectionEntry(body) => body_event(counts, body, out),
+        Payload::CodeSectionEntry(body) => body_event(body, out),
         Payload::End(offset) => {
             begin_event("end", out);
             out.number("offset", *offset);
@@ -124,7 +123,20 @@ fn fault_object<W: Sink>(error: &Error, out: &mut Tree<W>)
     out.fault_fields(error);
 }
 
-/// Writes the line of an event, with the number of the function where it is a body; or its object.
+// Begins the line of an event, or its object.
+fn begin_shown<W: Sink>(counts: &Counts, line: &mut Line, payload: &Payload<'_>, out: &mut Tree<W>)
+    ensures { AddsFirst (numbered_line counts.now (report_of payload.now)) out.old out.new }
+{
+    if out.writes_objects() {
+        event_object(payload, out);
+    } else {
+        shown_text(line, counts, payload);
+        out.begin_first(line.as_bytes());
+    }
+}
+
+/// Writes the line of an event, with the number of the function and its name where it is a body; or its object. The next call
+/// that begins a line ends it.
 pub(crate) fn show_event<W: Sink>(
     counts: &Counts,
     line: &mut Line,
@@ -133,11 +145,9 @@ pub(crate) fn show_event<W: Sink>(
 )
     ensures { AddsFirst (numbered_line counts.now (report_of payload.now)) out.old out.new }
 {
-    if out.writes_objects() {
-        event_object(counts, payload, out);
-    } else {
-        shown_line(line, counts, payload);
-        out.first(line.as_bytes());
+    begin_shown(counts, line, payload, out);
+    if let Payload::CodeSectionEntry(_) = payload {
+        out.event_number(Space::Functions, counts.bodies);
     }
 }
 

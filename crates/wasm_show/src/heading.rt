@@ -1,8 +1,8 @@
 // The line of an event: its text in a listing, and then the name of the section, or the number of the function.
-ghost use Rattle.std.specs.Prelude.{◌≡◌, ◌≤◌, ◌++◌, IfSome, length, option_map};
+ghost use Rattle.std.specs.Prelude.{◌≡◌, ◌≤◌, ◌++◌, [], IfSome, length, option_map};
 ghost use Rattle.wasm_grammar.specs.Ids.{name_of};
 ghost use Rattle.wasm_parser.specs.ParseAnswer.{report_of};
-ghost use Rattle.wasm_show.specs.Chosen.{after_blank, counted_name as name_counted, numbered_line};
+ghost use Rattle.wasm_show.specs.Chosen.{after_blank, counted_name as name_counted, numbered_text};
 
 use crate::numbers::{Counts, Space, put_number};
 use wasm_feed::{Line, payload_text};
@@ -54,11 +54,11 @@ fn put_name(line: &mut Line, name: Option<&'static str>)
     }
 }
 
-/// The line of a payload: after the text of a body, the number of the function that it is of.
-pub(crate) fn shown_line(line: &mut Line, counts: &Counts, payload: &Payload<'_>)
-    ensures { line.new ≡ numbered_line counts.now (report_of payload.now) }
+/// The text of a payload's line, without its line feed: after the text of a body stands the number of the function that it is of.
+pub(crate) fn shown_text(line: &mut Line, counts: &Counts, payload: &Payload<'_>)
+    ensures { line.new ≡ numbered_text counts.now (report_of payload.now) [] }
 {
-    line.feed();
+    *line = Line::new();
     match payload {
         Payload::CodeSectionEntry(_) => {
             put_number(line, Space::Functions, counts.bodies);

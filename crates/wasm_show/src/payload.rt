@@ -32,7 +32,6 @@ pub fn show_payload<W: Sink>(
         Payload::ExportSection(section) => show_section(1, section, out),
         Payload::ElementSection(section) => show_numbered(Space::Elements, counts, section, out),
         Payload::DataSection(section) => show_numbered(Space::DataSegments, counts, section, out),
-        Payload::CodeSectionEntry(_) => out.name_under(Space::Functions, counts.bodies),
         Payload::CustomSection(section) => show_custom(alloc, section, out),
         _ => {}
     }

@@ -106,7 +106,8 @@ pub(crate) enum Spot {
 /// many, so that the sink is called seldom.
 ///
 /// A line under another is begun by `item` or `line`, put together from the parts that the other calls write, and ended by `end`
-/// or by the next one. Where the sink fails, or memory is refused, the tree stops and writes nothing more: `stopped` says why.
+/// or by the next one; so is one of the first level that isn't put at once. Where the sink fails, or memory is refused, the tree
+/// stops and writes nothing more: `stopped` says why.
 ///
 /// An object has a member for each field; texts outside of fields are left out.
 pub struct Tree<W: Sink> {
@@ -286,6 +287,19 @@ impl<W: Sink> Tree<W> {
         self.end_object();
     }
 
+    /// Begins a line of the first level with this text, which is what comes before its line feed, and has at most 65,536 bytes. It
+    /// may end with numbers of items.
+    pub(crate) fn begin_first(&mut self, text: &[u8])
+        requires lines { self.old.style ≡ Lines }
+        requires short { length text.now ≤ 65536 }
+        ensures adds { AddsFirst (text.now ++ codes "\n") self.old self.new }
+        ensures begun { self.new.is_begun ≡ true }
+    {
+        self.rows_to_cut();
+        self.push(text);
+        self.is_begun = true;
+    }
+
     /// Begins a line under another: that of an item whose bytes begin at this offset in the whole stream. At level 1 it is
     /// under a line of the first level.
     pub fn item(&mut self, level: usize, offset: u64)
@@ -441,18 +455,16 @@ impl<W: Sink> Tree<W> {
         self.name_after(space, index);
     }
 
-    /// Writes the number of an item and its name, if the tree has it, in the object of an event. A line of the first level has
-    /// its numbers already.
+    /// Writes the number of the item that an event is of, and its name, if the tree has it. The line of an event has the number
+    /// already.
     pub(crate) fn event_number(&mut self, space: Space, index: u64)
         ensures { Adds self.old self.new }
     {
         match self.style {
             Style::Lines => {}
-            Style::Objects => {
-                self.number_in_object(space, index);
-                self.name_after(space, index);
-            }
+            Style::Objects => self.number_in_object(space, index),
         }
+        self.name_after(space, index);
     }
 
     // Writes the number of an item, without its name.
@@ -512,22 +524,6 @@ impl<W: Sink> Tree<W> {
             }
             Style::Objects => self.word_field("item_name", name),
         }
-    }
-
-    /// Writes the name of an item on a line under one of the first level, if the tree has it. Objects have it where they have the
-    /// item's number.
-    pub(crate) fn name_under(&mut self, space: Space, index: u64)
-        ensures { Adds self.old self.new }
-    {
-        if self.names.is_none() || self.writes_objects() {
-            return;
-        }
-        let names = self.names.take();
-        if let Some(name) = name_in(&names, space, index) {
-            self.line_field(1, "name");
-            self.in_quotes(name);
-        }
-        self.names = names;
     }
 
     // Writes a text in quotes.

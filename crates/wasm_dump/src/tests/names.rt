@@ -2,8 +2,8 @@
 use std::alloc::Global;
 use std::test::Fail;
 use wasm_dump_run::{Options, dump_as};
-use wasm_feed::{SliceSource, WriteSink};
-use wasm_show::{Only, collect_names};
+use wasm_feed::{BoundedSink, Ended, ListError, Sink, SliceSource, WriteSink};
+use wasm_show::{Only, Shown, Style, Tree, collect_names, dump};
 
 // The linked module of docs/DUMP.md, whose bodies are filled with a byte.
 const LINKED: &[u8] =
@@ -34,12 +34,9 @@ section 9 102 109 1 element
   103 elem[0] kind=active table_index=none offset_expr=(i32.const 1) functions=107..109 count=1 range=103..109
     108 index=1
 code 111 201 3 89
-body 113 142 func[1]
-  name=\"next\"
-body 143 163 func[2]
-  name=\"name_of\"
-body 164 201 func[3]
-  name=\"run\"
+body 113 142 func[1] \"next\"
+body 143 163 func[2] \"name_of\"
+body 164 201 func[3] \"run\"
 section 11 203 242 2 data
   204 data[0] \".rodata\" kind=active memory_index=0 offset_expr=(i32.const 1024) data=22:13040000100400000100000001000000 range=204..232
   232 data[1] \".data\" kind=active memory_index=0 offset_expr=(i32.const 1048) data=4:03000000 range=232..242
@@ -119,5 +116,70 @@ section 3 16 19 2 function
 "
         .as_slice();
     assert!(rt; dumped(rt.alloc(), stream)?.as_slice().starts_with(wanted));
+    Ok(())
+}
+
+// How many bytes a name has that is longer than what waits to be written.
+const LONG: usize = 70_000;
+
+// A module of one function, whose name is long.
+fn named_at_length(alloc: Global) -> Result<Vec<u8>, Fail> {
+    let mut stream = Vec::<u8>::new(alloc);
+    stream.extend_from_slice(
+        b"\0asm\x01\0\0\0\x01\x04\x01`\0\0\x03\x02\x01\0\x0a\x04\x01\x02\0\x0b\0\xfe\xa2\x04\x04name\x01\xf5\xa2\x04\x01\0\xf0\xa2\x04",
+    )?;
+    stream.extend_from_slice(&vec![in alloc; b'a'; LONG]?)?;
+    Ok(stream)
+}
+
+// What its code is dumped as.
+fn long_dump(alloc: Global) -> Result<Vec<u8>, Fail> {
+    let mut text = Vec::<u8>::new(alloc);
+    text.extend_from_slice(b"code 20 24 1 3\nbody 22 24 func[0] \"")?;
+    text.extend_from_slice(&vec![in alloc; b'a'; LONG]?)?;
+    text.extend_from_slice(b"\"\nend 70042\n")?;
+    Ok(text)
+}
+
+// How the dump of a stream's code ends, with the names that it has, in a sink with room for so many bytes.
+fn dumped_into(
+    alloc: Global,
+    stream: &[u8],
+    room: usize,
+) -> Result<(Result<Ended, ListError>, BoundedSink), Fail> {
+    let Ok(names) = collect_names(alloc, &mut SliceSource::new(stream)) else {
+        return Err(Fail::new("out of memory"));
+    };
+    let output = BoundedSink::new(alloc, room)?;
+    let mut tree = Tree::with_names(alloc, output, Style::Lines, Some(names));
+    let shown = Shown {
+        only: &[Only::Id(10)],
+        has_bytes: false,
+    };
+    let input = &mut SliceSource::new(stream);
+    let ended = dump(alloc, shown, input, &mut tree, 65_536);
+    Ok((ended, tree.into_output()))
+}
+
+#[test]
+fn shows_a_long_name(rt: HostRuntime) -> Result<(), Fail> {
+    let stream = named_at_length(rt.alloc())?;
+    let (ended, output) = dumped_into(rt.alloc(), &stream, 100_000)?;
+    assert!(rt; ended == Ok(Ended::End));
+    assert!(rt; output.written() == long_dump(rt.alloc())?.as_slice());
+    Ok(())
+}
+
+// A sink that is full in the middle of the body's line has a beginning of the dump.
+#[test]
+fn stops_in_a_long_name(rt: HostRuntime) -> Result<(), Fail> {
+    let stream = named_at_length(rt.alloc())?;
+    let wanted = long_dump(rt.alloc())?;
+    for room in [36, 65_536, 70_000] {
+        let (ended, output) = dumped_into(rt.alloc(), &stream, room)?;
+        assert!(rt; ended == Err(ListError::Output));
+        assert!(rt; output.failed());
+        assert!(rt; wanted.starts_with(output.written()));
+    }
     Ok(())
 }

@@ -18,10 +18,6 @@ pub returns-in-ExportSection : goal.returns-in-ExportSection
 returns-in-ExportSection g c begins =
     shows_no_items c.args.counts.now (report_of c.args.payload.now) _ _ (rw c.in-ExportSection.is refl) c.show_section.ensures
 
-pub returns-in-CodeSectionEntry : goal.returns-in-CodeSectionEntry
-returns-in-CodeSectionEntry g c begins =
-    shows_no_items c.args.counts.now (report_of c.args.payload.now) _ _ (rw c.in-CodeSectionEntry.is refl) c.name_under.ensures
-
 pub returns-in-CustomSection : goal.returns-in-CustomSection
 returns-in-CustomSection g c begins =
     shows_no_items c.args.counts.now (report_of c.args.payload.now) _ _ (rw c.in-CustomSection.is refl) c.show_custom.ensures

@@ -1,0 +1,18 @@
+use Rattle.std.proofs.Common.{◌++◌, List, ℕ, ap, codes, sym, subst, ◌∙◌}
+use Rattle.wasm_parser.specs.ParseAnswer.{report_of}
+use Rattle.wasm_show.specs.Chosen.{numbered_line}
+use Rattle.wasm_show.specs.Tree.{AddsFirst}
+use Rattle.wasm_show.proofs.Lines.{text_fed}
+use Rattle.wasm_show.proofs.Writing.{are_objects, first_in_objects}
+use Rattle.wasm_show.proofs.events.begin_shown.Goals as goal
+
+pub returns-then-writes_objects : goal.returns-then-writes_objects
+returns-then-writes_objects g c =
+    first_in_objects _ _ (are_objects _ (sym c.writes_objects.ensures ∙ c.if-writes_objects.true)) c.event_object.ensures
+    (numbered_line c.args.counts.now (report_of c.args.payload.now))
+
+pub returns-else-writes_objects : goal.returns-else-writes_objects
+returns-else-writes_objects g c =
+    let text = c.as_bytes.ensures.bytes ∙ c.shown_text.ensures in
+    subst (λ (x : List ℕ). AddsFirst x c.args.out.now c.begin_first.new.self)
+    (ap (λ (x : List ℕ). x ++ codes "\n") text ∙ text_fed c.args.counts.now (report_of c.args.payload.now)) c.begin_first.ensures.adds
