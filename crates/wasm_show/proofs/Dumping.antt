@@ -2,7 +2,6 @@
 use Rattle.std.proofs.Common.{◌≡◌, ℕ, ◌<◌, Bool, true, false, if◌then◌else◌, List, [], ◌++◌, Option, Some, None, Result, Ok, Err, refl}
 use Rattle.std.proofs.Common.{sym}
 use Rattle.std.proofs.Common.{◌∷◌, ◌^◌, ap, subst, subst₂, ◌∙◌, append-nil, append_assoc, length, length-append, inl, inr, arith, nat_eq}
-use Rattle.std.proofs.Math.Path.{subst₃}
 use Rattle.std.specs.Io.KnownBytes.{Appends, Consumes}
 use Rattle.std.proofs.KnownBytes.{Appends-nil, Consumes-nil, Consumes-trans, Consumes-kept}
 use Rattle.wasm_feed.specs.Calls.{Change, Device, from_to}
@@ -42,8 +41,8 @@ use Rattle.std.proofs.lemmas.Bool.Decides.{nat_tests}
 use Rattle.wasm_show.specs.Dump.{WritesWhole, WritesSome, AreOfAnswer, after_answer, ShowsStep, origin, DumpsFrom, DumpsInto}
 use Rattle.wasm_show.specs.Dump.{DumpsByTree}
 use Rattle.wasm_show.specs.Tree as Tree
-use Rattle.wasm_show.specs.Tree.{IsOutlined, Part, Writing, Origin, begun, begun_outline, begun_numbers, IsGoingIn, IsCutShort, IsWritten}
-use Rattle.wasm_show.specs.Tree.{Adds, IsOut, IsShaped}
+use Rattle.wasm_show.specs.Tree.{IsOutlined, Part, Writing, Origin, begun, begun_numbers, IsGoingIn, IsCutShort, IsWritten, Adds, IsOut}
+use Rattle.wasm_show.specs.Tree.{IsShaped}
 use Rattle.wasm_show.specs.Json.{IsAt}
 use Rattle.wasm_show.specs.Json as json
 use Rattle.wasm_show.specs.declared.tree.Spot.{Spot}
@@ -314,11 +313,8 @@ module _ (only : List Only) (has_bytes : Bool) (full rest : Option (List ℕ)) (
 
 -- ---- what was written, at an end
 
-none_begun : (b : Bool) (opening : Option (List ℕ)) (line : List Part) → b ≡ false → begun b opening line ≡ []
-none_begun b opening line e = ap (λ (x : Bool). begun x opening line) e
-
-no_outline_begun : (b : Bool) (opening : Option (List ℕ)) (line : List Part) → b ≡ false → begun_outline b opening line ≡ []
-no_outline_begun b opening line e = ap (λ (x : Bool). begun_outline x opening line) e
+none_begun : (b : Bool) (line : List Part) → b ≡ false → begun b line ≡ []
+none_begun b line e = ap (λ (x : Bool). begun x line) e
 
 no_numbers_begun : (b : Bool) (line : List Part) → b ≡ false → begun_numbers b line ≡ []
 no_numbers_begun b line e = ap (λ (x : Bool). begun_numbers x line) e
@@ -329,16 +325,14 @@ whole_in : (style : Style) (o : Origin) (w : Writing) → w.style ≡ style → 
 whole_in Lines o w same going out g =
     let ended : w.is_begun ≡ false = out.none_begun going same in
     let all : g.written ≡ g.text = sym (append-nil g.written) ∙ (ap (λ (x : List ℕ). g.written ++ x) (sym (out.none_waits going))
-    ∙ (g.parts ∙ (ap (λ (x : List ℕ). g.text ++ x) (none_begun w.is_begun g.opening g.line ended) ∙ append-nil g.text))) in
-    let outlines : g.outline ≡ o.outline = sym (g.outlines
-    ∙ (ap (λ (x : List ℕ). g.outline ++ x) (no_outline_begun w.is_begun g.opening g.line ended) ∙ append-nil g.outline)) in
+    ∙ (g.parts ∙ (ap (λ (x : List ℕ). g.text ++ x) (none_begun w.is_begun g.line ended) ∙ append-nil g.text))) in
     let numbered : g.lined ≡ o.numbers = sym (g.numbered
     ∙ (ap (λ (x : List Number). g.lined ++ x) (no_numbers_begun w.is_begun g.line ended) ∙ append-nil g.lined)) in
     let rowed : g.rows ≡ o.bytes = sym (g.rowed
     ∙ (ap (λ (x : List ℕ). g.rows ++ x) (out.all_shown going same) ∙ append-nil g.rows)) in
     record {
       text = g.text;
-      shaped = subst₃ (λ (x : List ℕ) (y : List Number) (z : List ℕ). IsOutlined g.text x y z) outlines numbered rowed g.outlined;
+      shaped = subst₂ (λ (x : List Number) (y : List ℕ). IsOutlined g.text o.outline x y) numbered rowed g.outlined;
       wrote = subst (Appends o.taken w.taken) all g.took;
     }
 whole_in Objects o w same going out g = record {
@@ -729,15 +723,12 @@ fresh_in : (style : Style) (taken : Option (List ℕ)) (failed : Bool)
 fresh_in Lines taken failed = record {
   written = [];
   text = [];
-  outline = [];
   lined = [];
   rows = [];
-  opening = None;
   line = [];
   outlined = nothing_outlined;
   one_line = refl;
   parts = refl;
-  outlines = refl;
   numbered = refl;
   rowed = refl;
   took = Appends-nil taken;

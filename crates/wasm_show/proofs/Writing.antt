@@ -16,9 +16,9 @@ use Rattle.wasm_feed.specs.Page.{WritesBeginning, IsCut}
 use Rattle.wasm_feed.specs.declared.devices.ListError.TheVariants.{Input, Output, Memory}
 use Rattle.wasm_show.specs.Chosen.{blank_numbers}
 use Rattle.wasm_show.specs.Numbers.{Number, number_text}
+use Rattle.wasm_show.specs.Said.{PutsText, StopsIn}
 use Rattle.wasm_show.specs.Tree.{Part, words, number, Line, first, under, row, has_line_feed, is_part, is_line, part_text, text_of}
-use Rattle.wasm_show.specs.Tree.{bytes_of, first_of, row_text, with_bytes, AddsBytes}
-use Rattle.wasm_show.specs.Tree.{start_of, line_with}
+use Rattle.wasm_show.specs.Tree.{bytes_of, first_of, name_text, row_text, with_bytes, AddsBytes}
 use Rattle.wasm_show.specs.Tree.{part_numbers, numbers_of, IsFirst, IsOutlined, Writing, Origin, with_numbers}
 use Rattle.wasm_show.specs.Tree.{IsGoing, IsGoingInObjects, IsGoingIn, IsCutShort, IsWrittenAs, IsWritten, IsShaped, with_line}
 use Rattle.wasm_show.specs.Tree.{IsPushed, IsStuck, PutsAs, Puts, Adds, AddsFirst, AddsThese, is_objects}
@@ -55,17 +55,13 @@ outlined_with : (text outline : List ℕ) (numbers : List Number) (bytes : List 
 outlined_with text outline numbers bytes l text' outline' numbers' bytes' one e f g h i =
     rw (← e, ← f, ← g, ← h) (outlined_more text outline numbers bytes l one i)
 
--- a line of either kind
-line_more : (text outline : List ℕ) (numbers : List Number) (bytes : List ℕ) (opening : Option (List ℕ)) (line : List Part)
-    → list_all is_part line ≡ true → IsOutlined text outline numbers bytes
-    → IsOutlined (text ++ (start_of opening ++ (flat_map part_text line ++ codes "\n")))
-    (outline ++ first_of (line_with opening line)) (numbers ++ flat_map part_numbers line) bytes
-line_more text outline numbers bytes (Some front) line one i =
-    outlined_with text outline numbers bytes (first front line) (text ++ text_of (first front line))
-    (outline ++ first_of (first front line)) (numbers ++ flat_map part_numbers line) bytes one refl refl refl (append-nil bytes) i
-line_more text outline numbers bytes None line one i =
-    outlined_with text outline numbers bytes (under line) (text ++ text_of (under line)) (outline ++ [])
-    (numbers ++ flat_map part_numbers line) bytes one refl refl refl (append-nil bytes) i
+-- a line under another
+under_more : (text outline : List ℕ) (numbers : List Number) (bytes : List ℕ) (line : List Part) → list_all is_part line ≡ true
+    → IsOutlined text outline numbers bytes
+    → IsOutlined (text ++ (codes "  " ++ (flat_map part_text line ++ codes "\n"))) outline (numbers ++ flat_map part_numbers line) bytes
+under_more text outline numbers bytes line one i =
+    outlined_with text outline numbers bytes (under line) (text ++ text_of (under line)) outline (numbers ++ flat_map part_numbers line)
+    bytes one refl (append-nil outline) refl (append-nil bytes) i
 
 -- a row of bytes
 row_more : (text outline : List ℕ) (numbers : List Number) (bytes : List ℕ) (offset : ℕ) (more : List ℕ)
@@ -74,42 +70,42 @@ row_more text outline numbers bytes offset more i =
     outlined_with text outline numbers bytes (row offset more) (text ++ row_text offset more) outline numbers (bytes ++ more) refl refl
     (append-nil outline) (append-nil numbers) refl i
 
--- numbers, each after a blank, as parts of a line
-abbrev spaced : List Number → List Part
-spaced [] = []
-spaced (n ∷ later) = words (codes " ") ∷ number n ∷ spaced later
+-- a line that adds this to the outline, and has these numbers
+abbrev pub Outlines : (line outline : List ℕ) → List Number → Type 0
+Outlines line more after = (text outline : List ℕ) (numbers : List Number) (bytes : List ℕ) → IsOutlined text outline numbers bytes
+    → IsOutlined (text ++ line) (outline ++ more) (numbers ++ after) bytes
 
+-- one of the first level
+pub first_more : (line more : List ℕ) (after : List Number) → IsFirst line more after → Outlines line more after
+first_more line more after e text outline numbers bytes i =
+    outlined_with text outline numbers bytes (first e.front after None) (text ++ line) (outline ++ more) (numbers ++ after) bytes refl
+    (ap (λ (x : List ℕ). text ++ x) (sym e.parts)) (ap (λ (x : List ℕ). outline ++ x) (sym e.outlines)) refl (append-nil bytes) i
+
+-- numbers before the rest of a line
 number_before : (n : Number) (rest : List ℕ) → number_text n rest ≡ number_text n [] ++ rest
 number_before n rest = simp append_assoc
 
-spaced_text : (numbers : List Number) (rest : List ℕ) → blank_numbers numbers rest ≡ flat_map part_text (spaced numbers) ++ rest
-spaced_text [] rest = refl
-spaced_text (n ∷ later) rest = ap (λ (x : List ℕ). codes " " ++ number_text n x) (spaced_text later rest)
-    ∙ (ap (λ (x : List ℕ). codes " " ++ x) (number_before n (flat_map part_text (spaced later) ++ rest))
-    ∙ ap (λ (x : List ℕ). codes " " ++ x) (sym (append_assoc (number_text n []) (flat_map part_text (spaced later)) rest)))
-
--- the numbers, before the rest of a line
 pub blank_before : (numbers : List Number) (rest : List ℕ) → blank_numbers numbers rest ≡ blank_numbers numbers [] ++ rest
-blank_before numbers rest = spaced_text numbers rest
-    ∙ ap (λ (x : List ℕ). x ++ rest) (sym (spaced_text numbers [] ∙ append-nil (flat_map part_text (spaced numbers))))
+blank_before [] rest = refl
+blank_before (n ∷ later) rest =
+    let all = ap (λ (x : List ℕ). codes " " ++ number_text n x) (blank_before later rest) in
+    let moved = ap (λ (x : List ℕ). codes " " ++ x) (number_before n (blank_numbers later [] ++ rest)
+    ∙ (sym (append_assoc (number_text n []) (blank_numbers later []) rest)
+    ∙ ap (λ (x : List ℕ). x ++ rest) (sym (number_before n (blank_numbers later []))))) in
+    all ∙ moved
 
-spaced_numbers : (numbers : List Number) → flat_map part_numbers (spaced numbers) ≡ numbers
-spaced_numbers [] = refl
-spaced_numbers (n ∷ later) = ap (λ (x : List Number). n ∷ x) (spaced_numbers later)
-
-spaced_one : (numbers : List Number) → list_all is_part (spaced numbers) ≡ true
-spaced_one [] = refl
-spaced_one (n ∷ later) = spaced_one later
-
--- a line of the first level
-first_more : (text outline : List ℕ) (numbers : List Number) (bytes line more : List ℕ) (after : List Number) → IsFirst line more after
-    → IsOutlined text outline numbers bytes → IsOutlined (text ++ line) (outline ++ more) (numbers ++ after) bytes
-first_more text outline numbers bytes line more after e i =
-    outlined_with text outline numbers bytes (first e.front (spaced after)) (text ++ line) (outline ++ more) (numbers ++ after) bytes
-    (spaced_one after)
-    (ap (λ (x : List ℕ). text ++ x) (sym (e.parts ∙ ap (λ (x : List ℕ). e.front ++ x) (spaced_text after (codes "\n")))))
-    (ap (λ (x : List ℕ). outline ++ x) (sym e.outlines)) (ap (λ (x : List Number). numbers ++ x) (spaced_numbers after))
-    (append-nil bytes) i
+-- one that has a name after its text, if there is one
+pub named_more : (text more : List ℕ) (after : List Number) (name : Option (List ℕ)) → IsFirst (text ++ codes "\n") more after
+    → Outlines (text ++ (name_text name ++ codes "\n")) more after
+named_more line more after name e text outline numbers bytes i =
+    let numbered = blank_numbers after [] in
+    let rest = name_text name ++ codes "\n" in
+    let front : line ≡ e.front ++ numbered = append_cancel_right line (e.front ++ numbered) (codes "\n")
+    (e.parts ∙ (ap (λ (x : List ℕ). e.front ++ x) (blank_before after (codes "\n")) ∙ sym (append_assoc e.front numbered (codes "\n")))) in
+    let parts : line ++ rest ≡ e.front ++ blank_numbers after rest = ap (λ (x : List ℕ). x ++ rest) front
+    ∙ (append_assoc e.front numbered rest ∙ ap (λ (x : List ℕ). e.front ++ x) (sym (blank_before after rest))) in
+    outlined_with text outline numbers bytes (first e.front after name) (text ++ (line ++ rest)) (outline ++ more) (numbers ++ after) bytes
+    refl (ap (λ (x : List ℕ). text ++ x) (sym parts)) (ap (λ (x : List ℕ). outline ++ x) (sym e.outlines)) refl (append-nil bytes) i
 
 -- ---- bytes put after those that wait
 
@@ -187,7 +183,7 @@ short_still o w why b spot unshown c = record {
 }
 
 -- a line of the first level, of which nothing could be written
-first_short : (o : Origin) (w : Writing) (why : ListError) (line outline : List ℕ) (numbers : List Number) → IsFirst line outline numbers
+first_short : (o : Origin) (w : Writing) (why : ListError) (line outline : List ℕ) (numbers : List Number) → Outlines line outline numbers
     → o.style ≡ Lines → IsCutShort o why w
     → IsCutShort (with_numbers (with_line o outline) numbers) why w
 first_short o w why line outline numbers e lines c = record {
@@ -196,7 +192,7 @@ first_short o w why line outline numbers e lines c = record {
   shaped = shaped_lines o.style (c.written ++ (c.unwritten ++ line)) (o.outline ++ outline) (o.numbers ++ numbers) o.bytes lines
       (subst (λ (x : List ℕ). IsOutlined x (o.outline ++ outline) (o.numbers ++ numbers) o.bytes)
       (append_assoc c.written c.unwritten line)
-      (first_more (c.written ++ c.unwritten) o.outline o.numbers o.bytes line outline numbers e
+      (e (c.written ++ c.unwritten) o.outline o.numbers o.bytes
       (lines_shaped o.style (c.written ++ c.unwritten) o.outline o.numbers o.bytes lines c.shaped)));
   took = c.took;
   failed = c.failed;
@@ -219,7 +215,7 @@ bytes_short o w why bytes lines c = record {
   no_input = c.no_input;
 }
 
--- a part of a line, of which nothing could be written
+-- a part of a line under another, of which nothing could be written
 part_short : (o : Origin) (w : Writing) (why : ListError) (p : Part) → is_part p ≡ true → o.style ≡ Lines → IsCutShort o why w
     → IsCutShort (with_numbers o (part_numbers p)) why w
 part_short o w why p one lines c =
@@ -230,26 +226,12 @@ part_short o w why p one lines c =
       shaped = shaped_lines o.style (c.written ++ (c.unwritten ++ line)) o.outline (o.numbers ++ part_numbers p) o.bytes lines
           (subst₂ (λ (x : List ℕ) (y : List Number). IsOutlined x o.outline (o.numbers ++ y) o.bytes)
           (append_assoc c.written c.unwritten line) (append-nil (part_numbers p))
-          (subst (λ (x : List ℕ). IsOutlined ((c.written ++ c.unwritten) ++ line) x (o.numbers ++ flat_map part_numbers (p ∷ [])) o.bytes)
-          (append-nil o.outline) (line_more (c.written ++ c.unwritten) o.outline o.numbers o.bytes None (p ∷ []) (rw one refl)
-          (lines_shaped o.style (c.written ++ c.unwritten) o.outline o.numbers o.bytes lines c.shaped))));
+          (under_more (c.written ++ c.unwritten) o.outline o.numbers o.bytes (p ∷ []) (rw one refl)
+          (lines_shaped o.style (c.written ++ c.unwritten) o.outline o.numbers o.bytes lines c.shaped)));
       took = c.took;
       failed = c.failed;
       no_input = c.no_input;
     }
-
--- the text and the parts of a line of the first level, without its line feed
-first_text : (text outline : List ℕ) (numbers : List Number) → (e : IsFirst (text ++ codes "\n") outline numbers)
-    → text ≡ e.front ++ flat_map part_text (spaced numbers)
-first_text text outline numbers e = append_cancel_right text (e.front ++ flat_map part_text (spaced numbers)) (codes "\n")
-    (e.parts ∙ (ap (λ (x : List ℕ). e.front ++ x) (spaced_text numbers (codes "\n"))
-    ∙ sym (append_assoc e.front (flat_map part_text (spaced numbers)) (codes "\n"))))
-
--- the parts of a line aren't in the outline
-first_still : (opening : Option (List ℕ)) (line line' : List Part) → first_of (line_with opening line)
-    ≡ first_of (line_with opening line')
-first_still (Some text) line line' = refl
-first_still None line line' = refl
 
 module _ (o : Origin) (old new : Writing) (i : IsGoing o old) where
   -- the same bytes are to be shown
@@ -262,19 +244,15 @@ module _ (o : Origin) (old new : Writing) (i : IsGoing o old) where
   part_grows p b one h = record {
     written = i.written ++ h.puts.moved;
     text = i.text;
-    outline = i.outline;
     lined = i.lined;
     rows = i.rows;
-    opening = i.opening;
     line = i.line ++ p ∷ [];
     outlined = i.outlined;
     one_line = list_all-append is_part i.line (p ∷ []) ∙ rw (i.one_line, one) refl;
     parts = grown i.written old.waiting (part_text p) h.puts.moved new.waiting h.puts.waits
         ∙ rw (h.begun, b) (ap (λ (x : List ℕ). x ++ part_text p) (i.parts ∙ rw b refl)
-        ∙ (append_assoc i.text (start_of i.opening ++ flat_map part_text i.line) (part_text p)
-        ∙ ap (λ (x : List ℕ). i.text ++ x) (append_assoc (start_of i.opening) (flat_map part_text i.line) (part_text p)
-        ∙ ap (λ (x : List ℕ). start_of i.opening ++ x) (sym (more_parts part_text i.line p)))));
-    outlines = i.outlines ∙ rw (h.begun, b) (ap (λ (x : List ℕ). i.outline ++ x) (first_still i.opening i.line (i.line ++ p ∷ [])));
+        ∙ (append_assoc i.text (codes "  " ++ flat_map part_text i.line) (part_text p)
+        ∙ ap (λ (x : List ℕ). i.text ++ (codes "  " ++ x)) (sym (more_parts part_text i.line p))));
     numbered = rw (h.begun, b) (ap (λ (x : List Number). x ++ part_numbers p) (i.numbered ∙ rw b refl)
         ∙ (append_assoc i.lined (flat_map part_numbers i.line) (part_numbers p)
         ∙ ap (λ (x : List Number). i.lined ++ x) (sym (more_parts part_numbers i.line p))));
@@ -288,46 +266,33 @@ module _ (o : Origin) (old new : Writing) (i : IsGoing o old) where
   part_begins b p = record {
     written = i.written ++ p.puts.moved;
     text = i.text;
-    outline = i.outline;
     lined = i.lined;
     rows = i.rows;
-    opening = None;
     line = [];
     outlined = i.outlined;
     one_line = refl;
     parts = grown i.written old.waiting (codes "  ") p.puts.moved new.waiting p.puts.waits
         ∙ ap (λ (x : List ℕ). x ++ codes "  ") (i.parts ∙ rw b (append-nil i.text));
-    outlines = i.outlines ∙ rw b refl;
     numbered = i.numbered ∙ rw b refl;
     rowed = same_unshown p.unshown;
     took = Appends-trans o.taken old.taken new.taken i.written p.puts.moved i.took p.puts.writes;
     failed = p.failed ∙ i.failed;
   }
 
-  -- the line that is begun, with its line feed
-  abbrev whole_line : List ℕ
-  whole_line = start_of i.opening ++ (flat_map part_text i.line ++ codes "\n")
-
-  fed : (i.text ++ (start_of i.opening ++ flat_map part_text i.line)) ++ codes "\n" ≡ i.text ++ whole_line
-  fed = append_assoc i.text (start_of i.opening ++ flat_map part_text i.line) (codes "\n")
-      ∙ ap (λ (x : List ℕ). i.text ++ x) (append_assoc (start_of i.opening) (flat_map part_text i.line) (codes "\n"))
-
   -- it is ended
   part_ends : old.is_begun ≡ true → IsPushed (codes "\n") old new → IsGoing o (record new { is_begun = false })
   part_ends b p = record {
     written = i.written ++ p.puts.moved;
-    text = i.text ++ whole_line;
-    outline = i.outline ++ first_of (line_with i.opening i.line);
+    text = i.text ++ (codes "  " ++ (flat_map part_text i.line ++ codes "\n"));
     lined = i.lined ++ flat_map part_numbers i.line;
     rows = i.rows;
-    opening = None;
     line = [];
-    outlined = line_more i.text i.outline i.lined i.rows i.opening i.line i.one_line i.outlined;
+    outlined = under_more i.text o.outline i.lined i.rows i.line i.one_line i.outlined;
     one_line = refl;
     parts = grown i.written old.waiting (codes "\n") p.puts.moved new.waiting p.puts.waits
         ∙ (ap (λ (x : List ℕ). x ++ codes "\n") (i.parts ∙ rw b refl)
-        ∙ (fed ∙ sym (append-nil (i.text ++ whole_line))));
-    outlines = i.outlines ∙ (rw b refl ∙ sym (append-nil (i.outline ++ first_of (line_with i.opening i.line))));
+        ∙ (append_assoc i.text (codes "  " ++ flat_map part_text i.line) (codes "\n")
+        ∙ sym (append-nil (i.text ++ (codes "  " ++ (flat_map part_text i.line ++ codes "\n"))))));
     numbered = i.numbered ∙ (rw b refl ∙ sym (append-nil (i.lined ++ flat_map part_numbers i.line)));
     rowed = same_unshown p.unshown;
     took = Appends-trans o.taken old.taken new.taken i.written p.puts.moved i.took p.puts.writes;
@@ -335,49 +300,20 @@ module _ (o : Origin) (old new : Writing) (i : IsGoing o old) where
   }
 
   -- a line of the first level
-  first_grows : (line outline : List ℕ) (numbers : List Number) → IsFirst line outline numbers → old.is_begun ≡ false
+  first_grows : (line outline : List ℕ) (numbers : List Number) → Outlines line outline numbers → old.is_begun ≡ false
       → IsPushed line old new → IsGoing (with_numbers (with_line o outline) numbers) new
   first_grows line outline numbers e b p = record {
     written = i.written ++ p.puts.moved;
     text = i.text ++ line;
-    outline = i.outline ++ outline;
     lined = i.lined ++ numbers;
     rows = i.rows;
-    opening = None;
     line = [];
-    outlined = first_more i.text i.outline i.lined i.rows line outline numbers e i.outlined;
+    outlined = e i.text o.outline i.lined i.rows i.outlined;
     one_line = refl;
     parts = grown i.written old.waiting line p.puts.moved new.waiting p.puts.waits
         ∙ rw (p.begun, b) (ap (λ (x : List ℕ). x ++ line) (i.parts ∙ rw b (append-nil i.text)) ∙ sym (append-nil (i.text ++ line)));
-    outlines = rw (p.begun, b) (ap (λ (x : List ℕ). x ++ outline) (i.outlines ∙ rw b (append-nil i.outline))
-        ∙ sym (append-nil (i.outline ++ outline)));
     numbered = rw (p.begun, b) (ap (λ (x : List Number). x ++ numbers) (i.numbered ∙ rw b (append-nil i.lined))
         ∙ sym (append-nil (i.lined ++ numbers)));
-    rowed = same_unshown p.unshown;
-    took = Appends-trans o.taken old.taken new.taken i.written p.puts.moved i.took p.puts.writes;
-    failed = p.failed ∙ i.failed;
-  }
-
-  -- one is begun
-  first_begins : (text outline : List ℕ) (numbers : List Number) → IsFirst (text ++ codes "\n") outline numbers → old.is_begun ≡ false
-      → IsPushed text old new → IsGoing (with_numbers (with_line o outline) numbers) (record new { is_begun = true })
-  first_begins text outline numbers e b p = record {
-    written = i.written ++ p.puts.moved;
-    text = i.text;
-    outline = i.outline;
-    lined = i.lined;
-    rows = i.rows;
-    opening = Some e.front;
-    line = spaced numbers;
-    outlined = i.outlined;
-    one_line = spaced_one numbers;
-    parts = grown i.written old.waiting text p.puts.moved new.waiting p.puts.waits
-        ∙ (ap (λ (x : List ℕ). x ++ text) (i.parts ∙ rw b (append-nil i.text))
-        ∙ ap (λ (x : List ℕ). i.text ++ x) (first_text text outline numbers e));
-    outlines = ap (λ (x : List ℕ). x ++ outline) (i.outlines ∙ rw b (append-nil i.outline))
-        ∙ ap (λ (x : List ℕ). i.outline ++ x) e.outlines;
-    numbered = ap (λ (x : List Number). x ++ numbers) (i.numbered ∙ rw b (append-nil i.lined))
-        ∙ ap (λ (x : List Number). i.lined ++ x) (sym (spaced_numbers numbers));
     rowed = same_unshown p.unshown;
     took = Appends-trans o.taken old.taken new.taken i.written p.puts.moved i.took p.puts.writes;
     failed = p.failed ∙ i.failed;
@@ -388,16 +324,13 @@ module _ (o : Origin) (old new : Writing) (i : IsGoing o old) where
   all_moves p = record {
     written = i.written ++ p.puts.moved;
     text = i.text;
-    outline = i.outline;
     lined = i.lined;
     rows = i.rows;
-    opening = i.opening;
     line = i.line;
     outlined = i.outlined;
     one_line = i.one_line;
     parts = grown i.written old.waiting [] p.puts.moved new.waiting p.puts.waits
         ∙ (append-nil (i.written ++ old.waiting) ∙ rw p.begun i.parts);
-    outlines = rw p.begun i.outlines;
     numbered = rw p.begun i.numbered;
     rowed = same_unshown p.unshown;
     took = Appends-trans o.taken old.taken new.taken i.written p.puts.moved i.took p.puts.writes;
@@ -410,17 +343,14 @@ module _ (o : Origin) (old new : Writing) (i : IsGoing o old) where
   row_grows offset bytes left b p e = record {
     written = i.written ++ p.puts.moved;
     text = i.text ++ row_text offset bytes;
-    outline = i.outline;
     lined = i.lined;
     rows = i.rows ++ bytes;
-    opening = None;
     line = [];
-    outlined = row_more i.text i.outline i.lined i.rows offset bytes i.outlined;
+    outlined = row_more i.text o.outline i.lined i.rows offset bytes i.outlined;
     one_line = refl;
     parts = grown i.written old.waiting (row_text offset bytes) p.puts.moved new.waiting p.puts.waits
         ∙ rw (p.begun, b) (ap (λ (x : List ℕ). x ++ row_text offset bytes) (i.parts ∙ rw b (append-nil i.text))
         ∙ sym (append-nil (i.text ++ row_text offset bytes)));
-    outlines = rw (p.begun, b) (i.outlines ∙ rw b refl);
     numbered = rw (p.begun, b) (i.numbered ∙ rw b refl);
     rowed = i.rowed ∙ (ap (λ (x : List ℕ). i.rows ++ x) e ∙ sym (append_assoc i.rows bytes left));
     took = Appends-trans o.taken old.taken new.taken i.written p.puts.moved i.took p.puts.writes;
@@ -434,12 +364,13 @@ module _ (o : Origin) (old new : Writing) (i : IsGoing o old) where
   rest_of_line : (b : Bool) → old.is_begun ≡ b → IsOutlined ((i.written ++ old.waiting) ++
       (if b then codes "\n" else [])) o.outline o.numbers
       i.rows
-  rest_of_line true b = subst₃ (λ (x y : List ℕ) (z : List Number). IsOutlined x y z i.rows)
-      (sym (ap (λ (x : List ℕ). x ++ codes "\n") (i.parts ∙ rw b refl) ∙ fed)) (sym (i.outlines ∙ rw b refl))
-      (sym (i.numbered ∙ rw b refl)) (line_more i.text i.outline i.lined i.rows i.opening i.line i.one_line i.outlined)
-  rest_of_line false b = subst₃ (λ (x y : List ℕ) (z : List Number). IsOutlined x y z i.rows)
+  rest_of_line true b = subst₂ (λ (x : List ℕ) (y : List Number). IsOutlined x o.outline y i.rows)
+      (sym (ap (λ (x : List ℕ). x ++ codes "\n") (i.parts ∙ rw b refl)
+      ∙ append_assoc i.text (codes "  " ++ flat_map part_text i.line) (codes "\n")))
+      (sym (i.numbered ∙ rw b refl)) (under_more i.text o.outline i.lined i.rows i.line i.one_line i.outlined)
+  rest_of_line false b = subst₂ (λ (x : List ℕ) (y : List Number). IsOutlined x o.outline y i.rows)
       (sym (append-nil (i.written ++ old.waiting) ∙ (i.parts ∙ rw b (append-nil i.text))))
-      (sym (i.outlines ∙ rw b (append-nil i.outline))) (sym (i.numbered ∙ rw b (append-nil i.lined))) i.outlined
+      (sym (i.numbered ∙ rw b (append-nil i.lined))) i.outlined
 
   completed : (b : Bool) → old.is_begun ≡ b → IsOutlined ((i.written ++ old.waiting) ++ after_cut b) o.outline o.numbers o.bytes
   completed b e = subst₂ (λ (x bytes : List ℕ). IsOutlined x o.outline o.numbers bytes)
@@ -571,21 +502,11 @@ module _ (o : Origin) (old new : Writing) (lines : old.style ≡ Lines) where
       → Puts line old new → IsWritten o old → IsWritten (with_numbers (with_line o outline) numbers) new
   puts_first line outline numbers e b p i =
       let s : o.style ≡ Lines = sym i.0 ∙ lines in
+      let more = first_more line outline numbers e in
       changes o old new new.is_begun new.spot new.unshown (with_numbers (with_line o outline) numbers) line refl p i
       (λ g h. from_lines o (with_numbers (with_line o outline) numbers) new refl s
-      (first_grows o old new (in_lines o old s g) line outline numbers e b h))
-      (λ why w c. first_short o w why line outline numbers e s c)
-
-  pub begins_first : (text outline : List ℕ) (numbers : List Number) → IsFirst (text ++ codes "\n") outline numbers
-      → old.is_begun ≡ false → Puts text old new → IsWritten o old
-      → IsWritten (with_numbers (with_line o outline) numbers) (record new { is_begun = true })
-  begins_first text outline numbers e b p i =
-      let s : o.style ≡ Lines = sym i.0 ∙ lines in
-      let to = with_numbers (with_line o outline) numbers in
-      changes o old new true new.spot new.unshown to text refl p i
-      (λ g h. from_lines o to (record new { is_begun = true }) refl s
-      (first_begins o old new (in_lines o old s g) text outline numbers e b h))
-      (λ why w c. first_short o w why (text ++ codes "\n") outline numbers e s c)
+      (first_grows o old new (in_lines o old s g) line outline numbers more b h))
+      (λ why w c. first_short o w why line outline numbers more s c)
 
   -- a line is then begun or ended
   pub begins : old.is_begun ≡ false → Puts (codes "  ") old new → IsWritten o old → IsWritten o (record new { is_begun = true })
@@ -609,21 +530,86 @@ module _ (o : Origin) (old new : Writing) (lines : old.style ≡ Lines) where
       (λ g h. from_lines o o (record new { unshown = left }) refl e (row_grows o old new (in_lines o old e g) offset bytes left b h u))
       (λ why w c. c)
 
+-- ---- a line of the first level that was put as several texts
+
+module _ (o : Origin) (old new : Writing) (line outline : List ℕ) (numbers : List Number) (more : Outlines line outline numbers) where
+  abbrev with_this : Origin
+  with_this = with_numbers (with_line o outline) numbers
+
+  -- the line was begun, and was ended
+  abbrev in_line : Writing
+  in_line = record old { is_begun = true }
+
+  abbrev after_line : Writing
+  after_line = record new { is_begun = false }
+
+  -- of which a beginning could be written
+  stops_in : (why : ListError) → o.style ≡ Lines → old.is_begun ≡ false → IsGoing o old → StopsIn line why in_line new
+      → IsCutShort with_this why after_line
+  stops_in why e b i p =
+      let w = beginning old.taken new.taken (old.waiting ++ line) why p.cut in
+      let rest = row_text 0 old.unshown in
+      let all : i.written ++ (old.waiting ++ line) ≡ i.text ++ line = sym (append_assoc i.written old.waiting line)
+      ∙ ap (λ (x : List ℕ). x ++ line) (i.parts ∙ rw b (append-nil i.text)) in
+      let whole : (i.written ++ w.moved) ++ (w.unwritten ++ rest) ≡ (i.text ++ line) ++ rest =
+      cut_at i.written (old.waiting ++ line) w.moved w.unwritten rest w.parts ∙ ap (λ (x : List ℕ). x ++ rest) all in
+      let numbered : i.lined ≡ o.numbers = sym (i.numbered ∙ rw b (append-nil i.lined)) in
+      record {
+        written = i.written ++ w.moved;
+        unwritten = w.unwritten ++ rest;
+        shaped = shaped_lines o.style ((i.written ++ w.moved) ++ (w.unwritten ++ rest)) (o.outline ++ outline) (o.numbers ++ numbers)
+            o.bytes e
+            (subst₃ (λ (x : List ℕ) (y : List Number) (z : List ℕ). IsOutlined x (o.outline ++ outline) (y ++ numbers) z) (sym whole)
+            numbered (sym i.rowed)
+            (row_more (i.text ++ line) (o.outline ++ outline) (i.lined ++ numbers) i.rows 0 old.unshown
+            (more i.text o.outline i.lined i.rows i.outlined)));
+        took = Appends-trans o.taken old.taken new.taken i.written w.moved i.took w.wrote;
+        failed = p.failed ∙ ap (λ (b : Bool). output_failed {A = Unit {0}} (Err why) b) i.failed;
+        no_input = no_input old.taken new.taken (old.waiting ++ line) why p.cut;
+      }
+
+  -- all of it was put
+  line_pushed : old.is_begun ≡ false → IsPushed line in_line new → IsPushed line old after_line
+  line_pushed b p = record {
+    puts = p.puts;
+    begun = sym b;
+    failed = p.failed;
+    why = p.why;
+    style = p.style;
+    spot = p.spot;
+    unshown = p.unshown;
+  }
+
+  by_text : (before after : Option ListError) → old.why ≡ before → new.why ≡ after → o.style ≡ Lines → old.is_begun ≡ false
+      → PutsText before after line in_line new → IsWritten o old → IsWrittenAs new.why with_this after_line
+  by_text (Some why) after e a s b p i =
+      subst (λ (w : Writing). IsWrittenAs w.why with_this (record w { is_begun = false })) (sym p)
+      (subst (λ (y : Option ListError). IsWrittenAs y with_this (record old { is_begun = false })) (sym e)
+      (short_still with_this old why false old.spot old.unshown (first_short o old why line outline numbers more s (as_short o old why e i))))
+  by_text None None e a s b p i = subst (λ (y : Option ListError). IsWrittenAs y with_this after_line) (sym a)
+      (from_lines o with_this after_line refl s
+      (first_grows o old after_line (in_lines o old s (as_going o old e i)) line outline numbers more b (line_pushed b p)))
+  by_text None (Some why) e a s b p i = subst (λ (y : Option ListError). IsWrittenAs y with_this after_line) (sym a)
+      (stops_in why s b (in_lines o old s (as_going o old e i)) p)
+
+  pub puts_line : old.style ≡ Lines → old.is_begun ≡ false → new.style ≡ Lines → PutsText old.why new.why line in_line new → IsWritten o old
+      → IsWritten with_this after_line
+  puts_line lines b after p i =
+      let s : o.style ≡ Lines = sym i.0 ∙ lines in
+      (after ∙ sym s, by_text old.why new.why refl refl s b p i)
+
 -- bytes are to be shown, where all that were to be were
 bytes_to_show : (o : Origin) (w : Writing) (bytes : List ℕ) → w.unshown ≡ [] → IsGoing o w
     → IsGoing (with_bytes o bytes) (record w { unshown = bytes })
 bytes_to_show o w bytes e i = record {
   written = i.written;
   text = i.text;
-  outline = i.outline;
   lined = i.lined;
   rows = i.rows;
-  opening = i.opening;
   line = i.line;
   outlined = i.outlined;
   one_line = i.one_line;
   parts = i.parts;
-  outlines = i.outlines;
   numbered = i.numbered;
   rowed = ap (λ (x : List ℕ). x ++ bytes) (i.rowed ∙ (ap (λ (x : List ℕ). i.rows ++ x) e ∙ append-nil i.rows));
   took = i.took;

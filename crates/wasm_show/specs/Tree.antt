@@ -11,7 +11,7 @@ use Rattle.wasm_feed.specs.Lists.{output_failed}
 use Rattle.wasm_feed.specs.Page.{IsCut, PutsBytes}
 use Rattle.wasm_feed.specs.declared.devices.ListError.{ListError}
 use Rattle.wasm_show.specs.Chosen.{blank_numbers}
-use Rattle.wasm_show.specs.Fields.{hexadecimal}
+use Rattle.wasm_show.specs.Fields.{hexadecimal, quoted, value_text}
 use Rattle.wasm_show.specs.Numbers.{Number, number_text, numbers_from, numbers_read, AreShown, AreFrom, AreUpTo}
 use Rattle.wasm_show.specs.declared.numbers.Space.{Space}
 use Rattle.wasm_feed.specs.declared.devices.ListError.TheVariants.{Input}
@@ -26,11 +26,11 @@ pub data Part : Type 0 where
   words : List ℕ → Part
   number : Number → Part
 
--- a line of the first level, by its text and the parts that come after it; one that is under another, by its parts,
--- without its first two blanks; both without their line feed; or a row of bytes of the stream, after the offset of the
--- first one
+-- a line of the first level, without its line feed, by its text, the numbers of items that come after it, and the name
+-- of an item, if it ends with one; one that is under another, by its parts, without its first two blanks and its line
+-- feed; or a row of bytes of the stream, after the offset of the first one
 pub data Line : Type 0 where
-  first : List ℕ → List Part → Line
+  first : List ℕ → List Number → (name : Option (List ℕ)) → Line
   under : List Part → Line
   row : (offset : ℕ) → (bytes : List ℕ) → Line
 
@@ -42,9 +42,9 @@ abbrev pub is_part : Part → Bool
 is_part (words text) = if has_line_feed text then false else true
 is_part (number n) = true
 
--- whether what is said to be a line is one
+-- whether what is said to be under another is one line
 abbrev pub is_line : Line → Bool
-is_line (first text parts) = list_all is_part parts
+is_line (first text numbers name) = true
 is_line (under parts) = list_all is_part parts
 is_line (row offset bytes) = true
 
@@ -55,18 +55,23 @@ part_text (number n) = number_text n []
 abbrev pub after_blank : ℕ → List ℕ
 after_blank byte = codes " " ++ hexadecimal byte
 
+-- the name of an item, in quotes after a blank, if there is one
+abbrev pub name_text : Option (List ℕ) → List ℕ
+name_text (Some name) = codes " " ++ value_text (quoted name)
+name_text None = []
+
 -- the text of a row
 abbrev pub row_text : (offset : ℕ) (bytes : List ℕ) → List ℕ
 row_text offset bytes = (decimal offset ++ codes " |") ++ (flat_map after_blank bytes ++ codes "\n")
 
 abbrev pub text_of : Line → List ℕ
-text_of (first text parts) = text ++ (flat_map part_text parts ++ codes "\n")
+text_of (first text numbers name) = text ++ blank_numbers numbers (name_text name ++ codes "\n")
 text_of (under parts) = codes "  " ++ (flat_map part_text parts ++ codes "\n")
 text_of (row offset bytes) = row_text offset bytes
 
--- what it adds to the outline: its text, without the parts
+-- what it adds to the outline
 abbrev pub first_of : Line → List ℕ
-first_of (first text parts) = text ++ codes "\n"
+first_of (first text numbers name) = text ++ codes "\n"
 first_of (under parts) = []
 first_of (row offset bytes) = []
 
@@ -76,13 +81,13 @@ part_numbers (words text) = []
 part_numbers (number n) = n ∷ []
 
 abbrev pub numbers_of : Line → List Number
-numbers_of (first text parts) = flat_map part_numbers parts
+numbers_of (first text numbers name) = numbers
 numbers_of (under parts) = flat_map part_numbers parts
 numbers_of (row offset bytes) = []
 
 -- the bytes of the stream that it shows
 abbrev pub bytes_of : Line → List ℕ
-bytes_of (first text parts) = []
+bytes_of (first text numbers name) = []
 bytes_of (under parts) = []
 bytes_of (row offset bytes) = bytes
 
@@ -92,9 +97,8 @@ pub record IsFirst (text outline : List ℕ) (numbers : List Number) : Type 0 wh
   pub parts : text ≡ front ++ blank_numbers numbers (codes "\n")
   pub outlines : outline ≡ front ++ codes "\n"
 
--- The text is made of lines, and its outline is those of the first level, without their parts: the others begin with
--- two blanks, but for rows of bytes. The numbers are those that its lines show, in order, and the bytes those of its
--- rows.
+-- The text is made of lines, and its outline is those of the first level, without numbers and names: the others begin
+-- with two blanks, but for rows of bytes. The numbers are those that its lines show, in order, and the bytes those of its rows.
 pub record IsOutlined (text outline : List ℕ) (numbers : List Number) (bytes : List ℕ) : Type 0 where
   pub lines : List Line
   pub whole : list_all is_line lines ≡ true
@@ -153,43 +157,26 @@ pub record Origin : Type 0 where
   pub numbers : List Number
   pub bytes : List ℕ
 
--- a line that has this text, if it is of the first level, and otherwise is under another
-abbrev pub line_with : Option (List ℕ) → List Part → Line
-line_with (Some text) parts = first text parts
-line_with None parts = under parts
-
--- what stands before its parts
-abbrev pub start_of : Option (List ℕ) → List ℕ
-start_of (Some text) = text
-start_of None = codes "  "
-
--- a line that was begun, up to now; what it adds to the outline, and its numbers
-abbrev pub begun : Bool → Option (List ℕ) → List Part → List ℕ
-begun true opening parts = start_of opening ++ flat_map part_text parts
-begun false opening parts = []
-
-abbrev pub begun_outline : Bool → Option (List ℕ) → List Part → List ℕ
-begun_outline true opening parts = first_of (line_with opening parts)
-begun_outline false opening parts = []
+-- a line under another that was begun, and its numbers
+abbrev pub begun : Bool → List Part → List ℕ
+begun true parts = codes "  " ++ flat_map part_text parts
+begun false parts = []
 
 abbrev pub begun_numbers : Bool → List Part → List Number
 begun_numbers true parts = flat_map part_numbers parts
 begun_numbers false parts = []
 
--- All that was written or waits is whole lines, and perhaps a line that was begun, of the first level or under another.
--- With that line they have this outline, and show these numbers, and these bytes but those that weren't shown yet.
+-- All that was written or waits is whole lines with this outline, and perhaps a line that was begun, and shows these
+-- numbers, and these bytes but those that weren't shown yet.
 pub record IsGoing (o : Origin) (w : Writing) : Type 0 where
   pub written : List ℕ
   pub text : List ℕ
-  pub outline : List ℕ
   pub lined : List Number
   pub rows : List ℕ
-  pub opening : Option (List ℕ)
   pub line : List Part
-  pub outlined : IsOutlined text outline lined rows
+  pub outlined : IsOutlined text o.outline lined rows
   pub one_line : list_all is_part line ≡ true
-  pub parts : written ++ w.waiting ≡ text ++ begun w.is_begun opening line
-  pub outlines : o.outline ≡ outline ++ begun_outline w.is_begun opening line
+  pub parts : written ++ w.waiting ≡ text ++ begun w.is_begun line
   pub numbered : o.numbers ≡ lined ++ begun_numbers w.is_begun line
   pub rowed : o.bytes ≡ rows ++ w.unshown
   pub took : Appends o.taken w.taken written

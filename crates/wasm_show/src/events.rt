@@ -44,13 +44,14 @@ fn version_event<W: Sink>(num: u16, encoding: Encoding, range: &Range<u64>, out:
     out.word_field("encoding", encoding_word(encoding));
 }
 
-// That of a body.
-fn body_event<W: Sink>(body: &FunctionBody<'_>, out: &mut Tree<W>)
+// That of a body, with the number of its function.
+fn body_event<W: Sink>(counts: &Counts, body: &FunctionBody<'_>, out: &mut Tree<W>)
     ensures { Adds out.old out.new }
 {
     let range = body.range();
     begin_event("body", out);
     out.range("range", range.start, range.end);
+    out.event_number(Space::Functions, counts.bodies);
 }
 
 // The name of the sections with this id, where the section is one of them.
@@ -96,8 +97,8 @@ fn section_event<W: Sink>(payload: &Payload<'_>, out: &mut Tree<W>)
     section_fields(payload, out);
 }
 
-// The object of an event, without the number of an item.
-fn event_object<W: Sink>(payload: &Payload<'_>, out: &mut Tree<W>)
+// The object of an event.
+fn event_object<W: Sink>(counts: &Counts, payload: &Payload<'_>, out: &mut Tree<W>)
     ensures { Adds out.old out.new }
 {
     match payload {
@@ -106,7 +107,7 @@ fn event_object<W: Sink>(payload: &Payload<'_>, out: &mut Tree<W>)
             encoding,
             range,
         } => version_event(*num, *encoding, range, out),
-        Payload::CodeSectionEntry(body) => body_event(body, out),
+        Payload::CodeSectionEntry(body) => body_event(counts, body, out),
         Payload::End(offset) => {
             begin_event("end", out);
             out.number("offset", *offset);
@@ -123,20 +124,15 @@ fn fault_object<W: Sink>(error: &Error, out: &mut Tree<W>)
     out.fault_fields(error);
 }
 
-// Begins the line of an event, or its object.
-fn begin_shown<W: Sink>(counts: &Counts, line: &mut Line, payload: &Payload<'_>, out: &mut Tree<W>)
-    ensures { AddsFirst (numbered_line counts.now (report_of payload.now)) out.old out.new }
-{
-    if out.writes_objects() {
-        event_object(payload, out);
-    } else {
-        shown_text(line, counts, payload);
-        out.begin_first(line.as_bytes());
+// The number of the function whose body an event is.
+fn function_of(counts: &Counts, payload: &Payload<'_>) -> Option<u64> {
+    match payload {
+        Payload::CodeSectionEntry(_) => Some(counts.bodies),
+        _ => None,
     }
 }
 
-/// Writes the line of an event, with the number of the function and its name where it is a body; or its object. The next call
-/// that begins a line ends it.
+/// Writes the line of an event, with the number of the function and its name where it is a body; or its object.
 pub(crate) fn show_event<W: Sink>(
     counts: &Counts,
     line: &mut Line,
@@ -145,9 +141,11 @@ pub(crate) fn show_event<W: Sink>(
 )
     ensures { AddsFirst (numbered_line counts.now (report_of payload.now)) out.old out.new }
 {
-    begin_shown(counts, line, payload, out);
-    if let Payload::CodeSectionEntry(_) = payload {
-        out.event_number(Space::Functions, counts.bodies);
+    if out.writes_objects() {
+        event_object(counts, payload, out);
+    } else {
+        shown_text(line, counts, payload);
+        out.first_of_function(line.as_bytes(), function_of(counts, payload));
     }
 }
 

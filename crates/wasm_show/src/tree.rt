@@ -1,12 +1,12 @@
 // Lines of text, some of them under others.
-ghost use Rattle.std.specs.Prelude.{◌≡◌, ◌≤◌, ◌++◌, [], None, true, false, codes, length, take, decimal};
+ghost use Rattle.std.specs.Prelude.{◌≡◌, ◌≤◌, ◌++◌, [], None, true, false, codes, length, option_map, take, decimal};
 ghost use Rattle.std.specs.Option.{is_some};
 ghost use Rattle.std.specs.List.{flat_map, list_any};
 ghost use Rattle.wasm_show.specs.Fields.{alone, field_start, field_text, named, number as number_value, word as word_value, quoted, raw};
 ghost use Rattle.wasm_show.specs.Fields.{range, flag as flag_value, number_if_any as optional, hexadecimal, quoted_byte};
 ghost use Rattle.wasm_show.specs.Fields.{is_escaped as byte_is_escaped};
 ghost use Rattle.wasm_show.specs.Said.{Says, SaysSome};
-ghost use Rattle.wasm_show.specs.Tree.{Adds, AddsFirst, AddsNumber, IsOut, Puts, has_line_feed, is_objects, starts, starts_in};
+ghost use Rattle.wasm_show.specs.Tree.{Adds, AddsFirst, AddsNumber, IsOut, Puts, has_line_feed, is_objects, name_text, starts, starts_in};
 ghost use Rattle.wasm_show.specs.declared.tree.Spot.TheVariants.{Outside};
 ghost use Rattle.wasm_show.specs.declared.tree.Style.TheVariants.{Lines, Objects};
 
@@ -78,6 +78,11 @@ fn name_in(names: &Option<ItemNames>, space: Space, index: u64) -> Option<&str> 
     }
 }
 
+// The name of a function, if there is a number, and it has a name.
+fn function_name(names: &Option<ItemNames>, function: Option<u64>) -> Option<&str> {
+    name_in(names, Space::Functions, function?)
+}
+
 /// How a tree writes.
 #[derive(Clone, Copy)]
 pub enum Style {
@@ -106,8 +111,7 @@ pub(crate) enum Spot {
 /// many, so that the sink is called seldom.
 ///
 /// A line under another is begun by `item` or `line`, put together from the parts that the other calls write, and ended by `end`
-/// or by the next one; so is one of the first level that isn't put at once. Where the sink fails, or memory is refused, the tree
-/// stops and writes nothing more: `stopped` says why.
+/// or by the next one. Where the sink fails, or memory is refused, the tree stops and writes nothing more: `stopped` says why.
 ///
 /// An object has a member for each field; texts outside of fields are left out.
 pub struct Tree<W: Sink> {
@@ -287,17 +291,49 @@ impl<W: Sink> Tree<W> {
         self.end_object();
     }
 
-    /// Begins a line of the first level with this text, which is what comes before its line feed, and has at most 65,536 bytes. It
-    /// may end with numbers of items.
-    pub(crate) fn begin_first(&mut self, text: &[u8])
+    /// Writes a line of the first level: this text, which has at most 65,536 bytes, and after it the name of the function with
+    /// this number, if there is a number and the tree has a name. The text may end with numbers of items.
+    pub(crate) fn first_of_function(&mut self, text: &[u8], function: Option<u64>)
         requires lines { self.old.style ≡ Lines }
         requires short { length text.now ≤ 65536 }
-        ensures adds { AddsFirst (text.now ++ codes "\n") self.old self.new }
-        ensures begun { self.new.is_begun ≡ true }
+        ensures { AddsFirst (text.now ++ codes "\n") self.old self.new }
+    {
+        let names = self.names.take();
+        self.first_with_name(text, function_name(&names, function));
+        self.names = names;
+    }
+
+    // Writes a line of the first level, with a name after its text, if there is one.
+    fn first_with_name(&mut self, text: &[u8], name: Option<&str>)
+        requires lines { self.old.style ≡ Lines }
+        requires short { length text.now ≤ 65536 }
+        ensures { AddsFirst (text.now ++ codes "\n") self.old self.new }
     {
         self.rows_to_cut();
-        self.push(text);
         self.is_begun = true;
+        self.rest_of_first(text, name);
+        self.is_begun = false;
+    }
+
+    // Puts a text, a name, if there is one, and the line feed.
+    fn rest_of_first(&mut self, text: &[u8], name: Option<&str>)
+        requires { length text.now ≤ 65536 }
+        ensures { Says (text.now ++ (name_text (option_map (λ n. n.now) name.entry) ++ codes "\n"))
+            self.old self.new }
+    {
+        self.push(text);
+        self.name_in_quotes(name);
+        self.push(b"\n");
+    }
+
+    // Puts a name in quotes after a blank, if there is one.
+    fn name_in_quotes(&mut self, name: Option<&str>)
+        ensures { Says (name_text (option_map (λ n. n.now) name.entry)) self.old self.new }
+    {
+        if let Some(name) = name {
+            self.text(" ");
+            self.in_quotes(name);
+        }
     }
 
     /// Begins a line under another: that of an item whose bytes begin at this offset in the whole stream. At level 1 it is
@@ -455,16 +491,18 @@ impl<W: Sink> Tree<W> {
         self.name_after(space, index);
     }
 
-    /// Writes the number of the item that an event is of, and its name, if the tree has it. The line of an event has the number
-    /// already.
+    /// Writes the number of an item and its name, if the tree has it, in the object of an event. A line of the first level has
+    /// its numbers already.
     pub(crate) fn event_number(&mut self, space: Space, index: u64)
         ensures { Adds self.old self.new }
     {
         match self.style {
             Style::Lines => {}
-            Style::Objects => self.number_in_object(space, index),
+            Style::Objects => {
+                self.number_in_object(space, index);
+                self.name_after(space, index);
+            }
         }
-        self.name_after(space, index);
     }
 
     // Writes the number of an item, without its name.

@@ -1,6 +1,18 @@
-use Rattle.wasm_show.specs.Tree.{with_line, with_numbers}
+use Rattle.std.proofs.Common.{List, ℕ, ◌++◌, ap, codes, sym, subst, ◌∙◌}
+use Rattle.wasm_parser.specs.ParseAnswer.{report_of}
+use Rattle.wasm_show.specs.Chosen.{numbered_line}
+use Rattle.wasm_show.specs.Tree.{AddsFirst}
+use Rattle.wasm_show.proofs.Lines.{text_fed}
+use Rattle.wasm_show.proofs.Writing.{are_objects, first_in_objects}
 use Rattle.wasm_show.proofs.events.show_event.Goals as goal
 
-pub returns-in-CodeSectionEntry : goal.returns-in-CodeSectionEntry
-returns-in-CodeSectionEntry g c outline numbers e o i =
-    c.event_number.ensures (with_numbers (with_line o outline) numbers) (c.begin_shown.ensures outline numbers e o i)
+pub returns-then-writes_objects : goal.returns-then-writes_objects
+returns-then-writes_objects g c =
+    first_in_objects _ _ (are_objects _ (sym c.writes_objects.ensures ∙ c.if-writes_objects.true)) c.event_object.ensures
+    (numbered_line c.args.counts.now (report_of c.args.payload.now))
+
+pub returns-else-writes_objects : goal.returns-else-writes_objects
+returns-else-writes_objects g c =
+    let text = c.as_bytes.ensures.bytes ∙ c.shown_text.ensures in
+    subst (λ (x : List ℕ). AddsFirst x c.args.out.now c.first_of_function.new.self)
+    (ap (λ (x : List ℕ). x ++ codes "\n") text ∙ text_fed c.args.counts.now (report_of c.args.payload.now)) c.first_of_function.ensures
