@@ -585,7 +585,8 @@ module _ (o : Origin) (old new : Writing) (line outline : List ℕ) (numbers : L
   by_text (Some why) after e a s b p i =
       subst (λ (w : Writing). IsWrittenAs w.why with_this (record w { is_begun = false })) (sym p)
       (subst (λ (y : Option ListError). IsWrittenAs y with_this (record old { is_begun = false })) (sym e)
-      (short_still with_this old why false old.spot old.unshown (first_short o old why line outline numbers more s (as_short o old why e i))))
+      (short_still with_this old why false old.spot old.unshown
+      (first_short o old why line outline numbers more s (as_short o old why e i))))
   by_text None None e a s b p i = subst (λ (y : Option ListError). IsWrittenAs y with_this after_line) (sym a)
       (from_lines o with_this after_line refl s
       (first_grows o old after_line (in_lines o old s (as_going o old e i)) line outline numbers more b (line_pushed b p)))

@@ -98,7 +98,8 @@ pub record IsFirst (text outline : List ℕ) (numbers : List Number) : Type 0 wh
   pub outlines : outline ≡ front ++ codes "\n"
 
 -- The text is made of lines, and its outline is those of the first level, without numbers and names: the others begin
--- with two blanks, but for rows of bytes. The numbers are those that its lines show, in order, and the bytes those of its rows.
+-- with two blanks, but for rows of bytes. The numbers are those that its lines show, in order, and the bytes those of
+-- its rows.
 pub record IsOutlined (text outline : List ℕ) (numbers : List Number) (bytes : List ℕ) : Type 0 where
   pub lines : List Line
   pub whole : list_all is_line lines ≡ true
