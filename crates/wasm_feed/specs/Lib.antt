@@ -2,6 +2,7 @@ pub mod Beside
 pub mod Calls
 pub mod Cursors
 pub mod Devices
+pub mod Digits
 pub mod Ends
 pub mod Events
 pub mod Feed

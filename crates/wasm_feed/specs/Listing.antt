@@ -1,5 +1,5 @@
 -- The listing of a reading: a line for each event.
-use Rattle.std.specs.Prelude.{ℕ, ◌+◌, List, ◌++◌, length, codes, decimal, Option, Some, None}
+use Rattle.std.specs.Prelude.{ℕ, ◌+◌, List, [], ◌++◌, length, codes, decimal, Option, Some, None}
 use Rattle.std.specs.List.{flat_map}
 use Rattle.wasm_base.specs.Message.{message_of}
 use Rattle.wasm_base.specs.Window.{Window}
@@ -9,42 +9,42 @@ use Rattle.wasm_grammar.specs.Reading.{code_entry, custom_section, unknown_secti
 use Rattle.wasm_grammar.specs.declared.encoding.Encoding.{Encoding}
 use Rattle.wasm_grammar.specs.declared.encoding.Encoding.TheVariants.{Module, Component}
 
--- a blank and a number, before the rest of a line
-abbrev pub field : ℕ → List ℕ → List ℕ
-field n rest = codes " " ++ (decimal n ++ rest)
+-- a blank and a number
+abbrev pub field : ℕ → List ℕ
+field n = codes " " ++ decimal n
 
--- the offsets of a window, before the rest of a line
-abbrev pub window_fields : Window → List ℕ → List ℕ
-window_fields window rest = field window.start (field (window.start + length window.bytes) rest)
+-- the offsets of a window
+abbrev pub window_fields : Window → List ℕ
+window_fields window = field window.start ++ field (window.start + length window.bytes)
 
 abbrev pub encoding_name : Encoding → List ℕ
 encoding_name Module = codes "module"
 encoding_name Component = codes "component"
 
--- the number of a fault, where it has one, before the rest of a line
-abbrev pub fault_number : Option ℕ → List ℕ → List ℕ
-fault_number None rest = rest
-fault_number (Some n) rest = codes ": " ++ (decimal n ++ rest)
+-- the number of a fault, where it has one
+abbrev pub fault_number : Option ℕ → List ℕ
+fault_number None = []
+fault_number (Some n) = codes ": " ++ decimal n
 
--- the text of what is reported, before the rest of a line
-unfoldable pub text_before : Report → (rest : List ℕ) → List ℕ
-text_before (version num encoding from to) rest = codes "version"
-    ++ field from (field to (field num (codes " " ++ (encoding_name encoding ++ rest))))
-text_before (counted id count window) rest = codes "section" ++ field id (window_fields window (field count rest))
-text_before (start_section func from to) rest = codes "start" ++ field from (field to (field func rest))
-text_before (data_count_section count from to) rest = codes "datacount" ++ field from (field to (field count rest))
-text_before (code_start count from to size) rest = codes "code" ++ field from (field to (field count (field size rest)))
-text_before (code_entry window) rest = codes "body" ++ window_fields window rest
-text_before (custom_section name data_offset window) rest = codes "custom"
-    ++ window_fields window (field data_offset rest)
-text_before (unknown_section id contents from to) rest = codes "unknown" ++ field id (field from (field to rest))
-text_before (stream_end (fault f)) rest = codes "fault" ++ field f.offset
-    (codes " " ++ (message_of f.fault ++ fault_number f.number rest))
-text_before (stream_end (ended offset)) rest = codes "end" ++ field offset rest
+-- the text of what is reported
+unfoldable pub report_text : Report → List ℕ
+report_text (version num encoding from to) = codes "version"
+    ++ (field from ++ (field to ++ (field num ++ (codes " " ++ encoding_name encoding))))
+report_text (counted id count window) = codes "section" ++ (field id ++ (window_fields window ++ field count))
+report_text (start_section func from to) = codes "start" ++ (field from ++ (field to ++ field func))
+report_text (data_count_section count from to) = codes "datacount" ++ (field from ++ (field to ++ field count))
+report_text (code_start count from to size) = codes "code"
+    ++ (field from ++ (field to ++ (field count ++ field size)))
+report_text (code_entry window) = codes "body" ++ window_fields window
+report_text (custom_section name data_offset window) = codes "custom" ++ (window_fields window ++ field data_offset)
+report_text (unknown_section id contents from to) = codes "unknown" ++ (field id ++ (field from ++ field to))
+report_text (stream_end (fault f)) = codes "fault"
+    ++ (field f.offset ++ (codes " " ++ (message_of f.fault ++ fault_number f.number)))
+report_text (stream_end (ended offset)) = codes "end" ++ field offset
 
 -- the line of what is reported: its text, and a line feed
 abbrev pub line_of : Report → List ℕ
-line_of report = text_before report (codes "\n")
+line_of report = report_text report ++ codes "\n"
 
 -- events by such lines: the text of each, by what it reports
 abbrev pub listing_by : (Report → List ℕ) → List Event → List ℕ

@@ -9,21 +9,21 @@ mod digits;
 mod events;
 mod feeder;
 pub mod laws;
-mod line;
 mod lines;
 mod listing;
 mod page;
 mod pieces;
+mod short_text;
 mod stripping;
 
 pub use devices::{
     BoundedSink, Failed, ListError, ReadSource, Sink, SliceSource, Source, WriteSink, write_all,
 };
+pub use digits::write_number;
 pub use events::{Event, EventKind};
 pub use feeder::{Cursor, Feeder, Opened, Step};
-pub use line::Line;
-pub use lines::{fault_line, payload_line, payload_text};
 pub use listing::{Ended, Turn, list, list_in};
 pub use page::Page;
 pub use pieces::{fits_pieces, read_pieces, read_pieces_in};
+pub use short_text::{ShortText, TEXT_BYTES, write_word};
 pub use stripping::{strip, strip_in, strip_in_place, strip_to_front};

@@ -1,12 +1,11 @@
-// The lines of a listing, each put together from its end: the text of a payload goes before what a line has.
-ghost use Rattle.std.specs.Prelude.{◌≡◌, ◌≤◌, ◌++◌, codes, length};
-ghost use Rattle.wasm_base.specs.FaultAt.{fault_at};
+// The texts of a listing.
+ghost use Rattle.std.specs.Prelude.{◌≡◌, ◌≤◌, ◌+◌, ◌++◌, codes, length, take};
 ghost use Rattle.wasm_parser.specs.ParseAnswer.{report_of};
-ghost use Rattle.wasm_feed.specs.Listing.{encoding_name as name_of, field, line_of, text_before};
-ghost use Rattle.wasm_grammar.specs.Content.{fault};
-ghost use Rattle.wasm_grammar.specs.Reading.{code_start, counted, stream_end};
+ghost use Rattle.wasm_feed.specs.Listing.{encoding_name as name_of, field, fault_number, report_text};
+ghost use Rattle.wasm_grammar.specs.Reading.{code_start, counted};
 
-use crate::line::Line;
+use crate::digits::write_number;
+use crate::short_text::{ShortText, write_word};
 use std::ops::Range;
 use wasm_grammar::{
     DATA_SECTION, ELEMENT_SECTION, EXPORT_SECTION, FUNCTION_SECTION, GLOBAL_SECTION,
@@ -15,7 +14,8 @@ use wasm_grammar::{
 use wasm_parser::{Encoding, Error, Payload, SectionLimited};
 
 fn encoding_name(encoding: Encoding) -> &'static str
-    ensures { result.now ≡ name_of encoding }
+    ensures name { result.now ≡ name_of encoding }
+    ensures short { length result.now ≤ 9 }
 {
     match encoding {
         Encoding::Module => "module",
@@ -23,157 +23,206 @@ fn encoding_name(encoding: Encoding) -> &'static str
     }
 }
 
-// The text of a section with this id.
-#[tactic(auto, unfolding(crate::specs::Listing::text_before))]
-fn counted_text<T>(line: &mut Line, id: u8, section: &SectionLimited<'_, T>)
-    requires { length line.old ≤ 30 }
-    ensures { line.new ≡ text_before
-        (counted id section.now.count section.now.reader) line.old }
+// Writes a blank and a number.
+#[inline(always)]
+fn write_field(bytes: &mut [u8], at: usize, number: u64) -> usize
+    requires { at + 21 ≤ length bytes.old }
+    ensures short { result ≤ at + 21 }
+    ensures written { take result bytes.new ≡ take at bytes.old ++ field number }
+{
+    let after = write_word(bytes, at, " ");
+    write_number(bytes, after, number)
+}
+
+// Writes what has this word, a range and a number.
+#[inline(always)]
+fn write_range(bytes: &mut [u8], at: usize, word: &str, range: &Range<u64>, number: u64) -> usize
+    requires word { length word.now ≤ 9 }
+    requires room { at + 72 ≤ length bytes.old }
+    ensures short { result ≤ at + 72 }
+    ensures written { take result bytes.new ≡ take at bytes.old ++ (word.now
+        ++ (field range.now.start ++ (field range.now.end ++ field number))) }
+{
+    let at = write_word(bytes, at, word);
+    let at = write_field(bytes, at, range.start);
+    let at = write_field(bytes, at, range.end);
+    write_field(bytes, at, number)
+}
+
+// Writes a section with this id.
+#[tactic(auto, unfolding(crate::specs::Listing::report_text))]
+fn write_counted<T>(bytes: &mut [u8], at: usize, id: u8, section: &SectionLimited<'_, T>) -> usize
+    requires { at + 159 ≤ length bytes.old }
+    ensures short { result ≤ at + 159 }
+    ensures written { take result bytes.new ≡ take at bytes.old
+        ++ report_text (counted id section.now.count section.now.reader) }
 {
     let range = section.range();
-    line.field(u64::from(section.count()));
-    line.field(range.end);
-    line.field(range.start);
-    line.field(u64::from(id));
-    line.word("section");
+    let at = write_word(bytes, at, "section");
+    let at = write_field(bytes, at, u64::from(id));
+    let at = write_field(bytes, at, range.start);
+    let at = write_field(bytes, at, range.end);
+    write_field(bytes, at, u64::from(section.count()))
 }
 
-// The text of what has this word, a range and a number. Inlined, so that the word's length is known.
+// Writes the start of a code section.
+#[tactic(auto, unfolding(crate::specs::Listing::report_text))]
+fn write_code(bytes: &mut [u8], at: usize, range: &Range<u64>, count: u32, size: u32) -> usize
+    requires { at + 159 ≤ length bytes.old }
+    ensures short { result ≤ at + 159 }
+    ensures written { take result bytes.new ≡ take at bytes.old
+        ++ report_text (code_start count range.now.start range.now.end size) }
+{
+    let at = write_word(bytes, at, "code");
+    let at = write_field(bytes, at, range.start);
+    let at = write_field(bytes, at, range.end);
+    let at = write_field(bytes, at, u64::from(count));
+    write_field(bytes, at, u64::from(size))
+}
+
+// Writes a header.
+fn write_version(
+    bytes: &mut [u8],
+    at: usize,
+    version: u16,
+    encoding: Encoding,
+    range: &Range<u64>,
+) -> usize
+    requires { at + 159 ≤ length bytes.old }
+    ensures short { result ≤ at + 159 }
+    ensures written { take result bytes.new ≡ take at bytes.old ++ (codes "version"
+        ++ (field range.now.start ++ (field range.now.end
+        ++ (field version ++ (codes " " ++ name_of encoding))))) }
+{
+    let at = write_range(bytes, at, "version", range, u64::from(version));
+    let at = write_word(bytes, at, " ");
+    write_word(bytes, at, encoding_name(encoding))
+}
+
+// Writes a body.
+fn write_body(bytes: &mut [u8], at: usize, range: &Range<u64>) -> usize
+    requires { at + 159 ≤ length bytes.old }
+    ensures short { result ≤ at + 159 }
+    ensures written { take result bytes.new ≡ take at bytes.old
+        ++ (codes "body" ++ (field range.now.start ++ field range.now.end)) }
+{
+    let at = write_word(bytes, at, "body");
+    let at = write_field(bytes, at, range.start);
+    write_field(bytes, at, range.end)
+}
+
+// Writes an unknown section.
+fn write_unknown(bytes: &mut [u8], at: usize, id: u8, range: &Range<u64>) -> usize
+    requires { at + 159 ≤ length bytes.old }
+    ensures short { result ≤ at + 159 }
+    ensures written { take result bytes.new ≡ take at bytes.old ++ (codes "unknown"
+        ++ (field id ++ (field range.now.start ++ field range.now.end))) }
+{
+    let at = write_word(bytes, at, "unknown");
+    let at = write_field(bytes, at, u64::from(id));
+    let at = write_field(bytes, at, range.start);
+    write_field(bytes, at, range.end)
+}
+
+// Writes the end.
+fn write_end(bytes: &mut [u8], at: usize, offset: u64) -> usize
+    requires { at + 159 ≤ length bytes.old }
+    ensures short { result ≤ at + 159 }
+    ensures written { take result bytes.new ≡ take at bytes.old
+        ++ (codes "end" ++ field offset) }
+{
+    let at = write_word(bytes, at, "end");
+    write_field(bytes, at, offset)
+}
+
+// Writes a payload.
 #[inline(always)]
-fn number_text(line: &mut Line, word: &str, range: &Range<u64>, number: u64)
-    requires word { length word.now ≤ 9 }
-    requires short { length line.old ≤ 30 }
-    ensures { line.new ≡ word.now
-        ++ field range.now.start (field range.now.end (field number line.old)) }
-{
-    line.field(number);
-    line.field(range.end);
-    line.field(range.start);
-    line.word(word);
-}
-
-// The text of the start of a code section.
-#[tactic(auto, unfolding(crate::specs::Listing::text_before))]
-fn code_text(line: &mut Line, range: &Range<u64>, count: u32, size: u32)
-    requires { length line.old ≤ 30 }
-    ensures { line.new ≡ text_before
-        (code_start count range.now.start range.now.end size) line.old }
-{
-    line.field(u64::from(size));
-    line.field(u64::from(count));
-    line.field(range.end);
-    line.field(range.start);
-    line.word("code");
-}
-
-// The text of a header.
-fn version_text(line: &mut Line, version: u16, encoding: Encoding, range: &Range<u64>)
-    requires { length line.old ≤ 30 }
-    ensures { line.new ≡ codes "version" ++ field range.now.start (field range.now.end
-        (field version (codes " " ++ (name_of encoding ++ line.old)))) }
-{
-    line.word(encoding_name(encoding));
-    line.word(" ");
-    line.field(u64::from(version));
-    line.field(range.end);
-    line.field(range.start);
-    line.word("version");
-}
-
-// The text of a body.
-fn body_text(line: &mut Line, range: &Range<u64>)
-    requires { length line.old ≤ 30 }
-    ensures { line.new ≡ codes "body"
-        ++ field range.now.start (field range.now.end line.old) }
-{
-    line.field(range.end);
-    line.field(range.start);
-    line.word("body");
-}
-
-// The text of an unknown section.
-fn unknown_text(line: &mut Line, id: u8, range: &Range<u64>)
-    requires { length line.old ≤ 30 }
-    ensures { line.new ≡ codes "unknown"
-        ++ field id (field range.now.start (field range.now.end line.old)) }
-{
-    line.field(range.end);
-    line.field(range.start);
-    line.field(u64::from(id));
-    line.word("unknown");
-}
-
-// The text of the end.
-fn end_text(line: &mut Line, offset: u64)
-    requires { length line.old ≤ 30 }
-    ensures { line.new ≡ codes "end" ++ field offset line.old }
-{
-    line.field(offset);
-    line.word("end");
-}
-
-/// The line of a payload.
-pub fn payload_line(line: &mut Line, payload: &Payload)
-    ensures { line.new ≡ line_of (report_of payload.now) }
-{
-    line.feed();
-    payload_text(line, payload);
-}
-
-/// Puts the text of a payload before what the line has, which is at most 30 bytes.
-#[tactic(auto, unfolding(crate::specs::Listing::text_before))]
-pub fn payload_text(line: &mut Line, payload: &Payload)
-    requires { length line.old ≤ 30 }
-    ensures { line.new ≡ text_before (report_of payload.now) line.old }
+#[tactic(auto, unfolding(crate::specs::Listing::report_text))]
+fn write_payload(bytes: &mut [u8], at: usize, payload: &Payload) -> usize
+    requires { at + 159 ≤ length bytes.old }
+    ensures short { result ≤ at + 159 }
+    ensures written { take result bytes.new ≡ take at bytes.old
+        ++ report_text (report_of payload.now) }
 {
     match payload {
         Payload::Version {
             num,
             encoding,
             range,
-        } => version_text(line, *num, *encoding, range),
-        Payload::TypeSection(section) => counted_text(line, TYPE_SECTION, section),
-        Payload::ImportSection(section) => counted_text(line, IMPORT_SECTION, section),
-        Payload::FunctionSection(section) => counted_text(line, FUNCTION_SECTION, section),
-        Payload::TableSection(section) => counted_text(line, TABLE_SECTION, section),
-        Payload::MemorySection(section) => counted_text(line, MEMORY_SECTION, section),
-        Payload::TagSection(section) => counted_text(line, TAG_SECTION, section),
-        Payload::GlobalSection(section) => counted_text(line, GLOBAL_SECTION, section),
-        Payload::ExportSection(section) => counted_text(line, EXPORT_SECTION, section),
+        } => write_version(bytes, at, *num, *encoding, range),
+        Payload::TypeSection(section) => write_counted(bytes, at, TYPE_SECTION, section),
+        Payload::ImportSection(section) => write_counted(bytes, at, IMPORT_SECTION, section),
+        Payload::FunctionSection(section) => write_counted(bytes, at, FUNCTION_SECTION, section),
+        Payload::TableSection(section) => write_counted(bytes, at, TABLE_SECTION, section),
+        Payload::MemorySection(section) => write_counted(bytes, at, MEMORY_SECTION, section),
+        Payload::TagSection(section) => write_counted(bytes, at, TAG_SECTION, section),
+        Payload::GlobalSection(section) => write_counted(bytes, at, GLOBAL_SECTION, section),
+        Payload::ExportSection(section) => write_counted(bytes, at, EXPORT_SECTION, section),
         Payload::StartSection { func, range } => {
-            number_text(line, "start", range, u64::from(*func));
+            write_range(bytes, at, "start", range, u64::from(*func))
         }
-        Payload::ElementSection(section) => counted_text(line, ELEMENT_SECTION, section),
+        Payload::ElementSection(section) => write_counted(bytes, at, ELEMENT_SECTION, section),
         Payload::DataCountSection { count, range } => {
-            number_text(line, "datacount", range, u64::from(*count));
+            write_range(bytes, at, "datacount", range, u64::from(*count))
         }
-        Payload::DataSection(section) => counted_text(line, DATA_SECTION, section),
+        Payload::DataSection(section) => write_counted(bytes, at, DATA_SECTION, section),
         Payload::CodeSectionStart {
             count,
             unchecked_range,
             size,
-        } => code_text(line, unchecked_range, *count, *size),
-        Payload::CodeSectionEntry(body) => body_text(line, &body.range()),
+        } => write_code(bytes, at, unchecked_range, *count, *size),
+        Payload::CodeSectionEntry(body) => write_body(bytes, at, &body.range()),
         Payload::CustomSection(section) => {
-            number_text(line, "custom", &section.range(), section.data_offset());
+            write_range(bytes, at, "custom", &section.range(), section.data_offset())
         }
-        Payload::UnknownSection { id, range, .. } => unknown_text(line, *id, range),
-        Payload::End(offset) => end_text(line, *offset),
+        Payload::UnknownSection { id, range, .. } => write_unknown(bytes, at, *id, range),
+        Payload::End(offset) => write_end(bytes, at, *offset),
     }
 }
 
-/// The line of a fault.
-#[tactic(auto, unfolding(crate::specs::Listing::text_before))]
-pub fn fault_line(line: &mut Line, error: &Error)
-    ensures { line.new ≡ line_of (stream_end (fault (fault_at error.now))) }
+// Writes the number of a fault, if it has one.
+fn write_fault_number(bytes: &mut [u8], at: usize, number: Option<u64>) -> usize
+    requires { at + 22 ≤ length bytes.old }
+    ensures short { result ≤ at + 22 }
+    ensures written { take result bytes.new ≡ take at bytes.old ++ fault_number number }
 {
-    line.feed();
-    if let Some(number) = error.number() {
-        line.number(number);
-        line.word(": ");
+    match number {
+        Some(number) => {
+            let at = write_word(bytes, at, ": ");
+            write_number(bytes, at, number)
+        }
+        None => at,
     }
-    line.word(error.message());
-    line.word(" ");
-    line.field(error.offset());
-    line.word("fault");
+}
+
+/// The text of an event in a listing.
+impl ShortText for Payload<'_> {
+    ghost use Rattle.wasm_parser.specs.ParseAnswer.{report_of};
+    ghost use Rattle.wasm_feed.specs.Listing.{report_text};
+
+    ghost text = { λ payload. report_text (report_of payload) };
+
+    #[inline(always)]
+    fn write_at(&self, bytes: &mut [u8], at: usize) -> usize {
+        write_payload(bytes, at, self)
+    }
+}
+
+/// The text of a fault in a listing.
+impl ShortText for Error {
+    ghost use Rattle.wasm_base.specs.FaultAt.{fault_at};
+    ghost use Rattle.wasm_grammar.specs.Content.{fault};
+    ghost use Rattle.wasm_grammar.specs.Reading.{stream_end};
+    ghost use Rattle.wasm_feed.specs.Listing.{report_text};
+
+    ghost text = { λ error. report_text (stream_end (fault (fault_at error))) };
+
+    #[tactic(auto, unfolding(crate::specs::Listing::report_text))]
+    fn write_at(&self, bytes: &mut [u8], at: usize) -> usize {
+        let at = write_word(bytes, at, "fault");
+        let at = write_field(bytes, at, self.offset());
+        let at = write_word(bytes, at, " ");
+        let at = write_word(bytes, at, self.message());
+        write_fault_number(bytes, at, self.number())
+    }
 }

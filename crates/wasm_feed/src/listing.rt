@@ -7,8 +7,6 @@ ghost use Rattle.wasm_feed.specs.Turns.{TakesTurn};
 use crate::ahead::Ahead;
 use crate::devices::{ListError, Sink, Source};
 use crate::feeder::{Cursor, Step, parse_next, seen};
-use crate::line::Line;
-use crate::lines::{fault_line, payload_line};
 use crate::page::Page;
 use std::alloc::{Allocator, Global};
 use wasm_parser::{Error, Parser, Payload, Result as ParserResult};
@@ -36,7 +34,6 @@ pub enum Turn {
 // Puts the line of an answer on the page, and says what is to be done next.
 fn put_answer<A: Allocator, W: Sink>(
     page: &mut Page<A>,
-    line: &mut Line,
     output: &mut W,
     answer: &ParserResult<Step<'_>>,
 ) -> Result<Turn, ListError>
@@ -47,17 +44,15 @@ fn put_answer<A: Allocator, W: Sink>(
     match answer {
         Ok(Step::NeedMoreData(_)) => Ok(Turn::Read),
         Ok(Step::Parsed { payload, .. }) => {
-            payload_line(line, payload);
             let next = match payload {
                 Payload::End(_) => Turn::End(Ended::End),
                 _ => Turn::Advance,
             };
-            page.put(line.as_bytes(), output)?;
+            page.put_line(payload, output)?;
             Ok(next)
         }
         Err(error) => {
-            fault_line(line, error);
-            page.put(line.as_bytes(), output)?;
+            page.put_line(error, output)?;
             Ok(Turn::End(Ended::Fault(*error)))
         }
     }
@@ -76,13 +71,12 @@ pub fn list_in<A: Allocator + Copy, R: Source, W: Sink>(
 {
     let mut ahead = Ahead::new(vec![in alloc; 0u8; piece]?);
     let mut page = Page::new(alloc);
-    let mut line = Line::new();
     let mut stored = Vec::new(alloc);
     let mut cursor = Cursor::new(Parser::new(0));
     'events: loop {
         ahead.make_ready(&mut cursor, &mut stored)?;
         let answer = parse_next(&mut cursor, seen(&stored, ahead.bytes()));
-        let turn = put_answer(&mut page, &mut line, output, &answer);
+        let turn = put_answer(&mut page, output, &answer);
         drop(answer);
         match turn? {
             Turn::Advance => ahead.pass_lent(&mut cursor, &stored),
