@@ -22,6 +22,7 @@ pub use devices::{
 pub use digits::write_number;
 pub use events::{Event, EventKind};
 pub use feeder::{Cursor, Feeder, Opened, Step};
+pub use lines::write_payload;
 pub use listing::{Ended, Turn, list, list_in};
 pub use page::Page;
 pub use pieces::{fits_pieces, read_pieces, read_pieces_in};

@@ -52,8 +52,8 @@ fn write_range(bytes: &mut [u8], at: usize, word: &str, range: &Range<u64>, numb
 // Writes a section with this id.
 #[tactic(auto, unfolding(crate::specs::Listing::report_text))]
 fn write_counted<T>(bytes: &mut [u8], at: usize, id: u8, section: &SectionLimited<'_, T>) -> usize
-    requires { at + 159 ≤ length bytes.old }
-    ensures short { result ≤ at + 159 }
+    requires { at + 100 ≤ length bytes.old }
+    ensures short { result ≤ at + 100 }
     ensures written { take result bytes.new ≡ take at bytes.old
         ++ report_text (counted id section.now.count section.now.reader) }
 {
@@ -68,8 +68,8 @@ fn write_counted<T>(bytes: &mut [u8], at: usize, id: u8, section: &SectionLimite
 // Writes the start of a code section.
 #[tactic(auto, unfolding(crate::specs::Listing::report_text))]
 fn write_code(bytes: &mut [u8], at: usize, range: &Range<u64>, count: u32, size: u32) -> usize
-    requires { at + 159 ≤ length bytes.old }
-    ensures short { result ≤ at + 159 }
+    requires { at + 100 ≤ length bytes.old }
+    ensures short { result ≤ at + 100 }
     ensures written { take result bytes.new ≡ take at bytes.old
         ++ report_text (code_start count range.now.start range.now.end size) }
 {
@@ -88,8 +88,8 @@ fn write_version(
     encoding: Encoding,
     range: &Range<u64>,
 ) -> usize
-    requires { at + 159 ≤ length bytes.old }
-    ensures short { result ≤ at + 159 }
+    requires { at + 100 ≤ length bytes.old }
+    ensures short { result ≤ at + 100 }
     ensures written { take result bytes.new ≡ take at bytes.old ++ (codes "version"
         ++ (field range.now.start ++ (field range.now.end
         ++ (field version ++ (codes " " ++ name_of encoding))))) }
@@ -101,8 +101,8 @@ fn write_version(
 
 // Writes a body.
 fn write_body(bytes: &mut [u8], at: usize, range: &Range<u64>) -> usize
-    requires { at + 159 ≤ length bytes.old }
-    ensures short { result ≤ at + 159 }
+    requires { at + 100 ≤ length bytes.old }
+    ensures short { result ≤ at + 100 }
     ensures written { take result bytes.new ≡ take at bytes.old
         ++ (codes "body" ++ (field range.now.start ++ field range.now.end)) }
 {
@@ -113,8 +113,8 @@ fn write_body(bytes: &mut [u8], at: usize, range: &Range<u64>) -> usize
 
 // Writes an unknown section.
 fn write_unknown(bytes: &mut [u8], at: usize, id: u8, range: &Range<u64>) -> usize
-    requires { at + 159 ≤ length bytes.old }
-    ensures short { result ≤ at + 159 }
+    requires { at + 100 ≤ length bytes.old }
+    ensures short { result ≤ at + 100 }
     ensures written { take result bytes.new ≡ take at bytes.old ++ (codes "unknown"
         ++ (field id ++ (field range.now.start ++ field range.now.end))) }
 {
@@ -126,8 +126,8 @@ fn write_unknown(bytes: &mut [u8], at: usize, id: u8, range: &Range<u64>) -> usi
 
 // Writes the end.
 fn write_end(bytes: &mut [u8], at: usize, offset: u64) -> usize
-    requires { at + 159 ≤ length bytes.old }
-    ensures short { result ≤ at + 159 }
+    requires { at + 100 ≤ length bytes.old }
+    ensures short { result ≤ at + 100 }
     ensures written { take result bytes.new ≡ take at bytes.old
         ++ (codes "end" ++ field offset) }
 {
@@ -135,12 +135,13 @@ fn write_end(bytes: &mut [u8], at: usize, offset: u64) -> usize
     write_field(bytes, at, offset)
 }
 
-// Writes a payload.
+/// Writes the text of an event in a listing over the bytes from this place on, of which there must be 100, and says where it
+/// ends.
 #[inline(always)]
 #[tactic(auto, unfolding(crate::specs::Listing::report_text))]
-fn write_payload(bytes: &mut [u8], at: usize, payload: &Payload) -> usize
-    requires { at + 159 ≤ length bytes.old }
-    ensures short { result ≤ at + 159 }
+pub fn write_payload(bytes: &mut [u8], at: usize, payload: &Payload) -> usize
+    requires { at + 100 ≤ length bytes.old }
+    ensures short { result ≤ at + 100 }
     ensures written { take result bytes.new ≡ take at bytes.old
         ++ report_text (report_of payload.now) }
 {

@@ -1,7 +1,7 @@
 -- Lines of JSON that are put together.
 use Rattle.std.proofs.Common.{◌≡◌, ℕ, zero, suc, ◌+◌, ◌<◌, ◌≤◌, ◌%◌, ◌/◌, Bool, true, false, List, [], ◌∷◌, ◌++◌, codes, refl, sym, ap}
 use Rattle.std.proofs.Common.{◌∙◌, ◌^◌, subst, nat_lt, nat_eq, decimal, arith, length, ◌&&◌, ◌||◌}
-use Rattle.std.specs.Prelude.{slice_index}
+use Rattle.std.specs.Prelude.{slice_index, if◌then◌else◌}
 use Rattle.std.specs.List.{list_all, list_any}
 use Rattle.std.proofs.lemmas.Bool.Decides.{nat_tests}
 use Rattle.std.proofs.lemmas.Fmt.{decimal_by_steps}
@@ -223,3 +223,11 @@ range_over from to h k =
 pub range_leads : (from to : ℕ) → from < 2 ^ 64 → to < 2 ^ 64
     → Leads AtValue (codes "[" ++ (decimal from ++ (codes "," ++ (decimal to ++ codes "]")))) Ended
 range_leads from to h k s e = rw (e, range_over from to h k) (refl, refl)
+
+pub signed_leads : (negative : Bool) (n : ℕ) → n < 2 ^ 64 → Leads AtValue ((if negative then codes "-" else []) ++ decimal n) Ended
+signed_leads true n h = negative_leads n h
+signed_leads false n h = number_leads n h
+
+-- what leads from a spot leads from one that is the same
+pub leads_from : (old spot new : Spot) (text : List ℕ) → old ≡ spot → Leads spot text new → Leads old text new
+leads_from old spot new text e leads = subst (λ (s : Spot). Leads s text new) (sym e) leads

@@ -306,6 +306,14 @@ pub none_in_decimal : (n : ℕ) → n < 2 ^ 64 → has_line_feed (decimal n) ≡
 none_in_decimal = decimal_by_steps (λ n ds. has_line_feed ds ≡ false) (λ n h. digit_alone n)
     (λ n ds h k. list_any-append (λ b. nat_eq b 10) ds ((48 + n % 10) ∷ []) ∙ rw k (digit_alone (n % 10)))
 
+-- nor is one escaped in quotes
+plain_digit : (n : ℕ) → n < 10 → list_any is_escaped ((48 + n) ∷ []) ≡ false
+plain_digit n h = grind (arith, nat_tests)
+
+pub plain_decimal : (n : ℕ) → n < 2 ^ 64 → list_any is_escaped (decimal n) ≡ false
+plain_decimal = decimal_by_steps (λ n ds. list_any is_escaped ds ≡ false) (λ n h. plain_digit n h)
+    (λ n ds h k. list_any-append is_escaped ds ((48 + n % 10) ∷ []) ∙ rw k (plain_digit (n % 10) (omega arith)))
+
 -- those that hexadecimal digits are taken from are none
 none_at : (xs : List ℕ) (i : ℕ) → has_line_feed xs ≡ false → nat_eq (slice_index xs i) 10 ≡ false
 none_at [] i none = refl

@@ -6,7 +6,7 @@ use Rattle.wasm_grammar.specs.Reading.{Report, counted, code_entry, custom_secti
 use Rattle.wasm_grammar.specs.Ids.{code_id}
 use Rattle.wasm_grammar.specs.Ids.{name_of as section_name}
 use Rattle.wasm_grammar.specs.Sections.{section_of}
-use Rattle.wasm_feed.specs.Listing.{line_of, text_before}
+use Rattle.wasm_feed.specs.Listing.{line_of, report_text}
 use Rattle.wasm_show.specs.Numbers.{Number, number_text, numbers_in_line}
 use Rattle.wasm_show.specs.declared.numbers.Counts.{Counts}
 use Rattle.wasm_show.specs.declared.only.Only.{Only}
@@ -59,17 +59,21 @@ section_words report = after_blank (counted_name report)
 
 -- the line of what is reported: its text in a listing, and then the name of the section
 abbrev pub shown_line : Report → List ℕ
-shown_line report = text_before report (section_words report ++ codes "\n")
+shown_line report = report_text report ++ (section_words report ++ codes "\n")
 
 -- the numbers that a line ends with, each after a blank, before the rest of it
 abbrev pub blank_numbers : List Number → (rest : List ℕ) → List ℕ
 blank_numbers [] rest = rest
 blank_numbers (n ∷ later) rest = codes " " ++ number_text n (blank_numbers later rest)
 
+-- what comes after the text of what is reported: the name of the section, and the numbers of items
+abbrev pub end_text : Counts → Report → List ℕ
+end_text counts report = section_words report ++ blank_numbers (numbers_in_line counts report) []
+
 -- the same line with the numbers of items that it has, after what came before, and with this after it
 abbrev pub numbered_text : Counts → Report → (rest : List ℕ) → List ℕ
 numbered_text counts report rest =
-    text_before report (section_words report ++ blank_numbers (numbers_in_line counts report) rest)
+    report_text report ++ (section_words report ++ blank_numbers (numbers_in_line counts report) rest)
 
 -- the line itself
 abbrev pub numbered_line : Counts → Report → List ℕ
@@ -82,7 +86,7 @@ chosen_line only report = if is_chosen only report then shown_line report else [
 -- The lines of a listing and of a dump begin with the same text. A listing's has nothing after it; a dump's the name
 -- of the section, and then the numbers of items that it shows.
 abbrev pub BeginAlike : Report → Type 0
-BeginAlike report = (line_of report ≡ text_before report [] ++ codes "\n")
-    × (shown_line report ≡ text_before report [] ++ (section_words report ++ codes "\n"))
-    × ((counts : Counts) → numbered_line counts report ≡ text_before report []
+BeginAlike report = (line_of report ≡ report_text report ++ codes "\n")
+    × (shown_line report ≡ report_text report ++ (section_words report ++ codes "\n"))
+    × ((counts : Counts) → numbered_line counts report ≡ report_text report
     ++ (section_words report ++ blank_numbers (numbers_in_line counts report) (codes "\n")))

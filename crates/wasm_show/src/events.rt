@@ -8,12 +8,12 @@ ghost use Rattle.wasm_parser.specs.ParseAnswer.{report_of};
 ghost use Rattle.wasm_show.specs.Chosen.{numbered_line};
 ghost use Rattle.wasm_show.specs.Tree.{Adds, AddsFirst};
 
-use crate::heading::shown_text;
+use crate::heading::Heading;
 use crate::numbers::{Counts, Space};
 use crate::tree::Tree;
 use std::ops::Range;
 use wasm_base::Error;
-use wasm_feed::{Line, Sink, fault_line};
+use wasm_feed::Sink;
 use wasm_grammar::section_name;
 use wasm_items::FunctionBody;
 use wasm_parser::{Encoding, Payload};
@@ -133,30 +133,24 @@ fn function_of(counts: &Counts, payload: &Payload<'_>) -> Option<u64> {
 }
 
 /// Writes the line of an event, with the number of the function and its name where it is a body; or its object.
-pub(crate) fn show_event<W: Sink>(
-    counts: &Counts,
-    line: &mut Line,
-    payload: &Payload<'_>,
-    out: &mut Tree<W>,
-)
+pub(crate) fn show_event<W: Sink>(counts: &Counts, payload: &Payload<'_>, out: &mut Tree<W>)
     ensures { AddsFirst (numbered_line counts.now (report_of payload.now)) out.old out.new }
 {
     if out.writes_objects() {
         event_object(counts, payload, out);
     } else {
-        shown_text(line, counts, payload);
-        out.first_of_function(line.as_bytes(), function_of(counts, payload));
+        let heading = Heading { counts, payload };
+        out.first_of_function(&heading, function_of(counts, payload));
     }
 }
 
 /// Writes the line of the fault at which the stream ends, or its object.
-pub(crate) fn show_last_fault<W: Sink>(line: &mut Line, error: &Error, out: &mut Tree<W>)
+pub(crate) fn show_last_fault<W: Sink>(error: &Error, out: &mut Tree<W>)
     ensures { AddsFirst (line_of (stream_end (fault (fault_at error.now)))) out.old out.new }
 {
     if out.writes_objects() {
         fault_object(error, out);
     } else {
-        fault_line(line, error);
-        out.first(line.as_bytes());
+        out.first_of_function(error, None);
     }
 }

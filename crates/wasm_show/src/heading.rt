@@ -1,11 +1,11 @@
 // The line of an event: its text in a listing, and then the name of the section, or the number of the function.
-ghost use Rattle.std.specs.Prelude.{◌≡◌, ◌≤◌, ◌++◌, [], IfSome, length, option_map};
+ghost use Rattle.std.specs.Prelude.{◌≡◌, ◌≤◌, ◌+◌, ◌++◌, IfSome, length, option_map, take};
 ghost use Rattle.wasm_grammar.specs.Ids.{name_of};
 ghost use Rattle.wasm_parser.specs.ParseAnswer.{report_of};
-ghost use Rattle.wasm_show.specs.Chosen.{after_blank, counted_name as name_counted, numbered_text};
+ghost use Rattle.wasm_show.specs.Chosen.{after_blank, counted_name as name_counted, end_text};
 
-use crate::numbers::{Counts, Space, put_number};
-use wasm_feed::{Line, payload_text};
+use crate::numbers::{Counts, Space, write_item};
+use wasm_feed::{ShortText, write_payload, write_word};
 use wasm_grammar::section_name;
 use wasm_parser::Payload;
 
@@ -38,33 +38,56 @@ fn counted_name(payload: &Payload<'_>) -> Option<&'static str>
     }
 }
 
-// Puts a blank and a name, if there is one, before what the line has.
-fn put_name(line: &mut Line, name: Option<&'static str>)
-    requires line { length line.old ≤ 1 }
+// Writes a blank and a name, if there is one.
+fn write_name(bytes: &mut [u8], at: usize, name: Option<&'static str>) -> usize
+    requires room { at + 10 ≤ length bytes.old }
     requires short { IfSome name (λ name. length name.now ≤ 9) }
-    ensures line { line.new ≡ after_blank (option_map (λ name. name.now) name.entry) ++ line.old }
-    ensures short { length line.new ≤ 11 }
+    ensures short { result ≤ at + 10 }
+    ensures written { take result bytes.new ≡ take at bytes.old
+        ++ after_blank (option_map (λ name. name.now) name.entry) }
 {
     match name {
         Some(name) => {
-            line.word(name);
-            line.word(" ");
+            let at = write_word(bytes, at, " ");
+            write_word(bytes, at, name)
         }
-        None => {}
+        None => at,
+    }
+}
+
+// Writes what comes after the text of a payload: the name of the section, or the number of the function whose body it is.
+fn write_end(bytes: &mut [u8], at: usize, counts: &Counts, payload: &Payload<'_>) -> usize
+    requires { at + 29 ≤ length bytes.old }
+    ensures short { result ≤ at + 29 }
+    ensures written { take result bytes.new ≡ take at bytes.old
+        ++ end_text counts.now (report_of payload.now) }
+{
+    match payload {
+        Payload::CodeSectionEntry(_) => {
+            let at = write_word(bytes, at, " ");
+            write_item(bytes, at, Space::Functions, counts.bodies)
+        }
+        _ => write_name(bytes, at, counted_name(payload)),
     }
 }
 
 /// The text of a payload's line, without its line feed: after the text of a body stands the number of the function that it is of.
-pub(crate) fn shown_text(line: &mut Line, counts: &Counts, payload: &Payload<'_>)
-    ensures { line.new ≡ numbered_text counts.now (report_of payload.now) [] }
-{
-    *line = Line::new();
-    match payload {
-        Payload::CodeSectionEntry(_) => {
-            put_number(line, Space::Functions, counts.bodies);
-            line.word(" ");
-        }
-        _ => put_name(line, counted_name(payload)),
+#[derive(Drop)]
+pub(crate) struct Heading<'a, 'b> {
+    pub(crate) counts: &'a Counts,
+    pub(crate) payload: &'a Payload<'b>,
+}
+
+impl ShortText for Heading<'_, '_> {
+    ghost use Rattle.std.specs.Prelude.{[]};
+    ghost use Rattle.wasm_parser.specs.ParseAnswer.{report_of};
+    ghost use Rattle.wasm_show.specs.Chosen.{numbered_text};
+
+    ghost text = { λ h. numbered_text h.counts.now (report_of h.payload.now) [] };
+
+    #[inline(always)]
+    fn write_at(&self, bytes: &mut [u8], at: usize) -> usize {
+        let at = write_payload(bytes, at, self.payload);
+        write_end(bytes, at, self.counts, self.payload)
     }
-    payload_text(line, payload);
 }

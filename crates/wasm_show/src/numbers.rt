@@ -1,11 +1,11 @@
 // The numbers of items in their index spaces.
-ghost use Rattle.std.specs.Prelude.{◌≡◌, ◌≤◌, length};
+ghost use Rattle.std.specs.Prelude.{◌≡◌, ◌≤◌, ◌+◌, ◌++◌, [], length, take};
 ghost use Rattle.wasm_base.specs.Window.{place};
 ghost use Rattle.wasm_items.specs.Flattened.{flattened};
 ghost use Rattle.wasm_parser.specs.ParseAnswer.{ItemsBegin, report_of};
 ghost use Rattle.wasm_show.specs.Numbers.{after, count_of, no_counts, number_text, space_of, with_imports, with_one, word_of};
 
-use wasm_feed::Line;
+use wasm_feed::{ShortText, write_number, write_word};
 use wasm_items::{ImportSection, ImportSectionReader, TypeRef};
 use wasm_parser::Payload;
 
@@ -47,16 +47,38 @@ pub(crate) fn space_word(space: Space) -> &'static str
     }
 }
 
-/// Puts the number of an item before what the line has: the word of its index space, and its index in brackets.
-pub(crate) fn put_number(line: &mut Line, space: Space, index: u64)
-    requires { length line.old ≤ 1 }
-    ensures line { line.new ≡ number_text (record { space = space; index = index }) line.old }
-    ensures short { length line.new ≤ 29 }
+/// Writes the number of an item over the bytes from this place on, of which there must be 28, and says where it ends: the word of
+/// its index space, and its index in brackets.
+#[inline(always)]
+pub(crate) fn write_item(bytes: &mut [u8], at: usize, space: Space, index: u64) -> usize
+    requires { at + 28 ≤ length bytes.old }
+    ensures short { result ≤ at + 28 }
+    ensures written { take result bytes.new ≡ take at bytes.old
+        ++ number_text (record { space = space; index = index }) [] }
 {
-    line.word("]");
-    line.number(index);
-    line.word("[");
-    line.word(space_word(space));
+    let at = write_word(bytes, at, space_word(space));
+    let at = write_word(bytes, at, "[");
+    let at = write_number(bytes, at, index);
+    write_word(bytes, at, "]")
+}
+
+/// The number of an item.
+#[derive(Clone, Copy)]
+pub(crate) struct ItemNumber {
+    pub(crate) space: Space,
+    pub(crate) index: u64,
+}
+
+impl ShortText for ItemNumber {
+    ghost use Rattle.std.specs.Prelude.{[]};
+    ghost use Rattle.wasm_show.specs.Numbers.{number_text};
+
+    ghost text = { λ n. number_text (record { space = n.space; index = n.index }) [] };
+
+    #[inline(always)]
+    fn write_at(&self, bytes: &mut [u8], at: usize) -> usize {
+        write_item(bytes, at, self.space, self.index)
+    }
 }
 
 /// How many items came that may be followed by others of their index space: imports, and bodies, each with its function.

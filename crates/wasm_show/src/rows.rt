@@ -1,47 +1,77 @@
 // Rows of bytes.
-ghost use Rattle.std.specs.Prelude.{◌≡◌, ◌≤◌, ◌+◌, ◌++◌, [], None, IfNone, IfOk, IfSome, drop, length};
+ghost use Rattle.std.specs.Prelude.{◌≡◌, ◌≤◌, ◌+◌, ◌*◌, ◌++◌, [], None, IfNone, IfOk, IfSome, drop, length, take};
 ghost use Rattle.wasm_show.specs.Rows.{BeginsWithRow};
-ghost use Rattle.wasm_show.specs.Tree.{after_blank, row_text};
+ghost use Rattle.std.specs.List.{flat_map};
+ghost use Rattle.wasm_show.specs.Tree.{after_blank};
 
 use crate::gathered::Gathered;
 use crate::tree::hexadecimal_digits;
 use std::alloc::{AllocError, Global};
 use std::marker::Model;
-use wasm_feed::Line;
+use wasm_feed::{ShortText, write_number, write_word};
 
 /// How many bytes of the stream a row shows at most.
 const WIDTH: usize = 16;
 
-/// How many bytes the text of a row has at most: 20 digits, 2 bytes, 3 for each byte that it shows, and the line feed.
-const ROOM: usize = 71;
-
-/// The text of a row.
-pub(crate) type Row = Gathered<ROOM>;
-
-// Puts a byte in a row, after a blank.
-fn put_byte(row: &mut Row, byte: u8)
-    requires { length row.old ≤ 68 }
-    ensures { row.new ≡ row.old ++ after_blank byte }
+// Writes a byte over those from this place on, after a blank.
+fn write_byte(bytes: &mut [u8], at: usize, byte: u8) -> usize
+    requires { at + 3 ≤ length bytes.old }
+    ensures end { result ≡ at + 3 }
+    ensures written { take result bytes.new ≡ take at bytes.old ++ after_blank byte }
 {
     let digits = hexadecimal_digits(byte);
-    row.put(&[b' ', digits[0], digits[1]]);
+    bytes[at] = b' ';
+    bytes[at + 1] = digits[0];
+    bytes[at + 2] = digits[1];
+    at + 3
+}
+
+// Writes bytes over those from this place on, each after a blank.
+fn write_row(bytes: &mut [u8], at: usize, shown: &[u8]) -> usize
+    requires { at + 3 * length shown.now ≤ length bytes.old }
+    ensures end { result ≡ at + 3 * length shown.now }
+    ensures written { take result bytes.new
+        ≡ take at bytes.old ++ flat_map after_blank shown.now }
+{
+    let mut end = at;
+    for byte in shown {
+        end = write_byte(bytes, end, *byte);
+    }
+    end
+}
+
+/// A row: bytes of the stream, and the offset of the first one.
+#[derive(Drop)]
+pub(crate) struct Row {
+    offset: u64,
+    bytes: Gathered<WIDTH>,
 }
 
 // The row of these bytes, of which the first is at this offset.
 fn row_of(offset: u64, bytes: &[u8]) -> Row
     requires { length bytes.now ≤ 16 }
-    ensures { result ≡ row_text offset bytes.now }
+    ensures offset { result.offset ≡ offset }
+    ensures bytes { result.bytes ≡ bytes.now }
 {
-    let mut start = Line::new();
-    start.word(" |");
-    start.number(offset);
-    let mut row = Row::new();
-    row.put(start.as_bytes());
-    for byte in bytes {
-        put_byte(&mut row, *byte);
+    let mut gathered = Gathered::new();
+    gathered.put(bytes);
+    Row {
+        offset,
+        bytes: gathered,
     }
-    row.put(b"\n");
-    row
+}
+
+impl ShortText for Row {
+    ghost use Rattle.wasm_show.specs.Tree.{row_text};
+
+    ghost text = { λ row. row_text row.offset row.bytes };
+
+    fn write_at(&self, bytes: &mut [u8], at: usize) -> usize {
+        let at = write_number(bytes, at, self.offset);
+        let at = write_word(bytes, at, " |");
+        let at = write_row(bytes, at, self.bytes.as_bytes());
+        write_word(bytes, at, "\n")
+    }
 }
 
 /// Bytes of the stream that are to be shown, and where the rows of them end.
@@ -123,7 +153,7 @@ impl Rows {
     /// The next row, and how many bytes it shows, if bytes are left: before this offset, or anywhere.
     pub(crate) fn next_row(&self, end: Option<u64>) -> Option<(Row, usize)>
         ensures none { IfNone result (end ≡ None → self.now ≡ []) }
-        ensures some { IfSome result (λ row. BeginsWithRow row.0 row.1 self.now) }
+        ensures some { IfSome result (λ row. BeginsWithRow row.0.bytes row.1 self.now) }
     {
         let rest = after(&self.bytes, self.shown);
         let count = self.width(end, rest);

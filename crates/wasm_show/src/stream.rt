@@ -13,7 +13,7 @@ use crate::only::{Shown, chooses};
 use crate::payload::{offsets_of_items, show_payload};
 use crate::tree::Tree;
 use std::alloc::Global;
-use wasm_feed::{Ended, Feeder, Line, ListError, Sink, Source, Step, Turn};
+use wasm_feed::{Ended, Feeder, ListError, Sink, Source, Step, Turn};
 use wasm_parser::{Parser, Payload, Result as ParserResult};
 
 // Bytes of the stream that were read together, and the offset in it at which they begin.
@@ -45,7 +45,6 @@ fn show_chosen<W: Sink>(
     alloc: Global,
     shown: Shown<'_>,
     counts: &Counts,
-    line: &mut Line,
     part: Part<'_>,
     payload: &Payload<'_>,
     out: &mut Tree<W>,
@@ -55,7 +54,7 @@ fn show_chosen<W: Sink>(
 {
     if chooses(shown.only, payload) {
         show_bytes(alloc, shown.has_bytes, counts, part, payload, out);
-        show_event(counts, line, payload, out);
+        show_event(counts, payload, out);
         show_payload(alloc, counts, payload, out);
     }
 }
@@ -65,7 +64,6 @@ fn show_answer<W: Sink>(
     alloc: Global,
     shown: Shown<'_>,
     counts: &mut Counts,
-    line: &mut Line,
     offset: &mut u64,
     answer: &ParserResult<Step<'_>>,
     out: &mut Tree<W>,
@@ -83,7 +81,7 @@ fn show_answer<W: Sink>(
                 offset: *offset,
                 bytes,
             };
-            show_chosen(alloc, shown, counts, line, part, payload, out);
+            show_chosen(alloc, shown, counts, part, payload, out);
             counts.pass(payload);
             *offset = offset.saturating_add(bytes.len() as u64);
             match payload {
@@ -92,7 +90,7 @@ fn show_answer<W: Sink>(
             }
         }
         Err(error) => {
-            show_last_fault(line, error, out);
+            show_last_fault(error, out);
             Turn::End(Ended::Fault(*error))
         }
     }
@@ -103,7 +101,6 @@ fn show_step<W: Sink>(
     alloc: Global,
     shown: Shown<'_>,
     counts: &mut Counts,
-    line: &mut Line,
     offset: &mut u64,
     feeder: &mut Feeder,
     out: &mut Tree<W>,
@@ -112,7 +109,7 @@ fn show_step<W: Sink>(
         feeder.old feeder.new out.old out.new result }
 {
     let answer = feeder.open().step();
-    show_answer(alloc, shown, counts, line, offset, &answer, out)
+    show_answer(alloc, shown, counts, offset, &answer, out)
 }
 
 // Whether the tree goes on, or why it has stopped.
@@ -138,20 +135,11 @@ fn dump_into<R: Source, W: Sink>(
     ensures { DumpsInto shown.entry.only.now shown.entry.has_bytes
         (device_of R.remaining R.has_failed input.old input.new) out.old result out.new }
 {
-    let mut line = Line::new();
     let mut counts = Counts::new();
     let mut offset = 0;
     let mut feeder = Feeder::new(alloc, 0, Parser::new(0).features());
     'events: loop {
-        let turn = show_step(
-            alloc,
-            shown,
-            &mut counts,
-            &mut line,
-            &mut offset,
-            &mut feeder,
-            out,
-        );
+        let turn = show_step(alloc, shown, &mut counts, &mut offset, &mut feeder, out);
         go_on(out)?;
         match turn {
             Turn::Advance => {}

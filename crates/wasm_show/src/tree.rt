@@ -14,12 +14,12 @@ mod bytes;
 mod objects;
 
 use crate::known_names::ItemNames;
-use crate::numbers::{Space, put_number, space_word};
+use crate::numbers::{ItemNumber, Space, space_word};
 use crate::rows::Rows;
 use std::alloc::Global;
 use std::marker::Model;
 use wasm_base::Error;
-use wasm_feed::{Line, ListError, Page, Sink};
+use wasm_feed::{ListError, Page, ShortText, Sink};
 
 /// How many bytes are put at once at most.
 const PAGE_BYTES: usize = 65_536;
@@ -216,6 +216,18 @@ impl<W: Sink> Tree<W> {
         }
     }
 
+    // Puts a text after those that wait, where it is written, unless the tree has stopped; it stops where this can't be.
+    fn push_text<T: ShortText>(&mut self, text: &T)
+        ensures { Puts (T.text text.now) self.old self.new }
+    {
+        if self.why.is_some() {
+            return;
+        }
+        if let Err(why) = self.page.put_text(text, &mut self.output) {
+            self.why = Some(why);
+        }
+    }
+
     // Writes what waits, unless the tree has stopped.
     fn move_all(&mut self)
         ensures puts { Puts [] self.old self.new }
@@ -291,12 +303,11 @@ impl<W: Sink> Tree<W> {
         self.end_object();
     }
 
-    /// Writes a line of the first level: this text, which has at most 65,536 bytes, and after it the name of the function with
-    /// this number, if there is a number and the tree has a name. The text may end with numbers of items.
-    pub(crate) fn first_of_function(&mut self, text: &[u8], function: Option<u64>)
-        requires lines { self.old.style ≡ Lines }
-        requires short { length text.now ≤ 65536 }
-        ensures { AddsFirst (text.now ++ codes "\n") self.old self.new }
+    /// Writes a line of the first level: this text, and after it the name of the function with this number, if there is a number
+    /// and the tree has a name. The text may end with numbers of items.
+    pub(crate) fn first_of_function<T: ShortText>(&mut self, text: &T, function: Option<u64>)
+        requires { self.old.style ≡ Lines }
+        ensures { AddsFirst (T.text text.now ++ codes "\n") self.old self.new }
     {
         let names = self.names.take();
         self.first_with_name(text, function_name(&names, function));
@@ -304,24 +315,22 @@ impl<W: Sink> Tree<W> {
     }
 
     // Writes a line of the first level, with a name after its text, if there is one.
-    fn first_with_name(&mut self, text: &[u8], name: Option<&str>)
-        requires lines { self.old.style ≡ Lines }
-        requires short { length text.now ≤ 65536 }
-        ensures { AddsFirst (text.now ++ codes "\n") self.old self.new }
+    fn first_with_name<T: ShortText>(&mut self, text: &T, name: Option<&str>)
+        requires { self.old.style ≡ Lines }
+        ensures { AddsFirst (T.text text.now ++ codes "\n") self.old self.new }
     {
         self.rows_to_cut();
         self.is_begun = true;
-        self.rest_of_first(text, name);
+        self.named_text(text, name);
         self.is_begun = false;
     }
 
     // Puts a text, a name, if there is one, and the line feed.
-    fn rest_of_first(&mut self, text: &[u8], name: Option<&str>)
-        requires { length text.now ≤ 65536 }
-        ensures { Says (text.now ++ (name_text (option_map (λ n. n.now) name.entry) ++ codes "\n"))
-            self.old self.new }
+    fn named_text<T: ShortText>(&mut self, text: &T, name: Option<&str>)
+        ensures { Says (T.text text.now ++ (name_text (option_map (λ n. n.now) name.entry)
+            ++ codes "\n")) self.old self.new }
     {
-        self.push(text);
+        self.push_text(text);
         self.name_in_quotes(name);
         self.push(b"\n");
     }
@@ -531,10 +540,8 @@ impl<W: Sink> Tree<W> {
         requires { self.old.style ≡ Lines }
         ensures { AddsNumber space index self.old self.new }
     {
-        let mut line = Line::new();
-        put_number(&mut line, space, index);
         self.begin();
-        self.push(line.as_bytes());
+        self.push_text(&ItemNumber { space, index });
     }
 
     // Writes the name of an item, if the tree has it.
@@ -636,9 +643,21 @@ impl<W: Sink> Tree<W> {
         ensures says { Says (decimal number) self.old self.new }
         ensures some { SaysSome self.old self.new }
     {
-        let mut line = Line::new();
-        line.number(number);
-        self.piece(line.as_bytes());
+        match self.style {
+            Style::Lines => self.digits_of_line(number),
+            Style::Objects => self.more_digits(number),
+        }
+    }
+
+    // The same on a line of text.
+    fn digits_of_line(&mut self, number: u64)
+        requires { self.old.style ≡ Lines }
+        ensures adds { Adds self.old self.new }
+        ensures says { Says (decimal number) self.old self.new }
+        ensures some { SaysSome self.old self.new }
+    {
+        self.begin();
+        self.push_text(&number);
     }
 
     /// Writes a field that is a word.

@@ -6,7 +6,7 @@ use bitflags::Flags;
 use std::alloc::{AllocError, Global};
 use std::process::Abort;
 use std::test::Fail;
-use wasm_feed::{Feeder, Line, Step, fault_line, payload_line};
+use wasm_feed::{Feeder, ShortText, Step, TEXT_BYTES};
 use wasm_parser::{Error, Payload, Result, WasmFeatures};
 
 /// Where a stream begins, its bytes, and its listing.
@@ -204,25 +204,30 @@ const ENDS: [Row; 21] = [
     ),
 ];
 
-// The line of a payload, and whether it is the end.
-fn put_payload(line: &mut Line, payload: &Payload<'_>) -> bool {
-    payload_line(line, payload);
-    matches!(payload, Payload::End(_))
+// Puts the text of an event after others, and a line feed.
+fn put_text<T: ShortText>(
+    lines: &mut Vec<u8>,
+    text: &T,
+) -> std::result::Result<(), AllocError> {
+    let mut room = [0; TEXT_BYTES];
+    let end = text.write_at(&mut room, 0);
+    lines.extend_from_slice(&room[..end])?;
+    lines.push(b'\n')
 }
 
 // Puts the line of a step after others, and says whether no step is to follow.
 fn put_line(lines: &mut Vec<u8>, step: Result<Step<'_>>) -> std::result::Result<bool, AllocError> {
-    let mut line = Line::new();
-    let last = match step {
-        Ok(Step::NeedMoreData(_)) => return Ok(true),
-        Ok(Step::Parsed { payload, .. }) => put_payload(&mut line, &payload),
-        Err(error) => {
-            fault_line(&mut line, &error);
-            true
+    match step {
+        Ok(Step::NeedMoreData(_)) => Ok(true),
+        Ok(Step::Parsed { payload, .. }) => {
+            put_text(lines, &payload)?;
+            Ok(matches!(payload, Payload::End(_)))
         }
-    };
-    lines.extend_from_slice(line.as_bytes())?;
-    Ok(last)
+        Err(error) => {
+            put_text(lines, &error)?;
+            Ok(true)
+        }
+    }
 }
 
 // Puts the lines of the next steps after others, up to a request, a fault or the end.

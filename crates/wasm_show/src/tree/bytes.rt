@@ -98,7 +98,7 @@ impl<W: Sink> Tree<W> {
         ensures all { end ≡ None → self.new.unshown ≡ [] }
     {
         'rows: while let Some((row, count)) = self.rows.next_row(end) {
-            self.push(row.as_bytes());
+            self.push_text(&row);
             self.rows.pass(count);
         }
     }

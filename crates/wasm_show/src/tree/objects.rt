@@ -1,12 +1,12 @@
 // Lines of JSON, each an object.
-ghost use Rattle.std.specs.Prelude.{◌≡◌, ◌≤◌, ◌<◌, [], length, true};
+ghost use Rattle.std.specs.Prelude.{◌≡◌, ◌≤◌, ◌<◌, ◌^◌, length, true};
 ghost use Rattle.wasm_show.specs.Json.{escaped_byte, is_in_string, Leads};
 ghost use Rattle.wasm_show.specs.Tree.{Adds};
 ghost use Rattle.wasm_show.specs.declared.tree.Spot.TheVariants.{Outside, Ended, InName, AtValue, InText};
 ghost use Rattle.wasm_show.specs.declared.tree.Style.TheVariants.{Objects};
 
 use crate::tree::{Spot, Tree, hexadecimal_digits, plain_count};
-use wasm_feed::{Line, Sink};
+use wasm_feed::{ShortText, Sink, write_number, write_word};
 
 // What leads into the name of the next member.
 fn before_name(spot: Spot) -> &'static str
@@ -45,38 +45,55 @@ fn control_escape(byte: u8) -> [u8; 6]
     [b'\\', b'u', b'0', b'0', digits[0], digits[1]]
 }
 
-// Puts a number in a line.
-fn put_number(line: &mut Line, number: u64)
-    requires { line.old ≡ [] }
-    ensures leads { Leads AtValue line.new Ended }
-    ensures short { length line.new ≤ 20 }
-{
-    line.number(number);
+// The digits of a number, with its sign where it is below 0.
+#[derive(Drop)]
+struct Signed {
+    is_negative: bool,
+    digits: u64,
 }
 
-// Puts a number with its sign in a line.
-fn put_signed(line: &mut Line, number: i64)
-    requires { line.old ≡ [] }
-    ensures leads { Leads AtValue line.new Ended }
-    ensures short { length line.new ≤ 21 }
+// Those of this number.
+fn signed_of(number: i64) -> Signed
+    ensures { result.digits < 2 ^ 64 }
 {
-    line.number(number.unsigned_abs());
-    if number < 0 {
-        line.word("-");
+    Signed {
+        is_negative: number < 0,
+        digits: number.unsigned_abs(),
     }
 }
 
-// Puts a range in a line, as an array of two numbers.
-fn put_range(line: &mut Line, start: u64, end: u64)
-    requires { line.old ≡ [] }
-    ensures leads { Leads AtValue line.new Ended }
-    ensures short { length line.new ≤ 50 }
-{
-    line.word("]");
-    line.number(end);
-    line.word(",");
-    line.number(start);
-    line.word("[");
+impl ShortText for Signed {
+    ghost use Rattle.std.specs.Prelude.{◌++◌, codes, decimal, if◌then◌else◌, []};
+
+    ghost text = { λ n. (if n.is_negative then codes "-" else []) ++ decimal n.digits };
+
+    fn write_at(&self, bytes: &mut [u8], at: usize) -> usize {
+        let sign = if self.is_negative { "-" } else { "" };
+        let at = write_word(bytes, at, sign);
+        write_number(bytes, at, self.digits)
+    }
+}
+
+// An array of two numbers.
+#[derive(Drop)]
+struct Two {
+    first: u64,
+    second: u64,
+}
+
+impl ShortText for Two {
+    ghost use Rattle.std.specs.Prelude.{◌++◌, codes, decimal};
+
+    ghost text = { λ n. codes "["
+        ++ (decimal n.first ++ (codes "," ++ (decimal n.second ++ codes "]"))) };
+
+    fn write_at(&self, bytes: &mut [u8], at: usize) -> usize {
+        let at = write_word(bytes, at, "[");
+        let at = write_number(bytes, at, self.first);
+        let at = write_word(bytes, at, ",");
+        let at = write_number(bytes, at, self.second);
+        write_word(bytes, at, "]")
+    }
 }
 
 impl<W: Sink> Tree<W> {
@@ -90,6 +107,18 @@ impl<W: Sink> Tree<W> {
         ensures style { self.new.style ≡ Objects }
     {
         self.push(bytes);
+        self.spot = spot;
+    }
+
+    // Puts a text that leads to this spot.
+    fn put_text<T: ShortText>(&mut self, text: &T, spot: Spot)
+        requires objects { self.old.style ≡ Objects }
+        requires leads { Leads self.old.spot (T.text text.now) spot }
+        ensures adds { Adds self.old self.new }
+        ensures spot { self.new.spot ≡ spot }
+        ensures style { self.new.style ≡ Objects }
+    {
+        self.push_text(text);
         self.spot = spot;
     }
 
@@ -145,6 +174,17 @@ impl<W: Sink> Tree<W> {
         }
     }
 
+    // Puts the digits of a number in the text that is open, if one is.
+    pub(super) fn more_digits(&mut self, number: u64)
+        requires objects { self.old.style ≡ Objects }
+        ensures adds { Adds self.old self.new }
+        ensures style { self.new.style ≡ Objects }
+    {
+        if let Spot::InText = self.spot {
+            self.put_text(&number, Spot::InText);
+        }
+    }
+
     // Begins a member, after which its value is to come. An object is begun if none is.
     fn begin_member(&mut self, name: &str)
         requires objects { self.old.style ≡ Objects }
@@ -185,10 +225,8 @@ impl<W: Sink> Tree<W> {
         ensures adds { Adds self.old self.new }
         ensures style { self.new.style ≡ Objects }
     {
-        let mut line = Line::new();
-        put_number(&mut line, number);
         self.begin_member(name);
-        self.put(line.as_bytes(), Spot::Ended);
+        self.put_text(&number, Spot::Ended);
     }
 
     // One whose value is a number with a sign.
@@ -197,10 +235,8 @@ impl<W: Sink> Tree<W> {
         ensures adds { Adds self.old self.new }
         ensures style { self.new.style ≡ Objects }
     {
-        let mut line = Line::new();
-        put_signed(&mut line, number);
         self.begin_member(name);
-        self.put(line.as_bytes(), Spot::Ended);
+        self.put_text(&signed_of(number), Spot::Ended);
     }
 
     // One whose value is `null`.
@@ -233,9 +269,11 @@ impl<W: Sink> Tree<W> {
         ensures adds { Adds self.old self.new }
         ensures style { self.new.style ≡ Objects }
     {
-        let mut line = Line::new();
-        put_range(&mut line, start, end);
         self.begin_member(name);
-        self.put(line.as_bytes(), Spot::Ended);
+        let range = Two {
+            first: start,
+            second: end,
+        };
+        self.put_text(&range, Spot::Ended);
     }
 }

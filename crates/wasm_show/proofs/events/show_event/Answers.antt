@@ -13,6 +13,5 @@ returns-then-writes_objects g c =
 
 pub returns-else-writes_objects : goal.returns-else-writes_objects
 returns-else-writes_objects g c =
-    let text = c.as_bytes.ensures.bytes ∙ c.shown_text.ensures in
     subst (λ (x : List ℕ). AddsFirst x c.args.out.now c.first_of_function.new.self)
-    (ap (λ (x : List ℕ). x ++ codes "\n") text ∙ text_fed c.args.counts.now (report_of c.args.payload.now)) c.first_of_function.ensures
+    (text_fed c.args.counts.now (report_of c.args.payload.now)) c.first_of_function.ensures

@@ -1,9 +1,8 @@
-use Rattle.std.proofs.Common.{List, ℕ, sym, subst, ◌∙◌}
+use Rattle.std.proofs.Common.{sym, ◌∙◌}
 use Rattle.wasm_base.specs.FaultAt.{fault_at}
 use Rattle.wasm_feed.specs.Listing.{line_of}
 use Rattle.wasm_grammar.specs.Content.{fault}
 use Rattle.wasm_grammar.specs.Reading.{stream_end}
-use Rattle.wasm_show.specs.Tree.{AddsFirst}
 use Rattle.wasm_show.proofs.Writing.{are_objects, first_in_objects}
 use Rattle.wasm_show.proofs.events.show_last_fault.Goals as goal
 
@@ -11,7 +10,3 @@ pub returns-then-writes_objects : goal.returns-then-writes_objects
 returns-then-writes_objects g c =
     first_in_objects _ _ (are_objects _ (sym c.writes_objects.ensures ∙ c.if-writes_objects.true)) c.fault_object.ensures
     (line_of (stream_end (fault (fault_at c.args.error.now))))
-
-pub returns-else-writes_objects : goal.returns-else-writes_objects
-returns-else-writes_objects g c =
-    subst (λ (x : List ℕ). AddsFirst x c.args.out.now c.first.new.self) (c.as_bytes.ensures.bytes ∙ c.fault_line.ensures) c.first.ensures
