@@ -1,6 +1,7 @@
 // Worked examples, devices that fail or go short, and memory that runs out.
 mod bytewise;
 mod devices;
+mod digits;
 mod dumps;
 mod endings;
 mod equal_events;

@@ -205,14 +205,11 @@ const ENDS: [Row; 21] = [
 ];
 
 // Puts the text of an event after others, and a line feed.
-fn put_text<T: ShortText>(
-    lines: &mut Vec<u8>,
-    text: &T,
-) -> std::result::Result<(), AllocError> {
+fn put_text<T: ShortText>(lines: &mut Vec<u8>, text: &T) -> std::result::Result<(), AllocError> {
     let mut room = [0; TEXT_BYTES];
     let end = text.write_at(&mut room, 0);
     lines.extend_from_slice(&room[..end])?;
-    lines.push(b'\n')
+    lines.extend_from_slice(b"\n")
 }
 
 // Puts the line of a step after others, and says whether no step is to follow.
