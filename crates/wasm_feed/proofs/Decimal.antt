@@ -1,7 +1,6 @@
 -- The digits of a number, one and two at a time.
-use Rattle.std.proofs.Common.{◌≡◌, ℕ, zero, suc, ◌+◌, ◌-◌, ◌*◌, ◌/◌, ◌%◌, ◌^◌, ◌<◌, ◌≤◌, Bool, true, ◌&&◌, T, eqb, List, [], ◌∷◌, ◌++◌}
-use Rattle.std.proofs.Common.{eqb→eq, length, get_or, ap, ◌∙◌, inl, inr, arith, eq-zero-or-pos, append_assoc}
-use Rattle.std.proofs.Common.{length-append}
+use Rattle.std.proofs.Common.{◌≡◌, ℕ, zero, suc, ◌+◌, ◌-◌, ◌*◌, ◌/◌, ◌%◌, ◌^◌, ◌<◌, ◌≤◌, Bool, true, ◌&&◌, T, eqb, ◌++◌}
+use Rattle.std.proofs.Common.{eqb→eq, get_or, inl, inr, arith, eq-zero-or-pos, append_assoc}
 use Rattle.std.proofs.lemmas.Fmt.{decimal_digit, decimal_step}
 use Rattle.std.specs.Fmt.{decimal}
 use Rattle.wasm_feed.specs.Digits.{last_digits}

@@ -16,12 +16,12 @@ use Rattle.wasm_parser.specs.declared.payload.Payload.{Payload}
 use Rattle.wasm_parser.specs.Along.{ReadingBegins, BeginsEach, ReadsEach, Came}
 use Rattle.wasm_parser.proofs.ForCallers.{answers_go_along}
 use Rattle.wasm_feed.specs.Calls.{from_to}
-use Rattle.wasm_feed.specs.Feed.{Feed, new_feed, pushed, finished}
+use Rattle.wasm_feed.specs.Feed.{Feed, new_feed, pushed}
 use Rattle.wasm_feed.specs.Listing.{listing_by}
 use Rattle.wasm_feed.specs.Lists.{IsEndedBy, IsWhole, IsListed, Begins, IsBeginning, Fills, Refills, ListsBy}
 use Rattle.wasm_feed.specs.Progress.{weight, Progress, Wants}
 use Rattle.wasm_feed.specs.Page.{WritesBeginning, IsCut, PutsBytes}
-use Rattle.wasm_feed.specs.Step.{chunk_of, answer_of, shown, Stepped, Steps}
+use Rattle.wasm_feed.specs.Step.{chunk_of, answer_of, Stepped, Steps}
 use Rattle.wasm_feed.specs.Turns.{text_after, turn_after}
 use Rattle.wasm_feed.specs.declared.feeder.Step.{Step}
 use Rattle.wasm_feed.specs.declared.feeder.Step.TheVariants.{NeedMoreData, Parsed}

@@ -1,19 +1,18 @@
 -- What a step says of a feeder, and of the stream that it goes along.
-use Rattle.std.proofs.Common.{◌≡◌, ℕ, ◌+◌, ◌^◌, ◌<◌, Bool, true, false, List, [], ◌∷◌, ◌++◌, length, drop, nat_eq, Result, Ok, Err, refl}
+use Rattle.std.proofs.Common.{◌≡◌, ℕ, ◌+◌, ◌^◌, ◌<◌, Bool, true, List, [], ◌∷◌, ◌++◌, length, drop, nat_eq, Result, Ok, Err, refl}
 use Rattle.std.proofs.Common.{sym, ap, subst, subst₂, ◌∙◌, arith}
 use Rattle.std.proofs.lemmas.Bool.Decides.{nat_tests}
 use Rattle.std.proofs.lemmas.List.{drop_at}
 use Rattle.wasm_base.specs.declared.error.Error.{Error}
 use Rattle.wasm_parser.specs.Along.{Along, is_last, taken_by, SaysTheSame}
-use Rattle.wasm_parser.specs.ParseAnswer.{report_of, is_end, ParseAnswer, state_after_answer}
+use Rattle.wasm_parser.specs.ParseAnswer.{ParseAnswer, state_after_answer}
 use Rattle.wasm_parser.specs.ParserState.{ParserState}
 use Rattle.wasm_grammar.specs.Reading.{Event}
-use Rattle.wasm_parser.specs.declared.payload.Payload.{Payload}
 use Rattle.wasm_parser.proofs.ForCallers.{answers_go_along}
 use Rattle.wasm_parser.specs.GivesNextEvent.{IsUndecided}
 use Rattle.wasm_parser.specs.declared.payload.Chunk.TheVariants as chunk
-use Rattle.wasm_feed.specs.Feed.{Feed, new_feed, pushed, finished, end_of}
-use Rattle.wasm_feed.specs.FeedersLaws.{IsAlong, FeedersGoAlong}
+use Rattle.wasm_feed.specs.Feed.{Feed, end_of}
+use Rattle.wasm_feed.specs.FeedersLaws.{FeedersGoAlong}
 use Rattle.wasm_feed.specs.Step.{answer_of, shown, Stepped, GivesStep, Steps}
 use Rattle.wasm_feed.specs.declared.feeder.Step.{Step}
 use Rattle.wasm_feed.specs.declared.feeder.Step.TheVariants.{NeedMoreData, Parsed}

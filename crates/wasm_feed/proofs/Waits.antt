@@ -1,5 +1,5 @@
 -- That a feeder wants more only where its parser is undecided.
-use Rattle.std.proofs.Common.{◌≡◌, ℕ, ◌+◌, ◌^◌, ◌<◌, ◌≤◌, Bool, true, false, List, [], ◌++◌, length, Result, Ok, Err, refl, sym, ap, ◌∙◌}
+use Rattle.std.proofs.Common.{◌≡◌, ℕ, ◌+◌, ◌^◌, ◌<◌, ◌≤◌, true, false, List, [], length, Result, Ok, Err, refl, sym, ap, ◌∙◌}
 use Rattle.std.proofs.Common.{arith, length-append}
 use Rattle.wasm_base.specs.declared.error.Error.{Error}
 use Rattle.wasm_parser.specs.GivesNextEvent.{IsUndecided}

@@ -1,5 +1,5 @@
 -- How far a listing has come that goes along a stream by a feeder, each event told by the text of what it reports.
-use Rattle.std.specs.Prelude.{◌≡◌, ℕ, ◌+◌, ◌-◌, ◌<◌, ◌^◌, true, List, ◌++◌, length, Option, if◌then◌else◌}
+use Rattle.std.specs.Prelude.{◌≡◌, ℕ, ◌+◌, ◌-◌, ◌<◌, ◌^◌, true, List, ◌++◌, length, if◌then◌else◌}
 use Rattle.std.specs.Io.KnownBytes.{Consumes, Appends, IsAtEnd}
 use Rattle.wasm_parser.specs.Along.{Along}
 use Rattle.wasm_parser.specs.GivesNextEvent.{IsUndecided}

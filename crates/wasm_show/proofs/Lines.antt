@@ -1,11 +1,8 @@
 -- Each line of an event is one line of the first level, and begins with its text in a listing.
 use Rattle.std.proofs.Common.{◌≡◌, ℕ, zero, suc, ◌≤◌, List, [], ◌∷◌, ◌++◌, IfSome, option_map, slice_get, lit≤, length, codes}
 use Rattle.std.proofs.Common.{Option, Some, None, refl, sym, ap, ◌∙◌, append_assoc}
-use Rattle.wasm_base.specs.Message.{message_of}
-use Rattle.wasm_grammar.specs.Content.{ended, fault}
 use Rattle.wasm_grammar.specs.Ids.{names, name_of}
-use Rattle.wasm_grammar.specs.Reading.{Report, version, counted, start_section, data_count_section, code_start, code_entry, custom_section}
-use Rattle.wasm_grammar.specs.Reading.{unknown_section, stream_end}
+use Rattle.wasm_grammar.specs.Reading.{Report}
 use Rattle.wasm_feed.specs.Listing.{report_text}
 use Rattle.wasm_show.specs.Chosen.{blank_numbers, numbered_line, numbered_text, section_words, shown_line, BeginAlike}
 use Rattle.wasm_show.specs.Numbers.{numbers_in_line}

@@ -1,7 +1,7 @@
 -- What was put on the line that is begun, after each call that puts more.
 use Rattle.std.proofs.Common.{◌≡◌, ℕ, ◌+◌, ◌<◌, ◌^◌, zero, suc, Bool, true, false, List, [], ◌∷◌, ◌++◌, codes}
 use Rattle.std.proofs.Common.{Option, Some, None, refl, sym}
-use Rattle.std.proofs.Common.{Err, ◌%◌, ◌/◌, ◌≤◌, nat_lt}
+use Rattle.std.proofs.Common.{Err, ◌%◌, nat_lt}
 use Rattle.std.specs.Prelude.{slice_index}
 use Rattle.wasm_show.specs.Fields.{Field, field_text, with_fields, is_escaped, quoted_byte}
 use Rattle.std.proofs.Common.{ap, subst, ◌∙◌, append_assoc, append-nil, ◌||◌, nat_eq, decimal, length, take, get_or, arith}
@@ -19,8 +19,8 @@ use Rattle.wasm_feed.specs.Page.{WritesBeginning, IsCut}
 use Rattle.wasm_feed.specs.declared.devices.ListError.{ListError}
 use Rattle.wasm_feed.specs.declared.devices.ListError.TheVariants.{Input, Output, Memory}
 use Rattle.wasm_show.specs.ItemText.{expression_field}
-use Rattle.wasm_show.specs.Said.{StopsIn, PutsText, HasLine, Says, HasMore, SaysSome, SaysWith}
-use Rattle.wasm_show.specs.Tree.{Writing, IsPushed, IsStuck, PutsAs, Puts, has_line_feed}
+use Rattle.wasm_show.specs.Said.{StopsIn, PutsText, HasLine, Says, SaysSome, SaysWith}
+use Rattle.wasm_show.specs.Tree.{Writing, PutsAs, Puts, has_line_feed}
 use Rattle.wasm_show.specs.declared.tree.Style.{Style}
 use Rattle.wasm_show.specs.declared.tree.Style.TheVariants.{Lines, Objects}
 

@@ -1,5 +1,5 @@
 -- The fields of an item's line, by the item's value.
-use Rattle.std.specs.Prelude.{ℕ, List, [], ◌∷◌, ◌++◌, codes, Option, Some, None}
+use Rattle.std.specs.Prelude.{ℕ, List, [], ◌∷◌, ◌++◌, codes}
 use Rattle.wasm_items.specs.Data.{DataParts}
 use Rattle.wasm_items.specs.Exports.{ExportParts}
 use Rattle.wasm_items.specs.Imports.{ImportParts}

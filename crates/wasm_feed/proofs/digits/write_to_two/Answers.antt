@@ -1,4 +1,4 @@
-use Rattle.std.proofs.Common.{◌+◌, arith, ◌∙◌}
+use Rattle.std.proofs.Common.{◌+◌, arith}
 use Rattle.std.proofs.lemmas.Fmt.{decimal_digit}
 use Rattle.std.proofs.lemmas.Grind.{take-set_at}
 use Rattle.wasm_feed.proofs.Decimal.{decimal_two}

@@ -1,4 +1,4 @@
-use Rattle.std.proofs.Common.{List, ℕ, ◌++◌, ap, codes, sym, subst, ◌∙◌}
+use Rattle.std.proofs.Common.{List, ℕ, sym, subst, ◌∙◌}
 use Rattle.wasm_parser.specs.ParseAnswer.{report_of}
 use Rattle.wasm_show.specs.Chosen.{numbered_line}
 use Rattle.wasm_show.specs.Tree.{AddsFirst}

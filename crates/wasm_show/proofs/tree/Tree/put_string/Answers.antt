@@ -1,4 +1,4 @@
-use Rattle.std.proofs.Common.{◌≡◌, List, ℕ, false, sym, ap, subst, subst₂, ◌∙◌}
+use Rattle.std.proofs.Common.{◌≡◌, List, ℕ, false, sym, ap, subst}
 use Rattle.std.specs.List.{list_any}
 use Rattle.wasm_show.specs.Fields.{is_escaped}
 use Rattle.wasm_show.specs.Json.{Leads}

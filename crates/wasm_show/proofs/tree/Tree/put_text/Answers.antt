@@ -1,4 +1,4 @@
-use Rattle.std.proofs.Common.{sym, ap, subst, ◌∙◌}
+use Rattle.std.proofs.Common.{sym, subst}
 use Rattle.wasm_show.specs.Tree.{Writing, IsWritten}
 use Rattle.wasm_show.proofs.Writing.{puts_in_object}
 use Rattle.wasm_show.proofs.tree.Tree.put_text.Goals as goal

@@ -1,4 +1,4 @@
-use Rattle.std.proofs.Common.{◌≡◌, List, ℕ, [], ◌∷◌, false, rules, sym, subst, append-nil, ◌∙◌}
+use Rattle.std.proofs.Common.{◌≡◌, List, ℕ, [], ◌∷◌, false, rules, sym, subst, append-nil}
 use Rattle.std.specs.List.{list_any}
 use Rattle.wasm_show.specs.Fields.{is_escaped, quoted_byte}
 use Rattle.wasm_show.proofs.Saying.{quotes_more, plain_quoted, none_in_plain}

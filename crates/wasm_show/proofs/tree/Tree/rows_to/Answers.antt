@@ -2,7 +2,6 @@ use Rattle.std.proofs.Common.{◌≡◌, ◌≤◌, ◌++◌, List, ℕ, length,
 use Rattle.std.proofs.Math.ListN.{length-drop}
 use Rattle.wasm_show.specs.Tree.{Writing, IsWritten, Puts, row_text}
 use Rattle.wasm_show.proofs.Writing.{are_same, puts_row}
-use Rattle.wasm_show.proofs.tree.Tree.rows_to.Given as given
 use Rattle.wasm_show.proofs.tree.Tree.rows_to.Goals as goal
 
 pub pass-requires : goal.pass-requires
@@ -33,8 +32,9 @@ rows-preserved g c =
     let parts = sym (take-append-drop c.in-Some.count c.rows.self.unshown) ∙ ap (λ (x : List ℕ). first ++ x) (sym left) in
     record {
       adds = λ o i. subst (λ (w : Writing). IsWritten o (record w { unshown = c.pass.new.self })) (sym c.self-in-Some.view_is)
-          (puts_row o c.rows.self c.push_text.new.self c.rows.invariant.lines c.in-Some.row.offset first c.pass.new.self c.rows.invariant.ended
-          (subst (λ (x : List ℕ). Puts x c.rows.self c.push_text.new.self) text c.push_text.ensures) parts (c.rows.invariant.adds o i));
+          (puts_row o c.rows.self c.push_text.new.self c.rows.invariant.lines c.in-Some.row.offset first c.pass.new.self
+          c.rows.invariant.ended (subst (λ (x : List ℕ). Puts x c.rows.self c.push_text.new.self) text c.push_text.ensures) parts
+          (c.rows.invariant.adds o i));
       ended = ap (λ (w : Writing). w.is_begun) c.self-in-Some.view_is ∙ (are.begun ∙ c.rows.invariant.ended);
       lines = ap (λ (w : Writing). w.style) c.self-in-Some.view_is ∙ (are.style ∙ c.rows.invariant.lines);
     }

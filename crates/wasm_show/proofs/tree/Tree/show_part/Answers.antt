@@ -1,4 +1,4 @@
-use Rattle.std.proofs.Common.{sym, ap, subst, subst₂, List, ℕ, ◌∙◌}
+use Rattle.std.proofs.Common.{sym, ap, subst₂, List, ℕ, ◌∙◌}
 use Rattle.std.specs.Option.{is_some}
 use Rattle.wasm_show.specs.Tree.{Writing, IsWritten, with_bytes}
 use Rattle.wasm_show.proofs.Writing.{never_shown, none_there, to_show}
