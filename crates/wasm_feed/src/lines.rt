@@ -99,6 +99,26 @@ fn write_version(
     write_word(bytes, at, encoding_name(encoding))
 }
 
+// Writes a start section.
+fn write_start(bytes: &mut [u8], at: usize, range: &Range<u64>, func: u32) -> usize
+    requires { at + 100 ≤ length bytes.old }
+    ensures short { result ≤ at + 100 }
+    ensures written { take result bytes.new ≡ take at bytes.old
+        ++ (codes "start" ++ (field range.now.start ++ (field range.now.end ++ field func))) }
+{
+    write_range(bytes, at, "start", range, u64::from(func))
+}
+
+// Writes the section that counts data segments.
+fn write_data_count(bytes: &mut [u8], at: usize, range: &Range<u64>, count: u32) -> usize
+    requires { at + 100 ≤ length bytes.old }
+    ensures short { result ≤ at + 100 }
+    ensures written { take result bytes.new ≡ take at bytes.old ++ (codes "datacount"
+        ++ (field range.now.start ++ (field range.now.end ++ field count))) }
+{
+    write_range(bytes, at, "datacount", range, u64::from(count))
+}
+
 // Writes a body.
 fn write_body(bytes: &mut [u8], at: usize, range: &Range<u64>) -> usize
     requires { at + 100 ≤ length bytes.old }
@@ -159,13 +179,9 @@ pub fn write_payload(bytes: &mut [u8], at: usize, payload: &Payload) -> usize
         Payload::TagSection(section) => write_counted(bytes, at, TAG_SECTION, section),
         Payload::GlobalSection(section) => write_counted(bytes, at, GLOBAL_SECTION, section),
         Payload::ExportSection(section) => write_counted(bytes, at, EXPORT_SECTION, section),
-        Payload::StartSection { func, range } => {
-            write_range(bytes, at, "start", range, u64::from(*func))
-        }
+        Payload::StartSection { func, range } => { write_start(bytes, at, range, *func) }
         Payload::ElementSection(section) => write_counted(bytes, at, ELEMENT_SECTION, section),
-        Payload::DataCountSection { count, range } => {
-            write_range(bytes, at, "datacount", range, u64::from(*count))
-        }
+        Payload::DataCountSection { count, range } => { write_data_count(bytes, at, range, *count) }
         Payload::DataSection(section) => write_counted(bytes, at, DATA_SECTION, section),
         Payload::CodeSectionStart {
             count,
