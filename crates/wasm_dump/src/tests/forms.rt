@@ -32,6 +32,21 @@ fn escapes_what_no_string_has(rt: HostRuntime) -> Result<(), Fail> {
     runs(&rt, rt.alloc(), given, NAMES, (0, text, b""))
 }
 
+// Offsets to be added in relocations, one of them below 0.
+#[test]
+fn writes_signed_numbers(rt: HostRuntime) -> Result<(), Fail> {
+    let stream = b"\0asm\x01\0\0\0\0\x16\x0areloc.CODE\x03\x02\x03\x21\x49\x7c\x03\x22\x4a\x82\x01";
+    let text = b"{\"event\":\"version\",\"range\":[0,8],\"num\":1,\"encoding\":\"module\"}
+{\"event\":\"section\",\"range\":[10,32],\"id\":0,\"name\":\"custom\",\"custom_name\":\"reloc.CODE\",\"data_offset\":21}
+{\"level\":1,\"line\":\"section\",\"name\":\"reloc.CODE\",\"section\":3,\"range\":[21,32],\"entries\":[22,32],\"count\":2}
+{\"level\":2,\"at\":23,\"type\":\"R_WASM_MEMORY_ADDR_LEB\",\"offset\":33,\"index\":73,\"addend\":-4}
+{\"level\":2,\"at\":27,\"type\":\"R_WASM_MEMORY_ADDR_LEB\",\"offset\":34,\"index\":74,\"addend\":130}
+{\"event\":\"end\",\"offset\":32}
+";
+    let given = Ok(arguments(rt.alloc(), &["--json"])?);
+    runs(&rt, rt.alloc(), given, stream, (0, text, b""))
+}
+
 // Of an item, and of the stream.
 #[test]
 fn writes_faults_as_objects(rt: HostRuntime) -> Result<(), Fail> {
