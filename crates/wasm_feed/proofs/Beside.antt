@@ -1,31 +1,30 @@
 -- That what a step answers beside a piece is what it answers on all of the piece.
 use Rattle.std.proofs.Common.{◌≡◌, ℕ, ◌+◌, ◌-◌, ◌^◌, ◌<◌, ◌≤◌, Bool, true, false, List, [], ◌∷◌, ◌++◌, length, drop, Result, Ok, Err}
-use Rattle.std.proofs.Common.{refl, sym, ap, subst, subst₂, ◌∙◌, arith, append_assoc, append-nil, length-append, max, inl, inr, Option}
-use Rattle.std.proofs.lemmas.List.{length-drop, drop-drop, drop_all}
+use Rattle.std.proofs.Common.{refl, sym, ap, subst, subst₂, ◌∙◌, arith, append_assoc, append-nil, length-append, inl, inr, Option}
+use Rattle.std.proofs.lemmas.List.{append_cancel_right, length-drop, drop-drop}
 use Rattle.wasm_base.specs.declared.error.Error.{Error}
 use Rattle.wasm_base.specs.Features.{all_features}
 use Rattle.wasm_grammar.specs.Reading.{Report}
-use Rattle.wasm_parser.specs.Along.{SaysTheSame}
-use Rattle.wasm_parser.specs.GivesNextEvent.{IsUndecided}
+use Rattle.wasm_grammar.specs.Waiting.{enough as decides_all, wants, waiting}
+use Rattle.wasm_parser.specs.Along.{is_last, SaysTheSame}
 use Rattle.wasm_parser.specs.ParseAnswer.{IsRequest, ParseAnswer}
 use Rattle.wasm_parser.specs.ParserLaws.{AnswersLast}
-use Rattle.wasm_parser.specs.ParserState.{ParserState}
+use Rattle.wasm_parser.specs.ParserState.{ParserState, grammar_of}
 use Rattle.wasm_parser.specs.declared.payload.Chunk.{Chunk}
 use Rattle.wasm_parser.specs.declared.payload.Chunk.TheVariants as chunk
 use Rattle.wasm_parser.proofs.ForCallers.{answers_go_along}
 use Rattle.wasm_feed.specs.Beside.{beside, seen, unseen, lending, SeesEnough, AreEnough, ReadsEnough, MakesReady, IsAlike, FillsAlike}
-use Rattle.wasm_feed.specs.Beside.{StepsOver}
+use Rattle.wasm_feed.specs.Beside.{Bounds, HasDecided, StaysIdle, StepsOver}
 use Rattle.wasm_feed.specs.Calls.{Change, from_to}
 use Rattle.wasm_feed.specs.Cursors.{feed_of}
-use Rattle.wasm_feed.specs.Feed.{Feed, new_feed, pushed, finished, end_of}
-use Rattle.wasm_feed.specs.FeedersLaws.{WaitsUndecided}
+use Rattle.wasm_feed.specs.Feed.{Feed, new_feed, pushed, finished}
 use Rattle.wasm_feed.specs.Progress.{weight, Progress, Wants}
 use Rattle.wasm_feed.specs.Step.{answer_of, shown, is_request, Steps}
 use Rattle.wasm_feed.specs.declared.feeder.Cursor.{Cursor}
 use Rattle.wasm_feed.specs.declared.feeder.Step.{Step}
 use Rattle.wasm_feed.specs.declared.feeder.Step.TheVariants.{NeedMoreData, Parsed}
 use Rattle.wasm_feed.proofs.Progress.{begun, filled}
-use Rattle.wasm_feed.proofs.Stepping.{steps_from, asked, asked_below}
+use Rattle.wasm_feed.proofs.Stepping.{none_passed, steps_from}
 
 -- ---- enough bytes
 
@@ -52,28 +51,49 @@ nothing_more p eof bytes more e answer new a = subst (λ (l : List ℕ). ParseAn
 -- ---- bytes that were stored
 
 bounded_by : (old : Feed) (piece stored : List ℕ) (count : ℕ) → count ≤ length piece → stored ++ drop count piece ≡ old.held ++ piece
-    → length stored + (length piece - count) ≤ max old.stored (length old.held + length piece)
-bounded_by old piece stored count within same =
+    → length old.held ≤ old.stored → Bounds old piece (length stored + (length piece - count))
+bounded_by old piece stored count within same stores =
     let sizes = ap (λ (l : List ℕ). length l) same in
-    omega (arith, sizes, length-append stored (drop count piece), length-append old.held piece, length-drop count piece)
+    let both : length stored + (length piece - count) ≤ length old.held + length piece =
+        omega (arith, sizes, length-append stored (drop count piece), length-append old.held piece, length-drop count piece) in
+    record { fed = λ n. both; unfed = λ e. let none : length piece ≡ 0 = ap (λ (l : List ℕ). length l) e in omega (arith, both, none, stores) }
+
+idle_by : (old : Feed) (piece stored : List ℕ) (count : ℕ) (c : Cursor) → c.mark ≡ 0 → stored ++ drop count piece ≡ old.held ++ piece
+    → length old.held ≤ old.stored → (HasDecided old piece → count ≡ 0) → HasDecided old piece → StaysIdle old count stored c
+idle_by old piece stored count c first same stores idle h =
+    let none = idle h in
+    let held : stored ≡ old.held = append_cancel_right stored old.held piece (ap (λ (n : ℕ). stored ++ drop n piece) (sym none) ∙ same) in
+    let size = ap (λ (l : List ℕ). length l) held in
+    let some = h.holds in
+    record {
+      takes_none = none;
+      reads = ap (λ (m : ℕ). drop m stored) first ∙ held;
+      some = omega (arith, size, some);
+      bounded = omega (arith, size, stores);
+    }
 
 -- a cursor at the first of the stored bytes, where these and what is left of the piece are what was held and the piece
 pub ready : (old : Feed) (piece stored : List ℕ) (count : ℕ) (c : Cursor) → count ≤ length piece → c.mark ≡ 0
     → stored ++ drop count piece ≡ old.held ++ piece → c.parser ≡ old.state → c.is_finished ≡ old.eof → c.wants_more ≡ old.wants_more
-    → SeesEnough c.parser c.is_finished stored (drop count piece) → MakesReady old piece count stored c
-ready old piece [] count c within first same state eof wants sees = record {
-  bounded = bounded_by old piece [] count within same;
+    → SeesEnough c.parser c.is_finished stored (drop count piece) → length old.held ≤ old.stored → (HasDecided old piece → count ≡ 0)
+    → MakesReady old piece count stored c
+ready old piece [] count c within first same state eof wants sees stores idle = record {
+  bounded = bounded_by old piece [] count within same stores;
   within = within;
   same = let h : drop c.mark (drop count piece) ++ [] ≡ old.held ++ piece = append-nil (drop c.mark (drop count piece))
       ∙ (ap (λ (m : ℕ). drop m (drop count piece)) first ∙ same) in cc;
   enough = nothing_more c.parser c.is_finished (drop c.mark (drop count piece)) [] refl;
+  starts = λ e. first;
+  idle = idle_by old piece [] count c first same stores idle;
 }
-ready old piece (x ∷ xs) count c within first same state eof wants sees = record {
-  bounded = bounded_by old piece (x ∷ xs) count within same;
+ready old piece (x ∷ xs) count c within first same state eof wants sees stores idle = record {
+  bounded = bounded_by old piece (x ∷ xs) count within same stores;
   within = within;
   same = let h : drop c.mark (x ∷ xs) ++ drop count piece ≡ old.held ++ piece =
       ap (λ (m : ℕ). drop m (x ∷ xs) ++ drop count piece) first ∙ same in cc;
   enough = rw first sees;
+  starts = λ e. first;
+  idle = idle_by old piece (x ∷ xs) count c first same stores idle;
 }
 
 -- ---- a step
@@ -149,48 +169,88 @@ filled_alike text_of source rest taken written rest' f g w (inr (piece, gave, so
 
 -- ---- a step over a piece
 
-pub over : (f : Feed) (piece rest stored : List ℕ) (count : ℕ) (old new : Cursor) (x : Result Step Error)
-    → MakesReady f piece count stored old → rest ≡ drop count piece → Steps (beside f piece) x (lending stored (drop count piece) new)
-    → new.wants_more ≡ is_request x → (taken : ℕ) (stored' : List ℕ) (last : Cursor)
-    → beside (feed_of stored' last) (drop taken rest) ≡ lending stored rest new → taken ≤ length rest
-    → (new.wants_more ≡ true → taken ≡ length rest) → length stored' ≤ length stored + length rest
-    → StepsOver f piece x (count + taken) (feed_of stored' last)
-over f piece rest stored count old new x r left s w taken stored' last takes within asks bounded = record {
-  steps = subst (λ (g : Feed). Steps (beside f piece) x g) (sym same) s;
-  asks = λ e. let all = asks (w ∙ e) in omega (arith, all, size, sizes, r.within);
-  bounded = omega (arith, bounded, r.bounded, size, sizes);
-}
-  where
-    size : length rest ≡ length (drop count piece)
-    size = ap (λ (l : List ℕ). length l) left
+-- a step reads what is stored, if something is
+seen_some : (stored rest : List ℕ) → 0 < length stored → seen stored rest ≡ stored
+seen_some [] rest some = absurd (omega arith)
+seen_some (x ∷ xs) rest some = refl
 
-    sizes : length (drop count piece) ≡ length piece - count
-    sizes = length-drop count piece
+-- bytes that decide are no request
+decided : (p new : ParserState) (bytes : List ℕ) (x : Result Step Error) → ParseAnswer p false bytes (answer_of x) new
+    → waiting (grammar_of p) bytes ≡ decides_all → is_request x ≡ false
+decided p new bytes (Ok (NeedMoreData hint)) a e = let (goes, (need, u)) = answers_go_along.asks p new false bytes hint a in
+    let no : decides_all ≡ wants need hint = sym e ∙ u in cc
+decided p new bytes (Ok (Parsed shown payload)) a e = refl
+decided p new bytes (Err error) a e = refl
 
-    same : beside (feed_of stored' last) (drop (count + taken) piece) ≡ lending stored (drop count piece) new
-    same = ap (beside (feed_of stored' last)) (sym (ap (drop taken) left ∙ drop-drop taken count piece))
-        ∙ (takes ∙ ap (λ (l : List ℕ). lending stored l new) left)
+last_is_no_request : (x : Result Step Error) → is_last (answer_of x) ≡ true → is_request x ≡ false
+last_is_no_request (Ok (NeedMoreData hint)) l = cc
+last_is_no_request (Ok (Parsed bytes payload)) l = refl
+last_is_no_request (Err e) l = refl
 
--- after a step over a piece the feeder wants more only where its parser is undecided
-pub over_waits : (f new : Feed) (piece : List ℕ) (x : Result Step Error) (taken : ℕ) → StepsOver f piece x taken new
-    → length new.held ≤ new.stored → WaitsUndecided new
-over_waits f new piece x taken s l = record {
-  stores = l;
-  below = λ e. let b = (by_answer x s.steps (sym s.steps.wants_more ∙ e)).1 in
-      omega (arith, b, length-append new.held (drop taken piece));
-  undecided = λ e. let (hint, u) = (by_answer x s.steps (sym s.steps.wants_more ∙ e)).0 in
-      (hint, subst (λ (l : List ℕ). IsUndecided new.state new.eof l hint) (all (sym s.steps.wants_more ∙ e)) u);
-}
-  where
-    all : is_request x ≡ true → new.held ++ drop taken piece ≡ new.held
-    all e = ap (λ (l : List ℕ). new.held ++ l) (drop_all taken piece (omega (arith, s.asks e))) ∙ append-nil new.held
+-- What is known of a step over a piece: `old` is the cursor once so many bytes of the piece are stored, and `new` the same after the step.
+module _ (f : Feed) (piece rest stored items bytes : List ℕ) (count : ℕ) (old new : Cursor) (x : Result Step Error)
+    (r : MakesReady f piece count stored old) (left : rest ≡ drop count piece) (read : bytes ≡ seen items rest) (items_are : items ≡ stored)
+    (parses : ParseAnswer old.parser old.is_finished (drop old.mark bytes) (answer_of x) new.parser)
+    (shows : drop old.mark bytes ≡ shown x ++ drop new.mark bytes) (finished : new.is_finished ≡ old.is_finished)
+    (wants : new.wants_more ≡ is_request x) (moves : new.mark ≡ old.mark + length (shown x)) where
+  stepped : Steps (beside f piece) x (lending stored (drop count piece) new)
+  stepped = lent (beside f piece) stored (drop count piece) items rest bytes old new x r.same r.enough read items_are left parses shows
+      finished wants
 
-    by_answer : (y : Result Step Error) → Steps (beside f piece) y (beside new (drop taken piece)) → is_request y ≡ true
-        → ((hint : ℕ) × IsUndecided new.state new.eof (new.held ++ drop taken piece) hint)
-        × (end_of (beside new (drop taken piece)) < 2 ^ 64)
-    by_answer (Ok (NeedMoreData hint)) t e = (
-      (hint, asked (beside f piece) (beside new (drop taken piece)) hint t),
-      asked_below (beside f piece) (beside new (drop taken piece)) hint t,
-    )
-    by_answer (Ok (Parsed bytes payload)) t e = cc
-    by_answer (Err error) t e = cc
+  reads : bytes ≡ seen stored rest
+  reads = read ∙ ap (λ (l : List ℕ). seen l rest) items_are
+
+  -- the feeder is where the parser was, and at the end of input if it was
+  state : old.parser ≡ f.state
+  state = ap (λ (g : Feed). g.state) r.same
+
+  eof : old.is_finished ≡ f.eof
+  eof = ap (λ (g : Feed). g.eof) r.same
+
+  -- so many bytes of the rest were taken, and this is stored then
+  pub over : (taken : ℕ) (kept : List ℕ) (last : Cursor) → beside (feed_of kept last) (drop taken rest) ≡ lending stored rest new
+      → taken ≤ length rest → (new.wants_more ≡ true → taken ≡ length rest) → length kept ≤ length stored + length rest
+      → (new.wants_more ≡ false → (stored ≡ [] → new.mark ≡ 0) → drop last.mark kept ≡ drop new.mark (seen stored rest))
+      → (new.wants_more ≡ false → 0 < length stored → (taken ≡ 0) × (length kept ≡ length stored))
+      → StepsOver f piece x (count + taken) (feed_of kept last)
+  over taken kept last takes within asks bounded stays idle = record {
+    steps = subst (λ (g : Feed). Steps (beside f piece) x g) (sym same) stepped;
+    asks = λ e. let all = asks (wants ∙ e) in omega (arith, all, size, sizes, r.within);
+    stays = λ l. subst₂ (λ (p q : ParserState). ParseAnswer p f.eof (drop last.mark kept) (answer_of x) q) state
+        (sym (ap (λ (g : Feed). g.state) takes)) (subst₂ (λ (b : Bool) (held : List ℕ). ParseAnswer old.parser b held (answer_of x) new.parser)
+        eof (sym (held l)) parses);
+    stores = omega (arith, length-drop last.mark kept);
+    bounded = record {
+      fed = λ n. let b = r.bounded.fed n in omega (arith, b, bounded, size, sizes);
+      unfed = λ e. let b = r.bounded.unfed e in omega (arith, b, bounded, size, sizes);
+    };
+    idle = λ h.
+        let i = r.idle h in
+        let (none, kept_all) = idle (wants ∙ no_request h i) i.some in
+        let c = i.takes_none in
+        let b = i.bounded in
+        (omega (arith, none, c), omega (arith, kept_all, b));
+  }
+    where
+      size : length rest ≡ length (drop count piece)
+      size = ap (λ (l : List ℕ). length l) left
+
+      sizes : length (drop count piece) ≡ length piece - count
+      sizes = length-drop count piece
+
+      same : beside (feed_of kept last) (drop (count + taken) piece) ≡ lending stored (drop count piece) new
+      same = ap (beside (feed_of kept last)) (sym (ap (drop taken) left ∙ drop-drop taken count piece))
+          ∙ (takes ∙ ap (λ (l : List ℕ). lending stored l new) left)
+
+      held : is_last (answer_of x) ≡ true → drop last.mark kept ≡ drop old.mark bytes
+      held l =
+          let none = ap (λ (b : List ℕ). length b) (none_passed old.parser new.parser old.is_finished (drop old.mark bytes) x parses l) in
+          let mark : new.mark ≡ old.mark = omega (arith, moves, none) in
+          stays (wants ∙ last_is_no_request x l) (λ e. mark ∙ r.starts e)
+          ∙ (ap (λ (m : ℕ). drop m (seen stored rest)) mark ∙ ap (drop old.mark) (sym reads))
+
+      no_request : HasDecided f piece → StaysIdle f count stored old → is_request x ≡ false
+      no_request h i = decided f.state new.parser f.held x
+          (subst₂ (λ (p : ParserState) (b : Bool). ParseAnswer p b f.held (answer_of x) new.parser) state (eof ∙ h.goes_on)
+          (subst (λ (l : List ℕ). ParseAnswer old.parser old.is_finished l (answer_of x) new.parser)
+          (ap (drop old.mark) (reads ∙ seen_some stored rest i.some) ∙ i.reads) parses)) h.decides

@@ -1,15 +1,17 @@
 -- A feeder beside a piece, of which it stores nothing, a part or all.
-use Rattle.std.specs.Prelude.{◌≡◌, ℕ, ◌+◌, ◌-◌, ◌<◌, ◌≤◌, ◌^◌, max, Bool, true, false, List, [], ◌∷◌, ◌++◌, length}
+use Rattle.std.specs.Prelude.{◌≡◌, ℕ, ◌+◌, ◌-◌, ◌<◌, ◌≤◌, ◌^◌, Bool, true, false, List, [], ◌∷◌, ◌++◌, length}
 use Rattle.std.specs.Prelude.{◌⊎◌, take, drop, Option, Result, Ok, Err}
 use Rattle.std.specs.Io.KnownBytes.{Consumes, IsAtEnd, Keeps}
 use Rattle.wasm_base.specs.declared.error.Error.{Error}
+use Rattle.wasm_grammar.specs.Waiting.{enough, waiting}
+use Rattle.wasm_parser.specs.Along.{is_last}
 use Rattle.wasm_parser.specs.ParseAnswer.{ParseAnswer}
-use Rattle.wasm_parser.specs.ParserState.{ParserState}
+use Rattle.wasm_parser.specs.ParserState.{ParserState, grammar_of}
 use Rattle.wasm_parser.specs.declared.payload.Chunk.{Chunk}
 use Rattle.wasm_feed.specs.Cursors.{feed_of}
-use Rattle.wasm_feed.specs.Feed.{Feed, pushed, finished}
+use Rattle.wasm_feed.specs.Feed.{Feed, pushed, finished, end_of}
 use Rattle.wasm_feed.specs.Lists.{Refills}
-use Rattle.wasm_feed.specs.Step.{is_request, Steps}
+use Rattle.wasm_feed.specs.Step.{answer_of, is_request, Steps}
 use Rattle.wasm_feed.specs.declared.devices.Failed.{Failed}
 use Rattle.wasm_feed.specs.declared.devices.ListError.{ListError}
 use Rattle.wasm_feed.specs.declared.feeder.Cursor.{Cursor}
@@ -47,25 +49,56 @@ abbrev pub ReadsEnough : (stored piece : List ℕ) → Cursor → Type 0
 ReadsEnough stored piece c =
     SeesEnough c.parser c.is_finished (drop c.mark (seen stored piece)) (unseen stored piece)
 
--- So many bytes of a piece were put after those that were there, and these are enough.
+-- So many bytes of a piece were put after those that were there, and these are enough: none, if those were.
 pub record Gathers (p : ParserState) (old piece : List ℕ) (count : ℕ) (new : List ℕ) : Type 0 where
   pub within : count ≤ length piece
   pub stores : new ≡ old ++ take count piece
   pub enough : SeesEnough p false new (drop count piece)
+  pub idle : waiting (grammar_of p) old ≡ enough → count ≡ 0
+
+-- No bytes come after the end of input.
+abbrev pub MayCome : Feed → (piece : List ℕ) → Type 0
+MayCome f piece = f.eof ≡ true → piece ≡ []
+
+-- The feeder holds bytes that decide what comes next, whatever follows, and has not asked for more.
+pub record HasDecided (f : Feed) (piece : List ℕ) : Type 0 where
+  pub holds : 0 < length f.held
+  pub wants_none : f.wants_more ≡ false
+  pub goes_on : f.eof ≡ false
+  pub below : end_of f + length piece < 2 ^ 64
+  pub decides : waiting (grammar_of f.state) f.held ≡ enough
+
+-- How many bytes are stored after a piece came: at most those that were held, and the piece. Without a piece there are no
+-- more than before.
+pub record Bounds (old : Feed) (piece : List ℕ) (stored : ℕ) : Type 0 where
+  pub fed : 0 < length piece → stored ≤ length old.held + length piece
+  pub unfed : piece ≡ [] → stored ≤ old.stored
+
+-- A step reads the bytes that were held, of which no more are stored than before.
+pub record StaysIdle (old : Feed) (count : ℕ) (stored : List ℕ) (c : Cursor) : Type 0 where
+  pub takes_none : count ≡ 0
+  pub reads : drop c.mark stored ≡ old.held
+  pub some : 0 < length stored
+  pub bounded : length stored ≤ old.stored
 
 -- So many bytes of a piece were stored, so that a step reads enough.
 pub record MakesReady (old : Feed) (piece : List ℕ) (count : ℕ) (stored : List ℕ) (c : Cursor) : Type 0 where
   pub within : count ≤ length piece
   pub same : lending stored (drop count piece) c ≡ beside old piece
   pub enough : ReadsEnough stored (drop count piece) c
-  pub bounded : length stored + (length piece - count) ≤ max old.stored (length old.held + length piece)
+  pub starts : stored ≡ [] → c.mark ≡ 0
+  pub bounded : Bounds old piece (length stored + (length piece - count))
+  pub idle : HasDecided old piece → StaysIdle old count stored c
 
--- A step along what a feeder holds and then a piece, of which it took so many bytes: all where more is asked for. It
--- stores no more than before, or than after a push of the piece.
+-- A step along what a feeder holds and then a piece, of which it took so many bytes: all where more is asked for, and
+-- none where the bytes that it holds decide. After the end or a fault it holds the bytes that decided that.
 pub record StepsOver (old : Feed) (piece : List ℕ) (result : Result Step Error) (taken : ℕ) (new : Feed) : Type 0 where
   pub steps : Steps (beside old piece) result (beside new (drop taken piece))
   pub asks : is_request result ≡ true → taken ≡ length piece
-  pub bounded : new.stored ≤ max old.stored (pushed old piece).stored
+  pub stays : is_last (answer_of result) ≡ true → ParseAnswer old.state old.eof new.held (answer_of result) new.state
+  pub stores : length new.held ≤ new.stored
+  pub bounded : Bounds old piece new.stored
+  pub idle : HasDecided old piece → (taken ≡ 0) × (new.stored ≤ old.stored)
 
 -- Two feeders are in one place, with the same bytes.
 pub record IsAlike (f g : Feed) : Type 0 where

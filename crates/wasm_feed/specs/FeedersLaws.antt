@@ -1,14 +1,18 @@
 -- What holds of every feeder: where it is along a stream, and how long it waits.
-use Rattle.std.specs.Prelude.{◌≡◌, ℕ, ◌+◌, ◌<◌, ◌≤◌, ◌^◌, true, false, List, [], ◌++◌, length, Result, Ok}
+use Rattle.std.specs.Prelude.{◌≡◌, ◌⊎◌, ℕ, ◌+◌, ◌<◌, ◌≤◌, ◌^◌, true, false, List, [], ◌++◌, length, take, drop}
+use Rattle.std.specs.Prelude.{Result, Ok}
 use Rattle.std.specs.Borrow.{Bor}
+use Rattle.wasm_base.specs.FaultAt.{at_offset}
 use Rattle.wasm_base.specs.declared.error.Error.{Error}
+use Rattle.wasm_base.specs.declared.fault.Fault.TheVariants.{OffsetRange}
 use Rattle.wasm_parser.specs.Along.{Along, is_last, SaysTheSame}
 use Rattle.wasm_parser.specs.GivesNextEvent.{IsUndecided}
-use Rattle.wasm_parser.specs.ParseAnswer.{report_of, is_end, state_after_answer}
+use Rattle.wasm_parser.specs.ParseAnswer.{report_of, is_end, refuses, said, state_after_answer}
 use Rattle.wasm_parser.specs.ParserState.{grammar_of}
 use Rattle.wasm_grammar.specs.Reading.{Event}
-use Rattle.wasm_grammar.specs.Waiting.{wants, waiting}
+use Rattle.wasm_grammar.specs.Waiting.{enough, wants, waiting}
 use Rattle.wasm_parser.specs.declared.payload.Payload.{Payload}
+use Rattle.wasm_feed.specs.Beside.{MayCome, StepsOver}
 use Rattle.wasm_feed.specs.Feed.{Feed, new_feed, pushed, finished, end_of}
 use Rattle.wasm_feed.specs.Step.{answer_of, Stepped, Steps}
 use Rattle.wasm_feed.specs.declared.feeder.Step.{Step}
@@ -18,6 +22,18 @@ use Rattle.wasm_feed.specs.declared.feeder.Step.TheVariants.{NeedMoreData, Parse
 -- holds the others.
 abbrev pub IsAlong : (start features : ℕ) (given : List ℕ) (f : Feed) (events : List Event) → Type 0
 IsAlong start features given f events = Along start features given f.state f.held events
+
+-- What a step over a piece says of the stream: the step is the next event of every stream that begins with what was
+-- given and the piece, and then the feeder was given what it took of the piece.
+pub record SteppedOver (start features : ℕ) (given : List ℕ) (f : Feed) (piece : List ℕ) (events : List Event)
+    (result : Result Step Error) (taken : ℕ) (g : Feed) : Type 0 where
+  pub steps : Stepped start features f.eof (given ++ piece) events result g.state (g.held ++ drop taken piece)
+  pub takes : (later : List Event) → Along start features (given ++ piece) g.state (g.held ++ drop taken piece) later
+      → IsAlong start features (given ++ take taken piece) g later
+
+-- A feeder goes on as it was left, or was told of the end of input since.
+abbrev pub GoesOn : (left now : Feed) → Type 0
+GoesOn left now = (now ≡ left) ⊎ (now ≡ finished left)
 
 -- Where a feeder is along a stream, whatever calls are made of it, in any order.
 pub record FeedersGoAlong : Type 0 where
@@ -30,6 +46,13 @@ pub record FeedersGoAlong : Type 0 where
   pub steps : (start features : ℕ) (given : List ℕ) (f g : Feed) (events : List Event) (result : Result Step Error)
       → IsAlong start features given f events → start + length given < 2 ^ 64 → Steps f result g
       → Stepped start features f.eof given events result g.state g.held
+  pub steps_over : (start features : ℕ) (given : List ℕ) (f g : Feed) (piece : List ℕ) (events : List Event)
+      (result : Result Step Error) (taken : ℕ)
+      → IsAlong start features given f events → start + length (given ++ piece) < 2 ^ 64
+      → StepsOver f piece result taken g → SteppedOver start features given f piece events result taken g
+  -- a step is a step over no bytes
+  pub over_none : (f g : Feed) (result : Result Step Error) → length f.held ≤ f.stored → Steps f result g
+      → StepsOver f [] result 0 g
   -- a payload but the end shows some bytes
   pub shows_some : (f g : Feed) (bytes : Bor (List ℕ)) (payload : Payload) → Steps f (Ok (Parsed bytes payload)) g
       → is_end (report_of payload) ≡ false → 0 < length bytes.now
@@ -38,23 +61,38 @@ pub record FeedersGoAlong : Type 0 where
   -- where the parser is after a step
   pub becomes : (f g : Feed) (result : Result Step Error) → Steps f result g → g.state
       ≡ state_after_answer f.state (answer_of result)
-  -- after the end or a fault the next step answers the same
+  -- after the end or a fault the next step answers the same, whatever bytes come, and also after the end of input
   pub again : (f g h : Feed) (one two : Result Step Error) → is_last (answer_of one) ≡ true → Steps f one g
       → Steps g two h → SaysTheSame (answer_of one) (answer_of two)
+  pub again_over : (f g k h : Feed) (piece more : List ℕ) (one two : Result Step Error) (taken later : ℕ)
+      → is_last (answer_of one) ≡ true → StepsOver f piece one taken g → GoesOn g k → MayCome k more
+      → end_of k + length more < 2 ^ 64 → StepsOver k more two later h → SaysTheSame (answer_of one) (answer_of two)
 
--- A feeder stores what it holds, and wants more only where more may come and its parser is undecided on what it holds,
--- which is below the top of the offsets.
+-- A feeder stores what it holds, which ends below the top of the offsets, and wants more only where more may come and
+-- its parser is undecided on what it holds.
 pub record WaitsUndecided (f : Feed) : Type 0 where
   pub stores : length f.held ≤ f.stored
-  pub below : f.wants_more ≡ true → end_of f < 2 ^ 64
+  pub below : end_of f < 2 ^ 64
   pub undecided : f.wants_more ≡ true → (hint : ℕ) × IsUndecided f.state f.eof f.held hint
 
--- This holds of a new feeder and after each call, whatever bytes came. What is stored after bytes came is less than the
--- bound of the undecided ones, and the piece.
+-- This holds of a new feeder and after each call, while the stream stays below the top of the offsets; past it, a step
+-- is the fault of that. What is stored after bytes came is less than the bound of the undecided ones, and the piece; and
+-- where the bytes that are held decide, no more than before.
 pub record FeedersWait : Type 0 where
   pub begins : (offset features : ℕ) → offset < 2 ^ 64 → WaitsUndecided (new_feed offset features)
-  pub pushes : (f : Feed) (piece : List ℕ) → WaitsUndecided f → WaitsUndecided (pushed f piece)
+  pub pushes : (f : Feed) (piece : List ℕ) → end_of f + length piece < 2 ^ 64 → WaitsUndecided f
+      → WaitsUndecided (pushed f piece)
   pub finishes : (f : Feed) → WaitsUndecided f → WaitsUndecided (finished f)
   pub steps : (f g : Feed) (result : Result Step Error) → WaitsUndecided f → Steps f result g → WaitsUndecided g
+  pub steps_over : (f g : Feed) (piece : List ℕ) (result : Result Step Error) (taken : ℕ)
+      → end_of f + length piece < 2 ^ 64 → StepsOver f piece result taken g → WaitsUndecided g
+  pub past_the_top : (f g : Feed) (result : Result Step Error) → 2 ^ 64 ≤ end_of f → Steps f result g
+      → (said (answer_of result) ≡ refuses (at_offset OffsetRange f.state.offset)) × (g.wants_more ≡ false)
   pub bounded : (f : Feed) (piece : List ℕ) (need hint : ℕ) → waiting (grammar_of f.state) f.held ≡ wants need hint
       → (pushed f piece).stored < need + length piece
+  pub bounded_over : (f g : Feed) (piece : List ℕ) (result : Result Step Error) (taken need hint : ℕ)
+      → waiting (grammar_of f.state) f.held ≡ wants need hint → 0 < length piece → StepsOver f piece result taken g
+      → g.stored < need + length piece
+  pub idle_over : (f g : Feed) (piece : List ℕ) (result : Result Step Error) (taken : ℕ)
+      → WaitsUndecided f → f.eof ≡ false → 0 < length f.held → waiting (grammar_of f.state) f.held ≡ enough
+      → end_of f + length piece < 2 ^ 64 → StepsOver f piece result taken g → (taken ≡ 0) × (g.stored ≤ f.stored)

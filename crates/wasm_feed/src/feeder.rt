@@ -4,10 +4,9 @@ ghost use Rattle.wasm_base.specs.FaultAt.{fault_at};
 ghost use Rattle.wasm_base.specs.Features.{feature_bits};
 ghost use Rattle.wasm_base.specs.Owned.{out_of_memory};
 ghost use Rattle.wasm_parser.specs.ParseAnswer.{ParseAnswer};
-ghost use Rattle.wasm_feed.specs.Beside.{StepsOver};
+ghost use Rattle.wasm_feed.specs.Beside.{MayCome, StepsOver};
 ghost use Rattle.wasm_feed.specs.Cursors.{feed_of, finished_cursor};
 ghost use Rattle.wasm_feed.specs.Feed.{empty_feed, new_feed, pushed, finished, RefusesPush};
-ghost use Rattle.wasm_feed.specs.FeedersLaws.{WaitsUndecided};
 ghost use Rattle.wasm_feed.specs.Lists.{Refills, input_failed};
 ghost use Rattle.wasm_feed.specs.Step.{answer_of, shown, is_request, GivesStep};
 
@@ -197,7 +196,14 @@ impl<A: Allocator> Feeder<A> {
         self.bytes.len()
     }
 
-    /// Says that no bytes come after those that were pushed. A second call changes nothing.
+    /// Whether the end of input has been signalled, by `finish` or by a `read_from` that found it.
+    pub fn is_finished(&self) -> bool
+        ensures { result ≡ self.now.eof }
+    {
+        self.cursor.is_finished
+    }
+
+    /// Signals the end of input. A second call changes nothing.
     pub fn finish(&mut self)
         ensures { self.new ≡ finished self.old }
     {
@@ -249,10 +255,13 @@ impl<A: Allocator> Feeder<A> {
         look(parse_next(&mut self.cursor, &self.bytes))
     }
 
-    /// One step along the bytes that are held and then a piece, what is made of it, and how many bytes of the piece the feeder
-    /// took: all of it where the step asks for more. The others are to come first the next time. What is told is what `step_with`
-    /// would tell after a push of the piece, but parts that lie whole in the piece are read where they are, and nothing is
-    /// stored of them. A download is read so:
+    /// Reads the next part from the bytes that are held and then those of a chunk, passes it to `look`, and returns how many bytes
+    /// of the chunk the feeder took.
+    ///
+    /// The step is the one that `step_with` would make after a push of the chunk, but a part that lies whole in the chunk is
+    /// parsed in place. The feeder takes all of the chunk when it asks for more; the bytes that it did not take must come first
+    /// the next time. It keeps the bytes that a fault is about, so each later step returns the same fault. After `finish` the
+    /// chunk must be empty (`is_finished`). A download is read like this:
     ///
     /// ```text
     /// let mut rest = download.next()?;
@@ -264,25 +273,29 @@ impl<A: Allocator> Feeder<A> {
     ///     rest = &rest[taken..];
     ///     if feeder.wants_more() {
     ///         match download.next()? {
-    ///             Some(piece) => rest = piece,
+    ///             Some(chunk) => rest = chunk,
     ///             None => feeder.finish(),
     ///         }
     ///     }
     /// }
     /// ```
     ///
-    /// A stream that passes the offset 2^64 - 1 is a fault of the step. `OutOfMemory` where the growth was refused that
-    /// the piece may need: the feeder is then as it was, and nothing was told.
+    /// A stream that passes the offset 2^64 - 1 is a fault of the step.
+    ///
+    /// # Errors
+    ///
+    /// `OutOfMemory`, at offset 0, when an allocation fails that the chunk may need. The feeder is then unchanged, and `look` was
+    /// not called.
     pub fn step_over<R, F: FnOnce(Result<Step<'_>>) -> R>(
         &mut self,
         piece: &[u8],
         look: F,
     ) -> Result<(usize, R)>
-        requires { F.IsAlwaysCallable look }
+        requires may_come { MayCome self.old piece.now }
+        requires callable { F.IsAlwaysCallable look }
         ensures steps { IfOk result (λ told. (s : _) × F.post look s told.1
             × StepsOver self.old piece.now s told.0 self.new) }
         ensures within { IfOk result (λ told. told.0 ≤ length piece.now) }
-        ensures waits { OnOk result (WaitsUndecided self.new) }
         ensures unchanged { OnErr result (self.new ≡ self.old) }
         ensures memory { IfErr result (λ e. fault_at e ≡ out_of_memory) }
     {

@@ -7,17 +7,22 @@ ghost use Rattle.wasm_feed.specs.FeedersLaws.{FeedersGoAlong, FeedersWait};
 
 use crate::devices::{Failed, ListError};
 use crate::listing::Ended;
+use wasm_parser::laws::answers_last;
 
-/// Where a feeder is along a stream, whatever calls came before. A new one is where nothing was given, and a piece adds to what
-/// was given. A step is the next event of every stream that goes on so, its last one, or undecided. A payload but the end shows
-/// some bytes, so a loop over steps ends. What the parser is afterwards follows from the step, and after the end or a fault the
-/// next step answers the same.
+/// Where a feeder is along a stream, whatever calls are made of it, in any order. A new one is where nothing was given, and a
+/// chunk adds to what was given. A step, over a chunk too, is the next event of every stream that goes on so, its last one, or
+/// undecided. A payload but the end shows some bytes, so a loop over steps ends. What the parser is afterwards follows from the
+/// step. After the end or a fault each later step reports the same, whatever bytes come, and after `finish` too.
 pub fn feeders_go_along()
     ensures { FeedersGoAlong }
-{}
+{
+    answers_last();
+}
 
-/// A feeder wants more only where its parser is undecided on the bytes that it holds, and more may come. After bytes
-/// came, by a push or a read, it stores less than the bound of the undecided ones and the piece together.
+/// A feeder wants more only where its parser is undecided on the bytes that it holds, and more may come. After bytes came, by a
+/// push, a read or a step over a chunk, it stores less than the bound of the undecided ones and the chunk together. Where the
+/// bytes that it holds decide, a step over a chunk takes and stores nothing. All of this holds below the top of the offsets; a
+/// step past it is the fault of that.
 pub fn feeders_wait_where_undecided()
     ensures { FeedersWait }
 {}

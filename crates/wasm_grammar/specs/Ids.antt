@@ -45,18 +45,18 @@ data_count_id = 12
 abbrev pub tag_id : ℕ
 tag_id = 13
 
--- their names, by id
+-- their words in a listing, by id: the standard's names without "section", but for the data count section
 abbrev pub names : List (List ℕ)
 names =
     codes "custom" ∷ codes "type" ∷ codes "import" ∷ codes "function" ∷ codes "table" ∷ codes "memory" ∷
     codes "global" ∷ codes "export" ∷ codes "start" ∷ codes "element" ∷ codes "code" ∷ codes "data" ∷
     codes "datacount" ∷ codes "tag" ∷ []
 
--- the name of the sections with this id
+-- the word for the sections with this id
 abbrev pub name_of : ℕ → Option (List ℕ)
 name_of id = slice_get names id
 
--- the id of the sections with this name
+-- the id of the sections with this word
 abbrev pub id_named : List ℕ → Option ℕ
 id_named name = position_from (bytes_eq name) 0 names
 

@@ -68,8 +68,8 @@ pub enum SectionKind {
     Unknown,
 }
 
-/// The name of a module's sections with this id, if it is known, as the core specification has it (Binary format, Modules,
-/// Sections).
+/// Returns the word for a module's section with this id in listings, if the id is known: its name in the core specification
+/// without "section", and `datacount` for the data count section (Binary format, Modules, Sections).
 pub fn section_name(id: u8) -> Option<&'static str>
     ensures { option_map (λ name. name.now) result ≡ name_of id }
 {
@@ -92,7 +92,7 @@ pub fn section_name(id: u8) -> Option<&'static str>
     }
 }
 
-/// The id of a module's sections with this name, if there is one.
+/// Returns the id of a module's section with this word in listings, if there is one.
 pub fn section_named(name: &str) -> Option<u8>
     ensures { result ≡ id_named name.now }
 {

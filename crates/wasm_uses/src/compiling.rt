@@ -1,4 +1,4 @@
-// A compiler that is handed the bodies of a stream while it comes.
+// A compiler that receives the function bodies of chunked input.
 ghost use Rattle.std.specs.Prelude.{◌≡◌, List, [], ◌∷◌, ◌<◌, ◌^◌, length, MatchOption};
 ghost use Rattle.wasm_base.specs.Features.{feature_bits};
 ghost use Rattle.wasm_base.specs.Window.{Window};
@@ -14,7 +14,7 @@ use wasm_base::{Result, WasmFeatures};
 use wasm_items::FunctionBody;
 use wasm_parser::Payload;
 
-/// What compiles functions one by one, while their module comes.
+/// What compiles functions one by one.
 pub trait Compiler {
     /// What a body makes of a compiler.
     ghost compiles: { Self → Window → Self → Type 0 } = { λ before body after. Unit {0} };
@@ -24,7 +24,7 @@ pub trait Compiler {
         ensures { compiles self.old (body_window body.entry) self.new };
 }
 
-/// A compiler that is told a stream.
+/// A compiler as a visitor of a stream.
 pub struct Compiling<C>(pub C);
 
 impl<C: Compiler> Visitor for Compiling<C> {
@@ -50,10 +50,12 @@ fn body_of(payload: Payload<'_>) -> Option<FunctionBody<'_>>
     }
 }
 
-/// Hands a compiler the bodies of a stream that is cut into these pieces, each as soon as its last byte came, and answers how
-/// many bytes were stored at most.
+/// Passes the function bodies of a stream that is cut into these chunks to a compiler, in order, and returns how many bytes were
+/// stored at most.
 ///
-/// The fault at which the stream stops, after the bodies before it were handed on; or `OutOfMemory`.
+/// # Errors
+///
+/// The fault at which the stream stops, after the bodies before it were compiled; or `OutOfMemory`.
 pub fn compile_pieces<C: Compiler>(
     alloc: Global,
     features: WasmFeatures,

@@ -1,4 +1,4 @@
-// A stream that comes in pieces, whose parts are told to a visitor as soon as their last byte came.
+// Chunked input, whose parts are passed to a visitor.
 ghost use Rattle.std.specs.Prelude.{◌≡◌, ◌<◌, ◌^◌, length, OnOk, IfErr};
 ghost use Rattle.wasm_base.specs.FaultAt.{fault_at};
 ghost use Rattle.wasm_base.specs.Features.{feature_bits};
@@ -60,8 +60,10 @@ fn visit_held<V: Visitor>(feeder: &mut Feeder, visitor: &mut V) -> Result<bool>
     }
 }
 
-/// Tells a visitor all parts of a stream that is cut into these pieces and begins at offset 0, each as soon as its last byte
-/// came, and answers how many bytes were stored at most. `fits_pieces` says whether they may be read.
+/// Passes all parts of a stream that is cut into these chunks and begins at offset 0 to a visitor, in order, and returns how many
+/// bytes were stored at most. `fits_pieces` tests whether the chunks may be read.
+///
+/// # Errors
 ///
 /// The fault at which the stream stops, after the parts before it were visited; or `OutOfMemory`, at offset 0.
 pub fn visit_pieces<V: Visitor>(

@@ -1,6 +1,8 @@
 // How a piece is lent: parts that lie whole in it are parsed where they are, and only what is left of it is stored.
 ghost use Rattle.std.specs.Prelude.{◌≡◌, ◌+◌, ◌-◌, ◌<◌, ◌≤◌, ◌^◌, true, false, [], drop, length, vec_len, vec_capacity, IfOk, OnErr};
 ghost use Rattle.wasm_feed.specs.Beside.{beside, lending, seen, AreEnough, Gathers, MakesReady};
+ghost use Rattle.wasm_grammar.specs.Waiting.{enough, waiting};
+ghost use Rattle.wasm_parser.specs.ParserState.{grammar_of};
 ghost use Rattle.wasm_feed.specs.Cursors.{feed_of};
 
 use super::Cursor;
@@ -61,6 +63,8 @@ pub(crate) fn make_ready<A: Allocator>(
 fn goes_whole(cursor: &Cursor, held: usize, size: usize) -> bool
     ensures finished { result ≡ false → cursor.now.is_finished ≡ false }
     ensures below { result ≡ false → cursor.now.parser.offset + (held + size) < 2 ^ 64 }
+    ensures whole { cursor.now.wants_more ≡ false → cursor.now.is_finished ≡ false
+        → cursor.now.parser.offset + (held + size) < 2 ^ 64 → result ≡ false }
 {
     if size <= SMALL_PIECE && cursor.wants_more {
         return true;
@@ -97,7 +101,8 @@ fn gather<A: Allocator>(parser: &Parser, held: &mut Vec<u8, A>, piece: &[u8]) ->
 
 // About how many bytes these miss: none where they are enough for the parser.
 fn missing(parser: &Parser, bytes: &[u8]) -> usize
-    ensures { result ≡ 0 → AreEnough parser.now bytes.now }
+    ensures enough { result ≡ 0 → AreEnough parser.now bytes.now }
+    ensures decided { waiting (grammar_of parser.now) bytes.now ≡ enough → result ≡ 0 }
 {
     answers_last();
     let mut trial = Parser::resume(parser.checkpoint());
@@ -138,7 +143,8 @@ pub(crate) fn keep<A: Allocator>(cursor: &mut Cursor, stored: &mut Vec<u8, A>, p
     put(stored, &piece[count..]);
 }
 
-/// Takes of the piece what a step consumed, or all that is left where it asked for more, and says how many bytes these are.
+/// Takes what a step consumed of the piece and returns how many bytes these are. Takes all of it where the step asked for
+/// more, and where it read the piece and consumed nothing: the bytes of a fault are held, so that the next step reports it too.
 pub(super) fn take_left<A: Allocator>(
     cursor: &mut Cursor,
     stored: &mut Vec<u8, A>,
@@ -151,10 +157,20 @@ pub(super) fn take_left<A: Allocator>(
     ensures asks { cursor.old.wants_more ≡ true → result ≡ length piece.now }
     ensures bounded { vec_len stored.new ≤ vec_len stored.old + length piece.now }
     ensures wants { cursor.new.wants_more ≡ cursor.old.wants_more }
+    ensures stays { cursor.old.wants_more ≡ false → (stored.old.items ≡ [] → cursor.old.mark ≡ 0)
+        → drop cursor.new.mark stored.new.items ≡ drop cursor.old.mark (seen stored.old.items piece.now) }
+    ensures idle { cursor.old.wants_more ≡ false → 0 < vec_len stored.old
+        → (result ≡ 0) × (vec_len stored.new ≡ vec_len stored.old) }
 {
     if cursor.wants_more {
         keep(cursor, stored, piece);
         return piece.len();
+    }
+    if stored.is_empty() {
+        if cursor.mark == 0 {
+            keep(cursor, stored, piece);
+            return piece.len();
+        }
     }
     pass_lent(cursor, stored, piece)
 }
