@@ -7,11 +7,10 @@ use Rattle.std.proofs.lemmas.List.{append_cancel_right, drop_at, take-append-dro
 use Rattle.wasm_base.specs.declared.error.Error.{Error}
 use Rattle.wasm_parser.specs.Along.{Along, is_last, taken_by, SaysTheSame}
 use Rattle.wasm_parser.specs.ParseAnswer.{IsRequest, ParseAnswer, is_end, report_of, state_after_answer}
-use Rattle.wasm_parser.specs.ParserLaws.{AnswersLast}
 use Rattle.wasm_parser.specs.ParserState.{ParserState, ended_state}
 use Rattle.wasm_parser.specs.StateAfter.{state_after}
 use Rattle.wasm_grammar.specs.Reading.{Event}
-use Rattle.wasm_parser.proofs.ForCallers.{answers_go_along}
+use Rattle.wasm_parser.proofs.ForCallers.{answers_go_along, answers_last}
 use Rattle.wasm_parser.specs.GivesNextEvent.{IsUndecided}
 use Rattle.wasm_parser.specs.declared.payload.Chunk.TheVariants as chunk
 use Rattle.wasm_feed.specs.Beside.{MayCome, StepsOver}
@@ -164,10 +163,10 @@ is_decided (Ok (Parsed bytes payload)) l r = r
 is_decided (Err e) l r = r
 
 -- what decided the last answer decides each later one
-again_over : (law : AnswersLast) (f g k h : Feed) (piece more : List ℕ) (one two : Result Step Error) (taken later : ℕ)
+again_over : (f g k h : Feed) (piece more : List ℕ) (one two : Result Step Error) (taken later : ℕ)
     → is_last (answer_of one) ≡ true → StepsOver f piece one taken g → GoesOn g k → MayCome k more → end_of k + length more < 2 ^ 64
     → StepsOver k more two later h → SaysTheSame (answer_of one) (answer_of two)
-again_over law f g k h piece more one two taken later l s goes may below t =
+again_over f g k h piece more one two taken later l s goes may below t =
     answers_go_along.again f.state g.state h.state k.eof (g.held ++ more) (answer_of one) (answer_of two) l
     (stays f.eof k.eof refl refl) (subst₂ (λ (p : ParserState) (b : List ℕ). ParseAnswer p k.eof (b ++ more) (answer_of two) h.state)
     (state goes) (held goes) t.steps.parses)
@@ -197,13 +196,13 @@ again_over law f g k h piece more one two taken later l s goes may below t =
         omega (arith, at, none, p, n, below, length-append g.held more)
 
     stays : (before now : Bool) → f.eof ≡ before → k.eof ≡ now → ParseAnswer f.state k.eof (g.held ++ more) (answer_of one) g.state
-    stays false now e n = law f.state g.state g.held more (answer_of one)
+    stays false now e n = answers_last f.state g.state g.held more (answer_of one)
         (subst (λ (b : Bool). ParseAnswer f.state b g.held (answer_of one) g.state) e last) (is_decided one l) fits k.eof
     stays true now e n = subst₂ (λ (b : Bool) (rest : List ℕ). ParseAnswer f.state b rest (answer_of one) g.state)
         (e ∙ sym (eof goes e)) (sym (ap (λ (b : List ℕ). g.held ++ b) (may (eof goes e)) ∙ append-nil g.held)) last
 
-pub feeders_go_along : AnswersLast → FeedersGoAlong
-feeders_go_along law = record {
+pub feeders_go_along : FeedersGoAlong
+feeders_go_along = record {
   begins = answers_go_along.begins;
   pushes = λ start features given f events piece a. answers_go_along.more start features given f.state f.held events piece a;
   finishes = λ start features given f events a. a;
@@ -216,5 +215,5 @@ feeders_go_along law = record {
   asks = asked;
   becomes = becomes;
   again = again;
-  again_over = again_over law;
+  again_over = again_over;
 }

@@ -7,7 +7,6 @@ ghost use Rattle.wasm_feed.specs.FeedersLaws.{FeedersGoAlong, FeedersWait};
 
 use crate::devices::{Failed, ListError};
 use crate::listing::Ended;
-use wasm_parser::laws::answers_last;
 
 /// Where a feeder is along a stream, whatever calls are made of it, in any order. A new one is where nothing was given, and a
 /// chunk adds to what was given. A step, over a chunk too, is the next event of every stream that goes on so, its last one, or
@@ -15,9 +14,7 @@ use wasm_parser::laws::answers_last;
 /// step. After the end or a fault each later step reports the same, whatever bytes come, and after `finish` too.
 pub fn feeders_go_along()
     ensures { FeedersGoAlong }
-{
-    answers_last();
-}
+{}
 
 /// A feeder wants more only where its parser is undecided on the bytes that it holds, and more may come. After bytes came, by a
 /// push, a read or a step over a chunk, it stores less than the bound of the undecided ones and the chunk together. Where the

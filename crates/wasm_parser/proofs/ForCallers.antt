@@ -4,6 +4,7 @@ pub use Rattle.wasm_base.proofs.Walks.{gives, gives_owned, item_came, fault_came
 pub use Rattle.wasm_grammar.proofs.accepted.Frames.{reads_accepted}
 pub use Rattle.wasm_grammar.proofs.accepted.Accepting.{fault_ends}
 pub use Rattle.wasm_parser.proofs.Along.{answers_go_along}
+pub use Rattle.wasm_parser.proofs.AnswerBounds.{answers_last}
 pub use Rattle.wasm_parser.proofs.Consumed.{end_consumes_all}
 pub use Rattle.wasm_grammar.proofs.frames.Kept.{frames_read_the_same, rankless_may_go}
 pub use Rattle.wasm_grammar.proofs.accepted.KindIds.{custom_has_its_id}

@@ -272,27 +272,31 @@ neither false b e = (refl, e)
 parts_without : (xs ys : List ℕ) → has_line_feed (xs ++ ys) ≡ false → (has_line_feed xs ≡ false) × (has_line_feed ys ≡ false)
 parts_without xs ys e = neither (has_line_feed xs) (has_line_feed ys) (sym (list_any-append (λ b. nat_eq b 10) xs ys) ∙ e)
 
--- all but this rest of it
-abbrev pub SaysAllBut : (all rest : List ℕ) (old new : Writing) → Type 0
-SaysAllBut all rest old new = has_line_feed all ≡ false → (done : List ℕ) × (all ≡ done ++ rest) × Says done old new
+-- all but this rest of it, which has no line feed either
+pub record SaysAllBut (all rest : List ℕ) (old new : Writing) : Type 0 where
+  pub done : List ℕ
+  pub parts : all ≡ done ++ rest
+  pub says : Says done old new
+  pub one_line : has_line_feed rest ≡ false
 
-pub says_none : (all : List ℕ) (w : Writing) → SaysAllBut all all w w
-says_none all w none = ([], refl, says_nothing w)
+pub says_none : (all : List ℕ) (w : Writing) → has_line_feed all ≡ false → SaysAllBut all all w w
+says_none all w none = record { done = []; parts = refl; says = says_nothing w; one_line = none }
+
+pub none_in_first : (rest first later : List ℕ) → rest ≡ first ++ later → has_line_feed rest ≡ false
+    → (has_line_feed first ≡ false) × (has_line_feed later ≡ false)
+none_in_first rest first later e none = parts_without first later (ap has_line_feed (sym e) ∙ none)
 
 pub says_first : (all rest first later : List ℕ) (old mid new : Writing) → rest ≡ first ++ later → SaysAllBut all rest old mid
-    → (has_line_feed first ≡ false → Says first mid new) → SaysAllBut all later old new
-says_first all rest first later old mid new e p q none =
-    let (done, parts, says) = p none in
-    let whole : all ≡ (done ++ first) ++ later = parts ∙ (ap (λ (x : List ℕ). done ++ x) e ∙ sym (append_assoc done first later)) in
-    let halves = parts_without (done ++ first) later (subst (λ (x : List ℕ). has_line_feed x ≡ false) whole none) in
-    (done ++ first, whole, says_then done first old mid new says (q (parts_without done first halves.0).1))
+    → Says first mid new → SaysAllBut all later old new
+says_first all rest first later old mid new e p q = record {
+  done = p.done ++ first;
+  parts = p.parts ∙ (ap (λ (x : List ℕ). p.done ++ x) e ∙ sym (append_assoc p.done first later));
+  says = says_then p.done first old mid new p.says q;
+  one_line = (none_in_first rest first later e p.one_line).1;
+}
 
-pub says_last : (all rest : List ℕ) (old mid new : Writing) → SaysAllBut all rest old mid
-    → (has_line_feed rest ≡ false → Says rest mid new) → has_line_feed all ≡ false → Says all old new
-says_last all rest old mid new p q none =
-    let (done, parts, says) = p none in
-    let halves = parts_without done rest (subst (λ (x : List ℕ). has_line_feed x ≡ false) parts none) in
-    says_same (done ++ rest) all old new (sym parts) (says_then done rest old mid new says (q halves.1))
+pub says_last : (all rest : List ℕ) (old mid new : Writing) → SaysAllBut all rest old mid → Says rest mid new → Says all old new
+says_last all rest old mid new p q = says_same (p.done ++ rest) all old new (sym p.parts) (says_then p.done rest old mid new p.says q)
 
 -- ---- digits are no line feeds
 

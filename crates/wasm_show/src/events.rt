@@ -1,12 +1,12 @@
 // The line of an event, or its object.
-ghost use Rattle.std.specs.Prelude.{◌≡◌};
+ghost use Rattle.std.specs.Prelude.{◌≡◌, false};
 ghost use Rattle.wasm_base.specs.FaultAt.{fault_at};
 ghost use Rattle.wasm_feed.specs.Listing.{line_of};
 ghost use Rattle.wasm_grammar.specs.Content.{fault};
 ghost use Rattle.wasm_grammar.specs.Reading.{stream_end};
 ghost use Rattle.wasm_parser.specs.ParseAnswer.{report_of};
 ghost use Rattle.wasm_show.specs.Chosen.{numbered_line};
-ghost use Rattle.wasm_show.specs.Tree.{Adds, AddsFirst};
+ghost use Rattle.wasm_show.specs.Tree.{Adds, AddsFirst, has_line_feed};
 
 use crate::heading::Heading;
 use crate::numbers::{Counts, Space};
@@ -19,7 +19,9 @@ use wasm_items::FunctionBody;
 use wasm_parser::{Encoding, Payload};
 
 // The word of an encoding.
-fn encoding_word(encoding: Encoding) -> &'static str {
+fn encoding_word(encoding: Encoding) -> &'static str
+    ensures one_line { has_line_feed result.now ≡ false }
+{
     match encoding {
         Encoding::Module => "module",
         Encoding::Component => "component",
@@ -28,6 +30,7 @@ fn encoding_word(encoding: Encoding) -> &'static str {
 
 // Begins the object of an event.
 fn begin_event<W: Sink>(word: &str, out: &mut Tree<W>)
+    requires one_line { has_line_feed word.now ≡ false }
     ensures { Adds out.old out.new }
 {
     out.end();

@@ -12,7 +12,9 @@ use wasm_items::{ConstExpr, ConstInstruction, ConstOperator};
 use wasm_parser::Result;
 
 // The name of an operator.
-fn operator_word(operator: &ConstOperator) -> &'static str {
+fn operator_word(operator: &ConstOperator) -> &'static str
+    ensures one_line { has_line_feed result.now ≡ false }
+{
     match operator {
         ConstOperator::End => "end",
         ConstOperator::GlobalGet { .. } => "global.get",
@@ -143,9 +145,9 @@ fn write_instructions<W: Sink>(expr: &ConstExpr<'_>, out: &mut Tree<W>)
 
 /// Writes an expression as a field.
 pub(crate) fn show_expr<W: Sink>(name: &str, expr: &ConstExpr<'_>, out: &mut Tree<W>)
+    requires one_line { has_line_feed name.now ≡ false }
     ensures adds { Adds out.old out.new }
-    ensures says { has_line_feed name.now ≡ false
-        → SaysWith (expression_field name.now) out.old out.new }
+    ensures says { SaysWith (expression_field name.now) out.old out.new }
 {
     out.field(name);
     write_instructions(expr, out);

@@ -33,7 +33,9 @@ impl Show for InitFunc {
 }
 
 // The word of what is in a group.
-fn comdat_word(kind: &ComdatSymbolKind) -> &'static str {
+fn comdat_word(kind: &ComdatSymbolKind) -> &'static str
+    ensures one_line { has_line_feed result.now ≡ false }
+{
     match kind {
         ComdatSymbolKind::Data => "data",
         ComdatSymbolKind::Func => "func",
@@ -63,9 +65,9 @@ impl Show for Comdat<'_> {
 
 // Writes a symbol that has an index and perhaps a name.
 fn show_indexed<W: Sink>(kind: &str, flags: u32, index: u32, name: &Option<&str>, out: &mut Tree<W>)
+    requires one_line { has_line_feed kind.now ≡ false }
     ensures adds { Adds out.old out.new }
-    ensures says { has_line_feed kind.now ≡ false
-        → SaysFields (indexed_fields kind.now flags index (text_if_any name.now (λ text. text.now)))
+    ensures says { SaysFields (indexed_fields kind.now flags index (text_if_any name.now (λ text. text.now)))
         out.old out.new }
 {
     out.label("kind", kind);
@@ -212,6 +214,8 @@ fn show_words<T: Show, W: Sink>(
     items: &[T],
     out: &mut Tree<W>,
 )
+    requires list_line { has_line_feed list.now ≡ false }
+    requires item_line { has_line_feed item.now ≡ false }
     ensures { Adds out.old out.new }
 {
     out.label("kind", list);
@@ -246,7 +250,9 @@ impl Show for Dylink0Subsection<'_> {
 }
 
 // The name of a type of relocations in the tool conventions.
-fn relocation_word(ty: &RelocationType) -> &'static str {
+fn relocation_word(ty: &RelocationType) -> &'static str
+    ensures one_line { has_line_feed result.now ≡ false }
+{
     match ty {
         RelocationType::FunctionIndexLeb => "R_WASM_FUNCTION_INDEX_LEB",
         RelocationType::TableIndexSleb => "R_WASM_TABLE_INDEX_SLEB",

@@ -1,7 +1,8 @@
 // Lists of items.
+ghost use Rattle.std.specs.Prelude.{◌≡◌, false};
 ghost use Rattle.std.specs.List.{flat_map};
 ghost use Rattle.wasm_show.specs.Said.{Says, SaysSome};
-ghost use Rattle.wasm_show.specs.Tree.{Adds};
+ghost use Rattle.wasm_show.specs.Tree.{Adds, has_line_feed};
 ghost use Rattle.wasm_show.specs.TypeText.{after_blank};
 
 use crate::show::{Show, Text};
@@ -72,6 +73,7 @@ pub(crate) fn show_extent<T, W: Sink>(
     section: &SectionLimited<'_, T>,
     out: &mut Tree<W>,
 )
+    requires one_line { has_line_feed name.now ≡ false }
     ensures { Adds out.old out.new }
 {
     let range = section.range();
@@ -101,6 +103,7 @@ pub fn show_list<'a, T: FromReader<'a> + Show, W: Sink>(
     section: &SectionLimited<'a, T>,
     out: &mut Tree<W>,
 )
+    requires one_line { has_line_feed name.now ≡ false }
     ensures { Adds out.old out.new }
 {
     show_extent(name, section, out);
@@ -109,6 +112,7 @@ pub fn show_list<'a, T: FromReader<'a> + Show, W: Sink>(
 
 /// Writes items without offsets, each on a line at this level that begins with this word.
 pub(crate) fn show_lines<T: Show, W: Sink>(level: usize, word: &str, items: &[T], out: &mut Tree<W>)
+    requires one_line { has_line_feed word.now ≡ false }
     ensures { Adds out.old out.new }
 {
     for item in items {
@@ -124,6 +128,7 @@ pub(crate) fn write_lines<T: Text, W: Sink>(
     items: &[T],
     out: &mut Tree<W>,
 )
+    requires one_line { has_line_feed name.now ≡ false }
     ensures { Adds out.old out.new }
 {
     for item in items {

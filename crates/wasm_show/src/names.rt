@@ -1,5 +1,6 @@
 // Texts of names.
-ghost use Rattle.wasm_show.specs.Tree.{Adds};
+ghost use Rattle.std.specs.Prelude.{◌≡◌, false};
+ghost use Rattle.wasm_show.specs.Tree.{Adds, has_line_feed};
 
 use crate::lists::{show_items, under};
 use crate::show::Show;
@@ -39,6 +40,7 @@ impl Show for IndirectNameMap<'_> {
 
 // Writes what names are of, and the names.
 fn show_map<T: Show, W: Sink>(word: &str, level: usize, names: &T, out: &mut Tree<W>)
+    requires one_line { has_line_feed word.now ≡ false }
     ensures { Adds out.old out.new }
 {
     out.label("kind", word);

@@ -361,6 +361,7 @@ impl<W: Sink> Tree<W> {
 
     /// Begins a line under another, with this word: that of what has no offset of its own.
     pub fn line(&mut self, level: usize, word: &str)
+        requires one_line { has_line_feed word.now ≡ false }
         ensures { Adds self.old self.new }
     {
         self.begin_line(level);
@@ -372,6 +373,7 @@ impl<W: Sink> Tree<W> {
 
     /// Begins a line under another, with a field of this name.
     pub fn line_field(&mut self, level: usize, name: &str)
+        requires one_line { has_line_feed name.now ≡ false }
         ensures { Adds self.old self.new }
     {
         self.begin_line(level);
@@ -451,8 +453,9 @@ impl<W: Sink> Tree<W> {
     // Writes bytes, for which there is room, on the line that is begun, or in the text of an object that is open.
     fn piece(&mut self, bytes: &[u8])
         requires { length bytes.now ≤ 65536 }
+        requires one_line { has_line_feed bytes.now ≡ false }
         ensures adds { Adds self.old self.new }
-        ensures says { has_line_feed bytes.now ≡ false → Says bytes.now self.old self.new }
+        ensures says { Says bytes.now self.old self.new }
         ensures some { SaysSome self.old self.new }
     {
         match self.style {
@@ -461,25 +464,24 @@ impl<W: Sink> Tree<W> {
         }
     }
 
-    // Writes bytes that are no line feeds, for which there is room; with one they are left out.
+    // Writes bytes that fit the page on the line that is begun.
     fn piece_of_line(&mut self, bytes: &[u8])
         requires lines { self.old.style ≡ Lines }
         requires short { length bytes.now ≤ 65536 }
+        requires one_line { has_line_feed bytes.now ≡ false }
         ensures adds { Adds self.old self.new }
-        ensures says { has_line_feed bytes.now ≡ false → Says bytes.now self.old self.new }
+        ensures says { Says bytes.now self.old self.new }
         ensures some { SaysSome self.old self.new }
     {
-        if bytes.contains(&b'\n') {
-            return;
-        }
         self.begin();
         self.push(bytes);
     }
 
     // The same of any number of bytes.
     fn bytes(&mut self, bytes: &[u8])
+        requires one_line { has_line_feed bytes.now ≡ false }
         ensures adds { Adds self.old self.new }
-        ensures says { has_line_feed bytes.now ≡ false → Says bytes.now self.old self.new }
+        ensures says { Says bytes.now self.old self.new }
         ensures some { SaysSome self.old self.new }
     {
         let mut rest = bytes;
@@ -567,7 +569,10 @@ impl<W: Sink> Tree<W> {
                 self.text(" ");
                 self.in_quotes(name);
             }
-            Style::Objects => self.word_field("item_name", name),
+            Style::Objects => {
+                self.text_member("item_name");
+                self.more_text(name.as_bytes());
+            }
         }
     }
 
@@ -583,8 +588,9 @@ impl<W: Sink> Tree<W> {
 
     /// Writes a text, which has no line feed, as it is.
     pub fn text(&mut self, text: &str)
+        requires one_line { has_line_feed text.now ≡ false }
         ensures adds { Adds self.old self.new }
-        ensures says { has_line_feed text.now ≡ false → Says text.now self.old self.new }
+        ensures says { Says text.now self.old self.new }
         ensures some { SaysSome self.old self.new }
     {
         self.bytes(text.as_bytes());
@@ -592,9 +598,9 @@ impl<W: Sink> Tree<W> {
 
     /// Writes a blank and a word.
     pub fn word(&mut self, word: &str)
+        requires one_line { has_line_feed word.now ≡ false }
         ensures adds { Adds self.old self.new }
-        ensures says { has_line_feed word.now ≡ false
-            → Says (field_text (alone word.now)) self.old self.new }
+        ensures says { Says (field_text (alone word.now)) self.old self.new }
         ensures some { SaysSome self.old self.new }
     {
         self.text(" ");
@@ -603,9 +609,10 @@ impl<W: Sink> Tree<W> {
 
     /// Writes a word that stands alone, without the name of its field, which an object has.
     pub fn label(&mut self, name: &str, word: &str)
+        requires name_line { has_line_feed name.now ≡ false }
+        requires word_line { has_line_feed word.now ≡ false }
         ensures adds { Adds self.old self.new }
-        ensures says { has_line_feed word.now ≡ false
-            → Says (field_text (alone word.now)) self.old self.new }
+        ensures says { Says (field_text (alone word.now)) self.old self.new }
     {
         match self.style {
             Style::Lines => self.word(word),
@@ -615,9 +622,9 @@ impl<W: Sink> Tree<W> {
 
     /// Begins a field, whose value is the texts that come next: writes a blank, its name, and `=`.
     pub fn field(&mut self, name: &str)
+        requires one_line { has_line_feed name.now ≡ false }
         ensures adds { Adds self.old self.new }
-        ensures says { has_line_feed name.now ≡ false
-            → Says (field_start name.now) self.old self.new }
+        ensures says { Says (field_start name.now) self.old self.new }
         ensures some { SaysSome self.old self.new }
     {
         match self.style {
@@ -628,9 +635,9 @@ impl<W: Sink> Tree<W> {
 
     // Writes a blank, the name of a field, and `=`.
     fn field_of_line(&mut self, name: &str)
+        requires one_line { has_line_feed name.now ≡ false }
         ensures adds { Adds self.old self.new }
-        ensures says { has_line_feed name.now ≡ false
-            → Says (field_start name.now) self.old self.new }
+        ensures says { Says (field_start name.now) self.old self.new }
         ensures some { SaysSome self.old self.new }
     {
         self.word(name);
@@ -662,9 +669,10 @@ impl<W: Sink> Tree<W> {
 
     /// Writes a field that is a word.
     pub fn word_field(&mut self, name: &str, word: &str)
+        requires name_line { has_line_feed name.now ≡ false }
+        requires word_line { has_line_feed word.now ≡ false }
         ensures adds { Adds self.old self.new }
-        ensures says { has_line_feed name.now ≡ false → has_line_feed word.now ≡ false
-            → Says (field_text (named name.now (word_value word.now))) self.old self.new }
+        ensures says { Says (field_text (named name.now (word_value word.now))) self.old self.new }
     {
         self.field(name);
         self.text(word);
@@ -672,9 +680,9 @@ impl<W: Sink> Tree<W> {
 
     /// Writes a field that is a number.
     pub fn number(&mut self, name: &str, number: u64)
+        requires one_line { has_line_feed name.now ≡ false }
         ensures adds { Adds self.old self.new }
-        ensures says { has_line_feed name.now ≡ false
-            → Says (field_text (named name.now (number_value number))) self.old self.new }
+        ensures says { Says (field_text (named name.now (number_value number))) self.old self.new }
     {
         match self.style {
             Style::Lines => self.digits_field(name, number),
@@ -684,9 +692,9 @@ impl<W: Sink> Tree<W> {
 
     /// Writes a field that is a number, as a text.
     pub fn digits_field(&mut self, name: &str, number: u64)
+        requires one_line { has_line_feed name.now ≡ false }
         ensures adds { Adds self.old self.new }
-        ensures says { has_line_feed name.now ≡ false
-            → Says (field_text (named name.now (number_value number))) self.old self.new }
+        ensures says { Says (field_text (named name.now (number_value number))) self.old self.new }
     {
         self.field(name);
         self.digits(number);
@@ -694,6 +702,7 @@ impl<W: Sink> Tree<W> {
 
     /// Writes a field that is a number with a sign.
     pub fn signed(&mut self, name: &str, number: i64)
+        requires one_line { has_line_feed name.now ≡ false }
         ensures { Adds self.old self.new }
     {
         match self.style {
@@ -718,9 +727,9 @@ impl<W: Sink> Tree<W> {
 
     /// Writes a field that is a number, or `none`.
     pub fn number_if_any(&mut self, name: &str, number: Option<u64>)
+        requires one_line { has_line_feed name.now ≡ false }
         ensures adds { Adds self.old self.new }
-        ensures says { has_line_feed name.now ≡ false
-            → Says (field_text (named name.now (optional number))) self.old self.new }
+        ensures says { Says (field_text (named name.now (optional number))) self.old self.new }
     {
         match number {
             Some(number) => self.number(name, number),
@@ -730,9 +739,9 @@ impl<W: Sink> Tree<W> {
 
     /// Writes a field that has no value: `none`.
     pub fn nothing(&mut self, name: &str)
+        requires one_line { has_line_feed name.now ≡ false }
         ensures adds { Adds self.old self.new }
-        ensures says { has_line_feed name.now ≡ false
-            → Says (field_text (named name.now (optional None))) self.old self.new }
+        ensures says { Says (field_text (named name.now (optional None))) self.old self.new }
     {
         match self.style {
             Style::Lines => self.word_field(name, "none"),
@@ -742,9 +751,9 @@ impl<W: Sink> Tree<W> {
 
     /// Writes a field that is `true` or `false`.
     pub fn flag(&mut self, name: &str, flag: bool)
+        requires one_line { has_line_feed name.now ≡ false }
         ensures adds { Adds self.old self.new }
-        ensures says { has_line_feed name.now ≡ false
-            → Says (field_text (named name.now (flag_value flag))) self.old self.new }
+        ensures says { Says (field_text (named name.now (flag_value flag))) self.old self.new }
     {
         match self.style {
             Style::Lines => self.flag_of_line(name, flag),
@@ -754,9 +763,9 @@ impl<W: Sink> Tree<W> {
 
     // The same on a line of text.
     fn flag_of_line(&mut self, name: &str, flag: bool)
+        requires one_line { has_line_feed name.now ≡ false }
         ensures adds { Adds self.old self.new }
-        ensures says { has_line_feed name.now ≡ false
-            → Says (field_text (named name.now (flag_value flag))) self.old self.new }
+        ensures says { Says (field_text (named name.now (flag_value flag))) self.old self.new }
     {
         if flag {
             self.word_field(name, "true");
@@ -809,9 +818,9 @@ impl<W: Sink> Tree<W> {
     /// Writes a field that is a text: in double quotes, where `"`, `\` and bytes outside 32 to 126 are `\` and two
     /// hexadecimal digits.
     pub fn quoted(&mut self, name: &str, text: &str)
+        requires one_line { has_line_feed name.now ≡ false }
         ensures adds { Adds self.old self.new }
-        ensures says { has_line_feed name.now ≡ false
-            → Says (field_text (named name.now (quoted text.now))) self.old self.new }
+        ensures says { Says (field_text (named name.now (quoted text.now))) self.old self.new }
     {
         match self.style {
             Style::Lines => self.quoted_of_line(name, text),
@@ -824,9 +833,9 @@ impl<W: Sink> Tree<W> {
 
     // The same on a line of text.
     fn quoted_of_line(&mut self, name: &str, text: &str)
+        requires one_line { has_line_feed name.now ≡ false }
         ensures adds { Adds self.old self.new }
-        ensures says { has_line_feed name.now ≡ false
-            → Says (field_text (named name.now (quoted text.now))) self.old self.new }
+        ensures says { Says (field_text (named name.now (quoted text.now))) self.old self.new }
     {
         self.field(name);
         self.in_quotes(text);
@@ -834,9 +843,9 @@ impl<W: Sink> Tree<W> {
 
     /// Writes a field that is raw bytes: their count, a colon, and the first 16 in hexadecimal.
     pub fn raw(&mut self, name: &str, bytes: &[u8])
+        requires one_line { has_line_feed name.now ≡ false }
         ensures adds { Adds self.old self.new }
-        ensures says { has_line_feed name.now ≡ false
-            → Says (field_text (named name.now (raw bytes.now))) self.old self.new }
+        ensures says { Says (field_text (named name.now (raw bytes.now))) self.old self.new }
     {
         self.digits_field(name, bytes.len() as u64);
         self.text(":");
@@ -856,9 +865,9 @@ impl<W: Sink> Tree<W> {
 
     /// Writes a field that is a range of offsets in the whole stream: `start..end`.
     pub fn range(&mut self, name: &str, start: u64, end: u64)
+        requires one_line { has_line_feed name.now ≡ false }
         ensures adds { Adds self.old self.new }
-        ensures says { has_line_feed name.now ≡ false
-            → Says (field_text (named name.now (range start end))) self.old self.new }
+        ensures says { Says (field_text (named name.now (range start end))) self.old self.new }
     {
         match self.style {
             Style::Lines => self.range_of_line(name, start, end),
@@ -868,9 +877,9 @@ impl<W: Sink> Tree<W> {
 
     // The same on a line of text.
     fn range_of_line(&mut self, name: &str, start: u64, end: u64)
+        requires one_line { has_line_feed name.now ≡ false }
         ensures adds { Adds self.old self.new }
-        ensures says { has_line_feed name.now ≡ false
-            → Says (field_text (named name.now (range start end))) self.old self.new }
+        ensures says { Says (field_text (named name.now (range start end))) self.old self.new }
     {
         self.digits_field(name, start);
         self.text("..");

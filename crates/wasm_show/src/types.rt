@@ -132,9 +132,9 @@ impl Text for FieldType {
 
 // Writes the types of parameters or results, if there are any.
 fn write_types<W: Sink>(start: &str, types: &[ValType], out: &mut Tree<W>)
+    requires one_line { has_line_feed start.now ≡ false }
     ensures adds { Adds out.old out.new }
-    ensures says { has_line_feed start.now ≡ false
-        → Says (types_text start.now types.now) out.old out.new }
+    ensures says { Says (types_text start.now types.now) out.old out.new }
 {
     if types.is_empty() {
         return;
@@ -225,9 +225,9 @@ impl Text for SubType {
 
 // Writes a type as a field of an item.
 fn show_type<T: Text, W: Sink>(name: &str, ty: &T, out: &mut Tree<W>)
+    requires one_line { has_line_feed name.now ≡ false }
     ensures adds { Adds out.old out.new }
-    ensures says { has_line_feed name.now ≡ false
-        → Says (field_text (named name.now (word (T.words ty.now)))) out.old out.new }
+    ensures says { Says (field_text (named name.now (word (T.words ty.now)))) out.old out.new }
 {
     out.field(name);
     ty.text(out);
@@ -235,9 +235,9 @@ fn show_type<T: Text, W: Sink>(name: &str, ty: &T, out: &mut Tree<W>)
 
 // Writes the type of what may be mutable as a field of an item.
 fn show_mutable<W: Sink>(name: &str, mutable: bool, ty: &ValType, out: &mut Tree<W>)
+    requires one_line { has_line_feed name.now ≡ false }
     ensures adds { Adds out.old out.new }
-    ensures says { has_line_feed name.now ≡ false
-        → Says (field_text (named name.now (word (mutable_text mutable (val_text ty.now)))))
+    ensures says { Says (field_text (named name.now (word (mutable_text mutable (val_text ty.now)))))
         out.old out.new }
 {
     out.field(name);

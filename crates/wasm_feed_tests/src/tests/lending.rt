@@ -1,4 +1,6 @@
 // Pieces that a feeder lends.
+ghost use Rattle.wasm_feed.specs.Beside.{MayCome};
+
 use super::feeding::{MODULE, Told, push, say};
 use bitflags::Flags;
 use std::alloc::Allocator;
@@ -8,10 +10,33 @@ use wasm_feed::Feeder;
 use wasm_parser::{Error, Fault, Result, WasmFeatures};
 use wasm_test_heap::Sparing;
 
+// The bytes that may be lent: none after the end of input.
+fn lendable<'a, A: Allocator>(feeder: &Feeder<A>, piece: &'a [u8]) -> &'a [u8]
+    ensures { MayCome feeder.now result.now }
+{
+    if feeder.is_finished() { b"" } else { piece }
+}
+
 // One step over a piece: what it tells, and what is left of the piece.
 fn over<'a, A: Allocator>(feeder: &mut Feeder<A>, piece: &'a [u8]) -> Result<(Told, &'a [u8])> {
-    let (taken, told) = feeder.step_over(piece, say)?;
-    Ok((told, piece.split_at(taken).1))
+    let lent = lendable(feeder, piece);
+    let (taken, told) = feeder.step_over(lent, say)?;
+    Ok((told, lent.split_at(taken).1))
+}
+
+// Each call that makes a step tells the same, also over more bytes, and nothing more is held or stored.
+fn stays(rt: &impl Abort, feeder: &mut Feeder, told: Told) -> Result<()> {
+    let (held, stored) = (feeder.held(), feeder.stored());
+    for _ in 0..2 {
+        assert_eq!(rt; say(feeder.step()), told);
+        assert_eq!(rt; say(feeder.open().step()), told);
+        assert_eq!(rt; feeder.step_with(say), told);
+        assert_eq!(rt; over(feeder, b"\x01\x01\0")?.0, told);
+        assert_eq!(rt; over(feeder, b"")?.0, told);
+        assert!(rt; !feeder.wants_more());
+        assert_eq!(rt; (feeder.held(), feeder.stored()), (held, stored));
+    }
+    Ok(())
 }
 
 // The steps over a piece are these, after each of which so many bytes are held and stored.
@@ -135,5 +160,49 @@ fn a_refused_piece_is_given_again(rt: HostRuntime) -> std::result::Result<(), Fa
     heap.give(20);
     let (told, left) = over(&mut feeder, MODULE)?;
     assert_eq!(rt; (told, left.len()), (Told::Shows(8), 10));
+    Ok(())
+}
+
+#[test]
+fn the_end_stays(rt: HostRuntime) -> std::result::Result<(), Fail> {
+    let mut feeder = Feeder::new(rt.alloc(), 0, WasmFeatures::all());
+    push(&mut feeder, b"\0asm\x01\0\0\0")?;
+    assert!(rt; !feeder.is_finished());
+    feeder.finish();
+    feeder.finish();
+    assert!(rt; feeder.is_finished());
+    assert_eq!(rt; say(feeder.step()), Told::Shows(8));
+    stays(&rt, &mut feeder, Told::Ends(8))?;
+    feeder.finish();
+    stays(&rt, &mut feeder, Told::Ends(8))?;
+    Ok(())
+}
+
+// After the end of input: a section that is cut short.
+#[test]
+fn the_fault_of_a_cut_stays(rt: HostRuntime) -> std::result::Result<(), Fail> {
+    let mut feeder = Feeder::new(rt.alloc(), 0, WasmFeatures::all());
+    push(&mut feeder, b"\0asm\x01\0\0\0\x01")?;
+    feeder.finish();
+    assert_eq!(rt; over(&mut feeder, b"")?.0, Told::Shows(8));
+    let cut = Error::new(Fault::UnexpectedEof, 9);
+    stays(&rt, &mut feeder, Told::Refuses(cut))?;
+    Ok(())
+}
+
+// A fault in bytes that were lent is held, so other bytes after it change nothing.
+#[test]
+fn a_fault_stays(rt: HostRuntime) -> std::result::Result<(), Fail> {
+    let mut feeder = Feeder::new(rt.alloc(), 0, WasmFeatures::all());
+    let malformed = Told::Refuses(Error::new(Fault::MalformedSectionId, 8));
+    tells(
+        &rt,
+        &mut feeder,
+        b"\0asm\x01\0\0\0\x80\0",
+        &[(Told::Shows(8), 0, 0), (malformed, 2, 2)],
+    )?;
+    stays(&rt, &mut feeder, malformed)?;
+    feeder.finish();
+    stays(&rt, &mut feeder, malformed)?;
     Ok(())
 }

@@ -12,5 +12,5 @@ returns-clause-says g c since before h =
       kind.0,
       subst (λ (t : List ℕ). HasLine since t c.range.new.self) (more_fields before (data_kind_fields d.kind kind.0)
           (named (codes "data") (raw d.bytes.now) ∷ named (codes "range") (range d.range.start d.range.end) ∷ []))
-          (c.range.ensures.says refl since _ (c.raw.ensures.says refl since _ kind.1)),
+          (c.range.ensures.says since _ (c.raw.ensures.says since _ kind.1)),
     )

@@ -4,8 +4,9 @@ use Rattle.wasm_show.specs.Tree.{has_line_feed}
 use Rattle.wasm_show.proofs.Saying.{none_in_digits, says_same}
 use Rattle.wasm_show.proofs.tree.Tree.hexadecimal.Goals as goal
 
+pub bytes-requires : goal.bytes-requires
+bytes-requires g c = ap has_line_feed c.hexadecimal_digits.ensures ∙ none_in_digits (c.args.byte / 16) (c.args.byte % 16)
+
 pub returns-clause-says : goal.returns-clause-says
 returns-clause-says g c =
-    let text = c.hexadecimal_digits.ensures in
-    says_same c.hexadecimal_digits.result (hexadecimal c.args.byte) _ _ text
-    (c.bytes.ensures.says (ap has_line_feed text ∙ none_in_digits (c.args.byte / 16) (c.args.byte % 16)))
+    says_same c.hexadecimal_digits.result (hexadecimal c.args.byte) _ _ c.hexadecimal_digits.ensures c.bytes.ensures.says

@@ -9,6 +9,6 @@ returns-clause-says g c =
     let middle = flat_map quoted_byte c.args.text.now in
     says_same ((codes "\"" ++ middle) ++ codes "\"") (value_text (quoted c.args.text.now)) _ _ (append_assoc (codes "\"") middle
     (codes "\""))
-    (says_then (codes "\"" ++ middle) (codes "\"") _ _ _ (says_then (codes "\"") middle _ _ _ (c.text.ensures.says refl)
+    (says_then (codes "\"" ++ middle) (codes "\"") _ _ _ (says_then (codes "\"") middle _ _ _ c.text.ensures.says
     (says_same (flat_map quoted_byte c.as_bytes.result.now) middle _ _ (ap (flat_map quoted_byte) c.as_bytes.ensures.value)
-    c.quoted_bytes.ensures.says)) (c.text-2.ensures.says refl))
+    c.quoted_bytes.ensures.says)) c.text-2.ensures.says)

@@ -7,7 +7,7 @@ use Rattle.wasm_show.proofs.tree.Tree.name_in_quotes.Goals as goal
 pub returns-in-Some : goal.returns-in-Some
 returns-in-Some g c =
     let name = codes "\"" ++ (flat_map quoted_byte c.in-Some.name.now ++ codes "\"") in
-    rw c.in-Some.is (says_then (codes " ") name _ _ _ (c.text.ensures.says refl) c.in_quotes.ensures.says)
+    rw c.in-Some.is (says_then (codes " ") name _ _ _ c.text.ensures.says c.in_quotes.ensures.says)
 
 pub returns-in_default : goal.returns-in_default
 returns-in_default g c = rw c.in_default.is (says_nothing _)

@@ -13,6 +13,10 @@ runs-preserved-then-count-eq0 g c =
           c.in-Some.ensures.cases.0 (append-nil (quoted_byte byte)) c.runs.invariant.says c.quoted_byte.ensures.says;
     }
 
+pub piece-requires-clause-one_line : goal.piece-requires-clause-one_line
+piece-requires-clause-one_line g c = none_in_plain c.split_at.result.0.now
+    (subst (λ (x : List ℕ). list_any is_escaped x ≡ false) (sym c.split_at.ensures.front) c.plain_count-count.ensures.plain)
+
 pub runs-preserved : goal.runs-preserved
 runs-preserved g c =
     let run = c.split_at.result.0.now in
@@ -20,5 +24,5 @@ runs-preserved g c =
     record {
       adds = search rules;
       says = quotes_more c.args.bytes.now c.runs.rest.now run c.split_at.result.1.now run _ _ _ c.split_at.ensures.by_index.0
-          (plain_quoted run plain) c.runs.invariant.says (c.piece.ensures.says (none_in_plain run plain));
+          (plain_quoted run plain) c.runs.invariant.says c.piece.ensures.says;
     }

@@ -4,9 +4,9 @@ use Rattle.wasm_show.proofs.Saying.{says_same, says_then}
 use Rattle.wasm_show.proofs.tree.Tree.range_of_line.Goals as goal
 
 pub returns-clause-says : goal.returns-clause-says
-returns-clause-says g c none =
+returns-clause-says g c =
     let start = field_text (named c.args.name.now (number c.args.start)) in
     says_same ((start ++ codes "..") ++ decimal c.args.end) (field_text (named c.args.name.now (range c.args.start c.args.end))) _ _
     (simp append_assoc)
     (says_then (start ++ codes "..") (decimal c.args.end) _ _ _
-    (says_then start (codes "..") _ _ _ (c.digits_field.ensures.says none) (c.text.ensures.says refl)) c.digits.ensures.says)
+    (says_then start (codes "..") _ _ _ c.digits_field.ensures.says c.text.ensures.says) c.digits.ensures.says)

@@ -5,11 +5,11 @@ use Rattle.wasm_show.proofs.Saying.{says_same, says_then}
 use Rattle.wasm_show.proofs.tree.Tree.raw.Goals as goal
 
 pub returns-clause-says : goal.returns-clause-says
-returns-clause-says g c none =
+returns-clause-says g c =
     let count = field_text (named c.args.name.now (number (length c.args.bytes.now))) in
     let shown = flat_map hexadecimal (take 16 c.args.bytes.now) in
     says_same ((count ++ codes ":") ++ shown) (field_text (named c.args.name.now (raw c.args.bytes.now))) _ _ (simp append_assoc)
-    (says_then (count ++ codes ":") shown _ _ _ (says_then count (codes ":") _ _ _ (c.digits_field.ensures.says none)
-    (c.text.ensures.says refl))
+    (says_then (count ++ codes ":") shown _ _ _ (says_then count (codes ":") _ _ _ c.digits_field.ensures.says
+    c.text.ensures.says)
     (says_same (flat_map hexadecimal c.first_bytes.result.now) shown _ _ (ap (flat_map hexadecimal) c.first_bytes.ensures)
     c.hexadecimals.ensures.says))

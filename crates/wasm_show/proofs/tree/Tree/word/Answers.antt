@@ -3,4 +3,4 @@ use Rattle.wasm_show.proofs.Saying.{says_then}
 use Rattle.wasm_show.proofs.tree.Tree.word.Goals as goal
 
 pub returns-clause-says : goal.returns-clause-says
-returns-clause-says g c none = says_then (codes " ") c.args.word.now _ _ _ (c.text.ensures.says refl) (c.text-2.ensures.says none)
+returns-clause-says g c = says_then (codes " ") c.args.word.now _ _ _ c.text.ensures.says c.text-2.ensures.says

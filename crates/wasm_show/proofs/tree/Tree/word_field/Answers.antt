@@ -2,5 +2,5 @@ use Rattle.wasm_show.proofs.Saying.{says_value}
 use Rattle.wasm_show.proofs.tree.Tree.word_field.Goals as goal
 
 pub returns-clause-says : goal.returns-clause-says
-returns-clause-says g c none one_line =
-    says_value c.args.name.now c.args.word.now _ _ _ (c.field.ensures.says none) (c.text.ensures.says one_line)
+returns-clause-says g c =
+    says_value c.args.name.now c.args.word.now _ _ _ c.field.ensures.says c.text.ensures.says
