@@ -1,11 +1,11 @@
 -- That what a step answers beside a piece is what it answers on all of the piece.
-use Rattle.std.proofs.Common.{◌≡◌, ℕ, ◌+◌, ◌-◌, ◌^◌, ◌<◌, ◌≤◌, Bool, true, false, List, [], ◌∷◌, ◌++◌, length, drop, Result, Ok, Err}
+use Rattle.std.proofs.Common.{◌≡◌, ℕ, ◌+◌, ◌-◌, ◌<◌, ◌≤◌, Bool, true, false, List, [], ◌∷◌, ◌++◌, length, drop, Result, Ok, Err}
 use Rattle.std.proofs.Common.{refl, sym, ap, subst, subst₂, ◌∙◌, arith, append_assoc, append-nil, length-append, inl, inr, Option}
 use Rattle.std.proofs.lemmas.List.{append_cancel_right, length-drop, drop-drop}
 use Rattle.wasm_base.specs.declared.error.Error.{Error}
 use Rattle.wasm_base.specs.Features.{all_features}
 use Rattle.wasm_grammar.specs.Reading.{Report}
-use Rattle.wasm_grammar.specs.Waiting.{enough as decides_all, wants, waiting}
+use Rattle.wasm_grammar.specs.Waiting.{enough as decides_all, wants as asks_for, waiting}
 use Rattle.wasm_parser.specs.Along.{is_last, SaysTheSame}
 use Rattle.wasm_parser.specs.ParseAnswer.{IsRequest, ParseAnswer}
 use Rattle.wasm_parser.specs.ParserLaws.{AnswersLast}
@@ -55,7 +55,7 @@ bounded_by : (old : Feed) (piece stored : List ℕ) (count : ℕ) → count ≤ 
 bounded_by old piece stored count within same stores =
     let sizes = ap (λ (l : List ℕ). length l) same in
     let both : length stored + (length piece - count) ≤ length old.held + length piece =
-        omega (arith, sizes, length-append stored (drop count piece), length-append old.held piece, length-drop count piece) in
+    omega (arith, sizes, length-append stored (drop count piece), length-append old.held piece, length-drop count piece) in
     record { fed = λ n. both; unfed = λ e. let none : length piece ≡ 0 = ap (λ (l : List ℕ). length l) e in omega (arith, both, none, stores) }
 
 idle_by : (old : Feed) (piece stored : List ℕ) (count : ℕ) (c : Cursor) → c.mark ≡ 0 → stored ++ drop count piece ≡ old.held ++ piece
@@ -169,16 +169,29 @@ filled_alike text_of source rest taken written rest' f g w (inr (piece, gave, so
 
 -- ---- a step over a piece
 
+-- where something is stored, a step leaves the piece
+pub leaves_piece : (stored piece : List ℕ) (c : Cursor) → 0 < length stored
+    → beside (feed_of stored c) (drop 0 piece) ≡ lending stored piece c
+leaves_piece [] piece c some = absurd (omega arith)
+leaves_piece (x ∷ xs) piece c some = refl
+
 -- a step reads what is stored, if something is
-seen_some : (stored rest : List ℕ) → 0 < length stored → seen stored rest ≡ stored
+pub seen_some : (stored rest : List ℕ) → 0 < length stored → seen stored rest ≡ stored
 seen_some [] rest some = absurd (omega arith)
 seen_some (x ∷ xs) rest some = refl
+
+-- where more bytes are asked for, those that are there don't decide
+pub undecided : (p new : ParserState) (bytes : List ℕ) (one : Result Chunk Error) (hint : ℕ) → ParseAnswer p false bytes one new
+    → one ≡ Ok (chunk.NeedMoreData hint) → waiting (grammar_of p) bytes ≡ decides_all → ⊥
+undecided p new bytes one hint a is e =
+    let (goes, (need, u)) =
+    answers_go_along.asks p new false bytes hint (subst (λ (r : Result Chunk Error). ParseAnswer p false bytes r new) is a) in
+    let no : decides_all ≡ asks_for need hint = sym e ∙ u in cc
 
 -- bytes that decide are no request
 decided : (p new : ParserState) (bytes : List ℕ) (x : Result Step Error) → ParseAnswer p false bytes (answer_of x) new
     → waiting (grammar_of p) bytes ≡ decides_all → is_request x ≡ false
-decided p new bytes (Ok (NeedMoreData hint)) a e = let (goes, (need, u)) = answers_go_along.asks p new false bytes hint a in
-    let no : decides_all ≡ wants need hint = sym e ∙ u in cc
+decided p new bytes (Ok (NeedMoreData hint)) a e = absurd (undecided p new bytes (Ok (chunk.NeedMoreData hint)) hint a refl e)
 decided p new bytes (Ok (Parsed shown payload)) a e = refl
 decided p new bytes (Err error) a e = refl
 

@@ -75,9 +75,9 @@ passes p new eof held (Ok (Parsed bytes payload)) a = by_end (is_end (report_of 
     by_end : (b : Bool) → is_end (report_of payload) ≡ b → new.offset ≡ p.offset + length bytes.now
     by_end true e =
         let same : new.offset ≡ p.offset = ap (λ (q : ParserState). q.offset) a.state
-            ∙ ap (λ (b : Bool). (if b then ended_state p else state_after p (p.offset + length bytes.now) (report_of payload)).offset) e in
+        ∙ ap (λ (b : Bool). (if b then ended_state p else state_after p (p.offset + length bytes.now) (report_of payload)).offset) e in
         let none : length bytes.now ≡ 0 =
-            ap (λ (l : List ℕ). length l) (none_passed p new eof held (Ok (Parsed bytes payload)) a e) in
+        ap (λ (l : List ℕ). length l) (none_passed p new eof held (Ok (Parsed bytes payload)) a e) in
         omega (arith, same, none)
     by_end false e = ap (λ (q : ParserState). q.offset) a.state
         ∙ ap (λ (b : Bool). (if b then ended_state p else state_after p (p.offset + length bytes.now) (report_of payload)).offset) e

@@ -53,8 +53,8 @@ ReadsEnough stored piece c =
 pub record Gathers (p : ParserState) (old piece : List ℕ) (count : ℕ) (new : List ℕ) : Type 0 where
   pub within : count ≤ length piece
   pub stores : new ≡ old ++ take count piece
-  pub enough : SeesEnough p false new (drop count piece)
   pub idle : waiting (grammar_of p) old ≡ enough → count ≡ 0
+  pub enough : SeesEnough p false new (drop count piece)
 
 -- No bytes come after the end of input.
 abbrev pub MayCome : Feed → (piece : List ℕ) → Type 0

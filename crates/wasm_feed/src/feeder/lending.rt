@@ -159,8 +159,8 @@ pub(super) fn take_left<A: Allocator>(
     ensures wants { cursor.new.wants_more ≡ cursor.old.wants_more }
     ensures stays { cursor.old.wants_more ≡ false → (stored.old.items ≡ [] → cursor.old.mark ≡ 0)
         → drop cursor.new.mark stored.new.items ≡ drop cursor.old.mark (seen stored.old.items piece.now) }
-    ensures idle { cursor.old.wants_more ≡ false → 0 < vec_len stored.old
-        → (result ≡ 0) × (vec_len stored.new ≡ vec_len stored.old) }
+    ensures idle { cursor.old.wants_more ≡ false → 0 < length stored.old.items
+        → (result ≡ 0) × (length stored.new.items ≡ length stored.old.items) }
 {
     if cursor.wants_more {
         keep(cursor, stored, piece);
@@ -171,6 +171,7 @@ pub(super) fn take_left<A: Allocator>(
             keep(cursor, stored, piece);
             return piece.len();
         }
+        return pass_lent(cursor, stored, piece);
     }
-    pass_lent(cursor, stored, piece)
+    0
 }

@@ -1,6 +1,8 @@
-use Rattle.std.proofs.Common.{◌≡◌, ℕ, ◌+◌, ◌-◌, List, ◌++◌, arith, ap, ◌∙◌, length, take, drop, append_assoc, sym}
+use Rattle.std.proofs.Common.{◌≡◌, ℕ, ◌+◌, ◌-◌, List, ◌++◌, arith, ap, ◌∙◌, length, take, drop, append_assoc, append-nil, sym}
 use Rattle.std.proofs.lemmas.List.{length-take, length-drop}
 use Rattle.std.proofs.Math.Seq.{take-add}
+use Rattle.wasm_grammar.specs.Waiting.{waiting}
+use Rattle.wasm_parser.specs.ParserState.{grammar_of}
 use Rattle.wasm_feed.proofs.feeder.lending.gather.Goals as goal
 
 more_put : (old held new part piece : List ℕ) (n m : ℕ) → held ≡ old ++ take n piece → new ≡ held ++ part
@@ -8,6 +10,9 @@ more_put : (old held new part piece : List ℕ) (n m : ℕ) → held ≡ old ++ 
 more_put old held new part piece n m was put is = put ∙ (ap (λ (l : List ℕ). l ++ part) was
     ∙ (append_assoc old (take n piece) part ∙ ap (λ (l : List ℕ). old ++ l)
     (ap (λ (l : List ℕ). take n piece ++ l) is ∙ sym (take-add n m piece))))
+
+nothing_put : (old held piece : List ℕ) (n : ℕ) → held ≡ old ++ take n piece → n ≡ 0 → held ≡ old
+nothing_put old held piece n was none = was ∙ (ap (λ (k : ℕ). old ++ take k piece) none ∙ append-nil old)
 
 pub parts-preserved : goal.parts-preserved
 parts-preserved g c =
@@ -18,6 +23,10 @@ parts-preserved g c =
     let left = length-drop c.parts.count c.args.piece.now in
     record {
       within = omega (arith, c.min.ensures);
+      idle = λ e. absurd (c.if-missing-eq0.false (c.missing-missing.ensures.decided
+          (ap (λ (l : List ℕ). waiting (grammar_of c.args.parser.now) l) (c.deref.ensures.value
+          ∙ nothing_put c.args.held.now.items c.parts.held.items c.args.piece.now c.parts.count c.parts.invariant.put
+          (c.parts.invariant.idle e)) ∙ e)));
       put = more_put c.args.held.now.items c.parts.held.items c.put.new.bytes.items _ c.args.piece.now c.parts.count c.min.result
           c.parts.invariant.put c.put.ensures.items (ap (λ (k : ℕ). take k (drop c.parts.count c.args.piece.now)) size);
       room = omega (arith, c.put.ensures.len, c.put.ensures.capacity, c.parts.invariant.room, c.min.ensures, sizes, left, put);

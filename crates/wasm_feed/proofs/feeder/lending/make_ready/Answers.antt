@@ -1,6 +1,8 @@
 use Rattle.std.proofs.Common.{◌≡◌, ℕ, List, ◌++◌, drop, take, refl, ap, ◌∙◌, append_assoc, arith}
 use Rattle.std.proofs.lemmas.Grind.{common_steps}
-use Rattle.std.proofs.lemmas.List.{take-append-drop}
+use Rattle.std.proofs.lemmas.List.{length-drop, take-append-drop}
+use Rattle.wasm_grammar.specs.Waiting.{waiting}
+use Rattle.wasm_parser.specs.ParserState.{grammar_of}
 use Rattle.wasm_feed.specs.Cursors.{feed_of}
 use Rattle.wasm_feed.proofs.Beside.{ready}
 use Rattle.wasm_feed.proofs.feeder.lending.make_ready.Goals as goal
@@ -16,3 +18,5 @@ returns-clause-ok g c =
     ∙ (ap (λ (l : List ℕ). front ++ l) (take-append-drop count piece) ∙ ap (λ (l : List ℕ). l ++ piece) held)) in
     ready (feed_of c.args.stored.now.items c.args.cursor.now) piece c.gather.new.held.items count _ w.within refl same refl refl refl
     (rw (c.if-goes_whole.ensures.finished refl) w.enough)
+    (omega (arith, length-drop c.args.cursor.now.mark c.args.stored.now.items))
+    (λ h. w.idle (ap (λ (l : List ℕ). waiting (grammar_of c.args.cursor.now.parser) l) held ∙ h.decides))
