@@ -56,7 +56,10 @@ bounded_by old piece stored count within same stores =
     let sizes = ap (λ (l : List ℕ). length l) same in
     let both : length stored + (length piece - count) ≤ length old.held + length piece =
     omega (arith, sizes, length-append stored (drop count piece), length-append old.held piece, length-drop count piece) in
-    record { fed = λ n. both; unfed = λ e. let none : length piece ≡ 0 = ap (λ (l : List ℕ). length l) e in omega (arith, both, none, stores) }
+    record {
+      fed = λ n. both;
+      unfed = λ e. let none : length piece ≡ 0 = ap (λ (l : List ℕ). length l) e in omega (arith, both, none, stores);
+    }
 
 idle_by : (old : Feed) (piece stored : List ℕ) (count : ℕ) (c : Cursor) → c.mark ≡ 0 → stored ++ drop count piece ≡ old.held ++ piece
     → length old.held ≤ old.stored → (HasDecided old piece → count ≡ 0) → HasDecided old piece → StaysIdle old count stored c
@@ -230,7 +233,8 @@ module _ (f : Feed) (piece rest stored items bytes : List ℕ) (count : ℕ) (ol
     steps = subst (λ (g : Feed). Steps (beside f piece) x g) (sym same) stepped;
     asks = λ e. let all = asks (wants ∙ e) in omega (arith, all, size, sizes, r.within);
     stays = λ l. subst₂ (λ (p q : ParserState). ParseAnswer p f.eof (drop last.mark kept) (answer_of x) q) state
-        (sym (ap (λ (g : Feed). g.state) takes)) (subst₂ (λ (b : Bool) (held : List ℕ). ParseAnswer old.parser b held (answer_of x) new.parser)
+        (sym (ap (λ (g : Feed). g.state) takes))
+        (subst₂ (λ (b : Bool) (held : List ℕ). ParseAnswer old.parser b held (answer_of x) new.parser)
         eof (sym (held l)) parses);
     stores = omega (arith, length-drop last.mark kept);
     bounded = record {

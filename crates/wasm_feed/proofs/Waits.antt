@@ -65,7 +65,11 @@ steps f g x w s = record { stores = stores; below = below; undecided = λ e. und
 
 steps_over : (f g : Feed) (piece : List ℕ) (x : Result Step Error) (taken : ℕ) → end_of f + length piece < 2 ^ 64
     → StepsOver f piece x taken g → WaitsUndecided g
-steps_over f g piece x taken l s = record { stores = s.stores; below = below; undecided = λ e. undecided x s.steps (sym s.steps.wants_more ∙ e) }
+steps_over f g piece x taken l s = record {
+  stores = s.stores;
+  below = below;
+  undecided = λ e. undecided x s.steps (sym s.steps.wants_more ∙ e);
+}
   where
     rest : List ℕ
     rest = drop taken piece

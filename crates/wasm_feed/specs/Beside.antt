@@ -68,8 +68,8 @@ pub record HasDecided (f : Feed) (piece : List ℕ) : Type 0 where
   pub below : end_of f + length piece < 2 ^ 64
   pub decides : waiting (grammar_of f.state) f.held ≡ enough
 
--- How many bytes are stored after a piece came: at most those that were held, and the piece. Without a piece there are no
--- more than before.
+-- How many bytes are stored after a piece came: at most those that were held, and the piece. Without a piece there
+-- are no more than before.
 pub record Bounds (old : Feed) (piece : List ℕ) (stored : ℕ) : Type 0 where
   pub fed : 0 < length piece → stored ≤ length old.held + length piece
   pub unfed : piece ≡ [] → stored ≤ old.stored

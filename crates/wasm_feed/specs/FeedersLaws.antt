@@ -76,7 +76,7 @@ pub record WaitsUndecided (f : Feed) : Type 0 where
   pub undecided : f.wants_more ≡ true → (hint : ℕ) × IsUndecided f.state f.eof f.held hint
 
 -- This holds of a new feeder and after each call, while the stream stays below the top of the offsets; past it, a step
--- is the fault of that. What is stored after bytes came is less than the bound of the undecided ones, and the piece; and
+-- is the fault of that. What is stored after bytes came is less than the bound of the undecided ones and the piece, and
 -- where the bytes that are held decide, no more than before.
 pub record FeedersWait : Type 0 where
   pub begins : (offset features : ℕ) → offset < 2 ^ 64 → WaitsUndecided (new_feed offset features)

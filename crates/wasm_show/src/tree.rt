@@ -205,7 +205,7 @@ impl<W: Sink> Tree<W> {
 
     // Puts bytes after those that wait, unless the tree has stopped; it stops where this can't be.
     fn push(&mut self, bytes: &[u8])
-        requires { length bytes.now ≤ 65536 }
+        requires short { length bytes.now ≤ 65536 }
         ensures { Puts bytes.now self.old self.new }
     {
         if self.why.is_some() {
@@ -452,7 +452,7 @@ impl<W: Sink> Tree<W> {
 
     // Writes bytes, for which there is room, on the line that is begun, or in the text of an object that is open.
     fn piece(&mut self, bytes: &[u8])
-        requires { length bytes.now ≤ 65536 }
+        requires short { length bytes.now ≤ 65536 }
         requires one_line { has_line_feed bytes.now ≡ false }
         ensures adds { Adds self.old self.new }
         ensures says { Says bytes.now self.old self.new }
