@@ -17,6 +17,12 @@ GOLDEN = os.path.join(TOP, "tools", "golden.jsonl")
 DIFFERS, WRONG_USE, NO_PROGRAM = 1, 2, 3
 
 
+def version():
+    """The version of this project, which stands in one file."""
+    with open(os.path.join(TOP, "VERSION"), encoding="ascii") as file:
+        return file.read().strip()
+
+
 def stop(status, message):
     print("%s: %s" % (os.path.basename(sys.argv[0]), message), file=sys.stderr)
     sys.exit(status)

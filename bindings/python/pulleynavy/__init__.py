@@ -9,10 +9,13 @@
 An event has a kind, as KINDS names them, the numbers of that kind, and its offsets in bytes from the start of the stream. A stream that is
 malformed ends with a Fault. The shared library is found by the variable PULLEYNAVY_LIB, or where the system looks for libpulleynavy.so.0.
 """
+# SPDX-License-Identifier: Apache-2.0 OR MIT
 import ctypes
 import os
 
 from . import declared
+
+__version__ = declared.VERSION
 
 KINDS = ("need more", "version", "section", "start", "data count", "code", "body", "custom", "unknown", "end", "fault")
 NEED_MORE, VERSION, SECTION, START, DATA_COUNT, CODE, BODY, CUSTOM, UNKNOWN, END, FAULT = range(11)

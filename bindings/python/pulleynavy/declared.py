@@ -1,5 +1,8 @@
 """The declarations of the library, written by tools/c_header from its sources."""
+# SPDX-License-Identifier: Apache-2.0 OR MIT
 import ctypes
+
+VERSION = "0.1.0"
 
 
 class Fault(ctypes.Structure):
@@ -535,7 +538,7 @@ CALLS = {
     "pulleynavy_symbol": (Symbol, [ctypes.c_void_p, ctypes.c_size_t, ctypes.c_uint64, ctypes.c_uint32]),
     "pulleynavy_relocation": (Relocation, [ctypes.c_void_p, ctypes.c_size_t, ctypes.c_uint64, ctypes.c_uint32]),
     "pulleynavy_core_process": (CoreProcess, [ctypes.c_void_p, ctypes.c_size_t, ctypes.c_uint64, ctypes.c_uint32]),
-    "pulleynavy_core_module": (CoreModule, [ctypes.c_void_p, ctypes.c_size_t, ctypes.c_uint64, ctypes.c_uint32]),
+    "pulleynavy_core_module": (CoreModule, [ctypes.c_void_p, ctypes.c_size_t, ctypes.c_uint64, ctypes.c_uint32, ctypes.c_uint64]),
     "pulleynavy_core_instance": (CoreInstance, [ctypes.c_void_p, ctypes.c_size_t, ctypes.c_uint64, ctypes.c_uint32]),
     "pulleynavy_core_thread": (CoreThread, [ctypes.c_void_p, ctypes.c_size_t, ctypes.c_uint64, ctypes.c_uint32]),
     "pulleynavy_core_frame": (CoreFrame, [ctypes.c_void_p, ctypes.c_size_t, ctypes.c_uint64, ctypes.c_uint32]),

@@ -1,7 +1,7 @@
 //! Core dumps.
-use crate::error::{CORE_START_BYTE, CUSTOM_TRAILING};
+use crate::error::CUSTOM_TRAILING;
 use crate::section::call;
-use crate::{BinaryReader, BinaryReaderError, FromReader, List, Result};
+use crate::{BinaryReader, FromReader, List, Result};
 
 /// The section `core`.
 #[derive(Clone, Copy, Debug, PartialEq, Eq, Hash)]
@@ -33,22 +33,20 @@ impl<'a> CoreDumpModulesSection<'a> {
     /// The section that a reader has left.
     ///
     /// # Errors
-    /// The fault of a module, or of bytes after the last one. The byte with which a module begins is told at the start of the section.
+    /// The fault of a module, or of bytes after the last one. The offset of `CoreStartByte` is that of the section's data, for a later module too.
     pub fn new(mut reader: BinaryReader<'a>) -> Result<Self> {
-        let start = reader.original_position();
-        let modules = List::counted(&mut reader, module).map_err(|error| if is_start_byte(&error) { error.at(start) } else { error })?;
+        let data_offset = reader.original_position();
+        let count = reader.read_var_u32()?;
+        // Items that were read once have no fault, so the offset is not used when they are read again.
+        let modules = List::checked(&mut reader, count, |reader| module(reader, data_offset), |reader| module(reader, 0))?;
         reader.expect_end(CUSTOM_TRAILING)?;
         Ok(CoreDumpModulesSection { modules })
     }
 }
 
-fn is_start_byte(error: &BinaryReaderError) -> bool {
-    error.code() & 0xff == CORE_START_BYTE
-}
-
-/// The name of a module.
-fn module<'a>(reader: &mut BinaryReader<'a>) -> Result<&'a str> {
-    let (window, plain) = call!(pulleynavy_core_module, reader);
+/// The name of a module of the section whose data begins at this offset.
+fn module<'a>(reader: &mut BinaryReader<'a>, data_offset: u64) -> Result<&'a str> {
+    let (window, plain) = call!(pulleynavy_core_module, reader, data_offset);
     Ok(window.text(plain.name))
 }
 

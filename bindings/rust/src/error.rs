@@ -19,7 +19,6 @@ pub(crate) const NAMES_ORDER: u32 = 38;
 pub(crate) const INDIRECT_ORDER: u32 = 39;
 pub(crate) const NAME_SECTION_ORDER: u32 = 40;
 pub(crate) const NAME_TRAILING: u32 = 41;
-pub(crate) const CORE_START_BYTE: u32 = 44;
 pub(crate) const CUSTOM_TRAILING: u32 = 46;
 
 /// What a byte begins that is no such thing, by its number.

@@ -716,6 +716,7 @@ unsafe extern "C" {
         bytes_size: usize,
         offset: u64,
         features: u32,
+        data_offset: u64,
     ) -> CoreModule;
     pub fn pulleynavy_core_instance(
         bytes: *const u8,

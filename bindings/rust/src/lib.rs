@@ -1,3 +1,4 @@
+// SPDX-License-Identifier: Apache-2.0 OR MIT
 //! Reads WebAssembly modules by a proved parser, which is linked as a static library.
 //!
 //! The names are those of `wasmparser`, where it has them, and so are the ways to use them:

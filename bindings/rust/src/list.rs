@@ -21,7 +21,12 @@ impl<'a, T> List<'a, T> {
 
     /// So many items, which a reader passes over.
     pub(crate) fn pass(reader: &mut BinaryReader<'a>, left: u32, read: Read<'a, T>) -> Result<Self> {
-        let items = reader.skip(|reader| (0..left).try_for_each(|_| read(reader).map(drop)))?;
+        List::checked(reader, left, read, read)
+    }
+
+    /// Like `pass`, but `check` reads each item first, and its faults are returned.
+    pub(crate) fn checked(reader: &mut BinaryReader<'a>, left: u32, check: impl Fn(&mut BinaryReader<'a>) -> Result<T>, read: Read<'a, T>) -> Result<Self> {
+        let items = reader.skip(|reader| (0..left).try_for_each(|_| check(reader).map(drop)))?;
         Ok(List { reader: items, left, read })
     }
 }

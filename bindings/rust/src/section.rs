@@ -36,12 +36,12 @@ impl<'a> Window<'a> {
     }
 }
 
-/// Calls the library for what a reader stands at, and passes over it: what was left before, and what the library answered.
+/// Calls the library for the item at a reader's position and moves past it. Returns the window before the call, and the item.
 macro_rules! call {
-    ($name:ident, $reader:expr) => {{
+    ($name:ident, $reader:expr $(, $more:expr)*) => {{
         let window = $reader.rest;
         // SAFETY: the declaration is made from the sources; pointer and length are those of a slice that is borrowed for the call.
-        let plain = unsafe { crate::ffi::$name(window.bytes.as_ptr(), window.bytes.len(), window.offset, window.features) };
+        let plain = unsafe { crate::ffi::$name(window.bytes.as_ptr(), window.bytes.len(), window.offset, window.features $(, $more)*) };
         if plain.fault.kind != 0 {
             return Err(crate::BinaryReaderError::new(plain.fault));
         }

@@ -1,53 +1,6 @@
 /* Lists the module on standard input, and under each section its items, each at its offset. */
+#include "customs.h"
 #include "show.h"
-#include <stdarg.h>
-#include <stdlib.h>
-
-/* What is left of a section, in the stream. */
-struct window {
-    uint64_t at, end;
-};
-
-static uint8_t *stream;
-static struct pulleynavy_fault fault;
-static char *line;
-static size_t used, room;
-
-#define READ(call, w) call(stream + (w)->at, (size_t)((w)->end - (w)->at), (w)->at, PULLEYNAVY_ALL_FEATURES)
-
-static void put(const char *format, ...) {
-    va_list arguments;
-    va_start(arguments, format);
-    int size = vsnprintf(line + used, room - used, format, arguments);
-    va_end(arguments);
-    if (used + (size_t)size < room) {
-        used += (size_t)size;
-        return;
-    }
-    line = realloc(line, room = 2 * (room + (size_t)size));
-    if (!line) exit(3);
-    va_start(arguments, format);
-    used += (size_t)vsnprintf(line + used, room - used, format, arguments);
-    va_end(arguments);
-}
-
-/* Goes on after an item, or keeps its fault. */
-static bool passed(struct window *w, struct pulleynavy_fault found, uint64_t consumed) {
-    fault = found;
-    w->at += consumed;
-    return !found.kind;
-}
-
-static const char *yes(uint32_t flag) { return flag ? "true" : "false"; }
-
-static void put_bytes(uint64_t from, struct pulleynavy_span span) {
-    put("x");
-    for (uint64_t i = 0; i < span.size; i++) put("%02x", stream[from + span.at + i]);
-}
-
-static void put_range(uint64_t from, struct pulleynavy_span span) {
-    put("%" PRIu64 "..%" PRIu64, from + span.at, from + span.at + span.size);
-}
 
 static void put_type(struct pulleynavy_type ty) {
     static const char *kinds[] = {"i32", "i64", "f32", "f64", "v128", "", "i8", "i16"};
@@ -139,12 +92,6 @@ static bool type_group(struct window *w) {
         if (!subtype(w)) return false;
     put("] )");
     return true;
-}
-
-static bool number(struct window *w) {
-    struct pulleynavy_number n = READ(pulleynavy_number, w);
-    put("%" PRIu64, n.value);
-    return passed(w, n.fault, n.consumed);
 }
 
 static bool table(struct window *w) {
@@ -305,9 +252,24 @@ static void items(const struct pulleynavy_event *e) {
         if (!is_read) return;
     }
     if (w.at < w.end) {
-        fault = (struct pulleynavy_fault){PULLEYNAVY_FAULT_SIZE_MISMATCH, 0, 0, w.at};
+        set_fault(PULLEYNAVY_FAULT_SIZE_MISMATCH, w.at);
         tell(0, false);
     }
+}
+
+/* The name and the items of a custom section on one line. */
+static void custom(const struct pulleynavy_event *e) {
+    struct window data = {e->data_offset, e->end};
+    uint8_t *name = stream + e->data_offset - e->name_size;
+    put_bytes(e->data_offset - e->name_size, (struct pulleynavy_span){0, e->name_size});
+    put(" ");
+    size_t before = used;
+    if (!put_custom(pulleynavy_custom_kind(name, (size_t)e->name_size), data)) {
+        used = before;
+        put("unknown");
+    }
+    printf("  %.*s\n", (int)used, line);
+    used = 0;
 }
 
 /* Standard input, and how many bytes it has. */
@@ -330,6 +292,7 @@ int main(void) {
         struct pulleynavy_event event = pulleynavy_parse(&parser, stream + at, size - at, true);
         show_event(&event);
         if (event.kind == PULLEYNAVY_SECTION) items(&event);
+        if (event.kind == PULLEYNAVY_CUSTOM) custom(&event);
         if (event.kind >= PULLEYNAVY_END) {
             free(stream), free(line);
             return event.kind == PULLEYNAVY_FAULT;

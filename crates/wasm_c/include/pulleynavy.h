@@ -1,6 +1,7 @@
-/* Pulleynavy: the parts and items of WebAssembly modules, for C and C++. Written by tools/c_header from the sources of wasm_c.
+/* SPDX-License-Identifier: Apache-2.0 OR MIT */
+/* Pulleynavy: a streaming parser for WebAssembly modules, for C and C++. Written by tools/c_header from the sources of wasm_c.
 
-   Link libwasm_c.a and nothing else: no call takes memory, keeps a pointer, or fails to return. For x86-64 (v2) on Linux.
+   Link libwasm_c.a and nothing else: no call allocates, keeps a pointer, or fails to return. For x86-64 (v2) on Linux.
 
        struct pulleynavy_parser parser = pulleynavy_parser(0, PULLEYNAVY_ALL_FEATURES);
        for (size_t at = 0;;) {
@@ -10,7 +11,7 @@
            at += event.consumed;
        }
 
-   Where the bytes come in pieces, a feeder keeps what isn't read yet in memory of the caller's, as examples/list.c does:
+   For chunked input, a feeder keeps the bytes that aren't read yet in memory of the caller's, as in examples/list.c:
 
        struct pulleynavy_feed feed = pulleynavy_feed(0, PULLEYNAVY_ALL_FEATURES);
        struct pulleynavy_event event;
@@ -21,8 +22,8 @@
            else if (!pulleynavy_push(&feed, room, room_size, piece, size)) return 3;
        }
 
-   Every call for an item is used in one way: it is given the rest of its section, and says how many bytes it took, or its fault. Of an
-   event that is an export section:
+   Every call for an item is used in one way: it gets the remaining bytes of its section, and returns how many bytes it consumed, or its
+   fault. For an event that is an export section:
 
        size_t at = event.start, end = event.end;
        at += pulleynavy_number(bytes + at, end - at, at, PULLEYNAVY_ALL_FEATURES).consumed; // the count
@@ -34,8 +35,15 @@
        }
 
    Offsets count bytes from the start of the whole stream, sizes count bytes, and a span is a place in the bytes that a call was given.
+   Bytes that pass the offset 2^64 - 1 are the fault OFFSET_RANGE.
    The caller owes: no pointer is null, not even with a size of 0; what a pointer leads to has the size that is given; what a call
    writes overlaps nothing else that it is given; nobody writes the bytes during a call; a `bool` is 0 or 1. Nothing else is asked.
+
+   After a fault or a request for more bytes a parser and a feeder are unchanged. After the fault of an item all its other fields are 0,
+   `consumed` among them.
+
+   Threads: the library has no state of its own. Different parsers and feeders may be used by different threads at once; each of them, with
+   its storage, by one thread at a time. Calls for items only read their arguments.
 
    The numbers of kinds, faults and flags never change. */
 #ifndef PULLEYNAVY_H
@@ -46,6 +54,9 @@
 #ifdef __cplusplus
 extern "C" {
 #endif
+
+/* The version of this library. */
+#define PULLEYNAVY_VERSION_STRING "0.1.0"
 
 /* What an event is. */
 enum pulleynavy_kind {
@@ -62,10 +73,13 @@ enum pulleynavy_kind {
     PULLEYNAVY_FAULT = 10
 };
 
-/* The features that a parser or a reader of items may take. */
+/* The features of a parser and of a call for an item. */
 enum { PULLEYNAVY_MEMORY64 = 1, PULLEYNAVY_COMPACT_IMPORTS = 2, PULLEYNAVY_ALL_FEATURES = 3 };
 
-/* The kinds of faults: the lowest 8 bits of the number of a fault. 0 is that there is none. */
+/* The kinds of faults: the lowest 8 bits of the number of a fault. 0 is no fault. No call returns OUT_OF_MEMORY, since none
+   allocates, or INVALID_BOOL, since no item has such a byte. Nor does a call return SIZE_MISMATCH, NAMES_ORDER, INDIRECT_ORDER,
+   NAME_SECTION_ORDER, NAME_TRAILING or CUSTOM_TRAILING: these concern the order and the end of whole lists and sections, which the
+   caller compares, as examples/customs.h does. */
 enum pulleynavy_fault_kind {
     PULLEYNAVY_FAULT_OUT_OF_MEMORY = 1,
     PULLEYNAVY_FAULT_UNEXPECTED_EOF = 2,
@@ -117,9 +131,44 @@ enum pulleynavy_fault_kind {
     PULLEYNAVY_FAULT_SUPERTYPES = 48
 };
 
-/* A fault as plain numbers, or that there is none. */
+/* Of NUMBER_TOO_LONG and NUMBER_TOO_LARGE, the kind of the number: the bits above the lowest 8. */
+enum pulleynavy_number_kind {
+    PULLEYNAVY_NUMBER_VAR_U32 = 0,
+    PULLEYNAVY_NUMBER_VAR_I32 = 1,
+    PULLEYNAVY_NUMBER_VAR_U64 = 2,
+    PULLEYNAVY_NUMBER_VAR_I64 = 3,
+    PULLEYNAVY_NUMBER_VAR_S33 = 4
+};
+
+/* Of LEADING_BYTE, what the byte begins: the bits above the lowest 8. */
+enum pulleynavy_lead {
+    PULLEYNAVY_LEAD_BRANCH_HINT = 0,
+    PULLEYNAVY_LEAD_BRANCH_TAKEN = 1,
+    PULLEYNAVY_LEAD_COMDAT_SYMBOL = 2,
+    PULLEYNAVY_LEAD_SYMBOL = 3,
+    PULLEYNAVY_LEAD_RELOC = 4,
+    PULLEYNAVY_LEAD_EXTERNAL = 5,
+    PULLEYNAVY_LEAD_VALUE = 6,
+    PULLEYNAVY_LEAD_REFERENCE = 7,
+    PULLEYNAVY_LEAD_HEAP = 8,
+    PULLEYNAVY_LEAD_COMPOSITE = 9,
+    PULLEYNAVY_LEAD_MUTABILITY = 10
+};
+
+/* Of CORE_START_BYTE, the part of a core dump that begins with the byte: the bits above the lowest 8. */
+enum pulleynavy_core_start {
+    PULLEYNAVY_CORE_START_NAME = 0,
+    PULLEYNAVY_CORE_START_MODULE = 1,
+    PULLEYNAVY_CORE_START_INSTANCE = 2,
+    PULLEYNAVY_CORE_START_STACK_NAME = 3,
+    PULLEYNAVY_CORE_START_FRAME = 4
+};
+
+/* A fault, or none. */
 struct pulleynavy_fault {
-    /* The number of the fault, or 0 where there is none: in its lowest 8 bits that of its kind, above them that of what it names. */
+    /* The number of the fault, or 0 if there is none. Its lowest 8 bits are its kind, as in `pulleynavy_fault_kind`. The bits above
+       name what was read: of `NUMBER_TOO_LONG` and `NUMBER_TOO_LARGE` a `pulleynavy_number_kind`, of `LEADING_BYTE` a
+       `pulleynavy_lead`, of `CORE_START_BYTE` a `pulleynavy_core_start`, otherwise 0. */
     uint32_t kind;
     /* 1 if a number belongs to the fault, or 0. */
     uint32_t has_number;
@@ -129,16 +178,16 @@ struct pulleynavy_fault {
     uint64_t offset;
 };
 
-/* The text of the fault of this number, as far as there is room for it in `out`, without a zero byte. Answers how long the text is,
-   at most 80 bytes, or 0 where no fault has the number. */
+/* Writes the text of the fault with this number, without a zero byte and as far as `out` has room. Returns the length of the whole
+   text, at most 80 bytes, or 0 if no fault has this number. */
 size_t pulleynavy_fault_message(uint32_t kind, uint8_t *out, size_t out_size);
 
-/* What a parser answered, as plain numbers: an event, a fault or a request for more bytes. Numbers that its kind doesn't name are 0.
-   Offsets and sizes are in bytes, offsets from the start of the whole stream (core specification, Binary format, Modules). */
+/* What a parser returns: an event, a fault or a request for more bytes. Fields that its kind doesn't use are 0. Offsets and sizes are
+   in bytes, offsets from the start of the whole stream (core specification, Binary format, Modules). */
 struct pulleynavy_event {
-    /* 0 a request for more bytes, 1 a header, 2 a section that begins with a count of items, 3 the start section, 4 the data count
-       section, 5 the start of a code section, 6 a body, 7 a custom section, 8 a section with an unknown id, 9 the end of the stream,
-       10 a fault. */
+    /* What it is, as in `pulleynavy_kind`: 0 a request for more bytes, 1 a header, 2 a section that begins with a count of items, 3
+       the start section, 4 the data count section, 5 the start of a code section, 6 a body, 7 a custom section, 8 a section with an
+       unknown id, 9 the end of the stream, 10 a fault. */
     uint32_t kind;
     /* The id of the section; of a header 0 for a module and 1 for a component. */
     uint32_t id;
@@ -150,9 +199,9 @@ struct pulleynavy_event {
     uint64_t start;
     /* Where it ends. */
     uint64_t end;
-    /* How many bytes were consumed. */
+    /* How many bytes were consumed: 0 for a request, the end and a fault, and at least 1 otherwise. */
     uint64_t consumed;
-    /* About how many more bytes are wanted, at least 1. */
+    /* How many more bytes the first unfinished field is known to need, at least 1; 0 but for a request. */
     uint64_t hint;
     /* Where the data of a custom section begins, after its name. */
     uint64_t data_offset;
@@ -198,28 +247,31 @@ struct pulleynavy_parser {
     uint8_t in_code;
 };
 
-/* A parser of a stream that begins at this offset, whose windows have these features. */
+/* Returns a parser of a stream that begins at this offset. Its windows have these features. */
 struct pulleynavy_parser pulleynavy_parser(uint64_t offset, uint32_t features);
 
-/* Reads what comes next in the stream of which these bytes are the rest, or with `is_all` false the beginning of the rest. */
+/* Reads the next part of a stream. `bytes` are its remaining bytes, or with `is_all` false a prefix of them; call it next with the
+   bytes after those that were consumed. A fault or a request for more bytes leaves the parser unchanged. After a request, call it
+   again with the same bytes and at least one more; with `is_all` true it never requests more. After a fault, the same call returns
+   the same fault. */
 struct pulleynavy_event pulleynavy_parse(
     struct pulleynavy_parser *stored, const uint8_t *bytes, size_t bytes_size, bool is_all);
 
-/* Passes what is left of a code section, and answers how many bytes that is: the caller hands in the bytes after those next. Outside
-   a code section it passes nothing, and answers 0. */
+/* Skips the remaining bytes of a code section and returns how many these are: call `pulleynavy_parse` next with the bytes after them.
+   Outside a code section it returns 0 and leaves the parser unchanged. */
 uint32_t pulleynavy_skip_section(struct pulleynavy_parser *stored);
 
-/* The text of the fault that `pulleynavy_parse` answers with the same arguments, as far as there is room for it. Answers how long the
-   text is, or 0 where there is no fault. */
+/* Writes the text of the fault that `pulleynavy_parse` returns for the same arguments, without a zero byte and as far as `out` has
+   room. Returns the length of the whole text, at most 80 bytes, or 0 if there is no fault. The parser stays as it is. */
 size_t pulleynavy_fault_text(
     const struct pulleynavy_parser *stored, const uint8_t *bytes, size_t bytes_size, bool is_all, uint8_t *out, size_t out_size);
 
-/* A feeder as C holds it: its parser, and where in the caller's storage the bytes are that were pushed and not consumed. Whatever its
-   bytes are, they are a feeder. */
+/* A feeder: its parser, and where in the caller's storage the bytes are that were pushed and not consumed. Any bytes are a feeder.
+   Between calls leave the storage alone, or move it as a whole (`realloc`): the next call reads its bytes from `mark` to `end`. */
 struct pulleynavy_feed {
     /* Where it is in the stream. */
     struct pulleynavy_parser parser;
-    /* Where the bytes that are held begin, in bytes from the start of the storage. */
+    /* Where the bytes to be read begin, in bytes from the start of the storage. */
     size_t mark;
     /* Where they end. */
     size_t end;
@@ -227,17 +279,21 @@ struct pulleynavy_feed {
     uint8_t is_finished;
 };
 
-/* A feeder of a stream that begins at this offset, whose windows have these features. It holds nothing, and so it has no storage yet. */
+/* Returns a feeder of a stream that begins at this offset. Its windows have these features. It holds no bytes, so any storage will
+   do. */
 struct pulleynavy_feed pulleynavy_feed(uint64_t offset, uint32_t features);
 
-/* The next part of the stream, of the bytes that are held in the storage. A request for more changes nothing. */
+/* Reads the next part of the stream from the bytes that the storage holds. A fault or a request for more bytes leaves the feeder
+   unchanged. After a request, call `pulleynavy_push` or `pulleynavy_finish`, then step again. After `pulleynavy_finish` it never
+   requests more. After a fault, the next step returns the same fault. */
 struct pulleynavy_event pulleynavy_step(struct pulleynavy_feed *feed, const uint8_t *storage, size_t storage_size);
 
-/* Says that no bytes come after those that were pushed. */
+/* Marks the end of the input: no bytes come after those that were pushed. */
 void pulleynavy_finish(struct pulleynavy_feed *feed);
 
-/* Puts the next bytes of the stream after those that are held, which go to the front of the storage where they must. Where there is
-   no room for both it answers false and changes nothing: the caller goes on with more storage, which begins with the same bytes. */
+/* Appends the next bytes of the stream to those that the storage holds, which it moves to the front if there is no room after them.
+   Returns false if there is no room for both, and leaves feeder and storage unchanged: call it again with more storage that begins
+   with the same bytes. */
 bool pulleynavy_push(
     struct pulleynavy_feed *feed, uint8_t *storage, size_t storage_size, const uint8_t *piece, size_t piece_size);
 
@@ -295,19 +351,19 @@ struct pulleynavy_field {
     uint32_t is_mutable;
 };
 
-/* The number with which these bytes begin, a u32: the count of a list, an index of a type in a function section or of a function in a
-   list of elements (core specification, Binary format, Values, Integers). The bytes are the rest of its section, and are at this
-   offset of the whole stream. */
+/* Reads the number at the start of `bytes`, a u32: the count of a list, an index of a type in a function section or of a function in
+   a list of elements (core specification, Binary format, Values, Integers). The bytes are the remaining bytes of its section, at
+   `offset` of the stream. After a fault all other fields are 0. */
 struct pulleynavy_number pulleynavy_number(
     const uint8_t *bytes, size_t bytes_size, uint64_t offset, uint32_t features);
 
-/* The value type with which these bytes begin (core specification, Binary format, Types, Value Types): a parameter or a result of a
-   function's type. The bytes are the rest of its section, and are at this offset of the whole stream. */
+/* Reads the value type at the start of `bytes` (core specification, Binary format, Types, Value Types): a parameter or a result of a
+   function's type. The bytes are the remaining bytes of its section, at `offset` of the stream. After a fault all other fields are 0. */
 struct pulleynavy_value pulleynavy_value_type(
     const uint8_t *bytes, size_t bytes_size, uint64_t offset, uint32_t features);
 
-/* The field with which these bytes begin, of a structure or an array (core specification, Binary format, Types, Composite Types). The
-   bytes are the rest of its section, and are at this offset of the whole stream. */
+/* Reads the field at the start of `bytes`, of a structure or an array (core specification, Binary format, Types, Composite Types).
+   The bytes are the remaining bytes of its section, at `offset` of the stream. After a fault all other fields are 0. */
 struct pulleynavy_field pulleynavy_field_type(
     const uint8_t *bytes, size_t bytes_size, uint64_t offset, uint32_t features);
 
@@ -341,16 +397,16 @@ struct pulleynavy_subtype {
     uint32_t count;
 };
 
-/* The beginning of the group of types with which these bytes begin (core specification, Binary format, Types, Recursive Types;
-   Modules, Type Section). After it come its subtypes, each by `pulleynavy_subtype`. The bytes are the rest of its section, and are at
-   this offset of the whole stream. */
+/* Reads the beginning of the group of types at the start of `bytes` (core specification, Binary format, Types, Recursive Types;
+   Modules, Type Section). After it come its subtypes, each by `pulleynavy_subtype`. The bytes are the remaining bytes of its section,
+   at `offset` of the stream. After a fault all other fields are 0. */
 struct pulleynavy_type_group pulleynavy_type_group(
     const uint8_t *bytes, size_t bytes_size, uint64_t offset, uint32_t features);
 
-/* The beginning of the subtype with which these bytes begin (core specification, Binary format, Types, Recursive Types and Composite
+/* Reads the beginning of the subtype at the start of `bytes` (core specification, Binary format, Types, Recursive Types and Composite
    Types). After it come so many parameters, each by `pulleynavy_value_type`, then a count of results, by `pulleynavy_number`, and so
-   many results; or so many fields, each by `pulleynavy_field_type`. The bytes are the rest of its section, and are at this offset of
-   the whole stream. */
+   many results; or so many fields, each by `pulleynavy_field_type`. The bytes are the remaining bytes of its section, at `offset` of
+   the stream. After a fault all other fields are 0. */
 struct pulleynavy_subtype pulleynavy_subtype(
     const uint8_t *bytes, size_t bytes_size, uint64_t offset, uint32_t features);
 
@@ -444,21 +500,21 @@ struct pulleynavy_global {
     struct pulleynavy_span init;
 };
 
-/* The table with which these bytes begin (core specification, Binary format, Modules, Table Section). The bytes are the rest of its
-   section, and are at this offset of the whole stream. */
+/* Reads the table at the start of `bytes` (core specification, Binary format, Modules, Table Section). The bytes are the remaining
+   bytes of its section, at `offset` of the stream. After a fault all other fields are 0. */
 struct pulleynavy_table pulleynavy_table(const uint8_t *bytes, size_t bytes_size, uint64_t offset, uint32_t features);
 
-/* The memory with which these bytes begin (core specification, Binary format, Modules, Memory Section). The bytes are the rest of its
-   section, and are at this offset of the whole stream. */
+/* Reads the memory at the start of `bytes` (core specification, Binary format, Modules, Memory Section). The bytes are the remaining
+   bytes of its section, at `offset` of the stream. After a fault all other fields are 0. */
 struct pulleynavy_memory pulleynavy_memory(
     const uint8_t *bytes, size_t bytes_size, uint64_t offset, uint32_t features);
 
-/* The tag with which these bytes begin (core specification, Binary format, Modules, Tag Section). The bytes are the rest of its
-   section, and are at this offset of the whole stream. */
+/* Reads the tag at the start of `bytes` (core specification, Binary format, Modules, Tag Section). The bytes are the remaining bytes
+   of its section, at `offset` of the stream. After a fault all other fields are 0. */
 struct pulleynavy_tag pulleynavy_tag(const uint8_t *bytes, size_t bytes_size, uint64_t offset, uint32_t features);
 
-/* The global with which these bytes begin (core specification, Binary format, Modules, Global Section). The bytes are the rest of its
-   section, and are at this offset of the whole stream. */
+/* Reads the global at the start of `bytes` (core specification, Binary format, Modules, Global Section). The bytes are the remaining
+   bytes of its section, at `offset` of the stream. After a fault all other fields are 0. */
 struct pulleynavy_global pulleynavy_global(
     const uint8_t *bytes, size_t bytes_size, uint64_t offset, uint32_t features);
 
@@ -518,24 +574,24 @@ struct pulleynavy_name {
     struct pulleynavy_span name;
 };
 
-/* The import, or the bundle of imports, with which these bytes begin (core specification, Binary format, Modules, Import Section; the
-   bundles are of the proposal for compact imports). The imports of a bundle are read by `pulleynavy_bundled_import`. The bytes are
-   the rest of its section, and are at this offset of the whole stream. */
+/* Reads the import, or the bundle of imports, at the start of `bytes` (core specification, Binary format, Modules, Import Section;
+   the bundles are of the proposal for compact imports). The imports of a bundle are read by `pulleynavy_bundled_import`. The bytes
+   are the remaining bytes of its section, at `offset` of the stream. After a fault all other fields are 0. */
 struct pulleynavy_import pulleynavy_import(
     const uint8_t *bytes, size_t bytes_size, uint64_t offset, uint32_t features);
 
-/* The import of a bundle of one module with which these bytes begin (the proposal for compact imports). The bytes are the rest of its
-   section, and are at this offset of the whole stream. */
+/* Reads the import of a bundle of one module at the start of `bytes` (the proposal for compact imports). The bytes are the remaining
+   bytes of its section, at `offset` of the stream. After a fault all other fields are 0. */
 struct pulleynavy_import_item pulleynavy_import_item(
     const uint8_t *bytes, size_t bytes_size, uint64_t offset, uint32_t features);
 
-/* The name with which these bytes begin, of at most 100,000 bytes (core specification, Binary format, Values, Names). The bytes are
-   the rest of its section, and are at this offset of the whole stream. */
+/* Reads the name at the start of `bytes`, of at most 100,000 bytes (core specification, Binary format, Values, Names). The bytes are
+   the remaining bytes of its section, at `offset` of the stream. After a fault all other fields are 0. */
 struct pulleynavy_name pulleynavy_name(const uint8_t *bytes, size_t bytes_size, uint64_t offset, uint32_t features);
 
-/* The import of this bundle with which these bytes begin, whose module is the bundle's (the proposal for compact imports). Where the
-   bundle has one type its imports are names, and the type is the bundle's. The bytes are the rest of its section, and are at this
-   offset of the whole stream. */
+/* Reads the import of this bundle at the start of `bytes`, whose module is the bundle's (the proposal for compact imports). Where the
+   bundle has one type its imports are names, and the type is the bundle's. The bytes are the remaining bytes of its section, at
+   `offset` of the stream. After a fault all other fields are 0. */
 struct pulleynavy_import_item pulleynavy_bundled_import(
     const struct pulleynavy_import *bundle, const uint8_t *bytes, size_t bytes_size, uint64_t offset, uint32_t features);
 
@@ -553,8 +609,8 @@ struct pulleynavy_export {
     uint32_t index;
 };
 
-/* The export with which these bytes begin (core specification, Binary format, Modules, Export Section). The bytes are the rest of its
-   section, and are at this offset of the whole stream. */
+/* Reads the export at the start of `bytes` (core specification, Binary format, Modules, Export Section). The bytes are the remaining
+   bytes of its section, at `offset` of the stream. After a fault all other fields are 0. */
 struct pulleynavy_export pulleynavy_export(
     const uint8_t *bytes, size_t bytes_size, uint64_t offset, uint32_t features);
 
@@ -606,19 +662,20 @@ struct pulleynavy_data {
     struct pulleynavy_span bytes;
 };
 
-/* The constant expression with which these bytes begin (core specification, Binary format, Instructions, Expressions): an element of
-   a segment, for one. The bytes are the rest of its section, and are at this offset of the whole stream. */
+/* Reads the constant expression at the start of `bytes` (core specification, Binary format, Instructions, Expressions): an element of
+   a segment, for one. The bytes are the remaining bytes of its section, at `offset` of the stream. After a fault all other fields are
+   0. */
 struct pulleynavy_expression pulleynavy_expression(
     const uint8_t *bytes, size_t bytes_size, uint64_t offset, uint32_t features);
 
-/* The element segment with which these bytes begin (core specification, Binary format, Modules, Element Section). Its elements are
-   read by `pulleynavy_number` or `pulleynavy_expression`, and have no fault. The bytes are the rest of its section, and are at this
-   offset of the whole stream. */
+/* Reads the element segment at the start of `bytes` (core specification, Binary format, Modules, Element Section). Its elements are
+   read by `pulleynavy_number` or `pulleynavy_expression`, and have no fault. The bytes are the remaining bytes of its section, at
+   `offset` of the stream. After a fault all other fields are 0. */
 struct pulleynavy_element pulleynavy_element(
     const uint8_t *bytes, size_t bytes_size, uint64_t offset, uint32_t features);
 
-/* The data segment with which these bytes begin (core specification, Binary format, Modules, Data Section). The bytes are the rest of
-   its section, and are at this offset of the whole stream. */
+/* Reads the data segment at the start of `bytes` (core specification, Binary format, Modules, Data Section). The bytes are the
+   remaining bytes of its section, at `offset` of the stream. After a fault all other fields are 0. */
 struct pulleynavy_data pulleynavy_data(const uint8_t *bytes, size_t bytes_size, uint64_t offset, uint32_t features);
 
 /* A subsection, or its fault. */
@@ -659,20 +716,21 @@ struct pulleynavy_indirect_naming {
     struct pulleynavy_span names;
 };
 
-/* The subsection with which these bytes begin: an id below 128, a size and so many bytes (core specification, Appendix, Custom
-   Sections, Name Section, Subsections; tool conventions, Linking). The bytes are the rest of its section, and are at this offset of
-   the whole stream. */
+/* Reads the subsection at the start of `bytes`: an id below 128, a size and so many bytes (core specification, Appendix, Custom
+   Sections, Name Section, Subsections; tool conventions, Linking). The bytes are the remaining bytes of its section, at `offset` of
+   the stream. After a fault all other fields are 0. */
 struct pulleynavy_subsection pulleynavy_subsection(
     const uint8_t *bytes, size_t bytes_size, uint64_t offset, uint32_t features);
 
-/* The index and the name with which these bytes begin (core specification, Appendix, Custom Sections, Name Section, Name Maps). That
-   indices ascend isn't looked at. The bytes are the rest of its section, and are at this offset of the whole stream. */
+/* Reads the index and the name at the start of `bytes` (core specification, Appendix, Custom Sections, Name Section, Name Maps). That
+   indices ascend isn't looked at. The bytes are the remaining bytes of its section, at `offset` of the stream. After a fault all
+   other fields are 0. */
 struct pulleynavy_naming pulleynavy_naming(
     const uint8_t *bytes, size_t bytes_size, uint64_t offset, uint32_t features);
 
-/* The index with which these bytes begin, and the names of what it has (core specification, Appendix, Custom Sections, Name Section,
-   Indirect Name Maps), which are read by `pulleynavy_naming`. That indices ascend isn't looked at. The bytes are the rest of its
-   section, and are at this offset of the whole stream. */
+/* Reads the index at the start of `bytes`, and the names of what it has (core specification, Appendix, Custom Sections, Name Section,
+   Indirect Name Maps), which are read by `pulleynavy_naming`. That indices ascend isn't looked at. The bytes are the remaining bytes
+   of its section, at `offset` of the stream. After a fault all other fields are 0. */
 struct pulleynavy_indirect_naming pulleynavy_indirect_naming(
     const uint8_t *bytes, size_t bytes_size, uint64_t offset, uint32_t features);
 
@@ -702,13 +760,14 @@ struct pulleynavy_producers_value {
     struct pulleynavy_span version;
 };
 
-/* The field of a producers section with which these bytes begin (tool conventions, Producers Section). Its values are read by
-   `pulleynavy_producers_value`. The bytes are the rest of its section, and are at this offset of the whole stream. */
+/* Reads the field of a producers section at the start of `bytes` (tool conventions, Producers Section). Its values are read by
+   `pulleynavy_producers_value`. The bytes are the remaining bytes of its section, at `offset` of the stream. After a fault all other
+   fields are 0. */
 struct pulleynavy_producers_field pulleynavy_producers_field(
     const uint8_t *bytes, size_t bytes_size, uint64_t offset, uint32_t features);
 
-/* The value of a field of a producers section with which these bytes begin (tool conventions, Producers Section). The bytes are the
-   rest of its section, and are at this offset of the whole stream. */
+/* Reads the value of a field of a producers section at the start of `bytes` (tool conventions, Producers Section). The bytes are the
+   remaining bytes of its section, at `offset` of the stream. After a fault all other fields are 0. */
 struct pulleynavy_producers_value pulleynavy_producers_value(
     const uint8_t *bytes, size_t bytes_size, uint64_t offset, uint32_t features);
 
@@ -738,13 +797,14 @@ struct pulleynavy_branch_hint {
     uint32_t taken;
 };
 
-/* The function with branch hints with which these bytes begin (tool conventions, Code Metadata, Branch Hints). Its hints are read by
-   `pulleynavy_branch_hint`, and have no fault. The bytes are the rest of its section, and are at this offset of the whole stream. */
+/* Reads the function with branch hints at the start of `bytes` (tool conventions, Code Metadata, Branch Hints). Its hints are read by
+   `pulleynavy_branch_hint`, and have no fault. The bytes are the remaining bytes of its section, at `offset` of the stream. After a
+   fault all other fields are 0. */
 struct pulleynavy_hinted_function pulleynavy_hinted_function(
     const uint8_t *bytes, size_t bytes_size, uint64_t offset, uint32_t features);
 
-/* The branch hint with which these bytes begin (tool conventions, Code Metadata, Branch Hints). The bytes are the rest of its
-   section, and are at this offset of the whole stream. */
+/* Reads the branch hint at the start of `bytes` (tool conventions, Code Metadata, Branch Hints). The bytes are the remaining bytes of
+   its section, at `offset` of the stream. After a fault all other fields are 0. */
 struct pulleynavy_branch_hint pulleynavy_branch_hint(
     const uint8_t *bytes, size_t bytes_size, uint64_t offset, uint32_t features);
 
@@ -790,18 +850,18 @@ struct pulleynavy_dylink_import {
     uint32_t flags;
 };
 
-/* What a subsection 1 of the section `dylink.0` says (tool conventions, Dynamic Linking, The "dylink.0" Section). The bytes are the
-   rest of its section, and are at this offset of the whole stream. */
+/* Reads subsection 1 of the section `dylink.0` (tool conventions, Dynamic Linking, The "dylink.0" Section). The bytes are the
+   remaining bytes of its section, at `offset` of the stream. After a fault all other fields are 0. */
 struct pulleynavy_dylink_memory pulleynavy_dylink_memory(
     const uint8_t *bytes, size_t bytes_size, uint64_t offset, uint32_t features);
 
-/* What is said of an export, in subsection 3 of the section `dylink.0` after its count (tool conventions, Dynamic Linking, The
-   "dylink.0" Section). The bytes are the rest of its section, and are at this offset of the whole stream. */
+/* Reads an export of subsection 3 of the section `dylink.0`, after the count (tool conventions, Dynamic Linking, The "dylink.0"
+   Section). The bytes are the remaining bytes of its section, at `offset` of the stream. After a fault all other fields are 0. */
 struct pulleynavy_dylink_export pulleynavy_dylink_export(
     const uint8_t *bytes, size_t bytes_size, uint64_t offset, uint32_t features);
 
-/* What is said of an import, in subsection 4 of the section `dylink.0` after its count (tool conventions, Dynamic Linking, The
-   "dylink.0" Section). The bytes are the rest of its section, and are at this offset of the whole stream. */
+/* Reads an import of subsection 4 of the section `dylink.0`, after the count (tool conventions, Dynamic Linking, The "dylink.0"
+   Section). The bytes are the remaining bytes of its section, at `offset` of the stream. After a fault all other fields are 0. */
 struct pulleynavy_dylink_import pulleynavy_dylink_import(
     const uint8_t *bytes, size_t bytes_size, uint64_t offset, uint32_t features);
 
@@ -815,7 +875,7 @@ struct pulleynavy_linking_segment {
     struct pulleynavy_span name;
     /* Its alignment, as a power of two. */
     uint32_t alignment;
-    /* Its flags: 1 for strings, 2 for thread-local data, 4 for one that is kept. */
+    /* Its flags, as bits: 1 `STRINGS`, 2 `TLS`. Other bits are as they were read. */
     uint32_t flags;
 };
 
@@ -859,25 +919,25 @@ struct pulleynavy_comdat_symbol {
     uint32_t index;
 };
 
-/* What is said of a data segment, in subsection 5 of the section `linking` after its count (tool conventions, Linking, Segment Info
-   Subsection). The bytes are the rest of its section, and are at this offset of the whole stream. */
+/* Reads a data segment of subsection 5 of the section `linking`, after the count (tool conventions, Linking, Segment Info
+   Subsection). The bytes are the remaining bytes of its section, at `offset` of the stream. After a fault all other fields are 0. */
 struct pulleynavy_linking_segment pulleynavy_linking_segment(
     const uint8_t *bytes, size_t bytes_size, uint64_t offset, uint32_t features);
 
-/* The function to be called at first with which these bytes begin, in subsection 6 of the section `linking` after its count (tool
-   conventions, Linking, Init Functions Subsection). The bytes are the rest of its section, and are at this offset of the whole
-   stream. */
+/* Reads the function to be called at first at the start of `bytes`, in subsection 6 of the section `linking` after its count (tool
+   conventions, Linking, Init Functions Subsection). The bytes are the remaining bytes of its section, at `offset` of the stream.
+   After a fault all other fields are 0. */
 struct pulleynavy_init_function pulleynavy_init_function(
     const uint8_t *bytes, size_t bytes_size, uint64_t offset, uint32_t features);
 
-/* The comdat with which these bytes begin, in subsection 7 of the section `linking` after its count (tool conventions, Linking,
-   COMDAT Subsection). Its symbols are read by `pulleynavy_comdat_symbol`, and have no fault. The bytes are the rest of its section,
-   and are at this offset of the whole stream. */
+/* Reads the comdat at the start of `bytes`, in subsection 7 of the section `linking` after its count (tool conventions, Linking,
+   COMDAT Subsection). Its symbols are read by `pulleynavy_comdat_symbol`, and have no fault. The bytes are the remaining bytes of its
+   section, at `offset` of the stream. After a fault all other fields are 0. */
 struct pulleynavy_comdat pulleynavy_comdat(
     const uint8_t *bytes, size_t bytes_size, uint64_t offset, uint32_t features);
 
-/* The symbol of a comdat with which these bytes begin (tool conventions, Linking, COMDAT Subsection). The bytes are the rest of its
-   section, and are at this offset of the whole stream. */
+/* Reads the symbol of a comdat at the start of `bytes` (tool conventions, Linking, COMDAT Subsection). The bytes are the remaining
+   bytes of its section, at `offset` of the stream. After a fault all other fields are 0. */
 struct pulleynavy_comdat_symbol pulleynavy_comdat_symbol(
     const uint8_t *bytes, size_t bytes_size, uint64_t offset, uint32_t features);
 
@@ -906,14 +966,15 @@ struct pulleynavy_symbol {
     uint32_t data_size;
 };
 
-/* The version with which the data of a section `linking` begin, which is 2 (tool conventions, Linking, Linking Metadata Section).
-   After it come its subsections, each by `pulleynavy_subsection`. The bytes are the rest of its section, and are at this offset of
-   the whole stream. */
+/* Reads the version at the start of the data of a section `linking`, which is 2 (tool conventions, Linking, Linking Metadata
+   Section). Its subsections follow, each read by `pulleynavy_subsection`. The bytes are the remaining bytes of its section, at
+   `offset` of the stream. After a fault all other fields are 0. */
 struct pulleynavy_number pulleynavy_linking_version(
     const uint8_t *bytes, size_t bytes_size, uint64_t offset, uint32_t features);
 
-/* The symbol with which these bytes begin, in subsection 8 of the section `linking` after its count (tool conventions, Linking,
-   Symbol Table Subsection). The bytes are the rest of its section, and are at this offset of the whole stream. */
+/* Reads the symbol at the start of `bytes`, in subsection 8 of the section `linking` after its count (tool conventions, Linking,
+   Symbol Table Subsection). The bytes are the remaining bytes of its section, at `offset` of the stream. After a fault all other
+   fields are 0. */
 struct pulleynavy_symbol pulleynavy_symbol(
     const uint8_t *bytes, size_t bytes_size, uint64_t offset, uint32_t features);
 
@@ -935,9 +996,9 @@ struct pulleynavy_relocation {
     int64_t addend;
 };
 
-/* The relocation with which these bytes begin (tool conventions, Linking, Relocation Sections). A section of relocations begins with
-   the index of the section that they are of and their count, which `pulleynavy_number` reads. The bytes are the rest of its section,
-   and are at this offset of the whole stream. */
+/* Reads the relocation at the start of `bytes` (tool conventions, Linking, Relocation Sections). A section of relocations begins with
+   the index of the section that they are of and their count, which `pulleynavy_number` reads. The bytes are the remaining bytes of
+   its section, at `offset` of the stream. After a fault all other fields are 0. */
 struct pulleynavy_relocation pulleynavy_relocation(
     const uint8_t *bytes, size_t bytes_size, uint64_t offset, uint32_t features);
 
@@ -1009,54 +1070,55 @@ struct pulleynavy_core_value {
     uint64_t bits;
 };
 
-/* The name of the process of a core dump with which these bytes begin, after a byte 0 (tool conventions, Coredump, Process
-   Information). The bytes are the rest of its section, and are at this offset of the whole stream. */
+/* Reads the name of the process of a core dump, after a byte 0 (tool conventions, Coredump, Process Information). The bytes are the
+   remaining bytes of its section, at `offset` of the stream. After a fault all other fields are 0. */
 struct pulleynavy_core_process pulleynavy_core_process(
     const uint8_t *bytes, size_t bytes_size, uint64_t offset, uint32_t features);
 
-/* The name of a module of a core dump with which these bytes begin, after a byte 0 (tool conventions, Coredump, Modules and
-   Instances). The bytes are the rest of its section, and are at this offset of the whole stream. */
+/* Reads the name of a module of a core dump, after a byte 0 (tool conventions, Coredump, Modules and Instances). Another byte is a
+   fault at `data_offset`, the offset of the section's data, for a later module too. The bytes are the remaining bytes of its section,
+   at `offset` of the stream. After a fault all other fields are 0. */
 struct pulleynavy_core_module pulleynavy_core_module(
-    const uint8_t *bytes, size_t bytes_size, uint64_t offset, uint32_t features);
+    const uint8_t *bytes, size_t bytes_size, uint64_t offset, uint32_t features, uint64_t data_offset);
 
-/* The beginning of the instance of a core dump with which these bytes begin (tool conventions, Coredump, Modules and Instances).
-   After it come a count of memories and so many indices, each by `pulleynavy_number`, and then the same of globals. The bytes are the
-   rest of its section, and are at this offset of the whole stream. */
+/* Reads the start of an instance of a core dump (tool conventions, Coredump, Modules and Instances). A count of memories and as many
+   indices follow, each read by `pulleynavy_number`, then the same of globals. The bytes are the remaining bytes of its section, at
+   `offset` of the stream. After a fault all other fields are 0. */
 struct pulleynavy_core_instance pulleynavy_core_instance(
     const uint8_t *bytes, size_t bytes_size, uint64_t offset, uint32_t features);
 
-/* The name of a thread of a core dump with which these bytes begin, after a byte 0 (tool conventions, Coredump, Thread(s) and Stack
-   Frames). The bytes are the rest of its section, and are at this offset of the whole stream. */
+/* Reads the name of a thread of a core dump, after a byte 0 (tool conventions, Coredump, Thread(s) and Stack Frames). The bytes are
+   the remaining bytes of its section, at `offset` of the stream. After a fault all other fields are 0. */
 struct pulleynavy_core_thread pulleynavy_core_thread(
     const uint8_t *bytes, size_t bytes_size, uint64_t offset, uint32_t features);
 
-/* The beginning of the frame of a core dump with which these bytes begin (tool conventions, Coredump, Thread(s) and Stack Frames).
-   After it come a count of locals, by `pulleynavy_number`, and so many values, each by `pulleynavy_core_value`, and then the same of
-   the stack. The bytes are the rest of its section, and are at this offset of the whole stream. */
+/* Reads the start of a frame of a core dump (tool conventions, Coredump, Thread(s) and Stack Frames). A count of locals follows, read
+   by `pulleynavy_number`, and as many values, each read by `pulleynavy_core_value`, then the same of the stack. The bytes are the
+   remaining bytes of its section, at `offset` of the stream. After a fault all other fields are 0. */
 struct pulleynavy_core_frame pulleynavy_core_frame(
     const uint8_t *bytes, size_t bytes_size, uint64_t offset, uint32_t features);
 
-/* The value of a core dump with which these bytes begin, of a frame's locals or its stack (tool conventions, Coredump, Thread(s) and
-   Stack Frames). The bytes are the rest of its section, and are at this offset of the whole stream. */
+/* Reads a value of a core dump, of a frame's locals or its stack (tool conventions, Coredump, Thread(s) and Stack Frames). The bytes
+   are the remaining bytes of its section, at `offset` of the stream. After a fault all other fields are 0. */
 struct pulleynavy_core_value pulleynavy_core_value(
     const uint8_t *bytes, size_t bytes_size, uint64_t offset, uint32_t features);
 
-/* Which known section has these bytes as its name (core specification, Appendix, Custom Sections; tool conventions): 0 none, 1
+/* Returns which known custom section has this name (core specification, Appendix, Custom Sections; tool conventions): 0 none, 1
    `name`, 2 `metadata.code.branch_hint`, 3 `producers`, 4 `dylink.0`, 5 `linking`, 6 a name that begins with `reloc.`, 7 `core`, 8
    `coremodules`, 9 `coreinstances`, 10 `corestack`. */
 uint32_t pulleynavy_custom_kind(const uint8_t *name, size_t name_size);
 
-/* What became of a stream that was stripped. */
+/* The result of stripping a stream. */
 struct pulleynavy_strip {
     /* The fault of a stream that isn't accepted, or none. */
     struct pulleynavy_fault fault;
-    /* How many bytes are left, from the first one on; 0 after a fault. */
+    /* How many bytes the stripped stream has, 0 after a fault. */
     size_t size;
 };
 
-/* Takes the custom sections out of a whole stream, which begins at offset 0, in its own bytes: what is left is then the first of
-   them, and the bytes after these mean nothing. With `keep_names` the sections with the name `name` stay. A stream that isn't
-   accepted is left as it was. */
+/* Removes the custom sections from a whole stream that begins at offset 0, in place. The first `size` bytes are then the remaining
+   stream, and the bytes after them mean nothing. With `keep_names` the sections named `name` stay. A stream that isn't accepted is
+   left unchanged, and its fault is returned with a size of 0. */
 struct pulleynavy_strip pulleynavy_strip(uint8_t *bytes, size_t bytes_size, bool keep_names);
 
 #ifdef __cplusplus

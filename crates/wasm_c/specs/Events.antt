@@ -11,7 +11,7 @@ use Rattle.wasm_grammar.specs.declared.encoding.Encoding.{Encoding}
 use Rattle.wasm_grammar.specs.declared.encoding.Encoding.TheVariants.{Module, Component}
 use Rattle.wasm_parser.specs.AsksWhereOpen.{AsksWhereOpen}
 use Rattle.wasm_parser.specs.GivesNextEvent.{GivesNextEvent}
-use Rattle.wasm_parser.specs.ParseAnswer.{ParseAnswer, Consumes, FaultsWithin, report_of}
+use Rattle.wasm_parser.specs.ParseAnswer.{ParseAnswer, AsksForSome, Consumes, FaultsWithin, report_of}
 use Rattle.wasm_parser.specs.ParserState.{ParserState}
 use Rattle.wasm_parser.specs.declared.payload.Chunk.{Chunk}
 use Rattle.wasm_parser.specs.declared.payload.Payload.{Payload}
@@ -88,6 +88,7 @@ pub record ParsesPlain (old : ParserState) (eof : Bool) (bytes : List ℕ) (even
   pub answers : ParseAnswer old eof bytes answer new
   pub gives : GivesNextEvent old eof bytes answer new
   pub consumes : Consumes bytes answer
+  pub asks : AsksForSome answer
   pub waits : AsksWhereOpen old eof bytes answer
   pub faults : FaultsWithin old bytes answer
   pub is_event : event ≡ answer_event answer

@@ -7,7 +7,7 @@ ghost use Rattle.std.specs.Prelude.{◌-◌, ◌+◌};
 ghost use Rattle.wasm_base.specs.Outcome.{GivesBy};
 ghost use Rattle.wasm_base.specs.Window.{KeepsWindow};
 ghost use Rattle.wasm_base.specs.declared.fault.CoreStart.TheVariants as Starts;
-ghost use Rattle.wasm_custom.specs.Coredumps.{start_at, value_at, value_parts};
+ghost use Rattle.wasm_custom.specs.Coredumps.{module_at, start_at, value_at, value_parts};
 ghost use Rattle.wasm_c.specs.CoreParts.{frame_parts};
 ghost use Rattle.wasm_c.specs.CoreHeads.{core_bits, core_code, core_integer, frame_head_at, instance_head_at, started_span, started_text_at};
 ghost use Rattle.wasm_c.specs.Coredumps.{plain_core_frame, plain_core_instance, plain_core_module, plain_core_process, plain_core_thread, plain_core_value};
@@ -125,6 +125,16 @@ fn read_started<'a>(what: CoreStart, reader: &mut BinaryReader<'a>) -> Result<&'
     reader.read_unlimited_string()
 }
 
+// The name of a module after such a byte. Another byte is a fault where the section's data begins.
+#[tactic(auto, unfolding(wasm_custom::specs::Coredumps::module_at))]
+fn read_module<'a>(data_offset: u64, reader: &mut BinaryReader<'a>) -> Result<&'a str>
+    ensures gives { GivesBy (λ name. name.now) result reader.old reader.new (module_at data_offset) }
+    ensures keeps { KeepsWindow reader.old reader.new }
+{
+    read_start(CoreStart::Module, data_offset, reader)?;
+    reader.read_unlimited_string()
+}
+
 // Where a text is that ends at an offset, of an item that begins at another.
 fn started_span(from: u64, to: u64, size: usize) -> PlainSpan
     ensures { result ≡ started_span from to size }
@@ -221,8 +231,8 @@ fn next_core_process(mut reader: BinaryReader<'_>) -> PlainCoreProcess
     }
 }
 
-/// The name of the process of a core dump with which these bytes begin, after a byte 0 (tool conventions, Coredump, Process Information). The bytes are the rest of
-/// its section, and are at this offset of the whole stream.
+/// Reads the name of the process of a core dump, after a byte 0 (tool conventions, Coredump, Process Information). The bytes are
+/// the remaining bytes of its section, at `offset` of the stream. After a fault all other fields are 0.
 #[unsafe(no_mangle)]
 pub extern "C" fn pulleynavy_core_process(
     bytes: &[u8],
@@ -248,11 +258,11 @@ fn refused_core_module(error: Error) -> PlainCoreModule
     }
 }
 
-fn next_core_module(mut reader: BinaryReader<'_>) -> PlainCoreModule
-    ensures { result ≡ plain_core_module (place reader.entry) ((started_text_at Starts.Module) (place reader.entry)) }
+fn next_core_module(mut reader: BinaryReader<'_>, data_offset: u64) -> PlainCoreModule
+    ensures { result ≡ plain_core_module (place reader.entry) (module_at data_offset (place reader.entry)) }
 {
     let from = reader.original_position();
-    match read_started(CoreStart::Module, &mut reader) {
+    match read_module(data_offset, &mut reader) {
         Ok(name) => PlainCoreModule {
             fault: NO_FAULT,
             consumed: distance(from, reader.original_position()),
@@ -262,21 +272,23 @@ fn next_core_module(mut reader: BinaryReader<'_>) -> PlainCoreModule
     }
 }
 
-/// The name of a module of a core dump with which these bytes begin, after a byte 0 (tool conventions, Coredump, Modules and Instances). The bytes are the rest of
-/// its section, and are at this offset of the whole stream.
+/// Reads the name of a module of a core dump, after a byte 0 (tool conventions, Coredump, Modules and Instances). Another byte is
+/// a fault at `data_offset`, the offset of the section's data, for a later module too. The bytes are the remaining bytes of its
+/// section, at `offset` of the stream. After a fault all other fields are 0.
 #[unsafe(no_mangle)]
 pub extern "C" fn pulleynavy_core_module(
     bytes: &[u8],
     offset: u64,
     features: u32,
+    data_offset: u64,
 ) -> PlainCoreModule
     ensures { result ≡ plain_core_module (place_over features offset bytes.now)
-        (read_over (started_text_at Starts.Module) features offset bytes.now) }
+        (read_over (module_at data_offset) features offset bytes.now) }
 {
     if !fits(offset, bytes.len()) {
         return refused_core_module(out_of_range(offset));
     }
-    next_core_module(reader_over(bytes, offset, features))
+    next_core_module(reader_over(bytes, offset, features), data_offset)
 }
 
 fn refused_core_instance(error: Error) -> PlainCoreInstance
@@ -303,9 +315,9 @@ fn next_core_instance(mut reader: BinaryReader<'_>) -> PlainCoreInstance
     }
 }
 
-/// The beginning of the instance of a core dump with which these bytes begin (tool conventions, Coredump, Modules and Instances). After it
-/// come a count of memories and so many indices, each by `pulleynavy_number`, and then the same of globals. The bytes are the rest of
-/// its section, and are at this offset of the whole stream.
+/// Reads the start of an instance of a core dump (tool conventions, Coredump, Modules and Instances). A count of memories and as
+/// many indices follow, each read by `pulleynavy_number`, then the same of globals. The bytes are the remaining bytes of its
+/// section, at `offset` of the stream. After a fault all other fields are 0.
 #[unsafe(no_mangle)]
 pub extern "C" fn pulleynavy_core_instance(
     bytes: &[u8],
@@ -345,8 +357,8 @@ fn next_core_thread(mut reader: BinaryReader<'_>) -> PlainCoreThread
     }
 }
 
-/// The name of a thread of a core dump with which these bytes begin, after a byte 0 (tool conventions, Coredump, Thread(s) and Stack Frames). The bytes are the rest of
-/// its section, and are at this offset of the whole stream.
+/// Reads the name of a thread of a core dump, after a byte 0 (tool conventions, Coredump, Thread(s) and Stack Frames). The bytes
+/// are the remaining bytes of its section, at `offset` of the stream. After a fault all other fields are 0.
 #[unsafe(no_mangle)]
 pub extern "C" fn pulleynavy_core_thread(
     bytes: &[u8],
@@ -390,9 +402,9 @@ fn next_core_frame(mut reader: BinaryReader<'_>) -> PlainCoreFrame
     }
 }
 
-/// The beginning of the frame of a core dump with which these bytes begin (tool conventions, Coredump, Thread(s) and Stack Frames). After
-/// it come a count of locals, by `pulleynavy_number`, and so many values, each by `pulleynavy_core_value`, and then the same of the stack. The bytes are the rest of
-/// its section, and are at this offset of the whole stream.
+/// Reads the start of a frame of a core dump (tool conventions, Coredump, Thread(s) and Stack Frames). A count of locals follows,
+/// read by `pulleynavy_number`, and as many values, each read by `pulleynavy_core_value`, then the same of the stack. The bytes
+/// are the remaining bytes of its section, at `offset` of the stream. After a fault all other fields are 0.
 #[unsafe(no_mangle)]
 pub extern "C" fn pulleynavy_core_frame(bytes: &[u8], offset: u64, features: u32) -> PlainCoreFrame
     ensures { result ≡ plain_core_frame (place_over features offset bytes.now)
@@ -432,9 +444,8 @@ fn next_core_value(mut reader: BinaryReader<'_>) -> PlainCoreValue
     }
 }
 
-/// The value of a core dump with which these bytes begin, of a frame's locals or its stack (tool conventions, Coredump, Thread(s) and
-/// Stack Frames). The bytes are the rest of
-/// its section, and are at this offset of the whole stream.
+/// Reads a value of a core dump, of a frame's locals or its stack (tool conventions, Coredump, Thread(s) and Stack Frames). The
+/// bytes are the remaining bytes of its section, at `offset` of the stream. After a fault all other fields are 0.
 #[unsafe(no_mangle)]
 pub extern "C" fn pulleynavy_core_value(bytes: &[u8], offset: u64, features: u32) -> PlainCoreValue
     ensures { result ≡ plain_core_value (place_over features offset bytes.now)

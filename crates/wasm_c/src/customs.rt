@@ -8,9 +8,9 @@ fn is_text(name: &[u8], text: &[u8]) -> bool
     name == text
 }
 
-/// Which known section has these bytes as its name (core specification, Appendix, Custom Sections; tool conventions): 0 none, 1 `name`, 2
-/// `metadata.code.branch_hint`, 3 `producers`, 4 `dylink.0`, 5 `linking`, 6 a name that begins with `reloc.`, 7 `core`, 8
-/// `coremodules`, 9 `coreinstances`, 10 `corestack`.
+/// Returns which known custom section has this name (core specification, Appendix, Custom Sections; tool conventions): 0 none, 1
+/// `name`, 2 `metadata.code.branch_hint`, 3 `producers`, 4 `dylink.0`, 5 `linking`, 6 a name that begins with `reloc.`, 7 `core`,
+/// 8 `coremodules`, 9 `coreinstances`, 10 `corestack`.
 #[unsafe(no_mangle)]
 pub extern "C" fn pulleynavy_custom_kind(name: &[u8]) -> u32
     ensures { result ≡ custom_kind name.now }

@@ -91,8 +91,8 @@ fn next_dylink_memory(mut reader: BinaryReader<'_>) -> PlainDylinkMemory
     }
 }
 
-/// What a subsection 1 of the section `dylink.0` says (tool conventions, Dynamic Linking, The "dylink.0" Section). The bytes are the rest of
-/// its section, and are at this offset of the whole stream.
+/// Reads subsection 1 of the section `dylink.0` (tool conventions, Dynamic Linking, The "dylink.0" Section). The bytes are the
+/// remaining bytes of its section, at `offset` of the stream. After a fault all other fields are 0.
 #[unsafe(no_mangle)]
 pub extern "C" fn pulleynavy_dylink_memory(
     bytes: &[u8],
@@ -135,9 +135,8 @@ fn next_dylink_export(mut reader: BinaryReader<'_>) -> PlainDylinkExport
     }
 }
 
-/// What is said of an export, in subsection 3 of the section `dylink.0` after its count (tool conventions, Dynamic Linking, The
-/// "dylink.0" Section). The bytes are the rest of
-/// its section, and are at this offset of the whole stream.
+/// Reads an export of subsection 3 of the section `dylink.0`, after the count (tool conventions, Dynamic Linking, The "dylink.0"
+/// Section). The bytes are the remaining bytes of its section, at `offset` of the stream. After a fault all other fields are 0.
 #[unsafe(no_mangle)]
 pub extern "C" fn pulleynavy_dylink_export(
     bytes: &[u8],
@@ -182,9 +181,8 @@ fn next_dylink_import(mut reader: BinaryReader<'_>) -> PlainDylinkImport
     }
 }
 
-/// What is said of an import, in subsection 4 of the section `dylink.0` after its count (tool conventions, Dynamic Linking, The
-/// "dylink.0" Section). The bytes are the rest of
-/// its section, and are at this offset of the whole stream.
+/// Reads an import of subsection 4 of the section `dylink.0`, after the count (tool conventions, Dynamic Linking, The "dylink.0"
+/// Section). The bytes are the remaining bytes of its section, at `offset` of the stream. After a fault all other fields are 0.
 #[unsafe(no_mangle)]
 pub extern "C" fn pulleynavy_dylink_import(
     bytes: &[u8],

@@ -14,14 +14,14 @@ use wasm_grammar::{
 };
 use wasm_parser::{Encoding, Error, Payload, SectionLimited};
 
-/// What a parser answered, as plain numbers: an event, a fault or a request for more bytes. Numbers that its kind doesn't name are
-/// 0. Offsets and sizes are in bytes, offsets from the start of the whole stream (core specification, Binary format, Modules).
+/// What a parser returns: an event, a fault or a request for more bytes. Fields that its kind doesn't use are 0. Offsets and
+/// sizes are in bytes, offsets from the start of the whole stream (core specification, Binary format, Modules).
 #[repr(C)]
 #[derive(Clone, Copy, Debug, PartialEq, Eq)]
 pub struct PlainEvent {
-    /// 0 a request for more bytes, 1 a header, 2 a section that begins with a count of items, 3 the start section, 4 the data
-    /// count section, 5 the start of a code section, 6 a body, 7 a custom section, 8 a section with an unknown id, 9 the end of
-    /// the stream, 10 a fault.
+    /// What it is, as in `pulleynavy_kind`: 0 a request for more bytes, 1 a header, 2 a section that begins with a count of
+    /// items, 3 the start section, 4 the data count section, 5 the start of a code section, 6 a body, 7 a custom section, 8 a
+    /// section with an unknown id, 9 the end of the stream, 10 a fault.
     pub kind: u32,
     /// The id of the section; of a header 0 for a module and 1 for a component.
     pub id: u32,
@@ -33,9 +33,9 @@ pub struct PlainEvent {
     pub start: u64,
     /// Where it ends.
     pub end: u64,
-    /// How many bytes were consumed.
+    /// How many bytes were consumed: 0 for a request, the end and a fault, and at least 1 otherwise.
     pub consumed: u64,
-    /// About how many more bytes are wanted, at least 1.
+    /// How many more bytes the first unfinished field is known to need, at least 1; 0 but for a request.
     pub hint: u64,
     /// Where the data of a custom section begins, after its name.
     pub data_offset: u64,

@@ -68,8 +68,8 @@ fn next_export(mut reader: BinaryReader<'_>) -> PlainExport
     }
 }
 
-/// The export with which these bytes begin (core specification, Binary format, Modules, Export Section). The bytes are the rest of
-/// its section, and are at this offset of the whole stream.
+/// Reads the export at the start of `bytes` (core specification, Binary format, Modules, Export Section). The bytes are the
+/// remaining bytes of its section, at `offset` of the stream. After a fault all other fields are 0.
 #[unsafe(no_mangle)]
 pub extern "C" fn pulleynavy_export(bytes: &[u8], offset: u64, features: u32) -> PlainExport
     ensures { result ≡ plain_export (place_over features offset bytes.now)

@@ -5,12 +5,13 @@ ghost use Rattle.wasm_c.specs.Faults.{fault_code, lead_code, no_fault, number_co
 
 use wasm_parser::{CoreStart, Error, Fault, Lead, NumberKind};
 
-/// A fault as plain numbers, or that there is none.
+/// A fault, or none.
 #[repr(C)]
 #[derive(Clone, Copy, Debug, PartialEq, Eq)]
 pub struct PlainFault {
-    /// The number of the fault, or 0 where there is none: in its lowest 8 bits that of its kind, above them that of what it
-    /// names.
+    /// The number of the fault, or 0 if there is none. Its lowest 8 bits are its kind, as in `pulleynavy_fault_kind`. The bits
+    /// above name what was read: of `NUMBER_TOO_LONG` and `NUMBER_TOO_LARGE` a `pulleynavy_number_kind`, of `LEADING_BYTE` a
+    /// `pulleynavy_lead`, of `CORE_START_BYTE` a `pulleynavy_core_start`, otherwise 0.
     pub kind: u32,
     /// 1 if a number belongs to the fault, or 0.
     pub has_number: u32,

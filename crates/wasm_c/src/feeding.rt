@@ -7,14 +7,15 @@ use crate::events::PlainEvent;
 use crate::parsing::{parse_stored, pulleynavy_parser};
 use crate::stored::StoredParser;
 
-/// A feeder as C holds it: its parser, and where in the caller's storage the bytes are that were pushed and not consumed. Whatever
-/// its bytes are, they are a feeder.
+/// A feeder: its parser, and where in the caller's storage the bytes are that were pushed and not consumed. Any bytes are a
+/// feeder. Between calls leave the storage alone, or move it as a whole (`realloc`): the next call reads its bytes from `mark` to
+/// `end`.
 #[repr(C)]
 #[derive(Clone, Copy, Debug)]
 pub struct StoredFeed {
     /// Where it is in the stream.
     pub parser: StoredParser,
-    /// Where the bytes that are held begin, in bytes from the start of the storage.
+    /// Where the bytes to be read begin, in bytes from the start of the storage.
     pub mark: usize,
     /// Where they end.
     pub end: usize,
@@ -22,8 +23,8 @@ pub struct StoredFeed {
     pub is_finished: u8,
 }
 
-/// A feeder of a stream that begins at this offset, whose windows have these features. It holds nothing, and so it has no storage
-/// yet.
+/// Returns a feeder of a stream that begins at this offset. Its windows have these features. It holds no bytes, so any storage
+/// will do.
 #[unsafe(no_mangle)]
 pub extern "C" fn pulleynavy_feed(offset: u64, features: u32) -> StoredFeed
     ensures { IsNewFeed result (initial_state offset features) }
@@ -58,7 +59,9 @@ fn after(bytes: &[u8], mark: usize) -> &[u8]
     }
 }
 
-/// The next part of the stream, of the bytes that are held in the storage. A request for more changes nothing.
+/// Reads the next part of the stream from the bytes that the storage holds. A fault or a request for more bytes leaves the feeder
+/// unchanged. After a request, call `pulleynavy_push` or `pulleynavy_finish`, then step again. After `pulleynavy_finish` it never
+/// requests more. After a fault, the next step returns the same fault.
 #[unsafe(no_mangle)]
 pub extern "C" fn pulleynavy_step(feed: &mut StoredFeed, storage: &[u8]) -> PlainEvent
     ensures { StepsPlain feed.old storage.now result feed.new }
@@ -69,7 +72,7 @@ pub extern "C" fn pulleynavy_step(feed: &mut StoredFeed, storage: &[u8]) -> Plai
     event
 }
 
-/// Says that no bytes come after those that were pushed.
+/// Marks the end of the input: no bytes come after those that were pushed.
 #[unsafe(no_mangle)]
 pub extern "C" fn pulleynavy_finish(feed: &mut StoredFeed)
     ensures { IsFinished feed.old feed.new }
@@ -77,9 +80,9 @@ pub extern "C" fn pulleynavy_finish(feed: &mut StoredFeed)
     feed.is_finished = 1;
 }
 
-/// Puts the next bytes of the stream after those that are held, which go to the front of the storage where they must. Where
-/// there is no room for both it answers false and changes nothing: the caller goes on with more storage, which begins with
-/// the same bytes.
+/// Appends the next bytes of the stream to those that the storage holds, which it moves to the front if there is no room after
+/// them. Returns false if there is no room for both, and leaves feeder and storage unchanged: call it again with more storage
+/// that begins with the same bytes.
 #[unsafe(no_mangle)]
 pub extern "C" fn pulleynavy_push(feed: &mut StoredFeed, storage: &mut [u8], piece: &[u8]) -> bool
     ensures { PushesPlain feed.old storage.old piece.now result feed.new storage.new }

@@ -68,9 +68,9 @@ fn next_hinted_function(mut reader: BinaryReader<'_>) -> PlainHintedFunction
     }
 }
 
-/// The function with branch hints with which these bytes begin (tool conventions, Code Metadata, Branch Hints). Its hints are read by
-/// `pulleynavy_branch_hint`, and have no fault. The bytes are the rest of
-/// its section, and are at this offset of the whole stream.
+/// Reads the function with branch hints at the start of `bytes` (tool conventions, Code Metadata, Branch Hints). Its hints are
+/// read by `pulleynavy_branch_hint`, and have no fault. The bytes are the remaining bytes of its section, at `offset` of the
+/// stream. After a fault all other fields are 0.
 #[unsafe(no_mangle)]
 pub extern "C" fn pulleynavy_hinted_function(
     bytes: &[u8],
@@ -112,8 +112,8 @@ fn next_branch_hint(mut reader: BinaryReader<'_>) -> PlainBranchHint
     }
 }
 
-/// The branch hint with which these bytes begin (tool conventions, Code Metadata, Branch Hints). The bytes are the rest of
-/// its section, and are at this offset of the whole stream.
+/// Reads the branch hint at the start of `bytes` (tool conventions, Code Metadata, Branch Hints). The bytes are the remaining
+/// bytes of its section, at `offset` of the stream. After a fault all other fields are 0.
 #[unsafe(no_mangle)]
 pub extern "C" fn pulleynavy_branch_hint(
     bytes: &[u8],

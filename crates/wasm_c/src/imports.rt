@@ -190,9 +190,10 @@ fn next_import(mut reader: BinaryReader<'_>) -> PlainImport
     }
 }
 
-/// The import, or the bundle of imports, with which these bytes begin (core specification, Binary format, Modules, Import Section; the
-/// bundles are of the proposal for compact imports). The imports of a bundle are read by `pulleynavy_bundled_import`. The bytes are
-/// the rest of its section, and are at this offset of the whole stream.
+/// Reads the import, or the bundle of imports, at the start of `bytes` (core specification, Binary format, Modules, Import
+/// Section; the bundles are of the proposal for compact imports). The imports of a bundle are read by
+/// `pulleynavy_bundled_import`. The bytes are the remaining bytes of its section, at `offset` of the stream. After a fault all
+/// other fields are 0.
 #[unsafe(no_mangle)]
 pub extern "C" fn pulleynavy_import(bytes: &[u8], offset: u64, features: u32) -> PlainImport
     ensures { result ≡ plain_import (place_over features offset bytes.now)
@@ -231,8 +232,8 @@ fn next_import_item(mut reader: BinaryReader<'_>) -> PlainImportItem
     }
 }
 
-/// The import of a bundle of one module with which these bytes begin (the proposal for compact imports). The bytes are the rest of
-/// its section, and are at this offset of the whole stream.
+/// Reads the import of a bundle of one module at the start of `bytes` (the proposal for compact imports). The bytes are the
+/// remaining bytes of its section, at `offset` of the stream. After a fault all other fields are 0.
 #[unsafe(no_mangle)]
 pub extern "C" fn pulleynavy_import_item(
     bytes: &[u8],
@@ -274,8 +275,8 @@ fn next_name(mut reader: BinaryReader<'_>) -> PlainName
     }
 }
 
-/// The name with which these bytes begin, of at most 100,000 bytes (core specification, Binary format, Values, Names). The bytes are the rest of
-/// its section, and are at this offset of the whole stream.
+/// Reads the name at the start of `bytes`, of at most 100,000 bytes (core specification, Binary format, Values, Names). The bytes
+/// are the remaining bytes of its section, at `offset` of the stream. After a fault all other fields are 0.
 #[unsafe(no_mangle)]
 pub extern "C" fn pulleynavy_name(bytes: &[u8], offset: u64, features: u32) -> PlainName
     ensures { result ≡ plain_name (place_over features offset bytes.now)
@@ -305,9 +306,9 @@ fn next_named(ty: PlainImportType, mut reader: BinaryReader<'_>) -> PlainImportI
     }
 }
 
-/// The import of this bundle with which these bytes begin, whose module is the bundle's (the proposal for compact imports). Where
-/// the bundle has one type its imports are names, and the type is the bundle's. The bytes are the rest of
-/// its section, and are at this offset of the whole stream.
+/// Reads the import of this bundle at the start of `bytes`, whose module is the bundle's (the proposal for compact imports).
+/// Where the bundle has one type its imports are names, and the type is the bundle's. The bytes are the remaining bytes of its
+/// section, at `offset` of the stream. After a fault all other fields are 0.
 #[unsafe(no_mangle)]
 pub extern "C" fn pulleynavy_bundled_import(
     bundle: &PlainImport,

@@ -259,8 +259,8 @@ fn next_table(mut reader: BinaryReader<'_>) -> PlainTable
     }
 }
 
-/// The table with which these bytes begin (core specification, Binary format, Modules, Table Section). The bytes are the rest of
-/// its section, and are at this offset of the whole stream.
+/// Reads the table at the start of `bytes` (core specification, Binary format, Modules, Table Section). The bytes are the
+/// remaining bytes of its section, at `offset` of the stream. After a fault all other fields are 0.
 #[unsafe(no_mangle)]
 pub extern "C" fn pulleynavy_table(bytes: &[u8], offset: u64, features: u32) -> PlainTable
     ensures { result ≡ plain_table (place_over features offset bytes.now)
@@ -296,8 +296,8 @@ fn next_memory(mut reader: BinaryReader<'_>) -> PlainMemory
     }
 }
 
-/// The memory with which these bytes begin (core specification, Binary format, Modules, Memory Section). The bytes are the rest of
-/// its section, and are at this offset of the whole stream.
+/// Reads the memory at the start of `bytes` (core specification, Binary format, Modules, Memory Section). The bytes are the
+/// remaining bytes of its section, at `offset` of the stream. After a fault all other fields are 0.
 #[unsafe(no_mangle)]
 pub extern "C" fn pulleynavy_memory(bytes: &[u8], offset: u64, features: u32) -> PlainMemory
     ensures { result ≡ plain_memory (place_over features offset bytes.now)
@@ -333,8 +333,8 @@ fn next_tag(mut reader: BinaryReader<'_>) -> PlainTag
     }
 }
 
-/// The tag with which these bytes begin (core specification, Binary format, Modules, Tag Section). The bytes are the rest of
-/// its section, and are at this offset of the whole stream.
+/// Reads the tag at the start of `bytes` (core specification, Binary format, Modules, Tag Section). The bytes are the remaining
+/// bytes of its section, at `offset` of the stream. After a fault all other fields are 0.
 #[unsafe(no_mangle)]
 pub extern "C" fn pulleynavy_tag(bytes: &[u8], offset: u64, features: u32) -> PlainTag
     ensures { result ≡ plain_tag (place_over features offset bytes.now)
@@ -372,8 +372,8 @@ fn next_global(mut reader: BinaryReader<'_>) -> PlainGlobal
     }
 }
 
-/// The global with which these bytes begin (core specification, Binary format, Modules, Global Section). The bytes are the rest of
-/// its section, and are at this offset of the whole stream.
+/// Reads the global at the start of `bytes` (core specification, Binary format, Modules, Global Section). The bytes are the
+/// remaining bytes of its section, at `offset` of the stream. After a fault all other fields are 0.
 #[unsafe(no_mangle)]
 pub extern "C" fn pulleynavy_global(bytes: &[u8], offset: u64, features: u32) -> PlainGlobal
     ensures { result ≡ plain_global (place_over features offset bytes.now)

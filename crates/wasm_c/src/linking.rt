@@ -28,7 +28,7 @@ pub struct PlainLinkingSegment {
     pub name: PlainSpan,
     /// Its alignment, as a power of two.
     pub alignment: u32,
-    /// Its flags: 1 for strings, 2 for thread-local data, 4 for one that is kept.
+    /// Its flags, as bits: 1 `STRINGS`, 2 `TLS`. Other bits are as they were read.
     pub flags: u32,
 }
 
@@ -120,9 +120,9 @@ fn next_linking_segment(mut reader: BinaryReader<'_>) -> PlainLinkingSegment
     }
 }
 
-/// What is said of a data segment, in subsection 5 of the section `linking` after its count (tool conventions, Linking, Segment Info
-/// Subsection). The bytes are the rest of
-/// its section, and are at this offset of the whole stream.
+/// Reads a data segment of subsection 5 of the section `linking`, after the count (tool conventions, Linking, Segment Info
+/// Subsection). The bytes are the remaining bytes of its section, at `offset` of the stream. After a fault all other fields are
+/// 0.
 #[unsafe(no_mangle)]
 pub extern "C" fn pulleynavy_linking_segment(
     bytes: &[u8],
@@ -164,9 +164,9 @@ fn next_init_function(mut reader: BinaryReader<'_>) -> PlainInitFunction
     }
 }
 
-/// The function to be called at first with which these bytes begin, in subsection 6 of the section `linking` after its count (tool
-/// conventions, Linking, Init Functions Subsection). The bytes are the rest of
-/// its section, and are at this offset of the whole stream.
+/// Reads the function to be called at first at the start of `bytes`, in subsection 6 of the section `linking` after its count
+/// (tool conventions, Linking, Init Functions Subsection). The bytes are the remaining bytes of its section, at `offset` of the
+/// stream. After a fault all other fields are 0.
 #[unsafe(no_mangle)]
 pub extern "C" fn pulleynavy_init_function(
     bytes: &[u8],
@@ -213,9 +213,9 @@ fn next_comdat(mut reader: BinaryReader<'_>) -> PlainComdat
     }
 }
 
-/// The comdat with which these bytes begin, in subsection 7 of the section `linking` after its count (tool conventions, Linking,
-/// COMDAT Subsection). Its symbols are read by `pulleynavy_comdat_symbol`, and have no fault. The bytes are the rest of
-/// its section, and are at this offset of the whole stream.
+/// Reads the comdat at the start of `bytes`, in subsection 7 of the section `linking` after its count (tool conventions, Linking,
+/// COMDAT Subsection). Its symbols are read by `pulleynavy_comdat_symbol`, and have no fault. The bytes are the remaining bytes
+/// of its section, at `offset` of the stream. After a fault all other fields are 0.
 #[unsafe(no_mangle)]
 pub extern "C" fn pulleynavy_comdat(bytes: &[u8], offset: u64, features: u32) -> PlainComdat
     ensures { result ≡ plain_comdat (place_over features offset bytes.now)
@@ -253,8 +253,8 @@ fn next_comdat_symbol(mut reader: BinaryReader<'_>) -> PlainComdatSymbol
     }
 }
 
-/// The symbol of a comdat with which these bytes begin (tool conventions, Linking, COMDAT Subsection). The bytes are the rest of
-/// its section, and are at this offset of the whole stream.
+/// Reads the symbol of a comdat at the start of `bytes` (tool conventions, Linking, COMDAT Subsection). The bytes are the
+/// remaining bytes of its section, at `offset` of the stream. After a fault all other fields are 0.
 #[unsafe(no_mangle)]
 pub extern "C" fn pulleynavy_comdat_symbol(
     bytes: &[u8],

@@ -99,8 +99,8 @@ fn write_message(fault: Fault, out: &mut [u8]) -> usize
     write_text(Error::new(fault, 0).message().as_bytes(), out)
 }
 
-/// The text of the fault of this number, as far as there is room for it in `out`, without a zero byte. Answers how long the text is,
-/// at most 80 bytes, or 0 where no fault has the number.
+/// Writes the text of the fault with this number, without a zero byte and as far as `out` has room. Returns the length of the
+/// whole text, at most 80 bytes, or 0 if no fault has this number.
 #[unsafe(no_mangle)]
 pub extern "C" fn pulleynavy_fault_message(kind: u32, out: &mut [u8]) -> usize
     ensures { SaysMessage kind out.old result out.new }

@@ -100,9 +100,9 @@ fn next_subsection(mut reader: BinaryReader<'_>) -> PlainSubsection
     }
 }
 
-/// The subsection with which these bytes begin: an id below 128, a size and so many bytes (core specification, Appendix, Custom
-/// Sections, Name Section, Subsections; tool conventions, Linking). The bytes are the rest of
-/// its section, and are at this offset of the whole stream.
+/// Reads the subsection at the start of `bytes`: an id below 128, a size and so many bytes (core specification, Appendix, Custom
+/// Sections, Name Section, Subsections; tool conventions, Linking). The bytes are the remaining bytes of its section, at `offset`
+/// of the stream. After a fault all other fields are 0.
 #[unsafe(no_mangle)]
 pub extern "C" fn pulleynavy_subsection(bytes: &[u8], offset: u64, features: u32) -> PlainSubsection
     ensures { result ≡ plain_subsection (place_over features offset bytes.now)
@@ -141,9 +141,9 @@ fn next_naming(mut reader: BinaryReader<'_>) -> PlainNaming
     }
 }
 
-/// The index and the name with which these bytes begin (core specification, Appendix, Custom Sections, Name Section, Name Maps). That
-/// indices ascend isn't looked at. The bytes are the rest of
-/// its section, and are at this offset of the whole stream.
+/// Reads the index and the name at the start of `bytes` (core specification, Appendix, Custom Sections, Name Section, Name Maps).
+/// That indices ascend isn't looked at. The bytes are the remaining bytes of its section, at `offset` of the stream. After a
+/// fault all other fields are 0.
 #[unsafe(no_mangle)]
 pub extern "C" fn pulleynavy_naming(bytes: &[u8], offset: u64, features: u32) -> PlainNaming
     ensures { result ≡ plain_naming (place_over features offset bytes.now)
@@ -198,9 +198,9 @@ fn next_indirect(mut reader: BinaryReader<'_>) -> PlainIndirectNaming
     }
 }
 
-/// The index with which these bytes begin, and the names of what it has (core specification, Appendix, Custom Sections, Name Section,
-/// Indirect Name Maps), which are read by `pulleynavy_naming`. That indices ascend isn't looked at. The bytes are the rest of
-/// its section, and are at this offset of the whole stream.
+/// Reads the index at the start of `bytes`, and the names of what it has (core specification, Appendix, Custom Sections, Name
+/// Section, Indirect Name Maps), which are read by `pulleynavy_naming`. That indices ascend isn't looked at. The bytes are the
+/// remaining bytes of its section, at `offset` of the stream. After a fault all other fields are 0.
 #[unsafe(no_mangle)]
 pub extern "C" fn pulleynavy_indirect_naming(
     bytes: &[u8],

@@ -11,7 +11,7 @@ use crate::text::write_text;
 use bitflags::Flags;
 use wasm_parser::{Chunk, Parser, Result, WasmFeatures};
 
-/// A parser of a stream that begins at this offset, whose windows have these features.
+/// Returns a parser of a stream that begins at this offset. Its windows have these features.
 #[unsafe(no_mangle)]
 pub extern "C" fn pulleynavy_parser(offset: u64, features: u32) -> StoredParser
     ensures { parser_of result ≡ initial_state offset features }
@@ -38,7 +38,10 @@ pub(crate) fn parse_stored(stored: &mut StoredParser, bytes: &[u8], is_all: bool
     }
 }
 
-/// Reads what comes next in the stream of which these bytes are the rest, or with `is_all` false the beginning of the rest.
+/// Reads the next part of a stream. `bytes` are its remaining bytes, or with `is_all` false a prefix of them; call it next with
+/// the bytes after those that were consumed. A fault or a request for more bytes leaves the parser unchanged. After a request,
+/// call it again with the same bytes and at least one more; with `is_all` true it never requests more. After a fault, the same
+/// call returns the same fault.
 #[unsafe(no_mangle)]
 pub extern "C" fn pulleynavy_parse(
     stored: &mut StoredParser,
@@ -50,8 +53,8 @@ pub extern "C" fn pulleynavy_parse(
     parse_stored(stored, bytes, is_all)
 }
 
-/// Passes what is left of a code section, and answers how many bytes that is: the caller hands in the bytes after those
-/// next. Outside a code section it passes nothing, and answers 0.
+/// Skips the remaining bytes of a code section and returns how many these are: call `pulleynavy_parse` next with the bytes after
+/// them. Outside a code section it returns 0 and leaves the parser unchanged.
 #[unsafe(no_mangle)]
 pub extern "C" fn pulleynavy_skip_section(stored: &mut StoredParser) -> u32
     ensures { skipped_of (parser_of stored.old) ≡ (result, parser_of stored.new) }
@@ -67,8 +70,8 @@ pub extern "C" fn pulleynavy_skip_section(stored: &mut StoredParser) -> u32
     }
 }
 
-/// The text of the fault that `pulleynavy_parse` answers with the same arguments, as far as there is room for it. Answers how
-/// long the text is, or 0 where there is no fault.
+/// Writes the text of the fault that `pulleynavy_parse` returns for the same arguments, without a zero byte and as far as `out`
+/// has room. Returns the length of the whole text, at most 80 bytes, or 0 if there is no fault. The parser stays as it is.
 #[unsafe(no_mangle)]
 pub extern "C" fn pulleynavy_fault_text(
     stored: &StoredParser,

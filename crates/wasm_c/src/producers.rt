@@ -71,9 +71,9 @@ fn next_producers_field(mut reader: BinaryReader<'_>) -> PlainProducersField
     }
 }
 
-/// The field of a producers section with which these bytes begin (tool conventions, Producers Section). Its values are read by
-/// `pulleynavy_producers_value`. The bytes are the rest of
-/// its section, and are at this offset of the whole stream.
+/// Reads the field of a producers section at the start of `bytes` (tool conventions, Producers Section). Its values are read by
+/// `pulleynavy_producers_value`. The bytes are the remaining bytes of its section, at `offset` of the stream. After a fault all
+/// other fields are 0.
 #[unsafe(no_mangle)]
 pub extern "C" fn pulleynavy_producers_field(
     bytes: &[u8],
@@ -116,8 +116,8 @@ fn next_producers_value(mut reader: BinaryReader<'_>) -> PlainProducersValue
     }
 }
 
-/// The value of a field of a producers section with which these bytes begin (tool conventions, Producers Section). The bytes are the rest of
-/// its section, and are at this offset of the whole stream.
+/// Reads the value of a field of a producers section at the start of `bytes` (tool conventions, Producers Section). The bytes are
+/// the remaining bytes of its section, at `offset` of the stream. After a fault all other fields are 0.
 #[unsafe(no_mangle)]
 pub extern "C" fn pulleynavy_producers_value(
     bytes: &[u8],

@@ -93,9 +93,9 @@ fn next_expression(mut reader: BinaryReader<'_>) -> PlainExpression
     }
 }
 
-/// The constant expression with which these bytes begin (core specification, Binary format, Instructions, Expressions): an element
-/// of a segment, for one. The bytes are the rest of
-/// its section, and are at this offset of the whole stream.
+/// Reads the constant expression at the start of `bytes` (core specification, Binary format, Instructions, Expressions): an
+/// element of a segment, for one. The bytes are the remaining bytes of its section, at `offset` of the stream. After a fault all
+/// other fields are 0.
 #[unsafe(no_mangle)]
 pub extern "C" fn pulleynavy_expression(bytes: &[u8], offset: u64, features: u32) -> PlainExpression
     ensures { result ≡ plain_expression (place_over features offset bytes.now)
@@ -221,9 +221,9 @@ fn next_element(mut reader: BinaryReader<'_>) -> PlainElement
     }
 }
 
-/// The element segment with which these bytes begin (core specification, Binary format, Modules, Element Section). Its elements
-/// are read by `pulleynavy_number` or `pulleynavy_expression`, and have no fault. The bytes are the rest of
-/// its section, and are at this offset of the whole stream.
+/// Reads the element segment at the start of `bytes` (core specification, Binary format, Modules, Element Section). Its elements
+/// are read by `pulleynavy_number` or `pulleynavy_expression`, and have no fault. The bytes are the remaining bytes of its
+/// section, at `offset` of the stream. After a fault all other fields are 0.
 #[unsafe(no_mangle)]
 pub extern "C" fn pulleynavy_element(bytes: &[u8], offset: u64, features: u32) -> PlainElement
     ensures { result ≡ plain_element (place_over features offset bytes.now)
@@ -307,8 +307,8 @@ fn next_data(mut reader: BinaryReader<'_>) -> PlainData
     }
 }
 
-/// The data segment with which these bytes begin (core specification, Binary format, Modules, Data Section). The bytes are the rest of
-/// its section, and are at this offset of the whole stream.
+/// Reads the data segment at the start of `bytes` (core specification, Binary format, Modules, Data Section). The bytes are the
+/// remaining bytes of its section, at `offset` of the stream. After a fault all other fields are 0.
 #[unsafe(no_mangle)]
 pub extern "C" fn pulleynavy_data(bytes: &[u8], offset: u64, features: u32) -> PlainData
     ensures { result ≡ plain_data (place_over features offset bytes.now)

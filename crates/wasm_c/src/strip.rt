@@ -4,19 +4,19 @@ ghost use Rattle.wasm_c.specs.Strips.{StripsPlain};
 use crate::faults::{NO_FAULT, PlainFault, plain_fault};
 use wasm_feed::strip_to_front;
 
-/// What became of a stream that was stripped.
+/// The result of stripping a stream.
 #[repr(C)]
 #[derive(Clone, Copy, Debug)]
 pub struct PlainStrip {
     /// The fault of a stream that isn't accepted, or none.
     pub fault: PlainFault,
-    /// How many bytes are left, from the first one on; 0 after a fault.
+    /// How many bytes the stripped stream has, 0 after a fault.
     pub size: usize,
 }
 
-/// Takes the custom sections out of a whole stream, which begins at offset 0, in its own bytes: what is left is then the first of
-/// them, and the bytes after these mean nothing. With `keep_names` the sections with the name `name` stay. A stream that isn't
-/// accepted is left as it was.
+/// Removes the custom sections from a whole stream that begins at offset 0, in place. The first `size` bytes are then
+/// the remaining stream, and the bytes after them mean nothing. With `keep_names` the sections named `name` stay. A stream that
+/// isn't accepted is left unchanged, and its fault is returned with a size of 0.
 #[unsafe(no_mangle)]
 pub extern "C" fn pulleynavy_strip(bytes: &mut [u8], keep_names: bool) -> PlainStrip
     ensures { StripsPlain keep_names bytes.old result bytes.new }

@@ -91,9 +91,9 @@ fn next_version(mut reader: BinaryReader<'_>) -> PlainNumber
     }
 }
 
-/// The version with which the data of a section `linking` begin, which is 2 (tool conventions, Linking, Linking Metadata Section). After it
-/// come its subsections, each by `pulleynavy_subsection`. The bytes are the rest of
-/// its section, and are at this offset of the whole stream.
+/// Reads the version at the start of the data of a section `linking`, which is 2 (tool conventions, Linking, Linking Metadata
+/// Section). Its subsections follow, each read by `pulleynavy_subsection`. The bytes are the remaining bytes of its section, at
+/// `offset` of the stream. After a fault all other fields are 0.
 #[unsafe(no_mangle)]
 pub extern "C" fn pulleynavy_linking_version(
     bytes: &[u8],
@@ -237,9 +237,9 @@ fn next_symbol(mut reader: BinaryReader<'_>) -> PlainSymbol
     }
 }
 
-/// The symbol with which these bytes begin, in subsection 8 of the section `linking` after its count (tool conventions, Linking, Symbol
-/// Table Subsection). The bytes are the rest of
-/// its section, and are at this offset of the whole stream.
+/// Reads the symbol at the start of `bytes`, in subsection 8 of the section `linking` after its count (tool conventions, Linking,
+/// Symbol Table Subsection). The bytes are the remaining bytes of its section, at `offset` of the stream. After a fault all other
+/// fields are 0.
 #[unsafe(no_mangle)]
 pub extern "C" fn pulleynavy_symbol(bytes: &[u8], offset: u64, features: u32) -> PlainSymbol
     ensures { result ≡ plain_symbol (place_over features offset bytes.now)

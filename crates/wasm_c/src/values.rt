@@ -173,9 +173,9 @@ fn next_number(mut reader: BinaryReader<'_>) -> PlainNumber
     }
 }
 
-/// The number with which these bytes begin, a u32: the count of a list, an index of a type in a function section or of a
-/// function in a list of elements (core specification, Binary format, Values, Integers). The bytes are the rest of its section, and
-/// are at this offset of the whole stream.
+/// Reads the number at the start of `bytes`, a u32: the count of a list, an index of a type in a function section or of a
+/// function in a list of elements (core specification, Binary format, Values, Integers). The bytes are the remaining bytes of its
+/// section, at `offset` of the stream. After a fault all other fields are 0.
 #[unsafe(no_mangle)]
 pub extern "C" fn pulleynavy_number(bytes: &[u8], offset: u64, features: u32) -> PlainNumber
     ensures { result ≡ plain_number (place_over features offset bytes.now)
@@ -211,8 +211,9 @@ fn next_value(mut reader: BinaryReader<'_>) -> PlainValue
     }
 }
 
-/// The value type with which these bytes begin (core specification, Binary format, Types, Value Types): a parameter or a result
-/// of a function's type. The bytes are the rest of its section, and are at this offset of the whole stream.
+/// Reads the value type at the start of `bytes` (core specification, Binary format, Types, Value Types): a parameter or a result
+/// of a function's type. The bytes are the remaining bytes of its section, at `offset` of the stream. After a fault all other
+/// fields are 0.
 #[unsafe(no_mangle)]
 pub extern "C" fn pulleynavy_value_type(bytes: &[u8], offset: u64, features: u32) -> PlainValue
     ensures { result ≡ plain_value (place_over features offset bytes.now)
@@ -250,8 +251,8 @@ fn next_field(mut reader: BinaryReader<'_>) -> PlainField
     }
 }
 
-/// The field with which these bytes begin, of a structure or an array (core specification, Binary format, Types, Composite
-/// Types). The bytes are the rest of its section, and are at this offset of the whole stream.
+/// Reads the field at the start of `bytes`, of a structure or an array (core specification, Binary format, Types, Composite
+/// Types). The bytes are the remaining bytes of its section, at `offset` of the stream. After a fault all other fields are 0.
 #[unsafe(no_mangle)]
 pub extern "C" fn pulleynavy_field_type(bytes: &[u8], offset: u64, features: u32) -> PlainField
     ensures { result ≡ plain_field (place_over features offset bytes.now)

@@ -46,7 +46,7 @@ other arguments, and 3 where a file, the output or memory failed.
 ";
 
 /// What `--version` says.
-const VERSION: &[u8] = b"wasm_dump 0.263.0\n";
+const VERSION: &[u8] = b"wasm_dump 0.1.0 (follows wasmparser 0.263.0)\n";
 
 // The same, in the words of its clause.
 fn help() -> &'static [u8]

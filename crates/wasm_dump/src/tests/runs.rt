@@ -280,7 +280,7 @@ fn says_which_version_it_is(rt: HostRuntime) -> Result<(), Fail> {
         rt.alloc(),
         given,
         MODULE,
-        (0, b"wasm_dump 0.263.0\n", b""),
+        (0, b"wasm_dump 0.1.0 (follows wasmparser 0.263.0)\n", b""),
     )
 }
 

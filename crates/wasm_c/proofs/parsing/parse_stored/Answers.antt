@@ -2,7 +2,7 @@ use Rattle.std.proofs.Common.{◌≡◌, ℕ, Bool, List, Result, Ok, sym, ap, s
 use Rattle.wasm_base.specs.declared.error.Error.{Error}
 use Rattle.wasm_parser.specs.AsksWhereOpen.{AsksWhereOpen}
 use Rattle.wasm_parser.specs.GivesNextEvent.{GivesNextEvent}
-use Rattle.wasm_parser.specs.ParseAnswer.{Consumes, FaultsWithin, IsUnchanged, ParseAnswer}
+use Rattle.wasm_parser.specs.ParseAnswer.{AsksForSome, Consumes, FaultsWithin, IsUnchanged, ParseAnswer}
 use Rattle.wasm_parser.specs.ParserState.{ParserState}
 use Rattle.wasm_parser.specs.declared.payload.Chunk.{Chunk}
 use Rattle.wasm_c.specs.Events.{ParsesPlain, answer_event}
@@ -17,6 +17,7 @@ returns-in-Ok-Parsed c =
       answers = c.parse.ensures.answers;
       gives = c.parse.ensures.gives;
       consumes = c.parse.ensures.consumes;
+      asks = c.parse.ensures.asks;
       waits = c.parse.ensures.waits;
       faults = c.parse.ensures.faults;
       is_event = c.parsed_event.ensures ∙ ap answer_event (sym answers);
@@ -25,14 +26,15 @@ returns-in-Ok-Parsed c =
 -- an answer of a parser that has stayed where it was
 unmoved : {old new : ParserState} {eof : Bool} {bytes : List ℕ} {answer : Result Chunk Error} {event : PlainEvent} → new ≡ old
     → ParseAnswer old eof bytes answer new → GivesNextEvent old eof bytes answer new → Consumes bytes answer
-    → AsksWhereOpen old eof bytes answer → FaultsWithin old bytes answer → event ≡ answer_event answer
+    → AsksForSome answer → AsksWhereOpen old eof bytes answer → FaultsWithin old bytes answer → event ≡ answer_event answer
     → ParsesPlain old eof bytes event old
-unmoved {old} {new} {eof} {bytes} {answer} {event} same answers gives consumes waits faults is =
+unmoved {old} {new} {eof} {bytes} {answer} {event} same answers gives consumes asks waits faults is =
     subst (ParsesPlain old eof bytes event) same (record {
       answer = answer;
       answers = answers;
       gives = gives;
       consumes = consumes;
+      asks = asks;
       waits = waits;
       faults = faults;
       is_event = is;
@@ -43,11 +45,11 @@ returns-in-Ok-NeedMoreData c =
     let asks = c.in-Ok-NeedMoreData.is ∙ ap Ok c.in-Ok-NeedMoreData.field-0-is in
     let same = subst (λ (r : Result Chunk Error). IsUnchanged c.parser-parser.result r c.parse.new.self) asks c.parse.ensures.unchanged in
     rw (sym c.parser-parser.ensures) (unmoved same c.parse.ensures.answers c.parse.ensures.gives c.parse.ensures.consumes
-    c.parse.ensures.waits c.parse.ensures.faults (c.request_event.ensures ∙ ap answer_event (sym asks)))
+    c.parse.ensures.asks c.parse.ensures.waits c.parse.ensures.faults (c.request_event.ensures ∙ ap answer_event (sym asks)))
 
 pub returns-in-Err : goal.returns-in-Err
 returns-in-Err c =
     let stays : Result Chunk Error → Type 0 = λ r. IsUnchanged c.parser-parser.result r c.parse.new.self in
     let same = subst stays c.in-Err.is c.parse.ensures.unchanged in
     rw (sym c.parser-parser.ensures) (unmoved same c.parse.ensures.answers c.parse.ensures.gives c.parse.ensures.consumes
-    c.parse.ensures.waits c.parse.ensures.faults (c.fault_event.ensures ∙ ap answer_event (sym c.in-Err.is)))
+    c.parse.ensures.asks c.parse.ensures.waits c.parse.ensures.faults (c.fault_event.ensures ∙ ap answer_event (sym c.in-Err.is)))
