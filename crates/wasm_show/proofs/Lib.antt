@@ -1,7 +1,6 @@
 pub mod Counted
 pub mod Dumping
 pub mod Lines
-mod Messages
 pub mod Naming
 pub mod Numbering
 pub mod Objects

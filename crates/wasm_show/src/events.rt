@@ -91,7 +91,7 @@ fn section_event<W: Sink>(payload: &Payload<'_>, out: &mut Tree<W>)
     out.range("range", range.start, range.end);
     out.number("id", u64::from(id));
     match standard_name(id, payload) {
-        Some(name) => out.word_field("name", name),
+        Some(name) => out.quoted("name", name),
         None => out.nothing("name"),
     }
     if let Some(count) = count {

@@ -3,13 +3,11 @@ use Rattle.wasm_show.proofs.Saying.{says_none, none_in_first, says_first, says_l
 use Rattle.wasm_show.proofs.tree.Tree.bytes.Goals as goal
 
 pub pieces-init : goal.pieces-init
-pieces-init g c = record { adds = search rules; some = search rules; says = says_none _ _ c.requires }
+pieces-init g c = record { adds = search rules; some = search rules; says = says_none c.args.bytes.now c.args.self.now c.requires.one_line }
 
 pub piece-requires-clause-one_line : goal.piece-requires-clause-one_line
-piece-requires-clause-one_line g c = (none_in_first _ _ _ c.split_at.ensures.by_index.0 c.pieces.invariant.says.one_line).0
-
-pub piece-2-requires-clause-one_line : goal.piece-2-requires-clause-one_line
-piece-2-requires-clause-one_line g c = c.pieces.invariant.says.one_line
+piece-requires-clause-one_line g c = (none_in_first c.pieces.rest.now c.split_at.result.0.now c.split_at.result.1.now
+    c.split_at.ensures.by_index.0 c.pieces.invariant.says.one_line).0
 
 pub pieces-preserved : goal.pieces-preserved
 pieces-preserved g c = record {

@@ -5,7 +5,9 @@ use Rattle.wasm_show.proofs.Saying.{none_in_digits, says_same}
 use Rattle.wasm_show.proofs.tree.Tree.hexadecimal.Goals as goal
 
 pub bytes-requires : goal.bytes-requires
-bytes-requires g c = ap has_line_feed c.hexadecimal_digits.ensures ∙ none_in_digits (c.args.byte / 16) (c.args.byte % 16)
+bytes-requires g c = record {
+  one_line = ap has_line_feed c.hexadecimal_digits.ensures ∙ none_in_digits (c.args.byte / 16) (c.args.byte % 16);
+}
 
 pub returns-clause-says : goal.returns-clause-says
 returns-clause-says g c =
