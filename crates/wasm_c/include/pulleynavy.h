@@ -252,8 +252,8 @@ struct pulleynavy_parser pulleynavy_parser(uint64_t offset, uint32_t features);
 
 /* Reads the next part of a stream. `bytes` are its remaining bytes, or with `is_all` false a prefix of them; call it next with the
    bytes after those that were consumed. A fault or a request for more bytes leaves the parser unchanged. After a request, call it
-   again with the same bytes and at least one more; with `is_all` true it never requests more. After a fault, the same call returns
-   the same fault. */
+   again with the same bytes and more after them, or at the end of the input with `is_all` true, where it never requests more. After a
+   fault, the same call returns the same fault. */
 struct pulleynavy_event pulleynavy_parse(
     struct pulleynavy_parser *stored, const uint8_t *bytes, size_t bytes_size, bool is_all);
 

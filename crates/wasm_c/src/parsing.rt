@@ -40,8 +40,8 @@ pub(crate) fn parse_stored(stored: &mut StoredParser, bytes: &[u8], is_all: bool
 
 /// Reads the next part of a stream. `bytes` are its remaining bytes, or with `is_all` false a prefix of them; call it next with
 /// the bytes after those that were consumed. A fault or a request for more bytes leaves the parser unchanged. After a request,
-/// call it again with the same bytes and at least one more; with `is_all` true it never requests more. After a fault, the same
-/// call returns the same fault.
+/// call it again with the same bytes and more after them, or at the end of the input with `is_all` true, where it never requests
+/// more. After a fault, the same call returns the same fault.
 #[unsafe(no_mangle)]
 pub extern "C" fn pulleynavy_parse(
     stored: &mut StoredParser,
