@@ -1,0 +1,12 @@
+use Rattle.std.proofs.Common.{◌≡◌}
+use Rattle.std.specs.Prelude.{string_bytes}
+use Rattle.wasm_examples.specs.Imported.{imports_of}
+use Rattle.wasm_examples.specs.ImportsText.{with_lines}
+use Rattle.wasm_examples.proofs.imports.add_imports.Given as goal
+
+abbrev pub invariant-loop-import : goal.invariant-loop-import
+invariant-loop-import l = record {
+  can : goal.iterator-loop-import.can_next l.import-iterator;
+  finite : goal.iterator-loop-import.is_finite l.import-iterator;
+  lines : with_lines (string_bytes l.initial.text) (imports_of l.fn.section) ≡ with_lines (string_bytes l.text) l.import-iterator;
+}

@@ -1,0 +1,154 @@
+-- What a linker fills in: the relocations of a module, with what they name and where they are. Tool conventions,
+-- Linking.
+use Rattle.std.specs.declared.ops.Range.{Range}
+use Rattle.std.specs.List.{starts_with}
+use Rattle.std.specs.Prelude.{◌≡◌, ◌⊎◌, ℕ, zero, suc, ◌+◌, List, [], ◌∷◌, ◌++◌, length, map, option_map, slice_get}
+use Rattle.std.specs.Prelude.{nat_lt, nat_le, nat_eq, codes, bytes_eq, Option, Some, None, Result, Ok, Err}
+use Rattle.std.specs.Prelude.{if◌then◌else◌}
+use Rattle.wasm_base.specs.FaultAt.{FaultAt, fault_at, at_offset}
+use Rattle.wasm_base.specs.Outcome.{Outcome, ◌>>=◌}
+use Rattle.wasm_base.specs.Owned.{out_of_memory}
+use Rattle.wasm_base.specs.Section.{Section}
+use Rattle.wasm_base.specs.Subsections.{subsection_at}
+use Rattle.wasm_base.specs.Window.{Window, Place, place, whole_window}
+use Rattle.wasm_base.specs.declared.error.Error.{Error}
+use Rattle.wasm_base.specs.declared.fault.Fault.TheVariants.{SizeMismatch}
+use Rattle.wasm_custom.specs.Linking.{SymbolParts, symbol_parts, symbol_at, LinkingParts, listed, LinkingSection}
+use Rattle.wasm_custom.specs.Linking.{linking_subsection_in, linking_in}
+use Rattle.wasm_custom.specs.Reloc.{number_of, relocated_range, relocation_at, reloc_section_in}
+use Rattle.wasm_custom.specs.declared.reloc.RelocationEntry.{RelocationEntry}
+use Rattle.wasm_custom.specs.declared.reloc.RelocSectionReader.{RelocSectionReader}
+use Rattle.wasm_grammar.specs.Content.{fault}
+use Rattle.wasm_grammar.specs.Reading.{Report, custom_section, stream_end}
+use Rattle.wasm_grammar.specs.Sections.{section_of}
+use Rattle.wasm_examples.specs.Customs.{data_place}
+use Rattle.wasm_examples.specs.Folding.{ReadsTo}
+use Rattle.wasm_examples.specs.declared.linking.Fixup.{Fixup}
+use Rattle.wasm_examples.specs.declared.linking.Linked.{Linked}
+
+-- ---- what came so far
+
+-- a relocation, with the symbol that it names and the offsets of the bytes that it fills in
+pub record FixupParts : Type 0 where
+  pub entry : RelocationEntry
+  pub symbol : Option SymbolParts
+  pub range : Option (Range ℕ)
+
+abbrev pub fixup_parts : Fixup → FixupParts
+fixup_parts f = record { entry = f.entry; symbol = option_map symbol_parts f.symbol; range = f.range }
+
+-- where the contents of sections are, the symbols, and the relocations
+pub record LinkedParts : Type 0 where
+  pub sections : List (Range ℕ)
+  pub symbols : List SymbolParts
+  pub fixups : List FixupParts
+
+abbrev pub linked_parts : Linked → LinkedParts
+linked_parts m = record {
+  sections = m.sections.items;
+  symbols = map symbol_parts m.symbols.items;
+  fixups = map fixup_parts m.fixups.items;
+}
+
+-- nothing
+abbrev pub no_parts : LinkedParts
+no_parts = record { sections = []; symbols = []; fixups = [] }
+
+-- ---- one relocation
+
+-- the symbol of its index, if there is one; the index of type 6 is a type's
+abbrev pub symbol_of : List SymbolParts → RelocationEntry → Option SymbolParts
+symbol_of symbols entry = if nat_eq (number_of entry.ty) 6 then None else slice_get symbols entry.index
+
+-- the offsets of what it fills in, if the section has these bytes
+abbrev pub filled_in : Range ℕ → RelocationEntry → Option (Range ℕ)
+filled_in section entry =
+    if nat_le (section.start + (relocated_range entry).end) section.end
+    then Some (record {
+      start = section.start + (relocated_range entry).start;
+      end = section.start + (relocated_range entry).end;
+    })
+    else None
+
+-- the same of a section that may be missing
+abbrev pub filled_if_there : Option (Range ℕ) → RelocationEntry → Option (Range ℕ)
+filled_if_there (Some section) entry = filled_in section entry
+filled_if_there None entry = None
+
+-- with what it names and fills in, of what came before it
+abbrev pub fixup_of : LinkedParts → (section : ℕ) → RelocationEntry → FixupParts
+fixup_of m section entry = record {
+  entry = entry;
+  symbol = symbol_of m.symbols entry;
+  range = filled_if_there (slice_get m.sections section) entry;
+}
+
+-- ---- one part more
+
+-- what so many items from a place on add, one after the other, and nothing after them; or the first fault
+abbrev pub each_from : {S T : Type 0} → (S → T → S) → (Place → Outcome T) → S → (left : ℕ) → Place → Result S FaultAt
+each_from add read s zero p = if nat_lt 0 (length p.rest) then Err (at_offset SizeMismatch p.offset) else Ok s
+each_from add read s (suc left) p = read p >>= (λ x. each_from add read (add s x.0) left x.1)
+
+abbrev pub with_symbol : LinkedParts → SymbolParts → LinkedParts
+with_symbol m symbol = record m { symbols = m.symbols ++ symbol ∷ [] }
+
+abbrev pub with_symbols : LinkedParts → Section → Result LinkedParts FaultAt
+with_symbols m s = each_from with_symbol symbol_at m s.count (place s.reader)
+
+-- a subsection: symbols have the id 8
+abbrev pub with_subsection : LinkedParts → LinkingParts → Result LinkedParts FaultAt
+with_subsection m (listed id section) = if nat_eq id 8 then with_symbols m section else Ok m
+with_subsection m other = Ok m
+
+-- a subsection by its id and its window
+abbrev pub with_window : LinkedParts → ℕ → Window → Result LinkedParts FaultAt
+with_window m id window = linking_subsection_in id window >>= (λ subsection. with_subsection m subsection)
+
+-- the subsections from a place on, at most so many
+abbrev pub with_subsections : LinkedParts → (most : ℕ) → Place → Result LinkedParts FaultAt
+with_subsections m zero p = Ok m
+with_subsections m (suc most) p = if nat_eq (length p.rest) 0 then Ok m else
+    subsection_at p >>= (λ head. with_window m head.0.0 head.0.1 >>= (λ n. with_subsections n most head.1))
+
+-- the section for linkers. A subsection takes a byte at least, so there are no more of them than bytes.
+abbrev pub with_linking : LinkedParts → LinkingSection → Result LinkedParts FaultAt
+with_linking m s = with_subsections m (length (place s.subsections).rest) (place s.subsections)
+
+abbrev pub with_relocation : (section : ℕ) → LinkedParts → RelocationEntry → LinkedParts
+with_relocation section m entry = record m { fixups = m.fixups ++ fixup_of m section entry ∷ [] }
+
+-- a section of relocations
+abbrev pub with_relocations : LinkedParts → RelocSectionReader → Result LinkedParts FaultAt
+with_relocations m s = each_from (with_relocation s.section) relocation_at m s.entries.count (place s.entries.reader)
+
+-- a custom section, by its name
+abbrev pub with_custom : LinkedParts → (name : List ℕ) → Window → Result LinkedParts FaultAt
+with_custom m name w =
+    if bytes_eq name (codes "linking") then linking_in w >>= (λ s. with_linking m s)
+    else if starts_with nat_eq name (codes "reloc.") then reloc_section_in w >>= (λ s. with_relocations m s)
+    else Ok m
+
+-- where a section's content is, if this is one
+abbrev pub with_section : LinkedParts → Option (ℕ × Range ℕ) → LinkedParts
+with_section m (Some s) = record m { sections = m.sections ++ s.1 ∷ [] }
+with_section m None = m
+
+-- what a part of the module has for linkers, if it is a custom section; the stream's fault ends all
+abbrev pub with_if_custom : LinkedParts → Report → Result LinkedParts FaultAt
+with_if_custom m (custom_section name data_offset window) =
+    with_custom m name (whole_window (data_place window data_offset))
+with_if_custom m (stream_end (fault f)) = Err f
+with_if_custom m other = Ok m
+
+-- what a part of the module adds: a section, and what it has for linkers
+abbrev pub linked : LinkedParts → Report → Result LinkedParts FaultAt
+linked m report = with_if_custom (with_section m (section_of report)) report
+
+-- ---- what calls answer
+
+-- This is what a linker fills in of the module that the stream is, by its reading with all features from offset 0; or
+-- the module has this fault; or memory was refused.
+abbrev pub IsLinked : List ℕ → Result Linked Error → Type 0
+IsLinked stream (Ok m) = ReadsTo linked no_parts stream (Ok (linked_parts m))
+IsLinked stream (Err e) = (fault_at e ≡ out_of_memory) ⊎ ReadsTo linked no_parts stream (Err (fault_at e))

@@ -1,0 +1,156 @@
+-- What a module needs of its outside and gives to it, as a loader wants it.
+use Rattle.std.specs.Prelude.{◌≡◌, ◌⊎◌, ℕ, zero, suc, ◌+◌, ◌-◌, ◌^◌, min, List, [], ◌∷◌, ◌++◌, length, map, nat_lt}
+use Rattle.std.specs.Prelude.{nat_eq, Result, Ok, Err, if◌then◌else◌}
+use Rattle.wasm_base.specs.FaultAt.{FaultAt, fault_at, at_offset}
+use Rattle.wasm_base.specs.Number.{unsigned_at}
+use Rattle.wasm_base.specs.Outcome.{Outcome}
+use Rattle.wasm_base.specs.Owned.{out_of_memory}
+use Rattle.wasm_base.specs.Window.{Window, Place, place}
+use Rattle.wasm_base.specs.declared.fault.Fault.TheVariants.{SizeMismatch}
+use Rattle.wasm_base.specs.declared.fault.NumberKind.TheVariants.{VarU32}
+use Rattle.wasm_items.specs.Exports.{ExportParts, export_parts, export_at}
+use Rattle.wasm_items.specs.Flattened.{flattened, import_alone}
+use Rattle.wasm_items.specs.Imports.{ImportParts, import_parts}
+use Rattle.wasm_items.specs.declared.exports.ExternalKind.{ExternalKind}
+use Rattle.wasm_items.specs.declared.exports.ExternalKind.TheVariants as kinds
+use Rattle.wasm_items.specs.declared.imports.TypeRef.{TypeRef}
+use Rattle.wasm_items.specs.declared.imports.TypeRef.TheVariants as types
+use Rattle.wasm_grammar.specs.Content.{fault}
+use Rattle.wasm_grammar.specs.Reading.{Report, counted, stream_end}
+use Rattle.wasm_examples.specs.Folding.{unless_refused, ReadsTo}
+use Rattle.wasm_examples.specs.declared.outside.Misfit.{Misfit}
+use Rattle.wasm_examples.specs.declared.outside.Misfit.TheVariants as misfits
+use Rattle.wasm_examples.specs.declared.outside.Outside.{Outside}
+use Rattle.wasm_examples.specs.declared.outside.Spans.{Spans}
+use Rattle.wasm_grammar.specs.Ids.{export_id, function_id, global_id, import_id, memory_id, table_id, tag_id}
+
+-- ---- index spaces
+
+-- so many more; a count stops at the greatest number of 64 bits, above every index
+abbrev pub more : ℕ → ℕ → ℕ
+more count n = min (count + n) (2 ^ 64 - 1)
+
+-- how many there are of a kind
+abbrev pub span_of : Spans → ExternalKind → ℕ
+span_of s kinds.Func = s.functions
+span_of s kinds.Table = s.tables
+span_of s kinds.Memory = s.memories
+span_of s kinds.Global = s.globals
+span_of s kinds.Tag = s.tags
+span_of s kinds.FuncExact = s.functions
+
+-- with so many more of a kind
+abbrev pub with_more : Spans → ExternalKind → ℕ → Spans
+with_more s kinds.Func n = record s { functions = more s.functions n }
+with_more s kinds.Table n = record s { tables = more s.tables n }
+with_more s kinds.Memory n = record s { memories = more s.memories n }
+with_more s kinds.Global n = record s { globals = more s.globals n }
+with_more s kinds.Tag n = record s { tags = more s.tags n }
+with_more s kinds.FuncExact n = record s { functions = more s.functions n }
+
+-- the kind of an import
+abbrev pub kind_of_type : TypeRef → ExternalKind
+kind_of_type (types.Func index) = kinds.Func
+kind_of_type (types.Table ty) = kinds.Table
+kind_of_type (types.Memory ty) = kinds.Memory
+kind_of_type (types.Global ty) = kinds.Global
+kind_of_type (types.Tag ty) = kinds.Tag
+kind_of_type (types.FuncExact index) = kinds.FuncExact
+
+-- ---- what a module has so far
+
+pub record OutsideParts : Type 0 where
+  pub spans : Spans
+  pub imports : List ImportParts
+  pub exports : List ExportParts
+
+abbrev pub outside_parts : Outside → OutsideParts
+outside_parts o =
+    record { spans = o.spans; imports = map import_parts o.imports.items; exports = map export_parts o.exports.items }
+
+-- nothing
+abbrev pub no_parts : OutsideParts
+no_parts = record {
+  spans = record { functions = 0; tables = 0; memories = 0; globals = 0; tags = 0 };
+  imports = [];
+  exports = [];
+}
+
+-- why a module has no outside: a fault, or the export of this place, which names what is not there
+pub data Refused : Type 0 where
+  at_fault : FaultAt → Refused
+  no_such : ℕ → Refused
+
+-- ---- one part more
+
+abbrev pub with_import : OutsideParts → ImportParts → OutsideParts
+with_import o i = record o { spans = with_more o.spans (kind_of_type i.ty) 1; imports = o.imports ++ i ∷ [] }
+
+-- the imports of a section, one by one
+abbrev pub imported : OutsideParts → List (Result ImportParts FaultAt) → Result OutsideParts Refused
+imported o [] = Ok o
+imported o (Ok i ∷ later) = imported (with_import o i) later
+imported o (Err f ∷ later) = Err (at_fault f)
+
+-- an export of what is there
+abbrev pub with_export : OutsideParts → ExportParts → Result OutsideParts Refused
+with_export o e = if nat_lt e.index (span_of o.spans e.kind) then Ok (record o { exports = o.exports ++ e ∷ [] }) else
+    Err (no_such (length o.exports))
+
+-- an outcome, whose fault ends all
+abbrev pub unless_fault : {A : Type 0} → Outcome A → Result (A × Place) Refused
+unless_fault (Ok x) = Ok x
+unless_fault (Err f) = Err (at_fault f)
+
+-- so many exports from a place on, and nothing after them
+abbrev pub exported : OutsideParts → (left : ℕ) → Place → Result OutsideParts Refused
+exported o zero p = if nat_lt 0 (length p.rest) then Err (at_fault (at_offset SizeMismatch p.offset)) else Ok o
+exported o (suc left) p = unless_refused (unless_fault (export_at p))
+    (λ x. unless_refused (with_export o x.0) (λ q. exported q left x.1))
+
+-- where the items of a section begin: after its count
+abbrev pub after_number : Outcome ℕ → Place → Place
+after_number (Ok x) p = x.1
+after_number (Err f) p = p
+
+abbrev pub items_place : Window → Place
+items_place w = after_number (unsigned_at VarU32 (place w)) (place w)
+
+-- so many more of the kind that a section with this id defines
+abbrev pub with_section : OutsideParts → ExternalKind → ℕ → Result OutsideParts Refused
+with_section o kind count = Ok (record o { spans = with_more o.spans kind count })
+
+-- what a part of the module adds: imports, functions, tables, memories, globals, exports and tags
+abbrev pub told : OutsideParts → Report → Result OutsideParts Refused
+told o (counted id count window) =
+    if nat_eq id import_id then imported o (map import_alone (flattened count (items_place window)))
+    else if nat_eq id function_id then with_section o kinds.Func count
+    else if nat_eq id table_id then with_section o kinds.Table count
+    else if nat_eq id memory_id then with_section o kinds.Memory count
+    else if nat_eq id global_id then with_section o kinds.Global count
+    else if nat_eq id export_id then exported o count (items_place window)
+    else if nat_eq id tag_id then with_section o kinds.Tag count
+    else Ok o
+told o (stream_end (fault f)) = Err (at_fault f)
+told o other = Ok o
+
+-- ---- what calls answer
+
+-- This came of it, or memory was refused.
+abbrev pub Comes : Result OutsideParts Refused → Result (Unit {0}) Misfit → (after : OutsideParts) → Type 0
+Comes of (Ok done) after = of ≡ Ok after
+Comes of (Err (misfits.Stream e)) after = (fault_at e ≡ out_of_memory) ⊎ (of ≡ Err (at_fault (fault_at e)))
+Comes of (Err (misfits.NoSuch place)) after = of ≡ Err (no_such place)
+
+-- Memory was refused.
+abbrev pub IsMemory : Misfit → Type 0
+IsMemory (misfits.Stream e) = fault_at e ≡ out_of_memory
+IsMemory (misfits.NoSuch place) = ⊥
+
+-- This is the outside of the module that the stream is, by its reading with all features from offset 0; or it has none,
+-- for this reason; or memory was refused.
+abbrev pub IsOutside : List ℕ → Result Outside Misfit → Type 0
+IsOutside stream (Ok o) = ReadsTo told no_parts stream (Ok (outside_parts o))
+IsOutside stream (Err (misfits.Stream e)) = (fault_at e ≡ out_of_memory)
+    ⊎ ReadsTo told no_parts stream (Err (at_fault (fault_at e)))
+IsOutside stream (Err (misfits.NoSuch place)) = ReadsTo told no_parts stream (Err (no_such place))

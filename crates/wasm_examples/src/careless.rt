@@ -1,0 +1,29 @@
+// Item types with a careless meaning.
+ghost use Rattle.wasm_base.specs.Item.{ReadsAs};
+ghost use Rattle.wasm_examples.specs.Careless.{nothing_at, TakesOneByte};
+
+use wasm_base::{BinaryReader, FromReader, Result};
+
+/// An item that takes no bytes.
+#[derive(Clone, Copy, Debug, PartialEq, Eq)]
+pub struct Nothing;
+
+impl<'a> FromReader<'a> for Nothing {
+    ghost meaning = { ReadsAs (λ nothing. nothing) nothing_at };
+
+    fn from_reader(_reader: &mut BinaryReader<'a>) -> Result<Self> {
+        Ok(Nothing)
+    }
+}
+
+/// A byte. Its meaning says that one is taken, and not which value it has.
+#[derive(Clone, Copy, Debug, PartialEq, Eq)]
+pub struct AnyByte(pub u8);
+
+impl<'a> FromReader<'a> for AnyByte {
+    ghost meaning = { TakesOneByte };
+
+    fn from_reader(reader: &mut BinaryReader<'a>) -> Result<Self> {
+        Ok(AnyByte(reader.read_u8()?))
+    }
+}

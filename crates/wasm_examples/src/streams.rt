@@ -1,0 +1,51 @@
+// Walks over the parts of a stream.
+ghost use Rattle.std.specs.Prelude.{◌≡◌};
+ghost use Rattle.wasm_parser.specs.ParseAnswer.{report_of};
+ghost use Rattle.wasm_examples.specs.Streams.{IsEndOf, IsStartOf, started_by};
+
+use wasm_base::Result;
+use wasm_parser::{Chunk, Parser, Payload};
+
+/// The offset at which a stream ends, or the fault at which it stops.
+pub fn end_of(bytes: &[u8]) -> Result<u64>
+    ensures { IsEndOf bytes.now result }
+{
+    let mut parser = Parser::new(0);
+    let mut rest = bytes;
+    'parts: loop {
+        match parser.parse(rest, true) {
+            Ok(Chunk::Parsed { consumed, payload }) => {
+                if let Payload::End(offset) = payload {
+                    return Ok(offset);
+                }
+                drop(payload);
+                rest = rest.split_at(consumed).1;
+            }
+            Ok(Chunk::NeedMoreData(_)) => unreachable!(),
+            Err(error) => return Err(error),
+        }
+    }
+}
+
+/// The index of the function that starts a module, if its stream names one; or the fault at which the stream stops.
+pub fn start_of(bytes: &[u8]) -> Result<Option<u32>>
+    ensures { IsStartOf bytes.now result }
+{
+    let mut start = None;
+    for payload in Parser::new(0).parse_all(bytes) {
+        if let Some(function) = start_in(payload?) {
+            start = Some(function);
+        }
+    }
+    Ok(start)
+}
+
+// The index in a start section.
+fn start_in(payload: Payload<'_>) -> Option<u32>
+    ensures { result ≡ started_by (report_of payload.entry) }
+{
+    match payload {
+        Payload::StartSection { func, .. } => Some(func),
+        _ => None,
+    }
+}

@@ -1,0 +1,91 @@
+// Chunked input, whose parts are passed to a visitor.
+ghost use Rattle.std.specs.Prelude.{◌≡◌, ◌<◌, ◌^◌, length, OnOk, IfErr};
+ghost use Rattle.wasm_base.specs.FaultAt.{fault_at};
+ghost use Rattle.wasm_base.specs.Features.{feature_bits};
+ghost use Rattle.wasm_base.specs.Owned.{out_of_memory};
+ghost use Rattle.wasm_feed.specs.Pieces.{joined};
+ghost use Rattle.wasm_grammar.specs.Reading.{Event};
+ghost use Rattle.wasm_examples.specs.Visits.{part, Tells, VisitsHeld, VisitsNext, VisitsStream};
+
+use std::alloc::Global;
+use wasm_base::{Result, WasmFeatures};
+use wasm_feed::{Ended, Feeder, Step, Turn};
+use wasm_parser::Payload;
+
+/// What is told the parts of a stream in their order.
+pub trait Visitor {
+    /// What a part makes of a visitor.
+    ghost takes: { Self → Event → Self → Type 0 };
+
+    /// A part of the stream that is not its end, and the bytes that it is. Its only error is a want of memory.
+    fn visit(&mut self, bytes: &[u8], payload: Payload<'_>) -> Result<()>
+        ensures visits { OnOk result
+            (takes self.old (part bytes.now payload.entry) self.new) }
+        ensures memory { IfErr result (λ e. fault_at e ≡ out_of_memory) };
+}
+
+// Tells a visitor a part, unless it is the end.
+fn tell<V: Visitor>(visitor: &mut V, bytes: &[u8], payload: Payload<'_>) -> Result<Turn>
+    ensures { Tells V.takes visitor.old bytes.now payload.entry result visitor.new }
+{
+    match payload {
+        Payload::End(_) => Ok(Turn::End(Ended::End)),
+        payload => {
+            visitor.visit(bytes, payload)?;
+            Ok(Turn::Advance)
+        }
+    }
+}
+
+// One step along the stream: the part that comes next is visited.
+fn visit_next<V: Visitor>(feeder: &mut Feeder, visitor: &mut V) -> Result<Turn>
+    ensures { VisitsNext V.takes feeder.old visitor.old result feeder.new visitor.new }
+{
+    match feeder.open().step()? {
+        Step::NeedMoreData(_) => Ok(Turn::Read),
+        Step::Parsed { bytes, payload } => tell(visitor, bytes, payload),
+    }
+}
+
+// Visits the parts that are held, and says whether the end is among them.
+fn visit_held<V: Visitor>(feeder: &mut Feeder, visitor: &mut V) -> Result<bool>
+    ensures { VisitsHeld V.takes feeder.old visitor.old result feeder.new visitor.new }
+{
+    'parts: loop {
+        match visit_next(feeder, visitor)? {
+            Turn::Advance => {}
+            Turn::Read => return Ok(false),
+            Turn::End(_) => return Ok(true),
+        }
+    }
+}
+
+/// Passes all parts of a stream that is cut into these chunks and begins at offset 0 to a visitor, in order, and returns how many
+/// bytes were stored at most. `fits_pieces` tests whether the chunks may be read.
+///
+/// # Errors
+///
+/// The fault at which the stream stops, after the parts before it were visited; or `OutOfMemory`, at offset 0.
+pub fn visit_pieces<V: Visitor>(
+    alloc: Global,
+    features: WasmFeatures,
+    pieces: &[&[u8]],
+    visitor: &mut V,
+) -> Result<usize>
+    requires { length (joined pieces.now) < 2 ^ 64 }
+    ensures { VisitsStream V.takes pieces.now (feature_bits features)
+        visitor.old result visitor.new }
+{
+    let mut feeder = Feeder::new(alloc, 0, features);
+    let mut most = 0;
+    'pieces: for piece in pieces {
+        feeder.push(piece)?;
+        most = feeder.stored().max(most);
+        if visit_held(&mut feeder, visitor)? {
+            return Ok(most);
+        }
+    }
+    feeder.finish();
+    visit_held(&mut feeder, visitor)?;
+    Ok(most)
+}

@@ -1,9 +1,0 @@
-use Rattle.wasm_uses.proofs.Starting.{Known}
-use Rattle.wasm_uses.proofs.streams.start_of.Given as goal
-
-abbrev pub invariant-loop-payload : goal.invariant-loop-payload
-invariant-loop-payload l = record {
-  can : goal.iterator-loop-payload.can_next l.payload-iterator;
-  finite : goal.iterator-loop-payload.is_finite l.payload-iterator;
-  known : Known l.yielded l.start;
-}
