@@ -77,7 +77,7 @@ fn show_counted_in<'a, T: FromReaderIn<'a> + Show, W: Sink>(
     }
 }
 
-// Writes all that an iterator returns, each on a line. Unlike `show_items`, it writes `OutOfMemory` too, and goes on behind it.
+// Writes all that an iterator returns, each on a line. Unlike `show_items`, it writes `OutOfMemory` too, and continues after it.
 fn show_all<I: Items, W: Sink>(mut items: I, out: &mut Tree<W>) {
     out.line(1, "section");
     for _ in 0..u64::MAX {
