@@ -3,47 +3,54 @@ use crate::customs::show_row;
 use crate::pieces::{Shown, show_pieces};
 use bitflags::Flags;
 use std::alloc::{AllocError, Global};
-use std::io::{self, Read};
-use wasm_base::{BinaryReader, Error, FromReader, FromReaderIn, WasmFeatures, fits};
+use std::io::{self, ErrorKind, Read};
+use wasm_base::{BinaryReader, Error, Fault, FromReader, FromReaderIn, WasmFeatures, fits};
 use wasm_custom::{
     Comdat, CoreDumpInstance, CoreDumpStackFrame, CoreDumpValue, RelocationEntry, SymbolInfo,
 };
-use wasm_feed::{Sink, WriteSink};
+use wasm_feed::{ListError, Sink, WriteSink};
 use wasm_items::{
     ConstExpr, Data, Element, Export, ExternalKind, Global as GlobalItem, HeapType, Import,
     ImportSection, ImportSectionReader, Imports, MemoryType, RecGroup, RefType, Table, TagType,
     TypeRef, ValType,
 };
-use wasm_show::{Show, Tree, show_fault, show_items};
+use wasm_show::{Show, Tree, show_items};
 
 /// Why the cases could not be shown.
 #[derive(Debug, Drop)]
 pub(crate) enum Failed {
     /// The input isn't cases.
     Cases,
-    /// Memory, input or output failed.
-    System,
+    /// The input or the output failed, or an allocation of this program did. An item whose allocation fails is a line instead.
+    System(ListError),
 }
 
 impl From<Error> for Failed {
-    fn from(_error: Error) -> Failed {
-        Failed::Cases
+    fn from(error: Error) -> Failed {
+        match error.fault() {
+            Fault::OutOfMemory => Failed::System(ListError::Memory),
+            _ => Failed::Cases,
+        }
     }
 }
 
 impl From<AllocError> for Failed {
     fn from(_error: AllocError) -> Failed {
-        Failed::System
+        Failed::System(ListError::Memory)
     }
 }
 
 impl From<io::Error> for Failed {
-    fn from(_error: io::Error) -> Failed {
-        Failed::System
+    fn from(error: io::Error) -> Failed {
+        match error.kind() {
+            ErrorKind::OutOfMemory => Failed::System(ListError::Memory),
+            _ => Failed::System(ListError::Input),
+        }
     }
 }
 
-/// Reads the cases, and writes the lines of each, and an empty line after them.
+/// Reads the cases, and writes the lines of each, and an empty line after them. A fault is a line in the place of its item; so is
+/// `OutOfMemory`.
 ///
 /// The input is a count, and for each case the name of a row below, a byte of features, the offset of the first byte in
 /// the stream, and the bytes after their size; numbers are in LEB128.
@@ -53,12 +60,12 @@ pub(crate) fn run(rt: &HostRuntime) -> Result<(), Failed> {
     let mut out = Tree::new(rt.alloc(), WriteSink::new(rt.stdout()));
     let shown = show_cases(rt.alloc(), &bytes, &mut out);
     out.write_out();
-    let has_stopped = out.has_stopped();
+    let stopped = out.stopped();
     drop(out.into_output());
-    if has_stopped {
-        return Err(Failed::System);
+    match stopped {
+        Some(why) => Err(Failed::System(why)),
+        None => shown,
     }
-    shown
 }
 
 fn show_cases<W: Sink>(alloc: Global, bytes: &[u8], out: &mut Tree<W>) -> Result<(), Failed> {
@@ -136,7 +143,7 @@ fn show_outcome<T: Show, W: Sink>(
             out.line(1, "used=");
             out.digits(used as u64);
         }
-        Err(e) => show_fault(1, e, out),
+        Err(e) => out.fault(1, e),
     }
 }
 
@@ -163,6 +170,6 @@ fn show_read_in<'a, T: FromReaderIn<'a> + Show, W: Sink>(
 fn show_flattened<W: Sink>(reader: BinaryReader<'_>, out: &mut Tree<W>) {
     match ImportSectionReader::new(reader) {
         Ok(section) => show_items(1, section.into_imports_with_offsets(), out),
-        Err(e) => show_fault(1, &e, out),
+        Err(e) => out.fault(1, &e),
     }
 }

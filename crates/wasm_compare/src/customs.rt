@@ -1,15 +1,17 @@
-// Custom sections that are read by the name of a row.
+// Custom sections, and lists whose items own lists, that are read by the name of a row.
 use std::alloc::Global;
-use wasm_base::{BinaryReader, FromReader, Result, SectionLimited};
+use wasm_base::{BinaryReader, FromReader, FromReaderIn, Result, SectionLimited};
 use wasm_custom::{
-    BranchHintFunction, CoreDumpInstancesSection, CoreDumpModulesSection, CoreDumpSection,
-    CoreDumpStackSection, Dylink0SectionReader, IndirectNameMap, LinkingSectionReader, NameMap,
+    BranchHintFunction, CoreDumpInstance, CoreDumpInstancesSection, CoreDumpModulesSection,
+    CoreDumpSection, CoreDumpStackFrame, CoreDumpStackSection, CustomSectionReader,
+    Dylink0SectionReader, IndirectNameMap, KnownCustom, LinkingSectionReader, NameMap,
     NameSectionReader, ProducersField, RelocSectionReader,
 };
 use wasm_feed::Sink;
-use wasm_show::{Show, Tree, show_fault, show_list};
+use wasm_items::RecGroup;
+use wasm_show::{Items, Show, Tree, show_list};
 
-/// Writes the custom section of this row, or its fault; answers whether the row is one.
+/// Writes the section or the list of this row, or its fault; answers whether the row is one.
 pub(crate) fn show_row<W: Sink>(
     alloc: Global,
     row: &str,
@@ -17,18 +19,22 @@ pub(crate) fn show_row<W: Sink>(
     out: &mut Tree<W>,
 ) -> bool {
     match row {
+        "types" => show_counted_in::<RecGroup, W>(alloc, reader, out),
         "hints" => show_counted::<BranchHintFunction<'_>, W>(reader, out),
         "producers" => show_counted::<ProducersField<'_>, W>(reader, out),
         "namemap" => show_section(NameMap::new(reader), out),
         "indirect" => show_section(IndirectNameMap::new(reader), out),
-        "names" => show_section(Ok(NameSectionReader::new(alloc, reader)), out),
-        "dylink" => show_section(Ok(Dylink0SectionReader::new(alloc, reader)), out),
+        "names" => show_all(NameSectionReader::new(alloc, reader), out),
+        "dylink" => show_all(Dylink0SectionReader::new(alloc, reader), out),
         "linking" => show_section(LinkingSectionReader::new(alloc, reader), out),
         "reloc" => show_section(RelocSectionReader::new(reader), out),
         "core" => show_section(CoreDumpSection::new(reader), out),
         "coremodules" => show_section(CoreDumpModulesSection::new(alloc, reader), out),
         "coreinstances" => show_section(CoreDumpInstancesSection::new(alloc, reader), out),
         "corestack" => show_section(CoreDumpStackSection::new(alloc, reader), out),
+        "instances" => show_counted_in::<CoreDumpInstance, W>(alloc, reader, out),
+        "frames" => show_counted_in::<CoreDumpStackFrame, W>(alloc, reader, out),
+        "known" => show_custom(alloc, reader, out),
         _ => return false,
     }
     true
@@ -41,7 +47,7 @@ fn show_section<T: Show, W: Sink>(read: Result<T>, out: &mut Tree<W>) {
             out.line(1, "section");
             section.show(1, out);
         }
-        Err(e) => show_fault(1, &e, out),
+        Err(e) => out.fault(1, &e),
     }
 }
 
@@ -55,6 +61,63 @@ fn show_counted<'a, T: FromReader<'a> + Show, W: Sink>(
             out.line(1, "section");
             show_list("items", 1, &section, out);
         }
-        Err(e) => show_fault(1, &e, out),
+        Err(e) => out.fault(1, &e),
+    }
+}
+
+// The same for items that own lists.
+fn show_counted_in<'a, T: FromReaderIn<'a> + Show, W: Sink>(
+    alloc: Global,
+    reader: BinaryReader<'a>,
+    out: &mut Tree<W>,
+) {
+    match SectionLimited::<T>::new(reader) {
+        Ok(section) => show_all(section.into_iter_in(alloc), out),
+        Err(e) => out.fault(1, &e),
+    }
+}
+
+// Writes all that an iterator returns, each on a line. Unlike `show_items`, it writes `OutOfMemory` too, and continues after it.
+fn show_all<I: Items, W: Sink>(mut items: I, out: &mut Tree<W>) {
+    out.line(1, "section");
+    for _ in 0..u64::MAX {
+        match items.next_item() {
+            Some(item) => show_one(&item, out),
+            None => break,
+        }
+    }
+}
+
+// Writes an item, or its fault.
+fn show_one<T: Show, W: Sink>(item: &Result<(u64, T)>, out: &mut Tree<W>) {
+    match item {
+        Ok((offset, item)) => {
+            out.item(2, *offset);
+            item.show(2, out);
+        }
+        Err(e) => out.fault(2, e),
+    }
+}
+
+// Writes what a custom section is known as, or its fault.
+fn show_custom<W: Sink>(alloc: Global, reader: BinaryReader<'_>, out: &mut Tree<W>) {
+    match CustomSectionReader::new(reader) {
+        Ok(section) => match section.as_known(alloc) {
+            Ok(known) => show_known(&known, out),
+            Err(e) => out.fault(1, &e),
+        },
+        Err(e) => out.fault(1, &e),
+    }
+}
+
+// Writes a section of a core dump, whose lists allocate; of any other one, whether it is known.
+fn show_known<W: Sink>(known: &KnownCustom<'_>, out: &mut Tree<W>) {
+    out.line(1, "section");
+    match known {
+        KnownCustom::CoreDumpStack(section) => section.show(1, out),
+        KnownCustom::CoreDumpInstances(section) => section.show(1, out),
+        KnownCustom::CoreDumpModules(section) => section.show(1, out),
+        KnownCustom::Unknown => out.label("known", "unknown"),
+        _ => out.label("known", "other"),
     }
 }

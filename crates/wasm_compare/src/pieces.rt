@@ -5,7 +5,7 @@ use std::alloc::{AllocError, Global};
 use std::fmt::Write;
 use std::ops::Range;
 use wasm_base::{BinaryReader, Error, WasmFeatures};
-use wasm_feed::{Event, EventKind, Feeder, Sink, Step, fits_pieces, read_pieces};
+use wasm_feed::{Event, EventKind, Feeder, ListError, Sink, Step, fits_pieces, read_pieces};
 use wasm_parser::{Encoding, Payload};
 use wasm_show::Tree;
 
@@ -40,7 +40,7 @@ fn pieces_of<'a>(alloc: Global, reader: &mut BinaryReader<'a>) -> Result<Vec<&'a
     for _ in 0..reader.read_var_u32()? {
         let piece = reader.read_reader()?.remaining_buffer();
         if pieces.push(piece).is_err() {
-            return Err(Failed::System);
+            return Err(Failed::System(ListError::Memory));
         }
     }
     Ok(pieces)

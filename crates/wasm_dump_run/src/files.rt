@@ -14,7 +14,7 @@ use std::env::Args;
 use std::fs;
 use std::io::{self, Error, Write};
 use wasm_feed::{Ended, Failed, ListError, ReadSource, Sink, WriteSink, write_all};
-use wasm_run::{complain, give_up};
+use wasm_run::{complain, give_up, is_no_text};
 use wasm_show::{ItemNames, Only, Style, Tree, collect_names};
 
 //// Files that are to be dumped, the words that choose sections of them, and what else is asked for.
@@ -66,7 +66,8 @@ fn files_after(split: Split) -> Option<Named>
     })
 }
 
-/// The files that arguments name, where these could be had.
+/// The files that arguments name. An argument that is not valid UTF-8 names none; arguments that the program could not allocate are
+/// an error.
 pub(crate) fn files_named(
     alloc: Global,
     arguments: io::Result<Args>,
@@ -81,7 +82,13 @@ pub(crate) fn files_named(
             let _name = arguments.next();
             Ok(files_after(split_words(alloc, arguments)?))
         }
-        Err(_) => Ok(None),
+        Err(error) => {
+            if is_no_text(&error) {
+                Ok(None)
+            } else {
+                Err(AllocError)
+            }
+        }
     }
 }
 

@@ -37,9 +37,15 @@ pub fn show_payload<W: Sink>(
     }
 }
 
-/// The offsets at which items begin that are shown under a payload, in the order of their lines, as far as there is memory for them.
-pub(crate) fn offsets_of_items(alloc: Global, counts: &Counts, payload: &Payload<'_>) -> Vec<u64> {
+/// The offsets at which items begin that are shown under a payload, in the order of their lines; `None` where an allocation failed.
+pub(crate) fn offsets_of_items(
+    alloc: Global,
+    counts: &Counts,
+    payload: &Payload<'_>,
+) -> Option<Vec<u64>> {
     let mut tree = Tree::noting(alloc);
     show_payload(alloc, counts, payload, &mut tree);
-    tree.into_noted(alloc)
+    let has_stopped = tree.has_stopped();
+    let noted = tree.into_noted(alloc);
+    if has_stopped { None } else { Some(noted) }
 }

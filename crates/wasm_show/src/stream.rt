@@ -35,8 +35,13 @@ fn show_bytes<W: Sink>(
     ensures { AddsBytes (if has_bytes then part.entry.bytes.now else []) out.old out.new }
 {
     if has_bytes {
-        let cuts = offsets_of_items(alloc, counts, payload);
-        out.begin_part(alloc, part.offset, part.bytes, cuts);
+        match offsets_of_items(alloc, counts, payload) {
+            Some(cuts) => out.begin_part(alloc, part.offset, part.bytes, cuts),
+            None => {
+                out.out_of_memory();
+                out.begin_part(alloc, part.offset, part.bytes, Vec::new(alloc));
+            }
+        }
     }
 }
 

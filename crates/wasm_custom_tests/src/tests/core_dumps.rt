@@ -43,7 +43,7 @@ fn values(rt: HostRuntime) -> Result<(), Fail> {
         same(&rt, parts(&value), wanted);
         same(&rt, reader.original_position(), 600 + used);
     }
-    let rows: [(&[u8], Error); 6] = [
+    let rows: [(&[u8], Error); 8] = [
         (b"\x02", Error::new(Fault::CoreValue, 600)),
         (b"", Error::new(Fault::UnexpectedEof, 600)),
         (b"\x7b\x00", Error::new(Fault::CoreValue, 600)),
@@ -51,6 +51,14 @@ fn values(rt: HostRuntime) -> Result<(), Fail> {
         (
             b"\x7f\x80\x80\x80\x80\x08",
             Error::new(Fault::NumberTooLarge(NumberKind::VarI32), 605),
+        ),
+        (
+            b"\x7e\x80\x80\x80\x80\x80\x80\x80\x80\x80\x80",
+            Error::new(Fault::NumberTooLong(NumberKind::VarI64), 610),
+        ),
+        (
+            b"\x7e\x80\x80\x80\x80\x80\x80\x80\x80\x80\x02",
+            Error::new(Fault::NumberTooLarge(NumberKind::VarI64), 610),
         ),
         (
             b"\x7c\x00\x00\x00\x00\x00\x00\x00",
@@ -149,15 +157,16 @@ fn processes_that_are_refused(rt: HostRuntime) {
 
 #[test]
 fn modules_that_are_refused(rt: HostRuntime) {
-    let rows: [(&[u8], Error); 5] = [
-        (b"\x02\x00\x01a\x01", start(CoreStart::Module, 30)),
-        (b"\x02\x00\x01a", eof(34)),
-        (b"\x00\x00", left(31)),
-        (b"\xff\xff\xff\xff\x0f", eof(35)),
-        (b"\x01\x01", start(CoreStart::Module, 30)),
+    let rows: [(&[u8], u64, Error); 6] = [
+        (b"\x02\x00\x01a\x01", 0, start(CoreStart::Module, 0)),
+        (b"\x02\x00\x01a\x01", 30, start(CoreStart::Module, 30)),
+        (b"\x02\x00\x01a", 30, eof(34)),
+        (b"\x00\x00", 30, left(31)),
+        (b"\xff\xff\xff\xff\x0f", 30, eof(35)),
+        (b"\x01\x01", 30, start(CoreStart::Module, 30)),
     ];
-    for (bytes, wanted) in rows {
-        let refused = CoreDumpModulesSection::new(rt.alloc(), window(bytes, 30)).err();
+    for (bytes, offset, wanted) in rows {
+        let refused = CoreDumpModulesSection::new(rt.alloc(), window(bytes, offset)).err();
         same(&rt, refused, Some(wanted));
     }
 }

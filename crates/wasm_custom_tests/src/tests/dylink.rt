@@ -91,6 +91,16 @@ fn lists_of_a_library(rt: HostRuntime) {
     assert!(rt; is_over(&mut all));
 }
 
+#[test]
+fn a_library_and_an_export(rt: HostRuntime) {
+    let bytes = &[2, 3, 1, 1, 0x61, 3, 4, 1, 1, 0x66, 2];
+    let mut all = Dylink0SectionReader::new(rt.alloc(), window(bytes, 0));
+    same(&rt, needed(&mut all), Some((1, "a")));
+    let local = Some((1, "f", SymbolFlags::BINDING_LOCAL));
+    same(&rt, exports(&mut all), local);
+    assert!(rt; is_over(&mut all));
+}
+
 // Each growth of a list is refused in turn: that is a want of memory each time, and never another fault.
 fn runs_out(rt: &impl Abort, alloc: Global, id: u8, bytes: &[u8; 13], least: u64) {
     let mut refused = 0;

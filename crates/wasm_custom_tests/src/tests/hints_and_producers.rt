@@ -66,6 +66,19 @@ fn hints_that_are_refused(rt: HostRuntime) {
 }
 
 #[test]
+fn a_section_with_a_malformed_hint(rt: HostRuntime) -> Result<(), Fail> {
+    let section = BranchHintSectionReader::new(window(b"\x01\x00\x01\x05\x02\x01", 0))?;
+    let mut functions = section.clone()?.into_iter_with_offsets();
+    let refused = functions.next().ok_or("no function")?.err();
+    same(&rt, refused, Some(leading(Lead::BranchHint, 2, 4)));
+    let mut functions = section.into_iter();
+    let refused = functions.next().ok_or("no function")?.err();
+    same(&rt, refused, Some(leading(Lead::BranchHint, 2, 4)));
+    assert!(rt; functions.next().is_none());
+    Ok(())
+}
+
+#[test]
 fn fields_of_producers(rt: HostRuntime) -> Result<(), Fail> {
     let bytes = b"\x01\x08language\x02\x03wat\x011\x01C\x039.0";
     let fields = ProducersSectionReader::new(window(bytes, 0))?;
@@ -95,8 +108,18 @@ fn fields_of_producers(rt: HostRuntime) -> Result<(), Fail> {
 }
 
 #[test]
+fn a_section_with_an_unknown_field(rt: HostRuntime) -> Result<(), Fail> {
+    let section = ProducersSectionReader::new(window(b"\x01\x01x\x00", 0))?;
+    let mut fields = section.into_iter();
+    let refused = fields.next().ok_or("no field")?.err();
+    same(&rt, refused, Some(Error::new(Fault::ProducersField, 1)));
+    assert!(rt; fields.next().is_none());
+    Ok(())
+}
+
+#[test]
 fn producers_that_are_refused(rt: HostRuntime) {
-    let rows: [(&[u8], u64, Error); 6] = [
+    let rows: [(&[u8], u64, Error); 7] = [
         (b"\x01x\x00", 1, Error::new(Fault::ProducersField, 1)),
         (
             b"\x84\x00sdks\xff",
@@ -106,6 +129,11 @@ fn producers_that_are_refused(rt: HostRuntime) {
         (b"\x02\xc3\x28", 3, Error::new(Fault::MalformedUtf8, 5)),
         (b"\x03sdk", 3, Error::new(Fault::UnexpectedEof, 7)),
         (b"\x03sdk\x01\x00", 3, Error::new(Fault::UnexpectedEof, 9)),
+        (
+            b"\x03sdk\x01\xa1\x8d\x06",
+            0,
+            Error::new(Fault::StringSize, 7),
+        ),
         (
             b"\x03sdk\x01\x00\xa1\x8d\x06",
             3,

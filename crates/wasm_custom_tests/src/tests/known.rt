@@ -117,6 +117,23 @@ fn runs_out(rt: &impl Abort, alloc: Global, bytes: &[u8], least: u64) -> Result<
     Ok(())
 }
 
+// The names of the modules of a core dump, if the section is known as that.
+fn modules_of<'a>(known: KnownCustom<'a>) -> Option<Vec<&'a str>> {
+    match known {
+        KnownCustom::CoreDumpModules(section) => Some(section.modules),
+        _other => None,
+    }
+}
+
+#[test]
+fn modules_of_a_core_dump(rt: HostRuntime) -> Result<(), Fail> {
+    let bytes = b"\x0bcoremodules\x01\x00\x04test";
+    let section = CustomSectionReader::new(window(bytes, 0))?;
+    let modules = modules_of(section.as_known(rt.alloc())?).ok_or("unknown")?;
+    same(&rt, modules.as_slice(), ["test"].as_slice());
+    runs_out(&rt, rt.alloc(), bytes, 1)
+}
+
 #[test]
 fn sections_whose_memory_runs_out(rt: HostRuntime) -> Result<(), Fail> {
     runs_out(

@@ -188,6 +188,17 @@ fn subsections_of_names_with_faults(rt: HostRuntime) -> std::result::Result<(), 
 }
 
 #[test]
+fn a_subsection_without_its_count(rt: HostRuntime) -> std::result::Result<(), Fail> {
+    let mut names = NameSectionReader::new(rt.alloc(), window(&[1, 0, 2, 1, 0], 0));
+    let short = Error::new(Fault::UnexpectedEof, 2);
+    same(&rt, refusal(&mut names), Some(short));
+    let mut named = locals(&mut names).ok_or("no locals")?;
+    assert!(rt; next_names(&mut named).is_none());
+    assert!(rt; is_over(&mut names));
+    Ok(())
+}
+
+#[test]
 fn nothing_is_after_the_name_of_a_module(rt: HostRuntime) {
     let trailing = &[0, 3, 1, 0x61, 0xff];
     let mut names = NameSectionReader::new(rt.alloc(), window(trailing, 0));

@@ -123,6 +123,8 @@ fn entries_that_are_refused(rt: HostRuntime) {
     for (bytes, offset, wanted) in rows {
         same(&rt, entry(bytes, offset).err(), Some(wanted));
     }
+    let refused = RelocationType::from_reader(&mut window(&[0x1b], 0)).err();
+    same(&rt, refused, Some(leading(27, 0)));
 }
 
 #[test]

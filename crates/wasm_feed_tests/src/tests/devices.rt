@@ -150,6 +150,20 @@ fn a_sink_that_fails_at_each_byte_of_a_module(rt: HostRuntime) -> Result<(), Fai
 }
 
 #[test]
+fn a_sink_that_takes_one_byte_a_call(rt: HostRuntime) -> Result<(), Fail> {
+    let mut output = Slow {
+        inner: BoundedSink::new(rt.alloc(), 100)?,
+        calls_left: BODY_LISTING.len(),
+        failed: false,
+    };
+    let ended = ends(rt.alloc(), &mut SliceSource::new(BODY), &mut output, 65_536);
+    assert_eq!(rt; ended, Ok(Ended::End));
+    assert_eq!(rt; output.inner.written(), BODY_LISTING);
+    assert_eq!(rt; output.calls_left, 0);
+    Ok(())
+}
+
+#[test]
 fn a_source_that_goes_short_changes_nothing(rt: HostRuntime) -> Result<(), Fail> {
     for step in 1..14 {
         let mut input = Failing::after(MODULE, step, 20);
@@ -201,13 +215,21 @@ fn a_reader_and_a_writer_of_the_standard_library(rt: HostRuntime) -> Result<(), 
     Ok(())
 }
 
-/// A writer that takes nothing.
+/// A writer that takes nothing at its first call and everything later, and counts its calls and bytes.
 #[derive(Drop)]
-struct Full;
+struct Stalling {
+    calls: usize,
+    taken: usize,
+}
 
-impl Write for Full {
-    fn write(&mut self, _buf: &[u8]) -> io::Result<usize> {
-        Ok(0)
+impl Write for Stalling {
+    fn write(&mut self, buf: &[u8]) -> io::Result<usize> {
+        self.calls = self.calls.saturating_add(1);
+        if self.calls == 1 {
+            return Ok(0);
+        }
+        self.taken = self.taken.saturating_add(buf.len());
+        Ok(buf.len())
     }
 
     fn flush(&mut self) -> io::Result<()> {
@@ -216,15 +238,18 @@ impl Write for Full {
 }
 
 #[test]
-fn a_writer_that_takes_nothing(rt: HostRuntime) -> Result<(), Fail> {
-    let mut input = SliceSource::new(MODULE);
-    let mut output = WriteSink::new(Full);
+fn a_writer_that_takes_nothing_at_first(rt: HostRuntime) -> Result<(), Fail> {
+    let mut writer = Stalling { calls: 0, taken: 0 };
+    let mut input = SliceSource::new(BODY);
+    let mut output = WriteSink::new(&mut writer);
     assert_eq!(rt;
         ends(rt.alloc(), &mut input, &mut output, 65_536),
         Err(ListError::Output)
     );
     assert!(rt; output.failed());
     assert_eq!(rt; output.write(b""), Ok(0));
+    drop(output);
+    assert_eq!(rt; (writer.calls, writer.taken), (2, 0));
     Ok(())
 }
 

@@ -54,6 +54,16 @@ fn headers_that_begin(rt: HostRuntime) {
 }
 
 #[test]
+fn a_stream_that_begins(rt: HostRuntime) {
+    let rows: [(&[u8], usize); 3] = [(b"", 4), (b"\0", 3), (b"\0asm", 4)];
+    for (bytes, hint) in rows {
+        same(&rt, told(&mut Parser::new(0), bytes), Answer::Asks(hint));
+    }
+    let short = Error::new(Fault::UnexpectedEof, 0);
+    same(&rt, refusal(&mut Parser::new(0), b""), Some(short));
+}
+
+#[test]
 fn sections_that_begin(rt: HostRuntime) -> Result<(), Fail> {
     let rows: [(&[u8], Answer); 19] = [
         (b"", Answer::Asks(1)),

@@ -1,0 +1,76 @@
+/* A library to preload, which makes allocations of a program fail: malloc, calloc and realloc return a null pointer at the call with the
+ * number REFUSE_CALL, and where REFUSE_LATER is set, at every later one. The calls are counted from the program's start. For each that
+ * fails, a byte is written to the file descriptor REFUSE_LOG. free is not touched.
+ */
+#define _GNU_SOURCE
+#include <dlfcn.h>
+#include <errno.h>
+#include <stdlib.h>
+#include <unistd.h>
+
+static void *(*real_malloc)(size_t);
+static void *(*real_calloc)(size_t, size_t);
+static void *(*real_realloc)(void *, size_t);
+
+static unsigned long first, calls;
+static int later, log_to, resolving;
+
+static unsigned long number(const char *name) {
+    const char *text = getenv(name);
+    return text ? strtoul(text, NULL, 10) : 0;
+}
+
+/* Finds the C library's own functions. */
+static void resolve(void) {
+    resolving = 1;
+    *(void **)&real_malloc = dlsym(RTLD_NEXT, "malloc");
+    *(void **)&real_calloc = dlsym(RTLD_NEXT, "calloc");
+    *(void **)&real_realloc = dlsym(RTLD_NEXT, "realloc");
+    resolving = 0;
+}
+
+/* Runs after the loader and the C library have allocated, and before the program does. */
+__attribute__((constructor)) static void start(void) {
+    later = number("REFUSE_LATER") != 0;
+    log_to = (int)number("REFUSE_LOG");
+    first = number("REFUSE_CALL");
+}
+
+/* Whether this call is to fail. dlsym may allocate, and does without it. */
+static int is_refused(void) {
+    if (resolving)
+        return 1;
+    if (first == 0)
+        return 0;
+    calls++;
+    if (calls < first || (calls > first && !later))
+        return 0;
+    if (write(log_to, "x", 1) != 1)
+        abort();
+    errno = ENOMEM;
+    return 1;
+}
+
+void *malloc(size_t size) {
+    if (is_refused())
+        return NULL;
+    if (!real_malloc)
+        resolve();
+    return real_malloc(size);
+}
+
+void *calloc(size_t count, size_t size) {
+    if (is_refused())
+        return NULL;
+    if (!real_calloc)
+        resolve();
+    return real_calloc(count, size);
+}
+
+void *realloc(void *old, size_t size) {
+    if (is_refused())
+        return NULL;
+    if (!real_realloc)
+        resolve();
+    return real_realloc(old, size);
+}
