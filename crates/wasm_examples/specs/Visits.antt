@@ -93,8 +93,8 @@ VisitsHeld takes old before (Ok true) new after = WhereVisited takes old before
 VisitsHeld takes old before (Err e) new after = WhereVisited takes old before
     (λ features given begun. StopsAt takes features old.eof given begun e after)
 
--- So many bytes were stored: none, or fewer than what bounds a part of which the first bytes had come, and the piece
--- that came then.
+-- A number of bytes that is 0, or less than the bound of a part of which the first bytes had come and some bytes that
+-- come next in the stream together.
 pub record Stores (features : ℕ) (stream : List ℕ) (most : ℕ) : Type 0 where
   pub given : List ℕ
   pub p : ParserState
@@ -112,8 +112,8 @@ pub record Stores (features : ℕ) (stream : List ℕ) (most : ℕ) : Type 0 whe
 abbrev pub StoresLittle : (features : ℕ) (stream : List ℕ) (most : ℕ) → Type 0
 StoresLittle features stream most = (most ≡ 0) ⊎ Stores features stream most
 
--- The visitor was told all parts of the stream that these pieces are, wherever it is cut, up to its end, and little was
--- stored at any time. Or it was told all parts before the fault at which the stream stops, or memory was refused.
+-- The visitor was told all parts of the stream that these pieces are, wherever it is cut, up to its end, and the result
+-- is such a number. Or it was told all parts before the fault at which the stream stops, or memory was refused.
 abbrev pub VisitsStream : {V : Type 0} (takes : V → Event → V → Type 0) (pieces : List (Bor (List ℕ))) (features : ℕ)
     (before : V) → Result ℕ Error → (after : V) → Type 0
 VisitsStream takes pieces features before (Ok most) after =
