@@ -25,8 +25,8 @@ pub record HandsOnBodies {C : Type 0} (compiles : C → Window → C → Type 0)
   pub reading : Reading stream 0 features (events ++ last_event end ∷ [])
   pub handed : Visits compiles before (flat_map bodies_of events) after
 
--- It was handed all bodies of the stream that these pieces are, wherever it is cut, and the result is bounded as that of
--- a visit; or those before the fault at which the stream stops; or memory was refused.
+-- It was handed all bodies of the stream that these pieces are, wherever it is cut, and the result is bounded as that
+-- of a visit; or those before the fault at which the stream stops; or memory was refused.
 abbrev pub CompilesStream : {C : Type 0} (compiles : C → Window → C → Type 0) (pieces : List (Bor (List ℕ)))
     (features : ℕ) (before : C) → Result ℕ Error → (after : C) → Type 0
 CompilesStream compiles pieces features before (Ok most) after =
