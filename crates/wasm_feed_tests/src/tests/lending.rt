@@ -206,3 +206,22 @@ fn a_fault_stays(rt: HostRuntime) -> std::result::Result<(), Fail> {
     stays(&rt, &mut feeder, malformed)?;
     Ok(())
 }
+
+// A header that ends at the top of the offsets, and a byte after it.
+#[test]
+fn past_the_top_of_the_offsets(rt: HostRuntime) -> std::result::Result<(), Fail> {
+    let start = u64::MAX - 8;
+    let mut feeder = Feeder::new(rt.alloc(), start, WasmFeatures::all());
+    assert_eq!(rt; over(&mut feeder, b"\0asm\x01\0\0\0")?.0, Told::Shows(8));
+    let past = Told::Refuses(Error::new(Fault::OffsetRange, u64::MAX));
+    for _ in 0..2 {
+        assert_eq!(rt; over(&mut feeder, b"\0")?.0, past);
+    }
+    assert_eq!(rt; say(feeder.step()), past);
+    let mut whole = Feeder::new(rt.alloc(), start, WasmFeatures::all());
+    let past = Told::Refuses(Error::new(Fault::OffsetRange, start));
+    assert_eq!(rt; over(&mut whole, b"\0asm\x01\0\0\0\0")?.0, past);
+    whole.finish();
+    assert_eq!(rt; over(&mut whole, b"")?.0, past);
+    Ok(())
+}
