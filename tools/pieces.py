@@ -1,4 +1,4 @@
-"""Streams in pieces: the cases that the program wasm_compare reads, and what a model says of them."""
+"""Streams in pieces: the cases that the program wasm_rows reads, and what a model says of them."""
 import subprocess
 
 from common import leb

@@ -1,6 +1,6 @@
 """Reads the lines that tell of items, and gives each item's text as a model writes it.
 
-`case_text(row, lines, data, offset)` reads the lines of a case of `crates/wasm_compare`; `listing_texts(lines, data)` those of a whole
+`case_text(row, lines, data, offset)` reads the lines of a case of `crates/wasm_rows`; `listing_texts(lines, data)` those of a whole
 stream, as the program `wasm_dump` writes them; `shortened(text)` gives a model's text with no more of raw bytes than the lines have.
 The models say nothing of where subsections and names begin: these offsets are compared with the bytes themselves.
 """
