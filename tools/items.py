@@ -331,11 +331,18 @@ def frame(rng):
     return byte(0)(rng) + number(rng) + number(rng) + number(rng) + some(rng, core_value) + some(rng, core_value)
 
 
+def custom_section(rng):
+    """The name and the data of a custom section that is known."""
+    title = rng.choice(list(CUSTOM))
+    return some_leb(rng, len(title)) + title.encode() + ROWS[CUSTOM[title]](rng)
+
+
 # Each row: its name, which the program and the model know, and what makes whole items of it.
 ROWS = {
     "kind": kind,
     "typeref": type_ref,
     "import": import_item,
+    "compactitem": compact_item,
     "imports": imports,
     "flatimports": import_section,
     "valtype": val_type,
@@ -352,6 +359,7 @@ ROWS = {
     "recgroup": rec_group,
     "hints": lambda rng: some(rng, function_hints),
     "producers": lambda rng: some(rng, producers_field),
+    "producersvalue": lambda rng: name(rng) + name(rng),
     "namemap": name_map,
     "indirect": indirect_map,
     "names": lambda rng: subsections(rng, NAMES),
@@ -368,6 +376,7 @@ ROWS = {
     "coremodules": lambda rng: some(rng, lambda rng: byte(0)(rng) + name(rng)),
     "coreinstances": lambda rng: some(rng, instance),
     "corestack": lambda rng: byte(0)(rng) + name(rng) + some(rng, frame),
+    "known": custom_section,
 }
 
 # The row that makes the items of each kind of section, by its id.

@@ -1,12 +1,16 @@
-"""Streams in pieces: the cases that the program wasm_compare reads, and what a model says of them."""
-import subprocess
-
+"""Streams in pieces: the cases that the program wasm_rows reads, and what a model says of them."""
+import rows
 from common import leb
 
 
-def case(row, offset, pieces):
-    data = leb(len(pieces)) + b"".join(leb(len(piece)) + piece for piece in pieces)
-    return leb(len(row)) + row.encode() + b"\3" + leb(offset) + leb(len(data)) + data
+def joined(pieces):
+    """The bytes of a row of pieces: their count, and each after its size."""
+    return leb(len(pieces)) + b"".join(leb(len(piece)) + piece for piece in pieces)
+
+
+def case(reader, offset, pieces):
+    """The row of a stream in pieces."""
+    return rows.row_line(reader, joined(pieces), offset)
 
 
 # ---- what the model says
@@ -80,9 +84,8 @@ def with_empty(rng, pieces):
 
 
 def run(program, cases):
-    """What it says of each case; an empty line is after each."""
-    done = subprocess.run([program], input=leb(len(cases)) + b"".join(cases), stdout=subprocess.PIPE, check=True)
-    return done.stdout.decode().split("\n")[::2]
+    """The line that it writes of each case."""
+    return [" / ".join(line[2:] for line in lines) for lines in rows.run(program, cases)]
 
 
 def said_of(line):

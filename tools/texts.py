@@ -1,7 +1,7 @@
 """Reads the lines that tell of items, and gives each item's text as a model writes it.
 
-`case_text(row, lines, data, offset)` reads the lines of a case of `crates/wasm_compare`; `listing_texts(lines, data)` those of a whole
-stream, as the program `wasm_dump` writes them; `shortened(text)` gives a model's text with no more of raw bytes than the lines have.
+`case_text(row, lines, data, offset)` reads the result of a row of `crates/wasm_rows`, and `said_text` and `expected_text` give its text
+and the model's, to be compared; `listing_texts(lines, data)` reads the lines of a whole stream, as the program `wasm_dump` writes them; `shortened(text)` gives a model's text with no more of raw bytes than the lines have.
 The models say nothing of where subsections and names begin: these offsets are compared with the bytes themselves.
 """
 import re
@@ -382,8 +382,12 @@ def function_hints(node):
     return "function(%s %s )" % (node["func"], listed(node, "hints", lambda one: "hint(%s %s )" % (one["func_offset"], one["taken"])))
 
 
+def producers_value(node):
+    return "value(%s %s )" % (node["name"], node["version"])
+
+
 def producers_field(node):
-    return "field(%s %s )" % (node["name"], listed(node, "values", lambda one: "value(%s %s )" % (one["name"], one["version"])))
+    return "field(%s %s )" % (node["name"], listed(node, "values", producers_value))
 
 
 def listed_word(node, word, item):
@@ -574,6 +578,7 @@ ITEMS = {
     "kind": lambda node: node["kind"].replace("_", ""),
     "typeref": type_ref,
     "import": import_item,
+    "compactitem": compact_item,
     "imports": imports,
     "valtype": type_of,
     "reftype": type_of,
@@ -593,6 +598,7 @@ ITEMS = {
     "corevalue": core_value,
     "instance": instance,
     "frame": frame,
+    "producersvalue": producers_value,
     "index": lambda node: node["index"],
 }
 
@@ -630,12 +636,31 @@ def case_text(row, lines, data, offset):
     if nodes[0].text.startswith("fault "):
         assert len(nodes) == 1 and not nodes[0].under
         return nodes[0].text
+    if row == "known":
+        assert len(nodes) == 1
+        size, start = number_at(data, 0)
+        return custom_text(nodes[0], data[start + size :], offset + start + size)
     if row in CUSTOM:
         assert len(nodes) == 1
         check_places(row, nodes[0], data, offset)
         return CUSTOM[row](nodes[0])
     assert len(nodes) == 2
     return "%s used %s" % (ITEMS[row](nodes[0]), nodes[1]["used"])
+
+
+def said_text(case, lines):
+    """The text of the result of a case, which is a reader, bytes, their offset and features; of lines that can't be read, themselves."""
+    row, data, offset, _ = case
+    try:
+        return case_text(row, lines, data, offset)
+    except (AssertionError, LookupError, ValueError, StopIteration) as error:
+        return "%s: %s" % (type(error).__name__, " / ".join(lines))
+
+
+def expected_text(outcome, case):
+    """What the model says of a case."""
+    # Imports have a blank after each.
+    return shortened(outcome(*case)).rstrip(" ")
 
 
 # ---- streams

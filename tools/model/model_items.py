@@ -587,11 +587,12 @@ def hints(r):
     return listed(r, one)
 
 
-def producers(r):
-    def value(q):
-        n = text(q)
-        return "value(%s %s )" % (n, text(q))
+def producers_value(r):
+    n = text(r)
+    return "value(%s %s )" % (n, text(r))
 
+
+def producers(r):
     def skip(q):
         q.skip_string()
         q.skip_string()
@@ -601,7 +602,7 @@ def producers(r):
         n = q.string(False)
         if n not in (b"language", b"sdk", b"processed-by"):
             raise Bad(at, "invalid producers field name")
-        return "field(%s %s )" % (x(n), counted(q, value, skip))
+        return "field(%s %s )" % (x(n), counted(q, producers_value, skip))
     return listed(r, one)
 
 
@@ -763,15 +764,33 @@ def corestack(r):
     return finish(r, n + " " + owned(r, frame))
 
 
+KNOWN = {"name": names, "metadata.code.branch_hint": hints, "producers": producers, "dylink.0": dylink, "core": core,
+         "coremodules": coremodules, "coreinstances": coreinstances, "corestack": corestack, "linking": linking}
+
+
+def known(n, r):
+    """What a custom section of this name says, if it is known."""
+    f = KNOWN.get(n, reloc if n.startswith("reloc.") else None)
+    try:
+        return f(r) if f else "unknown"
+    except Bad:
+        return "unknown"
+
+
+def custom(r):
+    n = r.string(True)
+    return "%s %s" % (x(n), known(n.decode(), r.window(r.p, r.e)))
+
+
 ITEMS = {"bool": boolean, "u32": u32, "string": name, "kind": kind, "typeref": typeref, "import": imp,
          "imports": imports_group, "valtype": valtype, "reftype": reftype, "heaptype": heaptype, "recgroup": recgroup,
          "table": table, "memory": memory, "tag": tag, "global": globl, "export": export, "element": element, "data": data,
          "constexpr": constexpr, "symbol": symbol, "comdat": comdat, "relocation": relocation, "corevalue": corevalue,
-         "instance": instance, "frame": frame}
+         "instance": instance, "frame": frame, "compactitem": compact, "producersvalue": producers_value}
 SECTIONS = {"bools": lambda r: listed(r, boolean), "u32s": lambda r: listed(r, u32), "strings": lambda r: listed(r, name),
             "flatimports": flatimports, "namemap": namemap, "indirect": indirect, "names": names, "dylink": dylink,
             "hints": hints, "producers": producers, "linking": linking, "reloc": reloc, "core": core,
-            "coremodules": coremodules, "coreinstances": coreinstances, "corestack": corestack}
+            "coremodules": coremodules, "coreinstances": coreinstances, "corestack": corestack, "known": custom}
 
 
 def outcome(reader, b, o=0, feats=3):
@@ -883,17 +902,6 @@ def rows():
 
 
 SECTION_ITEMS = {1: recgroup, 3: u32, 4: table, 5: memory, 6: globl, 7: export, 9: element, 11: data, 13: tag}
-KNOWN = {"name": names, "metadata.code.branch_hint": hints, "producers": producers, "dylink.0": dylink, "core": core,
-         "coremodules": coremodules, "coreinstances": coreinstances, "corestack": corestack, "linking": linking}
-
-
-def known(n, r):
-    """What a custom section of this name says, if it is known."""
-    f = KNOWN.get(n, reloc if n.startswith("reloc.") else None)
-    try:
-        return f(r) if f else "unknown"
-    except Bad:
-        return "unknown"
 
 
 def listing(s, feats=3):

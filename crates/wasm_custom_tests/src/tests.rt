@@ -1,13 +1,11 @@
-// Custom sections on worked bytes.
+// Custom sections by the calls that read them. Tables of rows are in `wasm_rows`.
 ghost use Rattle.std.specs.Prelude.{◌+◌, ◌<◌, ◌^◌, length};
 
-mod core_dumps;
 mod dylink;
-mod hints_and_producers;
-mod known;
 mod linking;
+mod memory;
 mod names;
-mod relocations;
+mod sections;
 
 use std::fmt::Debug;
 use std::process::Abort;
@@ -53,23 +51,6 @@ fn a_section_with_a_name_and_data(rt: HostRuntime) -> Result<(), Fail> {
     same(&rt, data.features(), WasmFeatures::MEMORY64);
     same(&rt, data.read_u8(), Ok(0));
     same(&rt, data.original_position(), 1006);
-    Ok(())
-}
-
-#[test]
-fn faults_of_the_name(rt: HostRuntime) -> Result<(), Fail> {
-    let rows: [(&[u8], Fault, u64); 6] = [
-        (b"", Fault::UnexpectedEof, 10),
-        (b"\x01", Fault::UnexpectedEof, 11),
-        (b"\xa0\x8d\x06", Fault::UnexpectedEof, 13),
-        (b"\xa1\x8d\x06", Fault::StringSize, 12),
-        (b"\x02\xc3\x28", Fault::MalformedUtf8, 12),
-        (b"\x80\x80\x80\x80", Fault::UnexpectedEof, 14),
-    ];
-    for (bytes, fault, offset) in rows {
-        let refused = CustomSectionReader::new(BinaryReader::new(bytes, 10)).err();
-        same(&rt, refused, Some(Error::new(fault, offset)));
-    }
     Ok(())
 }
 

@@ -1,17 +1,10 @@
-// Items as values.
-mod aliases;
-mod expressions;
-mod groups;
+// Items by the calls that read them, and as values. Tables of rows are in `wasm_rows`.
 mod imports;
-mod indices;
 mod instructions;
-mod lines;
-mod reading;
+mod items;
 mod sections;
 mod segments;
-mod types;
 mod values;
-mod windows;
 
 use std::fmt::Debug;
 use std::process::Abort;

@@ -1,12 +1,10 @@
-// What dynamic linkers read, on worked bytes.
+// What dynamic linkers read, by the calls that read it. Tables of rows are in `wasm_rows`.
 use super::{same, window};
 use std::alloc::Global;
 use std::ops::Range;
-use std::process::Abort;
 use std::test::Fail;
 use wasm_base::{BinaryReader, Error, Fault, Subsection};
 use wasm_custom::{Dylink0SectionReader, Dylink0Subsection, SymbolFlags};
-use wasm_test_heap::Sparing;
 
 // The sizes and alignments of memory and table, if they come next.
 fn sizes(all: &mut Dylink0SectionReader<'_>) -> Option<[u32; 4]> {
@@ -65,94 +63,20 @@ fn is_over(all: &mut Dylink0SectionReader<'_>) -> bool {
 
 #[test]
 fn what_a_library_needs(rt: HostRuntime) {
-    let bytes = &[1, 5, 0x10, 2, 1, 0, 0xff];
-    let mut all = Dylink0SectionReader::new(rt.alloc(), window(bytes, 0));
-    same(&rt, sizes(&mut all), Some([16, 2, 1, 0]));
-    for _ in 0..4 {
-        assert!(rt; is_over(&mut all));
-    }
-}
-
-#[test]
-fn lists_of_a_library(rt: HostRuntime) {
     let bytes = &[
-        2, 3, 1, 1, 0x61, 3, 4, 1, 1, 0x66, 2, 4, 6, 1, 1, 0x6d, 0, 0x90, 0, 5, 1, 2, 6, 1, 9,
+        1, 5, 0x10, 2, 1, 0, 0xff, 2, 3, 1, 1, 0x61, 3, 4, 1, 1, 0x66, 2, 4, 6, 1, 1, 0x6d, 0,
+        0x90, 0, 5, 1, 2,
     ];
     let mut all = Dylink0SectionReader::new(rt.alloc(), window(bytes, 100));
+    same(&rt, sizes(&mut all), Some([16, 2, 1, 0]));
     same(&rt, needed(&mut all), Some((1, "a")));
     let local = Some((1, "f", SymbolFlags::BINDING_LOCAL));
     same(&rt, exports(&mut all), local);
     let undefined = Some((1, ("m", ""), SymbolFlags::UNDEFINED));
     same(&rt, imports(&mut all), undefined);
-    for offset in [122, 125] {
-        let short = Error::new(Fault::UnexpectedEof, offset);
-        same(&rt, refusal(&mut all), Some(short));
-    }
-    assert!(rt; is_over(&mut all));
-}
-
-#[test]
-fn a_library_and_an_export(rt: HostRuntime) {
-    let bytes = &[2, 3, 1, 1, 0x61, 3, 4, 1, 1, 0x66, 2];
-    let mut all = Dylink0SectionReader::new(rt.alloc(), window(bytes, 0));
-    same(&rt, needed(&mut all), Some((1, "a")));
-    let local = Some((1, "f", SymbolFlags::BINDING_LOCAL));
-    same(&rt, exports(&mut all), local);
-    assert!(rt; is_over(&mut all));
-}
-
-// Each growth of a list is refused in turn: that is a want of memory each time, and never another fault.
-fn runs_out(rt: &impl Abort, alloc: Global, id: u8, bytes: &[u8; 13], least: u64) {
-    let mut refused = 0;
-    for blocks in 0..9 {
-        let heap = Sparing::new(alloc, blocks);
-        match Dylink0Subsection::from_reader_in(&heap, id, window(bytes, 8)) {
-            Ok(_) => {
-                refused = blocks;
-                break;
-            }
-            Err(e) => assert_eq!(rt; e, Error::new(Fault::OutOfMemory, 0), "{blocks}"),
-        }
-    }
-    assert!(rt; refused >= least, "{refused}");
-}
-
-#[test]
-fn lists_whose_memory_runs_out(rt: HostRuntime) -> Result<(), Fail> {
-    let zeros = &[12, 0, 0, 0, 0, 0, 0, 0, 0, 0, 0, 0, 0];
-    runs_out(&rt, rt.alloc(), 2, zeros, 2);
-    runs_out(&rt, rt.alloc(), 5, zeros, 2);
-    runs_out(
-        &rt,
-        rt.alloc(),
-        3,
-        &[6, 0, 0, 0, 0, 0, 0, 0, 0, 0, 0, 0, 0],
-        2,
-    );
-    runs_out(
-        &rt,
-        rt.alloc(),
-        4,
-        &[4, 0, 0, 0, 0, 0, 0, 0, 0, 0, 0, 0, 0],
-        1,
-    );
-    Ok(())
-}
-
-#[test]
-fn texts_of_any_length(rt: HostRuntime) {
-    let rows: [(&[u8], u64); 6] = [
-        (b"\x02\x04\x01\xa1\x8d\x06", 56),
-        (b"\x05\x04\x01\xa1\x8d\x06", 56),
-        (b"\x03\x04\x01\xa1\x8d\x06", 56),
-        (b"\x04\x04\x01\xa1\x8d\x06", 56),
-        (b"\x04\x05\x01\0\xa1\x8d\x06", 57),
-        (b"\x06\x03\xa1\x8d\x06", 55),
-    ];
-    for (bytes, offset) in rows {
-        let mut all = Dylink0SectionReader::new(rt.alloc(), window(bytes, 50));
-        let short = Error::new(Fault::UnexpectedEof, offset);
-        same(&rt, refusal(&mut all), Some(short));
+    let short = Error::new(Fault::UnexpectedEof, 129);
+    same(&rt, refusal(&mut all), Some(short));
+    for _ in 0..4 {
         assert!(rt; is_over(&mut all));
     }
 }

@@ -1,91 +1,53 @@
-// What linkers read, on worked bytes.
+// Symbols, comdats, subsections for linkers, and relocations by the calls that read them. Tables of rows are in `wasm_rows`.
 use super::{same, window};
 use bitflags::Flags;
 use std::alloc::Global;
-use std::fmt::Debug;
 use std::ops::Range;
-use std::process::Abort;
 use std::test::Fail;
 use wasm_base::{
     BinaryReader, Error, Fault, FromReader, Lead, Result, SectionLimitedIntoIterWithOffsets,
-    Subsection, fits,
+    Subsection,
 };
 use wasm_custom::{
     Comdat, ComdatSymbol, ComdatSymbolKind, DefinedDataSymbol, Linking, LinkingIntoIter,
-    LinkingSectionReader, Segment, SegmentFlags, SymbolFlags, SymbolInfo,
+    LinkingSectionReader, RelocAddendKind, RelocSectionReader, RelocationEntry, RelocationType,
+    SegmentFlags, SymbolFlags, SymbolInfo,
 };
 
-// The bytes of each row are read as its text, and so many are used; or its fault is answered.
-fn reads<'a, T: FromReader<'a> + Debug>(
-    rt: &impl Abort,
-    alloc: std::alloc::Global,
-    offset: u64,
-    rows: &[(&'a [u8], std::result::Result<(&str, u64), Error>)],
-) -> std::result::Result<(), Fail> {
-    for (bytes, wanted) in rows {
-        assert!(rt; fits(offset, bytes.len()));
-        let mut reader = window(bytes, offset);
-        match (T::from_reader(&mut reader), wanted) {
-            (Ok(item), Ok((text, after))) => {
-                let read = format!(in alloc; "{item:?}")?;
-                same(&rt, read.as_str(), *text);
-                same(&rt, reader.original_position(), *after);
-            }
-            (Err(error), Err(fault)) => same(&rt, error, *fault),
-            _ => return Err("another outcome".into()),
-        }
-    }
-    Ok(())
-}
-
-fn fault(fault: Fault, offset: u64) -> Error {
-    Error::new(fault, offset)
-}
-
-fn leading(lead: Lead, byte: u64, offset: u64) -> Error {
-    Error::new(Fault::LeadingByte(lead), offset).with_number(byte)
-}
-
 #[test]
-fn symbols_with_an_index(rt: HostRuntime) -> std::result::Result<(), Fail> {
-    let rows: &[(&[u8], _)] = &[
+fn symbols_as_debug_text(rt: HostRuntime) -> std::result::Result<(), Fail> {
+    let rows: [(&[u8], &str); 6] = [
         (
             b"\x00\x10\x03",
-            Ok(("Func { flags: SymbolFlags(16), index: 3, name: None }", 3)),
+            "Func { flags: SymbolFlags(16), index: 3, name: None }",
         ),
         (
             b"\x00\x50\x03\x01f",
-            Ok((
-                "Func { flags: SymbolFlags(80), index: 3, name: Some(\"f\") }",
-                5,
-            )),
+            "Func { flags: SymbolFlags(80), index: 3, name: Some(\"f\") }",
         ),
         (
             b"\x02\x00\x80\x01\x00",
-            Ok((
-                "Global { flags: SymbolFlags(0), index: 128, name: Some(\"\") }",
-                5,
-            )),
+            "Global { flags: SymbolFlags(0), index: 128, name: Some(\"\") }",
         ),
         (
             b"\x04\x90\x80\x00\x07",
-            Ok(("Event { flags: SymbolFlags(16), index: 7, name: None }", 5)),
+            "Event { flags: SymbolFlags(16), index: 7, name: None }",
         ),
         (
             b"\x05\xff\xff\xff\xff\x0f\x00\x01t",
-            Ok((
-                "Table { flags: SymbolFlags(4294967295), index: 0, name: Some(\"t\") }",
-                9,
-            )),
+            "Table { flags: SymbolFlags(4294967295), index: 0, name: Some(\"t\") }",
         ),
         (
-            b"\x00\x00\x03\x02\xc3\x28",
-            Err(fault(Fault::MalformedUtf8, 5)),
+            b"\x01\x50\x01\x64",
+            "Data { flags: SymbolFlags(80), name: \"d\", symbol: None }",
         ),
-        (b"\x06\x00", Err(leading(Lead::Symbol, 6, 0))),
-        (b"\x06\x80", Err(fault(Fault::UnexpectedEof, 2))),
     ];
-    reads::<SymbolInfo<'_>>(&rt, rt.alloc(), 0, rows)
+    for (bytes, wanted) in rows {
+        let symbol = SymbolInfo::from_reader(&mut window(bytes, 0))?;
+        let text = format!(in rt.alloc(); "{symbol:?}")?;
+        same(&rt, text.as_str(), wanted);
+    }
+    Ok(())
 }
 
 #[test]
@@ -138,6 +100,28 @@ fn next_symbol(
     }
 }
 
+#[test]
+fn comdats_and_their_symbols(rt: HostRuntime) -> std::result::Result<(), Fail> {
+    let bytes = b"\x01c\x80\x01\x82\x00\x01\x05\x04\x80\x01\xff";
+    let mut reader = window(bytes, 900);
+    let comdat = Comdat::from_reader(&mut reader)?;
+    same(&rt, comdat.name, "c");
+    same(&rt, comdat.flags, 128);
+    same(&rt, comdat.symbols.range(), 904..911);
+    same(&rt, reader.original_position(), 911);
+    let mut symbols = comdat.symbols.into_iter_with_offsets();
+    let (offset, kind, index) = next_symbol(&mut symbols).ok_or("none")??;
+    same(&rt, offset, 906);
+    assert!(rt; kind == ComdatSymbolKind::Func);
+    same(&rt, index, 5);
+    let (offset, kind, index) = next_symbol(&mut symbols).ok_or("none")??;
+    same(&rt, offset, 908);
+    assert!(rt; kind == ComdatSymbolKind::Table);
+    same(&rt, index, 128);
+    assert!(rt; next_symbol(&mut symbols).is_none());
+    Ok(())
+}
+
 // The first function of the first subsection: its priority and its index.
 fn first_function(section: &LinkingSectionReader<'_>) -> Option<(u32, u32)> {
     match section.subsections().next()? {
@@ -147,6 +131,17 @@ fn first_function(section: &LinkingSectionReader<'_>) -> Option<(u32, u32)> {
         }
         _other => None,
     }
+}
+
+#[test]
+fn sections_for_linkers(rt: HostRuntime) -> std::result::Result<(), Fail> {
+    let bytes = b"\x02\x06\x03\x01\x05\x07";
+    let section = LinkingSectionReader::new(rt.alloc(), window(bytes, 0))?;
+    same(&rt, section.version(), 2);
+    same(&rt, section.original_position(), 1);
+    same(&rt, section.range(), 0..6);
+    same(&rt, first_function(&section), Some((5, 7)));
+    Ok(())
 }
 
 // The name of the architecture, if it comes next.
@@ -185,44 +180,6 @@ fn unknown<'a>(subsections: &mut LinkingIntoIter<'a>) -> Option<(u8, &'a [u8], R
 }
 
 #[test]
-fn comdats_and_their_symbols(rt: HostRuntime) -> std::result::Result<(), Fail> {
-    let bytes = b"\x01c\x80\x01\x82\x00\x01\x05\x04\x80\x01\xff";
-    let mut reader = window(bytes, 900);
-    let comdat = Comdat::from_reader(&mut reader)?;
-    same(&rt, comdat.name, "c");
-    same(&rt, comdat.flags, 128);
-    same(&rt, comdat.symbols.range(), 904..911);
-    same(&rt, reader.original_position(), 911);
-    let mut symbols = comdat.symbols.into_iter_with_offsets();
-    let (offset, kind, index) = next_symbol(&mut symbols).ok_or("none")??;
-    same(&rt, offset, 906);
-    assert!(rt; kind == ComdatSymbolKind::Func);
-    same(&rt, index, 5);
-    let (offset, kind, index) = next_symbol(&mut symbols).ok_or("none")??;
-    same(&rt, offset, 908);
-    assert!(rt; kind == ComdatSymbolKind::Table);
-    same(&rt, index, 128);
-    assert!(rt; next_symbol(&mut symbols).is_none());
-    let refused = Comdat::from_reader(&mut window(b"\x00\x00\x02\x00\x00\x06\x00", 40));
-    same(&rt, refused.err(), Some(leading(Lead::ComdatSymbol, 6, 45)));
-    Ok(())
-}
-
-#[test]
-fn sections_for_linkers(rt: HostRuntime) -> std::result::Result<(), Fail> {
-    let bytes = b"\x02\x06\x03\x01\x05\x07";
-    let section = LinkingSectionReader::new(rt.alloc(), window(bytes, 0))?;
-    same(&rt, section.version(), 2);
-    same(&rt, section.original_position(), 1);
-    same(&rt, section.range(), 0..6);
-    same(&rt, first_function(&section), Some((5, 7)));
-    let refused = LinkingSectionReader::new(rt.alloc(), window(b"\x03", 0)).err();
-    let version = Error::new(Fault::LinkingVersion, 0).with_number(3);
-    same(&rt, refused, Some(version));
-    Ok(())
-}
-
-#[test]
 fn subsections_for_linkers(rt: HostRuntime) -> std::result::Result<(), Fail> {
     let bytes = b"\x82\x00\x09\x04\x01w\xff\xff\x05\x05\x01\x01s\x03\x03\x63\x81\x00\x07\x07\x00";
     let section = LinkingSectionReader::new(rt.alloc(), window(bytes, 2000))?;
@@ -234,48 +191,11 @@ fn subsections_for_linkers(rt: HostRuntime) -> std::result::Result<(), Fail> {
     let one = Some((99, b"\x07".as_slice(), 2018..2019));
     same(&rt, unknown(&mut subsections), one);
     let refused = subsections.next().ok_or("none")?.err();
-    same(&rt, refused, Some(fault(Fault::UnexpectedEof, 2021)));
+    same(&rt, refused, Some(Error::new(Fault::UnexpectedEof, 2021)));
+    for _ in 0..4 {
+        assert!(rt; subsections.next().is_none());
+    }
     Ok(())
-}
-
-// What one call says of texts of 100,001 bytes, of which none is there.
-fn refused_text(
-    bytes: &[u8],
-    offset: u64,
-) -> (&[u8], std::result::Result<(&'static str, u64), Error>) {
-    (bytes, Err(fault(Fault::UnexpectedEof, offset)))
-}
-
-#[test]
-fn texts_of_any_length(rt: HostRuntime) -> std::result::Result<(), Fail> {
-    let name = [refused_text(b"\xa1\x8d\x06", 53)];
-    reads::<Segment<'_>>(&rt, rt.alloc(), 50, &name)?;
-    reads::<Comdat<'_>>(&rt, rt.alloc(), 50, &name)?;
-    let rows = [
-        refused_text(b"\0\0\0\xa1\x8d\x06", 56),
-        refused_text(b"\x02\0\0\xa1\x8d\x06", 56),
-        refused_text(b"\x04\0\0\xa1\x8d\x06", 56),
-        refused_text(b"\x05\0\0\xa1\x8d\x06", 56),
-        refused_text(b"\x01\0\xa1\x8d\x06", 55),
-    ];
-    reads::<SymbolInfo<'_>>(&rt, rt.alloc(), 50, &rows)
-}
-
-#[test]
-fn an_architecture_one_byte_too_long(rt: HostRuntime) -> std::result::Result<(), Fail> {
-    let bytes = window(b"\x02\x09\x03\xa1\x8d\x06", 50);
-    let mut subsections = LinkingSectionReader::new(rt.alloc(), bytes)?.into_iter();
-    let refused = subsections.next().ok_or("none")?.err();
-    same(&rt, refused, Some(fault(Fault::StringSize, 55)));
-    assert!(rt; subsections.next().is_none());
-    Ok(())
-}
-
-#[test]
-fn undefined_data_with_an_explicit_name(rt: HostRuntime) -> std::result::Result<(), Fail> {
-    let text = "Data { flags: SymbolFlags(80), name: \"d\", symbol: None }";
-    let rows: &[(&[u8], _)] = &[(b"\x01\x50\x01\x64", Ok((text, 4)))];
-    reads::<SymbolInfo<'_>>(&rt, rt.alloc(), 0, rows)
 }
 
 #[test]
@@ -324,5 +244,73 @@ fn an_unknown_subsection_that_was_begun(rt: HostRuntime) -> std::result::Result<
     reader.read_bytes(2)?;
     let rest = Some((99, b"\x07\x06\x05".as_slice(), 502..505));
     same(&rt, unknown_at(rt.alloc(), 99, reader), rest);
+    Ok(())
+}
+
+fn relocation(ty: RelocationType, offset: u32, index: u32, addend: i64) -> RelocationEntry {
+    RelocationEntry {
+        ty,
+        offset,
+        index,
+        addend,
+    }
+}
+
+#[test]
+fn types_by_number(rt: HostRuntime) {
+    let extents = [
+        5, 5, 4, 5, 5, 4, 5, 5, 4, 4, 5, 5, 5, 4, 10, 10, 8, 10, 10, 8, 5, 5, 8, 4, 10, 10, 4,
+    ];
+    let with_32 = [3, 4, 5, 8, 9, 11, 21, 23];
+    let with_64 = [14, 15, 16, 17, 22, 25];
+    for number in 0..=255_u8 {
+        match RelocationType::try_from(number) {
+            Ok(ty) => {
+                assert!(rt; number <= 26);
+                same(&rt, ty as u8, number);
+                same(&rt, ty.extent(), extents[usize::from(number)]);
+                let kind = if with_32.contains(&number) {
+                    RelocAddendKind::Addend32
+                } else if with_64.contains(&number) {
+                    RelocAddendKind::Addend64
+                } else {
+                    RelocAddendKind::None
+                };
+                same(&rt, ty.addend_kind(), kind);
+            }
+            Err(()) => assert!(rt; number > 26),
+        }
+    }
+}
+
+#[test]
+fn a_section_of_relocations(rt: HostRuntime) -> std::result::Result<(), Fail> {
+    let bytes = b"\x03\x01\x03\x06\x00\x7f";
+    let section = RelocSectionReader::new(window(bytes, 0))?;
+    same(&rt, section.section_index(), 3);
+    same(&rt, section.range(), 0..6);
+    same(&rt, section.entries().range(), 1..6);
+    let mut entries = section.clone()?.entries().into_iter();
+    let one = relocation(RelocationType::MemoryAddrLeb, 6, 0, -1);
+    same(&rt, entries.next(), Some(Ok(one)));
+    same(&rt, one.relocation_range(), Ok(6..11));
+    same(&rt, entries.next(), None);
+    let last = relocation(RelocationType::FunctionIndexLeb, 4294967292, 0, 0);
+    same(&rt, last.relocation_range(), Ok(4294967292..4294967297));
+
+    let bytes = b"\x85\x00\x81\x00\x05\x01\x02\x03\xff";
+    let section = RelocSectionReader::new(window(bytes, 70000))?;
+    same(&rt, section.section_index(), 5);
+    same(&rt, section.range(), 70000..70009);
+    same(&rt, section.entries().range(), 70002..70009);
+    let mut entries = section.entries().into_iter_with_offsets();
+    let one = relocation(RelocationType::MemoryAddrI32, 1, 2, 3);
+    same(&rt, entries.next(), Some(Ok((70004, one))));
+    let left = Error::new(Fault::SizeMismatch, 70008);
+    same(&rt, entries.next(), Some(Err(left)));
+    same(&rt, entries.next(), None);
+    let refused = RelocationType::from_reader(&mut window(&[0x1b], 0)).err();
+    let leading = Error::new(Fault::LeadingByte(Lead::Reloc), 0).with_number(27);
+    same(&rt, refused, Some(leading));
     Ok(())
 }

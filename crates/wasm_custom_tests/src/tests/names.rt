@@ -1,4 +1,4 @@
-// Names on worked bytes.
+// Names by the calls that read them. Tables of rows are in `wasm_rows`.
 ghost use Rattle.std.specs.Prelude.{◌+◌, ◌<◌, ◌^◌, length};
 
 use super::{same, window};
@@ -6,7 +6,7 @@ use std::alloc::Global;
 use std::ops::Range;
 use std::process::Abort;
 use std::test::Fail;
-use wasm_base::{BinaryReader, Error, Fault, NumberKind, Result, Subsection};
+use wasm_base::{BinaryReader, Error, Fault, Result, Subsection};
 use wasm_custom::{IndirectNameMap, Name, NameMap, NameSectionReader};
 
 fn map<'a>(bytes: &'a [u8], offset: u64) -> Result<NameMap<'a>>
@@ -43,22 +43,6 @@ fn module<'a>(names: &mut NameSectionReader<'a>) -> Option<(&'a str, Range<u64>)
 fn functions<'a>(names: &mut NameSectionReader<'a>) -> Option<NameMap<'a>> {
     match names.next()? {
         Ok(Name::Function(functions)) => Some(functions),
-        _other => None,
-    }
-}
-
-// The names of locals, if they come next.
-fn locals<'a>(names: &mut NameSectionReader<'a>) -> Option<IndirectNameMap<'a>> {
-    match names.next()? {
-        Ok(Name::Local(locals)) => Some(locals),
-        _other => None,
-    }
-}
-
-// The names of types, if they come next.
-fn types<'a>(names: &mut NameSectionReader<'a>) -> Option<NameMap<'a>> {
-    match names.next()? {
-        Ok(Name::Types(types)) => Some(types),
         _other => None,
     }
 }
@@ -101,31 +85,19 @@ fn gives_names(rt: &impl Abort, mut names: NameMap<'_>, wanted: &[Result<(u32, &
 #[test]
 fn names_by_index(rt: HostRuntime) -> std::result::Result<(), Fail> {
     let order = |offset: u64| Err(Error::new(Fault::NamesOrder, offset));
-    let bytes = &[3, 5, 1, 0x61, 3, 1, 0x62, 4, 1, 0x63];
-    gives_names(&rt, map(bytes, 0)?, &[Ok((5, "a")), order(4), order(7)]);
     let bytes = &[4, 0x80, 1, 1, 0x61, 0x80, 1, 0, 0x81, 1, 0, 3, 0, 9];
-    let left = Err(Error::new(Fault::SizeMismatch, 1013));
+    let trailing = Err(Error::new(Fault::SizeMismatch, 1013));
     let wanted = &[
         Ok((128, "a")),
         order(1005),
         Ok((129, "")),
         order(1011),
-        left,
+        trailing,
     ];
     gives_names(&rt, map(bytes, 1000)?, wanted);
-    let bytes = &[3, 0, 0, 1, 2, 0xc3, 0x28, 2, 0];
     let text = Err(Error::new(Fault::MalformedUtf8, 76));
+    let bytes = &[3, 0, 0, 1, 2, 0xc3, 0x28, 2, 0];
     gives_names(&rt, map(bytes, 70)?, &[Ok((0, "")), text]);
-    gives_names(&rt, map(&[0x80, 0], 70)?, &[]);
-    let most = &[0xff, 0xff, 0xff, 0xff, 0x0f];
-    gives_names(
-        &rt,
-        map(most, 0)?,
-        &[Err(Error::new(Fault::UnexpectedEof, 5))],
-    );
-    let refused = map(&[0xff, 0xff, 0xff, 0xff, 0x1f], 7).err();
-    let large = Error::new(Fault::NumberTooLarge(NumberKind::VarU32), 11);
-    same(&rt, refused, Some(large));
     Ok(())
 }
 
@@ -137,17 +109,6 @@ fn names_of_what_an_index_has(rt: HostRuntime) -> std::result::Result<(), Fail> 
     gives_names(&rt, first.clone()?, &[Ok((0, "a"))]);
     let refused = next_names(&mut names).ok_or("none")?.err();
     same(&rt, refused, Some(Error::new(Fault::IndirectOrder, 6)));
-    assert!(rt; next_names(&mut names).is_none());
-    let bytes = &[
-        2, 0x80, 1, 2, 7, 1, 0xff, 7, 0, 0x82, 1, 1, 0, 0xa1, 0x8d, 6,
-    ];
-    let mut names = IndirectNameMap::new(window(bytes, 500))?;
-    let (index, first) = next_names(&mut names).ok_or("none")??;
-    same(&rt, index, 128);
-    let text = Err(Error::new(Fault::MalformedUtf8, 506));
-    gives_names(&rt, first, &[text]);
-    let long = next_names(&mut names).ok_or("none")?.err();
-    same(&rt, long, Some(Error::new(Fault::StringSize, 515)));
     for _ in 0..4 {
         assert!(rt; next_names(&mut names).is_none());
     }
@@ -169,42 +130,6 @@ fn sections_of_names(rt: HostRuntime) -> std::result::Result<(), Fail> {
         assert!(rt; is_over(&mut names));
     }
     Ok(())
-}
-
-#[test]
-fn subsections_of_names_with_faults(rt: HostRuntime) -> std::result::Result<(), Fail> {
-    let bytes = &[1, 0, 2, 1, 0, 0x8d, 4, 1, 0, 3, 0x82, 0, 0, 5];
-    let mut names = NameSectionReader::new(rt.alloc(), window(bytes, 300));
-    let short = Error::new(Fault::UnexpectedEof, 302);
-    same(&rt, refusal(&mut names), Some(short));
-    let mut named = locals(&mut names).ok_or("no locals")?;
-    assert!(rt; next_names(&mut named).is_none());
-    let id = Error::new(Fault::InvalidU7, 305);
-    same(&rt, refusal(&mut names), Some(id));
-    gives_names(&rt, types(&mut names).ok_or("no types")?, &[]);
-    let order = Error::new(Fault::NameSectionOrder, 309);
-    same(&rt, refusal(&mut names), Some(order));
-    Ok(())
-}
-
-#[test]
-fn a_subsection_without_its_count(rt: HostRuntime) -> std::result::Result<(), Fail> {
-    let mut names = NameSectionReader::new(rt.alloc(), window(&[1, 0, 2, 1, 0], 0));
-    let short = Error::new(Fault::UnexpectedEof, 2);
-    same(&rt, refusal(&mut names), Some(short));
-    let mut named = locals(&mut names).ok_or("no locals")?;
-    assert!(rt; next_names(&mut named).is_none());
-    assert!(rt; is_over(&mut names));
-    Ok(())
-}
-
-#[test]
-fn nothing_is_after_the_name_of_a_module(rt: HostRuntime) {
-    let trailing = &[0, 3, 1, 0x61, 0xff];
-    let mut names = NameSectionReader::new(rt.alloc(), window(trailing, 0));
-    let left = Error::new(Fault::NameTrailing, 4);
-    same(&rt, refusal(&mut names), Some(left));
-    assert!(rt; is_over(&mut names));
 }
 
 // The names of a subsection, direct or by what has them, with a number for its kind.
@@ -276,30 +201,6 @@ fn each_kind_of_names(rt: HostRuntime) {
     let nothing = Some((14, b"".as_slice(), end..end));
     same(&rt, unknown(&mut names), nothing);
     assert!(rt; is_over(&mut names));
-}
-
-#[test]
-fn parameters_of_tags_in_their_order(rt: HostRuntime) {
-    let bytes = b"\x0d\x01\0\x0d\x01\0\x0c\x01\0\x0e\0";
-    let mut names = NameSectionReader::new(rt.alloc(), window(bytes, 40));
-    assert!(rt; refusal(&mut names).is_none());
-    for offset in [43, 46] {
-        let order = Error::new(Fault::NameSectionOrder, offset);
-        same(&rt, refusal(&mut names), Some(order));
-    }
-    same(&rt, unknown(&mut names), Some((14, b"".as_slice(), 51..51)));
-}
-
-#[test]
-fn names_one_byte_too_long(rt: HostRuntime) -> std::result::Result<(), Fail> {
-    let short = Err(Error::new(Fault::UnexpectedEof, 55));
-    gives_names(&rt, map(b"\x01\0\xa1\x8d\x06", 50)?, &[short]);
-    let bytes = window(b"\0\x03\xa1\x8d\x06", 50);
-    let mut names = NameSectionReader::new(rt.alloc(), bytes);
-    let long = Error::new(Fault::StringSize, 54);
-    same(&rt, refusal(&mut names), Some(long));
-    assert!(rt; is_over(&mut names));
-    Ok(())
 }
 
 // The range of a module's name, or of an unknown subsection, that a reader is at.

@@ -1,336 +1,160 @@
-// Items of tables, memories, globals, tags and exports.
-use super::reading::{leading, read, reads, refuses};
+// The names of the sections: each is the section of its items, and an enum holds each kind, as the result of a parser does.
 use super::same;
-use bitflags::Flags;
-use std::ops::Range;
-use std::process::Abort;
-use wasm_base::{Error, Fault, Lead, NumberKind, Result, WasmFeatures};
+use std::test::Fail;
+use wasm_base::{BinaryReader, Result, SectionLimited};
 use wasm_items::{
-    Export, ExternalKind, Global, GlobalType, HeapType, MemoryType, RefType, Table, TableInit,
-    TableType, TagKind, TagType, ValType,
+    Data, DataSectionReader, Element, ElementSectionReader, Export, ExportSectionReader,
+    FunctionBody, FunctionSectionReader, Global, GlobalSectionReader, ImportSectionReader, Imports,
+    MemorySectionReader, MemoryType, RecGroup, Table, TableSectionReader, TagSectionReader,
+    TagType, TypeSectionReader,
 };
 
-fn memory(initial: u64, maximum: Option<u64>, page_size_log2: Option<u32>) -> MemoryType {
-    MemoryType {
-        memory64: false,
-        shared: false,
-        initial,
-        maximum,
-        page_size_log2,
+fn types(section: SectionLimited<'_, RecGroup>) -> u32 {
+    section.count()
+}
+
+fn imports<'a>(section: SectionLimited<'a, Imports<'a>>) -> u32 {
+    section.count()
+}
+
+fn functions(section: SectionLimited<'_, u32>) -> u32 {
+    section.count()
+}
+
+fn tables<'a>(section: SectionLimited<'a, Table<'a>>) -> u32 {
+    section.count()
+}
+
+fn memories(section: SectionLimited<'_, MemoryType>) -> u32 {
+    section.count()
+}
+
+fn tags(section: SectionLimited<'_, TagType>) -> u32 {
+    section.count()
+}
+
+fn globals<'a>(section: SectionLimited<'a, Global<'a>>) -> u32 {
+    section.count()
+}
+
+fn exports<'a>(section: SectionLimited<'a, Export<'a>>) -> u32 {
+    section.count()
+}
+
+fn elements<'a>(section: SectionLimited<'a, Element<'a>>) -> u32 {
+    section.count()
+}
+
+fn datas<'a>(section: SectionLimited<'a, Data<'a>>) -> u32 {
+    section.count()
+}
+
+// A window that announces this many items.
+fn announcing(count: &[u8]) -> BinaryReader<'_> {
+    BinaryReader::new(count, 0)
+}
+
+#[test]
+fn sections_of_types_imports_and_functions(rt: HostRuntime) -> std::result::Result<(), Fail> {
+    let section: TypeSectionReader<'_> = SectionLimited::new(announcing(&[3]))?;
+    same(&rt, types(section), 3);
+    let section: ImportSectionReader<'_> = SectionLimited::new(announcing(&[4]))?;
+    same(&rt, imports(section), 4);
+    let section: FunctionSectionReader<'_> = SectionLimited::new(announcing(&[5]))?;
+    same(&rt, functions(section), 5);
+    Ok(())
+}
+
+#[test]
+fn sections_of_tables_memories_tags_and_globals(rt: HostRuntime) -> std::result::Result<(), Fail> {
+    let section: TableSectionReader<'_> = SectionLimited::new(announcing(&[6]))?;
+    same(&rt, tables(section), 6);
+    let section: MemorySectionReader<'_> = SectionLimited::new(announcing(&[7]))?;
+    same(&rt, memories(section), 7);
+    let section: TagSectionReader<'_> = SectionLimited::new(announcing(&[8]))?;
+    same(&rt, tags(section), 8);
+    let section: GlobalSectionReader<'_> = SectionLimited::new(announcing(&[9]))?;
+    same(&rt, globals(section), 9);
+    Ok(())
+}
+
+#[test]
+fn sections_of_exports_elements_and_datas(rt: HostRuntime) -> std::result::Result<(), Fail> {
+    let section: ExportSectionReader<'_> = SectionLimited::new(announcing(&[10]))?;
+    same(&rt, exports(section), 10);
+    let section: ElementSectionReader<'_> = SectionLimited::new(announcing(&[11]))?;
+    same(&rt, elements(section), 11);
+    let section: DataSectionReader<'_> = SectionLimited::new(announcing(&[12]))?;
+    same(&rt, datas(section), 12);
+    Ok(())
+}
+
+#[derive(Drop)]
+enum Held<'a> {
+    Types(TypeSectionReader<'a>),
+    Imports(ImportSectionReader<'a>),
+    Functions(FunctionSectionReader<'a>),
+    Tables(TableSectionReader<'a>),
+    Memories(MemorySectionReader<'a>),
+    Tags(TagSectionReader<'a>),
+    Globals(GlobalSectionReader<'a>),
+    Exports(ExportSectionReader<'a>),
+    Elements(ElementSectionReader<'a>),
+    Datas(DataSectionReader<'a>),
+    Body(FunctionBody<'a>),
+}
+
+fn hold(id: u8, window: BinaryReader<'_>) -> Result<Held<'_>> {
+    match id {
+        1 => Ok(Held::Types(SectionLimited::new(window)?)),
+        2 => Ok(Held::Imports(SectionLimited::new(window)?)),
+        3 => Ok(Held::Functions(SectionLimited::new(window)?)),
+        4 => Ok(Held::Tables(SectionLimited::new(window)?)),
+        5 => Ok(Held::Memories(SectionLimited::new(window)?)),
+        6 => Ok(Held::Globals(SectionLimited::new(window)?)),
+        7 => Ok(Held::Exports(SectionLimited::new(window)?)),
+        9 => Ok(Held::Elements(SectionLimited::new(window)?)),
+        11 => Ok(Held::Datas(SectionLimited::new(window)?)),
+        13 => Ok(Held::Tags(SectionLimited::new(window)?)),
+        _ => Ok(Held::Body(FunctionBody::new(window))),
+    }
+}
+
+fn count_of(held: &Held<'_>) -> u32 {
+    match held {
+        Held::Types(section) => section.count(),
+        Held::Imports(section) => section.count(),
+        Held::Functions(section) => section.count(),
+        Held::Tables(section) => section.count(),
+        Held::Memories(section) => section.count(),
+        Held::Tags(section) => section.count(),
+        Held::Globals(section) => section.count(),
+        Held::Exports(section) => section.count(),
+        Held::Elements(section) => section.count(),
+        Held::Datas(section) => section.count(),
+        Held::Body(_) => 0,
+    }
+}
+
+// What remains of a function section or a body; other sections are dropped.
+fn unread(held: Held<'_>) -> Option<BinaryReader<'_>> {
+    match held {
+        Held::Functions(section) => Some(BinaryReader::new(&[], section.original_position())),
+        Held::Body(body) => Some(body.get_binary_reader()),
+        _other => None,
     }
 }
 
 #[test]
-fn memories(rt: HostRuntime) {
-    let all = WasmFeatures::all();
-    let large = memory(9223372036854775808, Some(18446744073709551615), None);
-    let wide = MemoryType {
-        memory64: true,
-        shared: true,
-        initial: 1,
-        maximum: Some(2),
-        page_size_log2: Some(3),
-    };
-    reads(
-        &rt,
-        0,
-        all,
-        &[
-            (
-                b"\x00\xff\xff\xff\xff\x1f",
-                memory(8589934591, None, None),
-                6,
-            ),
-            (b"\x09\x01\x02\x10", memory(1, Some(2), Some(16)), 4),
-        ],
-    );
-    reads(
-        &rt,
-        300,
-        WasmFeatures::MEMORY64,
-        &[
-            (b"\x0f\x81\x00\x82\x00\x83\x00\x00", wide, 7),
-            (
-                b"\x01\x80\x80\x80\x80\x80\x80\x80\x80\x80\x01\xff\xff\xff\xff\xff\xff\xff\xff\xff\x01",
-                large,
-                21,
-            ),
-            (b"\x08\x00\x3f", memory(0, None, Some(63)), 3),
-        ],
-    );
-    // The flag for 64 bits makes no limit wider.
-    let narrow = MemoryType {
-        memory64: true,
-        ..memory(4294967295, None, None)
-    };
-    reads(
-        &rt,
-        300,
-        WasmFeatures::COMPACT_IMPORTS,
-        &[(b"\x04\xff\xff\xff\xff\x0f", narrow, 6)],
-    );
-}
-
-#[test]
-fn what_is_no_memory(rt: HostRuntime) {
-    let all = WasmFeatures::all();
-    let too_large = Fault::NumberTooLarge(NumberKind::VarU32);
-    refuses::<MemoryType>(
-        &rt,
-        0,
-        WasmFeatures::COMPACT_IMPORTS,
-        &[(b"\x00\xff\xff\xff\xff\x1f", Error::new(too_large, 5))],
-    );
-    refuses::<MemoryType>(
-        &rt,
-        0,
-        all,
-        &[
-            (b"\x08\x00\x40", Error::new(Fault::PageSize, 0)),
-            (b"\x10", Error::new(Fault::MemoryFlags, 0)),
-        ],
-    );
-    refuses::<MemoryType>(
-        &rt,
-        300,
-        all,
-        &[
-            (b"", Error::new(Fault::UnexpectedEof, 300)),
-            (b"\x10\x80", Error::new(Fault::MemoryFlags, 300)),
-            (b"\x09\x00", Error::new(Fault::UnexpectedEof, 302)),
-            (b"\x08\x00\xc0\x00", Error::new(Fault::PageSize, 300)),
-        ],
-    );
-}
-
-fn table(heap: HeapType, initial: u64, maximum: Option<u64>) -> TableType {
-    TableType {
-        element_type: RefType {
-            nullable: true,
-            heap,
-        },
-        table64: false,
-        initial,
-        maximum,
-        shared: false,
+fn each_kind_is_held_and_let_go(rt: HostRuntime) -> std::result::Result<(), Fail> {
+    for id in [1, 2, 3, 4, 5, 6, 7, 9, 11, 13] {
+        let section = hold(id, BinaryReader::new(&[3, 0], 10))?;
+        same(&rt, count_of(&section), 3);
+        same(&rt, unread(section).is_some(), id == 3);
     }
-}
-
-#[test]
-fn tables(rt: HostRuntime) {
-    let all = WasmFeatures::all();
-    let wide = TableType {
-        table64: true,
-        shared: true,
-        ..table(HeapType::Concrete(128), 1, Some(2))
-    };
-    let shared = TableType {
-        table64: true,
-        shared: true,
-        ..table(HeapType::Extern, 5, None)
-    };
-    reads(
-        &rt,
-        10,
-        all,
-        &[
-            (b"\x63\x80\x01\x07\x01\x82\x00", wide, 7),
-            (b"\x6f\x06\x05\x0b", shared, 3),
-        ],
-    );
-    let (filled, after) = read::<Table<'_>>(&rt, b"\x40\x00\x70\x00\x01\xd0\x70\x0b", 0, all);
-    same(
-        &rt,
-        parts_of_table(filled),
-        Ok((table(HeapType::Func, 1, None), Some(5..8))),
-    );
-    same(&rt, after, 8);
-    let bytes = b"\x40\x00\x6f\x05\x01\x02\xd0\x6f\x0b\xff";
-    let (filled, after) = read::<Table<'_>>(&rt, bytes, 10, all);
-    let bounded = TableType {
-        table64: true,
-        ..table(HeapType::Extern, 1, Some(2))
-    };
-    same(&rt, parts_of_table(filled), Ok((bounded, Some(16..19))));
-    same(&rt, after, 19);
-    let (null, after) = read::<Table<'_>>(&rt, b"\x70\x01\x80\x01\x81\x01\x40", 10, all);
-    same(
-        &rt,
-        parts_of_table(null),
-        Ok((table(HeapType::Func, 128, Some(129)), None)),
-    );
-    same(&rt, after, 16);
-}
-
-// The type of a table that was read, and the offsets of its expression, if it has one.
-fn parts_of_table(read: Result<Table<'_>>) -> Result<(TableType, Option<Range<u64>>)> {
-    let Table { ty, init } = read?;
-    match init {
-        TableInit::RefNull => Ok((ty, None)),
-        TableInit::Expr(init) => Ok((ty, Some(init.range()))),
-    }
-}
-
-#[test]
-fn what_is_no_table(rt: HostRuntime) {
-    let all = WasmFeatures::all();
-    refuses::<Table<'_>>(
-        &rt,
-        0,
-        all,
-        &[
-            (b"\x40\x01", Error::new(Fault::TableEncoding, 1)),
-            (b"\x70\x08\x00", Error::new(Fault::TableFlags, 1)),
-        ],
-    );
-    refuses::<Table<'_>>(
-        &rt,
-        10,
-        all,
-        &[
-            (b"", Error::new(Fault::UnexpectedEof, 10)),
-            (b"\x40", Error::new(Fault::UnexpectedEof, 11)),
-            (b"\x40\x00\x6f\x08", Error::new(Fault::TableFlags, 13)),
-            (
-                b"\x40\x00\x6f\x00\x00\x20",
-                Error::new(Fault::NotConstant, 15),
-            ),
-            (b"\x7f\x08", leading(Lead::Reference, 127, 10)),
-            (b"\x70", Error::new(Fault::UnexpectedEof, 11)),
-        ],
-    );
-    let too_large = Fault::NumberTooLarge(NumberKind::VarU32);
-    refuses::<TableType>(
-        &rt,
-        10,
-        WasmFeatures::COMPACT_IMPORTS,
-        &[(b"\x70\x00\xff\xff\xff\xff\x1f", Error::new(too_large, 16))],
-    );
-}
-
-// A global of this type was read, and its expression has these offsets.
-fn assert_global(
-    rt: &impl Abort,
-    bytes: &[u8],
-    offset: u64,
-    ty: GlobalType,
-    expression: Range<u64>,
-) {
-    let (read, after) = read::<Global<'_>>(rt, bytes, offset, WasmFeatures::all());
-    same(rt, after, expression.end);
-    let parts = read.map(|global| (global.ty, global.init_expr.range()));
-    same(rt, parts, Ok((ty, expression)));
-}
-
-#[test]
-fn globals(rt: HostRuntime) {
-    let number = GlobalType {
-        content_type: ValType::I32,
-        mutable: true,
-        shared: false,
-    };
-    assert_global(&rt, b"\x7f\x01\x41\x05\x0b", 0, number, 2..5);
-    let reference = GlobalType {
-        content_type: ValType::Ref(RefType {
-            nullable: false,
-            heap: HeapType::Concrete(3),
-        }),
-        mutable: false,
-        shared: true,
-    };
-    assert_global(
-        &rt,
-        b"\x64\x83\x00\x02\xd2\x85\x00\x0b\x00",
-        10,
-        reference,
-        14..18,
-    );
-    refuses::<Global<'_>>(
-        &rt,
-        0,
-        WasmFeatures::all(),
-        &[(b"\x7f\x04", Error::new(Fault::GlobalFlags, 1))],
-    );
-    refuses::<Global<'_>>(
-        &rt,
-        10,
-        WasmFeatures::MEMORY64,
-        &[
-            (b"", Error::new(Fault::UnexpectedEof, 10)),
-            (b"\x40\x04", leading(Lead::Value, 64, 10)),
-            (b"\x7e", Error::new(Fault::UnexpectedEof, 11)),
-            (b"\x7e\x00\x20", Error::new(Fault::NotConstant, 12)),
-            (b"\x7f\x03\x41\x00", Error::new(Fault::UnexpectedEof, 14)),
-        ],
-    );
-}
-
-#[test]
-fn tags(rt: HostRuntime) {
-    let tag = TagType {
-        kind: TagKind::Exception,
-        func_type_idx: 5,
-    };
-    let all = WasmFeatures::all();
-    reads(&rt, 10, all, &[(b"\x00\x85\x00\x09", tag, 3)]);
-    refuses::<TagType>(
-        &rt,
-        0,
-        all,
-        &[(b"\x01\x00", Error::new(Fault::TagAttributes, 0))],
-    );
-    refuses::<TagType>(
-        &rt,
-        10,
-        all,
-        &[
-            (b"\x80\x80", Error::new(Fault::TagAttributes, 10)),
-            (b"\x00", Error::new(Fault::UnexpectedEof, 11)),
-        ],
-    );
-}
-
-#[test]
-fn exports(rt: HostRuntime) {
-    let all = WasmFeatures::all();
-    let tag = Export {
-        name: "é",
-        kind: ExternalKind::Tag,
-        index: 5,
-    };
-    let global = Export {
-        name: "",
-        kind: ExternalKind::Global,
-        index: 4294967295,
-    };
-    reads(
-        &rt,
-        10,
-        WasmFeatures::MEMORY64,
-        &[
-            (b"\x02\xc3\xa9\x04\x85\x80\x00", tag, 7),
-            (b"\x00\x03\xff\xff\xff\xff\x0f", global, 7),
-        ],
-    );
-    refuses::<Export<'_>>(
-        &rt,
-        0,
-        all,
-        &[
-            (b"\x01\x61\x20\x00", Error::new(Fault::ExactExport, 3)),
-            (b"\x01\x61\x05", leading(Lead::External, 5, 2)),
-        ],
-    );
-    refuses::<Export<'_>>(
-        &rt,
-        10,
-        all,
-        &[
-            (b"\x01\xff\x09", Error::new(Fault::MalformedUtf8, 11)),
-            (b"\x01\x61", Error::new(Fault::UnexpectedEof, 12)),
-            (b"\x01\x61\x20", Error::new(Fault::ExactExport, 13)),
-            (b"\x01\x61\x00", Error::new(Fault::UnexpectedEof, 13)),
-            (b"\xa1\x8d\x06\x00", Error::new(Fault::StringSize, 12)),
-        ],
-    );
+    let body = hold(10, BinaryReader::new(&[3, 0], 10))?;
+    same(&rt, count_of(&body), 0);
+    let reader = unread(body).ok_or("no body")?;
+    same(&rt, reader.range(), 10..12);
+    Ok(())
 }

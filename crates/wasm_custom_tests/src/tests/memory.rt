@@ -1,12 +1,12 @@
-// Custom sections that are known by their names.
+// Custom sections and subsections whose allocations fail in turn.
 ghost use Rattle.std.specs.Prelude.{◌+◌, ◌<◌, ◌^◌, length};
 
 use super::{same, window};
 use std::alloc::{Allocator, Global};
 use std::process::Abort;
 use std::test::Fail;
-use wasm_base::{Error, Fault, fits};
-use wasm_custom::{CustomSectionReader, KnownCustom};
+use wasm_base::{Error, Fault, Subsection};
+use wasm_custom::{CustomSectionReader, Dylink0Subsection, KnownCustom};
 use wasm_test_heap::Sparing;
 
 /// More blocks than any of the sections takes.
@@ -32,69 +32,7 @@ fn kind_of<A: Allocator>(known: &KnownCustom<'_, A>) -> (&'static str, usize) {
     }
 }
 
-fn is_known_as(
-    rt: &impl Abort,
-    alloc: Global,
-    bytes: &[u8],
-    wanted: (&str, usize),
-) -> Result<(), Fail> {
-    assert!(rt; fits(8, bytes.len()));
-    let section = CustomSectionReader::new(window(bytes, 8))?;
-    let known = section.as_known(alloc)?;
-    assert_eq!(rt; kind_of(&known), wanted, "{bytes:?}");
-    Ok(())
-}
-
-#[test]
-fn known_with_ample_memory(rt: HostRuntime) -> Result<(), Fail> {
-    let rows: [(&[u8], (&str, usize)); 27] = [
-        (b"\x0bcoremodules\x01\x00\x04test", ("core modules", 1)),
-        (b"\x0bcoremodules\x01\x01", ("unknown", 0)),
-        (
-            b"\x0dcoreinstances\x01\x00\x02\x01\x00\x01\x03",
-            ("core instances", 1),
-        ),
-        (b"\x0dcoreinstances\x01\x00\x02\x01\x00\x01", ("unknown", 0)),
-        (
-            b"\x09corestack\x00\x00\x01\x00\x04\x2a\x33\x00\x00",
-            ("core stack", 1),
-        ),
-        (
-            b"\x09corestack\x00\x00\x01\x00\x04\x2a\x33\x00\x00\x00",
-            ("unknown", 0),
-        ),
-        (b"\x04core\x00\x02ab", ("core", 2)),
-        (b"\x04core\x00\x02a", ("unknown", 0)),
-        (b"\x04name\xff\xff", ("name", 0)),
-        (b"\x04name", ("name", 0)),
-        (b"\x05names\x00", ("unknown", 0)),
-        (b"\x08dylink.0\xff", ("dylink", 0)),
-        (b"\x08dylink.0", ("dylink", 1)),
-        (b"\x07linking\x82\x00\xff", ("linking", 2)),
-        (b"\x07linking\x03", ("unknown", 0)),
-        (b"\x07linking", ("unknown", 0)),
-        (
-            b"\x19metadata.code.branch_hint\x83\x00\xff",
-            ("branch hints", 3),
-        ),
-        (b"\x19metadata.code.branch_hint\x83", ("unknown", 0)),
-        (b"\x09producers\x02", ("producers", 2)),
-        (b"\x09producers", ("unknown", 0)),
-        (b"\x09Producers\x02", ("unknown", 0)),
-        (b"\x06reloc.\x05\x07", ("relocations", 7)),
-        (b"\x0areloc.CODE\x05\x80\x01", ("relocations", 128)),
-        (b"\x0areloc.CODE\x05", ("unknown", 0)),
-        (b"\x05reloc\x05\x07", ("unknown", 0)),
-        (b"\x00\x01", ("unknown", 0)),
-        (b"\x0ftarget_features\x00", ("unknown", 0)),
-    ];
-    for (bytes, wanted) in rows {
-        is_known_as(&rt, rt.alloc(), bytes, wanted)?;
-    }
-    Ok(())
-}
-
-// Each growth of a section is refused in turn: that is a want of memory each time.
+// Each allocation of a section fails in turn: each time the error is `OutOfMemory`.
 fn runs_out(rt: &impl Abort, alloc: Global, bytes: &[u8], least: u64) -> Result<(), Fail>
     requires { 8 + length bytes.now < 2 ^ 64 }
 {
@@ -154,5 +92,43 @@ fn sections_whose_memory_runs_out(rt: HostRuntime) -> Result<(), Fail> {
         b"\x09corestack\x00\x00\x01\x00\x04\x2a\x33\x01\x01\x01\x01",
         3,
     )?;
+    Ok(())
+}
+
+// Each allocation of a list fails in turn: each time the error is `OutOfMemory`.
+fn list_runs_out(rt: &impl Abort, alloc: Global, id: u8, bytes: &[u8; 13], least: u64) {
+    let mut refused = 0;
+    for blocks in 0..9 {
+        let heap = Sparing::new(alloc, blocks);
+        match Dylink0Subsection::from_reader_in(&heap, id, window(bytes, 8)) {
+            Ok(_) => {
+                refused = blocks;
+                break;
+            }
+            Err(e) => assert_eq!(rt; e, Error::new(Fault::OutOfMemory, 0), "{blocks}"),
+        }
+    }
+    assert!(rt; refused >= least, "{refused}");
+}
+
+#[test]
+fn lists_whose_memory_runs_out(rt: HostRuntime) -> Result<(), Fail> {
+    let zeros = &[12, 0, 0, 0, 0, 0, 0, 0, 0, 0, 0, 0, 0];
+    list_runs_out(&rt, rt.alloc(), 2, zeros, 2);
+    list_runs_out(&rt, rt.alloc(), 5, zeros, 2);
+    list_runs_out(
+        &rt,
+        rt.alloc(),
+        3,
+        &[6, 0, 0, 0, 0, 0, 0, 0, 0, 0, 0, 0, 0],
+        2,
+    );
+    list_runs_out(
+        &rt,
+        rt.alloc(),
+        4,
+        &[4, 0, 0, 0, 0, 0, 0, 0, 0, 0, 0, 0, 0],
+        1,
+    );
     Ok(())
 }

@@ -1,100 +1,87 @@
-// The cases on standard input, and the lines of each.
-use crate::customs::show_row;
+// The lines of rows, each read by the reader that it names.
+use crate::customs::show_custom;
 use crate::pieces::{Shown, show_pieces};
-use bitflags::Flags;
-use std::alloc::{AllocError, Global};
-use std::io::{self, ErrorKind, Read};
-use wasm_base::{BinaryReader, Error, Fault, FromReader, FromReaderIn, WasmFeatures, fits};
+use crate::rows::{Failed, Row, is_prose, parse_row};
+use std::alloc::Global;
+use std::io::Read;
+use wasm_base::{BinaryReader, FromReader, FromReaderIn, fits};
 use wasm_custom::{
-    Comdat, CoreDumpInstance, CoreDumpStackFrame, CoreDumpValue, RelocationEntry, SymbolInfo,
+    Comdat, CoreDumpInstance, CoreDumpStackFrame, CoreDumpValue, ProducersFieldValue,
+    RelocationEntry, SymbolInfo,
 };
-use wasm_feed::{ListError, Sink, WriteSink};
+use wasm_feed::{Sink, WriteSink};
 use wasm_items::{
     ConstExpr, Data, Element, Export, ExternalKind, Global as GlobalItem, HeapType, Import,
-    ImportSection, ImportSectionReader, Imports, MemoryType, RecGroup, RefType, Table, TagType,
-    TypeRef, ValType,
+    ImportItemCompact, ImportSection, ImportSectionReader, Imports, MemoryType, RecGroup, RefType,
+    Table, TagType, TypeRef, ValType,
 };
 use wasm_show::{Show, Tree, show_items};
 
-/// Why the cases could not be shown.
-#[derive(Debug, Drop)]
-pub(crate) enum Failed {
-    /// The input isn't cases.
-    Cases,
-    /// The input or the output failed, or an allocation of this program did. An item whose allocation fails is a line instead.
-    System(ListError),
-}
+/// How many bytes of a line are written at once at most.
+const PART: usize = 65_536;
 
-impl From<Error> for Failed {
-    fn from(error: Error) -> Failed {
-        match error.fault() {
-            Fault::OutOfMemory => Failed::System(ListError::Memory),
-            _ => Failed::Cases,
-        }
-    }
-}
-
-impl From<AllocError> for Failed {
-    fn from(_error: AllocError) -> Failed {
-        Failed::System(ListError::Memory)
-    }
-}
-
-impl From<io::Error> for Failed {
-    fn from(error: io::Error) -> Failed {
-        match error.kind() {
-            ErrorKind::OutOfMemory => Failed::System(ListError::Memory),
-            _ => Failed::System(ListError::Input),
-        }
-    }
-}
-
-/// Reads the cases, and writes the lines of each, and an empty line after them. A fault is a line in the place of its item; so is
-/// `OutOfMemory`.
+/// Reads tables from standard input, and writes their lines, with the result of each row in lines under it. A fault is a line in
+/// the place of its item; so is `OutOfMemory`.
 ///
-/// The input is a count, and for each case the name of a row below, a byte of features, the offset of the first byte in
-/// the stream, and the bytes after their size; numbers are in LEB128.
-pub(crate) fn run(rt: &HostRuntime) -> Result<(), Failed> {
-    let mut bytes = Vec::new(rt.alloc());
-    rt.stdin().read_to_end(&mut bytes)?;
+/// # Errors
+///
+/// Returns why the run stopped, and the number of the line that it stopped at.
+pub(crate) fn run(rt: &HostRuntime) -> Result<(), (u64, Failed)> {
+    let mut text = String::new(rt.alloc());
+    if let Err(error) = rt.stdin().read_to_string(&mut text) {
+        return Err((0, Failed::from(error)));
+    }
     let mut out = Tree::new(rt.alloc(), WriteSink::new(rt.stdout()));
-    let shown = show_cases(rt.alloc(), &bytes, &mut out);
+    let shown = show_lines(rt.alloc(), text.as_str(), &mut out);
     out.write_out();
     let stopped = out.stopped();
     drop(out.into_output());
     match stopped {
-        Some(why) => Err(Failed::System(why)),
+        Some(why) => Err((0, Failed::System(why))),
         None => shown,
     }
 }
 
-fn show_cases<W: Sink>(alloc: Global, bytes: &[u8], out: &mut Tree<W>) -> Result<(), Failed> {
-    if !fits(0, bytes.len()) {
-        return Err(Failed::Cases);
-    }
-    let mut cases = BinaryReader::new(bytes, 0);
-    let count = cases.read_var_u32()?;
-    for _ in 0..count {
-        show_case(alloc, &mut cases, out)?;
-        out.first(b"\n");
+// Writes lines, and the result of each row among them.
+fn show_lines<W: Sink>(alloc: Global, text: &str, out: &mut Tree<W>) -> Result<(), (u64, Failed)> {
+    let mut number = 0_u64;
+    for line in text.lines() {
+        number = number.wrapping_add(1);
+        echo(line, out);
+        if let Err(why) = show_result(alloc, line, out) {
+            return Err((number, why));
+        }
     }
     Ok(())
 }
 
-fn show_case<W: Sink>(
-    alloc: Global,
-    cases: &mut BinaryReader<'_>,
-    out: &mut Tree<W>,
-) -> Result<(), Failed> {
-    let name = cases.read_string()?;
-    let features = WasmFeatures::from_bits_retain(u32::from(cases.read_u8()?));
-    let offset = cases.read_var_u64()?;
-    let bytes = cases.read_reader()?.remaining_buffer();
-    if !fits(offset, bytes.len()) {
-        return Err(Failed::Cases);
+// Writes a line of the input.
+fn echo<W: Sink>(line: &str, out: &mut Tree<W>) {
+    let mut rest = line.as_bytes();
+    while rest.len() > PART {
+        let (first, later) = rest.split_at(PART);
+        out.first(first);
+        rest = later;
     }
-    let mut reader = BinaryReader::new_features(bytes, offset, features);
-    match name {
+    out.first(rest);
+    out.first(b"\n");
+}
+
+// Writes the result of a line, if it is a row.
+fn show_result<W: Sink>(alloc: Global, line: &str, out: &mut Tree<W>) -> Result<(), Failed> {
+    if is_prose(line) {
+        return Ok(());
+    }
+    let row = parse_row(alloc, line)?;
+    if !fits(row.offset, row.bytes.len()) {
+        return Err(Failed::Row("the bytes overrun the largest offset"));
+    }
+    show_row(alloc, &row, out)
+}
+
+fn show_row<W: Sink>(alloc: Global, row: &Row<'_>, out: &mut Tree<W>) -> Result<(), Failed> {
+    let mut reader = BinaryReader::new_features(&row.bytes, row.offset, row.features);
+    match row.reader {
         "kind" => show_read::<ExternalKind, W>(&mut reader, out),
         "typeref" => show_read::<TypeRef, W>(&mut reader, out),
         "import" => show_read::<Import<'_>, W>(&mut reader, out),
@@ -112,8 +99,10 @@ fn show_case<W: Sink>(
         "data" => show_read::<Data<'_>, W>(&mut reader, out),
         "recgroup" => show_read_in::<RecGroup, W>(alloc, &mut reader, out),
         "flatimports" => show_flattened(reader, out),
-        "events" => show_pieces(alloc, Shown::Events, reader, offset, out)?,
-        "steps" => show_pieces(alloc, Shown::Steps, reader, offset, out)?,
+        "events" => show_pieces(alloc, Shown::Events, reader, row.offset, out)?,
+        "steps" => show_pieces(alloc, Shown::Steps, reader, row.offset, out)?,
+        "compactitem" => show_read::<ImportItemCompact<'_>, W>(&mut reader, out),
+        "producersvalue" => show_read::<ProducersFieldValue<'_>, W>(&mut reader, out),
         "relocation" => show_read::<RelocationEntry, W>(&mut reader, out),
         "symbol" => show_read::<SymbolInfo<'_>, W>(&mut reader, out),
         "comdat" => show_read::<Comdat<'_>, W>(&mut reader, out),
@@ -121,8 +110,8 @@ fn show_case<W: Sink>(
         "instance" => show_read_in::<CoreDumpInstance, W>(alloc, &mut reader, out),
         "frame" => show_read_in::<CoreDumpStackFrame, W>(alloc, &mut reader, out),
         _ => {
-            if !show_row(alloc, name, reader, out) {
-                return Err(Failed::Cases);
+            if !show_custom(alloc, row.reader, reader, out) {
+                return Err(Failed::Row("unknown reader"));
             }
         }
     }

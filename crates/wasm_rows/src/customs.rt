@@ -1,4 +1,4 @@
-// Custom sections, and lists whose items own lists, that are read by the name of a row.
+// Custom sections, and lists whose items own lists.
 use std::alloc::Global;
 use wasm_base::{BinaryReader, FromReader, FromReaderIn, Result, SectionLimited};
 use wasm_custom::{
@@ -11,14 +11,14 @@ use wasm_feed::Sink;
 use wasm_items::RecGroup;
 use wasm_show::{Items, Show, Tree, show_list};
 
-/// Writes the section or the list of this row, or its fault; answers whether the row is one.
-pub(crate) fn show_row<W: Sink>(
+/// Writes the section or the list that this reader reads, or its fault. Returns whether there is such a reader.
+pub(crate) fn show_custom<W: Sink>(
     alloc: Global,
-    row: &str,
+    name: &str,
     reader: BinaryReader<'_>,
     out: &mut Tree<W>,
 ) -> bool {
-    match row {
+    match name {
         "types" => show_counted_in::<RecGroup, W>(alloc, reader, out),
         "hints" => show_counted::<BranchHintFunction<'_>, W>(reader, out),
         "producers" => show_counted::<ProducersField<'_>, W>(reader, out),
@@ -34,7 +34,7 @@ pub(crate) fn show_row<W: Sink>(
         "corestack" => show_section(CoreDumpStackSection::new(alloc, reader), out),
         "instances" => show_counted_in::<CoreDumpInstance, W>(alloc, reader, out),
         "frames" => show_counted_in::<CoreDumpStackFrame, W>(alloc, reader, out),
-        "known" => show_custom(alloc, reader, out),
+        "known" => show_named(alloc, reader, out),
         _ => return false,
     }
     true
@@ -100,24 +100,31 @@ fn show_one<T: Show, W: Sink>(item: &Result<(u64, T)>, out: &mut Tree<W>) {
 }
 
 // Writes what a custom section is known as, or its fault.
-fn show_custom<W: Sink>(alloc: Global, reader: BinaryReader<'_>, out: &mut Tree<W>) {
+fn show_named<W: Sink>(alloc: Global, reader: BinaryReader<'_>, out: &mut Tree<W>) {
     match CustomSectionReader::new(reader) {
         Ok(section) => match section.as_known(alloc) {
-            Ok(known) => show_known(&known, out),
+            Ok(known) => show_known(section.name(), &known, out),
             Err(e) => out.fault(1, &e),
         },
         Err(e) => out.fault(1, &e),
     }
 }
 
-// Writes a section of a core dump, whose lists allocate; of any other one, whether it is known.
-fn show_known<W: Sink>(known: &KnownCustom<'_>, out: &mut Tree<W>) {
+// Writes the name of a custom section, and under it, if its data is known, what that says.
+fn show_known<W: Sink>(name: &str, known: &KnownCustom<'_>, out: &mut Tree<W>) {
     out.line(1, "section");
+    out.quoted("name", name);
     match known {
+        KnownCustom::Name(section) => section.show(1, out),
+        KnownCustom::BranchHints(section) => show_list("functions", 1, section, out),
+        KnownCustom::Producers(section) => show_list("fields", 1, section, out),
+        KnownCustom::Dylink0(section) => section.show(1, out),
+        KnownCustom::CoreDump(section) => section.show(1, out),
         KnownCustom::CoreDumpStack(section) => section.show(1, out),
         KnownCustom::CoreDumpInstances(section) => section.show(1, out),
         KnownCustom::CoreDumpModules(section) => section.show(1, out),
+        KnownCustom::Linking(section) => section.show(1, out),
+        KnownCustom::Reloc(section) => section.show(1, out),
         KnownCustom::Unknown => out.label("known", "unknown"),
-        _ => out.label("known", "other"),
     }
 }

@@ -1,5 +1,5 @@
 // Streams in pieces: the events that are read, and each step of a feeder.
-use crate::cases::Failed;
+use crate::rows::Failed;
 use bitflags::Flags;
 use std::alloc::{AllocError, Global};
 use std::fmt::Write;
@@ -50,13 +50,14 @@ fn pieces_of<'a>(alloc: Global, reader: &mut BinaryReader<'a>) -> Result<Vec<&'a
 fn write_line<W: Sink>(mut text: String, out: &mut Tree<W>) -> Result<(), Failed> {
     writeln!(text, "")?;
     if text.len() > 65_536 {
-        return Err(Failed::Cases);
+        return Err(Failed::Row("the result is longer than a line may be"));
     }
     out.first(text.as_bytes());
     Ok(())
 }
 
 /// What is shown of a stream in pieces.
+#[derive(Drop)]
 pub(crate) enum Shown {
     /// The events that are read.
     Events,
@@ -73,7 +74,7 @@ pub(crate) fn show_pieces<W: Sink>(
     offset: u64,
     out: &mut Tree<W>,
 ) -> Result<(), Failed> {
-    let mut text = String::new(alloc);
+    let mut text = String::from_str(alloc, "  ")?;
     match shown {
         Shown::Events => write_events(alloc, reader, offset, &mut text)?,
         Shown::Steps => write_steps(alloc, reader, offset, &mut text)?,
@@ -89,7 +90,7 @@ fn write_events(
 ) -> Result<(), Failed> {
     let pieces = pieces_of(alloc, &mut reader)?;
     if !fits_pieces(offset, &pieces) {
-        return Err(Failed::Cases);
+        return Err(Failed::Row("the pieces overrun the largest offset"));
     }
     for event in &read_pieces(alloc, offset, &pieces)? {
         show_event(event, out)?;

@@ -1,0 +1,59 @@
+"""Tables of rows, which the program wasm_rows reads, and writes with the result of each row under it.
+
+A row is a line: the name of a reader, features, the offset of the first byte, and bytes in hexadecimal. Its result is the lines after
+it that begin with two blanks. Empty lines and lines that begin with `#` are comments.
+"""
+import os
+import re
+import subprocess
+
+import common
+
+TABLE = os.path.join(common.TOP, "crates", "wasm_rows", "stdout")
+INPUT = os.path.join(common.TOP, "crates", "wasm_rows", "stdin")
+
+# The bits of the features.
+FEATURES = {"none": 0, "memory64": 1, "compact": 2, "all": 3}
+NAMES = {bits: name for name, bits in FEATURES.items()}
+
+
+def row_line(reader, data, offset=0, features=3):
+    """The line of a row."""
+    return "%s %s %d  %s\n" % (reader, NAMES[features], offset, data.hex())
+
+
+def parsed(line):
+    """The reader, the bytes, the offset and the features of a row; a ValueError or a KeyError where the line is not one."""
+    reader, features, offset, *words = line.split()
+    data = b""
+    for word in words:
+        pairs, _, times = word.partition("*")
+        data += bytes.fromhex(pairs) * int(times or 1)
+    return reader, data, int(offset), sum({FEATURES[name] for name in features.split("+")})
+
+
+def is_result(line):
+    return line.startswith("  ")
+
+
+def is_row(line):
+    return bool(re.match(r"[^#\s]", line))
+
+
+def results(lines):
+    """Each row of a table: the number of its line, that line, and the lines of its result."""
+    found = []
+    for number, line in enumerate(lines, 1):
+        if is_result(line):
+            found[-1][2].append(line)
+        elif is_row(line):
+            found.append((number, line, []))
+    return found
+
+
+def run(program, rows):
+    """The lines that the program writes of each of these rows, which are lines."""
+    done = subprocess.run([program], input="".join(rows).encode(), stdout=subprocess.PIPE, timeout=600, check=True)
+    found = [lines for _, _, lines in results(done.stdout.decode("ascii").split("\n"))]
+    assert len(found) == len(rows), (len(found), len(rows))
+    return found
