@@ -72,16 +72,32 @@ fn show_result<W: Sink>(alloc: Global, line: &str, out: &mut Tree<W>) -> Result<
     if is_prose(line) {
         return Ok(());
     }
-    let row = parse_row(alloc, line)?;
-    if !fits(row.offset, row.bytes.len()) {
-        return Err(Failed::Row("the bytes overrun the largest offset"));
-    }
-    show_row(alloc, &row, out)
+    show_row(alloc, parse_row(alloc, line)?, out)
 }
 
-fn show_row<W: Sink>(alloc: Global, row: &Row<'_>, out: &mut Tree<W>) -> Result<(), Failed> {
-    let mut reader = BinaryReader::new_features(&row.bytes, row.offset, row.features);
-    match row.reader {
+fn show_row<W: Sink>(alloc: Global, row: Row<'_>, out: &mut Tree<W>) -> Result<(), Failed> {
+    let Row {
+        reader: name,
+        features,
+        offset,
+        bytes,
+    } = row;
+    if !fits(offset, bytes.len()) {
+        return Err(Failed::Row("the bytes overrun the largest offset"));
+    }
+    let reader = BinaryReader::new_features(&bytes, offset, features);
+    show_read_by(alloc, name, reader, offset, out)
+}
+
+// Writes what the reader with this name reads.
+fn show_read_by<W: Sink>(
+    alloc: Global,
+    name: &str,
+    mut reader: BinaryReader<'_>,
+    offset: u64,
+    out: &mut Tree<W>,
+) -> Result<(), Failed> {
+    match name {
         "kind" => show_read::<ExternalKind, W>(&mut reader, out),
         "typeref" => show_read::<TypeRef, W>(&mut reader, out),
         "import" => show_read::<Import<'_>, W>(&mut reader, out),
@@ -99,8 +115,8 @@ fn show_row<W: Sink>(alloc: Global, row: &Row<'_>, out: &mut Tree<W>) -> Result<
         "data" => show_read::<Data<'_>, W>(&mut reader, out),
         "recgroup" => show_read_in::<RecGroup, W>(alloc, &mut reader, out),
         "flatimports" => show_flattened(reader, out),
-        "events" => show_pieces(alloc, Shown::Events, reader, row.offset, out)?,
-        "steps" => show_pieces(alloc, Shown::Steps, reader, row.offset, out)?,
+        "events" => show_pieces(alloc, Shown::Events, reader, offset, out)?,
+        "steps" => show_pieces(alloc, Shown::Steps, reader, offset, out)?,
         "compactitem" => show_read::<ImportItemCompact<'_>, W>(&mut reader, out),
         "producersvalue" => show_read::<ProducersFieldValue<'_>, W>(&mut reader, out),
         "relocation" => show_read::<RelocationEntry, W>(&mut reader, out),
@@ -110,7 +126,7 @@ fn show_row<W: Sink>(alloc: Global, row: &Row<'_>, out: &mut Tree<W>) -> Result<
         "instance" => show_read_in::<CoreDumpInstance, W>(alloc, &mut reader, out),
         "frame" => show_read_in::<CoreDumpStackFrame, W>(alloc, &mut reader, out),
         _ => {
-            if !show_custom(alloc, row.reader, reader, out) {
+            if !show_custom(alloc, name, reader, out) {
                 return Err(Failed::Row("unknown reader"));
             }
         }
