@@ -84,8 +84,21 @@ WITH_EXPRESSIONS = ("table", "global", "element", "data", "constexpr")
 EXPRESSION = re.compile(r" (init_expr|offset_expr|init|expr)=(\([^()]*\)(?: \([^()]*\))*)")
 
 
+def after_number(data, place):
+    """The place after a number in LEB128 of any size."""
+    while data[place] >= 128:
+        place += 1
+    return place + 1
+
+
 def start_of_expression(row, data, place):
-    """Where the expression of an item at a place begins at the earliest: in a segment after its flags and the index of its memory or table."""
+    """Where the expression of an item at a place begins at the earliest: in a segment after its flags and the index of its memory or table,
+    in a table after its type."""
+    if row == "table":
+        heap = place + 2
+        flags = after_number(data, heap + 1) if data[heap] in (0x63, 0x64) else heap + 1
+        place = after_number(data, flags + 1)
+        return after_number(data, place) if data[flags] & 1 else place
     if row in ("element", "data"):
         flags, place = number_at(data, place)
         if flags & 3 == 2:
