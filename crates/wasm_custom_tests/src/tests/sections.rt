@@ -86,6 +86,13 @@ fn a_section_with_an_unknown_field(rt: HostRuntime) -> Result<(), Fail> {
     Ok(())
 }
 
+// The first of the two texts of a value is skipped with the limit of names.
+#[test]
+fn a_field_with_a_long_text(rt: HostRuntime) {
+    let field = ProducersField::from_reader(&mut window(b"\x03sdk\x01\xa1\x8d\x06", 0));
+    same(&rt, field.err(), Some(Error::new(Fault::StringSize, 7)));
+}
+
 // What a value is, as a kind and a number: the bits of a float.
 fn parts(value: &CoreDumpValue) -> (&'static str, i64) {
     match value {
