@@ -3,15 +3,15 @@ use Rattle.std.proofs.Common.{◌≡◌, List, ℕ, length, take, take_all, le_r
 use Rattle.std.proofs.Common.{sym}
 use Rattle.std.specs.Io.KnownBytes.{Appends, Keeps}
 use Rattle.wasm_run.proofs.ForCallers.{appends_kept}
-use Rattle.wasm_feed.specs.Calls.{from_to}
+use Rattle.wasm_lines.specs.Calls.{from_to}
 use Rattle.wasm_feed.specs.declared.listing.Ended.{Ended}
-use Rattle.wasm_feed.specs.declared.devices.ListError.{ListError}
-use Rattle.wasm_feed.specs.declared.devices.ListError.TheVariants.{Input, Output, Memory}
-use Rattle.wasm_show.specs.Numbers.{Number}
-use Rattle.wasm_show.specs.Dump.{WritesWhole, WritesSome, Writes, Dumps}
-use Rattle.wasm_show.specs.declared.only.Only.{Only}
-use Rattle.wasm_show.specs.declared.tree.Style.{Style}
-use Rattle.wasm_feed.specs.declared.devices.Failed.{Failed}
+use Rattle.wasm_lines.specs.declared.devices.ListError.{ListError}
+use Rattle.wasm_lines.specs.declared.devices.ListError.TheVariants.{Input, Output, Memory}
+use Rattle.wasm_tree.specs.Numbers.{Number}
+use Rattle.wasm_dumper.specs.Dump.{WritesWhole, WritesSome, Writes, Dumps}
+use Rattle.wasm_dumper.specs.declared.only.Only.{Only}
+use Rattle.wasm_tree.specs.declared.tree.Style.{Style}
+use Rattle.wasm_lines.specs.declared.devices.Failed.{Failed}
 use Rattle.wasm_dump_run.specs.Colors.{plain, without_colors}
 
 module _ (style : Style) where

@@ -1,8 +1,8 @@
 -- The options of the program, besides those that choose sections.
 use Rattle.std.specs.Prelude.{ℕ, Bool, true, false, ◌&&◌, ◌||◌, List, [], ◌∷◌, codes, bytes_eq, Option, Some, None}
 use Rattle.std.specs.Prelude.{if◌then◌else◌}
-use Rattle.wasm_show.specs.declared.tree.Style.{Style}
-use Rattle.wasm_show.specs.declared.tree.Style.TheVariants.{Lines, Objects}
+use Rattle.wasm_tree.specs.declared.tree.Style.{Style}
+use Rattle.wasm_tree.specs.declared.tree.Style.TheVariants.{Lines, Objects}
 use Rattle.wasm_dump_run.specs.declared.options.Mark.{Mark}
 use Rattle.wasm_dump_run.specs.declared.options.Mark.TheVariants.{Color, Names, Json, Bytes}
 use Rattle.wasm_dump_run.specs.declared.options.Options.{Options}

@@ -1,13 +1,12 @@
 -- What a run of the program does.
 use Rattle.std.specs.Prelude.{◌≡◌, ◌⊎◌, ℕ, Bool, true, List, [], ◌∷◌, ◌++◌, codes, Option, Some, None, Result, Ok, Err}
-use Rattle.wasm_feed.specs.Calls.{Device, bytes_of}
-use Rattle.wasm_feed.specs.Lists.{input_failed, output_failed}
+use Rattle.wasm_lines.specs.Calls.{Device, bytes_of, input_failed, output_failed}
 use Rattle.wasm_feed.specs.declared.listing.Ended.{Ended}
-use Rattle.wasm_feed.specs.declared.devices.ListError.{ListError}
-use Rattle.wasm_feed.specs.declared.devices.ListError.TheVariants.{Output}
-use Rattle.wasm_show.specs.Dump.{Dumps}
-use Rattle.wasm_show.specs.declared.only.Only.{Only}
-use Rattle.wasm_show.specs.declared.only.Only.TheVariants.{All}
+use Rattle.wasm_lines.specs.declared.devices.ListError.{ListError}
+use Rattle.wasm_lines.specs.declared.devices.ListError.TheVariants.{Output}
+use Rattle.wasm_dumper.specs.Dump.{Dumps}
+use Rattle.wasm_dumper.specs.declared.only.Only.{Only}
+use Rattle.wasm_dumper.specs.declared.only.Only.TheVariants.{All}
 use Rattle.wasm_run.specs.Devices.{IsUntouched}
 use Rattle.wasm_run.specs.Endings.{status_of, Reports, RunsUsage, CannotBegin, WritesAll, WritesSome}
 use Rattle.wasm_dump_run.specs.Colors.{seen_as}

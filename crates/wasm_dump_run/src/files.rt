@@ -13,9 +13,10 @@ use std::alloc::{AllocError, Global};
 use std::env::Args;
 use std::fs;
 use std::io::{self, Error, Write};
-use wasm_feed::{Ended, Failed, ListError, ReadSource, Sink, WriteSink, write_all};
+use wasm_feed::{Ended, Failed, ListError, ReadSource, Sink, write_all, WriteSink};
 use wasm_run::{complain, give_up, is_no_text};
-use wasm_show::{ItemNames, Only, Style, Tree, collect_names};
+use wasm_dumper::{collect_names, Only};
+use wasm_tree::{ItemNames, Style, Tree};
 
 //// Files that are to be dumped, the words that choose sections of them, and what else is asked for.
 #[derive(Drop)]

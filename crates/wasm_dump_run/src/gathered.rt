@@ -9,7 +9,7 @@ use crate::plain::ESC;
 const ROOM: usize = 4096;
 
 /// Bytes that are put together.
-pub(crate) type Gathered = wasm_show::Gathered<ROOM>;
+pub(crate) type Gathered = wasm_tree::Gathered<ROOM>;
 
 // Puts a byte after others, and its colour before it where that isn't the last one.
 fn put_byte(gathered: &mut Gathered, last: Ink, ink: Ink, byte: u8)

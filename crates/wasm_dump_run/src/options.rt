@@ -2,7 +2,8 @@
 ghost use Rattle.std.specs.Prelude.{◌≡◌};
 ghost use Rattle.wasm_dump_run.specs.Options.{contradict, mark_named, no_options, say_how, style_of, with_mark};
 
-use wasm_show::{Only, Shown, Style};
+use wasm_dumper::{Only, Shown};
+use wasm_tree::Style;
 
 /// How a dump is to look, and what it is to show besides the items.
 #[derive(Clone, Copy)]

@@ -3,7 +3,7 @@ ghost use Rattle.std.specs.Prelude.{◌≡◌, map, string_bytes, OnOk, OnErr, �
 ghost use Rattle.std.specs.Io.KnownBytes.{Appends, Keeps};
 ghost use Rattle.std.specs.Process.{exit_status};
 ghost use Rattle.std.specs.Vec.Iter.{into_iter_items};
-ghost use Rattle.wasm_feed.specs.Calls.{device_of, writer_device};
+ghost use Rattle.wasm_lines.specs.Calls.{device_of, writer_device};
 ghost use Rattle.wasm_run.specs.Devices.{Says};
 ghost use Rattle.wasm_run.specs.Endings.{Reports, status_of};
 ghost use Rattle.wasm_dump_run.specs.Colors.{plain_device, seen_as};
@@ -19,9 +19,10 @@ use std::alloc::Global;
 use std::env::{self, Args};
 use std::io::{self, Write};
 use std::process::ExitCode;
-use wasm_feed::{Ended, Failed, ListError, ReadSource, Sink, Source, WriteSink, write_all};
+use wasm_feed::{Ended, Failed, ListError, ReadSource, Sink, Source, write_all, WriteSink};
 use wasm_run::{PIECE, complain, give_up};
-use wasm_show::{ItemNames, Only, Tree, dump};
+use wasm_dumper::{dump, Only};
+use wasm_tree::{ItemNames, Tree};
 
 /// What `--help` says.
 const HELP: &[u8] = b"usage: wasm_dump [OPTION]... [--section ID|NAME]... [FILE]...

@@ -7,7 +7,7 @@ use crate::options::{Mark, Options, mark_of};
 use std::alloc::{AllocError, Global};
 use std::env::Args;
 use wasm_grammar::section_named;
-use wasm_show::Only;
+use wasm_dumper::Only;
 
 /// Arguments, of which there is one at least.
 #[derive(Drop)]

@@ -15,7 +15,7 @@ use Rattle.wasm_parser.specs.declared.payload.Chunk.TheVariants as chunk
 use Rattle.wasm_parser.proofs.ForCallers.{answers_go_along}
 use Rattle.wasm_feed.specs.Beside.{beside, seen, unseen, lending, SeesEnough, AreEnough, ReadsEnough, MakesReady, IsAlike, FillsAlike}
 use Rattle.wasm_feed.specs.Beside.{Bounds, HasDecided, StaysIdle, StepsOver}
-use Rattle.wasm_feed.specs.Calls.{Change, from_to}
+use Rattle.wasm_lines.specs.Calls.{Change, from_to}
 use Rattle.wasm_feed.specs.Cursors.{feed_of}
 use Rattle.wasm_feed.specs.Feed.{Feed, new_feed, pushed, finished}
 use Rattle.wasm_feed.specs.Progress.{weight, Progress, Wants}

@@ -1,8 +1,6 @@
 pub mod Adding
 pub mod Beside
 pub mod ByHand
-pub mod Cut
-pub mod Decimal
 pub mod ForCallers
 pub mod Joining
 pub mod KeptFrames

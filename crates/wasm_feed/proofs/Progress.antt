@@ -15,20 +15,20 @@ use Rattle.wasm_grammar.specs.Reading.{Report, stream_end, Event, events_of, las
 use Rattle.wasm_parser.specs.declared.payload.Payload.{Payload}
 use Rattle.wasm_parser.specs.Along.{ReadingBegins, BeginsEach, ReadsEach, Came}
 use Rattle.wasm_parser.proofs.ForCallers.{answers_go_along}
-use Rattle.wasm_feed.specs.Calls.{from_to}
+use Rattle.wasm_lines.specs.Calls.{from_to}
 use Rattle.wasm_feed.specs.Feed.{Feed, new_feed, pushed}
-use Rattle.wasm_feed.specs.Listing.{listing_by}
+use Rattle.wasm_lines.specs.Listing.{listing_by}
 use Rattle.wasm_feed.specs.Lists.{IsEndedBy, IsWhole, IsListed, Begins, IsBeginning, Fills, Refills, ListsBy}
 use Rattle.wasm_feed.specs.Progress.{weight, Progress, Wants}
-use Rattle.wasm_feed.specs.Page.{WritesBeginning, IsCut, PutsBytes}
+use Rattle.wasm_lines.specs.Page.{WritesBeginning, IsCut, PutsBytes}
 use Rattle.wasm_feed.specs.Step.{chunk_of, answer_of, Stepped, Steps}
 use Rattle.wasm_feed.specs.Turns.{text_after, turn_after}
 use Rattle.wasm_feed.specs.declared.feeder.Step.{Step}
 use Rattle.wasm_feed.specs.declared.feeder.Step.TheVariants.{NeedMoreData, Parsed}
 use Rattle.wasm_feed.specs.declared.listing.Ended.{Ended}
 use Rattle.wasm_feed.specs.declared.listing.Ended.TheVariants.{End, Fault}
-use Rattle.wasm_feed.specs.declared.devices.ListError.{ListError}
-use Rattle.wasm_feed.specs.declared.devices.ListError.TheVariants.{Input, Output, Memory}
+use Rattle.wasm_lines.specs.declared.devices.ListError.{ListError}
+use Rattle.wasm_lines.specs.declared.devices.ListError.TheVariants.{Input, Output, Memory}
 use Rattle.wasm_feed.specs.declared.listing.Turn.TheVariants as turn
 use Rattle.wasm_feed.proofs.Stepping.{stepped as step_along}
 use Rattle.wasm_base.specs.Features.{all_features}

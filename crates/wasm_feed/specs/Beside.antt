@@ -12,8 +12,8 @@ use Rattle.wasm_feed.specs.Cursors.{feed_of}
 use Rattle.wasm_feed.specs.Feed.{Feed, pushed, finished, end_of}
 use Rattle.wasm_feed.specs.Lists.{Refills}
 use Rattle.wasm_feed.specs.Step.{answer_of, is_request, Steps}
-use Rattle.wasm_feed.specs.declared.devices.Failed.{Failed}
-use Rattle.wasm_feed.specs.declared.devices.ListError.{ListError}
+use Rattle.wasm_lines.specs.declared.devices.Failed.{Failed}
+use Rattle.wasm_lines.specs.declared.devices.ListError.{ListError}
 use Rattle.wasm_feed.specs.declared.feeder.Cursor.{Cursor}
 use Rattle.wasm_feed.specs.declared.feeder.Step.{Step}
 

@@ -1,16 +1,11 @@
 pub mod Beside
-pub mod Calls
 pub mod Cursors
-pub mod Devices
-pub mod Digits
 pub mod Ends
 pub mod Events
 pub mod Feed
 pub mod FeedersLaws
-pub mod Listing
 pub mod Lists
 pub mod Opened
-pub mod Page
 pub mod Pieces
 pub mod Progress
 pub mod Rows

@@ -8,13 +8,13 @@ use Rattle.wasm_grammar.specs.Content.{Ending, fault, ended}
 use Rattle.wasm_grammar.specs.EventRanges.{consumed_by}
 use Rattle.wasm_grammar.specs.Reading.{Report, Event, last_event, Reading}
 use Rattle.wasm_parser.specs.Along.{ReadingBegins}
-use Rattle.wasm_feed.specs.Calls.{Change, Device, bytes_of}
+use Rattle.wasm_lines.specs.Calls.{Change, Device, bytes_of}
 use Rattle.wasm_feed.specs.Feed.{Feed, pushed, finished}
-use Rattle.wasm_feed.specs.Listing.{line_of, listing_by}
+use Rattle.wasm_lines.specs.Listing.{line_of, listing_by}
 use Rattle.wasm_feed.specs.declared.listing.Ended.{Ended}
 use Rattle.wasm_feed.specs.declared.listing.Ended.TheVariants.{End, Fault}
-use Rattle.wasm_feed.specs.declared.devices.ListError.{ListError}
-use Rattle.wasm_feed.specs.declared.devices.ListError.TheVariants.{Input, Output, Memory}
+use Rattle.wasm_lines.specs.declared.devices.ListError.{ListError}
+use Rattle.wasm_lines.specs.declared.devices.ListError.TheVariants.{Input, Output, Memory}
 use Rattle.wasm_base.specs.Features.{all_features}
 
 -- the run ended as the stream does
@@ -93,19 +93,6 @@ Refills source rest old new (Ok done) = Fills source rest old new
 Refills source rest old new (Err Input) = Keeps source rest
 Refills source rest old new (Err Memory) = (piece : List ℕ) × Consumes source rest piece
 Refills source rest old new (Err Output) = ⊥
-
--- whether a device has failed after a call
-abbrev pub input_failed : {A : Type 0} → Result A ListError → Bool → Bool
-input_failed (Err Input) before = true
-input_failed (Err Output) before = before
-input_failed (Err Memory) before = before
-input_failed (Ok a) before = before
-
-abbrev pub output_failed : {A : Type 0} → Result A ListError → Bool → Bool
-output_failed (Err Output) before = true
-output_failed (Err Input) before = before
-output_failed (Err Memory) before = before
-output_failed (Ok a) before = before
 
 -- A whole listing: what it wrote of what the source gave, and whether each device has failed.
 pub record ListsSource (input output : Device) (how : Result Ended ListError) : Type 0 where

@@ -4,9 +4,9 @@ use Rattle.std.specs.Io.KnownBytes.{Consumes, Appends, IsAtEnd}
 use Rattle.wasm_parser.specs.Along.{Along}
 use Rattle.wasm_parser.specs.GivesNextEvent.{IsUndecided}
 use Rattle.wasm_grammar.specs.Reading.{Report, Event}
-use Rattle.wasm_feed.specs.Calls.{Change}
+use Rattle.wasm_lines.specs.Calls.{Change}
 use Rattle.wasm_feed.specs.Feed.{Feed}
-use Rattle.wasm_feed.specs.Listing.{listing_by}
+use Rattle.wasm_lines.specs.Listing.{listing_by}
 use Rattle.wasm_base.specs.Features.{all_features}
 
 -- how much there may be left: bytes to consume, bytes to come, and the end to be told

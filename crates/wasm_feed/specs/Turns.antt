@@ -5,12 +5,12 @@ use Rattle.wasm_base.specs.declared.error.Error.{Error}
 use Rattle.wasm_grammar.specs.Content.{fault}
 use Rattle.wasm_parser.specs.ParseAnswer.{report_of, is_end}
 use Rattle.wasm_grammar.specs.Reading.{Report, stream_end}
-use Rattle.wasm_feed.specs.Listing.{line_of}
-use Rattle.wasm_feed.specs.Page.{IsCut, PutsBytes}
+use Rattle.wasm_lines.specs.Listing.{line_of}
+use Rattle.wasm_lines.specs.Page.{IsCut, PutsBytes}
 use Rattle.wasm_feed.specs.declared.feeder.Step.{Step}
 use Rattle.wasm_feed.specs.declared.feeder.Step.TheVariants.{NeedMoreData, Parsed}
 use Rattle.wasm_feed.specs.declared.listing.Ended.TheVariants as how
-use Rattle.wasm_feed.specs.declared.devices.ListError.{ListError}
+use Rattle.wasm_lines.specs.declared.devices.ListError.{ListError}
 use Rattle.wasm_feed.specs.declared.listing.Turn.{Turn}
 use Rattle.wasm_feed.specs.declared.listing.Turn.TheVariants as turn
 

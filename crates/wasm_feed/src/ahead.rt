@@ -2,13 +2,13 @@
 ghost use Rattle.std.specs.Prelude.{◌≡◌, ◌+◌, ◌<◌, ◌≤◌, [], drop, length, vec_len, vec_capacity, is_ok, true, IfErr, OnOk, if◌then◌else◌};
 ghost use Rattle.wasm_feed.specs.Beside.{beside, lending, Fetches, ReadsEnough, RefillsAlike};
 ghost use Rattle.wasm_feed.specs.Cursors.{feed_of};
-ghost use Rattle.wasm_feed.specs.Lists.{input_failed};
-ghost use Rattle.wasm_feed.specs.declared.devices.ListError.TheVariants.{Memory};
+ghost use Rattle.wasm_lines.specs.Calls.{input_failed};
+ghost use Rattle.wasm_lines.specs.declared.devices.ListError.TheVariants.{Memory};
 
-use crate::devices::{Failed, ListError, Source};
 use crate::feeder::{Cursor, keep, make_ready, pass_lent};
 use std::alloc::Allocator;
 use std::marker::Model;
+use wasm_lines::{Failed, ListError, Source};
 
 /// What is left of the piece that was read last, in the buffer that it was read into.
 #[derive(Drop)]

@@ -7,17 +7,18 @@ ghost use Rattle.wasm_parser.specs.ParseAnswer.{ParseAnswer};
 ghost use Rattle.wasm_feed.specs.Beside.{MayCome, StepsOver};
 ghost use Rattle.wasm_feed.specs.Cursors.{feed_of, finished_cursor};
 ghost use Rattle.wasm_feed.specs.Feed.{empty_feed, new_feed, pushed, finished, RefusesPush};
-ghost use Rattle.wasm_feed.specs.Lists.{Refills, input_failed};
+ghost use Rattle.wasm_feed.specs.Lists.{Refills};
+ghost use Rattle.wasm_lines.specs.Calls.{input_failed};
 ghost use Rattle.wasm_feed.specs.Step.{answer_of, shown, is_request, GivesStep};
 
 mod lending;
 
 use crate::buffer::{after, append};
-use crate::devices::{ListError, Source};
 use lending::take_left;
 pub(crate) use lending::{keep, make_ready, pass_lent, seen};
 use std::alloc::{Allocator, Global};
 use std::marker::Model;
+use wasm_lines::{ListError, Source};
 use wasm_parser::{Chunk, Error, Fault, Parser, Payload, Result, WasmFeatures, fits};
 
 /// What one step of a feeder gives.

@@ -5,8 +5,8 @@ ghost use Rattle.wasm_feed.specs.Ends.{fault_at_end};
 ghost use Rattle.wasm_feed.specs.Stripped.{StrippingTwiceIsOnce};
 ghost use Rattle.wasm_feed.specs.FeedersLaws.{FeedersGoAlong, FeedersWait};
 
-use crate::devices::{Failed, ListError};
 use crate::listing::Ended;
+use wasm_lines::{Failed, ListError};
 
 /// Where a feeder is along a stream, whatever calls are made of it, in any order. A new one is where nothing was given, and a
 /// chunk adds to what was given. A step, over a chunk too, is the next event of every stream that goes on so, its last one, or

@@ -1,14 +1,13 @@
 // The listing of a stream.
 ghost use Rattle.std.specs.Prelude.{◌≡◌, ◌≤◌};
-ghost use Rattle.wasm_feed.specs.Calls.{device_of};
-ghost use Rattle.wasm_feed.specs.Lists.{ListsSource, output_failed};
+ghost use Rattle.wasm_lines.specs.Calls.{device_of, output_failed};
+ghost use Rattle.wasm_feed.specs.Lists.{ListsSource};
 ghost use Rattle.wasm_feed.specs.Turns.{TakesTurn};
 
 use crate::ahead::Ahead;
-use crate::devices::{ListError, Sink, Source};
 use crate::feeder::{Cursor, Step, parse_next, seen};
-use crate::page::Page;
 use std::alloc::{Allocator, Global};
+use wasm_lines::{ListError, Page, Sink, Source};
 use wasm_parser::{Error, Parser, Payload, Result as ParserResult};
 
 /// How a stream that was listed ended.

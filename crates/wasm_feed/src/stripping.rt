@@ -7,9 +7,9 @@ ghost use Rattle.wasm_feed.specs.Strips.{CountsKept, CopiesKept, custom_fate, Go
 ghost use Rattle.wasm_parser.specs.ParseAnswer.{report_of};
 ghost use Rattle.wasm_grammar.specs.Reading.{Stream};
 
-use crate::devices::list_of_capacity;
 use crate::feeder::{Cursor, Step, parse_next};
 use std::alloc::{Allocator, Global};
+use wasm_lines::list_of_capacity;
 use wasm_parser::{Error, Fault, Parser, Payload, Result};
 
 /// What becomes of a part of a stream that is stripped.

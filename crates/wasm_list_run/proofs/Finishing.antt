@@ -3,7 +3,7 @@ use Rattle.std.proofs.Common.{◌≡◌, ◌⊎◌, ℕ, ◌<◌, Bool, List, Op
 use Rattle.std.proofs.Common.{inr}
 use Rattle.std.specs.Io.KnownBytes.{Appends, Keeps}
 use Rattle.wasm_feed.specs.Lists.{Lists}
-use Rattle.wasm_feed.specs.Calls.{Device, from_to}
+use Rattle.wasm_lines.specs.Calls.{Device, from_to}
 use Rattle.wasm_run.proofs.ForCallers.{appends_kept}
 use Rattle.wasm_run.specs.Devices.{over, Follows, IsUntouched, Says}
 use Rattle.wasm_run.specs.Endings.{RunsUsage, HandsOn, FailsToHandOn, LeavesAlone, Finishes, status_of}
@@ -11,7 +11,7 @@ use Rattle.wasm_list_run.specs.Runs.{RunsListingAs, Runs, EndsAs, ListsAll, Runs
 use Rattle.wasm_list_run.specs.declared.command.Command.{Command}
 use Rattle.wasm_feed.specs.declared.listing.Ended.{Ended}
 use Rattle.wasm_feed.specs.declared.listing.Ended.TheVariants.{End, Fault}
-use Rattle.wasm_feed.specs.declared.devices.ListError.{ListError}
+use Rattle.wasm_lines.specs.declared.devices.ListError.{ListError}
 
 lists_kept : (source rest taken written kept : Option (List ℕ)) (how : Ended) → Lists (from_to source rest) (from_to taken written) (Ok how)
     → Keeps written kept

@@ -2,10 +2,10 @@
 use Rattle.std.specs.Prelude.{◌≡◌, ◌⊎◌, ℕ, Bool, List, drop, codes, Option, Some, None, Result, Ok, Err, if◌then◌else◌}
 use Rattle.std.specs.IoError.{error_kind}
 use Rattle.std.specs.declared.io.Error.{Error}
-use Rattle.wasm_feed.specs.Calls.{Device, bytes_of}
-use Rattle.wasm_feed.specs.Lists.{Lists, ListsSource, input_failed, output_failed}
+use Rattle.wasm_lines.specs.Calls.{Device, bytes_of, input_failed, output_failed}
+use Rattle.wasm_feed.specs.Lists.{Lists, ListsSource}
 use Rattle.wasm_feed.specs.declared.listing.Ended.{Ended}
-use Rattle.wasm_feed.specs.declared.devices.ListError.{ListError}
+use Rattle.wasm_lines.specs.declared.devices.ListError.{ListError}
 use Rattle.wasm_run.specs.Arguments.{is_no_text}
 use Rattle.wasm_run.specs.Devices.{over, Follows, Says, complaint_of}
 use Rattle.wasm_run.specs.Endings.{status_of, Reports, RunsUsage, CannotBegin, HandsOn, FailsToHandOn, Finishes}

@@ -6,11 +6,10 @@ use Rattle.wasm_base.specs.FaultAt.{FaultAt, fault_at}
 use Rattle.wasm_base.specs.Message.{error_text}
 use Rattle.wasm_base.specs.declared.error.Error.{Error}
 use Rattle.wasm_grammar.specs.Accepted.{IsAccepted}
-use Rattle.wasm_feed.specs.Lists.{input_failed}
+use Rattle.wasm_lines.specs.Calls.{input_failed, Device}
 use Rattle.wasm_feed.specs.Stripped.{IsStripped, EndsWithFault}
-use Rattle.wasm_feed.specs.declared.devices.ListError.{ListError}
-use Rattle.wasm_feed.specs.declared.devices.ListError.TheVariants.{Input, Output, Memory}
-use Rattle.wasm_feed.specs.Calls.{Device}
+use Rattle.wasm_lines.specs.declared.devices.ListError.{ListError}
+use Rattle.wasm_lines.specs.declared.devices.ListError.TheVariants.{Input, Output, Memory}
 use Rattle.wasm_run.specs.Devices.{IsUntouched, Says}
 use Rattle.wasm_run.specs.Endings.{GivesUpAs, WritesAll, WritesSome}
 

@@ -2,7 +2,7 @@
 ghost use Rattle.std.specs.Prelude.{◌≡◌, map, string_bytes};
 ghost use Rattle.std.specs.Process.{exit_status};
 ghost use Rattle.std.specs.Vec.Iter.{into_iter_items};
-ghost use Rattle.wasm_feed.specs.Calls.{device_of, writer_device};
+ghost use Rattle.wasm_lines.specs.Calls.{device_of, writer_device};
 ghost use Rattle.wasm_list_run.specs.Commands.{command_of as command_by};
 ghost use Rattle.wasm_list_run.specs.Runs.{Runs, RunsListing, RunsProgram, command_after_name as command_if_any};
 
@@ -12,7 +12,7 @@ use std::alloc::Global;
 use std::env::{self, Args};
 use std::io::{self, Write};
 use std::process::ExitCode;
-use wasm_feed::{Ended, ListError, ReadSource, Sink, Source, WriteSink, list};
+use wasm_feed::{Ended, list, ListError, ReadSource, Sink, Source, WriteSink};
 use wasm_run::{PIECE, complain, finish, give_up};
 
 /// The program over the standard streams.

@@ -1,6 +1,5 @@
 // The input without its custom sections.
-ghost use Rattle.wasm_feed.specs.Lists.{input_failed};
-ghost use Rattle.wasm_feed.specs.Calls.{device_of};
+ghost use Rattle.wasm_lines.specs.Calls.{input_failed, device_of};
 ghost use Rattle.wasm_list_run.specs.Strips.{ReadsAll, ReadsPiece, Refuses, RunsStripping, WritesStripped};
 ghost use Rattle.std.specs.Prelude.{◌≡◌, ◌<◌, length};
 

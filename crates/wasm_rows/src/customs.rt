@@ -9,7 +9,8 @@ use wasm_custom::{
 };
 use wasm_feed::Sink;
 use wasm_items::RecGroup;
-use wasm_show::{Items, Show, Tree, show_list};
+use wasm_show::{Items, Show, show_list};
+use wasm_tree::Tree;
 
 /// Writes the section or the list that this reader reads, or its fault. Returns whether there is such a reader.
 pub(crate) fn show_custom<W: Sink>(

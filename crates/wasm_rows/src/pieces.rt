@@ -5,9 +5,9 @@ use std::alloc::{AllocError, Global};
 use std::fmt::Write;
 use std::ops::Range;
 use wasm_base::{BinaryReader, Error, WasmFeatures};
-use wasm_feed::{Event, EventKind, Feeder, ListError, Sink, Step, fits_pieces, read_pieces};
+use wasm_feed::{Event, EventKind, Feeder, fits_pieces, ListError, read_pieces, Sink, Step};
 use wasm_parser::{Encoding, Payload};
-use wasm_show::Tree;
+use wasm_tree::Tree;
 
 // Writes the text of a fault.
 fn show_fault(e: &Error, out: &mut String) -> Result<(), AllocError> {

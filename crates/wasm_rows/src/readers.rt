@@ -15,7 +15,8 @@ use wasm_items::{
     ImportItemCompact, ImportSection, ImportSectionReader, Imports, MemoryType, RecGroup, RefType,
     Table, TagType, TypeRef, ValType,
 };
-use wasm_show::{Show, Tree, show_items};
+use wasm_show::{Show, show_items};
+use wasm_tree::Tree;
 
 /// How many bytes of a line are written at once at most.
 const PART: usize = 65_536;

@@ -1,9 +1,9 @@
 -- Calls that leave a device alone or write to it, and what is said when a run is given up.
 use Rattle.std.specs.Prelude.{◌≡◌, ℕ, false, List, take, codes}
 use Rattle.std.specs.Io.KnownBytes.{Appends}
-use Rattle.wasm_feed.specs.Calls.{Device}
-use Rattle.wasm_feed.specs.declared.devices.ListError.{ListError}
-use Rattle.wasm_feed.specs.declared.devices.ListError.TheVariants.{Input, Output, Memory}
+use Rattle.wasm_lines.specs.Calls.{Device}
+use Rattle.wasm_lines.specs.declared.devices.ListError.{ListError}
+use Rattle.wasm_lines.specs.declared.devices.ListError.TheVariants.{Input, Output, Memory}
 
 -- what is said of a run that was given up
 abbrev pub complaint_of : ListError → List ℕ

@@ -1,5 +1,5 @@
 // How a run ends.
-ghost use Rattle.wasm_feed.specs.Calls.{device_of, writer_device};
+ghost use Rattle.wasm_lines.specs.Calls.{device_of, writer_device};
 ghost use Rattle.wasm_run.specs.Endings.{Finishes};
 
 use crate::messages::give_up;

@@ -1,6 +1,6 @@
 // What is said where a run is given up.
 ghost use Rattle.std.specs.Prelude.{◌≡◌};
-ghost use Rattle.wasm_feed.specs.Calls.{device_of};
+ghost use Rattle.wasm_lines.specs.Calls.{device_of};
 ghost use Rattle.wasm_run.specs.Devices.{Says, complaint_of};
 
 use wasm_feed::{ListError, Sink, write_all};

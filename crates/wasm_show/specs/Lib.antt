@@ -1,12 +1,3 @@
-pub mod Chosen
-pub mod Dump
-pub mod Fields
-pub mod ItemNames
 pub mod ItemText
-pub mod Json
-pub mod Numbers
-pub mod Rows
-pub mod Said
 pub mod SymbolText
-pub mod Tree
 pub mod TypeText

@@ -5,7 +5,7 @@ use Rattle.wasm_custom.specs.Linking.{text_if_any}
 use Rattle.wasm_custom.specs.declared.linking.DefinedDataSymbol.{DefinedDataSymbol}
 use Rattle.wasm_custom.specs.declared.linking.SymbolInfo.{SymbolInfo}
 use Rattle.wasm_custom.specs.declared.linking.SymbolInfo.TheVariants as symbols
-use Rattle.wasm_show.specs.Fields.{Field, named, alone, number, quoted, word, Value}
+use Rattle.wasm_tree.specs.Fields.{Field, named, alone, number, quoted, word, Value}
 
 abbrev pub quoted_if_any : Option (List ℕ) → Value
 quoted_if_any (Some text) = quoted text

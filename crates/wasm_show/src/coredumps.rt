@@ -1,12 +1,12 @@
 // Texts of core dumps.
 use crate::lists::{show_lines, under, write_lines};
 use crate::show::Show;
-use crate::tree::Tree;
 use wasm_custom::{
     CoreDumpInstance, CoreDumpInstancesSection, CoreDumpModulesSection, CoreDumpSection,
     CoreDumpStackFrame, CoreDumpStackSection, CoreDumpValue,
 };
-use wasm_feed::Sink;
+use wasm_lines::Sink;
+use wasm_tree::Tree;
 
 impl Show for CoreDumpSection<'_> {
     fn show<W: Sink>(&self, _level: usize, out: &mut Tree<W>) {

@@ -1,15 +1,15 @@
 // Texts of custom sections.
-ghost use Rattle.wasm_show.specs.Tree.{Adds};
+ghost use Rattle.wasm_tree.specs.Tree.{Adds};
 
 use crate::lists::{show_fault, show_items, show_list, under};
 use crate::show::Show;
-use crate::tree::Tree;
 use std::alloc::Global;
 use wasm_custom::{
     BranchHint, BranchHintFunction, CustomSectionReader, KnownCustom, NameSectionReader,
     ProducersField, ProducersFieldValue,
 };
-use wasm_feed::Sink;
+use wasm_lines::Sink;
+use wasm_tree::Tree;
 
 impl Show for BranchHint {
     fn show<W: Sink>(&self, _level: usize, out: &mut Tree<W>) {
@@ -49,11 +49,7 @@ impl Show for NameSectionReader<'_> {
 }
 
 /// Writes the name of a custom section, and under it, if its data is known, what that says.
-pub(crate) fn show_custom<W: Sink>(
-    alloc: Global,
-    section: &CustomSectionReader<'_>,
-    out: &mut Tree<W>,
-)
+pub fn show_custom<W: Sink>(alloc: Global, section: &CustomSectionReader<'_>, out: &mut Tree<W>)
     ensures { Adds out.old out.new }
 {
     out.line(1, "section");

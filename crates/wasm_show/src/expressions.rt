@@ -1,15 +1,15 @@
 // Texts of constant expressions, by the names of the text format.
 ghost use Rattle.std.specs.Prelude.{◌≡◌, false};
 ghost use Rattle.wasm_show.specs.ItemText.{expression_field};
-ghost use Rattle.wasm_show.specs.Said.{SaysSome, SaysWith};
-ghost use Rattle.wasm_show.specs.Tree.{Adds, has_line_feed};
+ghost use Rattle.wasm_tree.specs.Said.{SaysSome, SaysWith};
+ghost use Rattle.wasm_tree.specs.Tree.{Adds, has_line_feed};
 
 use crate::lists::write_word;
 use crate::show::Show;
-use crate::tree::Tree;
-use wasm_feed::Sink;
 use wasm_items::{ConstExpr, ConstInstruction, ConstOperator};
+use wasm_lines::Sink;
 use wasm_parser::Result;
+use wasm_tree::Tree;
 
 // The name of an operator.
 fn operator_word(operator: &ConstOperator) -> &'static str

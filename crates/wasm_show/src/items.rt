@@ -4,21 +4,21 @@ ghost use Rattle.wasm_items.specs.Data.{data_parts};
 ghost use Rattle.wasm_items.specs.Exports.{export_parts};
 ghost use Rattle.wasm_show.specs.ItemText.{data_fields, data_kind_fields, global_fields, table_item_fields};
 ghost use Rattle.wasm_items.specs.Imports.{import_parts};
-ghost use Rattle.wasm_show.specs.Fields.{field_text};
+ghost use Rattle.wasm_tree.specs.Fields.{field_text};
 ghost use Rattle.wasm_show.specs.ItemText.{export_fields, import_fields, kind_field, kind_word as word_of_kind, type_ref_fields};
-ghost use Rattle.wasm_show.specs.Said.{Says, SaysFields, SaysWith};
-ghost use Rattle.wasm_show.specs.Tree.{Adds, has_line_feed};
+ghost use Rattle.wasm_tree.specs.Said.{Says, SaysFields, SaysWith};
+ghost use Rattle.wasm_tree.specs.Tree.{Adds, has_line_feed};
 
 use crate::expressions::show_expr;
 use crate::lists::{show_extent, show_list, show_section, under};
 use crate::show::Show;
-use crate::tree::Tree;
 use crate::types::wide;
-use wasm_feed::Sink;
 use wasm_items::{
     Data, DataKind, Element, ElementItems, ElementKind, Export, ExternalKind, Global as GlobalItem,
     Import, ImportItemCompact, Imports, Table, TableInit, TypeRef,
 };
+use wasm_lines::Sink;
+use wasm_tree::Tree;
 
 // The word of what is imported or exported.
 fn kind_word(kind: &ExternalKind) -> &'static str

@@ -1,21 +1,21 @@
 // Texts of the sections for linkers, static and dynamic, and of their items.
 ghost use Rattle.std.specs.Prelude.{◌≡◌, false};
 ghost use Rattle.wasm_custom.specs.Linking.{text_if_any};
-ghost use Rattle.wasm_show.specs.Said.{SaysFields};
+ghost use Rattle.wasm_tree.specs.Said.{SaysFields};
 ghost use Rattle.wasm_show.specs.SymbolText.{data_symbol_fields, defined_fields, indexed_fields, section_symbol_fields, symbol_fields};
-ghost use Rattle.wasm_show.specs.Tree.{Adds, has_line_feed};
+ghost use Rattle.wasm_tree.specs.Tree.{Adds, has_line_feed};
 
 use crate::lists::{show_items, show_lines, show_list, under};
 use crate::names::show_unknown;
 use crate::show::Show;
-use crate::tree::Tree;
 use bitflags::Flags;
 use wasm_custom::{
     Comdat, ComdatSymbol, ComdatSymbolKind, DefinedDataSymbol, Dylink0SectionReader,
     Dylink0Subsection, ExportInfo, ImportInfo, InitFunc, Linking, LinkingSectionReader, MemInfo,
     RelocSectionReader, RelocationEntry, RelocationType, Segment, SymbolInfo,
 };
-use wasm_feed::Sink;
+use wasm_lines::Sink;
+use wasm_tree::Tree;
 
 impl Show for Segment<'_> {
     fn show<W: Sink>(&self, _level: usize, out: &mut Tree<W>) {

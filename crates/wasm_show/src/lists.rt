@@ -1,19 +1,19 @@
 // Lists of items.
 ghost use Rattle.std.specs.Prelude.{◌≡◌, false};
 ghost use Rattle.std.specs.List.{flat_map};
-ghost use Rattle.wasm_show.specs.Said.{Says, SaysSome};
-ghost use Rattle.wasm_show.specs.Tree.{Adds, has_line_feed};
+ghost use Rattle.wasm_tree.specs.Said.{Says, SaysSome};
+ghost use Rattle.wasm_tree.specs.Tree.{Adds, has_line_feed};
 ghost use Rattle.wasm_show.specs.TypeText.{after_blank};
 
 use crate::show::{Show, Text};
-use crate::tree::Tree;
 use wasm_base::{
     Error, Fault, FromReader, FromReaderIn, Result, SectionLimited, SectionLimitedIntoIterIn,
     SectionLimitedIntoIterWithOffsets, Subsection, Subsections,
 };
 use wasm_custom::{IndirectNameMap, IndirectNaming, Name, NameMap, NameSectionReader, Naming};
-use wasm_feed::Sink;
 use wasm_items::{Import, IntoImportsWithOffsets};
+use wasm_lines::Sink;
+use wasm_tree::Tree;
 
 /// Items that come one after the other, fewer than 2^64 of them.
 pub trait Items: Drop {
@@ -82,7 +82,7 @@ pub(crate) fn show_extent<T, W: Sink>(
 }
 
 /// Writes the items of a section, each on a line at this level, with its offset.
-pub(crate) fn show_section<'a, T: FromReader<'a> + Show, W: Sink>(
+pub fn show_section<'a, T: FromReader<'a> + Show, W: Sink>(
     level: usize,
     section: &SectionLimited<'a, T>,
     out: &mut Tree<W>,

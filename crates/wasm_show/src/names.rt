@@ -1,13 +1,13 @@
 // Texts of names.
 ghost use Rattle.std.specs.Prelude.{◌≡◌, false};
-ghost use Rattle.wasm_show.specs.Tree.{Adds, has_line_feed};
+ghost use Rattle.wasm_tree.specs.Tree.{Adds, has_line_feed};
 
 use crate::lists::{show_items, under};
 use crate::show::Show;
-use crate::tree::Tree;
 use std::ops::Range;
 use wasm_custom::{IndirectNameMap, IndirectNaming, Name, NameMap, Naming};
-use wasm_feed::Sink;
+use wasm_lines::Sink;
+use wasm_tree::Tree;
 
 impl Show for Naming<'_> {
     fn show<W: Sink>(&self, _level: usize, out: &mut Tree<W>) {

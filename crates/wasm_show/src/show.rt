@@ -1,10 +1,10 @@
 // What can be shown.
 ghost use Rattle.wasm_show.specs.ItemText.{index_fields};
-ghost use Rattle.wasm_show.specs.Said.{Says, SaysFields};
-ghost use Rattle.wasm_show.specs.Tree.{Adds};
+ghost use Rattle.wasm_tree.specs.Said.{Says, SaysFields};
+ghost use Rattle.wasm_tree.specs.Tree.{Adds};
 
-use crate::tree::Tree;
-use wasm_feed::Sink;
+use wasm_lines::Sink;
+use wasm_tree::Tree;
 
 /// An item that can be shown.
 pub trait Show: Drop {
@@ -14,7 +14,7 @@ pub trait Show: Drop {
 }
 
 /// What is part of an item's text, without a name.
-pub(crate) trait Text: Drop {
+pub trait Text: Drop {
     ghost use Rattle.std.specs.Prelude.{ℕ, List};
 
     /// What it is.

@@ -1,20 +1,20 @@
 // Texts of types, in the standard's words.
 ghost use Rattle.std.specs.Prelude.{◌≡◌, false};
-ghost use Rattle.wasm_show.specs.Fields.{field_text, named, word};
+ghost use Rattle.wasm_tree.specs.Fields.{field_text, named, word};
 ghost use Rattle.wasm_show.specs.ItemText.{global_type_fields, memory_fields, table_fields, tag_fields};
-ghost use Rattle.wasm_show.specs.Said.{Says, SaysFields};
-ghost use Rattle.wasm_show.specs.Tree.{Adds, has_line_feed};
+ghost use Rattle.wasm_tree.specs.Said.{Says, SaysFields};
+ghost use Rattle.wasm_tree.specs.Tree.{Adds, has_line_feed};
 ghost use Rattle.wasm_show.specs.TypeText.{array_text, heap_word as word_of_heap, mutable_text, ref_start as start_of_ref, struct_text};
 ghost use Rattle.wasm_show.specs.TypeText.{sub_start as start_of_sub, supertype_text, types_text, val_text};
 
 use crate::lists::{under, write_lines, write_words};
 use crate::show::{Show, Text};
-use crate::tree::Tree;
-use wasm_feed::Sink;
 use wasm_items::{
     CompositeType, FieldType, FuncType, GlobalType, HeapType, MemoryType, RecGroup, RefType,
     StorageType, SubType, TableType, TagKind, TagType, ValType,
 };
+use wasm_lines::Sink;
+use wasm_tree::Tree;
 
 // The word of a heap type that is no index.
 fn heap_word(heap: &HeapType) -> &'static str

@@ -3,7 +3,8 @@ use std::alloc::Global;
 use std::test::Fail;
 use wasm_dump_run::{Options, dump_as};
 use wasm_feed::{BoundedSink, Ended, ListError, Sink, SliceSource, WriteSink};
-use wasm_show::{Only, Shown, Style, Tree, collect_names, dump};
+use wasm_dumper::{collect_names, dump, Only, Shown};
+use wasm_tree::{Style, Tree};
 
 // The linked module of docs/DUMP.md, whose bodies are filled with a byte.
 const LINKED: &[u8] =

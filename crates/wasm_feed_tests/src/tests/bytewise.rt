@@ -6,7 +6,8 @@ use bitflags::Flags;
 use std::alloc::{AllocError, Global};
 use std::process::Abort;
 use std::test::Fail;
-use wasm_feed::{Feeder, ShortText, Step, TEXT_BYTES};
+use wasm_feed::{Feeder, Step};
+use wasm_lines::{ShortText, TEXT_BYTES};
 use wasm_parser::{Error, Payload, Result, WasmFeatures};
 
 /// Where a stream begins, its bytes, and its listing.

@@ -6,7 +6,8 @@ use std::process::Abort;
 use std::test::Fail;
 use wasm_feed::{BoundedSink, Ended, Failed, ListError, SliceSource, Source};
 use wasm_parser::{Error, Fault};
-use wasm_show::{Only, Shown, Tree, dump};
+use wasm_dumper::{dump, Only, Shown};
+use wasm_tree::Tree;
 
 /// A module with an item in each of its sections, and names that don't ascend.
 const MODULE: &[u8] =

@@ -5,7 +5,7 @@ use std::alloc::Global;
 use std::process::Abort;
 use std::test::Fail;
 use wasm_feed::Ended;
-use wasm_show::Only;
+use wasm_dumper::Only;
 
 /// A stream with each kind of fault, and its listing.
 const LISTINGS: [(&[u8], &[u8]); 18] = [

@@ -3,7 +3,7 @@ use std::alloc::{Allocator, Global};
 use std::process::Abort;
 use std::test::Fail;
 use wasm_feed::ListError;
-use wasm_show::{ItemNames, Space};
+use wasm_tree::{ItemNames, Space};
 use wasm_test_heap::Sparing;
 
 const SPACES: [Space; 8] = [

@@ -1,8 +1,8 @@
 use Rattle.std.proofs.Common.{◌≡◌}
 use Rattle.wasm_feed.specs.Beside.{beside}
-use Rattle.wasm_feed.specs.Calls.{from_to}
+use Rattle.wasm_lines.specs.Calls.{from_to}
 use Rattle.wasm_feed.specs.Cursors.{feed_of}
-use Rattle.wasm_feed.specs.Listing.{line_of}
+use Rattle.wasm_lines.specs.Listing.{line_of}
 use Rattle.wasm_feed.specs.Progress.{Progress, weight}
 use Rattle.wasm_feed.proofs.listing.list_in.Given as goal
 

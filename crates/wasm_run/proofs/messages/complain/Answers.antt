@@ -1,9 +1,9 @@
 use Rattle.std.proofs.Common.{◌≡◌, ℕ, true, List, length, take, Result, Ok, Err, OnOk, OnErr, is_ok, if◌then◌else◌, subst, sym, le_refl}
 use Rattle.std.proofs.Common.{take_all}
 use Rattle.std.specs.Io.KnownBytes.{Appends}
-use Rattle.wasm_feed.specs.Calls.{Device}
+use Rattle.wasm_lines.specs.Calls.{Device}
 use Rattle.wasm_run.specs.Devices.{Says}
-use Rattle.wasm_feed.specs.declared.devices.Failed.{Failed}
+use Rattle.wasm_lines.specs.declared.devices.Failed.{Failed}
 use Rattle.wasm_run.proofs.messages.complain.Goals as goal
 
 says : (r : Result (Unit {0}) Failed) (device : Device) (message : List ℕ) → OnOk r (Appends device.before device.after message)

@@ -1,4 +1,4 @@
-use Rattle.wasm_show.specs.Tree.{Origin, IsWritten}
+use Rattle.wasm_tree.specs.Tree.{Origin, IsWritten}
 use Rattle.wasm_show.proofs.lists.show_items.Given as goal
 
 abbrev pub invariant-loop : goal.invariant-loop

@@ -1,8 +1,8 @@
 use Rattle.std.proofs.Common.{◌∷◌, [], List, ℕ, codes, refl, subst}
-use Rattle.wasm_show.specs.Fields.{named, raw, range}
+use Rattle.wasm_tree.specs.Fields.{named, raw, range}
 use Rattle.wasm_show.specs.ItemText.{data_kind_fields}
-use Rattle.wasm_show.specs.Said.{HasLine}
-use Rattle.wasm_show.proofs.Saying.{more_fields}
+use Rattle.wasm_tree.specs.Said.{HasLine}
+use Rattle.wasm_tree.proofs.ForCallers.{more_fields}
 use Rattle.wasm_show.proofs.items.DataShow.show.Goals as goal
 
 pub returns-clause-says : goal.returns-clause-says

@@ -1,0 +1,4 @@
+pub mod Counted
+pub mod Dumping
+pub mod Lines
+pub mod Numbering

@@ -1,0 +1,42 @@
+use Rattle.std.proofs.Common.{List, ap, subst, sym, ◌∙◌}
+use Rattle.wasm_base.specs.Section.{Section}
+use Rattle.wasm_base.specs.Window.{place}
+use Rattle.wasm_items.specs.Flattened.{flattened}
+use Rattle.wasm_tree.specs.Numbers.{Found, import_numbers}
+use Rattle.wasm_tree.specs.declared.numbers.Counts.{Counts}
+use Rattle.wasm_dumper.proofs.Numbering.{AddsAllBut, none_shown, import_shown, all_shown, some_shown}
+use Rattle.wasm_dumper.proofs.numbered.show_imports.Goals as goal
+use Rattle.wasm_dumper.proofs.numbered.show_imports.Goals.{in-None, in-Some+then-has_stopped}
+
+pub loop-import-init : goal.loop-import-init
+loop-import-init g c =
+    let all = import_numbers c.args.counts.now (flattened c.args.section.now.count (place c.args.section.now.reader)) in
+    let copy = rw c.unwrap.ensures at c.clone.ensures.cases in
+    let begins = c.into_iter-import-iterator.ensures.into_iter_gives ∙ (c.into_imports_with_offsets-import-items.ensures
+    ∙ ap (λ (s : Section). flattened s.count (place s.reader)) copy) in
+    record {
+      can = tt;
+      finite = tt;
+      left = subst (λ (s : List Found). AddsAllBut all (import_numbers c.args.counts.now s) c.args.out.now c.args.out.now) (sym begins)
+          (none_shown all c.args.out.now);
+    }
+
+pub loop-import-preserved : goal.loop-import-preserved
+loop-import-preserved g c =
+    let all = import_numbers c.args.counts.now (flattened c.args.section.now.count (place c.args.section.now.reader)) in
+    record {
+      can = tt;
+      finite = tt;
+      left = subst (λ (q : Counts). AddsAllBut all (import_numbers q c.next.new.self) c.args.out.now c.show_import.new.out)
+          (sym c.show_import.ensures.counted)
+          (import_shown all c.loop-import.before _ _ _ _ _ _ c.loop-import.invariant.left c.in-Some.ensures.steps
+          c.show_import.ensures.shows);
+    }
+
+pub returns : goal.returns
+returns g c =
+    let all = import_numbers c.args.counts.now (flattened c.args.section.now.count (place c.args.section.now.reader)) in
+    elim c.match-next.branch [
+      | in-None w ↦ all_shown all c.loop-import.before _ _ _ _ c.loop-import.invariant.left w.in-None.ensures.steps
+      | in-Some+then-has_stopped w ↦ some_shown all _ _ _ (sym w.has_stopped.ensures ∙ w.if-has_stopped.true) c.loop-import.invariant.left
+    ]

@@ -1,0 +1,13 @@
+use Rattle.wasm_base.specs.Window.{place}
+use Rattle.wasm_items.specs.Flattened.{flattened}
+use Rattle.wasm_tree.specs.Numbers.{import_numbers}
+use Rattle.wasm_dumper.proofs.Numbering.{AddsAllBut}
+use Rattle.wasm_dumper.proofs.numbered.show_imports.Given as goal
+
+abbrev pub invariant-loop-import : goal.invariant-loop-import
+invariant-loop-import g l = record {
+  can : (goal.iterator-loop-import g).can_next l.import-iterator;
+  finite : (goal.iterator-loop-import g).is_finite l.import-iterator;
+  left : AddsAllBut (import_numbers l.fn.counts (flattened l.fn.section.count (place l.fn.section.reader)))
+      (import_numbers l.before l.import-iterator) l.initial.out l.out;
+}

@@ -1,0 +1,11 @@
+use Rattle.wasm_tree.specs.Numbers.{count_of}
+use Rattle.wasm_dumper.proofs.Counted.{AddsSoFar}
+use Rattle.wasm_dumper.proofs.numbered.show_numbered.Given as goal
+
+abbrev pub invariant-loop-item : goal.invariant-loop-item
+invariant-loop-item g l = record {
+  can : (goal.iterator-loop-item g).can_next l.item-iterator;
+  finite : (goal.iterator-loop-item g).is_finite l.item-iterator;
+  left : AddsSoFar g.T.FromReader.meaning l.fn.space (count_of l.fn.counts l.fn.space) l.index l.fn.section l.item-iterator
+      l.initial.out l.out;
+}

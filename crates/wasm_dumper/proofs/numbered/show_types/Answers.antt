@@ -1,0 +1,13 @@
+use Rattle.std.proofs.Common.{ℕ, arith, subst, sym}
+use Rattle.wasm_tree.specs.Tree.{AddsUpTo}
+use Rattle.wasm_tree.specs.declared.numbers.Space.TheVariants.{Types}
+use Rattle.wasm_dumper.proofs.Numbering.{up_to_none, up_to_one}
+use Rattle.wasm_dumper.proofs.numbered.show_types.Goals as goal
+
+pub loop-ty-init : goal.loop-ty-init
+loop-ty-init g c = up_to_none Types c.args.first _ (omega arith)
+
+pub loop-ty-preserved : goal.loop-ty-preserved
+loop-ty-preserved g c = subst (λ (n : ℕ). AddsUpTo Types c.args.first n c.args.out.now c.show_type.new.out)
+    (sym c.saturating_add-index.ensures)
+    (up_to_one Types c.args.first _ c.loop-ty.index _ _ c.loop-ty.invariant c.show_type.ensures)

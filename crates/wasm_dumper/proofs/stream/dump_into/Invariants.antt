@@ -1,0 +1,18 @@
+use Rattle.std.proofs.Common.{◌≡◌, ◌<◌, length}
+use Rattle.wasm_feed.specs.Progress.{weight}
+use Rattle.wasm_dumper.proofs.Dumping.{Dumping}
+use Rattle.wasm_dumper.proofs.stream.dump_into.Given as goal
+
+-- how far the dump has come
+abbrev pub invariant-events : goal.invariant-events
+invariant-events g l =
+    let source = g.R.Source in
+    record {
+      dumping : Dumping l.shown.only.now l.shown.has_bytes (source.remaining l.initial.input)
+          (source.remaining l.input) l.initial.out l.feeder l.counts l.out;
+      input : source.has_failed l.input ≡ source.has_failed l.initial.input;
+      buffer : 0 < length l.buffer;
+    }
+
+abbrev pub decreases-events : goal.decreases-events
+decreases-events g l = weight l.feeder

@@ -1,0 +1,87 @@
+-- Which events a dump shows, and the line of each.
+use Rattle.std.specs.Prelude.{◌≡◌, option_map, ℕ, Bool, true, false, List, [], ◌∷◌, ◌++◌, Option, Some, None, nat_eq}
+use Rattle.std.specs.Prelude.{bytes_eq, codes, if◌then◌else◌}
+use Rattle.std.specs.List.{list_any}
+use Rattle.wasm_grammar.specs.Reading.{Report, counted, code_entry, custom_section, stream_end}
+use Rattle.wasm_grammar.specs.Ids.{code_id}
+use Rattle.wasm_grammar.specs.Ids.{name_of as section_name}
+use Rattle.wasm_grammar.specs.Sections.{section_of}
+use Rattle.wasm_lines.specs.Listing.{line_of, report_text}
+use Rattle.wasm_tree.specs.Numbers.{blank_numbers, numbers_in_line}
+use Rattle.wasm_tree.specs.declared.numbers.Counts.{Counts}
+use Rattle.wasm_dumper.specs.declared.only.Only.{Only}
+use Rattle.wasm_dumper.specs.declared.only.Only.TheVariants.{All, Id, Name}
+
+-- the id of the section that is reported, or that a part of one is of. Core specification, Binary format, Modules,
+-- Sections.
+abbrev pub id_of : Report → Option ℕ
+id_of (code_entry window) = Some code_id
+id_of other = option_map (λ s. s.0) (section_of other)
+
+-- the name of the custom section that is reported
+abbrev pub name_of : Report → Option (List ℕ)
+name_of (custom_section name data_offset window) = Some name
+name_of other = None
+
+abbrev pub is_last : Report → Bool
+is_last (stream_end end) = true
+is_last other = false
+
+abbrev pub is_id : ℕ → Option ℕ → Bool
+is_id id (Some other) = nat_eq id other
+is_id id None = false
+
+abbrev pub is_name : List ℕ → Option (List ℕ) → Bool
+is_name name (Some other) = bytes_eq name other
+is_name name None = false
+
+-- whether this choice alone chooses what is reported
+abbrev pub is_chosen_by : Only → Report → Bool
+is_chosen_by All report = true
+is_chosen_by (Id id) report = is_id id (id_of report)
+is_chosen_by (Name name) report = is_name name.now (name_of report)
+
+-- whether what is reported is shown: the sections that any of these choices chooses, and the last event
+abbrev pub is_chosen : List Only → Report → Bool
+is_chosen only report = if is_last report then true else list_any (λ choice. is_chosen_by choice report) only
+
+-- the name of the section that is reported with its id; the text of any other report begins with its name
+abbrev pub counted_name : Report → Option (List ℕ)
+counted_name (counted id count window) = section_name id
+counted_name other = None
+
+abbrev pub after_blank : Option (List ℕ) → List ℕ
+after_blank (Some name) = codes " " ++ name
+after_blank None = []
+
+abbrev pub section_words : Report → List ℕ
+section_words report = after_blank (counted_name report)
+
+-- the line of what is reported: its text in a listing, and then the name of the section
+abbrev pub shown_line : Report → List ℕ
+shown_line report = report_text report ++ (section_words report ++ codes "\n")
+
+-- what comes after the text of what is reported: the name of the section, and the numbers of items
+abbrev pub end_text : Counts → Report → List ℕ
+end_text counts report = section_words report ++ blank_numbers (numbers_in_line counts report) []
+
+-- the same line with the numbers of items that it has, after what came before, and with this after it
+abbrev pub numbered_text : Counts → Report → (rest : List ℕ) → List ℕ
+numbered_text counts report rest =
+    report_text report ++ (section_words report ++ blank_numbers (numbers_in_line counts report) rest)
+
+-- the line itself
+abbrev pub numbered_line : Counts → Report → List ℕ
+numbered_line counts report = numbered_text counts report (codes "\n")
+
+-- the line of what is reported, where it is shown
+abbrev pub chosen_line : List Only → Report → List ℕ
+chosen_line only report = if is_chosen only report then shown_line report else []
+
+-- The lines of a listing and of a dump begin with the same text. A listing's has nothing after it; a dump's the name
+-- of the section, and then the numbers of items that it shows.
+abbrev pub BeginAlike : Report → Type 0
+BeginAlike report = (line_of report ≡ report_text report ++ codes "\n")
+    × (shown_line report ≡ report_text report ++ (section_words report ++ codes "\n"))
+    × ((counts : Counts) → numbered_line counts report ≡ report_text report
+    ++ (section_words report ++ blank_numbers (numbers_in_line counts report) (codes "\n")))

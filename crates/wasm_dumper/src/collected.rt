@@ -1,0 +1,212 @@
+// The names of items that the custom sections `name` of a stream have.
+ghost use Rattle.std.specs.Prelude.{◌≡◌, IfErr};
+ghost use Rattle.wasm_lines.specs.declared.devices.ListError.TheVariants.{Memory};
+ghost use Rattle.wasm_tree.specs.ItemNames.{KeepsNames};
+
+use std::alloc::Global;
+use wasm_custom::{CustomSectionReader, Name, NameMap, NameSectionReader};
+use wasm_feed::{Feeder, Step};
+use wasm_lines::{ListError, Source};
+use wasm_parser::{Parser, Payload, Result as ParserResult};
+use wasm_tree::{ItemNames, Space};
+
+/// How many bytes are read at once at most.
+const PIECE: usize = 65_536;
+
+/// What is done next.
+#[derive(Clone, Copy)]
+enum Next {
+    /// Another step.
+    Step,
+    /// The source is read.
+    Read,
+    /// Nothing.
+    End,
+}
+
+// What is done after names that have a fault, or none.
+fn after_names(is_whole: bool) -> Next {
+    if is_whole { Next::Step } else { Next::End }
+}
+
+// Adds the names of a map, up to its first fault. Answers whether there is none.
+fn add_map(
+    alloc: Global,
+    names: &mut ItemNames,
+    space: Space,
+    map: &NameMap<'_>,
+) -> Result<bool, ListError>
+    ensures keeps { KeepsNames names.old names.new }
+    ensures memory { IfErr result (λ why. why ≡ Memory) }
+{
+    let mut map = map.clone().unwrap();
+    'names: for _ in 0..u64::MAX {
+        match map.next() {
+            Some(Ok(naming)) => names.add(alloc, space, naming.index, naming.name)?,
+            Some(Err(_)) => return Ok(false),
+            None => break,
+        }
+    }
+    Ok(true)
+}
+
+// Adds the names of a subsection, if they are of items.
+fn add_subsection(
+    alloc: Global,
+    names: &mut ItemNames,
+    subsection: &Name<'_>,
+) -> Result<bool, ListError>
+    ensures keeps { KeepsNames names.old names.new }
+    ensures memory { IfErr result (λ why. why ≡ Memory) }
+{
+    match subsection {
+        Name::Function(map) => add_map(alloc, names, Space::Functions, map),
+        Name::Types(map) => add_map(alloc, names, Space::Types, map),
+        Name::Table(map) => add_map(alloc, names, Space::Tables, map),
+        Name::Memory(map) => add_map(alloc, names, Space::Memories, map),
+        Name::Global(map) => add_map(alloc, names, Space::Globals, map),
+        Name::Element(map) => add_map(alloc, names, Space::Elements, map),
+        Name::Data(map) => add_map(alloc, names, Space::DataSegments, map),
+        Name::Tag(map) => add_map(alloc, names, Space::Tags, map),
+        _ => Ok(true),
+    }
+}
+
+// Adds the names of a name section, up to its first fault. Answers whether there is none.
+fn add_subsections(
+    alloc: Global,
+    names: &mut ItemNames,
+    mut section: NameSectionReader<'_>,
+) -> Result<bool, ListError>
+    ensures keeps { KeepsNames names.old names.new }
+    ensures memory { IfErr result (λ why. why ≡ Memory) }
+{
+    'subsections: for _ in 0..u64::MAX {
+        match section.next() {
+            Some(Ok(subsection)) => {
+                if !add_subsection(alloc, names, &subsection)? {
+                    return Ok(false);
+                }
+            }
+            Some(Err(_)) => return Ok(false),
+            None => break,
+        }
+    }
+    Ok(true)
+}
+
+// The same of a custom section, if it is one of names.
+fn add_section(
+    alloc: Global,
+    names: &mut ItemNames,
+    section: &CustomSectionReader<'_>,
+) -> Result<bool, ListError>
+    ensures keeps { KeepsNames names.old names.new }
+    ensures memory { IfErr result (λ why. why ≡ Memory) }
+{
+    if section.name() != "name" {
+        return Ok(true);
+    }
+    let section = NameSectionReader::new(alloc, section.data_reader());
+    add_subsections(alloc, names, section)
+}
+
+// Adds the names of a payload, and says what is done next.
+fn add_payload(
+    alloc: Global,
+    names: &mut ItemNames,
+    payload: &Payload<'_>,
+) -> Result<Next, ListError>
+    ensures keeps { KeepsNames names.old names.new }
+    ensures memory { IfErr result (λ why. why ≡ Memory) }
+{
+    match payload {
+        Payload::CustomSection(section) => Ok(after_names(add_section(alloc, names, section)?)),
+        Payload::End(_) => Ok(Next::End),
+        _ => Ok(Next::Step),
+    }
+}
+
+// The same of what a step answered.
+fn add_answer(
+    alloc: Global,
+    names: &mut ItemNames,
+    answer: &ParserResult<Step<'_>>,
+) -> Result<Next, ListError>
+    ensures keeps { KeepsNames names.old names.new }
+    ensures memory { IfErr result (λ why. why ≡ Memory) }
+{
+    match answer {
+        Ok(Step::NeedMoreData(_)) => Ok(Next::Read),
+        Ok(Step::Parsed { payload, .. }) => add_payload(alloc, names, payload),
+        Err(_) => Ok(Next::End),
+    }
+}
+
+// Goes one step along the stream, and adds the names of what it answered.
+fn add_step(alloc: Global, names: &mut ItemNames, feeder: &mut Feeder) -> Result<Next, ListError>
+    ensures keeps { KeepsNames names.old names.new }
+    ensures memory { IfErr result (λ why. why ≡ Memory) }
+{
+    let answer = feeder.step();
+    add_answer(alloc, names, &answer)
+}
+
+// Reads the source once. Answers whether it could be read.
+fn read_more<R: Source>(
+    feeder: &mut Feeder,
+    input: &mut R,
+    buffer: &mut [u8],
+) -> Result<bool, ListError>
+    ensures { IfErr result (λ why. why ≡ Memory) }
+{
+    if buffer.is_empty() {
+        return Ok(false);
+    }
+    if !feeder.wants_more() {
+        return Ok(false);
+    }
+    match feeder.read_from(input, buffer) {
+        Ok(()) => Ok(true),
+        Err(ListError::Memory) => Err(ListError::Memory),
+        Err(_) => Ok(false),
+    }
+}
+
+// Adds the names that a stream has.
+fn collect_into<R: Source>(
+    alloc: Global,
+    names: &mut ItemNames,
+    input: &mut R,
+    buffer: &mut [u8],
+) -> Result<(), ListError>
+    ensures keeps { KeepsNames names.old names.new }
+    ensures memory { IfErr result (λ why. why ≡ Memory) }
+{
+    let mut feeder = Feeder::new(alloc, 0, Parser::new(0).features());
+    'steps: for _ in 0..u64::MAX {
+        match add_step(alloc, names, &mut feeder)? {
+            Next::Step => {}
+            Next::Read => {
+                if !read_more(&mut feeder, input, buffer)? {
+                    break;
+                }
+            }
+            Next::End => break,
+        }
+    }
+    Ok(())
+}
+
+/// Reads the input, and answers the names of items that its custom sections `name` have: those before the first fault of the
+/// stream, of a name section or of the source. Of two names of one item it is the first.
+///
+/// `Memory` where a growth was refused, and no other error.
+pub fn collect_names<R: Source>(alloc: Global, input: &mut R) -> Result<ItemNames, ListError>
+    ensures { IfErr result (λ why. why ≡ Memory) }
+{
+    let mut names = ItemNames::new(alloc);
+    let mut buffer = vec![in alloc; 0u8; PIECE]?;
+    collect_into(alloc, &mut names, input, buffer.as_mut_slice())?;
+    Ok(names)
+}

@@ -1,0 +1,174 @@
+// Items with their numbers.
+ghost use Rattle.std.specs.Prelude.{◌≡◌, None, Some};
+ghost use Rattle.wasm_base.specs.Window.{place};
+ghost use Rattle.wasm_items.specs.Flattened.{flattened, found_at};
+ghost use Rattle.wasm_tree.specs.Numbers.{after_found, count_of, number_found, one_number, import_number, import_numbers, with_import};
+ghost use Rattle.wasm_tree.specs.declared.numbers.Space.TheVariants.{Types};
+ghost use Rattle.wasm_tree.specs.Tree.{AddsAll, AddsItems, AddsNext, AddsNumber, AddsThese, AddsUpTo};
+
+use std::alloc::Global;
+use wasm_base::{FromReader, Result, SectionLimited};
+use wasm_items::{
+    Import, ImportSection, ImportSectionReader, RecGroup, SubType, TypeSectionReader,
+};
+use wasm_lines::Sink;
+use wasm_show::{Show, Text, show_fault};
+use wasm_tree::{Counts, Space, Tree, import_space};
+
+// Begins the line of an item with this number.
+fn begin_item<W: Sink>(offset: u64, space: Space, index: u64, out: &mut Tree<W>)
+    ensures { AddsNumber space index out.old out.new }
+{
+    out.item(1, offset);
+    out.text(" ");
+    out.item_number(space, index);
+}
+
+// Writes an item with its number, or the fault in its place, and answers the number of what comes next.
+fn show_one<T: Show, W: Sink>(
+    space: Space,
+    index: u64,
+    item: &Result<(u64, T)>,
+    out: &mut Tree<W>,
+) -> u64
+    ensures shows { AddsThese (number_found space index item.now) out.old out.new }
+    ensures next { result ≡ after_found index item.now }
+{
+    match item {
+        Ok((offset, item)) => {
+            begin_item(*offset, space, index, out);
+            item.show(1, out);
+            index.saturating_add(1)
+        }
+        Err(e) => {
+            show_fault(1, e, out);
+            index
+        }
+    }
+}
+
+/// Writes the items of a section, each with its number, which is that after what came before in this index space.
+pub(crate) fn show_numbered<'a, T: FromReader<'a> + Show, W: Sink>(
+    space: Space,
+    counts: &Counts,
+    section: &SectionLimited<'a, T>,
+    out: &mut Tree<W>,
+)
+    ensures next { AddsNext space (count_of counts.now space) out.old out.new }
+    ensures all { AddsItems T.meaning one_number space (count_of counts.now space) section.now
+        out.old out.new }
+{
+    let mut index = counts.of(space);
+    for item in section.clone().unwrap().into_iter_with_offsets() {
+        if out.has_stopped() {
+            break;
+        }
+        index = show_one(space, index, &item, out);
+    }
+}
+
+// Writes an import with its number, or the fault in its place, and counts it.
+fn show_import<W: Sink>(counts: &mut Counts, import: &Result<(u64, Import<'_>)>, out: &mut Tree<W>)
+    ensures shows { AddsThese (import_number counts.old (found_at import.now)) out.old out.new }
+    ensures counted { counts.new ≡ with_import counts.old (found_at import.now) }
+{
+    match import {
+        Ok((offset, import)) => {
+            let space = import_space(&import.ty);
+            begin_item(*offset, space, counts.of(space), out);
+            import.show(1, out);
+            counts.add(space);
+        }
+        Err(e) => show_fault(1, e, out),
+    }
+}
+
+/// Writes the imports of a section, each with its number in its index space.
+pub(crate) fn show_imports<W: Sink>(
+    counts: &Counts,
+    section: &ImportSectionReader<'_>,
+    out: &mut Tree<W>,
+)
+    ensures { AddsAll
+        (import_numbers counts.now (flattened section.now.count (place section.now.reader)))
+        out.old out.new }
+{
+    let mut before = *counts;
+    for import in section.clone().unwrap().into_imports_with_offsets() {
+        if out.has_stopped() {
+            break;
+        }
+        show_import(&mut before, &import, out);
+    }
+}
+
+// Writes a type of a group on a line of its own, with its number.
+fn show_type<W: Sink>(index: u64, ty: &SubType, out: &mut Tree<W>)
+    ensures { AddsNumber Types index out.old out.new }
+{
+    out.begin_line(2);
+    out.item_number(Space::Types, index);
+    out.field("type");
+    ty.text(out);
+}
+
+// Writes the types of a group, each with its number, and answers the number of what comes next.
+fn show_types<W: Sink>(first: u64, types: &[SubType], out: &mut Tree<W>) -> u64
+    ensures { AddsUpTo Types first result out.old out.new }
+{
+    let mut index = first;
+    for ty in types {
+        show_type(index, ty, out);
+        index = index.saturating_add(1);
+    }
+    index
+}
+
+// Writes a group. One that isn't explicit is one type, on the same line; of one that is, each type has a line under it.
+fn show_group<W: Sink>(first: u64, offset: u64, group: &RecGroup, out: &mut Tree<W>) -> u64
+    ensures { AddsUpTo Types first result out.old out.new }
+{
+    if !group.explicit {
+        begin_item(offset, Space::Types, first, out);
+        group.show(1, out);
+        return first.saturating_add(1);
+    }
+    out.item(1, offset);
+    out.flag("explicit", true);
+    show_types(first, &group.types, out)
+}
+
+// Writes a group or the fault in its place, and answers the number of the type that comes next.
+fn show_found<W: Sink>(index: u64, offset: u64, group: &Result<RecGroup>, out: &mut Tree<W>) -> u64
+    ensures { AddsUpTo Types index result out.old out.new }
+{
+    match group {
+        Ok(group) => show_group(index, offset, group, out),
+        Err(e) => {
+            show_fault(1, e, out);
+            index
+        }
+    }
+}
+
+/// Writes the groups of a type section, with the number of each type.
+pub(crate) fn show_groups<W: Sink>(
+    alloc: Global,
+    section: &TypeSectionReader<'_>,
+    out: &mut Tree<W>,
+)
+    ensures { AddsNext Types 0 out.old out.new }
+{
+    let mut groups = section.clone().unwrap().into_iter_in(alloc);
+    let mut index = 0;
+    'groups: for _ in 0..u64::MAX {
+        if out.has_stopped() {
+            break;
+        }
+        let offset = groups.original_position();
+        match groups.next() {
+            Some(group) => index = show_found(index, offset, &group, out),
+            None => break,
+        }
+    }
+}

@@ -1,0 +1,49 @@
+// What payloads hold.
+ghost use Rattle.wasm_parser.specs.ParseAnswer.{ItemsBegin, report_of};
+ghost use Rattle.wasm_dumper.specs.Dump.{ShowsItems};
+
+use crate::numbered::{show_groups, show_imports, show_numbered};
+use std::alloc::Global;
+use wasm_lines::Sink;
+use wasm_parser::Payload;
+use wasm_show::{show_custom, show_section};
+use wasm_tree::{Counts, Space, Tree};
+
+/// Writes what a payload holds, under its line, each item with its number after what came before.
+pub fn show_payload<W: Sink>(
+    alloc: Global,
+    counts: &Counts,
+    payload: &Payload<'_>,
+    out: &mut Tree<W>,
+)
+    ensures { ItemsBegin payload.now
+        → ShowsItems counts.now (report_of payload.now) out.old out.new }
+{
+    match payload {
+        Payload::TypeSection(section) => show_groups(alloc, section, out),
+        Payload::ImportSection(section) => show_imports(counts, section, out),
+        Payload::FunctionSection(section) => show_numbered(Space::Functions, counts, section, out),
+        Payload::TableSection(section) => show_numbered(Space::Tables, counts, section, out),
+        Payload::MemorySection(section) => show_numbered(Space::Memories, counts, section, out),
+        Payload::TagSection(section) => show_numbered(Space::Tags, counts, section, out),
+        Payload::GlobalSection(section) => show_numbered(Space::Globals, counts, section, out),
+        Payload::ExportSection(section) => show_section(1, section, out),
+        Payload::ElementSection(section) => show_numbered(Space::Elements, counts, section, out),
+        Payload::DataSection(section) => show_numbered(Space::DataSegments, counts, section, out),
+        Payload::CustomSection(section) => show_custom(alloc, section, out),
+        _ => {}
+    }
+}
+
+/// The offsets at which items begin that are shown under a payload, in the order of their lines; `None` where an allocation failed.
+pub(crate) fn offsets_of_items(
+    alloc: Global,
+    counts: &Counts,
+    payload: &Payload<'_>,
+) -> Option<Vec<u64>> {
+    let mut tree = Tree::noting(alloc);
+    show_payload(alloc, counts, payload, &mut tree);
+    let has_stopped = tree.has_stopped();
+    let noted = tree.into_noted(alloc);
+    if has_stopped { None } else { Some(noted) }
+}

@@ -1,0 +1,190 @@
+// The dump of a stream.
+ghost use Rattle.std.specs.Prelude.{◌≡◌, ◌≤◌, ◌<◌, [], length, Some, None, OnOk, IfErr, if◌then◌else◌};
+ghost use Rattle.wasm_parser.specs.ParseAnswer.{AnswerBegins, ItemsBegin, report_of};
+ghost use Rattle.wasm_lines.specs.Calls.{device_of};
+ghost use Rattle.wasm_feed.specs.Step.{answer_of};
+ghost use Rattle.wasm_feed.specs.Turns.{turn_after};
+ghost use Rattle.wasm_dumper.specs.Dump.{DumpsByTree, DumpsInto, ShowsAnswer, ShowsReport, ShowsStep, after_answer};
+ghost use Rattle.wasm_tree.specs.Tree.{AddsBytes};
+
+use crate::events::{show_event, show_last_fault};
+use crate::only::{Shown, chooses};
+use crate::payload::{offsets_of_items, show_payload};
+use std::alloc::Global;
+use wasm_feed::{Ended, Feeder, Step, Turn};
+use wasm_lines::{ListError, Sink, Source};
+use wasm_parser::{Parser, Payload, Result as ParserResult};
+use wasm_tree::{Counts, Tree};
+
+// Bytes of the stream that were read together, and the offset in it at which they begin.
+#[derive(Clone, Copy)]
+struct Part<'b> {
+    offset: u64,
+    bytes: &'b [u8],
+}
+
+// Has bytes shown with what is read from them, if bytes are shown.
+fn show_bytes<W: Sink>(
+    alloc: Global,
+    has_bytes: bool,
+    counts: &Counts,
+    part: Part<'_>,
+    payload: &Payload<'_>,
+    out: &mut Tree<W>,
+)
+    ensures { AddsBytes (if has_bytes then part.entry.bytes.now else []) out.old out.new }
+{
+    if has_bytes {
+        match offsets_of_items(alloc, counts, payload) {
+            Some(cuts) => out.begin_part(alloc, part.offset, part.bytes, cuts),
+            None => {
+                out.out_of_memory();
+                out.begin_part(alloc, part.offset, part.bytes, Vec::new(alloc));
+            }
+        }
+    }
+}
+
+// Writes the line of a payload and what it holds, if it is shown.
+fn show_chosen<W: Sink>(
+    alloc: Global,
+    shown: Shown<'_>,
+    counts: &Counts,
+    part: Part<'_>,
+    payload: &Payload<'_>,
+    out: &mut Tree<W>,
+)
+    ensures { ItemsBegin payload.now → ShowsReport shown.entry.only.now shown.entry.has_bytes
+        counts.now (report_of payload.now) part.entry.bytes.now out.old out.new }
+{
+    if chooses(shown.only, payload) {
+        show_bytes(alloc, shown.has_bytes, counts, part, payload, out);
+        show_event(counts, payload, out);
+        show_payload(alloc, counts, payload, out);
+    }
+}
+
+// Writes what a step answered, and says what is to be done next.
+fn show_answer<W: Sink>(
+    alloc: Global,
+    shown: Shown<'_>,
+    counts: &mut Counts,
+    offset: &mut u64,
+    answer: &ParserResult<Step<'_>>,
+    out: &mut Tree<W>,
+) -> Turn
+    ensures turns { result ≡ turn_after answer.now }
+    ensures shows { AnswerBegins (answer_of answer.now) → ShowsAnswer shown.entry.only.now
+        shown.entry.has_bytes counts.old answer.now out.old out.new }
+    ensures counts { AnswerBegins (answer_of answer.now)
+        → counts.new ≡ after_answer counts.old answer.now }
+{
+    match answer {
+        Ok(Step::NeedMoreData(_)) => Turn::Read,
+        Ok(Step::Parsed { bytes, payload }) => {
+            let part = Part {
+                offset: *offset,
+                bytes,
+            };
+            show_chosen(alloc, shown, counts, part, payload, out);
+            counts.pass(payload);
+            *offset = offset.saturating_add(bytes.len() as u64);
+            match payload {
+                Payload::End(_) => Turn::End(Ended::End),
+                _ => Turn::Advance,
+            }
+        }
+        Err(error) => {
+            show_last_fault(error, out);
+            Turn::End(Ended::Fault(*error))
+        }
+    }
+}
+
+// Goes one step along the stream, and writes what it answered.
+fn show_step<W: Sink>(
+    alloc: Global,
+    shown: Shown<'_>,
+    counts: &mut Counts,
+    offset: &mut u64,
+    feeder: &mut Feeder,
+    out: &mut Tree<W>,
+) -> Turn
+    ensures { ShowsStep shown.entry.only.now shown.entry.has_bytes counts.old counts.new
+        feeder.old feeder.new out.old out.new result }
+{
+    let answer = feeder.open().step();
+    show_answer(alloc, shown, counts, offset, &answer, out)
+}
+
+// Whether the tree goes on, or why it has stopped.
+fn go_on<W: Sink>(out: &Tree<W>) -> Result<(), ListError>
+    ensures ok { OnOk result (out.now.why ≡ None) }
+    ensures err { IfErr result (λ why. out.now.why ≡ Some why) }
+{
+    match out.stopped() {
+        None => Ok(()),
+        Some(why) => Err(why),
+    }
+}
+
+// The same as `dump`, by a tree over the output that has written nothing yet, and with a buffer to read into.
+fn dump_into<R: Source, W: Sink>(
+    alloc: Global,
+    shown: Shown<'_>,
+    input: &mut R,
+    out: &mut Tree<W>,
+    buffer: &mut [u8],
+) -> Result<Ended, ListError>
+    requires { 0 < length buffer.old }
+    ensures { DumpsInto shown.entry.only.now shown.entry.has_bytes
+        (device_of R.remaining R.has_failed input.old input.new) out.old result out.new }
+{
+    let mut counts = Counts::new();
+    let mut offset = 0;
+    let mut feeder = Feeder::new(alloc, 0, Parser::new(0).features());
+    'events: loop {
+        let turn = show_step(alloc, shown, &mut counts, &mut offset, &mut feeder, out);
+        go_on(out)?;
+        match turn {
+            Turn::Advance => {}
+            Turn::Read => {
+                out.write_out();
+                go_on(out)?;
+                feeder.read_from(input, buffer)?;
+            }
+            Turn::End(ended) => {
+                out.write_out();
+                go_on(out)?;
+                return Ok(ended);
+            }
+        }
+    }
+}
+
+/// Reads the input, at most `piece` bytes at once and at least one, and writes what it holds as text. Each event that is shown
+/// has its line, as `list` writes it and with the name of its section, or the number of its function, and under it a line for each
+/// item, indented by two blanks a level, with its number in its index space. Offsets count bytes from the start of the stream, which
+/// is at 0. Where bytes are shown, they are in rows before the lines that are read from them. In the style of objects each line is
+/// an object of JSON. The tree must be one that has written nothing.
+///
+/// It keeps what the parser has not decided, the piece that came last, the buffer that it was read into, and the lines that wait,
+/// of which the tree's invariant bounds the bytes; where bytes are shown, a copy of the part at hand and where its items begin.
+///
+/// A fault of the stream ends it; a fault of an item is a line at its place. An error leaves a beginning of the dump written:
+/// `Input` where the source failed, all of what it gave but the last event; `Output` where the sink did; `Memory` where a growth was
+/// refused. A device that had failed before the call is still known to have failed.
+pub fn dump<R: Source, W: Sink>(
+    alloc: Global,
+    shown: Shown<'_>,
+    input: &mut R,
+    out: &mut Tree<W>,
+    piece: usize,
+) -> Result<Ended, ListError>
+    requires { 1 ≤ piece }
+    ensures { DumpsByTree shown.entry.only.now shown.entry.has_bytes
+        (device_of R.remaining R.has_failed input.old input.new) out.old result out.new }
+{
+    let mut buffer = vec![in alloc; 0u8; piece]?;
+    dump_into(alloc, shown, input, out, buffer.as_mut_slice())
+}

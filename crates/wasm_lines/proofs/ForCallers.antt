@@ -1,0 +1,2 @@
+-- What the crates above may cite of the proofs of this one.
+pub use Rattle.wasm_lines.proofs.Cut.{cut_of}

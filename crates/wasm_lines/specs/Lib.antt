@@ -1,0 +1,5 @@
+pub mod Calls
+pub mod Devices
+pub mod Digits
+pub mod Listing
+pub mod Page

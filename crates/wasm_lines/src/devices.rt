@@ -1,0 +1,33 @@
+// What streams are read from and written to: sources, sinks, and why a call that uses them was given up.
+mod sink;
+mod source;
+
+pub use sink::{BoundedSink, Sink, WriteSink, list_of_capacity, write_all};
+pub use source::{ReadSource, SliceSource, Source};
+use std::alloc::AllocError;
+
+/// That a device failed.
+#[derive(Clone, Copy, Debug, PartialEq, Eq)]
+pub struct Failed;
+
+/// Why a call was given up that reads from a source or writes to a sink.
+#[derive(Clone, Copy, Debug, PartialEq, Eq)]
+pub enum ListError {
+    /// The source failed.
+    Input,
+    /// The sink failed.
+    Output,
+    /// No memory was left.
+    Memory,
+}
+
+impl From<AllocError> for ListError {
+    ghost use Rattle.std.specs.Prelude.{◌≡◌};
+    ghost use Rattle.wasm_lines.specs.declared.devices.ListError.TheVariants.{Memory};
+
+    ghost from_gives = { λ _ e. e ≡ Memory };
+
+    fn from(_refused: AllocError) -> ListError {
+        ListError::Memory
+    }
+}

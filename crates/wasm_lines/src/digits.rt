@@ -1,0 +1,123 @@
+// The digits of a number, written from the first to the last.
+ghost use Rattle.std.specs.Prelude.{◌≡◌, ◌+◌, ◌<◌, ◌≤◌, ◌++◌, length, take};
+ghost use Rattle.std.specs.Fmt.{decimal};
+ghost use Rattle.wasm_lines.specs.Digits.{last_digits};
+
+// The two digits of each number below 100, one pair after the other.
+static PAIRS: [u8; 200] =
+    *b"0001020304050607080910111213141516171819202122232425262728293031323334353637383940414243444546474849\
+    5051525354555657585960616263646566676869707172737475767778798081828384858687888990919293949596979899";
+
+// Writes two digits, which the table has side by side.
+#[inline(always)]
+fn write_two(bytes: &mut [u8], at: usize, number: u64) -> usize
+    requires { (number < 100) × (at + 2 ≤ length bytes.old) }
+    ensures end { result ≡ at + 2 }
+    ensures written { take result bytes.new ≡ take at bytes.old ++ last_digits 2 number }
+{
+    let first = 2 * number as usize;
+    bytes[at] = PAIRS[first];
+    bytes[at + 1] = PAIRS[first + 1];
+    at + 2
+}
+
+// Writes four digits.
+#[inline(always)]
+fn write_four(bytes: &mut [u8], at: usize, number: u64) -> usize
+    requires { (number < 10000) × (at + 4 ≤ length bytes.old) }
+    ensures end { result ≡ at + 4 }
+    ensures written { take result bytes.new ≡ take at bytes.old ++ last_digits 4 number }
+{
+    let middle = write_two(bytes, at, number / 100);
+    write_two(bytes, middle, number % 100)
+}
+
+// Writes eight digits.
+#[inline(always)]
+fn write_eight(bytes: &mut [u8], at: usize, number: u64) -> usize
+    requires { (number < 100000000) × (at + 8 ≤ length bytes.old) }
+    ensures end { result ≡ at + 8 }
+    ensures written { take result bytes.new ≡ take at bytes.old ++ last_digits 8 number }
+{
+    let middle = write_four(bytes, at, number / 10_000);
+    write_four(bytes, middle, number % 10_000)
+}
+
+// Writes a number of at most two digits.
+#[inline(always)]
+fn write_to_two(bytes: &mut [u8], at: usize, number: u64) -> usize
+    requires { (number < 100) × (at + 2 ≤ length bytes.old) }
+    ensures short { result ≤ at + 2 }
+    ensures written { take result bytes.new ≡ take at bytes.old ++ decimal number }
+{
+    if number < 10 {
+        bytes[at] = b'0' + number as u8;
+        return at + 1;
+    }
+    write_two(bytes, at, number)
+}
+
+// Writes one of at most four.
+#[inline(always)]
+fn write_to_four(bytes: &mut [u8], at: usize, number: u64) -> usize
+    requires { (number < 10000) × (at + 4 ≤ length bytes.old) }
+    ensures short { result ≤ at + 4 }
+    ensures written { take result bytes.new ≡ take at bytes.old ++ decimal number }
+{
+    if number < 100 {
+        return write_to_two(bytes, at, number);
+    }
+    let middle = write_to_two(bytes, at, number / 100);
+    write_two(bytes, middle, number % 100)
+}
+
+// Writes one of at most eight.
+#[inline(always)]
+fn write_to_eight(bytes: &mut [u8], at: usize, number: u64) -> usize
+    requires { (number < 100000000) × (at + 8 ≤ length bytes.old) }
+    ensures short { result ≤ at + 8 }
+    ensures written { take result bytes.new ≡ take at bytes.old ++ decimal number }
+{
+    if number < 10_000 {
+        return write_to_four(bytes, at, number);
+    }
+    let middle = write_to_four(bytes, at, number / 10_000);
+    write_four(bytes, middle, number % 10_000)
+}
+
+// Writes one of at most twelve.
+fn write_to_twelve(bytes: &mut [u8], at: usize, number: u64) -> usize
+    requires { (number < 1000000000000) × (at + 12 ≤ length bytes.old) }
+    ensures short { result ≤ at + 12 }
+    ensures written { take result bytes.new ≡ take at bytes.old ++ decimal number }
+{
+    if number < 100_000_000 {
+        return write_to_eight(bytes, at, number);
+    }
+    let middle = write_to_four(bytes, at, number / 100_000_000);
+    write_eight(bytes, middle, number % 100_000_000)
+}
+
+// Writes one of more than eight. Out of line, since few are as long.
+#[inline(never)]
+fn write_long(bytes: &mut [u8], at: usize, number: u64) -> usize
+    requires { (100000000 ≤ number) × (at + 20 ≤ length bytes.old) }
+    ensures short { result ≤ at + 20 }
+    ensures written { take result bytes.new ≡ take at bytes.old ++ decimal number }
+{
+    let middle = write_to_twelve(bytes, at, number / 100_000_000);
+    write_eight(bytes, middle, number % 100_000_000)
+}
+
+/// Writes a number in decimal digits over the bytes from this place on, of which there must be 20, and says where they end.
+#[inline(always)]
+pub fn write_number(bytes: &mut [u8], at: usize, number: u64) -> usize
+    requires { at + 20 ≤ length bytes.old }
+    ensures short { result ≤ at + 20 }
+    ensures written { take result bytes.new ≡ take at bytes.old ++ decimal number }
+{
+    if number < 100_000_000 {
+        return write_to_eight(bytes, at, number);
+    }
+    write_long(bytes, at, number)
+}

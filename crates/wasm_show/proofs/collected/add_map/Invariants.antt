@@ -1,5 +1,0 @@
-use Rattle.wasm_show.specs.ItemNames.{KeepsNames}
-use Rattle.wasm_show.proofs.collected.add_map.Given as goal
-
-abbrev pub invariant-names : goal.invariant-names
-invariant-names l = KeepsNames l.initial.names l.names

@@ -1,5 +1,0 @@
-use Rattle.wasm_show.proofs.Lines.{begin_alike}
-use Rattle.wasm_show.proofs.laws.lines_begin_with_the_listing.Goals as goal
-
-pub returns : goal.returns
-returns c = begin_alike

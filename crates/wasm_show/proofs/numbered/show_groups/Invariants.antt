@@ -1,6 +1,0 @@
-use Rattle.wasm_show.specs.Tree.{AddsUpTo}
-use Rattle.wasm_show.specs.declared.numbers.Space.TheVariants.{Types}
-use Rattle.wasm_show.proofs.numbered.show_groups.Given as goal
-
-abbrev pub invariant-groups : goal.invariant-groups
-invariant-groups g l = AddsUpTo Types 0 l.index l.initial.out l.out

@@ -1,6 +1,0 @@
-use Rattle.wasm_show.specs.Tree.{AddsUpTo}
-use Rattle.wasm_show.specs.declared.numbers.Space.TheVariants.{Types}
-use Rattle.wasm_show.proofs.numbered.show_types.Given as goal
-
-abbrev pub invariant-loop-ty : goal.invariant-loop-ty
-invariant-loop-ty g l = AddsUpTo Types l.first l.index l.initial.out l.out

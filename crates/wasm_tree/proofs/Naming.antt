@@ -1,0 +1,150 @@
+-- What names are after one was added, by the keys of a map.
+use Rattle.std.proofs.Common.{◌≡◌, ◌≢◌, ℕ, ◌^◌, ◌<◌, ◌≤◌, ◌⊎◌, inl, inr, Bool, true, false, cond, List, map, Option, Some, None}
+use Rattle.std.proofs.Common.{nat_eq, nat_lt, if◌then◌else◌, refl, sym, ap, ap₂, ◌∙◌}
+use Rattle.std.proofs.lemmas.Bool.{cases_Bool, false_from_ne_true, le-ltb, lt-ltb, true≢false}
+use Rattle.std.proofs.lemmas.Map.Lookups.{exact_pairs, exact_unsigned}
+use Rattle.std.proofs.lemmas.Map.Made.{lookup-map_values}
+use Rattle.std.proofs.lemmas.Map.Views.{tells_apart}
+use Rattle.std.specs.BTreeMap.{BTreeMap, UpdatesBy, get_by, is_at}
+use Rattle.std.specs.Cmp.{nat_cmp_is}
+use Rattle.std.specs.Map.{lookup}
+use Rattle.std.specs.Option.{is_some, option_map, unwrap_or}
+use Rattle.std.specs.Ordering.{is_eq, nat_cmp, ordering_then}
+use Rattle.std.specs.String.{string_bytes}
+use Rattle.std.specs.declared.cmp.Ordering.TheVariants.{Equal}
+use Rattle.std.specs.declared.string.String.{String}
+use Rattle.wasm_tree.specs.ItemNames.{Names, rank_of, key_of, key_cmp, names_in, named, AddsName, KeepsNames}
+use Rattle.wasm_tree.specs.Numbers.{Number}
+use Rattle.wasm_tree.specs.declared.numbers.Space.{Space}
+use Rattle.wasm_tree.specs.declared.numbers.Space.TheVariants.{Types, Functions, Tables, Memories, Tags}
+use Rattle.wasm_tree.specs.declared.numbers.Space.TheVariants.{Globals, Elements, DataSegments}
+
+-- ---- each item has a key of its own
+
+abbrev space_at : ℕ → Space
+space_at rank =
+    if nat_eq rank 0 then Types
+    else if nat_eq rank 1 then Functions
+    else if nat_eq rank 2 then Tables
+    else if nat_eq rank 3 then Memories
+    else if nat_eq rank 4 then Tags
+    else if nat_eq rank 5 then Globals
+    else if nat_eq rank 6 then Elements
+    else DataSegments
+
+space_of_rank : (space : Space) → space_at (rank_of space) ≡ space
+space_of_rank Types = refl
+space_of_rank Functions = refl
+space_of_rank Tables = refl
+space_of_rank Memories = refl
+space_of_rank Tags = refl
+space_of_rank Globals = refl
+space_of_rank Elements = refl
+space_of_rank DataSegments = refl
+
+same_space : (a b : Space) → rank_of a ≡ rank_of b → a ≡ b
+same_space a b same = sym (space_of_rank a) ∙ (ap space_at same ∙ space_of_rank b)
+
+abbrev finds : Number → Number → Bool
+finds x y = is_at (key_cmp (key_of x)) (key_of y)
+
+finds_itself : (x : Number) → finds x x ≡ true
+finds_itself x =
+    let ranks = nat_cmp_is (rank_of x.space) (rank_of x.space) Equal refl in
+    let indices = nat_cmp_is x.index x.index Equal refl in
+    sym (ap₂ (λ a b. is_eq (ordering_then a b)) ranks indices)
+
+finds_no_other : (x y : Number) → finds x y ≡ true → x ≡ y
+finds_no_other x y found =
+    let keys = tells_apart {R = key_cmp} (exact_pairs nat_cmp nat_cmp exact_unsigned exact_unsigned) (key_of x) (key_of y) found in
+    ap₂ (λ s i. record { space = s; index = i }) (same_space x.space y.space (ap (λ k. k.0) keys)) (ap (λ k. k.1) keys)
+
+same_or_other : (x y : Number) → (x ≡ y) ⊎ (x ≢ y)
+same_or_other x y = elim (cases_Bool (finds x y)) [
+  | inl found ↦ inl (finds_no_other x y found)
+  | inr not_found ↦ inr (λ same. true≢false (sym (finds_itself x) ∙ (ap (finds x) same ∙ not_found)))
+]
+
+-- ---- names in a map
+
+-- a small index, and a great one
+cut_small : {X : Type 0} (index : ℕ) (o : Option X) → index < 2 ^ 32 → (if nat_lt index (2 ^ 32) then o else None) ≡ o
+cut_small index o small = ap (λ b. if b then o else None) (lt-ltb index (2 ^ 32) small)
+
+pub named_far : (names : Names) (number : Number) → 2 ^ 32 ≤ number.index → named names number ≡ None
+unfolding named
+named_far names number far =
+    ap (λ b. if b then lookup (is_at (key_cmp (key_of number))) names else None) (le-ltb number.index (2 ^ 32) far)
+
+module _ {A : Type 0} where
+  pub named_in : (m : BTreeMap (ℕ × ℕ) (String A)) (number : Number) → number.index < 2 ^ 32
+      → named (names_in m) number ≡ option_map string_bytes (get_by (key_cmp (key_of number)) m)
+  unfolding named
+  named_in m number small =
+      cut_small number.index (lookup (is_at (key_cmp (key_of number))) (names_in m)) small
+      ∙ lookup-map_values string_bytes (is_at (key_cmp (key_of number))) m.entries
+
+  -- what was got from the map is the item's name
+  pub got_name : (m : BTreeMap (ℕ × ℕ) (String A)) (number : Number) (o : Option (String A)) → number.index < 2 ^ 32
+      → o ≡ get_by (key_cmp (key_of number)) m → option_map string_bytes o ≡ named (names_in m) number
+  got_name m number o small got = ap (option_map string_bytes) got ∙ sym (named_in m number small)
+
+  pub names_stay : (m n : BTreeMap (ℕ × ℕ) (String A)) → n.entries ≡ m.entries → names_in n ≡ names_in m
+  names_stay m n same = ap (map (λ e. (e.0, string_bytes e.1))) same
+
+  named_same : (m n : BTreeMap (ℕ × ℕ) (String A)) (number : Number)
+      → get_by (key_cmp (key_of number)) n ≡ get_by (key_cmp (key_of number)) m → named (names_in n) number ≡ named (names_in m) number
+  unfolding named
+  named_same m n number same =
+      ap (λ o. if nat_lt number.index (2 ^ 32) then o else None)
+      (lookup-map_values string_bytes (is_at (key_cmp (key_of number))) n.entries
+      ∙ (ap (option_map string_bytes) same ∙ sym (lookup-map_values string_bytes (is_at (key_cmp (key_of number))) m.entries)))
+
+-- ---- names that stay, and one that is added
+
+pub same_kept : (old new : Names) → new ≡ old → KeepsNames old new
+same_kept old new same = λ number name has. ap (λ names. named names number) same ∙ has
+
+pub added_kept : (old new : Names) (number : Number) (text : List ℕ) → AddsName old number text new → KeepsNames old new
+added_kept old new number text adds = λ other name has. elim (same_or_other other number) [
+  | inl same ↦
+      let had = sym (ap (named old) same) ∙ has in
+      ap (named new) same ∙ (adds.first ∙ ap (λ o. Some (unwrap_or o text)) had)
+  | inr apart ↦ adds.others other apart ∙ has
+]
+
+has_first : (o : Option (List ℕ)) (name : List ℕ) → is_some o ≡ true → o ≡ Some (unwrap_or o name)
+has_first None name some = absurd (true≢false (sym some))
+has_first (Some old) name some = refl
+
+mapped_some : {A : Type 0} (o : Option (String A)) → is_some o ≡ true → is_some (option_map string_bytes o) ≡ true
+mapped_some None some = some
+mapped_some (Some x) some = refl
+
+mapped_none : {A : Type 0} (o : Option (String A)) → is_some o ≡ false → option_map string_bytes o ≡ None
+mapped_none None none = refl
+mapped_none (Some x) none = absurd (true≢false none)
+
+module _ {A : Type 0} where
+  -- the item has a name
+  pub had_name : (m : BTreeMap (ℕ × ℕ) (String A)) (number : Number) (name : List ℕ) → number.index < 2 ^ 32
+      → is_some (get_by (key_cmp (key_of number)) m) ≡ true → AddsName (names_in m) number name (names_in m)
+  had_name m number name small some = record {
+    first = has_first (named (names_in m) number) name
+        (ap is_some (named_in m number small) ∙ mapped_some (get_by (key_cmp (key_of number)) m) some);
+    others = λ other apart. refl;
+  }
+
+  -- it has none, and the map has the name after it was put there
+  pub has_name : (m n : BTreeMap (ℕ × ℕ) (String A)) (number : Number) (text : String A) → number.index < 2 ^ 32
+      → is_some (get_by (key_cmp (key_of number)) m) ≡ false
+      → UpdatesBy key_cmp (key_cmp (key_of number)) m n (Some text) → AddsName (names_in m) number (string_bytes text) (names_in n)
+  has_name m n number text small none updates =
+      let before = named_in m number small ∙ mapped_none (get_by (key_cmp (key_of number)) m) none in
+      let after = named_in n number small ∙ ap (option_map string_bytes) updates.1 in
+      record {
+        first = after ∙ ap (λ o. Some (unwrap_or o (string_bytes text))) (sym before);
+        others = λ other apart. named_same m n other (updates.0 (key_of other)
+            ∙ ap (λ b. cond b (Some text) (get_by (key_cmp (key_of other)) m))
+            (false_from_ne_true (finds number other) (λ found. apart (sym (finds_no_other number other found)))));
+      }

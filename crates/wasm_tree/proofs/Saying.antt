@@ -1,0 +1,392 @@
+-- What was put on the line that is begun, after each call that puts more.
+use Rattle.std.proofs.Common.{◌≡◌, ℕ, ◌+◌, ◌<◌, ◌^◌, zero, suc, Bool, true, false, List, [], ◌∷◌, ◌++◌, codes}
+use Rattle.std.proofs.Common.{Option, Some, None, refl, sym}
+use Rattle.std.proofs.Common.{Err, ◌%◌, nat_lt}
+use Rattle.std.specs.Prelude.{slice_index}
+use Rattle.wasm_tree.specs.Fields.{Field, field_text, named, word, with_fields, is_escaped, quoted_byte}
+use Rattle.std.proofs.Common.{ap, subst, ◌∙◌, append_assoc, append-nil, ◌||◌, nat_eq, decimal, length, take, get_or, arith}
+use Rattle.std.specs.List.{flat_map, list_any}
+use Rattle.std.proofs.KnownBytes.{Appends-nil, Appends-trans}
+use Rattle.std.specs.Io.KnownBytes.{Appends}
+use Rattle.std.proofs.lemmas.Bool.Decides.{nat_tests}
+use Rattle.std.proofs.lemmas.Fmt.{decimal_by_steps}
+use Rattle.std.proofs.lemmas.Grind.{flat_map-append}
+use Rattle.std.proofs.Math.Seq.{take-length}
+use Rattle.std.proofs.lemmas.List.{take_more}
+use Rattle.std.proofs.lemmas.List.Folds.{list_any-append}
+use Rattle.wasm_lines.specs.Calls.{output_failed}
+use Rattle.wasm_lines.specs.Page.{WritesBeginning, IsCut}
+use Rattle.wasm_lines.specs.declared.devices.ListError.{ListError}
+use Rattle.wasm_lines.specs.declared.devices.ListError.TheVariants.{Input, Output, Memory}
+use Rattle.wasm_tree.specs.Said.{StopsIn, PutsText, HasLine, Says, SaysSome, SaysWith}
+use Rattle.wasm_tree.specs.Tree.{Writing, PutsAs, Puts, has_line_feed}
+use Rattle.wasm_tree.specs.declared.tree.Style.{Style}
+use Rattle.wasm_tree.specs.declared.tree.Style.TheVariants.{Lines, Objects}
+
+-- ---- bytes after bytes
+
+-- what is put after a text that was put
+after_text : (waiting text moved waiting' bytes : List ℕ) → waiting ++ text ≡ moved ++ waiting'
+    → waiting ++ (text ++ bytes) ≡ moved ++ (waiting' ++ bytes)
+after_text waiting text moved waiting' bytes e = sym (append_assoc waiting text bytes)
+    ∙ (ap (λ (x : List ℕ). x ++ bytes) e ∙ append_assoc moved waiting' bytes)
+
+-- a page that is given up after a text
+begins_after : (taken mid written : Option (List ℕ)) (waiting text moved waiting' bytes : List ℕ) → Appends taken mid moved
+    → waiting ++ text ≡ moved ++ waiting' → WritesBeginning mid written waiting'
+    → WritesBeginning taken written (waiting ++ (text ++ bytes))
+begins_after taken mid written waiting text moved waiting' bytes a e w = record {
+  moved = moved ++ w.moved;
+  unwritten = w.unwritten ++ bytes;
+  parts = after_text waiting text moved waiting' bytes e ∙ (ap (λ (x : List ℕ). moved ++ (x ++ bytes)) w.parts
+      ∙ (ap (λ (x : List ℕ). moved ++ x) (append_assoc w.moved w.unwritten bytes)
+      ∙ sym (append_assoc moved w.moved (w.unwritten ++ bytes))));
+  wrote = Appends-trans taken mid written moved w.moved a w.wrote;
+}
+
+cut_after : (taken mid written : Option (List ℕ)) (waiting text moved waiting' bytes : List ℕ) (why : ListError)
+    → Appends taken mid moved → waiting ++ text ≡ moved ++ waiting' → IsCut mid written waiting' why
+    → IsCut taken written (waiting ++ (text ++ bytes)) why
+cut_after taken mid written waiting text moved waiting' bytes Output a e w =
+    begins_after taken mid written waiting text moved waiting' bytes a e w
+cut_after taken mid written waiting text moved waiting' bytes Memory a e w =
+    begins_after taken mid written waiting text moved waiting' bytes a e w
+cut_after taken mid written waiting text moved waiting' bytes Input a e w = absurd w
+
+-- a page that was given up before, of which more would have been put
+begins_still : (taken written : Option (List ℕ)) (waiting text bytes : List ℕ) → WritesBeginning taken written (waiting ++ text)
+    → WritesBeginning taken written (waiting ++ (text ++ bytes))
+begins_still taken written waiting text bytes w = record {
+  moved = w.moved;
+  unwritten = w.unwritten ++ bytes;
+  parts = after_text waiting text w.moved w.unwritten bytes w.parts;
+  wrote = w.wrote;
+}
+
+cut_still : (taken written : Option (List ℕ)) (waiting text bytes : List ℕ) (why : ListError) → IsCut taken written (waiting ++ text) why
+    → IsCut taken written (waiting ++ (text ++ bytes)) why
+cut_still taken written waiting text bytes Output w = begins_still taken written waiting text bytes w
+cut_still taken written waiting text bytes Memory w = begins_still taken written waiting text bytes w
+cut_still taken written waiting text bytes Input w = absurd w
+
+-- ---- a writer
+
+module _ (since now new : Writing) (text bytes : List ℕ) where
+  -- by why each has stopped
+  more : (a b c : Option ListError) → since.why ≡ a → now.why ≡ b → new.why ≡ c → PutsText a b text since now → PutsAs b c bytes now new
+      → PutsText a c (text ++ bytes) since new
+  more (Some why) b c ea eb ec p q =
+      let stopped : b ≡ Some why = sym eb ∙ (ap (λ (w : Writing). w.why) p ∙ ea) in
+      subst (λ (x : Option ListError). PutsAs x c bytes now new) stopped q ∙ p
+  more None (Some why) c ea eb ec p q =
+      let same : Some why ≡ c = sym eb ∙ (ap (λ (w : Writing). w.why) (sym q) ∙ ec) in
+      subst (λ (x : Option ListError). PutsText None x (text ++ bytes) since new) same
+      (subst (λ (w : Writing). StopsIn (text ++ bytes) why since w) (sym q) (record {
+        cut = cut_still since.taken now.taken since.waiting text bytes why p.cut;
+        begun = p.begun;
+        failed = p.failed;
+        style = p.style;
+        spot = p.spot;
+      }))
+  more None None None ea eb ec p q = record {
+    puts = record {
+      moved = p.puts.moved ++ q.puts.moved;
+      writes = Appends-trans since.taken now.taken new.taken p.puts.moved q.puts.moved p.puts.writes q.puts.writes;
+      waits = after_text since.waiting text p.puts.moved now.waiting bytes p.puts.waits
+          ∙ (ap (λ (x : List ℕ). p.puts.moved ++ x) q.puts.waits ∙ sym (append_assoc p.puts.moved q.puts.moved new.waiting));
+    };
+    begun = q.begun ∙ p.begun;
+    failed = q.failed ∙ p.failed;
+    why = q.why ∙ p.why;
+    style = q.style ∙ p.style;
+    spot = q.spot ∙ p.spot;
+    unshown = q.unshown ∙ p.unshown;
+  }
+  more None None (Some why) ea eb ec p q = record {
+    cut = cut_after since.taken now.taken new.taken since.waiting text p.puts.moved now.waiting bytes why p.puts.writes p.puts.waits q.cut;
+    begun = q.begun ∙ p.begun;
+    failed = q.failed ∙ ap (λ (b : Bool). output_failed {A = Unit {0}} (Err why) b) p.failed;
+    style = q.style ∙ p.style;
+    spot = q.spot ∙ p.spot;
+  }
+
+  pub puts_more : HasLine since text now → Puts bytes now new → HasLine since (text ++ bytes) new
+  puts_more h q = record { begun = h.begun; lines = h.lines; puts = more since.why now.why new.why refl refl refl h.puts q }
+
+begun_by : (since now : Writing) (text : List ℕ) (a b : Option ListError) → since.is_begun ≡ true → PutsText a b text since now
+    → now.is_begun ≡ true
+begun_by since now text (Some why) b e p = ap (λ (w : Writing). w.is_begun) p ∙ e
+begun_by since now text None None e p = p.begun ∙ e
+begun_by since now text None (Some why) e p = p.begun ∙ e
+
+-- the line is still begun
+pub still_begun : (since now : Writing) (text : List ℕ) → HasLine since text now → now.is_begun ≡ true
+still_begun since now text h = begun_by since now text since.why now.why h.begun h.puts
+
+nothing_by : (w : Writing) (why : Option ListError) → w.why ≡ why → PutsText why why [] w w
+nothing_by w (Some why) e = refl
+nothing_by w None e = record {
+  puts = record { moved = []; writes = Appends-nil w.taken; waits = append-nil w.waiting };
+  begun = refl;
+  failed = refl;
+  why = refl;
+  style = refl;
+  spot = refl;
+  unshown = refl;
+}
+
+-- nothing was put on a line that is begun
+pub has_nothing : (w : Writing) → w.is_begun ≡ true → w.style ≡ Lines → HasLine w [] w
+has_nothing w e lines = record { begun = e; lines = lines; puts = nothing_by w w.why refl }
+
+lines_by : (since now : Writing) (text : List ℕ) (a b : Option ListError) → since.style ≡ Lines → PutsText a b text since now
+    → now.style ≡ Lines
+lines_by since now text (Some why) b e p = ap (λ (w : Writing). w.style) p ∙ e
+lines_by since now text None None e p = p.style ∙ e
+lines_by since now text None (Some why) e p = p.style ∙ e
+
+-- lines are still written
+pub still_lines : (since now : Writing) (text : List ℕ) → HasLine since text now → now.style ≡ Lines
+still_lines since now text h = lines_by since now text since.why now.why h.lines h.puts
+
+no_lines : (style : Style) → style ≡ Lines → style ≡ Objects → ⊥
+no_lines Lines e f = cc
+no_lines Objects e f = cc
+
+-- in objects there are no lines
+pub says_never : (text : List ℕ) (old new : Writing) → old.style ≡ Objects → Says text old new
+says_never text old new objects since before h = absurd (no_lines old.style (still_lines since old before h) objects)
+
+pub says_none_ever : (old new : Writing) → old.style ≡ Objects → SaysSome old new
+says_none_ever old new objects since m = absurd (no_lines old.style (still_lines since old m.text m.has) objects)
+
+-- ---- texts
+
+-- a piece, where the line that is begun isn't begun again
+pub says_piece : (old mid new : Writing) (bytes : List ℕ) → (old.is_begun ≡ true → mid ≡ old) → Puts bytes mid new → Says bytes old new
+says_piece old mid new bytes same p since before h = puts_more since mid new before bytes
+    (subst (HasLine since before) (sym (same (still_begun since old before h))) h) p
+
+pub says_nothing : (w : Writing) → Says [] w w
+says_nothing w since before h = subst (λ (t : List ℕ). HasLine since t w) (sym (append-nil before)) h
+
+-- one text after the other
+pub says_then : (a b : List ℕ) (x y z : Writing) → Says a x y → Says b y z → Says (a ++ b) x z
+says_then a b x y z p q since before h =
+    subst (λ (t : List ℕ). HasLine since t z) (append_assoc before a b) (q since (before ++ a) (p since before h))
+
+pub says_same : (a b : List ℕ) (x y : Writing) → a ≡ b → Says a x y → Says b x y
+says_same a b x y e p = subst (λ (t : List ℕ). Says t x y) e p
+
+-- the value of a field
+pub says_value : (name value : List ℕ) (x y z : Writing) → Says (codes " " ++ (name ++ codes "=")) x y → Says value y z
+    → Says (codes " " ++ (name ++ (codes "=" ++ value))) x z
+says_value name value x y z p q = says_same _ _ x z (ap (λ (t : List ℕ). codes " " ++ t) (append_assoc name (codes "=") value))
+    (says_then (codes " " ++ (name ++ codes "=")) value x y z p q)
+
+-- ---- some text
+
+-- a text is some
+pub says_some : (text : List ℕ) (x y : Writing) → Says text x y → SaysSome x y
+says_some text x y p since m = record { text = m.text ++ text; has = p since m.text m.has }
+
+-- of a page that is given up later
+begins_later : (taken mid written : Option (List ℕ)) (waiting text moved waiting' bytes : List ℕ) → Appends taken mid moved
+    → waiting ++ text ≡ moved ++ waiting' → WritesBeginning mid written (waiting' ++ bytes)
+    → WritesBeginning taken written (waiting ++ (text ++ bytes))
+begins_later taken mid written waiting text moved waiting' bytes a e w = record {
+  moved = moved ++ w.moved;
+  unwritten = w.unwritten;
+  parts = after_text waiting text moved waiting' bytes e ∙ (ap (λ (x : List ℕ). moved ++ x) w.parts
+      ∙ sym (append_assoc moved w.moved w.unwritten));
+  wrote = Appends-trans taken mid written moved w.moved a w.wrote;
+}
+
+cut_later : (taken mid written : Option (List ℕ)) (waiting text moved waiting' bytes : List ℕ) (why : ListError)
+    → Appends taken mid moved → waiting ++ text ≡ moved ++ waiting' → IsCut mid written (waiting' ++ bytes) why
+    → IsCut taken written (waiting ++ (text ++ bytes)) why
+cut_later taken mid written waiting text moved waiting' bytes Output a e w =
+    begins_later taken mid written waiting text moved waiting' bytes a e w
+cut_later taken mid written waiting text moved waiting' bytes Memory a e w =
+    begins_later taken mid written waiting text moved waiting' bytes a e w
+cut_later taken mid written waiting text moved waiting' bytes Input a e w = absurd w
+
+-- what is put after what was put
+module _ (since now new : Writing) (text bytes : List ℕ) where
+  joined : (a b c : Option ListError) → since.why ≡ a → now.why ≡ b → new.why ≡ c → PutsText a b text since now
+      → PutsText b c bytes now new → PutsText a c (text ++ bytes) since new
+  joined (Some why) b c ea eb ec p q =
+      let stopped : b ≡ Some why = sym eb ∙ (ap (λ (w : Writing). w.why) p ∙ ea) in
+      subst (λ (x : Option ListError). PutsText x c bytes now new) stopped q ∙ p
+  joined None (Some why) c ea eb ec p q =
+      let same : Some why ≡ c = sym eb ∙ (ap (λ (w : Writing). w.why) (sym q) ∙ ec) in
+      subst (λ (x : Option ListError). PutsText None x (text ++ bytes) since new) same
+      (subst (λ (w : Writing). StopsIn (text ++ bytes) why since w) (sym q) (record {
+        cut = cut_still since.taken now.taken since.waiting text bytes why p.cut;
+        begun = p.begun;
+        failed = p.failed;
+        style = p.style;
+        spot = p.spot;
+      }))
+  joined None None None ea eb ec p q = more since now new text bytes None None None ea eb ec p q
+  joined None None (Some why) ea eb ec p q = record {
+    cut = cut_later since.taken now.taken new.taken since.waiting text p.puts.moved now.waiting bytes why p.puts.writes p.puts.waits q.cut;
+    begun = q.begun ∙ p.begun;
+    failed = q.failed ∙ ap (λ (b : Bool). output_failed {A = Unit {0}} (Err why) b) p.failed;
+    style = q.style ∙ p.style;
+    spot = q.spot ∙ p.spot;
+  }
+
+  joins : HasLine since text now → HasLine now bytes new → HasLine since (text ++ bytes) new
+  joins h k = record { begun = h.begun; lines = h.lines; puts = joined since.why now.why new.why refl refl refl h.puts k.puts }
+
+-- a field whose value is some text
+pub says_named : (name : List ℕ) (x y z : Writing) → Says (codes " " ++ (name ++ codes "=")) x y → SaysSome y z
+    → SaysWith (λ value. named name (word value) ∷ []) x z
+says_named name x y z p q since before h =
+    let start = codes " " ++ (name ++ codes "=") in
+    let m = p since before h in
+    let r = q y (record {
+      text = [];
+      has = has_nothing y (still_begun since y (before ++ start) m) (still_lines since y
+          (before ++ start) m);
+    }) in (
+      r.text,
+      subst (λ (t : List ℕ). HasLine since t z) (append_assoc before start r.text
+          ∙ ap (λ (t : List ℕ). before ++ (codes " " ++ t)) (append_assoc name (codes "=") r.text))
+          (joins since y z (before ++ start) r.text m r.has),
+    )
+
+-- fields after fields
+pub more_fields : (before : List ℕ) (xs ys : List Field) → with_fields (with_fields before xs) ys ≡ with_fields before (xs ++ ys)
+more_fields before [] ys = refl
+more_fields before (x ∷ xs) ys = more_fields (before ++ field_text x) xs ys
+
+-- ---- pieces of a text
+
+neither : (a b : Bool) → (a || b) ≡ false → (a ≡ false) × (b ≡ false)
+neither true b e = cc
+neither false b e = (refl, e)
+
+parts_without : (xs ys : List ℕ) → has_line_feed (xs ++ ys) ≡ false → (has_line_feed xs ≡ false) × (has_line_feed ys ≡ false)
+parts_without xs ys e = neither (has_line_feed xs) (has_line_feed ys) (sym (list_any-append (λ b. nat_eq b 10) xs ys) ∙ e)
+
+-- all but this rest of it, which has no line feed either
+pub record SaysAllBut (all rest : List ℕ) (old new : Writing) : Type 0 where
+  pub done : List ℕ
+  pub parts : all ≡ done ++ rest
+  pub says : Says done old new
+  pub one_line : has_line_feed rest ≡ false
+
+pub says_none : (all : List ℕ) (w : Writing) → has_line_feed all ≡ false → SaysAllBut all all w w
+says_none all w none = record { done = []; parts = refl; says = says_nothing w; one_line = none }
+
+pub none_in_first : (rest first later : List ℕ) → rest ≡ first ++ later → has_line_feed rest ≡ false
+    → (has_line_feed first ≡ false) × (has_line_feed later ≡ false)
+none_in_first rest first later e none = parts_without first later (ap has_line_feed (sym e) ∙ none)
+
+pub says_first : (all rest first later : List ℕ) (old mid new : Writing) → rest ≡ first ++ later → SaysAllBut all rest old mid
+    → Says first mid new → SaysAllBut all later old new
+says_first all rest first later old mid new e p q = record {
+  done = p.done ++ first;
+  parts = p.parts ∙ (ap (λ (x : List ℕ). p.done ++ x) e ∙ sym (append_assoc p.done first later));
+  says = says_then p.done first old mid new p.says q;
+  one_line = (none_in_first rest first later e p.one_line).1;
+}
+
+pub says_last : (all rest : List ℕ) (old mid new : Writing) → SaysAllBut all rest old mid → Says rest mid new → Says all old new
+says_last all rest old mid new p q = says_same (p.done ++ rest) all old new (sym p.parts) (says_then p.done rest old mid new p.says q)
+
+-- ---- digits are no line feeds
+
+digit_is_none : (n : ℕ) → nat_eq (48 + n) 10 ≡ false
+digit_is_none n = grind (arith, nat_tests)
+
+digit_alone : (n : ℕ) → has_line_feed ((48 + n) ∷ []) ≡ false
+digit_alone n = rw (digit_is_none n) refl
+
+pub none_in_decimal : (n : ℕ) → n < 2 ^ 64 → has_line_feed (decimal n) ≡ false
+none_in_decimal = decimal_by_steps (λ n ds. has_line_feed ds ≡ false) (λ n h. digit_alone n)
+    (λ n ds h k. list_any-append (λ b. nat_eq b 10) ds ((48 + n % 10) ∷ []) ∙ rw k (digit_alone (n % 10)))
+
+-- nor is one escaped in quotes
+plain_digit : (n : ℕ) → n < 10 → list_any is_escaped ((48 + n) ∷ []) ≡ false
+plain_digit n h = grind (arith, nat_tests)
+
+pub plain_decimal : (n : ℕ) → n < 2 ^ 64 → list_any is_escaped (decimal n) ≡ false
+plain_decimal = decimal_by_steps (λ n ds. list_any is_escaped ds ≡ false) (λ n h. plain_digit n h)
+    (λ n ds h k. list_any-append is_escaped ds ((48 + n % 10) ∷ []) ∙ rw k (plain_digit (n % 10) (omega arith)))
+
+-- those that hexadecimal digits are taken from are none
+none_at : (xs : List ℕ) (i : ℕ) → has_line_feed xs ≡ false → nat_eq (slice_index xs i) 10 ≡ false
+none_at [] i none = refl
+none_at (x ∷ xs) zero none = (neither (nat_eq x 10) (has_line_feed xs) none).0
+none_at (x ∷ xs) (suc i) none = none_at xs i (neither (nat_eq x 10) (has_line_feed xs) none).1
+
+pub none_in_digits : (i j : ℕ)
+    → has_line_feed (slice_index (codes "0123456789abcdef") i ∷ slice_index (codes "0123456789abcdef") j ∷ []) ≡ false
+none_in_digits i j = rw (none_at (codes "0123456789abcdef") i refl, none_at (codes "0123456789abcdef") j refl) refl
+
+-- nor is a byte that stands for itself in quotes
+pub none_in_quoted : (byte : ℕ) → is_escaped byte ≡ false → has_line_feed (byte ∷ []) ≡ false
+none_in_quoted byte e =
+    let unquoted = (neither _ (nat_eq byte 92) e).0 in
+    let above = (neither (nat_lt byte 32) (nat_lt 126 byte) (neither (nat_lt byte 32 || nat_lt 126 byte) (nat_eq byte 34) unquoted).0).0 in
+    rw (other byte above) refl
+  where
+    other : (n : ℕ) → nat_lt n 32 ≡ false → nat_eq n 10 ≡ false
+    other n h = grind (arith, nat_tests)
+
+-- ---- bytes that stand for themselves in quotes
+
+pub plain_quoted : (xs : List ℕ) → list_any is_escaped xs ≡ false → flat_map quoted_byte xs ≡ xs
+plain_quoted [] e = refl
+plain_quoted (x ∷ xs) e =
+    let (first, later) = neither (is_escaped x) (list_any is_escaped xs) e in rw (first, plain_quoted xs later) refl
+
+pub none_in_plain : (xs : List ℕ) → list_any is_escaped xs ≡ false → has_line_feed xs ≡ false
+none_in_plain [] e = refl
+none_in_plain (x ∷ xs) e =
+    let (first, later) = neither (is_escaped x) (list_any is_escaped xs) e in
+    rw ((neither (nat_eq x 10) false (none_in_quoted x first)).0, none_in_plain xs later) refl
+
+-- all but this rest of it in quotes
+abbrev pub QuotesAllBut : (all rest : List ℕ) (old new : Writing) → Type 0
+QuotesAllBut all rest old new = (done : List ℕ) × (all ≡ done ++ rest) × Says (flat_map quoted_byte done) old new
+
+pub quotes_none : (all : List ℕ) (w : Writing) → QuotesAllBut all all w w
+quotes_none all w = ([], refl, says_nothing w)
+
+pub quotes_more : (all rest first later text : List ℕ) (old mid new : Writing) → rest ≡ first ++ later
+    → flat_map quoted_byte first ≡ text → QuotesAllBut all rest old mid → Says text mid new → QuotesAllBut all later old new
+quotes_more all rest first later text old mid new e t p q =
+    let (done, parts, says) = p in (
+      done ++ first,
+      parts ∙ (ap (λ (x : List ℕ). done ++ x) e ∙ sym (append_assoc done first later)),
+      says_same (flat_map quoted_byte done ++ text) (flat_map quoted_byte (done ++ first)) old new
+          (sym (flat_map-append quoted_byte done first ∙ ap (λ (x : List ℕ). flat_map quoted_byte done ++ x) t))
+          (says_then (flat_map quoted_byte done) text old mid new says q),
+    )
+
+pub quotes_all : (all : List ℕ) (old new : Writing) → QuotesAllBut all [] old new → Says (flat_map quoted_byte all) old new
+quotes_all all old new p =
+    let (done, parts, says) = p in
+    says_same (flat_map quoted_byte done) (flat_map quoted_byte all) old new
+    (ap (flat_map quoted_byte) (sym (parts ∙ append-nil done))) says
+
+-- ---- one more of a list
+
+module _ {X : Type 0} (f : X → List ℕ) (xs : List X) where
+  pub says_one_more : (i : ℕ) (d : X) (old mid new : Writing) → i < length xs → Says (flat_map f (take i xs)) old mid
+      → Says (f (get_or xs i d)) mid new → Says (flat_map f (take (i + 1) xs)) old new
+  says_one_more i d old mid new h p q = says_same (flat_map f (take i xs) ++ f (get_or xs i d)) (flat_map f (take (i + 1) xs)) old new
+      (sym (ap (flat_map f) (take_more xs i d h) ∙ (flat_map-append f (take i xs) (get_or xs i d ∷ [])
+      ∙ ap (λ y. flat_map f (take i xs) ++ y) (append-nil (f (get_or xs i d))))))
+      (says_then (flat_map f (take i xs)) (f (get_or xs i d)) old mid new p q)
+
+  pub says_item_more : (i : ℕ) (x : X) (old mid new : Writing) → i < length xs → x ≡ get_or xs i x → Says (flat_map f (take i xs)) old mid
+      → Says (f x) mid new → Says (flat_map f (take (i + 1) xs)) old new
+  says_item_more i x old mid new h e p q = says_one_more i x old mid new h p (subst (λ (y : X). Says (f y) mid new) e q)
+
+  pub says_all : (old new : Writing) → Says (flat_map f (take (length xs) xs)) old new → Says (flat_map f xs) old new
+  says_all old new p = says_same (flat_map f (take (length xs) xs)) (flat_map f xs) old new (ap (flat_map f) (take-length xs)) p

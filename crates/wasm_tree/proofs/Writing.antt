@@ -1,0 +1,713 @@
+-- What a writer has written, after each call that writes.
+use Rattle.std.proofs.Common.{◌≡◌, ℕ, Bool, true, false, List, [], ◌∷◌, ◌++◌, codes, Option, Some, None, Err, if◌then◌else◌, refl, sym}
+use Rattle.std.proofs.Common.{ap}
+use Rattle.std.proofs.Common.{subst, subst₂, ◌∙◌, ◌≢◌, append_assoc, append-nil}
+use Rattle.std.proofs.Math.Path.{subst₃}
+use Rattle.std.proofs.lemmas.List.{append_cancel_right}
+use Rattle.std.specs.List.{list_all}
+use Rattle.std.specs.List.{flat_map}
+use Rattle.std.proofs.KnownBytes.{Appends-nil, Appends-trans}
+use Rattle.std.proofs.lemmas.Grind.{flat_map-append}
+use Rattle.std.specs.Option.{is_some}
+use Rattle.std.proofs.lemmas.List.Folds.{list_all-append}
+use Rattle.wasm_lines.specs.Calls.{output_failed}
+use Rattle.wasm_lines.specs.declared.devices.ListError.{ListError}
+use Rattle.wasm_lines.specs.Page.{WritesBeginning, IsCut}
+use Rattle.wasm_lines.specs.declared.devices.ListError.TheVariants.{Input, Output, Memory}
+use Rattle.wasm_tree.specs.Numbers.{Number, blank_numbers, number_text}
+use Rattle.wasm_tree.specs.Said.{PutsText, StopsIn}
+use Rattle.wasm_tree.specs.Tree.{Part, words, number, Line, first, under, row, has_line_feed, is_part, is_line, part_text, text_of}
+use Rattle.wasm_tree.specs.Tree.{bytes_of, first_of, name_text, row_text, with_bytes, AddsBytes}
+use Rattle.wasm_tree.specs.Tree.{part_numbers, numbers_of, IsFirst, IsOutlined, Writing, Origin, with_numbers}
+use Rattle.wasm_tree.specs.Tree.{IsGoing, IsGoingInObjects, IsGoingIn, IsCutShort, IsWrittenAs, IsWritten, IsShaped, with_line}
+use Rattle.wasm_tree.specs.Tree.{IsPushed, IsStuck, PutsAs, Puts, Adds, AddsFirst, AddsThese, is_objects}
+use Rattle.wasm_tree.specs.Json.{AreObjects, IsAt, Leads, after_all, start}
+use Rattle.wasm_tree.specs.declared.tree.Spot.{Spot}
+use Rattle.wasm_tree.specs.declared.tree.Style.{Style}
+use Rattle.wasm_tree.specs.declared.tree.Style.TheVariants.{Lines, Objects}
+use Rattle.wasm_tree.proofs.Objects.{after_all-append, completes, completion}
+
+-- ---- lines after lines
+
+more_lines : {A : Type 0} (f : Line → List A) (lines : List Line) (l : Line) (all : List A) → all ≡ flat_map f lines
+    → all ++ f l ≡ flat_map f (lines ++ l ∷ [])
+more_lines f lines l all e = ap (λ x. x ++ f l) e ∙ (ap (λ x. flat_map f lines ++ x) (sym (append-nil (f l)))
+    ∙ sym (flat_map-append f lines (l ∷ [])))
+
+outlined_more : (text outline : List ℕ) (numbers : List Number) (bytes : List ℕ) (l : Line) → is_line l ≡ true
+    → IsOutlined text outline numbers bytes
+    → IsOutlined (text ++ text_of l) (outline ++ first_of l) (numbers ++ numbers_of l) (bytes ++ bytes_of l)
+outlined_more text outline numbers bytes l one i = record {
+  lines = i.lines ++ l ∷ [];
+  whole = list_all-append is_line i.lines (l ∷ []) ∙ rw (i.whole, one) refl;
+  parts = more_lines text_of i.lines l text i.parts;
+  outlines = more_lines first_of i.lines l outline i.outlines;
+  numbered = more_lines numbers_of i.lines l numbers i.numbered;
+  rowed = more_lines bytes_of i.lines l bytes i.rowed;
+}
+
+-- the same line, by what it adds
+outlined_with : (text outline : List ℕ) (numbers : List Number) (bytes : List ℕ) (l : Line) (text' outline' : List ℕ)
+    (numbers' : List Number) (bytes' : List ℕ) → is_line l ≡ true → text ++ text_of l ≡ text' → outline ++ first_of l ≡ outline'
+    → numbers ++ numbers_of l ≡ numbers' → bytes ++ bytes_of l ≡ bytes' → IsOutlined text outline numbers bytes
+    → IsOutlined text' outline' numbers' bytes'
+outlined_with text outline numbers bytes l text' outline' numbers' bytes' one e f g h i =
+    rw (← e, ← f, ← g, ← h) (outlined_more text outline numbers bytes l one i)
+
+-- a line under another
+under_more : (text outline : List ℕ) (numbers : List Number) (bytes : List ℕ) (line : List Part) → list_all is_part line ≡ true
+    → IsOutlined text outline numbers bytes
+    → IsOutlined (text ++ (codes "  " ++ (flat_map part_text line ++ codes "\n"))) outline (numbers ++ flat_map part_numbers line) bytes
+under_more text outline numbers bytes line one i =
+    outlined_with text outline numbers bytes (under line) (text ++ text_of (under line)) outline (numbers ++ flat_map part_numbers line)
+    bytes one refl (append-nil outline) refl (append-nil bytes) i
+
+-- a row of bytes
+row_more : (text outline : List ℕ) (numbers : List Number) (bytes : List ℕ) (offset : ℕ) (more : List ℕ)
+    → IsOutlined text outline numbers bytes → IsOutlined (text ++ row_text offset more) outline numbers (bytes ++ more)
+row_more text outline numbers bytes offset more i =
+    outlined_with text outline numbers bytes (row offset more) (text ++ row_text offset more) outline numbers (bytes ++ more) refl refl
+    (append-nil outline) (append-nil numbers) refl i
+
+-- a line that adds this to the outline, and has these numbers
+abbrev pub Outlines : (line outline : List ℕ) → List Number → Type 0
+Outlines line more after = (text outline : List ℕ) (numbers : List Number) (bytes : List ℕ) → IsOutlined text outline numbers bytes
+    → IsOutlined (text ++ line) (outline ++ more) (numbers ++ after) bytes
+
+-- one of the first level
+pub first_more : (line more : List ℕ) (after : List Number) → IsFirst line more after → Outlines line more after
+first_more line more after e text outline numbers bytes i =
+    outlined_with text outline numbers bytes (first e.front after None) (text ++ line) (outline ++ more) (numbers ++ after) bytes refl
+    (ap (λ (x : List ℕ). text ++ x) (sym e.parts)) (ap (λ (x : List ℕ). outline ++ x) (sym e.outlines)) refl (append-nil bytes) i
+
+-- numbers before the rest of a line
+number_before : (n : Number) (rest : List ℕ) → number_text n rest ≡ number_text n [] ++ rest
+number_before n rest = simp append_assoc
+
+pub blank_before : (numbers : List Number) (rest : List ℕ) → blank_numbers numbers rest ≡ blank_numbers numbers [] ++ rest
+blank_before [] rest = refl
+blank_before (n ∷ later) rest =
+    let all = ap (λ (x : List ℕ). codes " " ++ number_text n x) (blank_before later rest) in
+    let moved = ap (λ (x : List ℕ). codes " " ++ x) (number_before n (blank_numbers later [] ++ rest)
+    ∙ (sym (append_assoc (number_text n []) (blank_numbers later []) rest)
+    ∙ ap (λ (x : List ℕ). x ++ rest) (sym (number_before n (blank_numbers later []))))) in
+    all ∙ moved
+
+-- one that has a name after its text, if there is one
+pub named_more : (text more : List ℕ) (after : List Number) (name : Option (List ℕ)) → IsFirst (text ++ codes "\n") more after
+    → Outlines (text ++ (name_text name ++ codes "\n")) more after
+named_more line more after name e text outline numbers bytes i =
+    let numbered = blank_numbers after [] in
+    let rest = name_text name ++ codes "\n" in
+    let front : line ≡ e.front ++ numbered = append_cancel_right line (e.front ++ numbered) (codes "\n")
+    (e.parts ∙ (ap (λ (x : List ℕ). e.front ++ x) (blank_before after (codes "\n")) ∙ sym (append_assoc e.front numbered (codes "\n")))) in
+    let parts : line ++ rest ≡ e.front ++ blank_numbers after rest = ap (λ (x : List ℕ). x ++ rest) front
+    ∙ (append_assoc e.front numbered rest ∙ ap (λ (x : List ℕ). e.front ++ x) (sym (blank_before after rest))) in
+    outlined_with text outline numbers bytes (first e.front after name) (text ++ (line ++ rest)) (outline ++ more) (numbers ++ after) bytes
+    refl (ap (λ (x : List ℕ). text ++ x) (sym parts)) (ap (λ (x : List ℕ). outline ++ x) (sym e.outlines)) refl (append-nil bytes) i
+
+-- ---- bytes put after those that wait
+
+-- all that was written or waits
+grown : (written waiting bytes moved waiting' : List ℕ) → waiting ++ bytes ≡ moved ++ waiting' → (written ++ moved) ++ waiting'
+    ≡ (written ++ waiting) ++ bytes
+grown written waiting bytes moved waiting' e = append_assoc written moved waiting'
+    ∙ (ap (λ (x : List ℕ). written ++ x) (sym e) ∙ sym (append_assoc written waiting bytes))
+
+-- what was written of a page that was given up
+beginning : (taken written : Option (List ℕ)) (waiting : List ℕ) (why : ListError) → IsCut taken written waiting why
+    → WritesBeginning taken written waiting
+beginning taken written waiting Output w = w
+beginning taken written waiting Memory w = w
+beginning taken written waiting Input w = absurd w
+
+no_input : (taken written : Option (List ℕ)) (waiting : List ℕ) (why : ListError) → IsCut taken written waiting why → why ≢ Input
+no_input taken written waiting Output w = λ e. cc
+no_input taken written waiting Memory w = λ e. cc
+no_input taken written waiting Input w = absurd w
+
+-- a part more of a line
+more_parts : {A : Type 0} (f : Part → List A) (line : List Part) (p : Part) → flat_map f (line ++ p ∷ []) ≡ flat_map f line ++ f p
+more_parts f line p = flat_map-append f line (p ∷ []) ∙ ap (λ x. flat_map f line ++ x) (append-nil (f p))
+
+-- ---- in which style
+
+shaped_lines : (style : Style) (text outline : List ℕ) (numbers : List Number) (bytes : List ℕ) → style ≡ Lines
+    → IsOutlined text outline numbers bytes → IsShaped style text outline numbers bytes
+shaped_lines style text outline numbers bytes e i = subst (λ (x : Style). IsShaped x text outline numbers bytes) (sym e) i
+
+lines_shaped : (style : Style) (text outline : List ℕ) (numbers : List Number) (bytes : List ℕ) → style ≡ Lines
+    → IsShaped style text outline numbers bytes → IsOutlined text outline numbers bytes
+lines_shaped style text outline numbers bytes e i = subst (λ (x : Style). IsShaped x text outline numbers bytes) e i
+
+-- objects have no outline
+shaped_objects : (style : Style) (text outline outline' : List ℕ) (numbers numbers' : List Number) (bytes bytes' : List ℕ)
+    → style ≡ Objects → IsShaped style text outline numbers bytes → IsShaped style text outline' numbers' bytes'
+shaped_objects style text outline outline' numbers numbers' bytes bytes' e i =
+    subst (λ (x : Style). IsShaped x text outline' numbers' bytes') (sym e)
+    (subst (λ (x : Style). IsShaped x text outline numbers bytes) e i)
+
+-- ---- what was written before
+
+-- a writer that goes on
+pub as_going : (o : Origin) (w : Writing) → w.why ≡ None → IsWritten o w → IsGoingIn o.style o w
+as_going o w e i = subst (λ (y : Option ListError). IsWrittenAs y o w) e i.1
+
+pub in_lines : (o : Origin) (w : Writing) → o.style ≡ Lines → IsGoingIn o.style o w → IsGoing o w
+in_lines o w e i = subst (λ (s : Style). IsGoingIn s o w) e i
+
+pub in_objects : (o : Origin) (w : Writing) → o.style ≡ Objects → IsGoingIn o.style o w → IsGoingInObjects o w
+in_objects o w e i = subst (λ (s : Style). IsGoingIn s o w) e i
+
+from_lines : (o to : Origin) (w : Writing) → to.style ≡ o.style → o.style ≡ Lines → IsGoing to w → IsGoingIn to.style to w
+from_lines o to w s e i = subst (λ (x : Style). IsGoingIn x to w) (sym (s ∙ e)) i
+
+from_objects : (o : Origin) (w : Writing) → o.style ≡ Objects → IsGoingInObjects o w → IsGoingIn o.style o w
+from_objects o w e i = subst (λ (x : Style). IsGoingIn x o w) (sym e) i
+
+-- one that has stopped
+pub as_short : (o : Origin) (w : Writing) (why : ListError) → w.why ≡ Some why → IsWritten o w → IsCutShort o why w
+as_short o w why e i = subst (λ (y : Option ListError). IsWrittenAs y o w) e i.1
+
+-- a line that is begun or ended, or another spot, changes nothing of what was cut short
+short_still : (o : Origin) (w : Writing) (why : ListError) (b : Bool) (spot : Spot) (unshown : List ℕ) → IsCutShort o why w
+    → IsCutShort o why (record w { is_begun = b; spot = spot; unshown = unshown })
+short_still o w why b spot unshown c = record {
+  written = c.written;
+  unwritten = c.unwritten;
+  shaped = c.shaped;
+  took = c.took;
+  failed = c.failed;
+  no_input = c.no_input;
+}
+
+-- a line of the first level, of which nothing could be written
+first_short : (o : Origin) (w : Writing) (why : ListError) (line outline : List ℕ) (numbers : List Number) → Outlines line outline numbers
+    → o.style ≡ Lines → IsCutShort o why w
+    → IsCutShort (with_numbers (with_line o outline) numbers) why w
+first_short o w why line outline numbers e lines c = record {
+  written = c.written;
+  unwritten = c.unwritten ++ line;
+  shaped = shaped_lines o.style (c.written ++ (c.unwritten ++ line)) (o.outline ++ outline) (o.numbers ++ numbers) o.bytes lines
+      (subst (λ (x : List ℕ). IsOutlined x (o.outline ++ outline) (o.numbers ++ numbers) o.bytes)
+      (append_assoc c.written c.unwritten line)
+      (e (c.written ++ c.unwritten) o.outline o.numbers o.bytes
+      (lines_shaped o.style (c.written ++ c.unwritten) o.outline o.numbers o.bytes lines c.shaped)));
+  took = c.took;
+  failed = c.failed;
+  no_input = c.no_input;
+}
+
+-- bytes that are to be shown, of which nothing could be written
+bytes_short : (o : Origin) (w : Writing) (why : ListError) (bytes : List ℕ) → o.style ≡ Lines → IsCutShort o why w
+    → IsCutShort (with_bytes o bytes) why w
+bytes_short o w why bytes lines c = record {
+  written = c.written;
+  unwritten = c.unwritten ++ row_text 0 bytes;
+  shaped = shaped_lines o.style (c.written ++ (c.unwritten ++ row_text 0 bytes)) o.outline o.numbers (o.bytes ++ bytes) lines
+      (subst (λ (x : List ℕ). IsOutlined x o.outline o.numbers (o.bytes ++ bytes))
+      (append_assoc c.written c.unwritten (row_text 0 bytes))
+      (row_more (c.written ++ c.unwritten) o.outline o.numbers o.bytes 0 bytes
+      (lines_shaped o.style (c.written ++ c.unwritten) o.outline o.numbers o.bytes lines c.shaped)));
+  took = c.took;
+  failed = c.failed;
+  no_input = c.no_input;
+}
+
+-- a part of a line under another, of which nothing could be written
+part_short : (o : Origin) (w : Writing) (why : ListError) (p : Part) → is_part p ≡ true → o.style ≡ Lines → IsCutShort o why w
+    → IsCutShort (with_numbers o (part_numbers p)) why w
+part_short o w why p one lines c =
+    let line = codes "  " ++ (flat_map part_text (p ∷ []) ++ codes "\n") in
+    record {
+      written = c.written;
+      unwritten = c.unwritten ++ line;
+      shaped = shaped_lines o.style (c.written ++ (c.unwritten ++ line)) o.outline (o.numbers ++ part_numbers p) o.bytes lines
+          (subst₂ (λ (x : List ℕ) (y : List Number). IsOutlined x o.outline (o.numbers ++ y) o.bytes)
+          (append_assoc c.written c.unwritten line) (append-nil (part_numbers p))
+          (under_more (c.written ++ c.unwritten) o.outline o.numbers o.bytes (p ∷ []) (rw one refl)
+          (lines_shaped o.style (c.written ++ c.unwritten) o.outline o.numbers o.bytes lines c.shaped)));
+      took = c.took;
+      failed = c.failed;
+      no_input = c.no_input;
+    }
+
+module _ (o : Origin) (old new : Writing) (i : IsGoing o old) where
+  -- the same bytes are to be shown
+  same_unshown : new.unshown ≡ old.unshown → o.bytes ≡ i.rows ++ new.unshown
+  same_unshown e = i.rowed ∙ ap (λ (x : List ℕ). i.rows ++ x) (sym e)
+
+  -- to a line that is begun
+  part_grows : (p : Part) → old.is_begun ≡ true → is_part p ≡ true → IsPushed (part_text p) old new
+      → IsGoing (with_numbers o (part_numbers p)) new
+  part_grows p b one h = record {
+    written = i.written ++ h.puts.moved;
+    text = i.text;
+    lined = i.lined;
+    rows = i.rows;
+    line = i.line ++ p ∷ [];
+    outlined = i.outlined;
+    one_line = list_all-append is_part i.line (p ∷ []) ∙ rw (i.one_line, one) refl;
+    parts = grown i.written old.waiting (part_text p) h.puts.moved new.waiting h.puts.waits
+        ∙ rw (h.begun, b) (ap (λ (x : List ℕ). x ++ part_text p) (i.parts ∙ rw b refl)
+        ∙ (append_assoc i.text (codes "  " ++ flat_map part_text i.line) (part_text p)
+        ∙ ap (λ (x : List ℕ). i.text ++ (codes "  " ++ x)) (sym (more_parts part_text i.line p))));
+    numbered = rw (h.begun, b) (ap (λ (x : List Number). x ++ part_numbers p) (i.numbered ∙ rw b refl)
+        ∙ (append_assoc i.lined (flat_map part_numbers i.line) (part_numbers p)
+        ∙ ap (λ (x : List Number). i.lined ++ x) (sym (more_parts part_numbers i.line p))));
+    rowed = same_unshown h.unshown;
+    took = Appends-trans o.taken old.taken new.taken i.written h.puts.moved i.took h.puts.writes;
+    failed = h.failed ∙ i.failed;
+  }
+
+  -- a line is begun
+  part_begins : old.is_begun ≡ false → IsPushed (codes "  ") old new → IsGoing o (record new { is_begun = true })
+  part_begins b p = record {
+    written = i.written ++ p.puts.moved;
+    text = i.text;
+    lined = i.lined;
+    rows = i.rows;
+    line = [];
+    outlined = i.outlined;
+    one_line = refl;
+    parts = grown i.written old.waiting (codes "  ") p.puts.moved new.waiting p.puts.waits
+        ∙ ap (λ (x : List ℕ). x ++ codes "  ") (i.parts ∙ rw b (append-nil i.text));
+    numbered = i.numbered ∙ rw b refl;
+    rowed = same_unshown p.unshown;
+    took = Appends-trans o.taken old.taken new.taken i.written p.puts.moved i.took p.puts.writes;
+    failed = p.failed ∙ i.failed;
+  }
+
+  -- it is ended
+  part_ends : old.is_begun ≡ true → IsPushed (codes "\n") old new → IsGoing o (record new { is_begun = false })
+  part_ends b p = record {
+    written = i.written ++ p.puts.moved;
+    text = i.text ++ (codes "  " ++ (flat_map part_text i.line ++ codes "\n"));
+    lined = i.lined ++ flat_map part_numbers i.line;
+    rows = i.rows;
+    line = [];
+    outlined = under_more i.text o.outline i.lined i.rows i.line i.one_line i.outlined;
+    one_line = refl;
+    parts = grown i.written old.waiting (codes "\n") p.puts.moved new.waiting p.puts.waits
+        ∙ (ap (λ (x : List ℕ). x ++ codes "\n") (i.parts ∙ rw b refl)
+        ∙ (append_assoc i.text (codes "  " ++ flat_map part_text i.line) (codes "\n")
+        ∙ sym (append-nil (i.text ++ (codes "  " ++ (flat_map part_text i.line ++ codes "\n"))))));
+    numbered = i.numbered ∙ (rw b refl ∙ sym (append-nil (i.lined ++ flat_map part_numbers i.line)));
+    rowed = same_unshown p.unshown;
+    took = Appends-trans o.taken old.taken new.taken i.written p.puts.moved i.took p.puts.writes;
+    failed = p.failed ∙ i.failed;
+  }
+
+  -- a line of the first level
+  first_grows : (line outline : List ℕ) (numbers : List Number) → Outlines line outline numbers → old.is_begun ≡ false
+      → IsPushed line old new → IsGoing (with_numbers (with_line o outline) numbers) new
+  first_grows line outline numbers e b p = record {
+    written = i.written ++ p.puts.moved;
+    text = i.text ++ line;
+    lined = i.lined ++ numbers;
+    rows = i.rows;
+    line = [];
+    outlined = e i.text o.outline i.lined i.rows i.outlined;
+    one_line = refl;
+    parts = grown i.written old.waiting line p.puts.moved new.waiting p.puts.waits
+        ∙ rw (p.begun, b) (ap (λ (x : List ℕ). x ++ line) (i.parts ∙ rw b (append-nil i.text)) ∙ sym (append-nil (i.text ++ line)));
+    numbered = rw (p.begun, b) (ap (λ (x : List Number). x ++ numbers) (i.numbered ∙ rw b (append-nil i.lined))
+        ∙ sym (append-nil (i.lined ++ numbers)));
+    rowed = same_unshown p.unshown;
+    took = Appends-trans o.taken old.taken new.taken i.written p.puts.moved i.took p.puts.writes;
+    failed = p.failed ∙ i.failed;
+  }
+
+  -- all that waited is written
+  all_moves : IsPushed [] old new → IsGoing o new
+  all_moves p = record {
+    written = i.written ++ p.puts.moved;
+    text = i.text;
+    lined = i.lined;
+    rows = i.rows;
+    line = i.line;
+    outlined = i.outlined;
+    one_line = i.one_line;
+    parts = grown i.written old.waiting [] p.puts.moved new.waiting p.puts.waits
+        ∙ (append-nil (i.written ++ old.waiting) ∙ rw p.begun i.parts);
+    numbered = rw p.begun i.numbered;
+    rowed = same_unshown p.unshown;
+    took = Appends-trans o.taken old.taken new.taken i.written p.puts.moved i.took p.puts.writes;
+    failed = p.failed ∙ i.failed;
+  }
+
+  -- a row of bytes
+  row_grows : (offset : ℕ) (bytes left : List ℕ) → old.is_begun ≡ false → IsPushed (row_text offset bytes) old new
+      → old.unshown ≡ bytes ++ left → IsGoing o (record new { unshown = left })
+  row_grows offset bytes left b p e = record {
+    written = i.written ++ p.puts.moved;
+    text = i.text ++ row_text offset bytes;
+    lined = i.lined;
+    rows = i.rows ++ bytes;
+    line = [];
+    outlined = row_more i.text o.outline i.lined i.rows offset bytes i.outlined;
+    one_line = refl;
+    parts = grown i.written old.waiting (row_text offset bytes) p.puts.moved new.waiting p.puts.waits
+        ∙ rw (p.begun, b) (ap (λ (x : List ℕ). x ++ row_text offset bytes) (i.parts ∙ rw b (append-nil i.text))
+        ∙ sym (append-nil (i.text ++ row_text offset bytes)));
+    numbered = rw (p.begun, b) (i.numbered ∙ rw b refl);
+    rowed = i.rowed ∙ (ap (λ (x : List ℕ). i.rows ++ x) e ∙ sym (append_assoc i.rows bytes left));
+    took = Appends-trans o.taken old.taken new.taken i.written p.puts.moved i.took p.puts.writes;
+    failed = p.failed ∙ i.failed;
+  }
+
+  -- the text that was cut, with what completes the line that was begun, and the bytes that weren't shown
+  abbrev after_cut : Bool → List ℕ
+  after_cut b = (if b then codes "\n" else []) ++ row_text 0 old.unshown
+
+  rest_of_line : (b : Bool) → old.is_begun ≡ b → IsOutlined ((i.written ++ old.waiting) ++
+      (if b then codes "\n" else [])) o.outline o.numbers
+      i.rows
+  rest_of_line true b = subst₂ (λ (x : List ℕ) (y : List Number). IsOutlined x o.outline y i.rows)
+      (sym (ap (λ (x : List ℕ). x ++ codes "\n") (i.parts ∙ rw b refl)
+      ∙ append_assoc i.text (codes "  " ++ flat_map part_text i.line) (codes "\n")))
+      (sym (i.numbered ∙ rw b refl)) (under_more i.text o.outline i.lined i.rows i.line i.one_line i.outlined)
+  rest_of_line false b = subst₂ (λ (x : List ℕ) (y : List Number). IsOutlined x o.outline y i.rows)
+      (sym (append-nil (i.written ++ old.waiting) ∙ (i.parts ∙ rw b (append-nil i.text))))
+      (sym (i.numbered ∙ rw b (append-nil i.lined))) i.outlined
+
+  completed : (b : Bool) → old.is_begun ≡ b → IsOutlined ((i.written ++ old.waiting) ++ after_cut b) o.outline o.numbers o.bytes
+  completed b e = subst₂ (λ (x bytes : List ℕ). IsOutlined x o.outline o.numbers bytes)
+      (append_assoc (i.written ++ old.waiting) (if b then codes "\n" else []) (row_text 0 old.unshown)) (sym i.rowed)
+      (row_more ((i.written ++ old.waiting) ++ (if b then codes "\n" else [])) o.outline o.numbers i.rows 0 old.unshown (rest_of_line b e))
+
+-- of all that was written or waited, a beginning is written
+cut_at : (written waiting moved unwritten more : List ℕ) → waiting ≡ moved ++ unwritten → (written ++ moved) ++ (unwritten ++ more)
+    ≡ (written ++ waiting) ++ more
+cut_at written waiting moved unwritten more e = append_assoc written moved (unwritten ++ more)
+    ∙ (ap (λ (x : List ℕ). written ++ x) (sym (append_assoc moved unwritten more) ∙ ap (λ (x : List ℕ). x ++ more) (sym e))
+    ∙ sym (append_assoc written waiting more))
+
+module _ (o : Origin) (old new : Writing) (why : ListError) (s : IsStuck why old new) where
+  stuck_in : (style : Style) → o.style ≡ style → IsGoingIn style o old → IsCutShort o why new
+  stuck_in Lines e i =
+      let w = beginning old.taken new.taken old.waiting why s.cut in
+      let more = after_cut o old new i old.is_begun in
+      record {
+        written = i.written ++ w.moved;
+        unwritten = w.unwritten ++ more;
+        shaped = shaped_lines o.style ((i.written ++ w.moved) ++ (w.unwritten ++ more)) o.outline o.numbers o.bytes e
+            (subst (λ (x : List ℕ). IsOutlined x o.outline o.numbers o.bytes)
+            (sym (cut_at i.written old.waiting w.moved w.unwritten more w.parts)) (completed o old new i old.is_begun refl));
+        took = Appends-trans o.taken old.taken new.taken i.written w.moved i.took w.wrote;
+        failed = s.failed ∙ ap (λ (b : Bool). output_failed {A = Unit {0}} (Err why) b) i.failed;
+        no_input = no_input old.taken new.taken old.waiting why s.cut;
+      }
+  stuck_in Objects e i =
+      let w = beginning old.taken new.taken old.waiting why s.cut in
+      let more = completion old.spot in
+      let objects : AreObjects ((i.written ++ old.waiting) ++ more) = after_all-append start (i.written ++ old.waiting) more
+      ∙ completes old.spot (after_all start (i.written ++ old.waiting)) i.is_at in
+      record {
+        written = i.written ++ w.moved;
+        unwritten = w.unwritten ++ more;
+        shaped = subst (λ (x : Style). IsShaped x ((i.written ++ w.moved) ++ (w.unwritten ++ more)) o.outline o.numbers o.bytes) (sym e)
+            (subst AreObjects (sym (cut_at i.written old.waiting w.moved w.unwritten more w.parts)) objects);
+        took = Appends-trans o.taken old.taken new.taken i.written w.moved i.took w.wrote;
+        failed = s.failed ∙ ap (λ (b : Bool). output_failed {A = Unit {0}} (Err why) b) i.failed;
+        no_input = no_input old.taken new.taken old.waiting why s.cut;
+      }
+
+  is_stuck : IsGoingIn o.style o old → IsCutShort o why new
+  is_stuck i = stuck_in o.style refl i
+
+-- ---- the calls
+
+-- memory was refused before anything was put
+pub stops : (o : Origin) (w : Writing) → w.why ≡ None → IsWritten o w → IsWritten o (record w { why = Some Memory })
+stops o w e i = (
+  i.0,
+  is_stuck o w (record w { why = Some Memory }) Memory (record {
+    cut = record { moved = []; unwritten = w.waiting; parts = refl; wrote = Appends-nil w.taken };
+    begun = refl;
+    failed = refl;
+    style = refl;
+    spot = refl;
+    unshown = refl;
+  }) (as_going o w e i),
+)
+
+pub none_there : (why : Option ListError) → is_some why ≡ false → why ≡ None
+none_there None e = refl
+none_there (Some why) e = let no : true ≡ false = e in cc
+
+-- nothing else changes
+pub record AreSame (old new : Writing) : Type 0 where
+  pub begun : new.is_begun ≡ old.is_begun
+  pub style : new.style ≡ old.style
+  pub unshown : new.unshown ≡ old.unshown
+
+same_by : (before after : Option ListError) (bytes : List ℕ) (old new : Writing) → PutsAs before after bytes old new → AreSame old new
+same_by (Some why) after bytes old new p = record {
+  begun = ap (λ (w : Writing). w.is_begun) p;
+  style = ap (λ (w : Writing). w.style) p;
+  unshown = ap (λ (w : Writing). w.unshown) p;
+}
+same_by None None bytes old new p = record { begun = p.begun; style = p.style; unshown = p.unshown }
+same_by None (Some why) bytes old new p = record { begun = p.begun; style = p.style; unshown = p.unshown }
+
+pub are_same : (bytes : List ℕ) (old new : Writing) → Puts bytes old new → AreSame old new
+are_same bytes old new p = same_by old.why new.why bytes old new p
+
+module _ (o : Origin) (old new : Writing) (b : Bool) (spot : Spot) (unshown : List ℕ) where
+  -- a writer that is then in a line or not, or at another spot, or has other bytes to show
+  abbrev moved_on : Writing → Writing
+  moved_on w = record w { is_begun = b; spot = spot; unshown = unshown }
+
+  -- by whether the writer had stopped, and has: what goes on, and what was cut, with this outline
+  by_why : (to : Origin) (bytes : List ℕ) (before after : Option ListError) → old.why ≡ before → new.why ≡ after
+      → PutsAs before after bytes old new → IsWritten o old
+      → (IsGoingIn o.style o old → IsPushed bytes old new → IsGoingIn to.style to (moved_on new))
+      → ((why : ListError) (w : Writing) → IsCutShort o why w → IsCutShort to why w)
+      → IsWrittenAs new.why to (moved_on new)
+  by_why to bytes (Some why) after e a p i going short = subst (λ (w : Writing). IsWrittenAs w.why to (moved_on w)) (sym p)
+      (subst (λ (y : Option ListError). IsWrittenAs y to (moved_on old)) (sym e)
+      (short_still to old why b spot unshown (short why old (as_short o old why e i))))
+  by_why to bytes None None e a p i going short = subst (λ (y : Option ListError). IsWrittenAs y to (moved_on new)) (sym a)
+      (going (as_going o old e i) p)
+  by_why to bytes None (Some why) e a p i going short = subst (λ (y : Option ListError). IsWrittenAs y to (moved_on new)) (sym a)
+      (short_still to new why b spot unshown (short why new (is_stuck o old new why p (as_going o old e i))))
+
+  changes : (to : Origin) (bytes : List ℕ) → to.style ≡ o.style → Puts bytes old new → IsWritten o old
+      → (IsGoingIn o.style o old → IsPushed bytes old new → IsGoingIn to.style to (moved_on new))
+      → ((why : ListError) (w : Writing) → IsCutShort o why w → IsCutShort to why w) → IsWritten to (moved_on new)
+  changes to bytes same p i going short =
+      ((are_same bytes old new p).style ∙ (i.0 ∙ sym same), by_why to bytes old.why new.why refl refl p i going short)
+
+module _ (o : Origin) (old new : Writing) (lines : old.style ≡ Lines) where
+  puts_of : (p : Part) → old.is_begun ≡ true → is_part p ≡ true → Puts (part_text p) old new → IsWritten o old
+      → IsWritten (with_numbers o (part_numbers p)) new
+  puts_of p b one h i =
+      let e : o.style ≡ Lines = sym i.0 ∙ lines in
+      changes o old new new.is_begun new.spot new.unshown (with_numbers o (part_numbers p)) (part_text p) refl h i
+      (λ g s. from_lines o (with_numbers o (part_numbers p)) new refl e (part_grows o old new (in_lines o old e g) p b one s))
+      (λ why w c. part_short o w why p one e c)
+
+  pub puts_part : (bytes : List ℕ) → old.is_begun ≡ true → has_line_feed bytes ≡ false → Puts bytes old new → IsWritten o old
+      → IsWritten o new
+  puts_part bytes b none p i = subst (λ (x : List Number). IsWritten (record o { numbers = x }) new) (append-nil o.numbers)
+      (puts_of (words bytes) b (rw none refl) p i)
+
+  pub puts_number : (n : Number) → old.is_begun ≡ true → Puts (number_text n []) old new → IsWritten o old
+      → IsWritten (with_numbers o (n ∷ [])) new
+  puts_number n b p i = puts_of (number n) b refl p i
+
+  pub puts_first : (line outline : List ℕ) (numbers : List Number) → IsFirst line outline numbers → old.is_begun ≡ false
+      → Puts line old new → IsWritten o old → IsWritten (with_numbers (with_line o outline) numbers) new
+  puts_first line outline numbers e b p i =
+      let s : o.style ≡ Lines = sym i.0 ∙ lines in
+      let more = first_more line outline numbers e in
+      changes o old new new.is_begun new.spot new.unshown (with_numbers (with_line o outline) numbers) line refl p i
+      (λ g h. from_lines o (with_numbers (with_line o outline) numbers) new refl s
+      (first_grows o old new (in_lines o old s g) line outline numbers more b h))
+      (λ why w c. first_short o w why line outline numbers more s c)
+
+  -- a line is then begun or ended
+  pub begins : old.is_begun ≡ false → Puts (codes "  ") old new → IsWritten o old → IsWritten o (record new { is_begun = true })
+  begins b p i =
+      let e : o.style ≡ Lines = sym i.0 ∙ lines in
+      changes o old new true new.spot new.unshown o (codes "  ") refl p i
+      (λ g h. from_lines o o (record new { is_begun = true }) refl e (part_begins o old new (in_lines o old e g) b h)) (λ why w c. c)
+
+  pub ends : old.is_begun ≡ true → Puts (codes "\n") old new → IsWritten o old → IsWritten o (record new { is_begun = false })
+  ends b p i =
+      let e : o.style ≡ Lines = sym i.0 ∙ lines in
+      changes o old new false new.spot new.unshown o (codes "\n") refl p i
+      (λ g h. from_lines o o (record new { is_begun = false }) refl e (part_ends o old new (in_lines o old e g) b h)) (λ why w c. c)
+
+  -- a row of bytes that were to be shown
+  pub puts_row : (offset : ℕ) (bytes left : List ℕ) → old.is_begun ≡ false → Puts (row_text offset bytes) old new
+      → old.unshown ≡ bytes ++ left → IsWritten o old → IsWritten o (record new { unshown = left })
+  puts_row offset bytes left b p u i =
+      let e : o.style ≡ Lines = sym i.0 ∙ lines in
+      changes o old new new.is_begun new.spot left o (row_text offset bytes) refl p i
+      (λ g h. from_lines o o (record new { unshown = left }) refl e (row_grows o old new (in_lines o old e g) offset bytes left b h u))
+      (λ why w c. c)
+
+-- ---- a line of the first level that was put as several texts
+
+module _ (o : Origin) (old new : Writing) (line outline : List ℕ) (numbers : List Number) (more : Outlines line outline numbers) where
+  abbrev with_this : Origin
+  with_this = with_numbers (with_line o outline) numbers
+
+  -- the line was begun, and was ended
+  abbrev in_line : Writing
+  in_line = record old { is_begun = true }
+
+  abbrev after_line : Writing
+  after_line = record new { is_begun = false }
+
+  -- of which a beginning could be written
+  stops_in : (why : ListError) → o.style ≡ Lines → old.is_begun ≡ false → IsGoing o old → StopsIn line why in_line new
+      → IsCutShort with_this why after_line
+  stops_in why e b i p =
+      let w = beginning old.taken new.taken (old.waiting ++ line) why p.cut in
+      let rest = row_text 0 old.unshown in
+      let all : i.written ++ (old.waiting ++ line) ≡ i.text ++ line = sym (append_assoc i.written old.waiting line)
+      ∙ ap (λ (x : List ℕ). x ++ line) (i.parts ∙ rw b (append-nil i.text)) in
+      let whole : (i.written ++ w.moved) ++ (w.unwritten ++ rest) ≡ (i.text ++ line) ++ rest =
+      cut_at i.written (old.waiting ++ line) w.moved w.unwritten rest w.parts ∙ ap (λ (x : List ℕ). x ++ rest) all in
+      let numbered : i.lined ≡ o.numbers = sym (i.numbered ∙ rw b (append-nil i.lined)) in
+      record {
+        written = i.written ++ w.moved;
+        unwritten = w.unwritten ++ rest;
+        shaped = shaped_lines o.style ((i.written ++ w.moved) ++ (w.unwritten ++ rest)) (o.outline ++ outline) (o.numbers ++ numbers)
+            o.bytes e
+            (subst₃ (λ (x : List ℕ) (y : List Number) (z : List ℕ). IsOutlined x (o.outline ++ outline) (y ++ numbers) z) (sym whole)
+            numbered (sym i.rowed)
+            (row_more (i.text ++ line) (o.outline ++ outline) (i.lined ++ numbers) i.rows 0 old.unshown
+            (more i.text o.outline i.lined i.rows i.outlined)));
+        took = Appends-trans o.taken old.taken new.taken i.written w.moved i.took w.wrote;
+        failed = p.failed ∙ ap (λ (b : Bool). output_failed {A = Unit {0}} (Err why) b) i.failed;
+        no_input = no_input old.taken new.taken (old.waiting ++ line) why p.cut;
+      }
+
+  -- all of it was put
+  line_pushed : old.is_begun ≡ false → IsPushed line in_line new → IsPushed line old after_line
+  line_pushed b p = record {
+    puts = p.puts;
+    begun = sym b;
+    failed = p.failed;
+    why = p.why;
+    style = p.style;
+    spot = p.spot;
+    unshown = p.unshown;
+  }
+
+  by_text : (before after : Option ListError) → old.why ≡ before → new.why ≡ after → o.style ≡ Lines → old.is_begun ≡ false
+      → PutsText before after line in_line new → IsWritten o old → IsWrittenAs new.why with_this after_line
+  by_text (Some why) after e a s b p i =
+      subst (λ (w : Writing). IsWrittenAs w.why with_this (record w { is_begun = false })) (sym p)
+      (subst (λ (y : Option ListError). IsWrittenAs y with_this (record old { is_begun = false })) (sym e)
+      (short_still with_this old why false old.spot old.unshown
+      (first_short o old why line outline numbers more s (as_short o old why e i))))
+  by_text None None e a s b p i = subst (λ (y : Option ListError). IsWrittenAs y with_this after_line) (sym a)
+      (from_lines o with_this after_line refl s
+      (first_grows o old after_line (in_lines o old s (as_going o old e i)) line outline numbers more b (line_pushed b p)))
+  by_text None (Some why) e a s b p i = subst (λ (y : Option ListError). IsWrittenAs y with_this after_line) (sym a)
+      (stops_in why s b (in_lines o old s (as_going o old e i)) p)
+
+  pub puts_line : old.style ≡ Lines → old.is_begun ≡ false → new.style ≡ Lines → PutsText old.why new.why line in_line new → IsWritten o old
+      → IsWritten with_this after_line
+  puts_line lines b after p i =
+      let s : o.style ≡ Lines = sym i.0 ∙ lines in
+      (after ∙ sym s, by_text old.why new.why refl refl s b p i)
+
+-- bytes are to be shown, where all that were to be were
+bytes_to_show : (o : Origin) (w : Writing) (bytes : List ℕ) → w.unshown ≡ [] → IsGoing o w
+    → IsGoing (with_bytes o bytes) (record w { unshown = bytes })
+bytes_to_show o w bytes e i = record {
+  written = i.written;
+  text = i.text;
+  lined = i.lined;
+  rows = i.rows;
+  line = i.line;
+  outlined = i.outlined;
+  one_line = i.one_line;
+  parts = i.parts;
+  numbered = i.numbered;
+  rowed = ap (λ (x : List ℕ). x ++ bytes) (i.rowed ∙ (ap (λ (x : List ℕ). i.rows ++ x) e ∙ append-nil i.rows));
+  took = i.took;
+  failed = i.failed;
+}
+
+module _ (o : Origin) (w : Writing) (bytes : List ℕ) (lines : w.style ≡ Lines) where
+  -- by a writer that goes on
+  pub to_show : w.why ≡ None → w.unshown ≡ [] → IsWritten o w → IsWritten (with_bytes o bytes) (record w { unshown = bytes })
+  to_show going none i =
+      let e : o.style ≡ Lines = sym i.0 ∙ lines in (
+        i.0,
+        subst (λ (y : Option ListError). IsWrittenAs y (with_bytes o bytes) (record w { unshown = bytes })) (sym going)
+            (from_lines o (with_bytes o bytes) (record w { unshown = bytes }) refl e
+            (bytes_to_show o w bytes none (in_lines o w e (as_going o w going i)))),
+      )
+
+  short_by : (why : Option ListError) → is_some why ≡ true → o.style ≡ Lines → IsWrittenAs why o w → IsWrittenAs why (with_bytes o bytes) w
+  short_by None s e i = cc
+  short_by (Some why) s e i = bytes_short o w why bytes e i
+
+  -- by one that has stopped
+  pub never_shown : is_some w.why ≡ true → IsWritten o w → IsWritten (with_bytes o bytes) w
+  never_shown s i = (i.0, short_by w.why s (sym i.0 ∙ lines) i.1)
+
+-- in an object, bytes that lead to another spot
+object_grows : (o : Origin) (old new : Writing) (bytes : List ℕ) (spot : Spot) → IsGoingInObjects o old → Leads old.spot bytes spot
+    → IsPushed bytes old new → IsGoingInObjects o (record new { spot = spot })
+object_grows o old new bytes spot i leads p = record {
+  written = i.written ++ p.puts.moved;
+  is_at = subst (λ (x : List ℕ). IsAt spot (after_all start x))
+      (sym (grown i.written old.waiting bytes p.puts.moved new.waiting p.puts.waits))
+      (subst (IsAt spot) (sym (after_all-append start (i.written ++ old.waiting) bytes))
+      (leads (after_all start (i.written ++ old.waiting)) i.is_at));
+  took = Appends-trans o.taken old.taken new.taken i.written p.puts.moved i.took p.puts.writes;
+  failed = p.failed ∙ i.failed;
+}
+
+module _ (o : Origin) (old new : Writing) where
+  pub puts_in_object : (bytes : List ℕ) (spot : Spot) → old.style ≡ Objects → Leads old.spot bytes spot → Puts bytes old new
+      → IsWritten o old → IsWritten o (record new { spot = spot })
+  puts_in_object bytes spot objects leads p i =
+      let e : o.style ≡ Objects = sym i.0 ∙ objects in
+      changes o old new new.is_begun spot new.unshown o bytes refl p i
+      (λ g h. from_objects o (record new { spot = spot }) e (object_grows o old new bytes spot (in_objects o old e g) leads h))
+      (λ why w c. c)
+
+  all_in : (style : Style) → o.style ≡ style → IsGoingIn style o old → IsPushed [] old new → IsGoingIn style o new
+  all_in Lines e i p = all_moves o old new i p
+  all_in Objects e i p = record {
+    written = i.written ++ p.puts.moved;
+    is_at = subst₂ (λ (x : List ℕ) (spot : Spot). IsAt spot (after_all start x))
+        (sym (grown i.written old.waiting [] p.puts.moved new.waiting p.puts.waits ∙ append-nil (i.written ++ old.waiting)))
+        (sym p.spot) i.is_at;
+    took = Appends-trans o.taken old.taken new.taken i.written p.puts.moved i.took p.puts.writes;
+    failed = p.failed ∙ i.failed;
+  }
+
+  pub puts_all : Puts [] old new → IsWritten o old → IsWritten o new
+  puts_all p i = changes o old new new.is_begun new.spot new.unshown o [] refl p i (λ g h. all_in o.style refl g h) (λ why w c. c)
+
+-- ---- in the style of objects nothing is said of lines
+
+module _ (o : Origin) (w : Writing) (outline : List ℕ) (numbers : List Number) (bytes : List ℕ) where
+  abbrev with_others : Origin
+  with_others = record o { outline = outline; numbers = numbers; bytes = bytes }
+
+  other_by : (why : Option ListError) → o.style ≡ Objects → IsWrittenAs why o w → IsWrittenAs why with_others w
+  other_by None e i =
+      let g = in_objects o w e i in
+      from_objects with_others w e (record { written = g.written; is_at = g.is_at; took = g.took; failed = g.failed })
+  other_by (Some why) e c = record {
+    written = c.written;
+    unwritten = c.unwritten;
+    shaped = shaped_objects o.style (c.written ++ c.unwritten) o.outline outline o.numbers numbers o.bytes bytes e c.shaped;
+    took = c.took;
+    failed = c.failed;
+    no_input = c.no_input;
+  }
+
+  pub other_lines : o.style ≡ Objects → IsWritten o w → IsWritten with_others w
+  other_lines e i = (i.0, other_by w.why e i.1)
+
+module _ (old new : Writing) (objects : old.style ≡ Objects) (a : Adds old new) where
+  pub first_in_objects : (line : List ℕ) → AddsFirst line old new
+  first_in_objects line outline numbers e o i =
+      other_lines o new (o.outline ++ outline) (o.numbers ++ numbers) o.bytes (sym i.0 ∙ objects) (a o i)
+
+  pub bytes_in_objects : (bytes : List ℕ) → AddsBytes bytes old new
+  bytes_in_objects bytes o i = other_lines o new o.outline o.numbers (o.bytes ++ bytes) (sym i.0 ∙ objects) (a o i)
+
+  pub numbers_in_objects : (numbers : List Number) → AddsThese numbers old new
+  numbers_in_objects numbers o i = other_lines o new o.outline (o.numbers ++ numbers) o.bytes (sym i.0 ∙ objects) (a o i)
+
+pub are_objects : (style : Style) → is_objects style ≡ true → style ≡ Objects
+are_objects Lines e = cc
+are_objects Objects e = refl
+
+pub are_lines : (style : Style) → is_objects style ≡ false → style ≡ Lines
+are_lines Lines e = refl
+are_lines Objects e = cc

@@ -1,0 +1,94 @@
+// Names of items.
+ghost use Rattle.std.specs.Prelude.{◌≡◌, [], IfErr, OnErr, OnOk};
+ghost use Rattle.std.specs.Option.{option_copied};
+ghost use Rattle.wasm_lines.specs.declared.devices.ListError.TheVariants.{Memory};
+ghost use Rattle.wasm_tree.specs.ItemNames.{AddsName, KeepsNames, item, named, rank_of as rank};
+
+use crate::numbers::Space;
+use std::alloc::{Allocator, Global};
+use std::collections::BTreeMap;
+use std::marker::Model;
+use wasm_lines::ListError;
+
+/// Names of items, each by its number. Of two names of one item it keeps the first that was added.
+#[derive(Drop)]
+pub struct ItemNames<A: Allocator = Global> {
+    names: BTreeMap<(u8, u32), String<A>, A>,
+}
+
+impl<A: Allocator> Model for ItemNames<A> {
+    ghost use Rattle.wasm_tree.specs.ItemNames.{Names, names_in};
+
+    ghost Value = { Names };
+
+    ghost view = { λ a. names_in a.names };
+}
+
+// The rank of an index space among the keys.
+fn rank_of(space: Space) -> u8
+    ensures { result ≡ rank space }
+{
+    match space {
+        Space::Types => 0,
+        Space::Functions => 1,
+        Space::Tables => 2,
+        Space::Memories => 3,
+        Space::Tags => 4,
+        Space::Globals => 5,
+        Space::Elements => 6,
+        Space::DataSegments => 7,
+    }
+}
+
+impl ItemNames {
+    /// No names. They take no memory.
+    pub fn new(alloc: Global) -> ItemNames
+        ensures { result ≡ [] }
+    {
+        ItemNames::new_in(alloc)
+    }
+}
+
+impl<A: Allocator> ItemNames<A> {
+    /// No names, with memory from any allocator.
+    pub fn new_in(alloc: A) -> ItemNames<A>
+        ensures { result ≡ [] }
+    {
+        ItemNames {
+            names: BTreeMap::new(alloc),
+        }
+    }
+
+    /// Adds the name of an item, unless it has one. `Memory` where a growth was refused, and no other error: the names are then
+    /// what they were.
+    pub fn add(&mut self, alloc: A, space: Space, index: u32, name: &str) -> Result<(), ListError>
+    where
+        A: Clone,
+        ensures added { OnOk result (AddsName self.old (item space index) name.now self.new) }
+        ensures keeps { KeepsNames self.old self.new }
+        ensures refused { OnErr result (self.new ≡ self.old) }
+        ensures memory { IfErr result (λ why. why ≡ Memory) }
+    {
+        let key = (rank_of(space), index);
+        if self.names.contains_key(&key) {
+            return Ok(());
+        }
+        match self.names.insert(key, String::from_str(alloc, name)?) {
+            Ok(_) => Ok(()),
+            Err(_) => Err(ListError::Memory),
+        }
+    }
+
+    /// The name of an item, if it has one.
+    pub fn of(&self, space: Space, index: u64) -> Option<&str>
+        ensures { option_copied result ≡ named self.now (item space index) }
+    {
+        match u32::try_from(index) {
+            Ok(index) => match self.names.get(&(rank_of(space), index)) {
+                Some(name) => Some(name.as_str()),
+                None => None,
+            },
+            Err(_) => None,
+        }
+    }
+}
