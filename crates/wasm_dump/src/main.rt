@@ -5,7 +5,7 @@
 mod tests;
 
 use std::process::ExitCode;
-use wasm_dump_run::run_host;
+use wasm_cli::dump::run_host;
 
 fn main(rt: HostRuntime) -> ExitCode {
     run_host(rt)

@@ -5,8 +5,8 @@
 mod tests;
 
 use std::process::ExitCode;
-pub use wasm_list_run::run;
-use wasm_list_run::run_host;
+pub use wasm_cli::list::run;
+use wasm_cli::list::run_host;
 
 fn main(rt: HostRuntime) -> ExitCode {
     run_host(rt)

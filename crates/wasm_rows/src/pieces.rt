@@ -5,7 +5,7 @@ use std::alloc::{AllocError, Global};
 use std::fmt::Write;
 use std::ops::Range;
 use wasm_base::{BinaryReader, Error, WasmFeatures};
-use wasm_feed::{Event, EventKind, Feeder, fits_pieces, ListError, read_pieces, Sink, Step};
+use wasm_feed::{Event, EventKind, Feeder, ListError, Sink, Step, fits_pieces, read_pieces};
 use wasm_parser::{Encoding, Payload};
 use wasm_tree::Tree;
 

@@ -1,7 +1,7 @@
 // Dumps with colours.
 use std::alloc::Global;
 use std::test::Fail;
-use wasm_dump_run::Colored;
+use wasm_cli::dump::Colored;
 use wasm_feed::{BoundedSink, Sink, write_all};
 
 // What a sink with room for so many bytes has after this text was written through colours, and whether all was.

@@ -1,9 +1,9 @@
 // Dumps with names.
 use std::alloc::Global;
 use std::test::Fail;
-use wasm_dump_run::{Options, dump_as};
+use wasm_cli::dump::{Options, dump_as};
+use wasm_dumper::{Only, Shown, collect_names, dump};
 use wasm_feed::{BoundedSink, Ended, ListError, Sink, SliceSource, WriteSink};
-use wasm_dumper::{collect_names, dump, Only, Shown};
 use wasm_tree::{Style, Tree};
 
 // The linked module of docs/DUMP.md, whose bodies are filled with a byte.

@@ -4,9 +4,9 @@ use std::env::Args;
 use std::io::{self, Read, Write};
 use std::process::ExitCode;
 use std::test::Fail;
+use wasm_cli::finish;
+use wasm_cli::list::run_program;
 use wasm_feed::{BoundedSink, Failed, ReadSource, Sink, SliceSource, Source, WriteSink};
-use wasm_list_run::run_program;
-use wasm_run::finish;
 
 const MODULE: &[u8] = b"\0asm\x01\0\0\0\0\x02\x01a";
 

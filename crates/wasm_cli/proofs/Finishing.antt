@@ -1,0 +1,141 @@
+-- A run of the program, and then its end.
+use Rattle.std.proofs.Common.{◌≡◌, ◌⊎◌, ℕ, ◌<◌, Bool, List, Option, Some, None, Result, Ok, Err, refl, sym, ◌∙◌, take, subst, arith, inl}
+use Rattle.std.proofs.Common.{inr}
+use Rattle.std.specs.Io.KnownBytes.{Appends, Keeps}
+use Rattle.wasm_feed.specs.Lists.{Lists}
+use Rattle.wasm_lines.specs.Calls.{Device, from_to}
+use Rattle.wasm_cli.proofs.Keeping.{appends_kept}
+use Rattle.wasm_cli.specs.Devices.{over, Follows, IsUntouched, Says}
+use Rattle.wasm_cli.specs.Endings.{RunsUsage, HandsOn, FailsToHandOn, LeavesAlone, Finishes, status_of}
+use Rattle.wasm_cli.specs.ListRuns.{RunsListingAs, Runs, EndsAs, ListsAll, RunsProgram, usage}
+use Rattle.wasm_cli.specs.declared.list.command.Command.{Command}
+use Rattle.wasm_feed.specs.declared.listing.Ended.{Ended}
+use Rattle.wasm_feed.specs.declared.listing.Ended.TheVariants.{End, Fault}
+use Rattle.wasm_lines.specs.declared.devices.ListError.{ListError}
+
+lists_kept : (source rest taken written kept : Option (List ℕ)) (how : Ended) → Lists (from_to source rest) (from_to taken written) (Ok how)
+    → Keeps written kept
+    → Lists (from_to source rest) (from_to taken kept) (Ok how)
+lists_kept source rest taken written kept how h k = record {
+  given = h.given;
+  first = h.first;
+  end = h.end;
+  gave = h.gave;
+  listed = appends_kept taken written kept _ h.listed k;
+  ends = h.ends;
+  within = h.within;
+  past_the_top = h.past_the_top;
+}
+
+some_is : {X : Type 0} {x y : X} → Some x ≡ Some y → x ≡ y
+some_is h = cc
+
+below_two : (how : Ended) → status_of (Ok how) < 2
+below_two End = omega arith
+below_two (Fault e) = omega arith
+
+-- nothing was said, and then this
+said : (first second : Device) (message : List ℕ) → Follows first second → IsUntouched first → Says second message
+    → Says (over first second) message
+said first second message f u s =
+    let same : second.before ≡ first.before = f.bytes ∙ u.bytes in
+    record {
+      some = (s.some.0, subst (λ (b : Option (List ℕ)). Appends b second.after (take s.some.0 message)) same s.some.1);
+      all = λ e. subst (λ (b : Option (List ℕ)). Appends b second.after message) same (s.all e);
+    }
+
+-- this was said, and then nothing
+said_before : (first second : Device) (message : List ℕ) → Follows first second → Says first message → IsUntouched second
+    → Says (over first second) message
+said_before first second message f s u =
+    let same : first.after ≡ second.after = sym (u.bytes ∙ f.bytes) in
+    let kept : second.has_failed ≡ first.has_failed = u.failed ∙ f.failed in
+    record {
+      some = (s.some.0, subst (λ (a : Option (List ℕ)). Appends first.before a (take s.some.0 message)) same s.some.1);
+      all = λ e. subst (λ (a : Option (List ℕ)). Appends first.before a message) same (s.all (sym kept ∙ e));
+    }
+
+untouched_twice : (first second : Device) → Follows first second → IsUntouched first → IsUntouched second → IsUntouched (over first second)
+untouched_twice first second f u v = record { bytes = v.bytes ∙ (f.bytes ∙ u.bytes); failed = v.failed ∙ (f.failed ∙ u.failed) }
+
+-- the listing ended, and the output then handed on what it had taken, or failed
+handed : (first second first_errors second_errors : Device) (how : Ended) (handed_on : Bool) (status result : ℕ) → Follows first second
+    → Follows first_errors second_errors
+    → first.has_failed ≡ first.had_failed → IsUntouched first_errors → status ≡ status_of (Ok how)
+    → HandsOn status handed_on second second_errors result ⊎ FailsToHandOn second second_errors result
+    → EndsAs (Ok how) handed_on (over first second) (over first_errors second_errors) result
+handed first second first_errors second_errors how handed_on status result f fe sink silent answers (inl h) = inl (record {
+  answers = h.answers ∙ answers;
+  all = h.all;
+  sink = h.sink ∙ (f.failed ∙ sink);
+  silent = untouched_twice first_errors second_errors fe silent h.silent;
+})
+handed first second first_errors second_errors how handed_on status result f fe sink silent answers (inr h) = inr (record {
+  answers = h.answers;
+  sink = h.sink;
+  says = said first_errors second_errors _ fe silent h.says;
+})
+
+-- a run that listed its input, and then its end
+listed_all : (input first second first_errors second_errors : Device) (handed_on : Bool) (status result : ℕ) → Follows first second
+    → Follows first_errors second_errors
+    → (how : Result Ended ListError) → RunsListingAs how input first first_errors status
+    → Finishes status handed_on second second_errors result
+    → ListsAll handed_on input (over first second) (over first_errors second_errors) result
+listed_all input first second first_errors second_errors handed_on status result f fe (Ok how) r finish = record {
+  how = Ok how;
+  lists = lists_kept _ _ _ _ _ how r.lists.lists (subst (λ (b : Option (List ℕ)). Keeps b second.after) f.bytes finish.keeps);
+  source = r.lists.source;
+  ends = handed first second first_errors second_errors how handed_on status result f fe r.lists.sink r.reports r.answers
+      (finish.ended (subst (λ (n : ℕ). n < 2) (sym r.answers) (below_two how)));
+}
+listed_all input first second first_errors second_errors handed_on status result f fe (Err why) r finish =
+    let alone : LeavesAlone status second second_errors result = finish.given_up (omega (arith, r.answers)) in
+    let kept : second.after ≡ first.after = alone.sink.bytes ∙ f.bytes in
+    record {
+      how = Err why;
+      lists = subst (λ (a : Option (List ℕ)). Lists (from_to input.before input.after) (from_to first.before a) (Err why)) (sym kept)
+          r.lists.lists;
+      source = r.lists.source;
+      ends = record {
+        answers = alone.answers ∙ r.answers;
+        sink = alone.sink.failed ∙ (f.failed ∙ r.lists.sink);
+        says = said_before first_errors second_errors _ fe r.reports alone.silent;
+      };
+    }
+
+-- a run that refused its arguments, and then its end
+refused_all : (input first second first_errors second_errors : Device) (handed_on : Bool) (status result : ℕ) → Follows first second
+    → Follows first_errors second_errors
+    → RunsUsage usage input first first_errors status → Finishes status handed_on second second_errors result
+    → RunsUsage usage input (over first second) (over first_errors second_errors) result
+refused_all input first second first_errors second_errors handed_on status result f fe r finish =
+    let alone : LeavesAlone status second second_errors result = finish.given_up (omega (arith, r.answers)) in
+    record {
+      source = r.source;
+      sink = untouched_twice first second f r.sink alone.sink;
+      answers = alone.answers ∙ r.answers;
+      says = said_before first_errors second_errors _ fe r.says alone.silent;
+    }
+
+pub program : (command : Command) (input first second first_errors second_errors : Device) (handed_on : Bool) (status result : ℕ)
+    → Follows first second → Follows first_errors second_errors
+    → Runs command input first first_errors status → Finishes status handed_on second second_errors result
+    → RunsProgram (Some command) handed_on input (over first second) (over first_errors second_errors) result
+program command input first second first_errors second_errors handed_on status result f fe runs finish = record {
+  lists = λ c. let r = runs.lists (some_is c) in listed_all input first second first_errors second_errors handed_on status result f fe r.how
+      r.runs finish;
+  strips = λ c. record {
+    written = first;
+    handed = second;
+    said = first_errors;
+    said_last = second_errors;
+    first = status;
+    follows = (f, fe);
+    devices = (refl, refl);
+    strips = runs.strips (some_is c);
+    ends = finish;
+  };
+  refuses = λ c. refused_all input first second first_errors second_errors handed_on status result f fe (runs.refuses (some_is c)) finish;
+  without_arguments = λ none. absurd cc;
+}

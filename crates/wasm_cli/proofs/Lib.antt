@@ -1,0 +1,6 @@
+pub mod Coloring
+pub mod Finishing
+pub mod Keeping
+pub mod Reading
+pub mod Running
+pub mod Splitting

@@ -1,0 +1,75 @@
+-- Texts in which sequences that set colours stand. Such a sequence is an ESC, which is 27, and what follows it up to an
+-- `m` (ECMA-48, Select Graphic Rendition). An ESC of the text itself is followed by a `\`.
+use Rattle.std.specs.Prelude.{◌≡◌, ℕ, Bool, true, false, List, [], ◌∷◌, ◌++◌, take, nat_eq, Option, option_map}
+use Rattle.std.specs.Prelude.{if◌then◌else◌}
+use Rattle.wasm_lines.specs.Calls.{Device}
+use Rattle.wasm_cli.specs.declared.dump.plain.Where.{Where}
+use Rattle.wasm_cli.specs.declared.dump.plain.Where.TheVariants.{Outside, Escaped, Inside}
+
+abbrev pub after_other : Where → ℕ → Where
+after_other Outside b = Outside
+after_other Escaped b = if nat_eq b 92 then Outside else Inside
+after_other Inside b = if nat_eq b 109 then Outside else Inside
+
+-- where the byte after this one is; an ESC begins anew, wherever it is
+abbrev pub where_after_byte : Where → ℕ → Where
+where_after_byte at b = if nat_eq b 27 then Escaped else after_other at b
+
+abbrev pub given_by_other : Where → ℕ → List ℕ
+given_by_other Outside b = b ∷ []
+given_by_other Escaped b = if nat_eq b 92 then 27 ∷ [] else []
+given_by_other Inside b = []
+
+-- what a byte gives of the text
+abbrev pub given_by : Where → ℕ → List ℕ
+given_by at b = if nat_eq b 27 then [] else given_by_other at b
+
+-- what bytes give of the text, of which the first is there
+abbrev pub without_from : Where → List ℕ → List ℕ
+without_from at [] = []
+without_from at (b ∷ bs) = given_by at b ++ without_from (where_after_byte at b) bs
+
+-- a text without its colours
+abbrev pub without_colors : List ℕ → List ℕ
+without_colors bytes = without_from Outside bytes
+
+-- the same where bytes are known
+abbrev pub plain : Option (List ℕ) → Option (List ℕ)
+plain bytes = option_map without_colors bytes
+
+-- where the byte after these is
+abbrev pub where_after : Where → List ℕ → Where
+where_after at [] = at
+where_after at (b ∷ bs) = where_after (where_after_byte at b) bs
+
+-- These bytes set a colour, wherever they stand: they give nothing of the text, and end what they are in.
+abbrev pub IsSequence : List ℕ → Type 0
+IsSequence bytes = (at : Where) → (without_from at bytes ≡ []) × (where_after at bytes ≡ Outside)
+
+-- These bytes, after which a byte of the text may come, got this one more, and what sets its colour.
+pub record GainsByte (byte : ℕ) (old new : List ℕ) : Type 0 where
+  pub added : List ℕ
+  pub adds : new ≡ old ++ added
+  pub gives : without_colors added ≡ byte ∷ []
+  pub ends : where_after Outside added ≡ Outside
+
+-- The bytes begin with this first byte of a text, and are it and a beginning of what comes after it, with colours.
+pub record IsColored (first : ℕ) (later bytes : List ℕ) : Type 0 where
+  pub more : List ℕ
+  pub begins : bytes ≡ first ∷ more
+  pub count : ℕ
+  pub gives : without_colors bytes ≡ first ∷ take count later
+
+-- a device whose bytes are seen without colours
+abbrev pub plain_device : Device → Device
+plain_device device = record {
+  before = plain device.before;
+  after = plain device.after;
+  had_failed = device.had_failed;
+  has_failed = device.has_failed;
+}
+
+-- a device whose bytes are seen without colours, where there are some
+abbrev pub seen_as : (is_colored : Bool) → Device → Device
+seen_as true device = plain_device device
+seen_as false device = device

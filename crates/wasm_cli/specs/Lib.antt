@@ -1,0 +1,11 @@
+pub mod Arguments
+pub mod Colors
+pub mod Devices
+pub mod DumpCommands
+pub mod DumpRuns
+pub mod Endings
+pub mod ListCommands
+pub mod ListRuns
+pub mod Options
+pub mod Strips
+pub mod Words

@@ -1,0 +1,41 @@
+-- The options of the program, besides those that choose sections.
+use Rattle.std.specs.Prelude.{ℕ, Bool, true, false, ◌&&◌, ◌||◌, List, [], ◌∷◌, codes, bytes_eq, Option, Some, None}
+use Rattle.std.specs.Prelude.{if◌then◌else◌}
+use Rattle.wasm_tree.specs.declared.tree.Style.{Style}
+use Rattle.wasm_tree.specs.declared.tree.Style.TheVariants.{Lines, Objects}
+use Rattle.wasm_cli.specs.declared.dump.options.Mark.{Mark}
+use Rattle.wasm_cli.specs.declared.dump.options.Mark.TheVariants.{Color, Names, Json, Bytes}
+use Rattle.wasm_cli.specs.declared.dump.options.Options.{Options}
+
+-- the option that a word is, if it is one that stands alone
+abbrev pub mark_named : List ℕ → Option Mark
+mark_named word =
+    if bytes_eq word (codes "--color") then Some Color
+    else if bytes_eq word (codes "--names") then Some Names
+    else if bytes_eq word (codes "--json") then Some Json
+    else if bytes_eq word (codes "--bytes") then Some Bytes
+    else None
+
+abbrev pub no_options : Options
+no_options = record { is_colored = false; is_named = false; is_json = false; has_bytes = false }
+
+abbrev pub with_mark : Options → Mark → Options
+with_mark options Color = record options { is_colored = true }
+with_mark options Names = record options { is_named = true }
+with_mark options Json = record options { is_json = true }
+with_mark options Bytes = record options { has_bytes = true }
+
+abbrev pub with_marks : Options → List Mark → Options
+with_marks options [] = options
+with_marks options (mark ∷ marks) = with_marks (with_mark options mark) marks
+
+-- JSON has neither colours nor rows of bytes
+abbrev pub contradict : Options → Bool
+contradict options = options.is_json && (options.is_colored || options.has_bytes)
+
+-- whether an option says how a dump is to look
+abbrev pub say_how : Options → Bool
+say_how options = options.is_colored || options.is_json || options.has_bytes
+
+abbrev pub style_of : Options → Style
+style_of options = if options.is_json then Objects else Lines

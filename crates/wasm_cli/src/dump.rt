@@ -1,0 +1,14 @@
+//! The program that shows every item of a WebAssembly stream, over any devices.
+mod colored;
+mod command;
+mod files;
+mod gathered;
+mod inks;
+mod options;
+mod plain;
+mod program;
+mod words;
+
+pub use colored::Colored;
+pub use options::Options;
+pub use program::{dump_as, run_host, run_program};

@@ -1,0 +1,120 @@
+// Where text goes with colours.
+ghost use Rattle.std.specs.Prelude.{◌≡◌, ◌≢◌, ℕ, ◌≤◌, ◌<◌, ◌+◌, ◌++◌, ◌∷◌, [], true, length, take, IfOk, OnErr, is_ok, if◌then◌else◌};
+ghost use Rattle.std.specs.Io.KnownBytes.{Appends, WriteAppends};
+ghost use Rattle.wasm_cli.specs.Colors.{plain};
+
+use super::gathered::gather;
+use super::inks::{Spot, sequence};
+use super::plain::{ESC, count_plain};
+use wasm_feed::{Failed, Sink, write_all};
+
+/// A sink that hands text on to another one, with sequences that set colours between its bytes. Its bytes are those that
+/// the other one has without them.
+///
+/// Each line ends in the terminal's own colour. An ESC of the text is followed by a `\`, so that it sets none.
+#[derive(Drop)]
+pub struct Colored<W> {
+    inner: W,
+    spot: Spot,
+}
+
+impl<W: Sink> Colored<W> {
+    /// A sink that hands text on to this one.
+    pub fn new(inner: W) -> Self
+        ensures { result.inner ≡ inner }
+    {
+        Colored {
+            inner,
+            spot: Spot::Start,
+        }
+    }
+
+    /// The other sink, with what it has taken.
+    pub fn into_inner(self) -> W
+        ensures { result ≡ self.inner }
+    {
+        let Colored { inner, spot: _ } = self;
+        inner
+    }
+}
+
+// Writes all of one text, and then what is taken at once of another.
+fn write_after<W: Sink>(output: &mut W, head: &[u8], body: &[u8]) -> Result<usize, Failed>
+    ensures bound { IfOk result (λ n. n ≤ length body.now) }
+    ensures some { IfOk result (λ n. 0 < length body.now → 0 < n) }
+    ensures ok { IfOk result (λ n. Appends (W.taken output.old) (W.taken output.new)
+        (head.now ++ take n body.now)) }
+    ensures err { OnErr result ((n : ℕ)
+        × Appends (W.taken output.old) (W.taken output.new) (take n head.now)) }
+    ensures failed { W.has_failed output.new
+        ≡ (if is_ok result then W.has_failed output.old else true) }
+{
+    write_all(output, head)?;
+    output.write(body)
+}
+
+// Writes an ESC of a text, which sets no colour.
+fn write_escape<W: Sink>(output: &mut W) -> Result<usize, Failed>
+    ensures one { IfOk result (λ n. n ≡ 1) }
+    ensures bytes { WriteAppends (plain (W.taken output.old)) (plain (W.taken output.new))
+        result (27 ∷ []) }
+    ensures failed { W.has_failed output.new
+        ≡ (if is_ok result then W.has_failed output.old else true) }
+{
+    write_after(output, &[ESC], b"\\")
+}
+
+// Writes a beginning of a text with its colours.
+fn write_colors<W: Sink>(
+    output: &mut W,
+    spot: Spot,
+    first: u8,
+    later: &[u8],
+) -> Result<usize, Failed>
+    requires { first ≢ 27 }
+    ensures some { IfOk result (λ n. 0 < n) }
+    ensures bound { IfOk result (λ n. n ≤ length later.now + 1) }
+    ensures bytes { WriteAppends (plain (W.taken output.old)) (plain (W.taken output.new))
+        result (first ∷ later.now) }
+    ensures failed { W.has_failed output.new
+        ≡ (if is_ok result then W.has_failed output.old else true) }
+{
+    let gathered = gather(spot, first, later);
+    let ink = spot.after(first).ink();
+    let written = write_after(output, sequence(ink), gathered.as_bytes())?;
+    Ok(count_plain(&gathered.as_bytes()[..written]))
+}
+
+// Where in its line the byte after these is.
+fn pass(spot: Spot, bytes: &[u8]) -> Spot {
+    let mut spot = spot;
+    for byte in bytes {
+        spot = spot.after(*byte);
+    }
+    spot
+}
+
+impl<W: Sink> Sink for Colored<W> {
+    ghost use Rattle.wasm_cli.specs.Colors.{plain};
+
+    ghost taken = { λ s. plain (W.taken s.inner) };
+
+    ghost has_failed = { λ s. W.has_failed s.inner };
+
+    fn write(&mut self, buf: &[u8]) -> Result<usize, Failed> {
+        let Some((first, later)) = buf.split_first() else {
+            return Ok(0);
+        };
+        let count = if *first == ESC {
+            write_escape(&mut self.inner)?
+        } else {
+            write_colors(&mut self.inner, self.spot, *first, later)?
+        };
+        self.spot = pass(self.spot, &buf[..count]);
+        Ok(count)
+    }
+
+    fn failed(&self) -> bool {
+        self.inner.failed()
+    }
+}

@@ -1,0 +1,165 @@
+// What the program is asked for.
+ghost use Rattle.std.specs.Prelude.{◌≡◌, [], IfNone, IfSome, Some, drop, map, string_bytes};
+ghost use Rattle.std.specs.Vec.Iter.{into_iter_items};
+ghost use Rattle.wasm_cli.specs.DumpCommands.{WantsMemory, asked_after, asked_alone, asked_by, asked_by_one, asked_if_any, asked_of, asked_to_show, asked_with, is_option};
+ghost use Rattle.wasm_cli.specs.Words.{rest_given, words_of};
+
+use super::options::Options;
+use super::words::{Rest, Split, split_words};
+use crate::arguments::is_no_text;
+use std::alloc::Global;
+use std::env::Args;
+use std::io;
+
+/// Files that are to be dumped, the words that choose sections of them, and what else is asked for.
+#[derive(Drop)]
+pub(super) struct Named {
+    pub(super) words: Vec<String>,
+    pub(super) options: Options,
+    pub(super) files: Rest,
+}
+
+/// What the program is to do.
+#[derive(Drop)]
+pub(super) enum Command {
+    /// To show all sections of the input.
+    All {
+        options: Options,
+    },
+    /// To show those with these ids and names.
+    Sections {
+        options: Options,
+        words: Vec<String>,
+    },
+    /// To show files.
+    Files(Named),
+    /// To show the names of the input, which can't be read twice.
+    NamesOfInput,
+    /// To say how it is used.
+    Help,
+    /// To say which version it is.
+    Version,
+    /// It doesn't know.
+    Unknown,
+}
+
+// Whether an argument is no file: it begins with two dashes.
+fn is_an_option(word: &str) -> bool
+    ensures { result ≡ is_option word.now }
+{
+    match word.as_bytes() {
+        [b'-', b'-', ..] => true,
+        _ => false,
+    }
+}
+
+// What one argument asks for that is no file.
+fn command_of_one(word: &str) -> Command
+    ensures { asked_of result ≡ asked_by_one word.now }
+{
+    match word {
+        "--help" => Command::Help,
+        "--version" => Command::Version,
+        _ => Command::Unknown,
+    }
+}
+
+// What an argument asks for that is no file, after options and words, and before more arguments.
+fn command_alone(words: Vec<String>, options: Options, rest: Rest) -> Command
+    ensures { asked_of result
+        ≡ asked_alone options (map string_bytes words.items) (string_bytes rest.first)
+        (map string_bytes (into_iter_items rest.more)) }
+{
+    if options.is_named || options.say_how() || !words.is_empty() || rest.more.len() > 0 {
+        return Command::Unknown;
+    }
+    command_of_one(rest.first.as_str())
+}
+
+// What words that choose sections of the input ask for.
+fn command_to_show(words: Vec<String>, options: Options) -> Command
+    ensures { asked_of result ≡ asked_to_show options (map string_bytes words.items) }
+{
+    if words.is_empty() {
+        Command::All { options }
+    } else {
+        Command::Sections { options, words }
+    }
+}
+
+// What options and words ask for, and the arguments after them.
+fn command_with(words: Vec<String>, options: Options, rest: Option<Rest>) -> Command
+    ensures { asked_of result
+        ≡ asked_with options (map string_bytes words.items) (rest_given rest) }
+{
+    match rest {
+        None => {
+            if options.is_named {
+                Command::NamesOfInput
+            } else {
+                command_to_show(words, options)
+            }
+        }
+        Some(rest) => {
+            if is_an_option(rest.first.as_str()) {
+                return command_alone(words, options, rest);
+            }
+            Command::Files(Named {
+                words,
+                options,
+                files: rest,
+            })
+        }
+    }
+}
+
+// The same, unless no dump can be all that the options ask for.
+fn command_of(split: Split) -> Command
+    ensures { asked_of result
+        ≡ asked_after split.options (map string_bytes split.words.items)
+        (rest_given split.rest) }
+{
+    let Split {
+        words,
+        options,
+        rest,
+    } = split;
+    if options.contradict() {
+        return Command::Unknown;
+    }
+    command_with(words, options, rest)
+}
+
+// What the arguments after the first ask for, which is the program's own name, unless memory was refused.
+fn command_after_name(alloc: Global, mut arguments: Args) -> Option<Command>
+    ensures some { IfSome result (λ command. asked_of command
+        ≡ asked_by (drop 1 (map string_bytes (into_iter_items arguments)))) }
+    ensures none { IfNone result
+        (¬ (words_of (drop 1 (map string_bytes (into_iter_items arguments))) ≡ [])) }
+{
+    let _name = arguments.next();
+    match split_words(alloc, arguments) {
+        Ok(split) => Some(command_of(split)),
+        Err(_) => None,
+    }
+}
+
+/// What these arguments ask for, if they could be had and memory wasn't refused. One that is no text asks for nothing that is
+/// known.
+pub(super) fn command_asked(alloc: Global, arguments: io::Result<Args>) -> Option<Command>
+    ensures some { IfSome result (λ command. Some (asked_of command)
+        ≡ asked_if_any (λ args. map string_bytes (into_iter_items args)) arguments) }
+    ensures none { IfNone result
+        (WantsMemory (λ args. map string_bytes (into_iter_items args)) arguments) }
+{
+    match arguments {
+        Ok(arguments) => command_after_name(alloc, arguments),
+        Err(error) => {
+            if is_no_text(&error) {
+                Some(Command::Unknown)
+            } else {
+                None
+            }
+        }
+    }
+}

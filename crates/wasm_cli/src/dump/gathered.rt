@@ -1,0 +1,44 @@
+// Text that is put together with its colours.
+ghost use Rattle.std.specs.Prelude.{◌≡◌, ◌≢◌, ◌≤◌, ◌+◌, ◌++◌, [], length};
+ghost use Rattle.wasm_cli.specs.Colors.{GainsByte, IsColored};
+
+use super::inks::{Ink, Spot, sequence};
+use super::plain::ESC;
+
+/// How many bytes are put together at most.
+const ROOM: usize = 4096;
+
+/// Bytes that are put together.
+pub(super) type Gathered = wasm_tree::Gathered<ROOM>;
+
+// Puts a byte after others, and its colour before it where that isn't the last one.
+fn put_byte(gathered: &mut Gathered, last: Ink, ink: Ink, byte: u8)
+    requires room { length gathered.old ≤ 4088 }
+    requires no_escape { byte ≢ 27 }
+    ensures { GainsByte byte gathered.old gathered.new }
+{
+    if ink != last {
+        gathered.put(sequence(ink));
+    }
+    gathered.put(&[byte]);
+}
+
+/// Puts the first byte of a text together with a beginning of what comes after it, and with their colours but that of the first
+/// byte. It ends before an ESC.
+pub(super) fn gather(spot: Spot, first: u8, later: &[u8]) -> Gathered
+    requires { first ≢ 27 }
+    ensures { IsColored first later.now result }
+{
+    let mut gathered = Gathered::new();
+    gathered.put(&[first]);
+    let mut spot = spot.after(first);
+    for byte in later {
+        if *byte == ESC || gathered.len() > ROOM - 8 {
+            return gathered;
+        }
+        let next = spot.after(*byte);
+        put_byte(&mut gathered, spot.ink(), next.ink(), *byte);
+        spot = next;
+    }
+    gathered
+}

@@ -1,0 +1,140 @@
+// The colours of a dump's lines.
+ghost use Rattle.std.specs.Prelude.{◌≡◌, ◌≤◌, length};
+ghost use Rattle.wasm_cli.specs.Colors.{IsSequence};
+
+/// Where in a line of a dump the bytes are that come next. The first word of a line is bold, or its offset dim; texts in quotes are
+/// green, and what a fault says is red.
+#[derive(Clone, Copy)]
+pub(super) enum Spot {
+    /// At the beginning of a line.
+    Start,
+    /// Among the blanks that a line under another begins with.
+    Indent,
+    /// In the first word of a line.
+    Word,
+    /// After an f with which that word begins.
+    LetterF,
+    /// In the word `fault`, since no other first word begins with these two letters.
+    FaultWord,
+    /// In the offset that a line under another begins with.
+    Offset,
+    /// In what a fault says.
+    Fault,
+    /// Among the fields.
+    Fields,
+    /// In a text in quotes.
+    Quoted,
+    /// After the quote that ends such a text.
+    Closed,
+}
+
+/// A colour of text.
+#[derive(Clone, Copy, PartialEq, Eq)]
+pub(super) enum Ink {
+    /// That of the terminal.
+    Plain,
+    Bold,
+    Dim,
+    Green,
+    Red,
+}
+
+impl Spot {
+    /// Where the byte is after this one.
+    pub(super) fn after(self, byte: u8) -> Spot
+        ensures { byte ≡ 10 → result ≡ Spot.Start }
+    {
+        if byte == b'\n' {
+            return Spot::Start;
+        }
+        match self {
+            Spot::Start | Spot::Indent => after_blank(byte),
+            Spot::Word => after_word(byte),
+            Spot::LetterF => after_f(byte),
+            Spot::FaultWord => after_fault_word(byte),
+            Spot::Offset => after_offset(byte),
+            Spot::Fault => Spot::Fault,
+            Spot::Quoted => after_quoted(byte),
+            Spot::Fields | Spot::Closed => after_field(byte),
+        }
+    }
+
+    /// The colour of the byte before it.
+    pub(super) fn ink(self) -> Ink
+        ensures { self ≡ Spot.Start → result ≡ Ink.Plain }
+    {
+        match self {
+            Spot::Start | Spot::Indent | Spot::Fields => Ink::Plain,
+            Spot::Word | Spot::LetterF | Spot::FaultWord => Ink::Bold,
+            Spot::Offset => Ink::Dim,
+            Spot::Fault => Ink::Red,
+            Spot::Quoted | Spot::Closed => Ink::Green,
+        }
+    }
+}
+
+// The first byte of a line, or one after the blanks that it begins with.
+fn after_blank(byte: u8) -> Spot {
+    match byte {
+        b' ' => Spot::Indent,
+        b'f' => Spot::LetterF,
+        b'0'..=b'9' => Spot::Offset,
+        _ => Spot::Word,
+    }
+}
+
+fn after_word(byte: u8) -> Spot {
+    match byte {
+        b' ' | b'=' => Spot::Fields,
+        _ => Spot::Word,
+    }
+}
+
+fn after_f(byte: u8) -> Spot {
+    match byte {
+        b'a' => Spot::FaultWord,
+        _ => after_word(byte),
+    }
+}
+
+fn after_fault_word(byte: u8) -> Spot {
+    match byte {
+        b' ' => Spot::Fault,
+        _ => Spot::FaultWord,
+    }
+}
+
+fn after_offset(byte: u8) -> Spot {
+    match byte {
+        b'0'..=b'9' => Spot::Offset,
+        _ => Spot::Fields,
+    }
+}
+
+fn after_quoted(byte: u8) -> Spot {
+    match byte {
+        b'"' => Spot::Closed,
+        _ => Spot::Quoted,
+    }
+}
+
+fn after_field(byte: u8) -> Spot {
+    match byte {
+        b'"' => Spot::Quoted,
+        _ => Spot::Fields,
+    }
+}
+
+/// What sets a colour.
+pub(super) fn sequence(ink: Ink) -> &'static [u8]
+    ensures sets { IsSequence result.now }
+    ensures short { length result.now ≤ 7 }
+{
+    match ink {
+        Ink::Plain => b"\x1b[0m",
+        Ink::Bold => b"\x1b[0;1m",
+        Ink::Dim => b"\x1b[0;2m",
+        Ink::Green => b"\x1b[0;32m",
+        Ink::Red => b"\x1b[0;31m",
+    }
+}

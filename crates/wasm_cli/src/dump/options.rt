@@ -1,0 +1,119 @@
+// The options of the program, besides those that choose sections.
+ghost use Rattle.std.specs.Prelude.{◌≡◌};
+ghost use Rattle.wasm_cli.specs.Options.{contradict, mark_named, no_options, say_how, style_of, with_mark};
+
+use wasm_dumper::{Only, Shown};
+use wasm_tree::Style;
+
+/// How a dump is to look, and what it is to show besides the items.
+#[derive(Clone, Copy)]
+pub struct Options {
+    /// With colours, as a terminal shows them.
+    pub is_colored: bool,
+    /// With the names that custom sections have for items.
+    pub is_named: bool,
+    /// As objects of JSON, one on each line.
+    pub is_json: bool,
+    /// With the bytes that each line is read from.
+    pub has_bytes: bool,
+}
+
+/// An option that stands alone.
+#[derive(Clone, Copy)]
+pub(super) enum Mark {
+    /// Colours are asked for.
+    Color,
+    /// Names are asked for.
+    Names,
+    /// JSON is asked for.
+    Json,
+    /// Bytes are asked for.
+    Bytes,
+}
+
+/// The option that a word is, if it is one that stands alone.
+pub(super) fn mark_of(word: &str) -> Option<Mark>
+    ensures { result ≡ mark_named word.now }
+{
+    match word {
+        "--color" => Some(Mark::Color),
+        "--names" => Some(Mark::Names),
+        "--json" => Some(Mark::Json),
+        "--bytes" => Some(Mark::Bytes),
+        _ => None,
+    }
+}
+
+impl Options {
+    /// No option.
+    pub fn new() -> Options
+        ensures { result ≡ no_options }
+    {
+        Options {
+            is_colored: false,
+            is_named: false,
+            is_json: false,
+            has_bytes: false,
+        }
+    }
+
+    /// One option more.
+    pub(super) fn with(self, mark: Mark) -> Options
+        ensures { result ≡ with_mark self mark }
+    {
+        match mark {
+            Mark::Color => Options {
+                is_colored: true,
+                ..self
+            },
+            Mark::Names => Options {
+                is_named: true,
+                ..self
+            },
+            Mark::Json => Options {
+                is_json: true,
+                ..self
+            },
+            Mark::Bytes => Options {
+                has_bytes: true,
+                ..self
+            },
+        }
+    }
+
+    /// Whether no dump can be all of this: JSON has neither colours nor rows of bytes.
+    pub(super) fn contradict(self) -> bool
+        ensures { result ≡ contradict self }
+    {
+        self.is_json && (self.is_colored || self.has_bytes)
+    }
+
+    /// Whether an option says how a dump is to look.
+    pub(super) fn say_how(self) -> bool
+        ensures { result ≡ say_how self }
+    {
+        self.is_colored || self.is_json || self.has_bytes
+    }
+
+    /// What is shown of these sections.
+    pub(super) fn shown<'n>(self, only: &'n [Only<'n>]) -> Shown<'n>
+        ensures only { result.only.now ≡ only.now }
+        ensures bytes { result.has_bytes ≡ self.has_bytes }
+    {
+        Shown {
+            only,
+            has_bytes: self.has_bytes,
+        }
+    }
+
+    /// How the tree writes.
+    pub(super) fn style(self) -> Style
+        ensures { result ≡ style_of self }
+    {
+        if self.is_json {
+            Style::Objects
+        } else {
+            Style::Lines
+        }
+    }
+}

@@ -1,0 +1,309 @@
+// The program, over any devices.
+ghost use Rattle.std.specs.Prelude.{◌≡◌, map, string_bytes, OnOk, OnErr, ℕ, take, true, is_ok, if◌then◌else◌};
+ghost use Rattle.std.specs.Io.KnownBytes.{Appends, Keeps};
+ghost use Rattle.std.specs.Process.{exit_status};
+ghost use Rattle.std.specs.Vec.Iter.{into_iter_items};
+ghost use Rattle.wasm_lines.specs.Calls.{device_of, writer_device};
+ghost use Rattle.wasm_cli.specs.Devices.{Says};
+ghost use Rattle.wasm_cli.specs.Endings.{Reports, status_of};
+ghost use Rattle.wasm_cli.specs.Colors.{plain_device, seen_as};
+ghost use Rattle.wasm_cli.specs.DumpCommands.{WantsMemory, asked_if_any, asked_of};
+ghost use Rattle.wasm_cli.specs.DumpRuns.{HandsOn, Runs, RunsDump, RunsProgram, Shows, ShowsChosen, Tells, help_text, names_usage, version_text};
+
+use super::colored::Colored;
+use super::command::{Command, command_asked};
+use super::files::run_files;
+use super::options::Options;
+use super::words::chosen_by;
+use crate::messages::{complain, give_up};
+use crate::pieces::PIECE;
+use std::alloc::Global;
+use std::env::{self, Args};
+use std::io::{self, Write};
+use std::process::ExitCode;
+use wasm_dumper::{Only, dump};
+use wasm_feed::{Ended, Failed, ListError, ReadSource, Sink, Source, WriteSink, write_all};
+use wasm_tree::{ItemNames, Tree};
+
+/// What `--help` says.
+const HELP: &[u8] = b"usage: wasm_dump [OPTION]... [--section ID|NAME]... [FILE]...
+
+Shows what the WebAssembly modules in the FILEs hold, each under its name where
+there are several; - or none is standard input. Each section and body has a
+line, and under it a line for each item, which begins with the offset of its
+bytes in the file. A fault of an item is a line at its place. With --section
+only the sections with this id or name are shown; several add up. The options:
+
+  --color   the text has colours, as a terminal shows them
+  --names   each FILE is read twice, and items have the names that its custom
+            sections name have for them
+  --json    each line is an object of JSON, for programs
+  --bytes   before a line the bytes that it is read from, in hexadecimal
+
+  wasm_dump a.wasm                       all of it
+  wasm_dump --section import < a.wasm    its imports
+
+The status is 0, or 1 where a file has a fault at which reading stops, 2 for
+other arguments, and 3 where a file, the output or memory failed.
+";
+
+/// What `--version` says.
+const VERSION: &[u8] = b"wasm_dump 0.1.0 (follows wasmparser 0.263.0)\n";
+
+// The same, in the words of its clause.
+fn help() -> &'static [u8]
+    ensures { result.now ≡ help_text }
+{
+    HELP
+}
+
+// What `--version` says, in the words of its clause.
+fn version() -> &'static [u8]
+    ensures { result.now ≡ version_text }
+{
+    VERSION
+}
+
+/// The program over files, if some are named, and else over the standard streams.
+pub fn run_host(rt: HostRuntime) -> ExitCode {
+    let output = WriteSink::new(rt.stdout());
+    let mut errors = WriteSink::new(rt.stderr());
+    let status = match command_asked(rt.alloc(), env::args(&rt)) {
+        Some(Command::Files(named)) => run_files(&rt, named, output, &mut errors),
+        Some(command) => {
+            let mut input = ReadSource::new(rt.stdin());
+            run_command(rt.alloc(), command, &mut input, output, &mut errors).0
+        }
+        None => give_up(&mut errors, ListError::Memory),
+    };
+    ExitCode::from(status)
+}
+
+/// The whole program: it looks at the arguments after the program's own name, shows the input, hands on what the output has kept,
+/// and answers the exit status, and the output.
+///
+/// An argument that is no text is another argument; arguments that could not be had otherwise are a want of memory. Arguments that
+/// name files are refused here, since `run_host` opens them.
+pub fn run_program<R: Source, W: Write, E: Sink>(
+    alloc: Global,
+    arguments: io::Result<Args>,
+    input: &mut R,
+    output: WriteSink<W>,
+    errors: &mut E,
+) -> (ExitCode, WriteSink<W>)
+    ensures { RunsProgram (asked_if_any (λ args. map string_bytes (into_iter_items args)) arguments)
+        (WantsMemory (λ args. map string_bytes (into_iter_items args)) arguments) result.1.handed_on
+        (device_of R.remaining R.has_failed input.old input.new)
+        (writer_device W.contents output result.1)
+        (device_of E.taken E.has_failed errors.old errors.new) (exit_status result.0) }
+{
+    let Some(command) = command_asked(alloc, arguments) else {
+        return (ExitCode::from(give_up(errors, ListError::Memory)), output);
+    };
+    let (status, output) = run_command(alloc, command, input, output, errors);
+    (ExitCode::from(status), output)
+}
+
+// Does what is asked for, and answers the status. It is 0 at the end of the stream and where help was asked for, and 1 at a
+// fault of the stream. It is 2 where it isn't known what to do, and 3 where the input, the output or memory failed.
+fn run_command<R: Source, W: Write, E: Sink>(
+    alloc: Global,
+    command: Command,
+    input: &mut R,
+    output: WriteSink<W>,
+    errors: &mut E,
+) -> (u8, WriteSink<W>)
+    ensures { Runs (asked_of command) result.1.handed_on
+        (device_of R.remaining R.has_failed input.old input.new)
+        (writer_device W.contents output result.1)
+        (device_of E.taken E.has_failed errors.old errors.new) result.0 }
+{
+    match command {
+        Command::All { options } => {
+            show_input(alloc, &[Only::All], options, input, output, errors)
+        }
+        Command::Sections { options, words } => {
+            show_chosen(alloc, &words, options, input, output, errors)
+        }
+        Command::NamesOfInput => (refuse_names(errors), output),
+        Command::Help => show_text(help(), output, errors),
+        Command::Version => show_text(version(), output, errors),
+        Command::Unknown | Command::Files(_) => {
+            complain(
+                errors,
+                b"usage: wasm_dump [--help] [--version] [OPTION]... [--section ID|NAME]... [FILE]...\n",
+            );
+            (2, output)
+        }
+    }
+}
+
+/// Says that names are for files alone, and answers the status.
+pub(super) fn refuse_names<E: Sink>(errors: &mut E) -> u8
+    ensures status { result ≡ 2 }
+    ensures says { Says (device_of E.taken E.has_failed errors.old errors.new) names_usage }
+{
+    complain(
+        errors,
+        b"wasm_dump: --names reads each file twice, and standard input can't be: name files\n",
+    );
+    2
+}
+
+// Writes a text, and hands it on.
+fn write_text<W: Write>(text: &[u8], output: &mut WriteSink<W>) -> Result<(), Failed>
+    ensures ok { OnOk result
+        (Appends (W.contents output.old.writer) (W.contents output.new.writer) text.now) }
+    ensures all { OnOk result (output.new.handed_on ≡ true) }
+    ensures err { OnErr result ((n : ℕ)
+        × Appends (W.contents output.old.writer) (W.contents output.new.writer) (take n text.now)) }
+    ensures failed { output.new.failed ≡ (if is_ok result then output.old.failed else true) }
+{
+    write_all(output, text)?;
+    output.flush()
+}
+
+// Writes a text, and answers the status.
+fn show_text<W: Write, E: Sink>(
+    text: &[u8],
+    mut output: WriteSink<W>,
+    errors: &mut E,
+) -> (u8, WriteSink<W>)
+    ensures { Tells text.now result.1.handed_on
+        (writer_device W.contents output result.1)
+        (device_of E.taken E.has_failed errors.old errors.new) result.0 }
+{
+    match write_text(text, &mut output) {
+        Ok(()) => (0, output),
+        Err(_) => (give_up(errors, ListError::Output), output),
+    }
+}
+
+// Shows the sections of the input that these words choose, and answers the status.
+fn show_chosen<R: Source, W: Write, E: Sink>(
+    alloc: Global,
+    words: &[String],
+    options: Options,
+    input: &mut R,
+    output: WriteSink<W>,
+    errors: &mut E,
+) -> (u8, WriteSink<W>)
+    ensures { ShowsChosen (map string_bytes words.now) options result.1.handed_on
+        (device_of R.remaining R.has_failed input.old input.new)
+        (writer_device W.contents output result.1)
+        (device_of E.taken E.has_failed errors.old errors.new) result.0 }
+{
+    match chosen_by(alloc, words) {
+        Ok(only) => show_input(alloc, &only, options, input, output, errors),
+        Err(_) => (give_up(errors, ListError::Memory), output),
+    }
+}
+
+/// Shows these sections of the input, and answers the status. A message goes to `errors` where a device or memory failed.
+pub(super) fn show_input<R: Source, W: Write, E: Sink>(
+    alloc: Global,
+    only: &[Only<'_>],
+    options: Options,
+    input: &mut R,
+    output: WriteSink<W>,
+    errors: &mut E,
+) -> (u8, WriteSink<W>)
+    ensures { Shows options only.now result.1.handed_on
+        (device_of R.remaining R.has_failed input.old input.new)
+        (seen_as options.is_colored (writer_device W.contents output result.1))
+        (device_of E.taken E.has_failed errors.old errors.new) result.0 }
+{
+    let (how, output) = dump_as(alloc, only, options, None, input, output);
+    (answer(how, errors), output)
+}
+
+/// The status of a dump that ended so, of which a message says why it was given up.
+pub(super) fn answer<E: Sink>(how: Result<Ended, ListError>, errors: &mut E) -> u8
+    ensures status { result ≡ status_of how }
+    ensures reports { Reports how (device_of E.taken E.has_failed errors.old errors.new) }
+{
+    match how {
+        Ok(Ended::End) => 0,
+        Ok(Ended::Fault(_)) => 1,
+        Err(why) => give_up(errors, why),
+    }
+}
+
+// Hands on all that was written, after a dump that was not given up.
+fn hand_on<W: Write>(
+    how: Result<Ended, ListError>,
+    output: &mut WriteSink<W>,
+) -> Result<Ended, ListError>
+    ensures keeps { Keeps (W.contents output.old.writer) (W.contents output.new.writer) }
+    ensures ends { HandsOn how output.old.failed output.new.failed output.new.handed_on result }
+{
+    match how {
+        Ok(ended) => match output.flush() {
+            Ok(()) => Ok(ended),
+            Err(_) => Err(ListError::Output),
+        },
+        Err(why) => Err(why),
+    }
+}
+
+// Shows these sections of the input, as the options say but without colours, with these names, if there are any, and hands on all
+// that was written.
+fn dump_plain<R: Source, W: Write>(
+    alloc: Global,
+    only: &[Only<'_>],
+    options: Options,
+    names: Option<ItemNames>,
+    input: &mut R,
+    output: WriteSink<W>,
+) -> (Result<Ended, ListError>, WriteSink<W>)
+    ensures { RunsDump options only.now (device_of R.remaining R.has_failed input.old input.new)
+        (writer_device W.contents output result.1) result.1.handed_on result.0 }
+{
+    let mut tree = Tree::with_names(alloc, output, options.style(), names);
+    let how = dump(alloc, options.shown(only), input, &mut tree, PIECE);
+    let mut output = tree.into_output();
+    let result = hand_on(how, &mut output);
+    (result, output)
+}
+
+// The same with colours.
+fn dump_colored<R: Source, W: Write>(
+    alloc: Global,
+    only: &[Only<'_>],
+    options: Options,
+    names: Option<ItemNames>,
+    input: &mut R,
+    output: WriteSink<W>,
+) -> (Result<Ended, ListError>, WriteSink<W>)
+    ensures { RunsDump options only.now (device_of R.remaining R.has_failed input.old input.new)
+        (plain_device (writer_device W.contents output result.1)) result.1.handed_on result.0 }
+{
+    let mut tree = Tree::with_names(alloc, Colored::new(output), options.style(), names);
+    let how = dump(alloc, options.shown(only), input, &mut tree, PIECE);
+    let mut output = tree.into_output().into_inner();
+    let result = hand_on(how, &mut output);
+    (result, output)
+}
+
+/// Shows these sections of the input, as the options say, with these names, if there are any, and hands on all that was written.
+/// Answers how it ended, and the output. With colours, what the output takes is the dump with sequences that set them between
+/// its bytes.
+pub fn dump_as<R: Source, W: Write>(
+    alloc: Global,
+    only: &[Only<'_>],
+    options: Options,
+    names: Option<ItemNames>,
+    input: &mut R,
+    output: WriteSink<W>,
+) -> (Result<Ended, ListError>, WriteSink<W>)
+    ensures { RunsDump options only.now
+        (device_of R.remaining R.has_failed input.old input.new)
+        (seen_as options.is_colored (writer_device W.contents output result.1))
+        result.1.handed_on result.0 }
+{
+    if options.is_colored {
+        dump_colored(alloc, only, options, names, input, output)
+    } else {
+        dump_plain(alloc, only, options, names, input, output)
+    }
+}

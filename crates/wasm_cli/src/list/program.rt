@@ -1,0 +1,119 @@
+// The program, over any devices.
+ghost use Rattle.std.specs.Prelude.{◌≡◌, map, string_bytes};
+ghost use Rattle.std.specs.Process.{exit_status};
+ghost use Rattle.std.specs.Vec.Iter.{into_iter_items};
+ghost use Rattle.wasm_lines.specs.Calls.{device_of, writer_device};
+ghost use Rattle.wasm_cli.specs.ListCommands.{command_of as command_by};
+ghost use Rattle.wasm_cli.specs.ListRuns.{Runs, RunsListing, RunsProgram, command_after_name as command_if_any};
+
+use super::command::{Command, command_asked, command_of};
+use super::stripping::strip_input;
+use crate::ending::finish;
+use crate::messages::{complain, give_up};
+use crate::pieces::PIECE;
+use std::alloc::Global;
+use std::env::{self, Args};
+use std::io::{self, Write};
+use std::process::ExitCode;
+use wasm_feed::{Ended, ListError, ReadSource, Sink, Source, WriteSink, list};
+
+/// The program over the standard streams.
+pub fn run_host(rt: HostRuntime) -> ExitCode {
+    let mut input = ReadSource::new(rt.stdin());
+    let mut output = WriteSink::new(rt.stdout());
+    let mut errors = WriteSink::new(rt.stderr());
+    run_program(
+        rt.alloc(),
+        env::args(&rt),
+        &mut input,
+        &mut output,
+        &mut errors,
+    )
+}
+
+/// The whole program: it looks at the arguments after the program's own name, runs, hands on what the output has kept, and
+/// answers the exit status.
+///
+/// An argument that is no text is another argument; arguments that could not be had otherwise are a want of memory.
+pub fn run_program<R: Source, W: Write, E: Sink>(
+    alloc: Global,
+    arguments: io::Result<Args>,
+    input: &mut R,
+    output: &mut WriteSink<W>,
+    errors: &mut E,
+) -> ExitCode
+    ensures { RunsProgram
+        (command_if_any (λ args. map string_bytes (into_iter_items args)) arguments)
+        output.new.handed_on
+        (device_of R.remaining R.has_failed input.old input.new)
+        (writer_device W.contents output.old output.new)
+        (device_of E.taken E.has_failed errors.old errors.new) (exit_status result) }
+{
+    let Some(command) = command_asked(arguments) else {
+        return ExitCode::from(give_up(errors, ListError::Memory));
+    };
+    let status = run_command(alloc, command, input, output, errors);
+    ExitCode::from(finish(status, output, errors))
+}
+
+/// Lists the input, or with the one argument `strip` writes it without its custom sections. Answers the exit status: 0 at
+/// the end of the stream, 1 at a fault of it, 2 for other arguments, 3 where the input, the output or memory failed.
+///
+/// A message goes to `errors` for the last two, and for a fault of a stream that isn't stripped. Whether it could be written
+/// changes no status.
+pub fn run<R: Source, W: Sink, E: Sink>(
+    alloc: Global,
+    args: &[String],
+    input: &mut R,
+    output: &mut W,
+    errors: &mut E,
+) -> u8
+    ensures { Runs (command_by (map string_bytes args.now))
+        (device_of R.remaining R.has_failed input.old input.new)
+        (device_of W.taken W.has_failed output.old output.new)
+        (device_of E.taken E.has_failed errors.old errors.new) result }
+{
+    run_command(alloc, command_of(args), input, output, errors)
+}
+
+// The same as `run` for this command.
+fn run_command<R: Source, W: Sink, E: Sink>(
+    alloc: Global,
+    command: Command,
+    input: &mut R,
+    output: &mut W,
+    errors: &mut E,
+) -> u8
+    ensures { Runs command
+        (device_of R.remaining R.has_failed input.old input.new)
+        (device_of W.taken W.has_failed output.old output.new)
+        (device_of E.taken E.has_failed errors.old errors.new) result }
+{
+    match command {
+        Command::Listing => list_input(alloc, input, output, errors),
+        Command::Stripping => strip_input(alloc, input, output, errors),
+        Command::Unknown => {
+            complain(errors, b"usage: wasm_list [strip]\n");
+            2
+        }
+    }
+}
+
+// Lists the input.
+fn list_input<R: Source, W: Sink, E: Sink>(
+    alloc: Global,
+    input: &mut R,
+    output: &mut W,
+    errors: &mut E,
+) -> u8
+    ensures { RunsListing
+        (device_of R.remaining R.has_failed input.old input.new)
+        (device_of W.taken W.has_failed output.old output.new)
+        (device_of E.taken E.has_failed errors.old errors.new) result }
+{
+    match list(alloc, input, output, PIECE) {
+        Ok(Ended::End) => 0,
+        Ok(Ended::Fault(_)) => 1,
+        Err(error) => give_up(errors, error),
+    }
+}

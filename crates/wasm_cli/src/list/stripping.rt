@@ -1,0 +1,99 @@
+// The input without its custom sections.
+ghost use Rattle.wasm_lines.specs.Calls.{input_failed, device_of};
+ghost use Rattle.wasm_cli.specs.Strips.{ReadsAll, ReadsPiece, Refuses, RunsStripping, WritesStripped};
+ghost use Rattle.std.specs.Prelude.{◌≡◌, ◌<◌, length};
+
+use crate::messages::{complain, give_up};
+use crate::pieces::read_buffer;
+use std::alloc::Global;
+use wasm_feed::{ListError, Sink, Source, strip_in_place, write_all};
+use wasm_parser::Error;
+
+// Reads once, and puts what came after these bytes. Answers whether anything came.
+fn read_piece<R: Source>(
+    input: &mut R,
+    buffer: &mut [u8],
+    bytes: &mut Vec<u8>,
+) -> Result<bool, ListError>
+    requires { length buffer.old ≡ 65536 }
+    ensures reads { ReadsPiece (R.remaining input.old) (R.remaining input.new)
+        bytes.old.items result bytes.new.items }
+    ensures failed { R.has_failed input.new ≡ input_failed result (R.has_failed input.old) }
+{
+    match input.read(buffer) {
+        Ok(0) => Ok(false),
+        Ok(count) => {
+            bytes.extend_from_slice(&buffer[..count])?;
+            Ok(true)
+        }
+        Err(_) => Err(ListError::Input),
+    }
+}
+
+// All bytes that the source gives.
+fn read_all<R: Source>(alloc: Global, input: &mut R) -> Result<Vec<u8>, ListError>
+    ensures reads { ReadsAll (R.remaining input.old) (R.remaining input.new) result }
+    ensures failed { R.has_failed input.new ≡ input_failed result (R.has_failed input.old) }
+{
+    let mut buffer = read_buffer(alloc)?;
+    let mut bytes = Vec::new(alloc);
+    'pieces: loop {
+        if !read_piece(input, buffer.as_mut_slice(), &mut bytes)? {
+            return Ok(bytes);
+        }
+    }
+}
+
+// Says what the fault of the stream is, and answers the status of that.
+fn tell_fault<E: Sink>(alloc: Global, errors: &mut E, error: Error) -> u8
+    ensures { Refuses error (device_of E.taken E.has_failed errors.old errors.new) result }
+{
+    match format!(in alloc; "{error}\n") {
+        Ok(text) => {
+            complain(errors, text.as_bytes());
+            1
+        }
+        Err(_) => give_up(errors, ListError::Memory),
+    }
+}
+
+// Writes what is left of a stream, or says why nothing is.
+fn write_stripped<W: Sink, E: Sink>(
+    alloc: Global,
+    mut bytes: Vec<u8>,
+    output: &mut W,
+    errors: &mut E,
+) -> u8
+    ensures { WritesStripped bytes.items
+        (device_of W.taken W.has_failed output.old output.new)
+        (device_of E.taken E.has_failed errors.old errors.new) result }
+{
+    match strip_in_place(&mut bytes, false) {
+        Ok(()) => match write_all(output, &bytes) {
+            Ok(()) => 0,
+            Err(_) => give_up(errors, ListError::Output),
+        },
+        Err(error) => tell_fault(alloc, errors, error),
+    }
+}
+
+/// Strips the input: reads all of it, and writes what is left without its custom sections. Answers the exit status: 0, 1 at a
+/// fault of the stream, and 3 where the input, the output or memory failed.
+///
+/// A message goes to `errors` for the last two, and nothing to the output. Whether it could be written changes no status.
+pub(super) fn strip_input<R: Source, W: Sink, E: Sink>(
+    alloc: Global,
+    input: &mut R,
+    output: &mut W,
+    errors: &mut E,
+) -> u8
+    ensures { RunsStripping
+        (device_of R.remaining R.has_failed input.old input.new)
+        (device_of W.taken W.has_failed output.old output.new)
+        (device_of E.taken E.has_failed errors.old errors.new) result }
+{
+    match read_all(alloc, input) {
+        Ok(bytes) => write_stripped(alloc, bytes, output, errors),
+        Err(why) => give_up(errors, why),
+    }
+}

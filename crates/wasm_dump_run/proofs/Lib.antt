@@ -1,3 +1,0 @@
-pub mod Coloring
-pub mod Running
-pub mod Splitting

@@ -1,8 +1,0 @@
-//! The program that lists the sections of a WebAssembly stream, or strips it of its custom sections, over any devices.
-#![tactic(auto)]
-
-mod command;
-mod program;
-mod stripping;
-
-pub use program::{run, run_host, run_program};
