@@ -1,18 +1,12 @@
 // The answers of a parser as plain numbers.
 ghost use Rattle.std.specs.Prelude.{◌≡◌};
 ghost use Rattle.wasm_base.specs.FaultAt.{fault_at};
-ghost use Rattle.wasm_base.specs.Window.{range_of};
-ghost use Rattle.wasm_grammar.specs.Reading.{counted};
-ghost use Rattle.wasm_parser.specs.ParseAnswer.{report_of, unread};
+ghost use Rattle.wasm_parser.specs.ParseAnswer.{report_of};
 ghost use Rattle.wasm_c.specs.Events.{encoding_code, event_between, fault_event, parsed_event, report_event, request_event, silent};
 
 use crate::faults::{NO_FAULT, PlainFault, plain_fault};
-use wasm_grammar::{
-    CODE_SECTION, CUSTOM_SECTION, DATA_COUNT_SECTION, DATA_SECTION, ELEMENT_SECTION,
-    EXPORT_SECTION, FUNCTION_SECTION, GLOBAL_SECTION, IMPORT_SECTION, MEMORY_SECTION,
-    START_SECTION, TABLE_SECTION, TAG_SECTION, TYPE_SECTION,
-};
-use wasm_parser::{Encoding, Error, Payload, SectionLimited};
+use wasm_grammar::{CODE_SECTION, CUSTOM_SECTION, DATA_COUNT_SECTION, START_SECTION};
+use wasm_parser::{Encoding, Error, Payload};
 
 /// What a parser returns: an event, a fault or a request for more bytes. Fields that its kind doesn't use are 0. Offsets and
 /// sizes are in bytes, offsets from the start of the whole stream (core specification, Binary format, Modules).
@@ -72,17 +66,6 @@ fn event_between(kind: u32, id: u32, from: u64, to: u64) -> PlainEvent
     }
 }
 
-// A section with this id that begins with a count.
-fn counted_event<T>(id: u8, section: &SectionLimited<'_, T>) -> PlainEvent
-    ensures { result ≡ report_event (counted id section.now.count (unread section.now.reader)) }
-{
-    let range = section.range();
-    PlainEvent {
-        count: section.count(),
-        ..event_between(2, u32::from(id), range.start, range.end)
-    }
-}
-
 fn encoding_code(encoding: Encoding) -> u32
     ensures { result ≡ encoding_code encoding }
 {
@@ -105,16 +88,6 @@ fn payload_event(payload: &Payload) -> PlainEvent
             count: u32::from(*num),
             ..event_between(1, encoding_code(*encoding), range.start, range.end)
         },
-        Payload::TypeSection(section) => counted_event(TYPE_SECTION, section),
-        Payload::ImportSection(section) => counted_event(IMPORT_SECTION, section),
-        Payload::FunctionSection(section) => counted_event(FUNCTION_SECTION, section),
-        Payload::TableSection(section) => counted_event(TABLE_SECTION, section),
-        Payload::MemorySection(section) => counted_event(MEMORY_SECTION, section),
-        Payload::TagSection(section) => counted_event(TAG_SECTION, section),
-        Payload::GlobalSection(section) => counted_event(GLOBAL_SECTION, section),
-        Payload::ExportSection(section) => counted_event(EXPORT_SECTION, section),
-        Payload::ElementSection(section) => counted_event(ELEMENT_SECTION, section),
-        Payload::DataSection(section) => counted_event(DATA_SECTION, section),
         Payload::StartSection { func, range } => PlainEvent {
             count: *func,
             ..event_between(3, u32::from(START_SECTION), range.start, range.end)
@@ -153,6 +126,18 @@ fn payload_event(payload: &Payload) -> PlainEvent
             event_between(8, u32::from(*id), range.start, range.end)
         }
         Payload::End(offset) => event_between(9, 0, *offset, *offset),
+        _ => match payload.as_counted() {
+            Some(section) => PlainEvent {
+                count: section.count,
+                ..event_between(
+                    2,
+                    u32::from(section.id),
+                    section.range.start,
+                    section.range.end,
+                )
+            },
+            None => unreachable!(),
+        },
     }
 }
 

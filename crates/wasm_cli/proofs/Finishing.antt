@@ -4,7 +4,7 @@ use Rattle.std.proofs.Common.{inr}
 use Rattle.std.specs.Io.KnownBytes.{Appends, Keeps}
 use Rattle.wasm_feed.specs.Lists.{Lists}
 use Rattle.wasm_lines.specs.Calls.{Device, from_to}
-use Rattle.wasm_cli.proofs.Keeping.{appends_kept}
+use Rattle.wasm_cli.proofs.ForCallers.{appends_kept}
 use Rattle.wasm_cli.specs.Devices.{over, Follows, IsUntouched, Says}
 use Rattle.wasm_cli.specs.Endings.{RunsUsage, HandsOn, FailsToHandOn, LeavesAlone, Finishes, status_of}
 use Rattle.wasm_cli.specs.ListRuns.{RunsListingAs, Runs, EndsAs, ListsAll, RunsProgram, usage}

@@ -1,6 +1,6 @@
 pub mod Coloring
 pub mod Finishing
-pub mod Keeping
+pub mod ForCallers
 pub mod Reading
 pub mod Running
 pub mod Splitting

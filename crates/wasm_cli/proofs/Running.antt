@@ -2,14 +2,14 @@
 use Rattle.std.proofs.Common.{◌≡◌, List, ℕ, length, take, take_all, le_refl, Bool, Option, Some, None, Result, Ok, Err, OnErr, ap, subst}
 use Rattle.std.proofs.Common.{sym}
 use Rattle.std.specs.Io.KnownBytes.{Appends, Keeps}
-use Rattle.wasm_cli.proofs.Keeping.{appends_kept}
+use Rattle.wasm_cli.proofs.ForCallers.{appends_kept}
 use Rattle.wasm_lines.specs.Calls.{from_to}
 use Rattle.wasm_feed.specs.declared.listing.Ended.{Ended}
 use Rattle.wasm_lines.specs.declared.devices.ListError.{ListError}
 use Rattle.wasm_lines.specs.declared.devices.ListError.TheVariants.{Input, Output, Memory}
 use Rattle.wasm_tree.specs.Numbers.{Number}
 use Rattle.wasm_dumper.specs.Dump.{WritesWhole, WritesSome, Writes, Dumps}
-use Rattle.wasm_dumper.specs.declared.only.Only.{Only}
+use Rattle.wasm_dumper.specs.declared.events.Only.{Only}
 use Rattle.wasm_tree.specs.declared.tree.Style.{Style}
 use Rattle.wasm_lines.specs.declared.devices.Failed.{Failed}
 use Rattle.wasm_cli.specs.Colors.{plain, without_colors}

@@ -5,7 +5,7 @@ use Rattle.std.proofs.lemmas.List.{map-append, take_more}
 use Rattle.wasm_cli.specs.Words.{Chooses, ChooseInTurn, marks_of, options_of, words_of, rest_of}
 use Rattle.wasm_cli.specs.Options.{with_marks}
 use Rattle.wasm_cli.specs.declared.dump.options.Options.{Options}
-use Rattle.wasm_dumper.specs.declared.only.Only.{Only}
+use Rattle.wasm_dumper.specs.declared.events.Only.{Only}
 
 -- These words have been kept of arguments, and what else they ask for, and those are left.
 pub record Kept (all kept : List (List ℕ)) (options : Options) (now : List (List ℕ)) : Type 0 where

@@ -5,8 +5,8 @@ use Rattle.wasm_feed.specs.declared.listing.Ended.{Ended}
 use Rattle.wasm_lines.specs.declared.devices.ListError.{ListError}
 use Rattle.wasm_lines.specs.declared.devices.ListError.TheVariants.{Output}
 use Rattle.wasm_dumper.specs.Dump.{Dumps}
-use Rattle.wasm_dumper.specs.declared.only.Only.{Only}
-use Rattle.wasm_dumper.specs.declared.only.Only.TheVariants.{All}
+use Rattle.wasm_dumper.specs.declared.events.Only.{Only}
+use Rattle.wasm_dumper.specs.declared.events.Only.TheVariants.{All}
 use Rattle.wasm_cli.specs.Devices.{IsUntouched}
 use Rattle.wasm_cli.specs.Endings.{status_of, Reports, RunsUsage, CannotBegin, WritesAll, WritesSome}
 use Rattle.wasm_cli.specs.Colors.{seen_as}

@@ -4,8 +4,8 @@ use Rattle.std.specs.Prelude.{map, is_some, option_to_list, Option, Some, None, 
 use Rattle.std.specs.Str.Parse.{IsNumeral, digits_value, without_leading_plus}
 use Rattle.std.specs.Vec.Iter.{into_iter_items}
 use Rattle.wasm_grammar.specs.Ids.{id_named}
-use Rattle.wasm_dumper.specs.declared.only.Only.{Only}
-use Rattle.wasm_dumper.specs.declared.only.Only.TheVariants.{All, Id, Name}
+use Rattle.wasm_dumper.specs.declared.events.Only.{Only}
+use Rattle.wasm_dumper.specs.declared.events.Only.TheVariants.{All, Id, Name}
 use Rattle.wasm_cli.specs.declared.dump.words.Beginning.{Beginning}
 use Rattle.wasm_cli.specs.declared.dump.words.Beginning.TheVariants.{Word, Marked, Other, Nothing}
 use Rattle.wasm_cli.specs.declared.dump.options.Mark.{Mark}

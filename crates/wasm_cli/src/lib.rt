@@ -2,14 +2,8 @@
 //! devices.
 #![tactic(auto)]
 
-mod arguments;
+mod common;
 pub mod dump;
-mod ending;
 pub mod list;
-mod messages;
-mod pieces;
 
-pub use arguments::is_no_text;
-pub use ending::finish;
-pub use messages::{complain, give_up};
-pub use pieces::{PIECE, read_buffer};
+pub use common::{PIECE, complain, finish, give_up, is_no_text, read_buffer};

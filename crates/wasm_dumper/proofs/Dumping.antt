@@ -1,12 +1,16 @@
 -- How far a dump has come. Its outline is what a listing by the lines that are shown would have written.
 use Rattle.std.proofs.Common.{◌≡◌, ℕ, ◌<◌, Bool, true, false, if◌then◌else◌, List, [], ◌++◌, Option, Some, None, Result, Ok, Err, refl}
 use Rattle.std.proofs.Common.{sym}
-use Rattle.std.proofs.Common.{◌∷◌, ◌^◌, ap, subst, subst₂, ◌∙◌, append-nil, append_assoc, length, length-append, inl, inr, arith, nat_eq}
+use Rattle.std.proofs.Common.{◌∷◌, ◌^◌, ap, subst, subst₂, ◌∙◌, append-nil, append_assoc, length, length-append, drop, inl, inr, arith}
+use Rattle.std.proofs.Common.{nat_eq}
 use Rattle.std.specs.Io.KnownBytes.{Appends, Consumes}
 use Rattle.std.proofs.KnownBytes.{Appends-nil, Consumes-nil, Consumes-trans, Consumes-kept}
 use Rattle.wasm_lines.specs.Calls.{Change, Device, from_to, input_failed}
 use Rattle.wasm_feed.specs.Feed.{Feed, new_feed}
-use Rattle.wasm_feed.specs.Lists.{IsBeginning, Fills, Refills}
+use Rattle.wasm_feed.specs.Beside.{beside, lending, seen, FillsAlike, IsAlike, ReadsEnough}
+use Rattle.wasm_feed.specs.Cursors.{feed_of}
+use Rattle.wasm_feed.specs.Lists.{IsBeginning, Refills}
+use Rattle.wasm_feed.specs.declared.feeder.Cursor.{Cursor}
 use Rattle.wasm_feed.specs.FeedersLaws.{IsAlong}
 use Rattle.wasm_parser.specs.Along.{Came}
 use Rattle.wasm_parser.specs.declared.payload.Payload.{Payload}
@@ -17,8 +21,8 @@ use Rattle.wasm_grammar.specs.Reading.{Report, Event, Reading}
 use Rattle.wasm_feed.proofs.ForCallers.{feeders_go_along}
 use Rattle.wasm_lines.specs.Page.{WritesBeginning, PutsBytes}
 use Rattle.wasm_base.specs.declared.error.Error.{Error}
-use Rattle.wasm_parser.specs.ParseAnswer.{report_of, is_end}
-use Rattle.wasm_feed.specs.Step.{chunk_of, is_request, Steps}
+use Rattle.wasm_parser.specs.ParseAnswer.{report_of, is_end, ParseAnswer}
+use Rattle.wasm_feed.specs.Step.{answer_of, chunk_of, is_request, shown, Steps}
 use Rattle.wasm_feed.specs.Turns.{text_after, turn_after}
 use Rattle.wasm_feed.specs.declared.feeder.Step.{Step}
 use Rattle.wasm_feed.specs.declared.feeder.Step.TheVariants.{NeedMoreData, Parsed}
@@ -38,7 +42,7 @@ use Rattle.wasm_dumper.specs.Dump.{AreOf, AreOfEvents, AreOfSource, bytes_of_ans
 use Rattle.std.specs.Prelude.{flat_map}
 use Rattle.std.proofs.lemmas.Grind.{flat_map-append}
 use Rattle.std.proofs.lemmas.Bool.Decides.{nat_tests}
-use Rattle.wasm_dumper.specs.Dump.{WritesWhole, WritesSome, AreOfAnswer, after_answer, ShowsStep, origin, DumpsFrom, DumpsInto}
+use Rattle.wasm_dumper.specs.Dump.{WritesWhole, WritesSome, AreOfAnswer, ShowsAnswer, after_answer, origin, DumpsFrom, DumpsInto}
 use Rattle.wasm_dumper.specs.Dump.{DumpsByTree}
 use Rattle.wasm_tree.specs.Tree as Tree
 use Rattle.wasm_tree.specs.Tree.{IsOutlined, Part, Writing, Origin, begun, begun_numbers, IsGoingIn, IsCutShort, IsWritten, Adds, IsOut}
@@ -48,7 +52,7 @@ use Rattle.wasm_tree.specs.Json as json
 use Rattle.wasm_tree.specs.declared.tree.Spot.{Spot}
 use Rattle.wasm_tree.specs.declared.tree.Style.{Style}
 use Rattle.wasm_tree.specs.declared.tree.Style.TheVariants.{Lines, Objects}
-use Rattle.wasm_dumper.specs.declared.only.Only.{Only}
+use Rattle.wasm_dumper.specs.declared.events.Only.{Only}
 use Rattle.wasm_tree.proofs.ForCallers.{as_going, as_short}
 use Rattle.wasm_base.specs.Features.{all_features}
 
@@ -106,7 +110,7 @@ none_of_events : (has_bytes : Bool) (only : List Only) → [] ≡ bytes_of_event
 none_of_events true only = refl
 none_of_events false only = refl
 
-pub starts : (only : List Only) (has_bytes : Bool) (full : Option (List ℕ)) (w : Writing)
+starts : (only : List Only) (has_bytes : Bool) (full : Option (List ℕ)) (w : Writing)
     → Dumping only has_bytes full full w (new_feed 0 all_features) no_counts w
 starts only has_bytes full w = record {
   outline = [];
@@ -119,6 +123,34 @@ starts only has_bytes full w = record {
         (none_of_events has_bytes only) i,
   );
 }
+
+-- the same of a feeder in the same place, with the same bytes
+like : (only : List Only) (has_bytes : Bool) (full rest : Option (List ℕ)) (before : Writing) (f g : Feed) (c : Counts) (now : Writing)
+    → IsAlike f g → Dumping only has_bytes full rest before f c now → Dumping only has_bytes full rest before g c now
+like only has_bytes full rest before f g c now a d = record {
+  outline = d.outline;
+  listing = progress.alike (chosen_line only) (from_to full rest) (from_to (Some []) (Some d.outline)) f g [] a d.listing;
+  counting = record {
+    given = d.counting.given;
+    events = d.counting.events;
+    gave = d.counting.gave;
+    along = rw (← a.state, ← a.held) d.counting.along;
+    counted = d.counting.counted;
+  };
+  writing = d.writing;
+}
+
+-- the dump begins with nothing stored, and nothing read
+pub starts_beside : (only : List Only) (has_bytes : Bool) (full : Option (List ℕ)) (w : Writing) (stored piece : List ℕ) (cursor : Cursor)
+    (c : Counts) → stored ≡ [] → piece ≡ [] → feed_of [] cursor ≡ new_feed 0 all_features → c ≡ no_counts
+    → Dumping only has_bytes full full w (beside (feed_of stored cursor) piece) c w
+starts_beside only has_bytes full w stored piece cursor c none no_piece new none_counted =
+    rw (none, no_piece, none_counted) (like only has_bytes full full w (new_feed 0 all_features) (beside (feed_of [] cursor) [])
+    no_counts w (record {
+      state = sym (ap (λ (f : Feed). f.state) new);
+      held = sym (append-nil (drop cursor.mark []) ∙ ap (λ (f : Feed). f.held) new);
+      eof = sym (ap (λ (f : Feed). f.eof) new);
+    }) (starts only has_bytes full w))
 
 -- ---- what is counted
 
@@ -419,6 +451,26 @@ cut_off style only has_bytes full rest had has h taken failed outline numbers by
 }
 cut_off style only has_bytes full rest had has h taken failed outline numbers bytes Input w b n c = absurd (c.no_input refl)
 
+-- what was listed is a beginning
+nothing_cut : (outline : Option (List ℕ)) → WritesBeginning outline outline []
+nothing_cut outline = record { moved = []; unwritten = []; parts = refl; wrote = Appends-nil outline }
+
+-- the tree has stopped before a step
+pub stopped_before : (only : List Only) (has_bytes : Bool) (full rest : Option (List ℕ)) (before : Writing) (f : Feed) (c : Counts)
+    (now : Writing) → Dumping only has_bytes full rest before f c now → (had has : Bool) → has ≡ had → (last : Writing)
+    (why : ListError) → Adds now last → last.why ≡ Some why → (taken : Option (List ℕ)) (failed : Bool)
+    → IsWritten (origin before.style taken failed [] [] []) before
+    → DumpsFrom before.style only has_bytes (record { before = full; after = rest; had_failed = had; has_failed = has }) taken failed
+    (Err why) last
+stopped_before only has_bytes full rest before f c now d had has h last why a w taken failed i =
+    let (numbers, are, going) = d.writing taken failed i in
+    let bytes = bytes_of_events has_bytes only d.counting.events in
+    cut_off before.style only has_bytes full rest had has h taken failed d.outline numbers bytes why last
+    (progress.cut (chosen_line only) full rest (Some []) (Some d.outline) f [] d.listing (Some d.outline) Output
+    (nothing_cut (Some d.outline)))
+    (source_begins None false why only has_bytes _ numbers bytes
+    (numbers_at None false only has_bytes full rest f c d.counting numbers (not_whole f.held) are)) (as_short _ last why w (a _ going))
+
 -- ---- a step
 
 -- the same counts
@@ -426,19 +478,34 @@ abbrev as_counted : (full rest : Option (List ℕ)) (f : Feed) (c d : Counts) �
 as_counted full rest f c d e k =
     record { given = k.given; events = k.events; gave = k.gave; along = k.along; counted = sym e ∙ k.counted }
 
--- more is read only where it was asked for
-reads_where_asked : (x : Result Step Error) → turn.Read ≡ turn_after x → is_request x ≡ true
-reads_where_asked (Ok (NeedMoreData hint)) t = refl
-reads_where_asked (Err e) t = cc
-reads_where_asked (Ok (Parsed bytes payload)) t = by_end (is_end (report_of payload)) t
-  where
-    by_end : (b : Bool) → turn.Read ≡ (if b then turn.End End else turn.Advance) → false ≡ true
-    by_end true e = cc
-    by_end false e = cc
-
 -- the lines of a listing by what is shown, all of which are written
 puts : (outline line : List ℕ) → PutsBytes (Some outline) (Some (outline ++ line)) [] line []
 puts outline line = record { moved = line; writes = refl; waits = sym (append-nil line) }
+
+-- A step of the feeder was shown, and this is done next.
+pub record ShowsStep (only : List Only) (has_bytes : Bool) (counts counts' : Counts) (old new : Feed) (before after : Writing) (next : Turn) : Type 0 where
+  pub answer : Result Step Error
+  pub steps : Steps old answer new
+  pub turns : next ≡ turn_after answer
+  pub shows : ShowsAnswer only has_bytes counts answer before after
+  pub counted : counts' ≡ after_answer counts answer
+
+-- a step of a parser beside a chunk, which was shown
+pub shows_step : (only : List Only) (has_bytes : Bool) (c c' : Counts) (f : Feed) (stored piece items rest bytes : List ℕ)
+    (old new : Cursor) (x : Result Step Error) (now ready after : Writing) (next : Turn) → lending stored piece old ≡ f
+    → ReadsEnough stored piece old → bytes ≡ seen items rest → items ≡ stored → rest ≡ piece
+    → ParseAnswer old.parser old.is_finished (drop old.mark bytes) (answer_of x) new.parser
+    → drop old.mark bytes ≡ shown x ++ drop new.mark bytes → new.is_finished ≡ old.is_finished → new.wants_more ≡ is_request x
+    → next ≡ turn_after x → ready ≡ now → ShowsAnswer only has_bytes c x ready after → c' ≡ after_answer c x
+    → ShowsStep only has_bytes c c' f (lending stored piece new) now after next
+shows_step only has_bytes c c' f stored piece items rest bytes old new x now ready after next from sees read items_are rest_is parses shows
+    finished wants turns kept answer counted = record {
+      answer = x;
+      steps = progress.lent f stored piece items rest bytes old new x from sees read items_are rest_is parses shows finished wants;
+      turns = turns;
+      shows = rw kept answer;
+      counted = counted;
+    }
 
 module _ (only : List Only) (has_bytes : Bool) (full rest : Option (List ℕ)) (before : Writing) (f : Feed) (c : Counts) (now : Writing)
     (d : Dumping only has_bytes full rest before f c now) (g : Feed) (c' : Counts) (new : Writing) (next : Turn)
@@ -502,13 +569,6 @@ module _ (only : List Only) (has_bytes : Bool) (full rest : Option (List ℕ)) (
         },
         same,
       )
-
-  pub wants : next ≡ turn.Read → g.wants_more ≡ true
-  wants t = s.steps.wants_more ∙ reads_where_asked s.answer (sym t ∙ s.turns)
-
-  -- what was listed after a step is a beginning
-  nothing_cut : (outline : Option (List ℕ)) → WritesBeginning outline outline []
-  nothing_cut outline = record { moved = []; unwritten = []; parts = refl; wrote = Appends-nil outline }
 
   begins : (t : Turn) → next ≡ t → IsBeginning (chosen_line only) (from_to full rest)
       (from_to (Some []) (Some (d.outline ++ text_after (chosen_line only) s.answer)))
@@ -615,29 +675,34 @@ module _ (only : List Only) (has_bytes : Bool) (full rest : Option (List ℕ)) (
         sink = has_failed o last going all;
       }
 
+-- where the feeder is afterwards
+pub same_going : (only : List Only) (has_bytes : Bool) (full rest : Option (List ℕ)) (before : Writing) (e f g : Feed) (c : Counts)
+    (now : Writing) → g ≡ f → Dumping only has_bytes full rest before f c now × (weight f < weight e)
+    → Dumping only has_bytes full rest before g c now × (weight g < weight e)
+same_going only has_bytes full rest before e f g c now same p = rw same p
+
 -- ---- a read
 
 -- more bytes came, or the end
 module _ (full rest : Option (List ℕ)) (f : Feed) (c : Counts) (k : Counting full rest f c) where
-  counted_filled : (rest' : Option (List ℕ)) (g : Feed) → Fills rest rest' f g → (k' : Counting full rest' g c) × (k'.events ≡ k.events)
-  counted_filled rest' g (inl (nothing, at_end, same)) = (
+  counted_filled : (rest' : Option (List ℕ)) (g : Feed) → FillsAlike rest rest' f g
+      → (k' : Counting full rest' g c) × (k'.events ≡ k.events)
+  counted_filled rest' g (inl (nothing, at_end, a)) = (
     record {
       given = k.given ++ [];
       events = k.events;
       gave = Consumes-trans full rest rest' k.given [] k.gave nothing;
-      along = subst₂ (λ (given : List ℕ) (h : Feed). IsAlong 0 all_features given h k.events) (sym (append-nil k.given)) (sym same)
-          (feeders_go_along.finishes 0 all_features k.given f k.events k.along);
+      along = rw (append-nil k.given, ← a.state, ← a.held) (feeders_go_along.finishes 0 all_features k.given f k.events k.along);
       counted = k.counted;
     },
     refl,
   )
-  counted_filled rest' g (inr (piece, more, some, same)) = (
+  counted_filled rest' g (inr (piece, more, some, a)) = (
     record {
       given = k.given ++ piece;
       events = k.events;
       gave = Consumes-trans full rest rest' k.given piece k.gave more;
-      along = subst (λ (h : Feed). IsAlong 0 all_features (k.given ++ piece) h k.events) (sym same)
-          (feeders_go_along.pushes 0 all_features k.given f k.events piece k.along);
+      along = rw (← a.state, ← a.held) (feeders_go_along.pushes 0 all_features k.given f k.events piece k.along);
       counted = k.counted;
     },
     refl,
@@ -656,10 +721,10 @@ module _ (only : List Only) (has_bytes : Bool) (full rest : Option (List ℕ)) (
             (sym same) (a _ wrote),
       )
 
-  pub filled : (rest' : Option (List ℕ)) (g : Feed) → Refills rest rest' f g (Ok tt) → Dumping only has_bytes full rest' before g c last
+  pub filled : (rest' : Option (List ℕ)) (g : Feed) → FillsAlike rest rest' f g → Dumping only has_bytes full rest' before g c last
       × (weight g < weight f)
   filled rest' g r =
-      let (listing, less) = progress.filled (chosen_line only) full rest (Some []) (Some d.outline) f d.listing rest' g r in
+      let (listing, less) = progress.filled_alike (chosen_line only) full rest (Some []) (Some d.outline) rest' f g d.listing r in
       let (k, same) = counted_filled full rest f c d.counting rest' g r in
       (record { outline = d.outline; listing = listing; counting = k; writing = all k.events same }, less)
 

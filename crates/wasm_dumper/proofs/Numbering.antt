@@ -34,7 +34,7 @@ use Rattle.wasm_tree.specs.Numbers.{numbers_from, imports_in, space_defined, Are
 use Rattle.wasm_tree.specs.Numbers.{numbers_in_line, after, after_all}
 use Rattle.wasm_dumper.specs.Chosen.{is_chosen, shown_line, numbered_line}
 use Rattle.wasm_dumper.specs.Dump.{AreOfShown, AreOf, AreOfEvents, ShowsItems, ShowsReport, ShowsAnswer, shown_bytes}
-use Rattle.wasm_dumper.specs.declared.only.Only.{Only}
+use Rattle.wasm_dumper.specs.declared.events.Only.{Only}
 use Rattle.wasm_dumper.proofs.Lines.{line_is_first}
 use Rattle.wasm_tree.specs.Tree.{Writing, Origin, IsWritten, with_line, with_numbers, Adds, AddsFirst, AddsThese, AddsNumber, AddsNumbers}
 use Rattle.wasm_tree.specs.Tree.{AddsAll, AddsBytes, AddsNext, AddsUpTo, with_bytes}

@@ -9,8 +9,8 @@ use Rattle.wasm_grammar.specs.Sections.{section_of}
 use Rattle.wasm_lines.specs.Listing.{line_of, report_text}
 use Rattle.wasm_tree.specs.Numbers.{blank_numbers, numbers_in_line}
 use Rattle.wasm_tree.specs.declared.numbers.Counts.{Counts}
-use Rattle.wasm_dumper.specs.declared.only.Only.{Only}
-use Rattle.wasm_dumper.specs.declared.only.Only.TheVariants.{All, Id, Name}
+use Rattle.wasm_dumper.specs.declared.events.Only.{Only}
+use Rattle.wasm_dumper.specs.declared.events.Only.TheVariants.{All, Id, Name}
 
 -- the id of the section that is reported, or that a part of one is of. Core specification, Binary format, Modules,
 -- Sections.

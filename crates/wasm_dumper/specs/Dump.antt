@@ -9,24 +9,21 @@ use Rattle.wasm_grammar.specs.Reading.{Report, Event}
 use Rattle.wasm_parser.specs.Along.{ReadingBegins}
 use Rattle.wasm_parser.specs.ParseAnswer.{report_of}
 use Rattle.wasm_lines.specs.Calls.{Change, Device, bytes_of, from_to, input_failed, output_failed}
-use Rattle.wasm_feed.specs.Feed.{Feed}
 use Rattle.wasm_feed.specs.Lists.{ListsBy}
-use Rattle.wasm_feed.specs.Step.{Steps}
-use Rattle.wasm_feed.specs.Turns.{text_after, turn_after}
+use Rattle.wasm_feed.specs.Turns.{text_after}
 use Rattle.wasm_feed.specs.declared.feeder.Step.{Step}
 use Rattle.wasm_feed.specs.declared.feeder.Step.TheVariants.{NeedMoreData, Parsed}
 use Rattle.wasm_feed.specs.declared.listing.Ended.{Ended}
 use Rattle.wasm_feed.specs.declared.listing.Ended.TheVariants.{End}
 use Rattle.wasm_lines.specs.declared.devices.ListError.{ListError}
 use Rattle.wasm_lines.specs.declared.devices.ListError.TheVariants.{Input, Output, Memory}
-use Rattle.wasm_feed.specs.declared.listing.Turn.{Turn}
 use Rattle.wasm_dumper.specs.Chosen.{is_chosen, chosen_line}
 use Rattle.wasm_tree.specs.Numbers.{Number, after, no_counts, numbers_in_line, AreOfItems}
 use Rattle.wasm_tree.specs.Tree.{IsShaped, Writing, Origin, IsWritten, AddsNumbers, with_bytes, with_line, with_numbers}
 use Rattle.wasm_tree.specs.Tree.{starts_in}
 use Rattle.wasm_tree.specs.declared.tree.Style.{Style}
 use Rattle.wasm_tree.specs.declared.numbers.Counts.{Counts}
-use Rattle.wasm_dumper.specs.declared.only.Only.{Only}
+use Rattle.wasm_dumper.specs.declared.events.Only.{Only}
 
 -- The numbers are those of what is reported, of its line and its items, if it is shown; otherwise there are none.
 abbrev pub AreOfShown : (why : Option ListError) (shown : Bool) → Counts → Report → List Number → Type 0
@@ -160,15 +157,6 @@ bytes_of_answer has_bytes only (Err e) = []
 abbrev pub ShowsAnswer : List Only → (has_bytes : Bool) → Counts → Result Step Error → (old new : Writing) → Type 0
 ShowsAnswer only has_bytes counts answer old new = ShowsLine (text_after (chosen_line only) answer)
     (AreOfAnswer new.why only counts answer) (bytes_of_answer has_bytes only answer) old new
-
--- A step of the feeder was shown, and this is done next.
-pub record ShowsStep (only : List Only) (has_bytes : Bool) (counts counts' : Counts) (old new : Feed)
-    (before after : Writing) (next : Turn) : Type 0 where
-  pub answer : Result Step Error
-  pub steps : Steps old answer new
-  pub turns : next ≡ turn_after answer
-  pub shows : ShowsAnswer only has_bytes counts answer before after
-  pub counted : counts' ≡ after_answer counts answer
 
 -- a dump's origin: what the sink had taken, and whether it had failed
 abbrev pub origin : Style → (taken : Option (List ℕ)) (failed : Bool) (outline : List ℕ) (numbers : List Number)

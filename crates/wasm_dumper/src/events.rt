@@ -1,29 +1,163 @@
-// The line of an event, or its object.
-ghost use Rattle.std.specs.Prelude.{◌≡◌, false};
+// Which events a dump shows, and the line of each, or its object.
+ghost use Rattle.std.specs.List.{list_any};
+ghost use Rattle.std.specs.Prelude.{◌≡◌, ◌≤◌, ◌+◌, ◌++◌, false, IfSome, length, option_map, take};
 ghost use Rattle.wasm_base.specs.FaultAt.{fault_at};
-ghost use Rattle.wasm_lines.specs.Listing.{line_of};
+ghost use Rattle.wasm_dumper.specs.Chosen.{after_blank, counted_name as name_counted, end_text, id_of as id_reported, is_chosen, is_chosen_by, numbered_line};
 ghost use Rattle.wasm_grammar.specs.Content.{fault};
+ghost use Rattle.wasm_grammar.specs.Ids.{name_of};
 ghost use Rattle.wasm_grammar.specs.Reading.{stream_end};
+ghost use Rattle.wasm_lines.specs.Listing.{line_of};
 ghost use Rattle.wasm_parser.specs.ParseAnswer.{report_of};
-ghost use Rattle.wasm_dumper.specs.Chosen.{numbered_line};
 ghost use Rattle.wasm_tree.specs.Tree.{Adds, AddsFirst, has_line_feed};
 
-use crate::heading::Heading;
 use std::ops::Range;
 use wasm_base::Error;
-use wasm_grammar::section_name;
+use wasm_grammar::{CODE_SECTION, section_name};
 use wasm_items::FunctionBody;
-use wasm_lines::Sink;
+use wasm_lines::{ShortText, Sink, encoding_name, write_payload, write_word};
 use wasm_parser::{Encoding, Payload};
-use wasm_tree::{Counts, Space, Tree};
+use wasm_tree::{Counts, Space, Tree, write_item};
 
-// The word of an encoding.
-fn encoding_word(encoding: Encoding) -> &'static str
-    ensures one_line { has_line_feed result.now ≡ false }
+/// Which events a dump shows. It shows those that any of several choices chooses, and always the last one.
+#[derive(Clone, Copy)]
+pub enum Only<'n> {
+    /// All.
+    All,
+    /// Those of the sections with this id (core specification, Binary format, Modules, Sections).
+    Id(u8),
+    /// The custom sections with this name.
+    Name(&'n str),
+}
+
+/// What a dump shows.
+#[derive(Clone, Copy)]
+pub struct Shown<'n> {
+    /// The events that any of these chooses, and the last one.
+    pub only: &'n [Only<'n>],
+    /// Whether the bytes of these are shown too.
+    pub has_bytes: bool,
+}
+
+// The id of the section that a payload is, or is a part of.
+fn id_of(payload: &Payload<'_>) -> Option<u8>
+    ensures { result ≡ id_reported (report_of payload.now) }
 {
-    match encoding {
-        Encoding::Module => "module",
-        Encoding::Component => "component",
+    match payload {
+        Payload::CodeSectionEntry(_) => Some(CODE_SECTION),
+        _ => match payload.section_parts() {
+            Some((id, _, _)) => Some(id),
+            None => None,
+        },
+    }
+}
+
+// Whether a choice chooses a payload.
+fn is_chosen_alone(choice: &Only<'_>, payload: &Payload<'_>) -> bool
+    ensures { result ≡ is_chosen_by choice.now (report_of payload.now) }
+{
+    match choice {
+        Only::All => true,
+        Only::Id(id) => id_of(payload) == Some(*id),
+        Only::Name(name) => match payload {
+            Payload::CustomSection(section) => *name == section.name(),
+            _ => false,
+        },
+    }
+}
+
+// Whether any of these choices chooses a payload.
+#[tactic(auto, using(std::proofs::lemmas::List::Folds::list_any_more, std::proofs::lemmas::List::Folds::list_any_at))]
+fn is_chosen_by_any(only: &[Only<'_>], payload: &Payload<'_>) -> bool
+    ensures { result ≡ list_any (λ choice. is_chosen_by choice (report_of payload.now)) only.now }
+{
+    for choice in only {
+        if is_chosen_alone(choice, payload) {
+            return true;
+        }
+    }
+    false
+}
+
+/// Whether a payload is shown.
+pub(crate) fn chooses(only: &[Only<'_>], payload: &Payload<'_>) -> bool
+    ensures { result ≡ is_chosen only.now (report_of payload.now) }
+{
+    match payload {
+        Payload::End(_) => true,
+        _ => is_chosen_by_any(only, payload),
+    }
+}
+
+// The name of the sections with this id, which fits a line.
+fn short_name(id: u8) -> Option<&'static str>
+    ensures name { option_map (λ name. name.now) result ≡ name_of id }
+    ensures short { IfSome result (λ name. length name.now ≤ 9) }
+{
+    section_name(id)
+}
+
+// The name of a section that a listing tells by its id.
+fn counted_name(payload: &Payload<'_>) -> Option<&'static str>
+    ensures name { option_map (λ name. name.now) result ≡ name_counted (report_of payload.now) }
+    ensures short { IfSome result (λ name. length name.now ≤ 9) }
+{
+    match payload.as_counted() {
+        Some(section) => short_name(section.id),
+        None => None,
+    }
+}
+
+// Writes a blank and a name, if there is one.
+fn write_name(bytes: &mut [u8], at: usize, name: Option<&'static str>) -> usize
+    requires room { at + 10 ≤ length bytes.old }
+    requires short { IfSome name (λ name. length name.now ≤ 9) }
+    ensures short { result ≤ at + 10 }
+    ensures written { take result bytes.new ≡ take at bytes.old
+        ++ after_blank (option_map (λ name. name.now) name.entry) }
+{
+    match name {
+        Some(name) => {
+            let at = write_word(bytes, at, " ");
+            write_word(bytes, at, name)
+        }
+        None => at,
+    }
+}
+
+// Writes what comes after the text of a payload: the name of the section, or the number of the function whose body it is.
+fn write_end(bytes: &mut [u8], at: usize, counts: &Counts, payload: &Payload<'_>) -> usize
+    requires { at + 29 ≤ length bytes.old }
+    ensures short { result ≤ at + 29 }
+    ensures written { take result bytes.new ≡ take at bytes.old
+        ++ end_text counts.now (report_of payload.now) }
+{
+    match payload {
+        Payload::CodeSectionEntry(_) => {
+            let at = write_word(bytes, at, " ");
+            write_item(bytes, at, Space::Functions, counts.bodies)
+        }
+        _ => write_name(bytes, at, counted_name(payload)),
+    }
+}
+
+// The text of a payload's line, without its line feed: after the text of a body stands the number of the function that it is of.
+#[derive(Drop)]
+struct Heading<'a, 'b> {
+    counts: &'a Counts,
+    payload: &'a Payload<'b>,
+}
+
+impl ShortText for Heading<'_, '_> {
+    ghost use Rattle.std.specs.Prelude.{[]};
+    ghost use Rattle.wasm_parser.specs.ParseAnswer.{report_of};
+    ghost use Rattle.wasm_dumper.specs.Chosen.{numbered_text};
+
+    ghost text = { λ h. numbered_text h.counts.now (report_of h.payload.now) [] };
+
+    #[inline(always)]
+    fn write_at(&self, bytes: &mut [u8], at: usize) -> usize {
+        let at = write_payload(bytes, at, self.payload);
+        write_end(bytes, at, self.counts, self.payload)
     }
 }
 
@@ -43,7 +177,7 @@ fn version_event<W: Sink>(num: u16, encoding: Encoding, range: &Range<u64>, out:
     begin_event("version", out);
     out.range("range", range.start, range.end);
     out.number("num", u64::from(num));
-    out.word_field("encoding", encoding_word(encoding));
+    out.word_field("encoding", encoding_name(encoding));
 }
 
 // That of a body, with the number of its function.

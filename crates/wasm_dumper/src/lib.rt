@@ -3,14 +3,12 @@
 
 mod collected;
 mod events;
-mod heading;
 pub mod laws;
 mod numbered;
-mod only;
 mod payload;
 mod stream;
 
 pub use collected::collect_names;
-pub use only::{Only, Shown};
+pub use events::{Only, Shown};
 pub use payload::show_payload;
 pub use stream::dump;

@@ -1,17 +1,18 @@
 // The dump of a stream.
-ghost use Rattle.std.specs.Prelude.{◌≡◌, ◌≤◌, ◌<◌, [], length, Some, None, OnOk, IfErr, if◌then◌else◌};
+ghost use Rattle.std.specs.Prelude.{◌≡◌, ◌≤◌, ◌<◌, ◌+◌, [], length, vec_len, vec_capacity, Some, None, OnOk, IfErr, if◌then◌else◌};
+ghost use Rattle.wasm_feed.specs.Beside.{beside, lending, ReadsEnough};
+ghost use Rattle.wasm_feed.specs.Cursors.{feed_of};
 ghost use Rattle.wasm_parser.specs.ParseAnswer.{AnswerBegins, ItemsBegin, report_of};
 ghost use Rattle.wasm_lines.specs.Calls.{device_of};
 ghost use Rattle.wasm_feed.specs.Step.{answer_of};
 ghost use Rattle.wasm_feed.specs.Turns.{turn_after};
-ghost use Rattle.wasm_dumper.specs.Dump.{DumpsByTree, DumpsInto, ShowsAnswer, ShowsReport, ShowsStep, after_answer};
-ghost use Rattle.wasm_tree.specs.Tree.{AddsBytes};
+ghost use Rattle.wasm_dumper.specs.Dump.{DumpsByTree, DumpsInto, ShowsAnswer, ShowsReport, after_answer};
+ghost use Rattle.wasm_tree.specs.Tree.{Adds, AddsBytes};
 
-use crate::events::{show_event, show_last_fault};
-use crate::only::{Shown, chooses};
+use crate::events::{Shown, chooses, show_event, show_last_fault};
 use crate::payload::{offsets_of_items, show_payload};
 use std::alloc::Global;
-use wasm_feed::{Ended, Feeder, Step, Turn};
+use wasm_feed::{Ahead, Cursor, Ended, Step, Turn, parse_next, seen};
 use wasm_lines::{ListError, Sink, Source};
 use wasm_parser::{Parser, Payload, Result as ParserResult};
 use wasm_tree::{Counts, Tree};
@@ -101,22 +102,6 @@ fn show_answer<W: Sink>(
     }
 }
 
-// Goes one step along the stream, and writes what it answered.
-fn show_step<W: Sink>(
-    alloc: Global,
-    shown: Shown<'_>,
-    counts: &mut Counts,
-    offset: &mut u64,
-    feeder: &mut Feeder,
-    out: &mut Tree<W>,
-) -> Turn
-    ensures { ShowsStep shown.entry.only.now shown.entry.has_bytes counts.old counts.new
-        feeder.old feeder.new out.old out.new result }
-{
-    let answer = feeder.open().step();
-    show_answer(alloc, shown, counts, offset, &answer, out)
-}
-
 // Whether the tree goes on, or why it has stopped.
 fn go_on<W: Sink>(out: &Tree<W>) -> Result<(), ListError>
     ensures ok { OnOk result (out.now.why ≡ None) }
@@ -128,30 +113,59 @@ fn go_on<W: Sink>(out: &Tree<W>) -> Result<(), ListError>
     }
 }
 
+// Stores what the next step has to read after the bytes that are held; the tree stops where an allocation fails.
+fn make_ready<W: Sink>(
+    ahead: &mut Ahead<Global>,
+    cursor: &mut Cursor,
+    stored: &mut Vec<u8>,
+    out: &mut Tree<W>,
+) -> Result<(), ListError>
+    ensures same { OnOk result (lending stored.new.items ahead.new cursor.new
+        ≡ beside (feed_of stored.old.items cursor.old) ahead.old) }
+    ensures enough { OnOk result (ReadsEnough stored.new.items ahead.new cursor.new) }
+    ensures room { OnOk result (vec_len stored.new + length ahead.new ≤ vec_capacity stored.new) }
+    ensures keeps { OnOk result (out.new ≡ out.old) }
+    ensures adds { Adds out.old out.new }
+    ensures stops { IfErr result (λ why. out.new.why ≡ Some why) }
+{
+    match ahead.make_ready(cursor, stored) {
+        Ok(()) => Ok(()),
+        Err(_) => {
+            out.out_of_memory();
+            go_on(out)
+        }
+    }
+}
+
 // The same as `dump`, by a tree over the output that has written nothing yet, and with a buffer to read into.
 fn dump_into<R: Source, W: Sink>(
     alloc: Global,
     shown: Shown<'_>,
     input: &mut R,
     out: &mut Tree<W>,
-    buffer: &mut [u8],
+    buffer: Vec<u8>,
 ) -> Result<Ended, ListError>
-    requires { 0 < length buffer.old }
+    requires { 0 < vec_len buffer }
     ensures { DumpsInto shown.entry.only.now shown.entry.has_bytes
         (device_of R.remaining R.has_failed input.old input.new) out.old result out.new }
 {
     let mut counts = Counts::new();
     let mut offset = 0;
-    let mut feeder = Feeder::new(alloc, 0, Parser::new(0).features());
+    let mut ahead = Ahead::new(buffer);
+    let mut stored = Vec::new(alloc);
+    let mut cursor = Cursor::new(Parser::new(0));
     'events: loop {
-        let turn = show_step(alloc, shown, &mut counts, &mut offset, &mut feeder, out);
+        make_ready(&mut ahead, &mut cursor, &mut stored, out)?;
+        let answer = parse_next(&mut cursor, seen(&stored, ahead.bytes()));
+        let turn = show_answer(alloc, shown, &mut counts, &mut offset, &answer, out);
+        drop(answer);
         go_on(out)?;
         match turn {
-            Turn::Advance => {}
+            Turn::Advance => ahead.pass_lent(&mut cursor, &stored),
             Turn::Read => {
                 out.write_out();
                 go_on(out)?;
-                feeder.read_from(input, buffer)?;
+                ahead.refill(&mut cursor, &mut stored, input)?;
             }
             Turn::End(ended) => {
                 out.write_out();
@@ -185,6 +199,6 @@ pub fn dump<R: Source, W: Sink>(
     ensures { DumpsByTree shown.entry.only.now shown.entry.has_bytes
         (device_of R.remaining R.has_failed input.old input.new) out.old result out.new }
 {
-    let mut buffer = vec![in alloc; 0u8; piece]?;
-    dump_into(alloc, shown, input, out, buffer.as_mut_slice())
+    let buffer = vec![in alloc; 0u8; piece]?;
+    dump_into(alloc, shown, input, out, buffer)
 }

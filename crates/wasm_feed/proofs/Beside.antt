@@ -124,7 +124,7 @@ lent f stored piece items rest bytes old new x from sees read items_are rest_is 
 -- ---- a listing
 
 -- how far it has come is seen by where the feeder is, what it holds, and whether the end was told
-alike : (text_of : Report → List ℕ) (input output : Change) (f g : Feed) (page : List ℕ) → IsAlike f g
+pub alike : (text_of : Report → List ℕ) (input output : Change) (f g : Feed) (page : List ℕ) → IsAlike f g
     → Progress text_of input output f page → Progress text_of input output g page
 alike text_of input output f g page a p = record {
   given = p.given;

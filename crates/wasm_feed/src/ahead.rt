@@ -10,9 +10,12 @@ use std::alloc::Allocator;
 use std::marker::Model;
 use wasm_lines::{Failed, ListError, Source};
 
-/// What is left of the piece that was read last, in the buffer that it was read into.
+/// The remaining bytes of the chunk that was read last, in the buffer that it was read into.
+///
+/// With a cursor and the bytes that are stored before them, it is a feeder that reads from a source and parses each chunk where it is. A
+/// loop calls `make_ready`, then `parse_next` on what is `seen`, and then `pass_lent`, or `refill` where the step asked for more.
 #[derive(Drop)]
-pub(crate) struct Ahead<A: Allocator> {
+pub struct Ahead<A: Allocator> {
     buffer: Vec<u8, A>,
     start: usize,
     end: usize,
@@ -31,7 +34,7 @@ impl<A: Allocator> Model for Ahead<A> {
 
 impl<A: Allocator> Ahead<A> {
     /// Nothing yet, and a buffer to read into, which has a byte.
-    pub(crate) fn new(buffer: Vec<u8, A>) -> Self
+    pub fn new(buffer: Vec<u8, A>) -> Self
         requires { 0 < vec_len buffer }
         ensures { result ≡ [] }
     {
@@ -43,7 +46,7 @@ impl<A: Allocator> Ahead<A> {
     }
 
     /// What is left of the piece.
-    pub(crate) fn bytes(&self) -> &[u8]
+    pub fn bytes(&self) -> &[u8]
         ensures { result.now ≡ self.now }
     {
         &self.buffer[self.start..self.end]
@@ -71,7 +74,7 @@ impl<A: Allocator> Ahead<A> {
     }
 
     /// Stores what the next step has to read after the bytes that are held.
-    pub(crate) fn make_ready(
+    pub fn make_ready(
         &mut self,
         cursor: &mut Cursor,
         stored: &mut Vec<u8, A>,
@@ -89,7 +92,7 @@ impl<A: Allocator> Ahead<A> {
     }
 
     /// Passes what a step consumed.
-    pub(crate) fn pass_lent(&mut self, cursor: &mut Cursor, stored: &[u8])
+    pub fn pass_lent(&mut self, cursor: &mut Cursor, stored: &[u8])
         ensures { beside (feed_of stored.now cursor.new) self.new
             ≡ lending stored.now self.old cursor.old }
     {
@@ -98,7 +101,7 @@ impl<A: Allocator> Ahead<A> {
     }
 
     /// Stores what a step left, for which there must be room, and reads once: the next piece, or that the stream has ended.
-    pub(crate) fn refill<R: Source>(
+    pub fn refill<R: Source>(
         &mut self,
         cursor: &mut Cursor,
         stored: &mut Vec<u8, A>,

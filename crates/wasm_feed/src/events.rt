@@ -2,19 +2,13 @@
 ghost use Rattle.std.specs.Prelude.{◌≡◌, IfOk, IfErr};
 ghost use Rattle.wasm_base.specs.FaultAt.{fault_at};
 ghost use Rattle.wasm_base.specs.Owned.{out_of_memory};
-ghost use Rattle.wasm_base.specs.Window.{range_of};
 ghost use Rattle.wasm_parser.specs.ParseAnswer.{report_of};
-ghost use Rattle.wasm_grammar.specs.Reading.{counted};
 ghost use Rattle.wasm_feed.specs.Events.{IsKindOf, offsets_of, is_last, IsEventOfStep};
 
 use crate::feeder::Step;
 use std::alloc::{Allocator, Global};
 use std::ops::Range;
-use wasm_grammar::{
-    DATA_SECTION, ELEMENT_SECTION, EXPORT_SECTION, FUNCTION_SECTION, GLOBAL_SECTION,
-    IMPORT_SECTION, MEMORY_SECTION, TABLE_SECTION, TAG_SECTION, TYPE_SECTION,
-};
-use wasm_parser::{Encoding, Error, Fault, Payload, Result, SectionLimited};
+use wasm_parser::{Encoding, Error, Fault, Payload, Result};
 
 /// What an event of a stream is, with the numbers that it announces (core specification, Binary format, Modules).
 #[derive(Debug, Drop, PartialEq, Eq)]
@@ -89,15 +83,6 @@ impl EventKind {
     }
 }
 
-// The kind and the offsets of a section with this id that begins with a count.
-fn counted_kind<T>(id: u8, section: &SectionLimited<'_, T>) -> (EventKind, Range<u64>)
-    ensures kind { IsKindOf (counted id section.now.count section.now.reader) result.0 }
-    ensures range { result.1 ≡ range_of section.now.reader }
-{
-    let count = section.count();
-    (EventKind::Section { id, count }, section.range())
-}
-
 // The kind and the offsets of a payload.
 fn payload_kind(payload: &Payload) -> (EventKind, Range<u64>)
     ensures kind { IsKindOf (report_of payload.now) result.0 }
@@ -115,16 +100,6 @@ fn payload_kind(payload: &Payload) -> (EventKind, Range<u64>)
             },
             range.start..range.end,
         ),
-        Payload::TypeSection(section) => counted_kind(TYPE_SECTION, section),
-        Payload::ImportSection(section) => counted_kind(IMPORT_SECTION, section),
-        Payload::FunctionSection(section) => counted_kind(FUNCTION_SECTION, section),
-        Payload::TableSection(section) => counted_kind(TABLE_SECTION, section),
-        Payload::MemorySection(section) => counted_kind(MEMORY_SECTION, section),
-        Payload::TagSection(section) => counted_kind(TAG_SECTION, section),
-        Payload::GlobalSection(section) => counted_kind(GLOBAL_SECTION, section),
-        Payload::ExportSection(section) => counted_kind(EXPORT_SECTION, section),
-        Payload::ElementSection(section) => counted_kind(ELEMENT_SECTION, section),
-        Payload::DataSection(section) => counted_kind(DATA_SECTION, section),
         Payload::StartSection { func, range } => (
             EventKind::Start { func: *func },
             range.start..range.end,
@@ -156,6 +131,14 @@ fn payload_kind(payload: &Payload) -> (EventKind, Range<u64>)
             range.start..range.end,
         ),
         Payload::End(offset) => (EventKind::End, *offset..*offset),
+        _ => match payload.as_counted() {
+            Some(section) => {
+                let id = section.id;
+                let count = section.count;
+                (EventKind::Section { id, count }, section.range)
+            }
+            None => unreachable!(),
+        },
     }
 }
 

@@ -15,7 +15,8 @@ mod lending;
 
 use crate::buffer::{after, append};
 use lending::take_left;
-pub(crate) use lending::{keep, make_ready, pass_lent, seen};
+pub use lending::seen;
+pub(crate) use lending::{keep, make_ready, pass_lent};
 use std::alloc::{Allocator, Global};
 use std::marker::Model;
 use wasm_lines::{ListError, Source};
@@ -46,7 +47,7 @@ pub struct Cursor {
 
 impl Cursor {
     /// A cursor of this parser, where nothing is stored yet.
-    pub(crate) fn new(parser: Parser) -> Cursor
+    pub fn new(parser: Parser) -> Cursor
         ensures { feed_of [] result ≡ empty_feed parser }
     {
         Cursor {
@@ -381,7 +382,7 @@ pub(crate) fn read_more<A: Allocator, R: Source>(
 }
 
 /// One step in these bytes.
-pub(crate) fn parse_next<'a>(cursor: &mut Cursor, bytes: &'a [u8]) -> Result<Step<'a>>
+pub fn parse_next<'a>(cursor: &mut Cursor, bytes: &'a [u8]) -> Result<Step<'a>>
     ensures parses { ParseAnswer cursor.old.parser cursor.old.is_finished
         (drop cursor.old.mark bytes.now) (answer_of result) cursor.new.parser }
     ensures shows { drop cursor.old.mark bytes.now

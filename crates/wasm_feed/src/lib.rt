@@ -10,8 +10,9 @@ mod listing;
 mod pieces;
 mod stripping;
 
+pub use ahead::Ahead;
 pub use events::{Event, EventKind};
-pub use feeder::{Cursor, Feeder, Opened, Step};
+pub use feeder::{Cursor, Feeder, Opened, Step, parse_next, seen};
 pub use listing::{Ended, Turn, list, list_in};
 pub use pieces::{fits_pieces, read_pieces, read_pieces_in};
 pub use stripping::{strip, strip_in, strip_in_place, strip_to_front};

@@ -19,7 +19,9 @@ mod stripping;
 
 use std::alloc::Global;
 use std::test::Fail;
-use wasm_feed::{Ended, Event, fits_pieces, list, ListError, read_pieces, Sink, SliceSource, Source};
+use wasm_feed::{
+    Ended, Event, ListError, Sink, SliceSource, Source, fits_pieces, list, read_pieces,
+};
 
 // Here and in the modules a call with a long contract is in a function without one, which is cheaper to prove over.
 

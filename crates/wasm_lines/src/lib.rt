@@ -13,6 +13,6 @@ pub use devices::{
     list_of_capacity, write_all,
 };
 pub use digits::write_number;
-pub use lines::write_payload;
+pub use lines::{encoding_name, write_payload};
 pub use page::Page;
 pub use short_text::{ShortText, TEXT_BYTES, write_word};

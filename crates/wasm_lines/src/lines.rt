@@ -1,21 +1,20 @@
 // The texts of a listing.
-ghost use Rattle.std.specs.Prelude.{◌≡◌, ◌≤◌, ◌+◌, ◌++◌, codes, length, take};
+ghost use Rattle.std.specs.List.{list_any};
+ghost use Rattle.std.specs.Prelude.{◌≡◌, ◌≤◌, ◌+◌, ◌++◌, codes, false, length, nat_eq, take};
 ghost use Rattle.wasm_parser.specs.ParseAnswer.{report_of};
 ghost use Rattle.wasm_lines.specs.Listing.{encoding_name as name_of, field, fault_number, report_text};
-ghost use Rattle.wasm_grammar.specs.Reading.{code_start, counted};
+ghost use Rattle.wasm_grammar.specs.Reading.{code_start};
 
 use crate::digits::write_number;
 use crate::short_text::{ShortText, write_word};
 use std::ops::Range;
-use wasm_grammar::{
-    DATA_SECTION, ELEMENT_SECTION, EXPORT_SECTION, FUNCTION_SECTION, GLOBAL_SECTION,
-    IMPORT_SECTION, MEMORY_SECTION, TABLE_SECTION, TAG_SECTION, TYPE_SECTION,
-};
-use wasm_parser::{Encoding, Error, Payload, SectionLimited};
+use wasm_parser::{CountedSection, Encoding, Error, Payload};
 
-fn encoding_name(encoding: Encoding) -> &'static str
+/// The name of an encoding, which has no line feed.
+pub fn encoding_name(encoding: Encoding) -> &'static str
     ensures name { result.now ≡ name_of encoding }
     ensures short { length result.now ≤ 9 }
+    ensures one_line { list_any (λ b. nat_eq b 10) result.now ≡ false }
 {
     match encoding {
         Encoding::Module => "module",
@@ -49,20 +48,19 @@ fn write_range(bytes: &mut [u8], at: usize, word: &str, range: &Range<u64>, numb
     write_field(bytes, at, number)
 }
 
-// Writes a section with this id.
-#[tactic(auto, unfolding(crate::specs::Listing::report_text))]
-fn write_counted<T>(bytes: &mut [u8], at: usize, id: u8, section: &SectionLimited<'_, T>) -> usize
+// Writes a section that begins with a count.
+fn write_counted(bytes: &mut [u8], at: usize, section: &CountedSection) -> usize
     requires { at + 100 ≤ length bytes.old }
     ensures short { result ≤ at + 100 }
     ensures written { take result bytes.new ≡ take at bytes.old
-        ++ report_text (counted id section.now.count section.now.reader) }
+        ++ (codes "section" ++ (field section.now.id ++ ((field section.now.range.start
+        ++ field section.now.range.end) ++ field section.now.count))) }
 {
-    let range = section.range();
     let at = write_word(bytes, at, "section");
-    let at = write_field(bytes, at, u64::from(id));
-    let at = write_field(bytes, at, range.start);
-    let at = write_field(bytes, at, range.end);
-    write_field(bytes, at, u64::from(section.count()))
+    let at = write_field(bytes, at, u64::from(section.id));
+    let at = write_field(bytes, at, section.range.start);
+    let at = write_field(bytes, at, section.range.end);
+    write_field(bytes, at, u64::from(section.count))
 }
 
 // Writes the start of a code section.
@@ -171,18 +169,8 @@ pub fn write_payload(bytes: &mut [u8], at: usize, payload: &Payload) -> usize
             encoding,
             range,
         } => write_version(bytes, at, *num, *encoding, range),
-        Payload::TypeSection(section) => write_counted(bytes, at, TYPE_SECTION, section),
-        Payload::ImportSection(section) => write_counted(bytes, at, IMPORT_SECTION, section),
-        Payload::FunctionSection(section) => write_counted(bytes, at, FUNCTION_SECTION, section),
-        Payload::TableSection(section) => write_counted(bytes, at, TABLE_SECTION, section),
-        Payload::MemorySection(section) => write_counted(bytes, at, MEMORY_SECTION, section),
-        Payload::TagSection(section) => write_counted(bytes, at, TAG_SECTION, section),
-        Payload::GlobalSection(section) => write_counted(bytes, at, GLOBAL_SECTION, section),
-        Payload::ExportSection(section) => write_counted(bytes, at, EXPORT_SECTION, section),
         Payload::StartSection { func, range } => { write_start(bytes, at, range, *func) }
-        Payload::ElementSection(section) => write_counted(bytes, at, ELEMENT_SECTION, section),
         Payload::DataCountSection { count, range } => { write_data_count(bytes, at, range, *count) }
-        Payload::DataSection(section) => write_counted(bytes, at, DATA_SECTION, section),
         Payload::CodeSectionStart {
             count,
             unchecked_range,
@@ -194,6 +182,10 @@ pub fn write_payload(bytes: &mut [u8], at: usize, payload: &Payload) -> usize
         }
         Payload::UnknownSection { id, range, .. } => write_unknown(bytes, at, *id, range),
         Payload::End(offset) => write_end(bytes, at, *offset),
+        _ => match payload.as_counted() {
+            Some(section) => write_counted(bytes, at, &section),
+            None => unreachable!(),
+        },
     }
 }
 

@@ -5,7 +5,7 @@ use Rattle.std.specs.Prelude.{IfSome, Result, Ok, Err, MatchResult, if◌then◌
 use Rattle.wasm_base.specs.FaultAt.{FaultAt, fault_at, hint_of, at_offset}
 use Rattle.wasm_base.specs.Number.{unsigned_at}
 use Rattle.wasm_base.specs.Section.{Section}
-use Rattle.wasm_base.specs.Window.{Window, Place, place, advanced}
+use Rattle.wasm_base.specs.Window.{Window, Place, place, advanced, range_of}
 use Rattle.wasm_base.specs.declared.error.Error.{Error}
 use Rattle.wasm_base.specs.declared.fault.Fault.TheVariants.{OffsetRange}
 use Rattle.wasm_base.specs.declared.fault.NumberKind.TheVariants.{VarU32}
@@ -17,6 +17,7 @@ use Rattle.wasm_items.specs.Windows.{body_window}
 use Rattle.wasm_parser.specs.ParserState.{ParserState, grammar_of, ended_state}
 use Rattle.wasm_parser.specs.StateAfter.{state_after, state_after_tile}
 use Rattle.wasm_grammar.specs.Waiting.{Waiting, enough, wants, asked, waiting}
+use Rattle.wasm_parser.specs.declared.payload.CountedSection.{CountedSection}
 use Rattle.wasm_parser.specs.declared.payload.Payload.{Payload}
 use Rattle.wasm_parser.specs.declared.payload.Payload.TheVariants.{Version, TypeSection, ImportSection, FunctionSection}
 use Rattle.wasm_parser.specs.declared.payload.Payload.TheVariants.{TableSection, MemorySection, TagSection}
@@ -76,6 +77,12 @@ items_in (ExportSection s) = Some (export_id, s)
 items_in (ElementSection s) = Some (element_id, s)
 items_in (DataSection s) = Some (data_id, s)
 items_in other = None
+
+-- a section that begins with a count of items: its id, the count, and the offsets of its content. Core specification,
+-- Binary format, Modules, Sections.
+abbrev pub counted_in : Report → Option CountedSection
+counted_in (counted id count window) = Some (record { id = id; count = count; range = range_of window })
+counted_in other = None
 
 -- The reader in a payload is where the items begin.
 abbrev pub ItemsBegin : Payload → Type 0

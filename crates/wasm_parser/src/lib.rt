@@ -14,6 +14,7 @@ pub use checkpoint::Checkpoint;
 pub use parse_all::ParseAll;
 pub use parser::Parser;
 pub use payload::Chunk;
+pub use payload::CountedSection;
 pub use payload::Payload;
 pub use payload::SectionParts;
 pub use wasm_base::_MAX_WASM_TABLE_SIZE;

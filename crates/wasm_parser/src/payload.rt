@@ -1,6 +1,6 @@
 // What a parser says of a stream.
 ghost use Rattle.std.specs.Prelude.{◌≡◌};
-ghost use Rattle.wasm_parser.specs.ParseAnswer.{report_of};
+ghost use Rattle.wasm_parser.specs.ParseAnswer.{counted_in, report_of};
 ghost use Rattle.wasm_grammar.specs.Reading.{counted};
 ghost use Rattle.wasm_grammar.specs.Sections.{parts_of, section_of};
 
@@ -113,14 +113,50 @@ pub enum Chunk<'a> {
 /// The id of the section that a payload is, the offsets of its content in the whole stream, and its count, if it has one.
 pub type SectionParts = (u8, Range<u64>, Option<u32>);
 
-// The same of a section with this id that begins with a count of items.
-fn counted_parts<T>(id: u8, section: &SectionLimited<'_, T>) -> Option<SectionParts>
-    ensures { result ≡ parts_of (counted id section.now.count section.now.reader) }
+/// A section that begins with a count of items, whatever their type.
+#[derive(Drop)]
+pub struct CountedSection {
+    /// The section's id.
+    pub id: u8,
+    /// How many items it announces.
+    pub count: u32,
+    /// The offsets of its content in the whole stream, the count among it.
+    pub range: Range<u64>,
+}
+
+// The section with this id.
+#[inline(always)]
+fn counted_section<T>(id: u8, section: &SectionLimited<'_, T>) -> Option<CountedSection>
+    ensures { result ≡ counted_in (counted id section.now.count section.now.reader) }
 {
-    Some((id, section.range(), Some(section.count())))
+    Some(CountedSection {
+        id,
+        count: section.count(),
+        range: section.range(),
+    })
 }
 
 impl<'a> Payload<'a> {
+    /// The section that this is, if it is one that begins with a count of items. A code section is none: its bodies are payloads.
+    #[inline(always)]
+    pub fn as_counted(&self) -> Option<CountedSection>
+        ensures { result ≡ counted_in (report_of self.now) }
+    {
+        match self {
+            Payload::TypeSection(section) => counted_section(TYPE_SECTION, section),
+            Payload::ImportSection(section) => counted_section(IMPORT_SECTION, section),
+            Payload::FunctionSection(section) => counted_section(FUNCTION_SECTION, section),
+            Payload::TableSection(section) => counted_section(TABLE_SECTION, section),
+            Payload::MemorySection(section) => counted_section(MEMORY_SECTION, section),
+            Payload::TagSection(section) => counted_section(TAG_SECTION, section),
+            Payload::GlobalSection(section) => counted_section(GLOBAL_SECTION, section),
+            Payload::ExportSection(section) => counted_section(EXPORT_SECTION, section),
+            Payload::ElementSection(section) => counted_section(ELEMENT_SECTION, section),
+            Payload::DataSection(section) => counted_section(DATA_SECTION, section),
+            _ => None,
+        }
+    }
+
     /// The id of the section that this is, and the offsets of its content in the whole stream: from the first byte
     /// after its length up to its end. A header, a body and the end are none; a code section is its start.
     pub fn as_section(&self) -> Option<(u8, Range<u64>)>
@@ -137,16 +173,6 @@ impl<'a> Payload<'a> {
         ensures { result ≡ parts_of (report_of self.now) }
     {
         match self {
-            Payload::TypeSection(section) => counted_parts(TYPE_SECTION, section),
-            Payload::ImportSection(section) => counted_parts(IMPORT_SECTION, section),
-            Payload::FunctionSection(section) => counted_parts(FUNCTION_SECTION, section),
-            Payload::TableSection(section) => counted_parts(TABLE_SECTION, section),
-            Payload::MemorySection(section) => counted_parts(MEMORY_SECTION, section),
-            Payload::TagSection(section) => counted_parts(TAG_SECTION, section),
-            Payload::GlobalSection(section) => counted_parts(GLOBAL_SECTION, section),
-            Payload::ExportSection(section) => counted_parts(EXPORT_SECTION, section),
-            Payload::ElementSection(section) => counted_parts(ELEMENT_SECTION, section),
-            Payload::DataSection(section) => counted_parts(DATA_SECTION, section),
             Payload::StartSection { range, .. } => Some((
                 START_SECTION,
                 range.start..range.end,
@@ -168,7 +194,10 @@ impl<'a> Payload<'a> {
             )),
             Payload::CustomSection(section) => Some((CUSTOM_SECTION, section.range(), None)),
             Payload::UnknownSection { id, range, .. } => Some((*id, range.start..range.end, None)),
-            Payload::Version { .. } | Payload::CodeSectionEntry(_) | Payload::End(_) => None,
+            _ => match self.as_counted() {
+                Some(section) => Some((section.id, section.range, Some(section.count))),
+                None => None,
+            },
         }
     }
 }

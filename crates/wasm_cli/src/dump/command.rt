@@ -6,7 +6,7 @@ ghost use Rattle.wasm_cli.specs.Words.{rest_given, words_of};
 
 use super::options::Options;
 use super::words::{Rest, Split, split_words};
-use crate::arguments::is_no_text;
+use crate::common::is_no_text;
 use std::alloc::Global;
 use std::env::Args;
 use std::io;

@@ -6,7 +6,7 @@ use super::command::Named;
 use super::options::Options;
 use super::program::{answer, dump_as, refuse_names, show_input};
 use super::words::{Rest, chosen_by};
-use crate::messages::{complain, give_up};
+use crate::common::{complain, give_up};
 use std::alloc::Global;
 use std::env::Args;
 use std::fs;

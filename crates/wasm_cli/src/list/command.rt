@@ -4,7 +4,7 @@ ghost use Rattle.std.specs.Vec.Iter.{into_iter_items};
 ghost use Rattle.wasm_cli.specs.ListCommands.{command_of as command_by, command_named as command_by_name};
 ghost use Rattle.wasm_cli.specs.ListRuns.{command_after_name as command_if_any};
 
-use crate::arguments::is_no_text;
+use crate::common::is_no_text;
 use std::env::Args;
 use std::io;
 

@@ -8,9 +8,7 @@ ghost use Rattle.wasm_cli.specs.ListRuns.{Runs, RunsListing, RunsProgram, comman
 
 use super::command::{Command, command_asked, command_of};
 use super::stripping::strip_input;
-use crate::ending::finish;
-use crate::messages::{complain, give_up};
-use crate::pieces::PIECE;
+use crate::common::{PIECE, complain, finish, give_up};
 use std::alloc::Global;
 use std::env::{self, Args};
 use std::io::{self, Write};

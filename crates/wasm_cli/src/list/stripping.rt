@@ -3,8 +3,7 @@ ghost use Rattle.wasm_lines.specs.Calls.{input_failed, device_of};
 ghost use Rattle.wasm_cli.specs.Strips.{ReadsAll, ReadsPiece, Refuses, RunsStripping, WritesStripped};
 ghost use Rattle.std.specs.Prelude.{◌≡◌, ◌<◌, length};
 
-use crate::messages::{complain, give_up};
-use crate::pieces::read_buffer;
+use crate::common::{complain, give_up, read_buffer};
 use std::alloc::Global;
 use wasm_feed::{ListError, Sink, Source, strip_in_place, write_all};
 use wasm_parser::Error;

@@ -16,7 +16,7 @@ use wasm_parser::{Chunk, Parser, fits};
 const SMALL_PIECE: usize = 512;
 
 /// The bytes that a step reads: those that are stored, or the piece where there are none.
-pub(crate) fn seen<'a>(stored: &'a [u8], piece: &'a [u8]) -> &'a [u8]
+pub fn seen<'a>(stored: &'a [u8], piece: &'a [u8]) -> &'a [u8]
     ensures { result.now ≡ seen stored.now piece.now }
 {
     if stored.is_empty() { piece } else { stored }

@@ -4,7 +4,9 @@ ghost use Rattle.std.specs.Prelude.{◌≡◌, false};
 use super::ends;
 use std::io::{self, Write};
 use std::test::Fail;
-use wasm_feed::{BoundedSink, Ended, Failed, ListError, ReadSource, Sink, SliceSource, Source, WriteSink};
+use wasm_feed::{
+    BoundedSink, Ended, Failed, ListError, ReadSource, Sink, SliceSource, Source, WriteSink,
+};
 
 /// A source of the bytes of a slice, a few at a time, that fails at one call.
 #[derive(Drop)]

@@ -4,9 +4,9 @@ mod worked;
 use std::alloc::Global;
 use std::process::Abort;
 use std::test::Fail;
+use wasm_dumper::{Only, Shown, dump};
 use wasm_feed::{BoundedSink, Ended, Failed, ListError, SliceSource, Source};
 use wasm_parser::{Error, Fault};
-use wasm_dumper::{dump, Only, Shown};
 use wasm_tree::Tree;
 
 /// A module with an item in each of its sections, and names that don't ascend.

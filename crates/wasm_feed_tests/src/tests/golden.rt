@@ -4,8 +4,8 @@ use super::listings::lists_as;
 use std::alloc::Global;
 use std::process::Abort;
 use std::test::Fail;
-use wasm_feed::Ended;
 use wasm_dumper::Only;
+use wasm_feed::Ended;
 
 /// A stream with each kind of fault, and its listing.
 const LISTINGS: [(&[u8], &[u8]); 18] = [

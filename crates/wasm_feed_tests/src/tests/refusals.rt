@@ -3,7 +3,7 @@ use super::lists;
 use std::alloc::Global;
 use std::process::Abort;
 use std::test::Fail;
-use wasm_feed::{BoundedSink, Ended, list_in, ListError, Sink, SliceSource, Source};
+use wasm_feed::{BoundedSink, Ended, ListError, Sink, SliceSource, Source, list_in};
 use wasm_test_heap::Sparing;
 
 /// A stream, and its listing.

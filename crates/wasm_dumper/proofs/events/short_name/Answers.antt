@@ -1,5 +1,5 @@
 use Rattle.wasm_dumper.proofs.Lines.{short_if_any}
-use Rattle.wasm_dumper.proofs.heading.short_name.Goals as goal
+use Rattle.wasm_dumper.proofs.events.short_name.Goals as goal
 
 pub returns-clause-short : goal.returns-clause-short
 returns-clause-short c = short_if_any (λ n. n.now) c.args.id _ c.section_name.ensures

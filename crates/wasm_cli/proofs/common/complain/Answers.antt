@@ -4,7 +4,7 @@ use Rattle.std.specs.Io.KnownBytes.{Appends}
 use Rattle.wasm_lines.specs.Calls.{Device}
 use Rattle.wasm_cli.specs.Devices.{Says}
 use Rattle.wasm_lines.specs.declared.devices.Failed.{Failed}
-use Rattle.wasm_cli.proofs.messages.complain.Goals as goal
+use Rattle.wasm_cli.proofs.common.complain.Goals as goal
 
 says : (r : Result (Unit {0}) Failed) (device : Device) (message : List ℕ) → OnOk r (Appends device.before device.after message)
     → OnErr r ((n : ℕ) × Appends device.before device.after (take n message)) → device.has_failed

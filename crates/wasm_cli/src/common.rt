@@ -1,0 +1,70 @@
+// What the programs have in common: what they read at once, what they say where they are given up, and how they end.
+ghost use Rattle.std.specs.Prelude.{◌≡◌, IfOk, vec_len};
+ghost use Rattle.std.specs.IoError.{error_kind};
+ghost use Rattle.wasm_cli.specs.Arguments.{is_no_text as is_no_text_of};
+ghost use Rattle.wasm_cli.specs.Devices.{Says, complaint_of};
+ghost use Rattle.wasm_cli.specs.Endings.{Finishes};
+ghost use Rattle.wasm_lines.specs.Calls.{device_of, writer_device};
+
+use std::alloc::{AllocError, Global};
+use std::io::{Error, ErrorKind, Write};
+use wasm_feed::{ListError, Sink, WriteSink, write_all};
+
+/// How many bytes of the input are read at once.
+pub const PIECE: usize = 65_536;
+
+/// Room for them.
+pub fn read_buffer(alloc: Global) -> Result<Vec<u8>, AllocError>
+    ensures { IfOk result (λ buffer. vec_len buffer ≡ 65536) }
+{
+    vec![in alloc; 0u8; PIECE]
+}
+
+/// Whether the arguments could not be had since one of them is no text; otherwise memory for them was refused.
+pub fn is_no_text(error: &Error) -> bool
+    ensures { result ≡ is_no_text_of (error_kind error.now) }
+{
+    match error.kind() {
+        ErrorKind::InvalidData => true,
+        _ => false,
+    }
+}
+
+/// Says why the program gives up, and answers the status of that.
+pub fn give_up<E: Sink>(errors: &mut E, why: ListError) -> u8
+    ensures status { result ≡ 3 }
+    ensures says { Says (device_of E.taken E.has_failed errors.old errors.new) (complaint_of why) }
+{
+    complain(errors, message(why));
+    3
+}
+
+/// Writes a message, as far as the sink takes it.
+pub fn complain<E: Sink>(errors: &mut E, message: &[u8])
+    ensures { Says (device_of E.taken E.has_failed errors.old errors.new) message.now }
+{
+    let _ = write_all(errors, message);
+}
+
+// What is said of a run that was given up.
+fn message(error: ListError) -> &'static [u8]
+    ensures { result.now ≡ complaint_of error }
+{
+    match error {
+        ListError::Input => b"input failed\n",
+        ListError::Output => b"output failed\n",
+        ListError::Memory => b"out of memory\n",
+    }
+}
+
+/// Hands on all that was written, after a status of 0 or 1, and answers the status that then holds.
+pub fn finish<W: Write, E: Sink>(status: u8, output: &mut WriteSink<W>, errors: &mut E) -> u8
+    ensures { Finishes status output.new.handed_on
+        (writer_device W.contents output.old output.new)
+        (device_of E.taken E.has_failed errors.old errors.new) result }
+{
+    if status < 2 && output.flush().is_err() {
+        return give_up(errors, ListError::Output);
+    }
+    status
+}
