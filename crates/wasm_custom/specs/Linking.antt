@@ -149,11 +149,17 @@ symbol_parts (Symbols.Table flags index name) = indexed 5 (symbol_bits flags) in
 symbol_parts (Symbols.Data flags name symbol) = data_symbol (symbol_bits flags) name.now symbol
 symbol_parts (Symbols.Section flags section) = section_symbol (symbol_bits flags) section
 
-abbrev pub indexed_symbol_at : (kind flags : ℕ) → Place → Outcome SymbolParts
-indexed_symbol_at kind flags p = do
+-- the index of a symbol, and its name, where it is written
+unfoldable pub index_and_name_at : (flags : ℕ) → Place → Outcome (ℕ × Option (List ℕ))
+index_and_name_at flags p = do
   index ← unsigned_at VarU32 p
   name ← symbol_name_at flags index.1
-  Ok (indexed kind flags index.0 name.0, name.1)
+  Ok ((index.0, name.0), name.1)
+
+abbrev pub indexed_symbol_at : (kind flags : ℕ) → Place → Outcome SymbolParts
+indexed_symbol_at kind flags p = do
+  symbol ← index_and_name_at flags p
+  Ok (indexed kind flags symbol.0.0 symbol.0.1, symbol.1)
 
 abbrev pub data_symbol_at : (flags : ℕ) → Place → Outcome SymbolParts
 data_symbol_at flags p = do

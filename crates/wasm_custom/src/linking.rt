@@ -9,7 +9,7 @@ ghost use Rattle.wasm_base.specs.Outcome.{GivesBy, GivesResult};
 ghost use Rattle.wasm_base.specs.Subsections.{NextSubsection, ReadsWindowAs};
 ghost use Rattle.wasm_base.specs.Window.{place, KeepsWindow};
 ghost use Rattle.wasm_custom.specs.Flags.{symbol_bits};
-ghost use Rattle.wasm_custom.specs.Linking.{comdat_kinds, comdat_symbol_at, symbol_name_at, text_if_any, data_place_at, linking_in, linking_parts, linking_subsection_in};
+ghost use Rattle.wasm_custom.specs.Linking.{comdat_kinds, comdat_symbol_at, symbol_name_at, index_and_name_at, text_if_any, data_place_at, linking_in, linking_parts, linking_subsection_in};
 
 use crate::flags::{SegmentFlags, SymbolFlags};
 use bitflags::Flags;
@@ -305,6 +305,22 @@ fn read_name<'a>(flags: SymbolFlags, reader: &mut BinaryReader<'a>) -> Result<Op
     Ok(None)
 }
 
+// The index of a symbol, and its name where it is written.
+#[tactic(auto, unfolding(crate::specs::Linking::index_and_name_at))]
+fn read_indexed<'a>(
+    flags: SymbolFlags,
+    reader: &mut BinaryReader<'a>,
+) -> Result<(u32, Option<&'a str>)>
+    ensures gives { GivesBy (λ both. (both.0, text_if_any both.1 (λ text. text.now))) result
+        reader.old reader.new (index_and_name_at (symbol_bits flags)) }
+    ensures keeps { KeepsWindow reader.old reader.new }
+    ensures memory { TakesNoMemory result }
+{
+    let index = reader.read_var_u32()?;
+    let name = read_name(flags, reader)?;
+    Ok((index, name))
+}
+
 // Where data is, if it is defined in this module.
 #[tactic(auto, unfolding(crate::specs::Linking::data_place_at))]
 fn read_data_place(
@@ -338,8 +354,7 @@ impl<'a> FromReader<'a> for SymbolInfo<'a> {
         let flags = SymbolFlags::from_reader(reader)?;
         match kind {
             0 => {
-                let index = reader.read_var_u32()?;
-                let name = read_name(flags, reader)?;
+                let (index, name) = read_indexed(flags, reader)?;
                 Ok(SymbolInfo::Func { flags, index, name })
             }
             1 => {
@@ -352,8 +367,7 @@ impl<'a> FromReader<'a> for SymbolInfo<'a> {
                 })
             }
             2 => {
-                let index = reader.read_var_u32()?;
-                let name = read_name(flags, reader)?;
+                let (index, name) = read_indexed(flags, reader)?;
                 Ok(SymbolInfo::Global { flags, index, name })
             }
             3 => {
@@ -361,13 +375,11 @@ impl<'a> FromReader<'a> for SymbolInfo<'a> {
                 Ok(SymbolInfo::Section { flags, section })
             }
             4 => {
-                let index = reader.read_var_u32()?;
-                let name = read_name(flags, reader)?;
+                let (index, name) = read_indexed(flags, reader)?;
                 Ok(SymbolInfo::Event { flags, index, name })
             }
             5 => {
-                let index = reader.read_var_u32()?;
-                let name = read_name(flags, reader)?;
+                let (index, name) = read_indexed(flags, reader)?;
                 Ok(SymbolInfo::Table { flags, index, name })
             }
             byte => Err(leading_byte_error(Lead::Symbol, byte, start)),
@@ -409,11 +421,11 @@ impl<'a> Subsection<'a> for Linking<'a> {
     #[tactic(auto, unfolding(crate::specs::Linking::linking_subsection_in))]
     fn from_reader(_alloc: Global, id: u8, mut reader: BinaryReader<'a>) -> Result<Self> {
         match id {
-            5 => Ok(Linking::SegmentInfo(SectionLimited::new(reader)?)),
-            6 => Ok(Linking::InitFuncs(SectionLimited::new(reader)?)),
-            7 => Ok(Linking::ComdatInfo(SectionLimited::new(reader)?)),
-            8 => Ok(Linking::SymbolTable(SectionLimited::new(reader)?)),
-            9 => Ok(Linking::TargetArch(reader.read_string()?)),
+            5 => SectionLimited::new(reader).map(Linking::SegmentInfo),
+            6 => SectionLimited::new(reader).map(Linking::InitFuncs),
+            7 => SectionLimited::new(reader).map(Linking::ComdatInfo),
+            8 => SectionLimited::new(reader).map(Linking::SymbolTable),
+            9 => reader.read_string().map(Linking::TargetArch),
             _ => Ok(Linking::Unknown {
                 ty: id,
                 contents: reader.remaining_buffer(),

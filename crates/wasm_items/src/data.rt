@@ -4,7 +4,7 @@ ghost use Rattle.wasm_base.specs.Hints.{TakesNoMemory};
 ghost use Rattle.wasm_base.specs.Item.{ReadsAs};
 ghost use Rattle.wasm_base.specs.Outcome.{GivesBy};
 ghost use Rattle.wasm_base.specs.Window.{place, KeepsWindow};
-ghost use Rattle.wasm_items.specs.Data.{data_kind_at};
+ghost use Rattle.wasm_items.specs.Data.{active_data_at, data_kind_at};
 
 use crate::init::ConstExpr;
 use std::ops::Range;
@@ -38,6 +38,19 @@ pub enum DataKind<'a> {
     },
 }
 
+// An active segment, after its memory's index.
+fn read_active<'a>(memory_index: u32, reader: &mut BinaryReader<'a>) -> Result<DataKind<'a>>
+    ensures gives { GivesBy (λ kind. kind) result reader.old reader.new (active_data_at memory_index) }
+    ensures keeps { KeepsWindow reader.old reader.new }
+    ensures memory { TakesNoMemory result }
+{
+    let offset_expr = ConstExpr::from_reader(reader)?;
+    Ok(DataKind::Active {
+        memory_index,
+        offset_expr,
+    })
+}
+
 // What becomes of a segment, by its flags.
 #[tactic(auto, unfolding(crate::specs::Data::data_kind_at))]
 fn read_kind<'a>(reader: &mut BinaryReader<'a>) -> Result<DataKind<'a>>
@@ -47,15 +60,12 @@ fn read_kind<'a>(reader: &mut BinaryReader<'a>) -> Result<DataKind<'a>>
 {
     let start = reader.original_position();
     match reader.read_var_u32()? {
-        0 => Ok(DataKind::Active {
-            memory_index: 0,
-            offset_expr: ConstExpr::from_reader(reader)?,
-        }),
+        0 => read_active(0, reader),
         1 => Ok(DataKind::Passive),
-        2 => Ok(DataKind::Active {
-            memory_index: reader.read_var_u32()?,
-            offset_expr: ConstExpr::from_reader(reader)?,
-        }),
+        2 => {
+            let memory_index = reader.read_var_u32()?;
+            read_active(memory_index, reader)
+        }
         _ => Err(Error::new(Fault::DataFlags, start)),
     }
 }

@@ -4,7 +4,7 @@ ghost use Rattle.wasm_base.specs.Hints.{TakesNoMemory};
 ghost use Rattle.wasm_base.specs.Item.{ReadsAs};
 ghost use Rattle.wasm_base.specs.Outcome.{GivesBy};
 ghost use Rattle.wasm_base.specs.Window.{place, KeepsWindow};
-ghost use Rattle.wasm_items.specs.Elements.{element_flags_at, element_kind_at, after_element_kind, function_elements_at, element_type_at, expression_elements_at, is_typed};
+ghost use Rattle.wasm_items.specs.Elements.{active_element_at, element_flags_at, element_kind_at, after_element_kind, function_elements_at, element_type_at, elements_at, expression_elements_at, is_typed};
 
 use crate::exports::ExternalKind;
 use crate::init::ConstExpr;
@@ -77,6 +77,22 @@ fn read_flags(reader: &mut BinaryReader<'_>) -> Result<u8>
     Ok(flags as u8)
 }
 
+// An active segment, after its table's index.
+fn read_active<'a>(
+    table_index: Option<u32>,
+    reader: &mut BinaryReader<'a>,
+) -> Result<ElementKind<'a>>
+    ensures gives { GivesBy (λ kind. kind) result reader.old reader.new (active_element_at table_index) }
+    ensures keeps { KeepsWindow reader.old reader.new }
+    ensures memory { TakesNoMemory result }
+{
+    let offset_expr = ConstExpr::from_reader(reader)?;
+    Ok(ElementKind::Active {
+        table_index,
+        offset_expr,
+    })
+}
+
 // What becomes of a segment with these flags.
 #[tactic(auto, unfolding(crate::specs::Elements::element_kind_at))]
 fn read_kind<'a>(flags: u8, reader: &mut BinaryReader<'a>) -> Result<ElementKind<'a>>
@@ -91,15 +107,10 @@ fn read_kind<'a>(flags: u8, reader: &mut BinaryReader<'a>) -> Result<ElementKind
         return Ok(ElementKind::Passive);
     }
     if has_flag(flags, IS_INDEXED_OR_DECLARED) {
-        return Ok(ElementKind::Active {
-            table_index: Some(reader.read_var_u32()?),
-            offset_expr: ConstExpr::from_reader(reader)?,
-        });
+        let table_index = reader.read_var_u32()?;
+        return read_active(Some(table_index), reader);
     }
-    Ok(ElementKind::Active {
-        table_index: None,
-        offset_expr: ConstExpr::from_reader(reader)?,
-    })
+    read_active(None, reader)
 }
 
 // Whether the kind or the type of the elements is written.
@@ -161,6 +172,18 @@ fn read_typed<'a>(flags: u8, reader: &mut BinaryReader<'a>) -> Result<ElementIte
     Ok(ElementItems::Expressions(ty, read_inner(reader)?))
 }
 
+// The elements of a segment with these flags.
+fn read_items<'a>(flags: u8, reader: &mut BinaryReader<'a>) -> Result<ElementItems<'a>>
+    ensures gives { GivesBy (λ items. items) result reader.old reader.new (elements_at flags) }
+    ensures keeps { KeepsWindow reader.old reader.new }
+    ensures memory { TakesNoMemory result }
+{
+    if has_flag(flags, HAS_EXPRESSIONS) {
+        return read_typed(flags, reader);
+    }
+    read_functions(flags, reader)
+}
+
 /// Flags, a u32 below 8; a table's index and the expression of an offset, as the flags say; the kind or the type of the
 /// elements, where it is written; then a list of functions or of expressions.
 ///
@@ -176,11 +199,7 @@ impl<'a> FromReader<'a> for Element<'a> {
         let start = reader.original_position();
         let flags = read_flags(reader)?;
         let kind = read_kind(flags, reader)?;
-        let items = if has_flag(flags, HAS_EXPRESSIONS) {
-            read_typed(flags, reader)?
-        } else {
-            read_functions(flags, reader)?
-        };
+        let items = read_items(flags, reader)?;
         Ok(Element {
             kind,
             items,

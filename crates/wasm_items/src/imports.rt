@@ -90,12 +90,12 @@ impl<'a> FromReader<'a> for TypeRef {
     #[tactic(auto, unfolding(crate::specs::Imports::type_ref_at))]
     fn from_reader(reader: &mut BinaryReader<'a>) -> Result<Self> {
         match ExternalKind::from_reader(reader)? {
-            ExternalKind::Func => Ok(TypeRef::Func(reader.read_var_u32()?)),
-            ExternalKind::Table => Ok(TypeRef::Table(reader.read()?)),
-            ExternalKind::Memory => Ok(TypeRef::Memory(reader.read()?)),
-            ExternalKind::Global => Ok(TypeRef::Global(reader.read()?)),
-            ExternalKind::Tag => Ok(TypeRef::Tag(reader.read()?)),
-            ExternalKind::FuncExact => Ok(TypeRef::FuncExact(reader.read_var_u32()?)),
+            ExternalKind::Func => reader.read_var_u32().map(TypeRef::Func),
+            ExternalKind::Table => reader.read().map(TypeRef::Table),
+            ExternalKind::Memory => reader.read().map(TypeRef::Memory),
+            ExternalKind::Global => reader.read().map(TypeRef::Global),
+            ExternalKind::Tag => reader.read().map(TypeRef::Tag),
+            ExternalKind::FuncExact => reader.read_var_u32().map(TypeRef::FuncExact),
         }
     }
 }

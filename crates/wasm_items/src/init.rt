@@ -175,39 +175,38 @@ pub(crate) fn read_operands(
     ensures keeps { KeepsWindow reader.old reader.new }
     ensures memory { TakesNoMemory result }
 {
-    let operator = match opcode {
-        0x23 => ConstOperator::GlobalGet {
+    match opcode {
+        0x23 => Ok(ConstOperator::GlobalGet {
             global_index: reader.read_var_u32()?,
-        },
-        0x41 => ConstOperator::I32Const {
+        }),
+        0x41 => Ok(ConstOperator::I32Const {
             value: reader.read_var_i32()?,
-        },
-        0x42 => ConstOperator::I64Const {
+        }),
+        0x42 => Ok(ConstOperator::I64Const {
             value: reader.read_var_i64()?,
-        },
-        0x43 => ConstOperator::F32Const {
+        }),
+        0x43 => Ok(ConstOperator::F32Const {
             value: reader.read_f32()?,
-        },
-        0x44 => ConstOperator::F64Const {
+        }),
+        0x44 => Ok(ConstOperator::F64Const {
             value: reader.read_f64()?,
-        },
-        0x6a => ConstOperator::I32Add,
-        0x6b => ConstOperator::I32Sub,
-        0x6c => ConstOperator::I32Mul,
-        0x7c => ConstOperator::I64Add,
-        0x7d => ConstOperator::I64Sub,
-        0x7e => ConstOperator::I64Mul,
-        0xd0 => ConstOperator::RefNull {
+        }),
+        0x6a => Ok(ConstOperator::I32Add),
+        0x6b => Ok(ConstOperator::I32Sub),
+        0x6c => Ok(ConstOperator::I32Mul),
+        0x7c => Ok(ConstOperator::I64Add),
+        0x7d => Ok(ConstOperator::I64Sub),
+        0x7e => Ok(ConstOperator::I64Mul),
+        0xd0 => Ok(ConstOperator::RefNull {
             hty: HeapType::from_reader(reader)?,
-        },
-        0xd2 => ConstOperator::RefFunc {
+        }),
+        0xd2 => Ok(ConstOperator::RefFunc {
             function_index: reader.read_var_u32()?,
-        },
-        0xfb => read_aggregate(start, reader)?,
-        0xfd => read_vector_constant(start, reader)?,
-        _ => return Err(Error::new(Fault::NotConstant, start)),
-    };
-    Ok(operator)
+        }),
+        0xfb => read_aggregate(start, reader),
+        0xfd => read_vector_constant(start, reader),
+        _ => Err(Error::new(Fault::NotConstant, start)),
+    }
 }
 
 // The same where the opcode is that of structures, arrays and references, and a number follows.
@@ -217,29 +216,28 @@ fn read_aggregate(start: u64, reader: &mut BinaryReader<'_>) -> Result<ConstOper
     ensures keeps { KeepsWindow reader.old reader.new }
     ensures memory { TakesNoMemory result }
 {
-    let operator = match reader.read_var_u32()? {
-        0 => ConstOperator::StructNew {
+    match reader.read_var_u32()? {
+        0 => Ok(ConstOperator::StructNew {
             struct_type_index: reader.read_var_u32()?,
-        },
-        1 => ConstOperator::StructNewDefault {
+        }),
+        1 => Ok(ConstOperator::StructNewDefault {
             struct_type_index: reader.read_var_u32()?,
-        },
-        6 => ConstOperator::ArrayNew {
+        }),
+        6 => Ok(ConstOperator::ArrayNew {
             array_type_index: reader.read_var_u32()?,
-        },
-        7 => ConstOperator::ArrayNewDefault {
+        }),
+        7 => Ok(ConstOperator::ArrayNewDefault {
             array_type_index: reader.read_var_u32()?,
-        },
-        8 => ConstOperator::ArrayNewFixed {
+        }),
+        8 => Ok(ConstOperator::ArrayNewFixed {
             array_type_index: reader.read_var_u32()?,
             array_size: reader.read_var_u32()?,
-        },
-        26 => ConstOperator::AnyConvertExtern,
-        27 => ConstOperator::ExternConvertAny,
-        28 => ConstOperator::RefI31,
-        _ => return Err(Error::new(Fault::NotConstant, start)),
-    };
-    Ok(operator)
+        }),
+        26 => Ok(ConstOperator::AnyConvertExtern),
+        27 => Ok(ConstOperator::ExternConvertAny),
+        28 => Ok(ConstOperator::RefI31),
+        _ => Err(Error::new(Fault::NotConstant, start)),
+    }
 }
 
 // The same where the opcode is that of vectors, and a number follows.
