@@ -1,12 +1,10 @@
-use Rattle.std.proofs.Common.{refl, ◌∙◌, arith}
-use Rattle.std.proofs.lemmas.Grind.{common_steps}
+use Rattle.std.proofs.Common.{ap, ◌∙◌, ◌≡◌, refl, subst, List, ℕ}
 use Rattle.std.proofs.lemmas.Result.{err_from_is_err_and}
-use Rattle.wasm_dumper.proofs.Dumping.{starts_beside, shows_step, advanced, asked, same_going, stopped, stopped_at_last, stopped_before}
-use Rattle.wasm_dumper.proofs.Dumping.{ended, filled, not_filled}
-use Rattle.wasm_feed.specs.Feed.{empty_feed}
-use Rattle.std.proofs.Common.{ap, sym, subst, List, ℕ, ◌≡◌}
 use Rattle.wasm_feed.specs.Beside.{beside, lending}
 use Rattle.wasm_feed.specs.Cursors.{feed_of}
+use Rattle.wasm_feed.specs.Feed.{empty_feed}
+use Rattle.wasm_dumper.proofs.Dumping.{starts_beside, shows_step, advanced, asked, same_going, stopped, stopped_at_last, stopped_before}
+use Rattle.wasm_dumper.proofs.Dumping.{ended, filled, not_filled}
 use Rattle.wasm_dumper.proofs.stream.dump_into.Goals as goal
 
 pub events-init : goal.events-init
@@ -15,3 +13,116 @@ events-init g c = record {
       (c.new-cursor.ensures ∙ ap empty_feed c.new.ensures) c.new-counts.ensures;
   input = refl;
 }
+
+pub returns-in_err-make_ready : goal.returns-in_err-make_ready
+returns-in_err-make_ready g c taken failed i =
+    let e = err_from_is_err_and c.from_residual.result c.from_residual.ensures.1 in
+    rw (e.1, e.2) (stopped_before _ _ _ _ _ _ _ _ c.events.invariant.dumping _ _ c.events.invariant.input _ _ c.make_ready.ensures.adds
+    c.in_err-make_ready.ensures.stops taken failed i)
+
+pub returns-in_err-go_on : goal.returns-in_err-go_on
+returns-in_err-go_on g c taken failed i =
+    let a = c.parse_next-answer.ensures in
+    let ready = c.in_ok-make_ready.ensures in
+    let t = c.show_answer-turn.ensures in
+    let s = shows_step _ _ _ _ _ _ _ _ _ _ _ _ _ _ _ _ _ ready.same ready.enough c.seen.ensures c.deref.ensures.value c.bytes.ensures
+    a.parses a.shows a.finished a.wants t.turns ready.keeps (t.shows a.parses.items) (t.counts a.parses.items) in
+    let e = err_from_is_err_and c.from_residual-in_err-go_on.result c.from_residual-in_err-go_on.ensures.1 in
+    rw (e.1, e.2) (stopped _ _ _ _ _ _ _ _ c.events.invariant.dumping _ _ _ _ s _ _ c.events.invariant.input _
+    c.in_err-go_on.ensures.err taken failed i)
+
+pub events-smaller-in-Advance : goal.events-smaller-in-Advance
+events-smaller-in-Advance g c =
+    let a = c.parse_next-answer.ensures in
+    let ready = c.in_ok-make_ready.ensures in
+    let t = c.show_answer-turn.ensures in
+    let s = shows_step _ _ _ _ _ _ _ _ _ _ _ _ _ _ _ _ _ ready.same ready.enough c.seen.ensures c.deref.ensures.value c.bytes.ensures
+    a.parses a.shows a.finished a.wants t.turns ready.keeps (t.shows a.parses.items) (t.counts a.parses.items) in
+    (same_going _ _ _ _ _ _ _ _ _ _ (subst (λ (l : List ℕ). beside (feed_of l c.pass_lent.new.cursor) c.pass_lent.new.self
+    ≡ lending l c.make_ready.new.ahead c.parse_next-answer.new.cursor) c.deref-in-Advance.ensures.value c.pass_lent.ensures)
+    (advanced _ _ _ _ _ _ _ _ c.events.invariant.dumping _ _ _ _ s c.in_ok-go_on.ensures.ok c.in-Advance.is)).1
+
+pub events-preserved-in-Advance : goal.events-preserved-in-Advance
+events-preserved-in-Advance g c =
+    let a = c.parse_next-answer.ensures in
+    let ready = c.in_ok-make_ready.ensures in
+    let t = c.show_answer-turn.ensures in
+    let s = shows_step _ _ _ _ _ _ _ _ _ _ _ _ _ _ _ _ _ ready.same ready.enough c.seen.ensures c.deref.ensures.value c.bytes.ensures
+    a.parses a.shows a.finished a.wants t.turns ready.keeps (t.shows a.parses.items) (t.counts a.parses.items) in
+    record {
+      dumping = (same_going _ _ _ _ _ _ _ _ _ _ (subst (λ (l : List ℕ). beside (feed_of l c.pass_lent.new.cursor) c.pass_lent.new.self
+          ≡ lending l c.make_ready.new.ahead c.parse_next-answer.new.cursor) c.deref-in-Advance.ensures.value c.pass_lent.ensures)
+          (advanced _ _ _ _ _ _ _ _ c.events.invariant.dumping _ _ _ _ s c.in_ok-go_on.ensures.ok c.in-Advance.is)).0;
+      input = c.events.invariant.input;
+    }
+
+pub returns-in_err-go_on-in-Read : goal.returns-in_err-go_on-in-Read
+returns-in_err-go_on-in-Read g c taken failed i =
+    let a = c.parse_next-answer.ensures in
+    let ready = c.in_ok-make_ready.ensures in
+    let t = c.show_answer-turn.ensures in
+    let s = shows_step _ _ _ _ _ _ _ _ _ _ _ _ _ _ _ _ _ ready.same ready.enough c.seen.ensures c.deref.ensures.value c.bytes.ensures
+    a.parses a.shows a.finished a.wants t.turns ready.keeps (t.shows a.parses.items) (t.counts a.parses.items) in
+    let e = err_from_is_err_and c.from_residual-in_err-go_on-in-Read.result c.from_residual-in_err-go_on-in-Read.ensures.1 in
+    rw (e.1, e.2) (stopped_at_last _ _ _ _ _ _ _ _ c.events.invariant.dumping _ _ _ _ s _ _ c.events.invariant.input _ _
+    c.write_out.ensures.adds c.in_err-go_on-in-Read.ensures.err taken failed i)
+
+pub returns-in_err-go_on-in-End : goal.returns-in_err-go_on-in-End
+returns-in_err-go_on-in-End g c taken failed i =
+    let a = c.parse_next-answer.ensures in
+    let ready = c.in_ok-make_ready.ensures in
+    let t = c.show_answer-turn.ensures in
+    let s = shows_step _ _ _ _ _ _ _ _ _ _ _ _ _ _ _ _ _ ready.same ready.enough c.seen.ensures c.deref.ensures.value c.bytes.ensures
+    a.parses a.shows a.finished a.wants t.turns ready.keeps (t.shows a.parses.items) (t.counts a.parses.items) in
+    let e = err_from_is_err_and c.from_residual-in_err-go_on-in-End.result c.from_residual-in_err-go_on-in-End.ensures.1 in
+    rw (e.1, e.2) (stopped_at_last _ _ _ _ _ _ _ _ c.events.invariant.dumping _ _ _ _ s _ _ c.events.invariant.input _ _
+    c.write_out-in-End.ensures.adds c.in_err-go_on-in-End.ensures.err taken failed i)
+
+pub returns-in-End : goal.returns-in-End
+returns-in-End g c taken failed i =
+    let a = c.parse_next-answer.ensures in
+    let ready = c.in_ok-make_ready.ensures in
+    let t = c.show_answer-turn.ensures in
+    let s = shows_step _ _ _ _ _ _ _ _ _ _ _ _ _ _ _ _ _ ready.same ready.enough c.seen.ensures c.deref.ensures.value c.bytes.ensures
+    a.parses a.shows a.finished a.wants t.turns ready.keeps (t.shows a.parses.items) (t.counts a.parses.items) in
+    ended _ _ _ _ _ _ _ _ c.events.invariant.dumping _ _ _ _ s _ _ c.events.invariant.input c.in_ok-go_on.ensures.ok _ _ c.in-End.is
+    c.write_out-in-End.ensures.adds c.write_out-in-End.ensures.out c.in_ok-go_on-in-End.ensures.ok taken failed i
+
+pub events-preserved : goal.events-preserved
+events-preserved g c =
+    let a = c.parse_next-answer.ensures in
+    let ready = c.in_ok-make_ready.ensures in
+    let t = c.show_answer-turn.ensures in
+    let s = shows_step _ _ _ _ _ _ _ _ _ _ _ _ _ _ _ _ _ ready.same ready.enough c.seen.ensures c.deref.ensures.value c.bytes.ensures
+    a.parses a.shows a.finished a.wants t.turns ready.keeps (t.shows a.parses.items) (t.counts a.parses.items) in
+    let (wanting, same) = asked _ _ _ _ _ _ _ _ c.events.invariant.dumping _ _ _ _ s c.in_ok-go_on.ensures.ok c.in-Read.is in
+    record {
+      dumping = (filled _ _ _ _ _ _ _ _ _ wanting c.write_out.ensures.adds c.write_out.ensures.out c.in_ok-go_on-in-Read.ensures.ok _ _
+          c.in_ok-refill-in-Read.ensures.refills).0;
+      input = c.in_ok-refill-in-Read.ensures.failed ∙ c.events.invariant.input;
+    }
+
+pub returns-in_err-refill-in-Read : goal.returns-in_err-refill-in-Read
+returns-in_err-refill-in-Read g c taken failed i =
+    let a = c.parse_next-answer.ensures in
+    let ready = c.in_ok-make_ready.ensures in
+    let t = c.show_answer-turn.ensures in
+    let s = shows_step _ _ _ _ _ _ _ _ _ _ _ _ _ _ _ _ _ ready.same ready.enough c.seen.ensures c.deref.ensures.value c.bytes.ensures
+    a.parses a.shows a.finished a.wants t.turns ready.keeps (t.shows a.parses.items) (t.counts a.parses.items) in
+    let (wanting, same) = asked _ _ _ _ _ _ _ _ c.events.invariant.dumping _ _ _ _ s c.in_ok-go_on.ensures.ok c.in-Read.is in
+    let e = err_from_is_err_and c.from_residual-in_err-refill-in-Read.result c.from_residual-in_err-refill-in-Read.ensures.1 in
+    rw (e.1, e.2) (not_filled _ _ _ _ _ _ _ _ _ wanting c.write_out.ensures.adds c.write_out.ensures.out c.in_ok-go_on-in-Read.ensures.ok
+    _ _ _ c.events.invariant.input _ (beside (feed_of c.refill.new.stored.items c.refill.new.cursor) c.refill.new.self) _
+    c.in_err-refill-in-Read.ensures.refills c.in_err-refill-in-Read.ensures.failed taken failed i)
+
+pub events-smaller : goal.events-smaller
+events-smaller g c =
+    let a = c.parse_next-answer.ensures in
+    let ready = c.in_ok-make_ready.ensures in
+    let t = c.show_answer-turn.ensures in
+    let s = shows_step _ _ _ _ _ _ _ _ _ _ _ _ _ _ _ _ _ ready.same ready.enough c.seen.ensures c.deref.ensures.value c.bytes.ensures
+    a.parses a.shows a.finished a.wants t.turns ready.keeps (t.shows a.parses.items) (t.counts a.parses.items) in
+    let (wanting, same) = asked _ _ _ _ _ _ _ _ c.events.invariant.dumping _ _ _ _ s c.in_ok-go_on.ensures.ok c.in-Read.is in
+    let less = (filled _ _ _ _ _ _ _ _ _ wanting c.write_out.ensures.adds c.write_out.ensures.out c.in_ok-go_on-in-Read.ensures.ok _ _
+    c.in_ok-refill-in-Read.ensures.refills).1 in
+    rw same at less

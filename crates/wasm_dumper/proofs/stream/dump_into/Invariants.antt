@@ -1,4 +1,6 @@
-use Rattle.std.proofs.Common.{◌≡◌, ◌<◌, length}
+use Rattle.std.proofs.Common.{◌≡◌}
+use Rattle.wasm_feed.specs.Beside.{beside}
+use Rattle.wasm_feed.specs.Cursors.{feed_of}
 use Rattle.wasm_feed.specs.Progress.{weight}
 use Rattle.wasm_dumper.proofs.Dumping.{Dumping}
 use Rattle.wasm_dumper.proofs.stream.dump_into.Given as goal
@@ -9,10 +11,9 @@ invariant-events g l =
     let source = g.R.Source in
     record {
       dumping : Dumping l.shown.only.now l.shown.has_bytes (source.remaining l.initial.input)
-          (source.remaining l.input) l.initial.out l.feeder l.counts l.out;
+          (source.remaining l.input) l.initial.out (beside (feed_of l.stored.items l.cursor) l.ahead) l.counts l.out;
       input : source.has_failed l.input ≡ source.has_failed l.initial.input;
-      buffer : 0 < length l.buffer;
     }
 
 abbrev pub decreases-events : goal.decreases-events
-decreases-events g l = weight l.feeder
+decreases-events g l = weight (beside (feed_of l.stored.items l.cursor) l.ahead)
