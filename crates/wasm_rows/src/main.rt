@@ -12,6 +12,9 @@ mod customs;
 mod pieces;
 mod readers;
 mod rows;
+mod streams;
+mod subsections;
+mod values;
 
 use readers::run;
 use rows::Failed;
