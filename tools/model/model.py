@@ -378,18 +378,23 @@ def feed(S, n, o=0, at_once=False, hints=True):
             return out
 
 
-def prefix(S, o=0, at_once=False, consumed=False):
-    """What is answered with eof false until the first request for more or fault. With `consumed` each event has how many bytes it takes."""
+def prefix(S, o=0, at_once=False, places=False):
+    """What is answered with eof false until the first request for more or fault. With `places` an event has how many bytes it takes, and
+    what comes last the offset of the next event."""
     st, p, out = State(o, at_once), 0, []
+
+    def last(line):
+        return out + [line + (" offset=%d" % st.at if places else "")]
+
     while True:
         s = short(st, S, p)
         if s is not None:
-            return out + ["need %d" % s[0]]
+            return last("need %d" % s[0])
         try:
             line, used, st = next_event(st, S, p)
         except Fault as f:
-            return out + [f.line()]
-        out.append(line + (" used=%d" % used if consumed else ""))
+            return last(f.line())
+        out.append(line + (" used=%d" % used if places else ""))
         p += used
 
 

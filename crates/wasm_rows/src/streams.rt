@@ -40,8 +40,8 @@ pub(crate) fn show_stream<W: Sink>(
     Ok(())
 }
 
-/// Writes the events that are complete in a prefix of a stream, each with how many bytes it consumes, and then how many bytes the parser
-/// asks for; or its fault.
+/// Writes the events that are complete in a prefix of a stream, each with how many bytes it consumes. Then how many bytes the parser asks
+/// for, or its fault, and its offset, which these leave unchanged.
 pub(crate) fn show_prefix<W: Sink>(
     alloc: Global,
     mut parser: Parser,
@@ -54,6 +54,7 @@ pub(crate) fn show_prefix<W: Sink>(
         match add_next(&mut parser, rest, false, &mut lines)? {
             Next::Event(consumed) => {
                 add_number(" used=", consumed as u64, &mut lines)?;
+                lines.extend_from_slice(b"\n")?;
                 rest = after(rest, consumed);
             }
             Next::Last => break,
@@ -62,8 +63,8 @@ pub(crate) fn show_prefix<W: Sink>(
                 break;
             }
         }
-        lines.extend_from_slice(b"\n")?;
     }
+    add_number(" offset=", parser.offset(), &mut lines)?;
     lines.extend_from_slice(b"\n")?;
     write_lines(&lines, out);
     Ok(())

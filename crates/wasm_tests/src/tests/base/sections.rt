@@ -96,6 +96,12 @@ fn a_section_again(rt: HostRuntime) -> std::result::Result<(), Fail> {
 
 #[test]
 fn a_section_as_text(rt: HostRuntime) -> std::result::Result<(), Fail> {
+    let text = format!(in rt.alloc(); "{:?}", section::<u32>(&[2, 5, 0x80, 1, 7], 100)?)?;
+    same(
+        &rt,
+        text.as_str(),
+        "SectionLimited { count: 2, range: 100..105 }",
+    );
     let numbers = section::<u32>(&[0xac, 0x02, 5, 6], 70000)?;
     let text = format!(in rt.alloc(); "{numbers:?}")?;
     same(
