@@ -11,6 +11,7 @@
 mod customs;
 mod pieces;
 mod readers;
+mod readings;
 mod rows;
 mod streams;
 mod subsections;

@@ -1,8 +1,9 @@
 // The lines of rows, each read by the reader that it names.
 use crate::customs::show_custom;
 use crate::pieces::{Shown, show_pieces};
+use crate::readings::Stream;
 use crate::rows::{Failed, Row, is_prose, parse_row};
-use crate::streams::{parser_of, show_prefix, show_stream};
+use crate::streams::{show_prefix, show_stream};
 use crate::subsections::show_subsections;
 use crate::values::show_value;
 use std::alloc::Global;
@@ -85,9 +86,14 @@ fn show_row<W: Sink>(alloc: Global, row: Row<'_>, out: &mut Tree<W>) -> Result<(
         offset,
         bytes,
     } = row;
+    let stream = Stream {
+        bytes: &bytes,
+        offset,
+        features,
+    };
     match name {
-        "stream" => show_stream(alloc, parser_of(offset, features), &bytes, out),
-        "prefix" => show_prefix(alloc, parser_of(offset, features), &bytes, out),
+        "stream" => show_stream(alloc, &stream, out),
+        "prefix" => show_prefix(alloc, &stream, out),
         _ => show_window(alloc, name, features, offset, &bytes, out),
     }
 }
