@@ -1,5 +1,6 @@
 // Payloads by their fields.
 use crate::tests::same;
+use std::alloc::Global;
 use std::ops::Range;
 use std::test::Fail;
 use wasm_parser::{Encoding, Parser, Payload, Result, WasmFeatures};
@@ -90,6 +91,55 @@ fn numbers_of_a_module(rt: HostRuntime) -> std::result::Result<(), Fail> {
     let stream = b"\0asm\x01\0\0\0\x0c\x02\x80\x01";
     let found = payload(stream, 1)?.ok_or("no count")?;
     same(&rt, numbers_of(&found), Some((128, 1010..1012, 0)));
+    Ok(())
+}
+
+// How many items a payload announces, if it is a section that begins with a count.
+fn count_of(payload: &Payload<'_>) -> Option<u32> {
+    match payload {
+        Payload::TypeSection(section) => Some(section.count()),
+        Payload::ImportSection(section) => Some(section.count()),
+        Payload::FunctionSection(section) => Some(section.count()),
+        Payload::TableSection(section) => Some(section.count()),
+        Payload::MemorySection(section) => Some(section.count()),
+        Payload::TagSection(section) => Some(section.count()),
+        Payload::GlobalSection(section) => Some(section.count()),
+        Payload::ExportSection(section) => Some(section.count()),
+        Payload::ElementSection(section) => Some(section.count()),
+        Payload::DataSection(section) => Some(section.count()),
+        _other => None,
+    }
+}
+
+// The counts of a stream's payloads, up to its first fault.
+fn counts_of(alloc: Global, stream: &[u8]) -> std::result::Result<Vec<Option<u32>>, Fail> {
+    let mut counts = Vec::new(alloc);
+    for payload in Parser::new(0).parse_all(stream) {
+        counts.push(count_of(&payload?))?;
+    }
+    Ok(counts)
+}
+
+#[test]
+fn counts_of_sections(rt: HostRuntime) -> std::result::Result<(), Fail> {
+    let stream =
+        b"\0asm\x01\0\0\0\x01\x01\x01\x02\x01\x02\x03\x01\0\x04\x01\x03\x05\x01\x04\x0d\x01\x05\x06\x01\x06\x07\x01\x07\x09\x01\x08\x0b\x01\x09";
+    let wanted = [
+        None,
+        Some(1),
+        Some(2),
+        Some(0),
+        Some(3),
+        Some(4),
+        Some(5),
+        Some(6),
+        Some(7),
+        Some(8),
+        Some(9),
+        None,
+    ];
+    let counts = counts_of(rt.alloc(), stream)?;
+    same(&rt, counts.as_slice(), wanted.as_slice());
     Ok(())
 }
 
