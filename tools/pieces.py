@@ -1,6 +1,7 @@
 """Streams in pieces: the cases that the program wasm_rows reads, and what a model says of them."""
 import rows
 from common import leb
+from texts import number_at
 
 
 def joined(pieces):
@@ -66,6 +67,29 @@ def expected_steps(model, pieces, offset):
                 given += piece
                 stored = len(given) - place
     return out
+
+
+def pieces_in(data):
+    """The pieces of a row."""
+    count, place = number_at(data, 0)
+    pieces = []
+    for _ in range(count):
+        size, start = number_at(data, place)
+        place = start + size
+        pieces.append(data[start:place])
+    return pieces
+
+
+def model_lines(model, case):
+    """The lines that a model gives of a row of a stream in pieces; None of other rows."""
+    reader, data, offset, _ = case
+    if reader == "events":
+        parts = expected_events(model, b"".join(pieces_in(data)), offset)
+    elif reader == "steps":
+        parts = expected_steps(model, pieces_in(data), offset)
+    else:
+        return None
+    return ["  " + "".join(part + "; " for part in parts)]
 
 
 # ---- cuts

@@ -51,6 +51,20 @@ def results(lines):
     return found
 
 
+def model_lines(model, case):
+    """The lines that a model of items gives of a row that is a call, a section of what calls read, or a stream; None of other rows."""
+    reader, data, offset, features = case
+    if reader == "stream":
+        lines = model.model.reading(data, offset, True, True)
+    elif reader == "prefix":
+        lines = model.model.prefix(data, offset, True, True)
+    elif reader in model.CALLS or reader in model.LISTS or reader == "subsections":
+        lines = model.call_lines(reader, data, offset, features)
+    else:
+        return None
+    return ["  " + line for line in lines]
+
+
 def run(program, rows):
     """The lines that the program writes of each of these rows, which are lines."""
     done = subprocess.run([program], input="".join(rows).encode(), stdout=subprocess.PIPE, timeout=600, check=True)

@@ -48,15 +48,16 @@ RANK = {ident: i + 1 for i, ident in enumerate(RANKED)}
 
 
 class Fault(Exception):
-    """kind, offset, number (or None)"""
+    """kind, offset, number (or None), and how many bytes are missing, where the stream ends within what is read (or None)"""
 
-    def __init__(self, kind, at, number=None):
-        super().__init__(kind, at, number)
-        self.kind, self.at, self.number = kind, at, number
+    def __init__(self, kind, at, number=None, missing=None):
+        super().__init__(kind, at, number, missing)
+        self.kind, self.at, self.number, self.missing = kind, at, number, missing
 
-    def line(self):
+    def line(self, hints=False):
         n = "" if self.number is None else ": %d" % self.number
-        return "fault %d %s%s" % (self.at, T[self.kind], n)
+        hint = "" if self.missing is None or not hints else " missing=%d" % self.missing
+        return "fault %d %s%s%s" % (self.at, T[self.kind], n, hint)
 
 
 class State:
@@ -125,11 +126,11 @@ def next_event(st, d, p=0):
     if st.header:
         # the header
         if n_all - p < 4:
-            raise Fault("UnexpectedEof", at(p))
+            raise Fault("UnexpectedEof", at(p), missing=4 - (n_all - p))
         if d[p:p + 4] != MAGIC:
             raise Fault("BadMagic", at(p))
         if n_all - p < 8:
-            raise Fault("UnexpectedEof", at(p + 4))
+            raise Fault("UnexpectedEof", at(p + 4), missing=8 - (n_all - p))
         number = int.from_bytes(d[p + 4:p + 8], "little")
         version, kind = number & 0xFFFF, number >> 16
         if (version, kind) not in ((1, 0), (13, 1)):
@@ -146,14 +147,14 @@ def next_event(st, d, p=0):
             if r[0] == "bad":
                 raise Fault(r[1], at(r[2]))
             if r[0] == "short":
-                raise Fault("UnexpectedEof", at(n_all))
+                raise Fault("UnexpectedEof", at(n_all), missing=1)
             size, k = r[1], r[2]
             past = at(p + k + size) > st.code_end
             cut = n_all - (p + k) < size
             if st.at_once and past:
                 raise Fault("UnexpectedEof", at(p))
             if cut:
-                raise Fault("UnexpectedEof", at(p + k))
+                raise Fault("UnexpectedEof", at(p + k), missing=size - (n_all - (p + k)))
             if past:
                 raise Fault("UnexpectedEof", at(p))
             new = st.copy()
@@ -180,7 +181,7 @@ def next_event(st, d, p=0):
     if r[0] == "bad":
         raise Fault(r[1], at(r[2]))
     if r[0] == "short":
-        raise Fault("UnexpectedEof", at(n_all))
+        raise Fault("UnexpectedEof", at(n_all), missing=1)
     n, k = r[1], r[2]
     c = p + 1 + k
     e = c + n
@@ -191,7 +192,7 @@ def next_event(st, d, p=0):
         raise Fault("OutOfOrder", at(c))
     code = st.module and ident == 10
     if not code and n_all - c < n:
-        raise Fault("UnexpectedEof", at(c))
+        raise Fault("UnexpectedEof", at(c), missing=n - (n_all - c))
 
     new = st.copy()
     new.in_code = False
@@ -204,7 +205,7 @@ def next_event(st, d, p=0):
         if r[0] == "bad":
             raise Fault(r[1], at(r[2]))
         if r[0] == "short":
-            raise Fault("UnexpectedEof", at(n_all))
+            raise Fault("UnexpectedEof", at(n_all), missing=1)
         m, k2 = r[1], r[2]
         if k2 > n:
             raise Fault("UnexpectedEof", at(c))
@@ -250,8 +251,8 @@ def next_event(st, d, p=0):
     return ("section %d %d %d %d" % (ident, at(c), at(e), value), used, new)
 
 
-def reading(S, o=0, at_once=False):
-    """The listing of the whole stream, a list of lines."""
+def reading(S, o=0, at_once=False, hints=False):
+    """The listing of the whole stream, a list of lines. With `hints` that of a fault has how many bytes are missing."""
     if o + len(S) > TOP:
         return [Fault("OffsetRange", o).line()]
     st, p, out = State(o, at_once), 0, []
@@ -259,7 +260,7 @@ def reading(S, o=0, at_once=False):
         try:
             line, used, st = next_event(st, S, p)
         except Fault as f:
-            out.append(f.line())
+            out.append(f.line(hints))
             return out
         out.append(line)
         p += used
@@ -377,18 +378,23 @@ def feed(S, n, o=0, at_once=False, hints=True):
             return out
 
 
-def prefix(S, o=0, at_once=False):
-    """What is answered with eof false until the first request for more or fault."""
+def prefix(S, o=0, at_once=False, places=False):
+    """What is answered with eof false until the first request for more or fault. With `places` an event has how many bytes it takes, and
+    what comes last the offset of the next event."""
     st, p, out = State(o, at_once), 0, []
+
+    def last(line):
+        return out + [line + (" offset=%d" % st.at if places else "")]
+
     while True:
         s = short(st, S, p)
         if s is not None:
-            return out + ["need %d" % s[0]]
+            return last("need %d" % s[0])
         try:
             line, used, st = next_event(st, S, p)
         except Fault as f:
-            return out + [f.line()]
-        out.append(line)
+            return last(f.line())
+        out.append(line + (" used=%d" % used if places else ""))
         p += used
 
 

@@ -20,9 +20,11 @@ EOF = "unexpected end-of-file"
 
 
 class Bad(Exception):
-    def __init__(self, at, text, number=None):
-        super().__init__(at, text, number)
-        self.at, self.text, self.number = at, text, number
+    """A fault. `missing` is how many bytes a call that reads one number or some raw bytes lacks."""
+
+    def __init__(self, at, text, number=None, missing=None):
+        super().__init__(at, text, number, missing)
+        self.at, self.text, self.number, self.missing = at, text, number, missing
 
     def line(self):
         return "fault %d %s%s" % (self.at, self.text, "" if self.number is None else ": %d" % self.number)
@@ -58,7 +60,7 @@ class R:
 
     def peek(self):
         if self.p >= self.e:
-            raise Bad(self.at(), EOF)
+            raise Bad(self.at(), EOF, missing=1)
         return self.b[self.p]
 
     def byte(self):
@@ -68,7 +70,7 @@ class R:
 
     def raw(self, n):
         if self.left() < n:
-            raise Bad(self.at(), EOF)
+            raise Bad(self.at(), EOF, missing=n - self.left())
         self.p += n
         return self.b[self.p - n:self.p]
 
@@ -78,7 +80,7 @@ class R:
         k = 0
         while True:
             if self.p + k >= self.e:
-                raise Bad(self.at(self.p + k), EOF)
+                raise Bad(self.at(self.p + k), EOF, missing=1)
             x = self.b[self.p + k]
             if k == longest - 1:
                 if x >= 128:
@@ -801,6 +803,127 @@ def outcome(reader, b, o=0, feats=3):
         return SECTIONS[reader](r)
     except Bad as e:
         return e.line()
+
+
+# ---- calls of a reader
+
+def field(number):
+    return "number=%d" % number
+
+
+def little(r, n):
+    return int.from_bytes(r.raw(n), "little")
+
+
+def quoted(b):
+    """A text in double quotes; a quote, a backslash, and a byte outside 32 to 126 are a backslash and two hexadecimal digits."""
+    return 'text="%s"' % "".join(chr(c) if 32 <= c <= 126 and c not in b'"\\' else "\\%02x" % c for c in b)
+
+
+def truth(r):
+    return "bool=" + boolean(r)
+
+
+def quoted_name(r):
+    return quoted(r.string(True))
+
+
+def pair(r):
+    return field(r.u32()) + " " + truth(r)
+
+
+def skipped_u32s(r):
+    for _ in range(r.u32()):
+        r.u32()
+    return ""
+
+
+def skipped_string(r):
+    r.skip_string()
+    return ""
+
+
+def counted_window(r):
+    b = r.raw(r.u32())
+    return "range=%d..%d bytes=%d:%s" % (r.at() - len(b), r.at(), len(b), b[:16].hex())
+
+
+def header_version(r):
+    at = r.at()
+    if r.raw(4) != model.MAGIC:
+        raise Bad(at, "magic header not detected: bad magic number")
+    return field(little(r, 4))
+
+
+CALLS = {"u8": lambda r: field(r.byte()), "u7": lambda r: field(r.u7()), "u32": lambda r: field(r.u32()),
+         "i32": lambda r: field(r.num("s32")), "s33": lambda r: field(r.num("s33")), "u64": lambda r: field(r.num("u64")),
+         "i64": lambda r: field(r.num("s64")), "fixed32": lambda r: field(little(r, 4)), "f32": lambda r: "bits=%d" % little(r, 4),
+         "f64": lambda r: "bits=%d" % little(r, 8), "bool": truth, "string": quoted_name,
+         "longstring": lambda r: quoted(r.string(False)), "skipstring": skipped_string, "skipu32s": skipped_u32s,
+         "window": counted_window, "header": header_version, "pair": pair,
+         "stringpair": lambda r: quoted_name(r) + " " + quoted_name(r)}
+LISTS = {"bools": truth, "u32s": lambda r: field(r.u32()), "strings": quoted_name, "pairs": pair}
+
+
+def missing(e):
+    return e.line() + ("" if e.missing is None else " missing=%d" % e.missing)
+
+
+def call(r, f):
+    """The line of a call. After a fault a number isn't consumed; a size is, and so is a byte that is wrong."""
+    try:
+        line = " ".join(["read", f(r)]).strip()
+    except Bad as e:
+        line = missing(e)
+    return ["%s used=%d" % (line, r.p)]
+
+
+def items(r, f):
+    """The lines of a section."""
+    try:
+        n = r.u32()
+    except Bad as e:
+        return [missing(e)]
+    out = ["section items=%s count=%d" % (r.range(), n)]
+    for _ in range(n):
+        at = r.at()
+        try:
+            out.append("  %d %s" % (at, f(r)))
+        except Bad as e:
+            return out + ["  " + missing(e)]
+    if r.left():
+        out.append("  " + Bad(r.at(), "section size mismatch: unexpected data at the end of the section").line())
+    return out
+
+
+def numbered_subsections(r):
+    """The lines of subsections that begin with a number. After a wrong id or size the next one comes after what was read of it."""
+    out = []
+    while r.left():
+        try:
+            ident = r.u7()
+            try:
+                n = r.u32()
+            except Bad as e:
+                r.p = r.e if e.text == EOF else e.at - r.o + 1
+                raise
+            p = r.p
+            r.raw(n)
+            w = r.window(p, r.p)
+            number = w.u32()
+            line = "subsection id=%d number=%d after=%d" % (ident, number, w.at())
+        except Bad as e:
+            line = e.line()
+        out.append("%s next=%d" % (line, r.at()))
+    return out
+
+
+def call_lines(reader, b, o=0, feats=3):
+    """The lines of one of CALLS or LISTS, or of `subsections`."""
+    r = R(b, o, feats)
+    if reader in CALLS:
+        return call(r, CALLS[reader])
+    return items(r, LISTS[reader]) if reader in LISTS else numbered_subsections(r)
 
 
 # ------------------------------------------------------------------ checks

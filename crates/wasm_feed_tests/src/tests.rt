@@ -1,15 +1,12 @@
 // Worked examples, devices that fail or go short, and memory that runs out.
-mod bytewise;
 mod devices;
 mod digits;
 mod dumps;
-mod endings;
 mod equal_events;
 mod feeding;
 mod golden;
 mod lending;
 mod listings;
-mod modules;
 mod naming;
 mod pieces;
 mod reads;

@@ -11,7 +11,11 @@
 mod customs;
 mod pieces;
 mod readers;
+mod readings;
 mod rows;
+mod streams;
+mod subsections;
+mod values;
 
 use readers::run;
 use rows::Failed;

@@ -1,10 +1,14 @@
 // The lines of rows, each read by the reader that it names.
 use crate::customs::show_custom;
 use crate::pieces::{Shown, show_pieces};
+use crate::readings::Stream;
 use crate::rows::{Failed, Row, is_prose, parse_row};
+use crate::streams::{show_prefix, show_stream};
+use crate::subsections::show_subsections;
+use crate::values::show_value;
 use std::alloc::Global;
 use std::io::Read;
-use wasm_base::{BinaryReader, FromReader, FromReaderIn, fits};
+use wasm_base::{BinaryReader, FromReader, FromReaderIn, WasmFeatures, fits};
 use wasm_custom::{
     Comdat, CoreDumpInstance, CoreDumpStackFrame, CoreDumpValue, ProducersFieldValue,
     RelocationEntry, SymbolInfo,
@@ -83,10 +87,34 @@ fn show_row<W: Sink>(alloc: Global, row: Row<'_>, out: &mut Tree<W>) -> Result<(
         offset,
         bytes,
     } = row;
+    let stream = Stream {
+        bytes: &bytes,
+        offset,
+        features,
+    };
+    match name {
+        "stream" => show_stream(alloc, &stream, out),
+        "prefix" => show_prefix(alloc, &stream, out),
+        _ => show_window(alloc, name, features, offset, &bytes, out),
+    }
+}
+
+// Writes what the reader with this name reads of these bytes.
+fn show_window<W: Sink>(
+    alloc: Global,
+    name: &str,
+    features: WasmFeatures,
+    offset: u64,
+    bytes: &[u8],
+    out: &mut Tree<W>,
+) -> Result<(), Failed> {
     if !fits(offset, bytes.len()) {
         return Err(Failed::Row("the bytes overrun the largest offset"));
     }
-    let reader = BinaryReader::new_features(&bytes, offset, features);
+    let mut reader = BinaryReader::new_features(bytes, offset, features);
+    if show_value(name, &mut reader, out) {
+        return Ok(());
+    }
     show_read_by(alloc, name, reader, offset, out)
 }
 
@@ -116,6 +144,7 @@ fn show_read_by<W: Sink>(
         "data" => show_read::<Data<'_>, W>(&mut reader, out),
         "recgroup" => show_read_in::<RecGroup, W>(alloc, &mut reader, out),
         "flatimports" => show_flattened(reader, out),
+        "subsections" => show_subsections(alloc, reader, out),
         "events" => show_pieces(alloc, Shown::Events, reader, offset, out)?,
         "steps" => show_pieces(alloc, Shown::Steps, reader, offset, out)?,
         "compactitem" => show_read::<ImportItemCompact<'_>, W>(&mut reader, out),

@@ -1,84 +1,10 @@
 // Streams, and what wasmparser 0.263.0 says of them: tools/golden_rows writes this file from tools/golden.jsonl.
 use super::dumps::dumps;
-use super::listings::lists_as;
 use std::alloc::Global;
 use std::process::Abort;
 use std::test::Fail;
 use wasm_dumper::Only;
 use wasm_feed::Ended;
-
-/// A stream with each kind of fault, and its listing.
-const LISTINGS: [(&[u8], &[u8]); 18] = [
-    (
-        b"\0asm\x0d\0\x01\0\0asm",
-        b"version 0 8 13 component\nfault 8 expected section, got wasm magic number\n",
-    ),
-    (
-        b"\0asm\x01\0\0\0\x0c\x01\x01\x03\x01\x01",
-        b"version 0 8 1 module\ndatacount 10 11 1\nfault 13 section out of order\n",
-    ),
-    (
-        b"\0asm\x01\0\0\0\x03\x01\x01\x0c\x01\x01",
-        b"version 0 8 1 module\nsection 3 10 11 1\ndatacount 13 14 1\nfault 14 function section has non-zero count but code section is absent\n",
-    ),
-    (
-        b"\0asm\x01\0\0\0\x08\x03\x01\0\xff",
-        b"version 0 8 1 module\nfault 11 unexpected content in the start section\n",
-    ),
-    (
-        b"\0asm\x01\0\0\0\x0a\x03\x01\0\xff",
-        b"version 0 8 1 module\nfault 10 function section is absent but code section has non-zero count\n",
-    ),
-    (
-        b"\0asm\x01\0\0\0\x0c\x05\xff\xff\xff\xff\x0f",
-        b"version 0 8 1 module\ndatacount 10 15 4294967295\nfault 15 data count is non-zero but data section is absent\n",
-    ),
-    (
-        b"\0asm\x0d\0\x01\0\0\x05\xff\xff\xff\xff\x0f",
-        b"version 0 8 13 component\nfault 14 string size out of bounds\n",
-    ),
-    (
-        b"\0asm\x01\0\0\0\0\x06\x83\x80\0\xf0\x9f\x98\0\x01\0",
-        b"version 0 8 1 module\nfault 15 malformed UTF-8 encoding\n",
-    ),
-    (
-        b"\0asm\x01\0\0\0\x0c\x01\x01\x0b\x01\0",
-        b"version 0 8 1 module\ndatacount 10 11 1\nfault 14 data count and data section have inconsistent lengths\n",
-    ),
-    (
-        b"\0asm\x01\0\0\0\x03\x02\x01\0\x0a\x01\0",
-        b"version 0 8 1 module\nsection 3 10 12 1\nfault 14 function and code section have inconsistent lengths\n",
-    ),
-    (
-        b"\0a\x0dm\x01\0\0\0",
-        b"fault 0 magic header not detected: bad magic number\n",
-    ),
-    (
-        b"\0asm\x01\x7f\0\0",
-        b"fault 4 unknown binary version: 32513\n",
-    ),
-    (b"\0", b"fault 0 unexpected end-of-file\n"),
-    (
-        b"\0asm\x0d\0\x01\0\xda\x01",
-        b"version 0 8 13 component\nfault 8 malformed section id\n",
-    ),
-    (
-        b"\0asm\x01\0\0\0\x08\x81\x80\x80\x80p",
-        b"version 0 8 1 module\nfault 13 invalid var_u32: integer too large\n",
-    ),
-    (
-        b"\0asm\x01\0\0\0\x08\x80\x80\x80\x80\xf0",
-        b"version 0 8 1 module\nfault 13 invalid var_u32: integer representation too long\n",
-    ),
-    (
-        b"\0asm\x01\0\0\0\x0c\x02\x01\x01\x0b\x01\x01",
-        b"version 0 8 1 module\nfault 11 unexpected content in the data count section\n",
-    ),
-    (
-        b"\0asm\x01\0\0\0\x0a\x03\0\0\0",
-        b"version 0 8 1 module\ncode 10 13 0 2\nfault 11 trailing bytes at end of section\n",
-    ),
-];
 
 /// A module.
 const MODULE_1: &[u8] = b"\0asm\x01\0\0\0\x06\x03\x01\0\xff";
@@ -301,25 +227,12 @@ const DUMPS: [(&[u8], &[u8]); 6] = [
     (MODULE_6, DUMP_6),
 ];
 
-// Each stream has its listing.
-fn list_all(rt: &impl Abort, alloc: Global, rows: &[(&[u8], &[u8])]) -> Result<(), Fail> {
-    for (stream, lines) in rows {
-        lists_as(rt, alloc, stream, lines)?;
-    }
-    Ok(())
-}
-
 // Each stream ends well, and has its dump.
 fn dump_all(rt: &impl Abort, alloc: Global, rows: &[(&[u8], &[u8])]) -> Result<(), Fail> {
     for (stream, text) in rows {
         dumps(rt, alloc, &[Only::All], stream, Ok(Ended::End), text)?;
     }
     Ok(())
-}
-
-#[test]
-fn lists_golden_streams(rt: HostRuntime) -> Result<(), Fail> {
-    list_all(&rt, rt.alloc(), &LISTINGS)
 }
 
 #[test]

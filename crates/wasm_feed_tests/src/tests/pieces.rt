@@ -25,12 +25,7 @@ const AMPLE: u64 = 60;
 type Wanted<'a> = (EventKind, Range<u64>, &'a [u8]);
 
 // The bytes in pieces of so many, with empty ones between them or without.
-pub(super) fn cut(
-    alloc: Global,
-    bytes: &[u8],
-    size: usize,
-    spaced: bool,
-) -> Result<Vec<&[u8]>, AllocError> {
+fn cut(alloc: Global, bytes: &[u8], size: usize, spaced: bool) -> Result<Vec<&[u8]>, AllocError> {
     let mut pieces = Vec::new(alloc);
     let mut rest = bytes;
     for _ in 0..100 {
@@ -114,59 +109,6 @@ fn calls_with_ample_memory(rt: HostRuntime) -> Result<(), Fail> {
     }
     assert_eq!(rt; feeder.held(), 18);
     Ok(())
-}
-
-#[test]
-fn other_starts(rt: HostRuntime) -> Result<(), Fail> {
-    let (num, encoding) = (1, Encoding::Module);
-    let fault = Error::new(Fault::MalformedSectionId, 1021);
-    let wanted: [Wanted<'_>; 4] = [
-        (
-            EventKind::Version { num, encoding },
-            1000..1008,
-            b"\0asm\x01\0\0\0",
-        ),
-        (
-            EventKind::Custom { data_offset: 1013 },
-            1011..1015,
-            b"\0\x84\0\x01abc",
-        ),
-        (
-            EventKind::Unknown { id: 14 },
-            1019..1021,
-            b"\x0e\x82\x80\0\x07\x08",
-        ),
-        (EventKind::Fault(fault), 1021..1021, b""),
-    ];
-    gives(&rt, rt.alloc(), 1000, CUSTOM, &wanted)?;
-    let fault = Error::new(Fault::DataCountWithoutData, 70017);
-    let wanted: [Wanted<'_>; 4] = [
-        (
-            EventKind::Version { num, encoding },
-            70000..70008,
-            b"\0asm\x01\0\0\0",
-        ),
-        (
-            EventKind::Start { func: 5 },
-            70011..70014,
-            b"\x08\x83\0\x85\x80\0",
-        ),
-        (
-            EventKind::DataCount { count: 2 },
-            70016..70017,
-            b"\x0c\x01\x02",
-        ),
-        (EventKind::Fault(fault), 70017..70017, b""),
-    ];
-    gives(&rt, rt.alloc(), 70000, NUMBERS, &wanted)?;
-    let fault = Error::new(Fault::UnexpectedEof, 7);
-    gives(
-        &rt,
-        rt.alloc(),
-        7,
-        b"",
-        &[(EventKind::Fault(fault), 7..7, b"")],
-    )
 }
 
 #[test]

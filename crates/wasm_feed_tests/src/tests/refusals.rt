@@ -7,7 +7,7 @@ use wasm_feed::{BoundedSink, Ended, ListError, Sink, SliceSource, Source, list_i
 use wasm_test_heap::Sparing;
 
 /// A stream, and its listing.
-pub(super) const LISTINGS: [(&[u8], &[u8]); 5] = [
+const LISTINGS: [(&[u8], &[u8]); 5] = [
     (
         b"\0asm\x01\0\0\0\x03\x02\x01\0\x0a\x04\x01\x02\0\x0b",
         b"version 0 8 1 module\nsection 3 10 12 1\ncode 14 18 1 3\nbody 16 18\nend 18\n",

@@ -99,11 +99,11 @@ const FAULTS: [Refused; 8] = [
 ];
 
 // The rows by a function, since a proof over them is told nothing of their bytes.
-pub(super) fn rows() -> &'static [Row] {
+fn rows() -> &'static [Row] {
     &STRIPPED
 }
 
-pub(super) fn faults() -> &'static [Refused] {
+fn faults() -> &'static [Refused] {
     &FAULTS
 }
 

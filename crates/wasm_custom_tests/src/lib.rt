@@ -1,5 +1,0 @@
-//! Worked examples of `wasm_custom`, by its public surface alone: proving them anew doesn't prove the library anew.
-#![tactic(auto)]
-
-#[cfg(test)]
-mod tests;

@@ -1,0 +1,8 @@
+// Faults, the calls of a reader, and sections by the calls that read them. Tables of rows are in `wasm_rows`.
+mod errors;
+mod limits;
+mod owned;
+mod reader;
+mod refusals;
+mod sections;
+mod subsections;

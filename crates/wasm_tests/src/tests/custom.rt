@@ -1,0 +1,77 @@
+// Custom sections by the calls that read them. Tables of rows are in `wasm_rows`.
+mod dylink;
+mod linking;
+mod memory;
+mod names;
+mod sections;
+
+use crate::tests::same;
+use std::test::Fail;
+use wasm_base::{BinaryReader, Error, Fault, WasmFeatures};
+use wasm_custom::CustomSectionReader;
+
+#[test]
+fn a_section_with_no_name_and_no_data(rt: HostRuntime) -> Result<(), Fail> {
+    let section = CustomSectionReader::new(BinaryReader::new(&[0], 10))?;
+    same(&rt, section.name(), "");
+    same(&rt, section.data(), b"".as_slice());
+    same(&rt, section.data_offset(), 11);
+    same(&rt, section.data_range(), 11..11);
+    same(&rt, section.range(), 10..11);
+    assert!(rt; section.data_reader().eof());
+    Ok(())
+}
+
+#[test]
+fn a_section_with_a_name_and_data(rt: HostRuntime) -> Result<(), Fail> {
+    let window = BinaryReader::new_features(b"\x04name\x00\x07", 1000, WasmFeatures::MEMORY64);
+    let section = CustomSectionReader::new(window)?.clone()?;
+    same(&rt, section.name(), "name");
+    same(&rt, section.data(), [0, 7].as_slice());
+    same(&rt, section.data_offset(), 1005);
+    same(&rt, section.data_range(), 1005..1007);
+    same(&rt, section.range(), 1000..1007);
+    let mut data = section.data_reader();
+    same(&rt, data.range(), 1005..1007);
+    same(&rt, data.features(), WasmFeatures::MEMORY64);
+    same(&rt, data.read_u8(), Ok(0));
+    same(&rt, data.original_position(), 1006);
+    Ok(())
+}
+
+#[test]
+fn hints_of_missing_bytes(rt: HostRuntime) -> Result<(), Fail> {
+    let rows: [(&[u8], Option<usize>); 5] = [
+        (b"", Some(1)),
+        (b"\x80", Some(1)),
+        (b"\x05ab", Some(3)),
+        (b"\xac\x02ab", Some(298)),
+        (b"\x02\xc3\x28", None),
+    ];
+    for (bytes, hint) in rows {
+        let refused = CustomSectionReader::new(BinaryReader::new(bytes, 10))
+            .err()
+            .ok_or("read")?;
+        same(&rt, refused.needed_hint(), hint);
+    }
+    Ok(())
+}
+
+#[test]
+fn a_section_as_debug_text(rt: HostRuntime) -> Result<(), Fail> {
+    let section = CustomSectionReader::new(BinaryReader::new(b"\x01a\x07\x08", 10))?;
+    let text = format!(in rt.alloc(); "{section:?}")?;
+    same(
+        &rt,
+        text.as_str(),
+        "CustomSectionReader { name: \"a\", data_offset: 12, data: \"...\", range: 10..14 }",
+    );
+    let section = CustomSectionReader::new(BinaryReader::new(b"\x04na\"e\x07\x08\x09", 70000))?;
+    let text = format!(in rt.alloc(); "{section:?}")?;
+    same(
+        &rt,
+        text.as_str(),
+        "CustomSectionReader { name: \"na\\\"e\", data_offset: 70005, data: \"...\", range: 70000..70008 }",
+    );
+    Ok(())
+}

@@ -1,0 +1,59 @@
+// Items by the calls that read them, and as values. Tables of rows are in `wasm_rows`.
+mod imports;
+mod instructions;
+mod items;
+mod sections;
+mod segments;
+mod values;
+
+use crate::tests::same;
+use std::test::Fail;
+use wasm_base::{BinaryReader, WasmFeatures};
+use wasm_items::{ConstExpr, FunctionBody, HeapType, RefType, ValType};
+
+// A window of two bytes at 102, with one feature.
+fn window() -> BinaryReader<'static> {
+    BinaryReader::new_features(&[0, 0x0b], 102, WasmFeatures::MEMORY64)
+}
+
+#[test]
+fn a_body_is_its_window(rt: HostRuntime) -> Result<(), Fail> {
+    let body = FunctionBody::new(window());
+    same(&rt, body.range(), 102..104);
+    let mut reader = body.get_binary_reader();
+    same(&rt, reader.features(), WasmFeatures::MEMORY64);
+    same(&rt, reader.read_u8(), Ok(0));
+    same(&rt, reader.original_position(), 103);
+    // The body still begins where it began.
+    same(&rt, body.get_binary_reader().original_position(), 102);
+    Ok(())
+}
+
+#[test]
+fn an_expression_is_its_window(rt: HostRuntime) -> Result<(), Fail> {
+    let mut reader = window();
+    reader.read_u8()?;
+    let expression = ConstExpr::new(reader).clone()?;
+    same(&rt, expression.range(), 102..104);
+    let reader = expression.get_binary_reader();
+    same(&rt, reader.range(), 102..104);
+    same(&rt, reader.remaining_range(), 103..104);
+    Ok(())
+}
+
+#[test]
+fn a_function_reference(rt: HostRuntime) -> Result<(), Fail> {
+    let any_function = RefType {
+        nullable: true,
+        heap: HeapType::Func,
+    };
+    same(&rt, RefType::FUNCREF, any_function);
+    assert!(rt; ValType::Ref(RefType::FUNCREF) != ValType::I32);
+    let text = format!(in rt.alloc(); "{:?}", ValType::Ref(RefType::FUNCREF))?;
+    same(
+        &rt,
+        text.as_str(),
+        "Ref(RefType { nullable: true, heap: Func })",
+    );
+    Ok(())
+}

@@ -1,0 +1,146 @@
+// The calls of a parser beside `parse`, and the ids of payloads.
+use super::{HEADER, after_header, end, pass, refusal};
+use crate::tests::same;
+use bitflags::Flags;
+use std::ops::Range;
+use std::process::Abort;
+use std::test::Fail;
+use wasm_parser::{Encoding, Error, Fault, Parser, WasmFeatures};
+
+#[test]
+fn headers_are_distinguished(rt: HostRuntime) -> Result<(), Fail> {
+    let component: &[u8] = b"\0asm\x0d\0\x01\0";
+    assert!(rt; Parser::is_core_wasm(HEADER));
+    assert!(rt; Parser::is_core_wasm(b"\0asm\x01\0\0\0\0"));
+    assert!(rt; !Parser::is_core_wasm(&HEADER[..7]));
+    assert!(rt; !Parser::is_core_wasm(component));
+    assert!(rt; !Parser::is_core_wasm(b""));
+    assert!(rt; Parser::is_component(component));
+    assert!(rt; Parser::is_component(b"\0asm\x0d\0\x01\0\xff"));
+    assert!(rt; !Parser::is_component(HEADER));
+    assert!(rt; !Parser::is_component(&component[..7]));
+    Ok(())
+}
+
+#[test]
+fn windows_have_the_parsers_features(rt: HostRuntime) -> Result<(), Fail> {
+    let mut parser = Parser::default();
+    same(&rt, parser.features(), WasmFeatures::all());
+    parser.set_features(WasmFeatures::MEMORY64);
+    same(&rt, parser.features(), WasmFeatures::MEMORY64);
+    let reader = parser.binary_reader(b"abc", 7);
+    same(&rt, reader.features(), WasmFeatures::MEMORY64);
+    same(&rt, reader.range(), 7..10);
+    pass(&mut parser, HEADER)?;
+    pass(&mut parser, b"\0\x02\x01a")?;
+    same(&rt, parser.features(), WasmFeatures::MEMORY64);
+    Ok(())
+}
+
+#[test]
+fn a_copy_goes_its_own_way(rt: HostRuntime) -> Result<(), Fail> {
+    let mut parser = after_header(0)?;
+    pass(&mut parser, b"\x03\x02\x01\0")?;
+    let mut copy = parser.clone()?;
+    pass(&mut copy, b"\x0a\x03\x01\x01")?;
+    pass(&mut copy, b"\x01\0")?;
+    same(&rt, (parser.offset(), copy.offset()), (12, 17));
+    same(&rt, end(&mut copy)?, Some(17));
+    same(
+        &rt,
+        refusal(&mut parser, b""),
+        Some(Error::new(Fault::FunctionWithoutCode, 12)),
+    );
+    Ok(())
+}
+
+// What a parser knows after a function section and the start of a code section whose one body is to come.
+#[test]
+fn a_checkpoint_in_a_code_section(rt: HostRuntime) -> Result<(), Fail> {
+    let mut parser = after_header(100)?;
+    pass(&mut parser, b"\x03\x02\x01\0")?;
+    pass(&mut parser, b"\x0a\x04\x01\x02\0\x0b")?;
+    let checkpoint = parser.checkpoint();
+    same(&rt, (checkpoint.offset, checkpoint.bodies), (115, 1));
+    same(&rt, (checkpoint.code_bytes, checkpoint.in_code), (3, true));
+    same(
+        &rt,
+        (checkpoint.functions, checkpoint.codes),
+        (Some(1), Some(1)),
+    );
+    same(
+        &rt,
+        (checkpoint.datas, checkpoint.data_counts),
+        (None, None),
+    );
+    same(&rt, checkpoint.expects_header, false);
+    same(&rt, checkpoint.encoding, Encoding::Module);
+    Ok(())
+}
+
+#[test]
+fn a_parser_goes_on_from_its_checkpoint(rt: HostRuntime) -> Result<(), Fail> {
+    let mut parser = after_header(0)?;
+    pass(&mut parser, b"\x03\x02\x01\0")?;
+    let checkpoint = parser.checkpoint();
+    pass(&mut parser, b"\x0a\x03\x01\x01")?;
+    pass(&mut parser, b"\x01\0")?;
+    same(&rt, end(&mut parser)?, Some(17));
+    let mut resumed = Parser::resume(checkpoint);
+    same(&rt, resumed.checkpoint() == checkpoint, true);
+    same(
+        &rt,
+        refusal(&mut resumed, b"\x03\x02\x01\0"),
+        Some(Error::new(Fault::OutOfOrder, 14)),
+    );
+    same(
+        &rt,
+        refusal(&mut resumed, b""),
+        Some(Error::new(Fault::FunctionWithoutCode, 12)),
+    );
+    Ok(())
+}
+
+// The payloads of a stream are these sections, or none.
+fn are_sections(
+    rt: &impl Abort,
+    stream: &[u8],
+    wanted: &[Option<(u8, Range<u64>)>],
+) -> Result<(), Fail> {
+    let mut count = 0usize;
+    for payload in Parser::new(0).parse_all(stream) {
+        let section = payload?.as_section();
+        assert!(rt; count < wanted.len());
+        assert!(rt; section == wanted[count], "{count}");
+        count += 1;
+    }
+    same(&rt, count, wanted.len());
+    Ok(())
+}
+
+#[test]
+fn sections_by_their_payloads(rt: HostRuntime) -> Result<(), Fail> {
+    let stream: &[u8] =
+        b"\0asm\x01\0\0\0\x01\x01\0\x02\x01\0\x03\x02\x01\0\x04\x01\0\x05\x01\0\x0d\x01\0\x06\x01\0\x07\x01\0\x08\x01\0\x09\x01\0\x0c\x01\0\x0a\x04\x01\x02\0\x0b\x0b\x01\0\0\x01\0\x0e\0";
+    let wanted = [
+        None,
+        Some((1, 10..11)),
+        Some((2, 13..14)),
+        Some((3, 16..18)),
+        Some((4, 20..21)),
+        Some((5, 23..24)),
+        Some((13, 26..27)),
+        Some((6, 29..30)),
+        Some((7, 32..33)),
+        Some((8, 35..36)),
+        Some((9, 38..39)),
+        Some((12, 41..42)),
+        Some((10, 44..48)),
+        None,
+        Some((11, 50..51)),
+        Some((0, 53..54)),
+        Some((14, 56..56)),
+        None,
+    ];
+    are_sections(&rt, stream, &wanted)
+}
