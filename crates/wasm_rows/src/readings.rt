@@ -2,10 +2,8 @@
 use crate::rows::Failed;
 use std::alloc::{AllocError, Global};
 use wasm_base::{Error, Fault, WasmFeatures};
-use wasm_feed::{
-    BoundedSink, Ended, Feeder, ListError, ShortText, SliceSource, Step, list, write_number,
-    write_payload,
-};
+use wasm_feed::{BoundedSink, Ended, Feeder, ListError, SliceSource, Step, list};
+use wasm_lines::{ShortText, write_number, write_payload};
 use wasm_parser::{Chunk, Parser, Payload};
 
 /// A stream.

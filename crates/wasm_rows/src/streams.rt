@@ -6,7 +6,7 @@ use crate::rows::Failed;
 use std::alloc::Global;
 use wasm_feed::Sink;
 use wasm_parser::Parser;
-use wasm_show::Tree;
+use wasm_tree::Tree;
 
 /// How many bytes of the result are written at once at most.
 const PART: usize = 65_536;

@@ -4,7 +4,7 @@ ghost use Rattle.std.specs.Prelude.{⊤};
 use std::alloc::Global;
 use wasm_base::{BinaryReader, NeverAllocates, Result, Subsection, Subsections};
 use wasm_feed::Sink;
-use wasm_show::Tree;
+use wasm_tree::Tree;
 
 /// An id, the number that the subsection begins with, and the offset after it.
 #[derive(Drop)]

@@ -4,7 +4,7 @@ use wasm_base::{
     SectionLimitedIntoIterWithOffsets,
 };
 use wasm_feed::Sink;
-use wasm_show::Tree;
+use wasm_tree::Tree;
 
 /// What a call returns, as fields of a line.
 trait Value: Drop {
