@@ -96,7 +96,8 @@ pub record RunsTelling (text : List ℕ) (handed_on : Bool) (input output errors
   pub source : IsUntouched input
   pub tells : Tells text handed_on output errors status
 
--- A run over the input that was asked for this; files it refuses, since it cannot open them. Where colours were asked for, what the output took says the same without them.
+-- A run over the input that was asked for this; files it refuses, since it cannot open them. Where colours were asked
+-- for, what the output took says the same without them.
 pub record Runs (asked : Asked) (handed_on : Bool) (input output errors : Device) (status : ℕ) : Type 0 where
   pub shows : (options : Options) → asked ≡ all options
       → Shows options (All ∷ []) handed_on input (seen_as options.is_colored output) errors status

@@ -1,5 +1,8 @@
 // Worked examples.
 mod colors;
+mod dumps;
 mod forms;
+mod golden;
 mod names;
+mod naming;
 mod runs;

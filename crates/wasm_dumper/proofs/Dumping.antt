@@ -483,7 +483,8 @@ puts : (outline line : List ℕ) → PutsBytes (Some outline) (Some (outline ++ 
 puts outline line = record { moved = line; writes = refl; waits = sym (append-nil line) }
 
 -- A step of the feeder was shown, and this is done next.
-pub record ShowsStep (only : List Only) (has_bytes : Bool) (counts counts' : Counts) (old new : Feed) (before after : Writing) (next : Turn) : Type 0 where
+pub record ShowsStep (only : List Only) (has_bytes : Bool) (counts counts' : Counts) (old new : Feed) (before after : Writing) (next : Turn)
+    : Type 0 where
   pub answer : Result Step Error
   pub steps : Steps old answer new
   pub turns : next ≡ turn_after answer

@@ -14,8 +14,8 @@ ghost use Rattle.wasm_feed.specs.Step.{answer_of, shown, is_request, GivesStep};
 mod lending;
 
 use crate::buffer::{after, append};
-use lending::take_left;
 pub use lending::seen;
+use lending::take_left;
 pub(crate) use lending::{keep, make_ready, pass_lent};
 use std::alloc::{Allocator, Global};
 use std::marker::Model;

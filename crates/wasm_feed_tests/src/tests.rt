@@ -1,13 +1,10 @@
 // Worked examples, devices that fail or go short, and memory that runs out.
 mod devices;
 mod digits;
-mod dumps;
 mod equal_events;
 mod feeding;
-mod golden;
 mod lending;
 mod listings;
-mod naming;
 mod pieces;
 mod reads;
 mod refusals;
