@@ -1,11 +1,11 @@
 // Imports.
-ghost use Rattle.std.specs.Prelude.{◌≡◌, ◌<◌, length};
-ghost use Rattle.wasm_base.specs.Hints.{TakesNoMemory};
+ghost use Rattle.std.specs.Prelude.{◌≡◌, ◌<◌, false, length};
+ghost use Rattle.wasm_base.specs.Hints.{TakesNoMemory, is_want_of_memory};
 ghost use Rattle.wasm_base.specs.Item.{ReadsAs};
 ghost use Rattle.wasm_base.specs.Outcome.{GivesBy};
 ghost use Rattle.wasm_base.specs.Window.{place, KeepsWindow};
 ghost use Rattle.wasm_base.specs.Features.{takes_import_bundles};
-ghost use Rattle.wasm_items.specs.Imports.{bundle_parts, module_bundle_at, type_bundle_at, single_at};
+ghost use Rattle.wasm_items.specs.Imports.{bundle_parts, bundle_byte_at, module_bundle_at, type_bundle_at, single_at};
 
 use crate::exports::ExternalKind;
 use crate::types::{GlobalType, MemoryType, TableType, TagType};
@@ -150,6 +150,21 @@ fn takes_bundles(reader: &BinaryReader<'_>) -> bool
     reader.features().contains(WasmFeatures::COMPACT_IMPORTS)
 }
 
+// Passes over the byte of a bundle. Where bundles aren't taken, this is the fault at it.
+fn pass_bundle_byte(fault: Fault, reader: &mut BinaryReader<'_>) -> Result<()>
+    requires byte { 0 < length (place reader.old).rest }
+    requires other { is_want_of_memory fault ≡ false }
+    ensures gives { GivesBy (λ nothing. nothing) result reader.old reader.new (bundle_byte_at fault) }
+    ensures keeps { KeepsWindow reader.old reader.new }
+    ensures memory { TakesNoMemory result }
+{
+    if !takes_bundles(reader) {
+        return Err(Error::new(fault, reader.original_position()));
+    }
+    reader.read_u8()?;
+    Ok(())
+}
+
 // Imports of one module.
 #[tactic(auto, unfolding(crate::specs::Imports::module_bundle_at))]
 fn read_module_bundle<'a>(module: &'a str, reader: &mut BinaryReader<'a>) -> Result<Imports<'a>>
@@ -158,10 +173,7 @@ fn read_module_bundle<'a>(module: &'a str, reader: &mut BinaryReader<'a>) -> Res
     ensures keeps { KeepsWindow reader.old reader.new }
     ensures memory { TakesNoMemory result }
 {
-    if !takes_bundles(reader) {
-        return Err(Error::new(Fault::Compact7F, reader.original_position()));
-    }
-    reader.read_u8()?;
+    pass_bundle_byte(Fault::Compact7F, reader)?;
     let items = read_inner(reader)?;
     Ok(Imports::Compact1 { module, items })
 }
@@ -174,10 +186,7 @@ fn read_type_bundle<'a>(module: &'a str, reader: &mut BinaryReader<'a>) -> Resul
     ensures keeps { KeepsWindow reader.old reader.new }
     ensures memory { TakesNoMemory result }
 {
-    if !takes_bundles(reader) {
-        return Err(Error::new(Fault::Compact7E, reader.original_position()));
-    }
-    reader.read_u8()?;
+    pass_bundle_byte(Fault::Compact7E, reader)?;
     let ty = reader.read()?;
     let names = read_inner(reader)?;
     Ok(Imports::Compact2 { module, ty, names })

@@ -1,7 +1,7 @@
 use Rattle.std.proofs.Common.{◌≡◌, List, ℕ, refl, ◌∙◌, ap}
 use Rattle.wasm_base.specs.Window.{Window, place, whole_window}
 use Rattle.wasm_custom.specs.Custom.{Custom}
-use Rattle.wasm_custom.specs.Known.{Known, names, dynamic_linking, readings, read_by_name, known_of}
+use Rattle.wasm_custom.specs.Known.{names, readings, read_by_name, known_of}
 use Rattle.wasm_custom.proofs.custom.CustomSectionReader.as_known_in.Goals as goal
 
 -- what a section with this name is
