@@ -21,7 +21,7 @@ use wasm_items::{
 };
 use wasm_show::{Show, Tree, show_items};
 
-/// How many bytes of a line are written at once at most.
+/// How many bytes are written at once at most.
 const PART: usize = 65_536;
 
 /// Reads tables from standard input, and writes their lines, with the result of each row in lines under it. A fault is a line in
@@ -61,14 +61,19 @@ fn show_lines<W: Sink>(alloc: Global, text: &str, out: &mut Tree<W>) -> Result<(
 
 // Writes a line of the input.
 fn echo<W: Sink>(line: &str, out: &mut Tree<W>) {
-    let mut rest = line.as_bytes();
+    write_bytes(line.as_bytes(), out);
+    out.first(b"\n");
+}
+
+/// Writes bytes as they are.
+pub(crate) fn write_bytes<W: Sink>(bytes: &[u8], out: &mut Tree<W>) {
+    let mut rest = bytes;
     while rest.len() > PART {
         let (first, later) = rest.split_at(PART);
         out.first(first);
         rest = later;
     }
     out.first(rest);
-    out.first(b"\n");
 }
 
 // Writes the result of a line, if it is a row.
