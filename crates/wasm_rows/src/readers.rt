@@ -2,7 +2,7 @@
 use crate::customs::show_custom;
 use crate::pieces::{Shown, show_pieces};
 use crate::readings::Stream;
-use crate::rows::{Failed, Row, is_prose, parse_row};
+use crate::rows::{Failed, Row, is_prose, parse_row, write_bytes};
 use crate::streams::{show_prefix, show_stream};
 use crate::subsections::show_subsections;
 use crate::values::show_value;
@@ -20,9 +20,6 @@ use wasm_items::{
     Table, TagType, TypeRef, ValType,
 };
 use wasm_show::{Show, Tree, show_items};
-
-/// How many bytes are written at once at most.
-const PART: usize = 65_536;
 
 /// Reads tables from standard input, and writes their lines, with the result of each row in lines under it. A fault is a line in
 /// the place of its item; so is `OutOfMemory`.
@@ -63,17 +60,6 @@ fn show_lines<W: Sink>(alloc: Global, text: &str, out: &mut Tree<W>) -> Result<(
 fn echo<W: Sink>(line: &str, out: &mut Tree<W>) {
     write_bytes(line.as_bytes(), out);
     out.first(b"\n");
-}
-
-/// Writes bytes as they are.
-pub(crate) fn write_bytes<W: Sink>(bytes: &[u8], out: &mut Tree<W>) {
-    let mut rest = bytes;
-    while rest.len() > PART {
-        let (first, later) = rest.split_at(PART);
-        out.first(first);
-        rest = later;
-    }
-    out.first(rest);
 }
 
 // Writes the result of a line, if it is a row.

@@ -1,9 +1,8 @@
 // The events of a whole stream, and those of a prefix.
-use crate::readers::write_bytes;
 use crate::readings::{
     Next, Stream, add_bytewise, add_fed, add_listed, add_next, add_number, add_walk,
 };
-use crate::rows::Failed;
+use crate::rows::{Failed, write_bytes};
 use std::alloc::Global;
 use wasm_feed::Sink;
 use wasm_parser::Parser;
