@@ -2,7 +2,7 @@
 use crate::customs::show_custom;
 use crate::pieces::{Shown, show_pieces};
 use crate::readings::Stream;
-use crate::rows::{Failed, Row, is_prose, parse_row};
+use crate::rows::{Failed, Row, is_prose, parse_row, write_bytes};
 use crate::streams::{show_prefix, show_stream};
 use crate::subsections::show_subsections;
 use crate::values::show_value;
@@ -21,9 +21,6 @@ use wasm_items::{
 };
 use wasm_show::{Show, show_items};
 use wasm_tree::Tree;
-
-/// How many bytes of a line are written at once at most.
-const PART: usize = 65_536;
 
 /// Reads tables from standard input, and writes their lines, with the result of each row in lines under it. A fault is a line in
 /// the place of its item; so is `OutOfMemory`.
@@ -62,13 +59,7 @@ fn show_lines<W: Sink>(alloc: Global, text: &str, out: &mut Tree<W>) -> Result<(
 
 // Writes a line of the input.
 fn echo<W: Sink>(line: &str, out: &mut Tree<W>) {
-    let mut rest = line.as_bytes();
-    while rest.len() > PART {
-        let (first, later) = rest.split_at(PART);
-        out.first(first);
-        rest = later;
-    }
-    out.first(rest);
+    write_bytes(line.as_bytes(), out);
     out.first(b"\n");
 }
 

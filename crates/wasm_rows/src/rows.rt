@@ -3,7 +3,11 @@ use bitflags::Flags;
 use std::alloc::{AllocError, Global};
 use std::io::{self, ErrorKind};
 use wasm_base::{Error, Fault, WasmFeatures};
-use wasm_feed::ListError;
+use wasm_feed::{ListError, Sink};
+use wasm_show::Tree;
+
+/// How many bytes are written at once at most.
+const PART: usize = 65_536;
 
 /// Why the lines of a row could not be written.
 #[derive(Debug, Drop)]
@@ -150,4 +154,15 @@ fn parse_digit(digit: u8) -> Result<u8, Failed> {
         b'a'..=b'f' => Ok(digit.wrapping_sub(b'a').wrapping_add(10)),
         _ => Err(Failed::Row("invalid hexadecimal digit")),
     }
+}
+
+/// Writes bytes as they are.
+pub(crate) fn write_bytes<W: Sink>(bytes: &[u8], out: &mut Tree<W>) {
+    let mut rest = bytes;
+    while rest.len() > PART {
+        let (first, later) = rest.split_at(PART);
+        out.first(first);
+        rest = later;
+    }
+    out.first(rest);
 }

@@ -2,14 +2,11 @@
 use crate::readings::{
     Next, Stream, add_bytewise, add_fed, add_listed, add_next, add_number, add_walk,
 };
-use crate::rows::Failed;
+use crate::rows::{Failed, write_bytes};
 use std::alloc::Global;
 use wasm_feed::Sink;
 use wasm_parser::Parser;
 use wasm_tree::Tree;
-
-/// How many bytes of the result are written at once at most.
-const PART: usize = 65_536;
 
 /// The sizes of the chunks in which a stream is read.
 const SIZES: [usize; 5] = [1, 2, 3, 7, 65_536];
@@ -23,7 +20,7 @@ pub(crate) fn show_stream<W: Sink>(
 ) -> Result<(), Failed> {
     let mut whole = Vec::new(alloc);
     add_walk(stream, true, &mut whole)?;
-    write_lines(&whole, out);
+    write_bytes(&whole, out);
     let mut lines = Vec::new(alloc);
     add_bytewise(stream, &mut lines)?;
     show_other("the parser, one byte at a time", &whole, &lines, out);
@@ -59,9 +56,9 @@ fn show_chunked<W: Sink>(
 fn show_other<W: Sink>(heading: &str, wanted: &[u8], lines: &[u8], out: &mut Tree<W>) {
     if wanted != lines {
         out.first(b"  differs: ");
-        write_lines(heading.as_bytes(), out);
+        write_bytes(heading.as_bytes(), out);
         out.first(b"\n");
-        write_lines(lines, out);
+        write_bytes(lines, out);
     }
 }
 
@@ -77,7 +74,7 @@ pub(crate) fn show_prefix<W: Sink>(
     add_prefix(&mut parser, stream.bytes, &mut lines)?;
     add_number(" offset=", parser.offset(), &mut lines)?;
     lines.extend_from_slice(b"\n")?;
-    write_lines(&lines, out);
+    write_bytes(&lines, out);
     Ok(())
 }
 
@@ -98,10 +95,4 @@ fn add_prefix(parser: &mut Parser, prefix: &[u8], lines: &mut Vec<u8>) -> Result
         }
     }
     Ok(())
-}
-
-fn write_lines<W: Sink>(lines: &[u8], out: &mut Tree<W>) {
-    for part in lines.chunks(PART) {
-        out.first(part);
-    }
 }

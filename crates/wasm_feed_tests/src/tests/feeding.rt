@@ -89,50 +89,6 @@ fn a_module_in_three_pieces(rt: HostRuntime) -> std::result::Result<(), Fail> {
     Ok(())
 }
 
-#[test]
-fn a_module_one_byte_at_a_time(rt: HostRuntime) -> std::result::Result<(), Fail> {
-    let mut feeder = Feeder::new(rt.alloc(), 0, WasmFeatures::all());
-    assert_eq!(rt; step(&mut feeder), Told::Asks(4));
-    // After each byte: how many bytes a step shows, if it shows any; then how many are asked for, and how many are held.
-    let rows: [(usize, usize, usize); 18] = [
-        (0, 3, 1),
-        (0, 2, 2),
-        (0, 1, 3),
-        (0, 4, 4),
-        (0, 3, 5),
-        (0, 2, 6),
-        (0, 1, 7),
-        (8, 1, 0),
-        (0, 1, 1),
-        (0, 2, 2),
-        (0, 1, 3),
-        (4, 1, 0),
-        (0, 1, 1),
-        (0, 1, 2),
-        (3, 1, 0),
-        (0, 2, 1),
-        (0, 1, 2),
-        (3, 1, 0),
-    ];
-    let mut rest = MODULE;
-    for (shown, hint, held) in rows {
-        let (byte, later) = rest.split_at(rest.len().min(1));
-        rest = later;
-        push(&mut feeder, byte)?;
-        if shown > 0 {
-            assert_eq!(rt; (feeder.held(), feeder.stored()), (shown, shown));
-            assert_eq!(rt; step(&mut feeder), Told::Shows(shown));
-        }
-        assert_eq!(rt; feeder.held(), held);
-        assert_eq!(rt; step(&mut feeder), Told::Asks(hint));
-        assert_eq!(rt; (feeder.held(), feeder.wants_more()), (held, true));
-    }
-    feeder.finish();
-    assert_eq!(rt; step(&mut feeder), Told::Ends(18));
-    assert_eq!(rt; feeder.held(), 0);
-    Ok(())
-}
-
 // The range of the section of imports that a step shows, if these are the bytes that it consumed.
 fn imports(step: &Step<'_>, consumed: &[u8]) -> Option<Range<u64>> {
     match step {
