@@ -31,64 +31,77 @@ after_text : (waiting text moved waiting' bytes : List ℕ) → waiting ++ text 
 after_text waiting text moved waiting' bytes e = sym (append_assoc waiting text bytes)
     ∙ (ap (λ (x : List ℕ). x ++ bytes) e ∙ append_assoc moved waiting' bytes)
 
--- a page that is given up after a text
-begins_after : (taken mid written : Option (List ℕ)) (waiting text moved waiting' bytes : List ℕ) → Appends taken mid moved
-    → waiting ++ text ≡ moved ++ waiting' → WritesBeginning mid written waiting'
-    → WritesBeginning taken written (waiting ++ (text ++ bytes))
-begins_after taken mid written waiting text moved waiting' bytes a e w = record {
-  moved = moved ++ w.moved;
-  unwritten = w.unwritten ++ bytes;
-  parts = after_text waiting text moved waiting' bytes e ∙ (ap (λ (x : List ℕ). moved ++ (x ++ bytes)) w.parts
-      ∙ (ap (λ (x : List ℕ). moved ++ x) (append_assoc w.moved w.unwritten bytes)
-      ∙ sym (append_assoc moved w.moved (w.unwritten ++ bytes))));
-  wrote = Appends-trans taken mid written moved w.moved a w.wrote;
-}
-
-cut_after : (taken mid written : Option (List ℕ)) (waiting text moved waiting' bytes : List ℕ) (why : ListError)
-    → Appends taken mid moved → waiting ++ text ≡ moved ++ waiting' → IsCut mid written waiting' why
-    → IsCut taken written (waiting ++ (text ++ bytes)) why
-cut_after taken mid written waiting text moved waiting' bytes Output a e w =
-    begins_after taken mid written waiting text moved waiting' bytes a e w
-cut_after taken mid written waiting text moved waiting' bytes Memory a e w =
-    begins_after taken mid written waiting text moved waiting' bytes a e w
-cut_after taken mid written waiting text moved waiting' bytes Input a e w = absurd w
-
--- a page that was given up before, of which more would have been put
-begins_still : (taken written : Option (List ℕ)) (waiting text bytes : List ℕ) → WritesBeginning taken written (waiting ++ text)
-    → WritesBeginning taken written (waiting ++ (text ++ bytes))
-begins_still taken written waiting text bytes w = record {
+-- a page that is given up before more is put on it
+wider : (taken written : Option (List ℕ)) (waiting bytes : List ℕ) → WritesBeginning taken written waiting
+    → WritesBeginning taken written (waiting ++ bytes)
+wider taken written waiting bytes w = record {
   moved = w.moved;
   unwritten = w.unwritten ++ bytes;
-  parts = after_text waiting text w.moved w.unwritten bytes w.parts;
+  parts = ap (λ (x : List ℕ). x ++ bytes) w.parts ∙ append_assoc w.moved w.unwritten bytes;
   wrote = w.wrote;
 }
 
-cut_still : (taken written : Option (List ℕ)) (waiting text bytes : List ℕ) (why : ListError) → IsCut taken written (waiting ++ text) why
+cut_wider : (taken written : Option (List ℕ)) (waiting bytes : List ℕ) (why : ListError) → IsCut taken written waiting why
+    → IsCut taken written (waiting ++ bytes) why
+cut_wider taken written waiting bytes Output w = wider taken written waiting bytes w
+cut_wider taken written waiting bytes Memory w = wider taken written waiting bytes w
+cut_wider taken written waiting bytes Input w = absurd w
+
+-- of a page that is given up later
+begins_later : (taken mid written : Option (List ℕ)) (waiting text moved waiting' bytes : List ℕ) → Appends taken mid moved
+    → waiting ++ text ≡ moved ++ waiting' → WritesBeginning mid written (waiting' ++ bytes)
+    → WritesBeginning taken written (waiting ++ (text ++ bytes))
+begins_later taken mid written waiting text moved waiting' bytes a e w = record {
+  moved = moved ++ w.moved;
+  unwritten = w.unwritten;
+  parts = after_text waiting text moved waiting' bytes e ∙ (ap (λ (x : List ℕ). moved ++ x) w.parts
+      ∙ sym (append_assoc moved w.moved w.unwritten));
+  wrote = Appends-trans taken mid written moved w.moved a w.wrote;
+}
+
+cut_later : (taken mid written : Option (List ℕ)) (waiting text moved waiting' bytes : List ℕ) (why : ListError)
+    → Appends taken mid moved → waiting ++ text ≡ moved ++ waiting' → IsCut mid written (waiting' ++ bytes) why
     → IsCut taken written (waiting ++ (text ++ bytes)) why
-cut_still taken written waiting text bytes Output w = begins_still taken written waiting text bytes w
-cut_still taken written waiting text bytes Memory w = begins_still taken written waiting text bytes w
-cut_still taken written waiting text bytes Input w = absurd w
+cut_later taken mid written waiting text moved waiting' bytes Output a e w =
+    begins_later taken mid written waiting text moved waiting' bytes a e w
+cut_later taken mid written waiting text moved waiting' bytes Memory a e w =
+    begins_later taken mid written waiting text moved waiting' bytes a e w
+cut_later taken mid written waiting text moved waiting' bytes Input a e w = absurd w
 
 -- ---- a writer
 
+-- bytes that are put are a text
+as_text : (old new : Writing) (bytes : List ℕ) (a b : Option ListError) → PutsAs a b bytes old new → PutsText a b bytes old new
+as_text old new bytes (Some why) b p = p
+as_text old new bytes None None p = p
+as_text old new bytes None (Some why) p = record {
+  cut = cut_wider old.taken new.taken old.waiting bytes why p.cut;
+  begun = p.begun;
+  failed = p.failed;
+  style = p.style;
+  spot = p.spot;
+}
+
+-- what is put after what was put
 module _ (since now new : Writing) (text bytes : List ℕ) where
   -- by why each has stopped
-  more : (a b c : Option ListError) → since.why ≡ a → now.why ≡ b → new.why ≡ c → PutsText a b text since now → PutsAs b c bytes now new
-      → PutsText a c (text ++ bytes) since new
-  more (Some why) b c ea eb ec p q =
+  joined : (a b c : Option ListError) → since.why ≡ a → now.why ≡ b → new.why ≡ c → PutsText a b text since now
+      → PutsText b c bytes now new → PutsText a c (text ++ bytes) since new
+  joined (Some why) b c ea eb ec p q =
       let stopped : b ≡ Some why = sym eb ∙ (ap (λ (w : Writing). w.why) p ∙ ea) in
-      subst (λ (x : Option ListError). PutsAs x c bytes now new) stopped q ∙ p
-  more None (Some why) c ea eb ec p q =
+      subst (λ (x : Option ListError). PutsText x c bytes now new) stopped q ∙ p
+  joined None (Some why) c ea eb ec p q =
       let same : Some why ≡ c = sym eb ∙ (ap (λ (w : Writing). w.why) (sym q) ∙ ec) in
       subst (λ (x : Option ListError). PutsText None x (text ++ bytes) since new) same
       (subst (λ (w : Writing). StopsIn (text ++ bytes) why since w) (sym q) (record {
-        cut = cut_still since.taken now.taken since.waiting text bytes why p.cut;
+        cut = subst (λ (x : List ℕ). IsCut since.taken now.taken x why) (append_assoc since.waiting text bytes)
+            (cut_wider since.taken now.taken (since.waiting ++ text) bytes why p.cut);
         begun = p.begun;
         failed = p.failed;
         style = p.style;
         spot = p.spot;
       }))
-  more None None None ea eb ec p q = record {
+  joined None None None ea eb ec p q = record {
     puts = record {
       moved = p.puts.moved ++ q.puts.moved;
       writes = Appends-trans since.taken now.taken new.taken p.puts.moved q.puts.moved p.puts.writes q.puts.writes;
@@ -102,8 +115,8 @@ module _ (since now new : Writing) (text bytes : List ℕ) where
     spot = q.spot ∙ p.spot;
     unshown = q.unshown ∙ p.unshown;
   }
-  more None None (Some why) ea eb ec p q = record {
-    cut = cut_after since.taken now.taken new.taken since.waiting text p.puts.moved now.waiting bytes why p.puts.writes p.puts.waits q.cut;
+  joined None None (Some why) ea eb ec p q = record {
+    cut = cut_later since.taken now.taken new.taken since.waiting text p.puts.moved now.waiting bytes why p.puts.writes p.puts.waits q.cut;
     begun = q.begun ∙ p.begun;
     failed = q.failed ∙ ap (λ (b : Bool). output_failed {A = Unit {0}} (Err why) b) p.failed;
     style = q.style ∙ p.style;
@@ -111,7 +124,14 @@ module _ (since now new : Writing) (text bytes : List ℕ) where
   }
 
   pub puts_more : HasLine since text now → Puts bytes now new → HasLine since (text ++ bytes) new
-  puts_more h q = record { begun = h.begun; lines = h.lines; puts = more since.why now.why new.why refl refl refl h.puts q }
+  puts_more h q = record {
+    begun = h.begun;
+    lines = h.lines;
+    puts = joined since.why now.why new.why refl refl refl h.puts (as_text now new bytes now.why new.why q);
+  }
+
+  joins : HasLine since text now → HasLine now bytes new → HasLine since (text ++ bytes) new
+  joins h k = record { begun = h.begun; lines = h.lines; puts = joined since.why now.why new.why refl refl refl h.puts k.puts }
 
 begun_by : (since now : Writing) (text : List ℕ) (a b : Option ListError) → since.is_begun ≡ true → PutsText a b text since now
     → now.is_begun ≡ true
@@ -189,56 +209,6 @@ says_value name value x y z p q = says_same _ _ x z (ap (λ (t : List ℕ). code
 -- a text is some
 pub says_some : (text : List ℕ) (x y : Writing) → Says text x y → SaysSome x y
 says_some text x y p since m = record { text = m.text ++ text; has = p since m.text m.has }
-
--- of a page that is given up later
-begins_later : (taken mid written : Option (List ℕ)) (waiting text moved waiting' bytes : List ℕ) → Appends taken mid moved
-    → waiting ++ text ≡ moved ++ waiting' → WritesBeginning mid written (waiting' ++ bytes)
-    → WritesBeginning taken written (waiting ++ (text ++ bytes))
-begins_later taken mid written waiting text moved waiting' bytes a e w = record {
-  moved = moved ++ w.moved;
-  unwritten = w.unwritten;
-  parts = after_text waiting text moved waiting' bytes e ∙ (ap (λ (x : List ℕ). moved ++ x) w.parts
-      ∙ sym (append_assoc moved w.moved w.unwritten));
-  wrote = Appends-trans taken mid written moved w.moved a w.wrote;
-}
-
-cut_later : (taken mid written : Option (List ℕ)) (waiting text moved waiting' bytes : List ℕ) (why : ListError)
-    → Appends taken mid moved → waiting ++ text ≡ moved ++ waiting' → IsCut mid written (waiting' ++ bytes) why
-    → IsCut taken written (waiting ++ (text ++ bytes)) why
-cut_later taken mid written waiting text moved waiting' bytes Output a e w =
-    begins_later taken mid written waiting text moved waiting' bytes a e w
-cut_later taken mid written waiting text moved waiting' bytes Memory a e w =
-    begins_later taken mid written waiting text moved waiting' bytes a e w
-cut_later taken mid written waiting text moved waiting' bytes Input a e w = absurd w
-
--- what is put after what was put
-module _ (since now new : Writing) (text bytes : List ℕ) where
-  joined : (a b c : Option ListError) → since.why ≡ a → now.why ≡ b → new.why ≡ c → PutsText a b text since now
-      → PutsText b c bytes now new → PutsText a c (text ++ bytes) since new
-  joined (Some why) b c ea eb ec p q =
-      let stopped : b ≡ Some why = sym eb ∙ (ap (λ (w : Writing). w.why) p ∙ ea) in
-      subst (λ (x : Option ListError). PutsText x c bytes now new) stopped q ∙ p
-  joined None (Some why) c ea eb ec p q =
-      let same : Some why ≡ c = sym eb ∙ (ap (λ (w : Writing). w.why) (sym q) ∙ ec) in
-      subst (λ (x : Option ListError). PutsText None x (text ++ bytes) since new) same
-      (subst (λ (w : Writing). StopsIn (text ++ bytes) why since w) (sym q) (record {
-        cut = cut_still since.taken now.taken since.waiting text bytes why p.cut;
-        begun = p.begun;
-        failed = p.failed;
-        style = p.style;
-        spot = p.spot;
-      }))
-  joined None None None ea eb ec p q = more since now new text bytes None None None ea eb ec p q
-  joined None None (Some why) ea eb ec p q = record {
-    cut = cut_later since.taken now.taken new.taken since.waiting text p.puts.moved now.waiting bytes why p.puts.writes p.puts.waits q.cut;
-    begun = q.begun ∙ p.begun;
-    failed = q.failed ∙ ap (λ (b : Bool). output_failed {A = Unit {0}} (Err why) b) p.failed;
-    style = q.style ∙ p.style;
-    spot = q.spot ∙ p.spot;
-  }
-
-  joins : HasLine since text now → HasLine now bytes new → HasLine since (text ++ bytes) new
-  joins h k = record { begun = h.begun; lines = h.lines; puts = joined since.why now.why new.why refl refl refl h.puts k.puts }
 
 -- a field whose value is some text
 pub says_named : (name : List ℕ) (x y z : Writing) → Says (codes " " ++ (name ++ codes "=")) x y → SaysSome y z
