@@ -1,9 +1,10 @@
 // Loops over a source by a feeder.
 use bitflags::Flags;
 use std::alloc::Global;
+use std::process::Abort;
 use std::test::Fail;
-use wasm_feed::{Feeder, SliceSource, Step};
-use wasm_parser::{Payload, WasmFeatures};
+use wasm_feed::{Ahead, Cursor, Feeder, SliceSource, Step, parse_next, seen};
+use wasm_parser::{Error, Fault, Parser, Payload, Result as ParserResult, WasmFeatures};
 
 // A header, a function section, and a code section with one body.
 const MODULE: &[u8] = b"\0asm\x01\0\0\0\x03\x02\x01\0\x0a\x04\x01\x02\0\x0b";
@@ -72,5 +73,110 @@ fn a_source_with_nothing_is_at_its_end(rt: HostRuntime) -> Result<(), Fail> {
     );
     assert!(rt; feeder.step().is_err());
     assert!(rt; !feeder.wants_more());
+    Ok(())
+}
+
+// What a step says.
+#[derive(Clone, Copy, Debug, PartialEq, Eq)]
+enum Said {
+    Asks,
+    Shows(usize),
+    End,
+    Fault(Error),
+}
+
+fn say(step: ParserResult<Step<'_>>) -> Said {
+    match step {
+        Ok(Step::NeedMoreData(_)) => Said::Asks,
+        Ok(Step::Parsed { bytes, payload }) => {
+            if is_end(payload) {
+                Said::End
+            } else {
+                Said::Shows(bytes.len())
+            }
+        }
+        Err(error) => Said::Fault(error),
+    }
+}
+
+// The next step beside the chunk that was read last.
+fn next_said(
+    ahead: &mut Ahead<Global>,
+    cursor: &mut Cursor,
+    stored: &mut Vec<u8>,
+) -> Result<Said, Fail> {
+    ahead.make_ready(cursor, stored)?;
+    Ok(say(parse_next(cursor, seen(stored, ahead.bytes()))))
+}
+
+// Each later step says the same.
+fn stays(
+    rt: &impl Abort,
+    ahead: &mut Ahead<Global>,
+    cursor: &mut Cursor,
+    stored: &mut Vec<u8>,
+    said: Said,
+) -> Result<(), Fail> {
+    for _ in 0..3 {
+        ahead.pass_lent(cursor, stored);
+        assert_eq!(rt; next_said(ahead, cursor, stored)?, said);
+    }
+    Ok(())
+}
+
+// How many reads and how many steps without a request it takes to read these bytes by chunks of so many, parsed where they are, and what
+// the last step says.
+fn read_lent(
+    rt: &impl Abort,
+    alloc: Global,
+    bytes: &[u8],
+    size: usize,
+) -> Result<(u32, u32, Said), Fail> {
+    let mut source = SliceSource::new(bytes);
+    let mut ahead = Ahead::new(vec![in alloc; 0u8; size.max(1)]?);
+    let mut stored = Vec::new(alloc);
+    let mut cursor = Cursor::new(Parser::new(0));
+    let mut reads = 0u32;
+    let mut steps = 0u32;
+    for _turn in 0..200 {
+        ahead.make_ready(&mut cursor, &mut stored)?;
+        let said = say(parse_next(&mut cursor, seen(&stored, ahead.bytes())));
+        match said {
+            Said::Asks => {
+                ahead.refill(&mut cursor, &mut stored, &mut source)?;
+                reads = reads.wrapping_add(1);
+            }
+            Said::Shows(_) => {
+                ahead.pass_lent(&mut cursor, &stored);
+                steps = steps.wrapping_add(1);
+            }
+            last => {
+                stays(rt, &mut ahead, &mut cursor, &mut stored, last)?;
+                return Ok((reads, steps, last));
+            }
+        }
+    }
+    Err("no last step".into())
+}
+
+#[test]
+fn chunks_are_parsed_where_they_are(rt: HostRuntime) -> Result<(), Fail> {
+    let heap = rt.alloc();
+    assert_eq!(rt; read_lent(&rt, heap, MODULE, 18)?, (2, 4, Said::End));
+    assert_eq!(rt; read_lent(&rt, heap, MODULE, 3)?, (7, 4, Said::End));
+    assert_eq!(rt; read_lent(&rt, heap, MODULE, 1)?, (19, 4, Said::End));
+    Ok(())
+}
+
+#[test]
+fn a_fault_in_a_chunk_stays(rt: HostRuntime) -> Result<(), Fail> {
+    let heap = rt.alloc();
+    let fault = Said::Fault(Error::new(Fault::MalformedSectionId, 8));
+    let stream = b"\0asm\x01\0\0\0\x80\x01\x01\0";
+    assert_eq!(rt; read_lent(&rt, heap, stream, 100)?, (1, 1, fault));
+    assert_eq!(rt; read_lent(&rt, heap, stream, 9)?, (1, 1, fault));
+    assert_eq!(rt; read_lent(&rt, heap, stream, 1)?, (9, 1, fault));
+    let none = Said::Fault(Error::new(Fault::UnexpectedEof, 0));
+    assert_eq!(rt; read_lent(&rt, heap, b"", 4)?, (1, 0, none));
     Ok(())
 }

@@ -5,7 +5,7 @@ use bitflags::Flags;
 use std::ops::Range;
 use std::process::Abort;
 use std::test::Fail;
-use wasm_parser::{Encoding, Error, Fault, Parser, WasmFeatures};
+use wasm_parser::{Encoding, Error, Fault, Parser, Payload, WasmFeatures};
 
 #[test]
 fn headers_are_distinguished(rt: HostRuntime) -> Result<(), Fail> {
@@ -118,10 +118,12 @@ fn are_sections(
     Ok(())
 }
 
+// A section of each kind, a body, and a section that is not known.
+const SECTIONS: &[u8] =
+    b"\0asm\x01\0\0\0\x01\x01\0\x02\x01\0\x03\x02\x01\0\x04\x01\0\x05\x01\0\x0d\x01\0\x06\x01\0\x07\x01\0\x08\x01\0\x09\x01\0\x0c\x01\0\x0a\x04\x01\x02\0\x0b\x0b\x01\0\0\x01\0\x0e\0";
+
 #[test]
 fn sections_by_their_payloads(rt: HostRuntime) -> Result<(), Fail> {
-    let stream: &[u8] =
-        b"\0asm\x01\0\0\0\x01\x01\0\x02\x01\0\x03\x02\x01\0\x04\x01\0\x05\x01\0\x0d\x01\0\x06\x01\0\x07\x01\0\x08\x01\0\x09\x01\0\x0c\x01\0\x0a\x04\x01\x02\0\x0b\x0b\x01\0\0\x01\0\x0e\0";
     let wanted = [
         None,
         Some((1, 10..11)),
@@ -142,5 +144,44 @@ fn sections_by_their_payloads(rt: HostRuntime) -> Result<(), Fail> {
         Some((14, 56..56)),
         None,
     ];
-    are_sections(&rt, stream, &wanted)
+    are_sections(&rt, SECTIONS, &wanted)
+}
+
+// The id and the count of a payload that begins with a count of items.
+fn counted(payload: &Payload<'_>) -> Option<(u8, u32)> {
+    let section = payload.as_counted()?;
+    Some((section.id, section.count))
+}
+
+#[test]
+fn counted_sections_by_their_payloads(rt: HostRuntime) -> Result<(), Fail> {
+    let wanted = [
+        None,
+        Some((1, 0)),
+        Some((2, 0)),
+        Some((3, 1)),
+        Some((4, 0)),
+        Some((5, 0)),
+        Some((13, 0)),
+        Some((6, 0)),
+        Some((7, 0)),
+        None,
+        Some((9, 0)),
+        None,
+        None,
+        None,
+        Some((11, 0)),
+        None,
+        None,
+        None,
+    ];
+    let mut count = 0usize;
+    for payload in Parser::new(0).parse_all(SECTIONS) {
+        let payload = payload?;
+        assert!(rt; count < wanted.len());
+        assert!(rt; counted(&payload) == wanted[count], "{count}");
+        count += 1;
+    }
+    same(&rt, count, wanted.len());
+    Ok(())
 }
