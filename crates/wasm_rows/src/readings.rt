@@ -46,15 +46,23 @@ pub(crate) fn add_walk(
     for event in stream.parser().parse_all(stream.bytes) {
         match event {
             Ok(payload) => add_event(&payload, lines)?,
-            Err(error) if hints => add_fault(&error, lines)?,
-            Err(error) => add_fault(&error.without_needed_hint(), lines)?,
+            Err(error) => add_fault(&shown(error, hints), lines)?,
         }
         lines.extend_from_slice(b"\n")?;
     }
     Ok(())
 }
 
-/// Adds the lines of a stream that the parser is given one byte more of at a time. Each event is taken as soon as it is complete.
+// A fault with its hint, or without.
+fn shown(error: Error, hints: bool) -> Error {
+    if hints {
+        error
+    } else {
+        error.without_needed_hint()
+    }
+}
+
+/// Adds the lines of a stream of which the parser is given one more byte at a time. Each event is taken as soon as it is complete.
 pub(crate) fn add_bytewise(stream: &Stream<'_>, lines: &mut Vec<u8>) -> Result<(), AllocError> {
     let mut parser = stream.parser();
     let mut from = 0_usize;
