@@ -6,13 +6,13 @@ use Rattle.std.specs.Vec.Iter.{into_iter_items}
 use Rattle.wasm_grammar.specs.Ids.{id_named}
 use Rattle.wasm_dumper.specs.declared.events.Only.{Only}
 use Rattle.wasm_dumper.specs.declared.events.Only.TheVariants.{All, Id, Name}
-use Rattle.wasm_cli.specs.declared.dump.words.Beginning.{Beginning}
-use Rattle.wasm_cli.specs.declared.dump.words.Beginning.TheVariants.{Word, Marked, Other, Nothing}
+use Rattle.wasm_cli.specs.declared.dump.command.Beginning.{Beginning}
+use Rattle.wasm_cli.specs.declared.dump.command.Beginning.TheVariants.{Word, Marked, Other, Nothing}
 use Rattle.wasm_cli.specs.declared.dump.options.Mark.{Mark}
 use Rattle.wasm_cli.specs.declared.dump.options.Options.{Options}
 use Rattle.wasm_cli.specs.Options.{mark_named, no_options, with_marks}
-use Rattle.wasm_cli.specs.declared.dump.words.Rest.{Rest}
-use Rattle.wasm_cli.specs.declared.dump.words.Split.{Split}
+use Rattle.wasm_cli.specs.declared.dump.command.Rest.{Rest}
+use Rattle.wasm_cli.specs.declared.dump.command.Split.{Split}
 
 abbrev pub is_section : List ℕ → Bool
 is_section word = bytes_eq word (codes "--section")

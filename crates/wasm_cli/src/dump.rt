@@ -7,7 +7,6 @@ mod inks;
 mod options;
 mod plain;
 mod program;
-mod words;
 
 pub use colored::Colored;
 pub use options::Options;

@@ -1,15 +1,97 @@
-// What the program is asked for.
-ghost use Rattle.std.specs.Prelude.{◌≡◌, [], IfNone, IfSome, Some, drop, map, string_bytes};
+// What the arguments ask for, and which sections their words choose.
+ghost use Rattle.std.specs.Prelude.{◌≡◌, [], IfNone, IfOk, IfSome, OnErr, Some, drop, map, string_bytes};
 ghost use Rattle.std.specs.Vec.Iter.{into_iter_items};
 ghost use Rattle.wasm_cli.specs.DumpCommands.{WantsMemory, asked_after, asked_alone, asked_by, asked_by_one, asked_if_any, asked_of, asked_to_show, asked_with, is_option};
-ghost use Rattle.wasm_cli.specs.Words.{rest_given, words_of};
+ghost use Rattle.wasm_cli.specs.Words.{Begins, ChooseInTurn, Chooses, IsSplit, rest_given, words_of};
 
-use super::options::Options;
-use super::words::{Rest, Split, split_words};
+use super::options::{Mark, Options, mark_of};
 use crate::common::is_no_text;
-use std::alloc::Global;
+use std::alloc::{AllocError, Global};
 use std::env::Args;
 use std::io;
+use wasm_dumper::Only;
+use wasm_grammar::section_named;
+
+/// Arguments, of which there is one at least.
+#[derive(Drop)]
+pub(super) struct Rest {
+    pub(super) first: String,
+    pub(super) more: Args,
+}
+
+// The words that arguments choose sections by, what else their options ask for, and the arguments after these.
+#[derive(Drop)]
+struct Split {
+    words: Vec<String>,
+    options: Options,
+    rest: Option<Rest>,
+}
+
+// What arguments begin with.
+#[derive(Drop)]
+enum Beginning {
+    // A word that chooses sections.
+    Word(String),
+    // An option that stands alone.
+    Marked(Mark),
+    // Another argument.
+    Other(String),
+    // Nothing.
+    Nothing,
+}
+
+// Takes what arguments begin with: `--section` and a word, another option, or another argument.
+fn take_beginning(arguments: &mut Args) -> Beginning
+    ensures { Begins result (map string_bytes (into_iter_items arguments.old))
+        (map string_bytes (into_iter_items arguments.new)) }
+{
+    let Some(first) = arguments.next() else {
+        return Beginning::Nothing;
+    };
+    if let Some(mark) = mark_of(first.as_str()) {
+        return Beginning::Marked(mark);
+    }
+    if first.as_str() != "--section" {
+        return Beginning::Other(first);
+    }
+    match arguments.next() {
+        Some(word) => Beginning::Word(word),
+        None => Beginning::Other(first),
+    }
+}
+
+// Splits the arguments after the program's own name. Memory can be refused only where there are words to keep.
+fn split_words(alloc: Global, mut arguments: Args) -> Result<Split, AllocError>
+    ensures ok { IfOk result (λ split. IsSplit split (map string_bytes (into_iter_items arguments))) }
+    ensures err { OnErr result (¬ (words_of (map string_bytes (into_iter_items arguments)) ≡ [])) }
+{
+    let mut words = Vec::new(alloc);
+    let mut options = Options::new();
+    'words: loop {
+        match take_beginning(&mut arguments) {
+            Beginning::Word(word) => words.push(word)?,
+            Beginning::Marked(mark) => options = options.with(mark),
+            Beginning::Other(first) => {
+                let rest = Rest {
+                    first,
+                    more: arguments,
+                };
+                return Ok(Split {
+                    words,
+                    options,
+                    rest: Some(rest),
+                });
+            }
+            Beginning::Nothing => {
+                return Ok(Split {
+                    words,
+                    options,
+                    rest: None,
+                });
+            }
+        }
+    }
+}
 
 /// Files that are to be dumped, the words that choose sections of them, and what else is asked for.
 #[derive(Drop)]
@@ -162,4 +244,28 @@ pub(super) fn command_asked(alloc: Global, arguments: io::Result<Args>) -> Optio
             }
         }
     }
+}
+
+// The sections that a word chooses: an id, a name of the standard, or the name of a custom section.
+fn sections_named(word: &str) -> Only<'_>
+    ensures { Chooses word.now result }
+{
+    match word.parse::<u8>() {
+        Ok(id) => Only::Id(id),
+        Err(_) => match section_named(word) {
+            Some(id) => Only::Id(id),
+            None => Only::Name(word),
+        },
+    }
+}
+
+/// The sections that these words choose, one after the other.
+pub(super) fn chosen_by<'w>(alloc: Global, words: &'w [String]) -> Result<Vec<Only<'w>>, AllocError>
+    ensures { IfOk result (λ only. ChooseInTurn (map string_bytes words.now) only.items) }
+{
+    let mut only = Vec::new(alloc);
+    for word in words {
+        only.push(sections_named(word.as_str()))?;
+    }
+    Ok(only)
 }

@@ -2,10 +2,9 @@
 ghost use Rattle.std.specs.Prelude.{◌≡◌};
 ghost use Rattle.wasm_cli.specs.Endings.{status_of};
 
-use super::command::Named;
+use super::command::{Named, Rest, chosen_by};
 use super::options::Options;
 use super::program::{answer, dump_as, refuse_names, show_input};
-use super::words::{Rest, chosen_by};
 use crate::common::{complain, give_up};
 use std::alloc::Global;
 use std::env::Args;

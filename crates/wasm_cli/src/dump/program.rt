@@ -11,10 +11,9 @@ ghost use Rattle.wasm_cli.specs.DumpCommands.{WantsMemory, asked_if_any, asked_o
 ghost use Rattle.wasm_cli.specs.DumpRuns.{HandsOn, Runs, RunsDump, RunsProgram, Shows, ShowsChosen, Tells, help_text, names_usage, version_text};
 
 use super::colored::Colored;
-use super::command::{Command, command_asked};
+use super::command::{Command, chosen_by, command_asked};
 use super::files::run_files;
 use super::options::Options;
-use super::words::chosen_by;
 use crate::common::{PIECE, complain, give_up};
 use std::alloc::Global;
 use std::env::{self, Args};

@@ -1,7 +1,7 @@
 use Rattle.std.proofs.Common.{length, map, string_bytes}
 use Rattle.std.specs.Vec.Iter.{into_iter_items}
 use Rattle.wasm_cli.proofs.Splitting.{Kept}
-use Rattle.wasm_cli.proofs.dump.words.split_words.Given as goal
+use Rattle.wasm_cli.proofs.dump.command.split_words.Given as goal
 
 abbrev pub invariant-words : goal.invariant-words
 invariant-words l =
