@@ -8,7 +8,7 @@ use Rattle.wasm_grammar.specs.Content.{Ending, fault, ended}
 use Rattle.wasm_grammar.specs.EventRanges.{consumed_by}
 use Rattle.wasm_grammar.specs.Reading.{Report, Event, last_event, Reading}
 use Rattle.wasm_parser.specs.Along.{ReadingBegins}
-use Rattle.wasm_lines.specs.Calls.{Change, Device, bytes_of}
+use Rattle.wasm_lines.specs.Calls.{Change, Device, bytes_of, input_failed, output_failed}
 use Rattle.wasm_feed.specs.Feed.{Feed, pushed, finished}
 use Rattle.wasm_lines.specs.Listing.{line_of, listing_by}
 use Rattle.wasm_feed.specs.declared.listing.Ended.{Ended}
