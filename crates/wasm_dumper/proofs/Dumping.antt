@@ -504,7 +504,7 @@ shows_step only has_bytes c c' f stored piece items rest bytes old new x now rea
       answer = x;
       steps = progress.lent f stored piece items rest bytes old new x from sees read items_are rest_is parses shows finished wants;
       turns = turns;
-      shows = rw kept answer;
+      shows = rw (← kept) answer;
       counted = counted;
     }
 
