@@ -1,5 +1,5 @@
 // A piece of a source, beside what is stored of the stream before it.
-ghost use Rattle.std.specs.Prelude.{◌≡◌, ◌+◌, ◌<◌, ◌≤◌, [], drop, length, vec_len, vec_capacity, is_ok, true, IfErr, OnOk, if◌then◌else◌};
+ghost use Rattle.std.specs.Prelude.{◌≡◌, ◌+◌, ◌<◌, ◌≤◌, [], drop, length, vec_len, vec_capacity, is_ok, true, IfErr, OnErr, OnOk, if◌then◌else◌};
 ghost use Rattle.wasm_feed.specs.Beside.{beside, lending, Fetches, ReadsEnough, RefillsAlike};
 ghost use Rattle.wasm_feed.specs.Cursors.{feed_of};
 ghost use Rattle.wasm_lines.specs.Calls.{input_failed};
@@ -33,7 +33,7 @@ impl<A: Allocator> Model for Ahead<A> {
 }
 
 impl<A: Allocator> Ahead<A> {
-    /// Nothing yet, and a buffer to read into, which has a byte.
+    /// No bytes yet, and a buffer to read into, which has at least one byte.
     pub fn new(buffer: Vec<u8, A>) -> Self
         requires { 0 < vec_len buffer }
         ensures { result ≡ [] }
@@ -45,14 +45,14 @@ impl<A: Allocator> Ahead<A> {
         }
     }
 
-    /// What is left of the piece.
+    /// The remaining bytes of the chunk.
     pub fn bytes(&self) -> &[u8]
         ensures { result.now ≡ self.now }
     {
         &self.buffer[self.start..self.end]
     }
 
-    // Passes so many bytes of it.
+    // Passes so many of them.
     fn pass(&mut self, count: usize)
         requires { count ≤ length self.old }
         ensures { self.new ≡ drop count self.old }
@@ -60,20 +60,30 @@ impl<A: Allocator> Ahead<A> {
         self.start += count;
     }
 
-    // Reads the next piece in place of what is left. It is empty only at the end of the source.
+    // Reads the next chunk in place of the remaining bytes. It is empty only at the end of the source, or where the read failed.
     fn fetch<R: Source>(&mut self, input: &mut R) -> Result<(), Failed>
         ensures fetches { Fetches (R.remaining input.old) (R.remaining input.new)
             self.new result }
         ensures failed { R.has_failed input.new
             ≡ (if is_ok result then R.has_failed input.old else true) }
+        ensures none { OnErr result (self.new ≡ []) }
     {
-        let count = input.read(self.buffer.as_mut_slice())?;
-        self.start = 0;
-        self.end = count;
-        Ok(())
+        self.end = self.start;
+        match input.read(self.buffer.as_mut_slice()) {
+            Ok(count) => {
+                self.start = 0;
+                self.end = count;
+                Ok(())
+            }
+            Err(failed) => Err(failed),
+        }
     }
 
-    /// Stores what the next step has to read after the bytes that are held.
+    /// Stores the bytes that the next step has to read after those that are held: none, unless the end of a chunk cut a part.
+    ///
+    /// # Errors
+    ///
+    /// `Memory` when an allocation fails. The feeder is then where it was.
     pub fn make_ready(
         &mut self,
         cursor: &mut Cursor,
@@ -84,6 +94,8 @@ impl<A: Allocator> Ahead<A> {
         ensures enough { OnOk result (ReadsEnough stored.new.items self.new cursor.new) }
         ensures room { OnOk result (vec_len stored.new + length self.new
             ≤ vec_capacity stored.new) }
+        ensures unchanged { OnErr result (beside (feed_of stored.new.items cursor.new) self.new
+            ≡ beside (feed_of stored.old.items cursor.old) self.old) }
         ensures memory { IfErr result (λ e. e ≡ Memory) }
     {
         let count = make_ready(cursor, stored, self.bytes())?;
@@ -91,7 +103,7 @@ impl<A: Allocator> Ahead<A> {
         Ok(())
     }
 
-    /// Passes what a step consumed.
+    /// Passes the bytes that a step consumed.
     pub fn pass_lent(&mut self, cursor: &mut Cursor, stored: &[u8])
         ensures { beside (feed_of stored.now cursor.new) self.new
             ≡ lending stored.now self.old cursor.old }
@@ -100,7 +112,11 @@ impl<A: Allocator> Ahead<A> {
         self.pass(count);
     }
 
-    /// Stores what a step left, for which there must be room, and reads once: the next piece, or that the stream has ended.
+    /// Stores the bytes that a step left, for which `make_ready` made room, and reads once: the next chunk, or that the stream has ended.
+    ///
+    /// # Errors
+    ///
+    /// `Input` when the source fails. The feeder then holds the same bytes, all of them stored.
     pub fn refill<R: Source>(
         &mut self,
         cursor: &mut Cursor,
@@ -111,6 +127,8 @@ impl<A: Allocator> Ahead<A> {
         ensures refills { RefillsAlike (R.remaining input.old) (R.remaining input.new)
             (lending stored.old.items self.old cursor.old)
             (beside (feed_of stored.new.items cursor.new) self.new) result }
+        ensures unchanged { OnErr result (beside (feed_of stored.new.items cursor.new) self.new
+            ≡ lending stored.old.items self.old cursor.old) }
         ensures failed { R.has_failed input.new
             ≡ input_failed result (R.has_failed input.old) }
     {
