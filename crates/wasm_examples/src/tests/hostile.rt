@@ -127,11 +127,8 @@ fn has_next<'a>(names: &mut Subsections<'a, Name<'a>>) -> bool {
     names.next().is_some()
 }
 
-fn first_fault(alloc: Global, bytes: &[u8]) -> Result<Option<Error>> {
-    match names(alloc, bytes)?.next() {
-        Some(name) => Ok(name.err()),
-        None => Ok(None),
-    }
+fn first_fault<'a>(names: &mut Subsections<'a, Name<'a>>) -> Option<Error> {
+    names.next()?.err()
 }
 
 // That these subsections end after at least one and at most this many, however often their iterator is polled.
@@ -157,7 +154,8 @@ fn subsections_of_no_known_form(rt: HostRuntime) -> std::result::Result<(), Fail
     end_after(&rt, rt.alloc(), b"\xff\xff\0", 3)?;
     end_after(&rt, rt.alloc(), b"\x05\xff", 1)?;
     end_after(&rt, rt.alloc(), b"\x05\xff\0", 1)?;
+    let mut items = names(rt.alloc(), b"\xff\xff\0")?;
     let id = Error::new(Fault::InvalidU7, 0);
-    same(&rt, first_fault(rt.alloc(), b"\xff\xff\0"), Ok(Some(id)));
+    same(&rt, first_fault(&mut items), Some(id));
     Ok(())
 }
