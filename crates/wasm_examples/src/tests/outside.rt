@@ -2,6 +2,7 @@
 use crate::outside::{Misfit, Outside, Spans, outside_of};
 use crate::tests::same;
 use std::alloc::{AllocError, Global};
+use std::process::Abort;
 use std::test::Fail;
 use wasm_base::{Error, Fault};
 use wasm_items::{Export, ExternalKind, Import, TypeRef};
@@ -25,13 +26,23 @@ fn misfit_of(alloc: Global, bytes: &[u8]) -> Option<Misfit> {
     outside_in(alloc, bytes).err()
 }
 
+// There are two imports, of which this is the first, and three exports, of which this is the last.
+fn are_outside(rt: &impl Abort, outside: &Outside<'_>, import: &Import<'_>, export: &Export<'_>) {
+    same(rt, outside.imports.len(), 2);
+    same(rt, outside.imports.get(0), Some(import));
+    same(rt, outside.exports.len(), 3);
+    same(rt, outside.exports.get(2), Some(export));
+}
+
 #[test]
 fn exports_of_what_is_there(rt: HostRuntime) -> Result<(), Fail> {
     let bytes = module(
         rt.alloc(),
         b"\x07\x0d\x03\x01a\0\x01\x01b\x01\0\x01c\x03\0\x0a\x04\x01\x02\0\x0b",
     )?;
-    let outside = outside_in(rt.alloc(), &bytes).map_err(|_misfit| "no outside")?;
+    let Ok(outside) = outside_in(rt.alloc(), &bytes) else {
+        return Err("no outside".into());
+    };
     let spans = Spans {
         functions: 2,
         tables: 1,
@@ -39,6 +50,7 @@ fn exports_of_what_is_there(rt: HostRuntime) -> Result<(), Fail> {
         globals: 1,
         tags: 1,
     };
+    same(&rt, outside.spans, spans);
     let import = Import {
         module: "m",
         name: "f",
@@ -49,11 +61,7 @@ fn exports_of_what_is_there(rt: HostRuntime) -> Result<(), Fail> {
         kind: ExternalKind::Global,
         index: 0,
     };
-    same(&rt, outside.spans, spans);
-    same(&rt, outside.imports.len(), 2);
-    same(&rt, outside.imports[0], import);
-    same(&rt, outside.exports.len(), 3);
-    same(&rt, outside.exports[2], export);
+    are_outside(&rt, &outside, &import, &export);
     Ok(())
 }
 
