@@ -77,47 +77,51 @@ pub(super) fn dumps(
     Ok(())
 }
 
-#[test]
-fn shows_every_item(rt: HostRuntime) -> Result<(), Fail> {
-    dumps(&rt, rt.alloc(), &[Only::All], MODULE, Ok(Ended::End), DUMP)
+/// Sections that are chosen, and the dump of the module.
+type Row = (&'static [Only<'static>], &'static [u8]);
+
+const CHOSEN: [Row; 11] = [
+    (&[Only::All], DUMP),
+    (&[], b"end 75\n"),
+    (
+        &[Only::Id(3)],
+        b"section 3 29 31 1 function\n  30 func[0] index=0\nend 75\n",
+    ),
+    (
+        &[Only::Id(10)],
+        b"code 47 51 1 3\nbody 49 51 func[0]\nend 75\n",
+    ),
+    (&[Only::Id(13)], b"end 75\n"),
+    (
+        &[Only::Name("name")],
+        b"custom 61 75 66\n  section name=\"name\"\n    66 function\n      69 index=0 name=\"f\"\n      fault 72 names out of order\nend 75\n",
+    ),
+    (&[Only::Name("names")], b"end 75\n"),
+    (
+        &[Only::Id(10), Only::Id(3)],
+        b"section 3 29 31 1 function\n  30 func[0] index=0\ncode 47 51 1 3\nbody 49 51 func[0]\nend 75\n",
+    ),
+    (
+        &[Only::Id(3), Only::Id(3)],
+        b"section 3 29 31 1 function\n  30 func[0] index=0\nend 75\n",
+    ),
+    (
+        &[Only::Id(13), Only::Name("name"), Only::Id(10)],
+        b"code 47 51 1 3\nbody 49 51 func[0]\ncustom 61 75 66\n  section name=\"name\"\n    66 function\n      69 index=0 name=\"f\"\n      fault 72 names out of order\nend 75\n",
+    ),
+    (&[Only::Id(3), Only::All], DUMP),
+];
+
+fn all_dumped(rt: &impl Abort, alloc: Global, rows: &[Row]) -> Result<(), Fail> {
+    for (only, text) in rows {
+        dumps(rt, alloc, only, MODULE, Ok(Ended::End), text)?;
+    }
+    Ok(())
 }
 
 #[test]
 fn shows_chosen_sections(rt: HostRuntime) -> Result<(), Fail> {
-    let rows: [(&[Only<'_>], &[u8]); 10] = [
-        (&[], b"end 75\n"),
-        (
-            &[Only::Id(3)],
-            b"section 3 29 31 1 function\n  30 func[0] index=0\nend 75\n",
-        ),
-        (
-            &[Only::Id(10)],
-            b"code 47 51 1 3\nbody 49 51 func[0]\nend 75\n",
-        ),
-        (&[Only::Id(13)], b"end 75\n"),
-        (
-            &[Only::Name("name")],
-            b"custom 61 75 66\n  section name=\"name\"\n    66 function\n      69 index=0 name=\"f\"\n      fault 72 names out of order\nend 75\n",
-        ),
-        (&[Only::Name("names")], b"end 75\n"),
-        (
-            &[Only::Id(10), Only::Id(3)],
-            b"section 3 29 31 1 function\n  30 func[0] index=0\ncode 47 51 1 3\nbody 49 51 func[0]\nend 75\n",
-        ),
-        (
-            &[Only::Id(3), Only::Id(3)],
-            b"section 3 29 31 1 function\n  30 func[0] index=0\nend 75\n",
-        ),
-        (
-            &[Only::Id(13), Only::Name("name"), Only::Id(10)],
-            b"code 47 51 1 3\nbody 49 51 func[0]\ncustom 61 75 66\n  section name=\"name\"\n    66 function\n      69 index=0 name=\"f\"\n      fault 72 names out of order\nend 75\n",
-        ),
-        (&[Only::Id(3), Only::All], DUMP),
-    ];
-    for (only, text) in rows {
-        dumps(&rt, rt.alloc(), only, MODULE, Ok(Ended::End), text)?;
-    }
-    Ok(())
+    all_dumped(&rt, rt.alloc(), &CHOSEN)
 }
 
 #[test]

@@ -1,13 +1,37 @@
 // Dumps in other forms: objects of JSON, and lines with bytes.
-use crate::tests::runs::{MODULE, USAGE, arguments, runs};
+use crate::tests::runs::{MODULE, USAGE, all_refused, runs};
+use std::alloc::Global;
+use std::process::Abort;
 use std::test::Fail;
 
 // Names with a quote, a backslash, a line feed, a byte that is no character of text, and one outside of ASCII.
 const NAMES: &[u8] = b"\0asm\x01\0\0\0\x07\x0f\x02\x03a\"b\0\x00\x05\\\x0a\x01\xc3\xa9\x03\x00";
 
-#[test]
-fn writes_objects(rt: HostRuntime) -> Result<(), Fail> {
-    let text = b"{\"event\":\"version\",\"range\":[0,8],\"num\":1,\"encoding\":\"module\"}
+// Offsets to be added in relocations, one of them below 0.
+const ADDENDS: &[u8] =
+    b"\0asm\x01\0\0\0\0\x16\x0areloc.CODE\x03\x02\x03\x21\x49\x7c\x03\x22\x4a\x82\x01";
+
+// A fault of an item, and one of the stream.
+const FAULTS: &[u8] = b"\0asm\x01\0\0\0\x07\x02\x01\x05\x80";
+
+// A custom section of more than sixteen bytes, and a section of functions.
+const LONG: &[u8] =
+    b"\0asm\x01\0\0\0\0\x16\x01a\0\x01\x02\x03\x04\x05\x06\x07\x08\x09\x0a\x0b\x0c\x0d\x0e\x0f\x10\x11\x12\x13\x03\x02\x01\0";
+
+/// Options, a stream, and the exit status and the dump of a run.
+type Row = (&'static [&'static str], &'static [u8], u8, &'static [u8]);
+
+const ROWS: [Row; 6] = [
+    (&["--json"], MODULE, 0, OBJECTS),
+    (&["--json"], NAMES, 0, ESCAPED),
+    (&["--json"], ADDENDS, 0, SIGNED),
+    (&["--json"], FAULTS, 1, FAULT_OBJECTS),
+    (&["--bytes"], MODULE, 0, BYTES),
+    // Sixteen bytes a row, and only those of the sections that are chosen.
+    (&["--section", "custom", "--bytes"], LONG, 1, SIXTEEN),
+];
+
+const OBJECTS: &[u8] = b"{\"event\":\"version\",\"range\":[0,8],\"num\":1,\"encoding\":\"module\"}
 {\"event\":\"section\",\"range\":[10,12],\"id\":3,\"name\":\"function\",\"count\":1}
 {\"level\":1,\"at\":11,\"space\":\"func\",\"number\":0,\"index\":5}
 {\"event\":\"section\",\"range\":[14,18],\"id\":10,\"name\":\"code\",\"count\":1,\"size\":3}
@@ -16,53 +40,30 @@ fn writes_objects(rt: HostRuntime) -> Result<(), Fail> {
 {\"level\":1,\"line\":\"section\",\"name\":\"type\",\"known\":\"unknown\"}
 {\"event\":\"end\",\"offset\":26}
 ";
-    let given = Ok(arguments(rt.alloc(), &["--json"])?);
-    runs(&rt, rt.alloc(), given, MODULE, (0, text, b""))
-}
 
-#[test]
-fn escapes_what_no_string_has(rt: HostRuntime) -> Result<(), Fail> {
-    let text = b"{\"event\":\"version\",\"range\":[0,8],\"num\":1,\"encoding\":\"module\"}
+const ESCAPED: &[u8] = b"{\"event\":\"version\",\"range\":[0,8],\"num\":1,\"encoding\":\"module\"}
 {\"event\":\"section\",\"range\":[10,25],\"id\":7,\"name\":\"export\",\"count\":2}
 {\"level\":1,\"at\":11,\"name\":\"a\\\"b\",\"kind\":\"func\",\"index\":0}
 {\"level\":1,\"at\":17,\"name\":\"\\\\\\u000a\\u0001\xc3\xa9\",\"kind\":\"global\",\"index\":0}
 {\"event\":\"end\",\"offset\":25}
 ";
-    let given = Ok(arguments(rt.alloc(), &["--json"])?);
-    runs(&rt, rt.alloc(), given, NAMES, (0, text, b""))
-}
 
-// Offsets to be added in relocations, one of them below 0.
-#[test]
-fn writes_signed_numbers(rt: HostRuntime) -> Result<(), Fail> {
-    let stream = b"\0asm\x01\0\0\0\0\x16\x0areloc.CODE\x03\x02\x03\x21\x49\x7c\x03\x22\x4a\x82\x01";
-    let text = b"{\"event\":\"version\",\"range\":[0,8],\"num\":1,\"encoding\":\"module\"}
+const SIGNED: &[u8] = b"{\"event\":\"version\",\"range\":[0,8],\"num\":1,\"encoding\":\"module\"}
 {\"event\":\"section\",\"range\":[10,32],\"id\":0,\"name\":\"custom\",\"custom_name\":\"reloc.CODE\",\"data_offset\":21}
 {\"level\":1,\"line\":\"section\",\"name\":\"reloc.CODE\",\"section\":3,\"range\":[21,32],\"entries\":[22,32],\"count\":2}
 {\"level\":2,\"at\":23,\"type\":\"R_WASM_MEMORY_ADDR_LEB\",\"offset\":33,\"index\":73,\"addend\":-4}
 {\"level\":2,\"at\":27,\"type\":\"R_WASM_MEMORY_ADDR_LEB\",\"offset\":34,\"index\":74,\"addend\":130}
 {\"event\":\"end\",\"offset\":32}
 ";
-    let given = Ok(arguments(rt.alloc(), &["--json"])?);
-    runs(&rt, rt.alloc(), given, stream, (0, text, b""))
-}
 
-// Of an item, and of the stream.
-#[test]
-fn writes_faults_as_objects(rt: HostRuntime) -> Result<(), Fail> {
-    let stream = b"\0asm\x01\0\0\0\x07\x02\x01\x05\x80";
-    let text = b"{\"event\":\"version\",\"range\":[0,8],\"num\":1,\"encoding\":\"module\"}
+const FAULT_OBJECTS: &[u8] =
+    b"{\"event\":\"version\",\"range\":[0,8],\"num\":1,\"encoding\":\"module\"}
 {\"event\":\"section\",\"range\":[10,12],\"id\":7,\"name\":\"export\",\"count\":1}
 {\"level\":1,\"fault\":\"unexpected end-of-file\",\"offset\":12,\"number\":null}
 {\"event\":\"fault\",\"fault\":\"malformed section id\",\"offset\":12,\"number\":null}
 ";
-    let given = Ok(arguments(rt.alloc(), &["--json"])?);
-    runs(&rt, rt.alloc(), given, stream, (1, text, b""))
-}
 
-#[test]
-fn writes_bytes_before_lines(rt: HostRuntime) -> Result<(), Fail> {
-    let text = b"0 | 00 61 73 6d 01 00 00 00
+const BYTES: &[u8] = b"0 | 00 61 73 6d 01 00 00 00
 version 0 8 1 module
 8 | 03 02 01
 section 3 10 12 1 function
@@ -77,36 +78,34 @@ custom 20 26 25
   section name=\"type\" unknown
 end 26
 ";
-    let given = Ok(arguments(rt.alloc(), &["--bytes"])?);
-    runs(&rt, rt.alloc(), given, MODULE, (0, text, b""))
-}
 
-// Sixteen bytes a row, and only those of the sections that are chosen.
-#[test]
-fn writes_rows_of_sixteen(rt: HostRuntime) -> Result<(), Fail> {
-    let stream =
-        b"\0asm\x01\0\0\0\0\x16\x01a\0\x01\x02\x03\x04\x05\x06\x07\x08\x09\x0a\x0b\x0c\x0d\x0e\x0f\x10\x11\x12\x13\x03\x02\x01\0";
-    let text = b"8 | 00 16 01 61 00 01 02 03 04 05 06 07 08 09 0a 0b
+const SIXTEEN: &[u8] = b"8 | 00 16 01 61 00 01 02 03 04 05 06 07 08 09 0a 0b
 24 | 0c 0d 0e 0f 10 11 12 13
 custom 10 32 12
   section name=\"a\" unknown
 fault 36 function section has non-zero count but code section is absent
 ";
-    let given = Ok(arguments(rt.alloc(), &["--section", "custom", "--bytes"])?);
-    runs(&rt, rt.alloc(), given, stream, (1, text, b""))
+
+fn all_write(rt: &impl Abort, alloc: Global, rows: &[Row]) -> Result<(), Fail> {
+    for (words, stream, status, text) in rows {
+        runs(rt, alloc, words, stream, (*status, text, b""))?;
+    }
+    Ok(())
 }
 
 #[test]
+fn writes_objects_and_bytes(rt: HostRuntime) -> Result<(), Fail> {
+    all_write(&rt, rt.alloc(), &ROWS)
+}
+
+const REFUSED: [&[&str]; 4] = [
+    &["--json", "--color"],
+    &["--bytes", "--json"],
+    &["--json", "--version"],
+    &["--bytes", "--help"],
+];
+
+#[test]
 fn refuses_what_json_has_not(rt: HostRuntime) -> Result<(), Fail> {
-    let rows: [&[&str]; 4] = [
-        &["--json", "--color"],
-        &["--bytes", "--json"],
-        &["--json", "--version"],
-        &["--bytes", "--help"],
-    ];
-    for words in rows {
-        let given = Ok(arguments(rt.alloc(), words)?);
-        runs(&rt, rt.alloc(), given, MODULE, (2, b"", USAGE))?;
-    }
-    Ok(())
+    all_refused(&rt, rt.alloc(), &REFUSED, USAGE)
 }

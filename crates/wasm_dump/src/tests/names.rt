@@ -4,7 +4,7 @@ use std::test::Fail;
 use wasm_cli::dump::{Options, dump_as};
 use wasm_dumper::{Only, Shown, collect_names, dump};
 use wasm_feed::{BoundedSink, Ended, ListError, Sink, SliceSource, WriteSink};
-use wasm_tree::{Style, Tree};
+use wasm_tree::{ItemNames, Style, Tree};
 
 // The linked module of docs/DUMP.md, whose bodies are filled with a byte.
 const LINKED: &[u8] =
@@ -60,22 +60,31 @@ custom 325 370 335
 end 370
 ";
 
-// What a stream is dumped as, with the names that it has.
-fn dumped(alloc: Global, stream: &[u8]) -> Result<Vec<u8>, Fail> {
-    let Ok(names) = collect_names(alloc, &mut SliceSource::new(stream)) else {
-        return Err(Fail::new("out of memory"));
-    };
-    let mut written = Vec::<u8>::new(alloc);
-    let output = WriteSink::new(&mut written);
-    let mut input = SliceSource::new(stream);
+// The names that a stream has.
+fn names_in(alloc: Global, stream: &[u8]) -> Result<ItemNames, Fail> {
+    match collect_names(alloc, &mut SliceSource::new(stream)) {
+        Ok(names) => Ok(names),
+        Err(_why) => Err(Fail::new("out of memory")),
+    }
+}
+
+// Writes the dump of a stream with these names.
+fn write_dump(alloc: Global, stream: &[u8], names: ItemNames, written: &mut Vec<u8>) {
     let (_how, _output) = dump_as(
         alloc,
         &[Only::All],
         Options::new(),
         Some(names),
-        &mut input,
-        output,
+        &mut SliceSource::new(stream),
+        WriteSink::new(written),
     );
+}
+
+// What a stream is dumped as, with the names that it has.
+fn dumped(alloc: Global, stream: &[u8]) -> Result<Vec<u8>, Fail> {
+    let names = names_in(alloc, stream)?;
+    let mut written = Vec::<u8>::new(alloc);
+    write_dump(alloc, stream, names, &mut written);
     Ok(written)
 }
 
@@ -148,9 +157,7 @@ fn dumped_into(
     stream: &[u8],
     room: usize,
 ) -> Result<(Result<Ended, ListError>, BoundedSink), Fail> {
-    let Ok(names) = collect_names(alloc, &mut SliceSource::new(stream)) else {
-        return Err(Fail::new("out of memory"));
-    };
+    let names = names_in(alloc, stream)?;
     let output = BoundedSink::new(alloc, room)?;
     let mut tree = Tree::with_names(alloc, output, Style::Lines, Some(names));
     let shown = Shown {

@@ -1,5 +1,6 @@
 // The imports of a module, as text.
 use crate::imports_text;
+use crate::tests::same;
 use std::alloc::Global;
 use std::test::Fail;
 use wasm_base::{Error, Fault};
@@ -17,26 +18,25 @@ fn text(alloc: Global, stream: &[u8]) -> wasm_base::Result<String> {
 
 #[test]
 fn each_import_has_a_line(rt: HostRuntime) -> Result<(), Fail> {
-    let text = text(rt.alloc(), IMPORTS)?;
-    assert_eq!(rt; text.as_str(), "env memory\na f\na g\nbc x\nbc y\n");
+    let lines = text(rt.alloc(), IMPORTS)?;
+    same(&rt, lines.as_str(), "env memory\na f\na g\nbc x\nbc y\n");
+    let none = text(rt.alloc(), b"\0asm\x01\0\0\0\x01\x04\x01\x60\0\0")?;
+    same(&rt, none.as_str(), "");
     Ok(())
 }
 
-#[test]
-fn a_module_without_imports_has_no_lines(rt: HostRuntime) -> Result<(), Fail> {
-    let text = text(rt.alloc(), b"\0asm\x01\0\0\0\x01\x04\x01\x60\0\0")?;
-    assert_eq!(rt; text.as_str(), "");
-    Ok(())
+fn fault_of(alloc: Global, stream: &[u8]) -> Option<Error> {
+    text(alloc, stream).err()
 }
 
 #[test]
 fn faults_stop_the_text(rt: HostRuntime) {
     // The section is not all there; the second import of two is missing; the header is bad.
     let cut = Error::new(Fault::UnexpectedEof, 16);
-    assert_eq!(rt; text(rt.alloc(), &IMPORTS[..42]).err(), Some(cut));
+    same(&rt, fault_of(rt.alloc(), &IMPORTS[..42]), Some(cut));
     let missing = Error::new(Fault::UnexpectedEof, 18);
     let stream = b"\0asm\x01\0\0\0\x02\x08\x02\x01m\x01f\x02\0\x01";
-    assert_eq!(rt; text(rt.alloc(), stream).err(), Some(missing));
+    same(&rt, fault_of(rt.alloc(), stream), Some(missing));
     let bad = Error::new(Fault::BadMagic, 0);
-    assert_eq!(rt; text(rt.alloc(), b"\0asn\x01\0\0\0").err(), Some(bad));
+    same(&rt, fault_of(rt.alloc(), b"\0asn\x01\0\0\0"), Some(bad));
 }

@@ -1,7 +1,9 @@
-// What a linker fills in.
-use crate::linking::{Linked, linked_of};
+// Relocations with their symbols and the bytes that they fill in.
+use crate::linking::{Fixup, Linked, linked_of};
+use crate::tests::same;
 use std::alloc::{AllocError, Global};
 use std::ops::Range;
+use std::process::Abort;
 use std::test::Fail;
 use wasm_base::{Error, Fault, Lead};
 use wasm_custom::{RelocationType, SymbolInfo};
@@ -25,12 +27,47 @@ fn module(alloc: Global, sections: &[&[u8]]) -> Result<Vec<u8>, AllocError> {
     Ok(bytes)
 }
 
-fn range_of(linked: &Linked<'_>, place: usize) -> Option<Range<u64>> {
-    match &linked.fixups.get(place)?.range {
-        Some(range) => Some(range.start..range.end),
-        None => None,
-    }
-}
+/// Of a relocation its type, whether it names a symbol, the symbol's name, and the bytes that it fills in.
+type Row = (
+    RelocationType,
+    bool,
+    Option<&'static str>,
+    Option<(u64, u64)>,
+);
+
+const WITH_SYMBOLS: [Row; 4] = [
+    (
+        RelocationType::FunctionIndexLeb,
+        true,
+        Some("f"),
+        Some((24, 29)),
+    ),
+    (RelocationType::TypeIndexLeb, false, None, Some((24, 29))),
+    (
+        RelocationType::FunctionIndexLeb,
+        false,
+        None,
+        Some((25, 30)),
+    ),
+    (RelocationType::FunctionIndexLeb, true, Some("d"), None),
+];
+
+const WITHOUT_SYMBOLS: [Row; 4] = [
+    (
+        RelocationType::FunctionIndexLeb,
+        false,
+        None,
+        Some((24, 29)),
+    ),
+    (RelocationType::TypeIndexLeb, false, None, Some((24, 29))),
+    (
+        RelocationType::FunctionIndexLeb,
+        false,
+        None,
+        Some((25, 30)),
+    ),
+    (RelocationType::FunctionIndexLeb, false, None, None),
+];
 
 // The name of a symbol, if there is one and it has one.
 fn name_of<'a>(symbol: Option<SymbolInfo<'a>>) -> Option<&'a str> {
@@ -41,34 +78,58 @@ fn name_of<'a>(symbol: Option<SymbolInfo<'a>>) -> Option<&'a str> {
     }
 }
 
+fn bounds(range: &Range<u64>) -> (u64, u64) {
+    (range.start, range.end)
+}
+
+fn bounds_of(range: &Option<Range<u64>>) -> Option<(u64, u64)> {
+    match range {
+        Some(range) => Some(bounds(range)),
+        None => None,
+    }
+}
+
+fn sections_are(rt: &impl Abort, linked: &Linked<'_>, wanted: &[(u64, u64)]) {
+    same(rt, linked.sections.len(), wanted.len());
+    for (range, wanted) in linked.sections.iter().zip(wanted) {
+        same(rt, bounds(range), *wanted);
+    }
+}
+
+fn is(rt: &impl Abort, fixup: &Fixup<'_>, wanted: &Row) {
+    same(rt, fixup.entry.ty, wanted.0);
+    same(rt, fixup.symbol.is_some(), wanted.1);
+    same(rt, name_of(fixup.symbol), wanted.2);
+    same(rt, bounds_of(&fixup.range), wanted.3);
+}
+
+fn fixups_are(rt: &impl Abort, linked: &Linked<'_>, wanted: &[Row]) {
+    same(rt, linked.fixups.len(), wanted.len());
+    for (fixup, wanted) in linked.fixups.iter().zip(wanted) {
+        is(rt, fixup, wanted);
+    }
+}
+
+fn linked_from(alloc: Global, bytes: &[u8]) -> wasm_base::Result<Linked<'_>> {
+    linked_of(alloc, bytes)
+}
+
 #[test]
 fn relocations_with_their_symbols_and_places(rt: HostRuntime) -> Result<(), Fail> {
     let bytes = module(rt.alloc(), &[LINKING, RELOC])?;
-    let linked = linked_of(rt.alloc(), &bytes)?;
-    assert_eq!(rt; linked.sections.len(), 5);
-    assert_eq!(rt; linked.sections[2], 20..30);
-    assert_eq!(rt; linked.sections[4], 55..80);
-    assert_eq!(rt; linked.symbols.len(), 2);
-    assert_eq!(rt; linked.fixups.len(), 4);
-    assert_eq!(rt; linked.fixups[1].entry.ty, RelocationType::TypeIndexLeb);
-    assert_eq!(rt; name_of(linked.fixups[0].symbol), Some("f"));
-    assert_eq!(rt; linked.fixups[1].symbol.is_none(), true);
-    assert_eq!(rt; linked.fixups[2].symbol.is_none(), true);
-    assert_eq!(rt; name_of(linked.fixups[3].symbol), Some("d"));
-    assert_eq!(rt; range_of(&linked, 0), Some(24..29));
-    assert_eq!(rt; range_of(&linked, 1), Some(24..29));
-    assert_eq!(rt; range_of(&linked, 2), Some(25..30));
-    assert_eq!(rt; range_of(&linked, 3), None);
+    let linked = linked_from(rt.alloc(), &bytes)?;
+    let sections = [(10, 14), (16, 18), (20, 30), (32, 53), (55, 80)];
+    sections_are(&rt, &linked, &sections);
+    same(&rt, linked.symbols.len(), 2);
+    fixups_are(&rt, &linked, &WITH_SYMBOLS);
     Ok(())
 }
 
 #[test]
 fn relocations_before_the_symbols(rt: HostRuntime) -> Result<(), Fail> {
     let bytes = module(rt.alloc(), &[RELOC, LINKING])?;
-    let linked = linked_of(rt.alloc(), &bytes)?;
-    assert_eq!(rt; linked.fixups.len(), 4);
-    assert_eq!(rt; linked.fixups[0].symbol.is_none(), true);
-    assert_eq!(rt; range_of(&linked, 0), Some(24..29));
+    let linked = linked_from(rt.alloc(), &bytes)?;
+    fixups_are(&rt, &linked, &WITHOUT_SYMBOLS);
     Ok(())
 }
 
@@ -79,35 +140,39 @@ const BAD_SYMBOL: &[u8] = b"\0\x15\x07linking\x02\x08\x0a\x02\0\0\0\x01f\x09\x10
 
 const BAD_VERSION: &[u8] = b"\0\x15\x07linking\x03\x08\x0a\x02\0\0\0\x01f\x09\x10\x01d";
 
-// The fault of a module with these sections.
-fn fault_of(alloc: Global, sections: &[&[u8]]) -> Result<Option<Error>, AllocError> {
+fn fault_of(alloc: Global, bytes: &[u8]) -> Option<Error> {
+    linked_of(alloc, bytes).err()
+}
+
+// A module with these sections has this fault.
+fn has_fault(
+    rt: &impl Abort,
+    alloc: Global,
+    sections: &[&[u8]],
+    fault: Error,
+) -> Result<(), AllocError> {
     let bytes = module(alloc, sections)?;
-    Ok(linked_of(alloc, &bytes).err())
+    same(rt, fault_of(alloc, &bytes), Some(fault));
+    Ok(())
 }
 
 #[test]
 fn faults_of_symbols_and_relocations(rt: HostRuntime) -> Result<(), Fail> {
-    let alloc = rt.alloc();
-    assert_eq!(rt;
-        fault_of(alloc, &[LINKING, BAD_RELOC])?,
-        Some(Error::new(Fault::LeadingByte(Lead::Reloc), 71).with_number(27))
-    );
-    assert_eq!(rt;
-        fault_of(alloc, &[BAD_SYMBOL, BAD_RELOC])?,
-        Some(Error::new(Fault::LeadingByte(Lead::Symbol), 49).with_number(9))
-    );
-    assert_eq!(rt;
-        fault_of(alloc, &[BAD_VERSION, BAD_RELOC])?,
-        Some(Error::new(Fault::LinkingVersion, 40).with_number(3))
-    );
+    let fault = Error::new(Fault::LeadingByte(Lead::Reloc), 71).with_number(27);
+    has_fault(&rt, rt.alloc(), &[LINKING, BAD_RELOC], fault)?;
+    let fault = Error::new(Fault::LeadingByte(Lead::Symbol), 49).with_number(9);
+    has_fault(&rt, rt.alloc(), &[BAD_SYMBOL, BAD_RELOC], fault)?;
+    let fault = Error::new(Fault::LinkingVersion, 40).with_number(3);
+    has_fault(&rt, rt.alloc(), &[BAD_VERSION, BAD_RELOC], fault)?;
     Ok(())
 }
 
 #[test]
-fn a_stream_with_a_fault_is_not_linked(rt: HostRuntime) -> Result<(), Fail> {
-    assert_eq!(rt;
-        linked_of(rt.alloc(), b"\0asm\x01\0\0\0\x03\x02\x01\0").err(),
-        Some(Error::new(Fault::FunctionWithoutCode, 12))
+fn a_stream_with_a_fault_is_not_linked(rt: HostRuntime) {
+    let fault = Error::new(Fault::FunctionWithoutCode, 12);
+    same(
+        &rt,
+        fault_of(rt.alloc(), b"\0asm\x01\0\0\0\x03\x02\x01\0"),
+        Some(fault),
     );
-    Ok(())
 }

@@ -1,6 +1,8 @@
 // A module's outside.
-use crate::outside::{Misfit, Spans, outside_of};
+use crate::outside::{Misfit, Outside, Spans, outside_of};
+use crate::tests::same;
 use std::alloc::{AllocError, Global};
+use std::process::Abort;
 use std::test::Fail;
 use wasm_base::{Error, Fault};
 use wasm_items::{Export, ExternalKind, Import, TypeRef};
@@ -16,13 +18,31 @@ fn module(alloc: Global, sections: &[u8]) -> Result<Vec<u8>, AllocError> {
     Ok(bytes)
 }
 
+fn outside_in(alloc: Global, bytes: &[u8]) -> Result<Outside<'_>, Misfit> {
+    outside_of(alloc, bytes)
+}
+
+fn misfit_of(alloc: Global, bytes: &[u8]) -> Option<Misfit> {
+    outside_in(alloc, bytes).err()
+}
+
+// There are two imports, of which this is the first, and three exports, of which this is the last.
+fn are_outside(rt: &impl Abort, outside: &Outside<'_>, import: &Import<'_>, export: &Export<'_>) {
+    same(rt, outside.imports.len(), 2);
+    same(rt, outside.imports.get(0), Some(import));
+    same(rt, outside.exports.len(), 3);
+    same(rt, outside.exports.get(2), Some(export));
+}
+
 #[test]
 fn exports_of_what_is_there(rt: HostRuntime) -> Result<(), Fail> {
     let bytes = module(
         rt.alloc(),
         b"\x07\x0d\x03\x01a\0\x01\x01b\x01\0\x01c\x03\0\x0a\x04\x01\x02\0\x0b",
     )?;
-    let outside = outside_of(rt.alloc(), &bytes).map_err(|_misfit| "no outside")?;
+    let Ok(outside) = outside_in(rt.alloc(), &bytes) else {
+        return Err("no outside".into());
+    };
     let spans = Spans {
         functions: 2,
         tables: 1,
@@ -30,47 +50,34 @@ fn exports_of_what_is_there(rt: HostRuntime) -> Result<(), Fail> {
         globals: 1,
         tags: 1,
     };
-    assert_eq!(rt; outside.spans, spans);
-    assert_eq!(rt; outside.imports.len(), 2);
-    assert_eq!(rt;
-        outside.imports[0],
-        Import {
-            module: "m",
-            name: "f",
-            ty: TypeRef::Func(0)
-        }
-    );
-    assert_eq!(rt; outside.exports.len(), 3);
-    assert_eq!(rt;
-        outside.exports[2],
-        Export {
-            name: "c",
-            kind: ExternalKind::Global,
-            index: 0
-        }
-    );
+    same(&rt, outside.spans, spans);
+    let import = Import {
+        module: "m",
+        name: "f",
+        ty: TypeRef::Func(0),
+    };
+    let export = Export {
+        name: "c",
+        kind: ExternalKind::Global,
+        index: 0,
+    };
+    are_outside(&rt, &outside, &import, &export);
     Ok(())
 }
 
 #[test]
 fn exports_of_what_is_not_there(rt: HostRuntime) -> Result<(), Fail> {
     let bytes = module(rt.alloc(), b"\x07\x09\x02\x01a\x04\0\x01b\0\x02")?;
-    let misfit = outside_of(rt.alloc(), &bytes).err();
-    assert_eq!(rt; misfit, Some(Misfit::NoSuch(1)));
+    same(&rt, misfit_of(rt.alloc(), &bytes), Some(Misfit::NoSuch(1)));
     Ok(())
 }
 
 #[test]
-fn a_stream_with_a_fault_has_no_outside(rt: HostRuntime) -> Result<(), Fail> {
-    let misfit = outside_of(rt.alloc(), b"\0asm\x01\0\0\0\x07\x05\x01\x01a\x20\0").err();
-    assert_eq!(rt;
-        misfit,
-        Some(Misfit::Stream(Error::new(Fault::ExactExport, 14)))
-    );
-    let misfit = outside_of(rt.alloc(), b"\0asm\x01\0\0\0\x03\x02\x01\0").err();
-    assert_eq!(rt;
-        misfit,
-        Some(Misfit::Stream(Error::new(Fault::FunctionWithoutCode, 12)))
-    );
-    Ok(())
+fn a_stream_with_a_fault_has_no_outside(rt: HostRuntime) {
+    let exact = Misfit::Stream(Error::new(Fault::ExactExport, 14));
+    let stream = b"\0asm\x01\0\0\0\x07\x05\x01\x01a\x20\0";
+    same(&rt, misfit_of(rt.alloc(), stream), Some(exact));
+    let without = Misfit::Stream(Error::new(Fault::FunctionWithoutCode, 12));
+    let stream = b"\0asm\x01\0\0\0\x03\x02\x01\0";
+    same(&rt, misfit_of(rt.alloc(), stream), Some(without));
 }

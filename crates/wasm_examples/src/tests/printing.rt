@@ -1,6 +1,8 @@
 // The names of functions.
 use crate::function_names;
+use crate::tests::same;
 use std::alloc::{AllocError, Global};
+use std::process::Abort;
 use std::test::Fail;
 use wasm_base::{Error, Fault};
 
@@ -15,128 +17,114 @@ fn module(alloc: Global, before: &[u8], after: &[u8]) -> Result<Vec<u8>, AllocEr
     Ok(bytes)
 }
 
-// Whether these are the names that are expected.
-fn same(names: &[Option<&str>], expected: &[Option<&str>]) -> bool {
-    names == expected
+/// Parts before the functions and after them, and the names of the four functions.
+type Row = (&'static [u8], &'static [u8], [Option<&'static str>; 4]);
+
+const ROWS: [Row; 11] = [
+    (b"", b"", [None, None, None, None]),
+    // Names after the code, in a section `name` and in another one.
+    (
+        b"",
+        b"\0\x0e\x04name\x01\x07\x02\0\x01a\x03\x01d",
+        [Some("a"), None, None, Some("d")],
+    ),
+    (
+        b"",
+        b"\0\x0e\x04nama\x01\x07\x02\0\x01a\x03\x01d",
+        [None, None, None, None],
+    ),
+    // Names before the code, and later ones.
+    (
+        b"\0\x0e\x04name\x01\x07\x02\0\x01a\x03\x01d",
+        b"",
+        [Some("a"), None, None, None],
+    ),
+    (
+        b"\0\x0e\x04name\x01\x07\x02\0\x01a\x03\x01d",
+        b"\0\x0b\x04name\x01\x04\x01\0\x01z",
+        [Some("z"), None, None, None],
+    ),
+    // Names and subsections out of order.
+    (
+        b"",
+        b"\0\x11\x04name\x01\x0a\x03\x01\x01b\0\x01a\x02\x01c",
+        [None, Some("b"), Some("c"), None],
+    ),
+    (
+        b"",
+        b"\0\x11\x04name\x02\x01\0\x01\x04\x01\0\x01a\x04\x01\0",
+        [None, None, None, None],
+    ),
+    // A name of no function.
+    (
+        b"",
+        b"\0\x0e\x04name\x01\x07\x02\x01\x01b\x04\x01x",
+        [None, Some("b"), None, None],
+    ),
+    // A truncated entry, a truncated subsection, and the name of the module truncated.
+    (
+        b"",
+        b"\0\x0c\x04name\x01\x05\x02\0\x01a\x03",
+        [Some("a"), None, None, None],
+    ),
+    (
+        b"",
+        b"\0\x0b\x04name\x01\x09\x01\0\x01a",
+        [None, None, None, None],
+    ),
+    (
+        b"",
+        b"\0\x0e\x04name\0\x01\x05\x01\x04\x01\x02\x01c",
+        [None, None, Some("c"), None],
+    ),
+];
+
+fn names_of(alloc: Global, bytes: &[u8]) -> wasm_base::Result<Vec<Option<&str>>> {
+    function_names(alloc, bytes)
 }
 
-// Whether a module with these parts has functions with these names.
-fn is_named(
+// The functions of this module have these names.
+fn are_named(
+    rt: &impl Abort,
     alloc: Global,
-    before: &[u8],
-    after: &[u8],
-    expected: &[Option<&str>],
-) -> Result<bool, Fail> {
-    let bytes = module(alloc, before, after)?;
-    let names = function_names(alloc, &bytes)?;
-    Ok(same(&names, expected))
+    bytes: &[u8],
+    wanted: &[Option<&str>],
+) -> wasm_base::Result<()> {
+    let names = names_of(alloc, bytes)?;
+    same(rt, names.as_slice(), wanted);
+    Ok(())
 }
 
-#[test]
-fn names_after_the_code(rt: HostRuntime) -> Result<(), Fail> {
-    let alloc = rt.alloc();
-    let names = b"\0\x0e\x04name\x01\x07\x02\0\x01a\x03\x01d";
-    assert_eq!(rt; is_named(alloc, b"", b"", &[None, None, None, None])?, true);
-    assert_eq!(rt;
-        is_named(alloc, b"", names, &[Some("a"), None, None, Some("d")])?,
-        true
-    );
-    assert_eq!(rt;
-        is_named(
-            alloc,
-            b"",
-            b"\0\x0e\x04nama\x01\x07\x02\0\x01a\x03\x01d",
-            &[None, None, None, None]
-        )?,
-        true
-    );
+fn all_are_named(rt: &impl Abort, alloc: Global, rows: &[Row]) -> Result<(), Fail> {
+    for (before, after, wanted) in rows {
+        let bytes = module(alloc, before, after)?;
+        are_named(rt, alloc, &bytes, wanted)?;
+    }
     Ok(())
 }
 
 #[test]
-fn names_before_the_code(rt: HostRuntime) -> Result<(), Fail> {
-    let alloc = rt.alloc();
-    let names = b"\0\x0e\x04name\x01\x07\x02\0\x01a\x03\x01d";
-    let later = b"\0\x0b\x04name\x01\x04\x01\0\x01z";
-    assert_eq!(rt;
-        is_named(alloc, names, b"", &[Some("a"), None, None, None])?,
-        true
-    );
-    assert_eq!(rt;
-        is_named(alloc, names, later, &[Some("z"), None, None, None])?,
-        true
-    );
-    Ok(())
-}
-
-#[test]
-fn names_out_of_order(rt: HostRuntime) -> Result<(), Fail> {
-    let alloc = rt.alloc();
-    let names = b"\0\x11\x04name\x01\x0a\x03\x01\x01b\0\x01a\x02\x01c";
-    assert_eq!(rt;
-        is_named(alloc, b"", names, &[None, Some("b"), Some("c"), None])?,
-        true
-    );
-    let sections = b"\0\x11\x04name\x02\x01\0\x01\x04\x01\0\x01a\x04\x01\0";
-    assert_eq!(rt;
-        is_named(alloc, b"", sections, &[None, None, None, None])?,
-        true
-    );
-    Ok(())
-}
-
-#[test]
-fn names_of_no_function(rt: HostRuntime) -> Result<(), Fail> {
-    let alloc = rt.alloc();
-    let names = b"\0\x0e\x04name\x01\x07\x02\x01\x01b\x04\x01x";
-    assert_eq!(rt;
-        is_named(alloc, b"", names, &[None, Some("b"), None, None])?,
-        true
-    );
-    Ok(())
-}
-
-#[test]
-fn names_that_are_cut(rt: HostRuntime) -> Result<(), Fail> {
-    let alloc = rt.alloc();
-    let entry = b"\0\x0c\x04name\x01\x05\x02\0\x01a\x03";
-    assert_eq!(rt;
-        is_named(alloc, b"", entry, &[Some("a"), None, None, None])?,
-        true
-    );
-    let subsection = b"\0\x0b\x04name\x01\x09\x01\0\x01a";
-    assert_eq!(rt;
-        is_named(alloc, b"", subsection, &[None, None, None, None])?,
-        true
-    );
-    let module = b"\0\x0e\x04name\0\x01\x05\x01\x04\x01\x02\x01c";
-    assert_eq!(rt;
-        is_named(alloc, b"", module, &[None, None, Some("c"), None])?,
-        true
-    );
-    Ok(())
+fn names_before_and_after_the_code(rt: HostRuntime) -> Result<(), Fail> {
+    all_are_named(&rt, rt.alloc(), &ROWS)
 }
 
 #[test]
 fn names_of_imports_in_groups(rt: HostRuntime) -> Result<(), Fail> {
-    let alloc = rt.alloc();
     let bytes =
         b"\0asm\x01\0\0\0\x02\x0f\x01\x01m\0\x7f\x02\x01a\x20\x05\x01b\x02\0\x01\0\x0b\x04name\x01\x04\x01\0\x01a";
-    let names = function_names(alloc, bytes)?;
-    assert_eq!(rt; same(&names, &[Some("a")]), true);
+    are_named(&rt, rt.alloc(), bytes, &[Some("a")])?;
     Ok(())
 }
 
+fn fault_of(alloc: Global, bytes: &[u8]) -> Option<Error> {
+    names_of(alloc, bytes).err()
+}
+
 #[test]
-fn streams_with_faults(rt: HostRuntime) -> Result<(), Fail> {
-    let alloc = rt.alloc();
-    assert_eq!(rt;
-        function_names(alloc, b"\0asm\x01\0\0\0\x80").map(|names| names.len()),
-        Err(Error::new(Fault::MalformedSectionId, 8))
-    );
-    assert_eq!(rt;
-        function_names(alloc, b"\0asm\x01\0\0\0\x02\x03\x01\x01m").map(|names| names.len()),
-        Err(Error::new(Fault::UnexpectedEof, 13))
-    );
-    Ok(())
+fn streams_with_faults(rt: HostRuntime) {
+    let id = Error::new(Fault::MalformedSectionId, 8);
+    same(&rt, fault_of(rt.alloc(), b"\0asm\x01\0\0\0\x80"), Some(id));
+    let cut = Error::new(Fault::UnexpectedEof, 13);
+    let stream = b"\0asm\x01\0\0\0\x02\x03\x01\x01m";
+    same(&rt, fault_of(rt.alloc(), stream), Some(cut));
 }

@@ -1,30 +1,32 @@
 // Walks over the parts of a stream.
 use crate::streams::{end_of, start_of};
-use std::test::Fail;
-use wasm_base::{Error, Fault};
+use crate::tests::same;
+use wasm_base::{Error, Fault, Result};
 
-#[test]
-fn where_streams_end(rt: HostRuntime) -> Result<(), Fail> {
-    assert_eq!(rt; end_of(b"\0asm\x01\0\0\0"), Ok(8));
-    assert_eq!(rt; end_of(b"\0asm\x01\0\0\0\x00\x02\x01a"), Ok(12));
-    assert_eq!(rt;
-        end_of(b"\0asm\x01\0\0\0\x80"),
-        Err(Error::new(Fault::MalformedSectionId, 8))
-    );
-    assert_eq!(rt; end_of(b""), Err(Error::new(Fault::UnexpectedEof, 0)));
-    Ok(())
+fn end(bytes: &[u8]) -> Result<u64> {
+    end_of(bytes)
 }
 
 #[test]
-fn which_function_starts(rt: HostRuntime) -> Result<(), Fail> {
-    assert_eq!(rt; start_of(b"\0asm\x01\0\0\0"), Ok(None));
-    assert_eq!(rt;
-        start_of(b"\0asm\x01\0\0\0\x03\x01\0\x08\x02\x85\x01\x09\x01\0"),
-        Ok(Some(133))
-    );
-    assert_eq!(rt;
-        start_of(b"\0asm\x01\0\0\0\x08\x01\x01\x03\x01\0"),
-        Err(Error::new(Fault::OutOfOrder, 13))
-    );
-    Ok(())
+fn where_streams_end(rt: HostRuntime) {
+    same(&rt, end(b"\0asm\x01\0\0\0"), Ok(8));
+    same(&rt, end(b"\0asm\x01\0\0\0\x00\x02\x01a"), Ok(12));
+    let id = Error::new(Fault::MalformedSectionId, 8);
+    same(&rt, end(b"\0asm\x01\0\0\0\x80"), Err(id));
+    let cut = Error::new(Fault::UnexpectedEof, 0);
+    same(&rt, end(b""), Err(cut));
+}
+
+fn start(bytes: &[u8]) -> Result<Option<u32>> {
+    start_of(bytes)
+}
+
+#[test]
+fn which_function_starts(rt: HostRuntime) {
+    same(&rt, start(b"\0asm\x01\0\0\0"), Ok(None));
+    let stream = b"\0asm\x01\0\0\0\x03\x01\0\x08\x02\x85\x01\x09\x01\0";
+    same(&rt, start(stream), Ok(Some(133)));
+    let order = Error::new(Fault::OutOfOrder, 13);
+    let stream = b"\0asm\x01\0\0\0\x08\x01\x01\x03\x01\0";
+    same(&rt, start(stream), Err(order));
 }

@@ -1,6 +1,7 @@
 // Visits of streams that come in pieces.
 use crate::compiling::{Compiler, Compiling, compile_pieces};
-use crate::customs::custom_sizes;
+use crate::customs::{CustomSize, custom_sizes};
+use crate::tests::same;
 use bitflags::Flags;
 use std::alloc::{AllocError, Global};
 use std::test::Fail;
@@ -42,20 +43,27 @@ fn cut<'a>(
     Ok(pieces)
 }
 
+// What is answered where a compiler sees the bodies of these pieces.
+fn compile(alloc: Global, pieces: &[&[u8]], compiler: &mut Compiling<Places>) -> Result<usize> {
+    if !wasm_feed::fits_pieces(0, pieces) {
+        return Err(Error::new(Fault::SizeMismatch, 0));
+    }
+    compile_pieces(alloc, WasmFeatures::all(), pieces, compiler)
+}
+
 // What a compiler saw of these bytes, cut so, and what was answered.
-fn compiled(alloc: Global, bytes: &[u8], size: usize) -> Result<((u64, u64, u32), Result<usize>)> {
-    let Ok(pieces) = cut(alloc, bytes, size) else {
-        return Err(Error::new(Fault::OutOfMemory, 0));
-    };
+fn compiled(
+    alloc: Global,
+    bytes: &[u8],
+    size: usize,
+) -> std::result::Result<((u64, u64, u32), Result<usize>), AllocError> {
+    let pieces = cut(alloc, bytes, size)?;
     let mut compiler = Compiling(Places {
         first: 0,
         last: 0,
         count: 0,
     });
-    let mut most = Ok(0);
-    if wasm_feed::fits_pieces(0, &pieces) {
-        most = compile_pieces(alloc, WasmFeatures::all(), &pieces, &mut compiler);
-    }
+    let most = compile(alloc, &pieces, &mut compiler);
     let Compiling(Places { first, last, count }) = compiler;
     Ok(((first, last, count), most))
 }
@@ -64,31 +72,41 @@ fn compiled(alloc: Global, bytes: &[u8], size: usize) -> Result<((u64, u64, u32)
 fn bodies_are_handed_on(rt: HostRuntime) -> std::result::Result<(), Fail> {
     for size in [1, 3, 7, 41] {
         let (places, most) = compiled(rt.alloc(), MODULE, size)?;
-        assert_eq!(rt; places, (23, 30, 2));
-        assert_eq!(rt; most.map(|most| most <= size.saturating_add(7)), Ok(true));
+        same(&rt, places, (23, 30, 2));
+        same(&rt, most? <= size.saturating_add(7), true);
     }
     Ok(())
 }
 
 #[test]
 fn bodies_before_a_fault_are_handed_on(rt: HostRuntime) -> std::result::Result<(), Fail> {
-    let (places, most) = compiled(
-        rt.alloc(),
-        b"\0asm\x01\0\0\0\x03\x02\x01\0\x0a\x04\x01\x02\0\x0b\x80",
-        2,
-    )?;
-    assert_eq!(rt; places, (16, 18, 1));
-    assert_eq!(rt; most, Err(Error::new(Fault::MalformedSectionId, 18)));
+    let stream = b"\0asm\x01\0\0\0\x03\x02\x01\0\x0a\x04\x01\x02\0\x0b\x80";
+    let (places, most) = compiled(rt.alloc(), stream, 2)?;
+    same(&rt, places, (16, 18, 1));
+    let id = Error::new(Fault::MalformedSectionId, 18);
+    same(&rt, most, Err(id));
     Ok(())
+}
+
+fn sizes(alloc: Global, pieces: &[&[u8]]) -> Result<Vec<CustomSize>> {
+    if !wasm_feed::fits_pieces(0, pieces) {
+        return Err(Error::new(Fault::SizeMismatch, 0));
+    }
+    custom_sizes(alloc, WasmFeatures::all(), pieces)
+}
+
+// The name of a section, and how many bytes it takes.
+fn named(section: Option<&CustomSize>) -> Option<(&str, usize)> {
+    let section = section?;
+    Some((section.name.as_str(), section.size))
 }
 
 #[test]
 fn custom_sections_are_listed(rt: HostRuntime) -> std::result::Result<(), Fail> {
     let pieces = cut(rt.alloc(), MODULE, 5)?;
-    assert!(rt; wasm_feed::fits_pieces(0, &pieces));
-    let list = custom_sizes(rt.alloc(), WasmFeatures::all(), &pieces)?;
-    assert_eq!(rt; list.len(), 2);
-    assert_eq!(rt; (list[0].name.as_str(), list[0].size), ("abc", 6));
-    assert_eq!(rt; (list[1].name.as_str(), list[1].size), ("d", 6));
+    let list = sizes(rt.alloc(), &pieces)?;
+    same(&rt, list.len(), 2);
+    same(&rt, named(list.get(0)), Some(("abc", 6)));
+    same(&rt, named(list.get(1)), Some(("d", 6)));
     Ok(())
 }

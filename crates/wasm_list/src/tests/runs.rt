@@ -1,8 +1,9 @@
 // The statuses and messages of runs.
 use crate::run;
+use std::alloc::Global;
 use std::env::Args;
 use std::io::{self, Read, Write};
-use std::process::ExitCode;
+use std::process::{Abort, ExitCode};
 use std::test::Fail;
 use wasm_cli::finish;
 use wasm_cli::list::run_program;
@@ -10,144 +11,193 @@ use wasm_feed::{BoundedSink, Failed, ReadSource, Sink, SliceSource, Source, Writ
 
 const MODULE: &[u8] = b"\0asm\x01\0\0\0\0\x02\x01a";
 
-#[test]
-fn runs_over_slices(rt: HostRuntime) -> Result<(), Fail> {
-    let rows: [(&[u8], u8, &[u8], &[u8]); 3] = [
-        (
-            MODULE,
-            0,
-            b"version 0 8 1 module\ncustom 10 12 12\nend 12\n",
-            b"",
-        ),
-        (
-            b"\0asm\x01\0\0\0\x80",
-            1,
-            b"version 0 8 1 module\nfault 8 malformed section id\n",
-            b"",
-        ),
-        (
-            b"\0asm\x01\0\0\0\x03\x02\x01\0",
-            1,
-            b"version 0 8 1 module\nsection 3 10 12 1\nfault 12 function section has non-zero count but code section is absent\n",
-            b"",
-        ),
-    ];
-    for (stream, status, lines, complaint) in rows {
-        let mut input = SliceSource::new(stream);
-        let mut output = BoundedSink::new(rt.alloc(), 200)?;
-        let mut errors = BoundedSink::new(rt.alloc(), 200)?;
-        assert_eq!(rt;
-            run(rt.alloc(), &[], &mut input, &mut output, &mut errors),
-            status,
-            "{stream:?}"
-        );
-        assert_eq!(rt; output.written(), lines, "{stream:?}");
-        assert_eq!(rt; errors.written(), complaint, "{stream:?}");
-    }
-    Ok(())
-}
+// A call with a long contract is in a function without one, which is cheaper to prove over.
 
 // These arguments.
-fn words(rt: HostRuntime, words: &[&str]) -> Result<Vec<String>, Fail> {
-    let mut arguments = Vec::new(rt.alloc());
+fn words(alloc: Global, words: &[&str]) -> Result<Vec<String>, Fail> {
+    let mut arguments = Vec::new(alloc);
     for word in words {
-        arguments.push(String::from_str(rt.alloc(), word)?)?;
+        arguments.push(String::from_str(alloc, word)?)?;
     }
     Ok(arguments)
 }
 
-#[test]
-fn refuses_arguments(rt: HostRuntime) -> Result<(), Fail> {
-    let refused: [&[&str]; 4] = [&["list"], &["strip", "strip"], &["Strip"], &["", "strip"]];
-    for arguments in refused {
-        let arguments = words(rt, arguments)?;
-        let mut input = SliceSource::new(MODULE);
-        let mut output = BoundedSink::new(rt.alloc(), 200)?;
-        let mut errors = BoundedSink::new(rt.alloc(), 200)?;
-        let status = run(rt.alloc(), &arguments, &mut input, &mut output, &mut errors);
-        assert_eq!(rt; status, 2);
-        assert_eq!(rt; output.written(), b"".as_slice());
-        assert_eq!(rt; errors.written(), b"usage: wasm_list [strip]\n".as_slice());
+fn run_over<R: Source>(
+    alloc: Global,
+    arguments: &[String],
+    input: &mut R,
+    output: &mut BoundedSink,
+    errors: &mut BoundedSink,
+) -> u8 {
+    run(alloc, arguments, input, output, errors)
+}
+
+// A run with these arguments over this source, whose output has room for so many bytes, answers, writes and says this.
+fn answers<R: Source>(
+    rt: &impl Abort,
+    alloc: Global,
+    arguments: &[&str],
+    input: &mut R,
+    room: usize,
+    wanted: (u8, &[u8], &[u8]),
+) -> Result<(), Fail> {
+    let arguments = words(alloc, arguments)?;
+    let mut output = BoundedSink::new(alloc, room)?;
+    let mut errors = BoundedSink::new(alloc, 200)?;
+    let status = run_over(alloc, &arguments, input, &mut output, &mut errors);
+    assert_eq!(rt; status, wanted.0);
+    assert_eq!(rt; output.written(), wanted.1);
+    assert_eq!(rt; errors.written(), wanted.2);
+    // The output has failed if and only if it is full.
+    assert!(rt; output.failed() == (wanted.2 == b"output failed\n".as_slice()));
+    Ok(())
+}
+
+/// Arguments, a stream, an exit status, and what a run writes and says.
+type Row = (
+    &'static [&'static str],
+    &'static [u8],
+    u8,
+    &'static [u8],
+    &'static [u8],
+);
+
+const USAGE: &[u8] = b"usage: wasm_list [strip]\n";
+
+const ROWS: [Row; 12] = [
+    (
+        &[],
+        MODULE,
+        0,
+        b"version 0 8 1 module\ncustom 10 12 12\nend 12\n",
+        b"",
+    ),
+    (
+        &[],
+        b"\0asm\x01\0\0\0\x80",
+        1,
+        b"version 0 8 1 module\nfault 8 malformed section id\n",
+        b"",
+    ),
+    (
+        &[],
+        b"\0asm\x01\0\0\0\x03\x02\x01\0",
+        1,
+        b"version 0 8 1 module\nsection 3 10 12 1\nfault 12 function section has non-zero count but code section is absent\n",
+        b"",
+    ),
+    (&["list"], MODULE, 2, b"", USAGE),
+    (&["strip", "strip"], MODULE, 2, b"", USAGE),
+    (&["Strip"], MODULE, 2, b"", USAGE),
+    (&["", "strip"], MODULE, 2, b"", USAGE),
+    (
+        &["strip"],
+        b"\0asm\x01\0\0\0\0\x01\0\x01\x01\0\0\x02\x01a",
+        0,
+        b"\0asm\x01\0\0\0\x01\x01\0",
+        b"",
+    ),
+    (
+        &["strip"],
+        b"\0asm\x01\0\0\0\x03\x02\x01\0",
+        1,
+        b"",
+        b"function section has non-zero count but code section is absent (at offset 0xc)\n",
+    ),
+    // Names go too.
+    (
+        &["strip"],
+        b"\0asm\x01\0\0\0\0\x05\x04name",
+        0,
+        b"\0asm\x01\0\0\0",
+        b"",
+    ),
+    (
+        &["strip"],
+        b"\0asm\x01\x01\x01\x01",
+        1,
+        b"",
+        b"unknown binary version: 16843009 (at offset 0x4)\n",
+    ),
+    (
+        &["strip"],
+        b"",
+        1,
+        b"",
+        b"unexpected end-of-file (at offset 0x0)\n",
+    ),
+];
+
+fn all_answer(rt: &impl Abort, alloc: Global, rows: &[Row]) -> Result<(), Fail> {
+    for (arguments, stream, status, written, said) in rows {
+        let input = &mut SliceSource::new(stream);
+        answers(rt, alloc, arguments, input, 200, (*status, written, said))?;
     }
-    let arguments = words(rt, &["strip", "it"])?;
+    Ok(())
+}
+
+#[test]
+fn runs_over_slices(rt: HostRuntime) -> Result<(), Fail> {
+    all_answer(&rt, rt.alloc(), &ROWS)
+}
+
+// Standard error has no room for the whole message.
+#[test]
+fn refuses_arguments_in_a_few_bytes(rt: HostRuntime) -> Result<(), Fail> {
+    let arguments = words(rt.alloc(), &["strip", "it"])?;
     let mut deaf = BoundedSink::new(rt.alloc(), 3)?;
     let mut output = BoundedSink::new(rt.alloc(), 200)?;
-    let status = run(
-        rt.alloc(),
-        &arguments,
-        &mut SliceSource::new(MODULE),
-        &mut output,
-        &mut deaf,
-    );
+    let input = &mut SliceSource::new(MODULE);
+    let status = run_over(rt.alloc(), &arguments, input, &mut output, &mut deaf);
     assert_eq!(rt; status, 2);
     assert_eq!(rt; deaf.written(), b"usa".as_slice());
     Ok(())
 }
 
-#[test]
-fn strips_its_input(rt: HostRuntime) -> Result<(), Fail> {
-    let rows: [(&[u8], u8, &[u8], &[u8]); 5] = [
-        (
-            b"\0asm\x01\0\0\0\0\x01\0\x01\x01\0\0\x02\x01a",
-            0,
-            b"\0asm\x01\0\0\0\x01\x01\0",
-            b"",
-        ),
-        (
-            b"\0asm\x01\0\0\0\x03\x02\x01\0",
-            1,
-            b"",
-            b"function section has non-zero count but code section is absent (at offset 0xc)\n",
-        ),
-        // Names go too.
-        (b"\0asm\x01\0\0\0\0\x05\x04name", 0, b"\0asm\x01\0\0\0", b""),
-        (
-            b"\0asm\x01\x01\x01\x01",
-            1,
-            b"",
-            b"unknown binary version: 16843009 (at offset 0x4)\n",
-        ),
-        (b"", 1, b"", b"unexpected end-of-file (at offset 0x0)\n"),
-    ];
-    let arguments = words(rt, &["strip"])?;
-    for (stream, status, left, complaint) in rows {
-        let mut input = SliceSource::new(stream);
-        let mut output = BoundedSink::new(rt.alloc(), 200)?;
-        let mut errors = BoundedSink::new(rt.alloc(), 200)?;
-        assert_eq!(rt;
-            run(rt.alloc(), &arguments, &mut input, &mut output, &mut errors),
-            status,
-            "{stream:?}"
-        );
-        assert_eq!(rt; output.written(), left, "{stream:?}");
-        assert_eq!(rt; errors.written(), complaint, "{stream:?}");
+/// A reader that fails.
+#[derive(Drop)]
+struct Broken;
+
+impl Read for Broken {
+    fn read(&mut self, _buf: &mut [u8]) -> io::Result<usize> {
+        Err(io::Error::from(io::ErrorKind::BrokenPipe))
     }
+}
+
+// A run whose input fails answers 3, having written and said this.
+fn input_fails(
+    rt: &impl Abort,
+    alloc: Global,
+    arguments: &[&str],
+    wanted: (u8, &[u8], &[u8]),
+) -> Result<(), Fail> {
+    let mut input = ReadSource::new(Broken);
+    answers(rt, alloc, arguments, &mut input, 200, wanted)?;
+    assert!(rt; input.failed());
+    Ok(())
+}
+
+// A run whose output is full after this answers 3 and says so.
+fn output_fails(
+    rt: &impl Abort,
+    alloc: Global,
+    arguments: &[&str],
+    written: &[u8],
+) -> Result<(), Fail> {
+    let mut input = SliceSource::new(MODULE);
+    let wanted = (3, written, b"output failed\n".as_slice());
+    answers(rt, alloc, arguments, &mut input, written.len(), wanted)?;
+    assert!(rt; !input.failed());
     Ok(())
 }
 
 #[test]
-fn says_which_device_failed_in_stripping(rt: HostRuntime) -> Result<(), Fail> {
-    let arguments = words(rt, &["strip"])?;
-    let mut input = ReadSource::new(Broken);
-    let mut output = BoundedSink::new(rt.alloc(), 200)?;
-    let mut errors = BoundedSink::new(rt.alloc(), 200)?;
-    assert_eq!(rt;
-        run(rt.alloc(), &arguments, &mut input, &mut output, &mut errors),
-        3
-    );
-    assert_eq!(rt; errors.written(), b"input failed\n".as_slice());
-    assert_eq!(rt; output.written(), b"".as_slice());
-
-    let mut input = SliceSource::new(MODULE);
-    let mut output = BoundedSink::new(rt.alloc(), 5)?;
-    let mut errors = BoundedSink::new(rt.alloc(), 200)?;
-    assert_eq!(rt;
-        run(rt.alloc(), &arguments, &mut input, &mut output, &mut errors),
-        3
-    );
-    assert_eq!(rt; errors.written(), b"output failed\n".as_slice());
-    assert_eq!(rt; output.written(), b"\0asm\x01".as_slice());
-    Ok(())
+fn says_which_device_failed(rt: HostRuntime) -> Result<(), Fail> {
+    let wanted = (3, b"".as_slice(), b"input failed\n".as_slice());
+    input_fails(&rt, rt.alloc(), &[], wanted)?;
+    input_fails(&rt, rt.alloc(), &["strip"], wanted)?;
+    output_fails(&rt, rt.alloc(), &[], b"version 0 8 1 module\ncus")?;
+    output_fails(&rt, rt.alloc(), &["strip"], b"\0asm\x01")
 }
 
 /// A source of the bytes of a slice that notes the smallest and the largest buffer that it was given.
@@ -176,60 +226,30 @@ impl Source for Measuring<'_> {
     }
 }
 
-#[test]
-fn reads_in_pieces_of_65536(rt: HostRuntime) -> Result<(), Fail> {
-    let asked: [&[&str]; 2] = [&[], &["strip"]];
-    for arguments in asked {
-        let arguments = words(rt, arguments)?;
-        let mut input = Measuring {
-            inner: SliceSource::new(MODULE),
-            smallest: usize::MAX,
-            largest: 0,
-        };
-        let mut output = BoundedSink::new(rt.alloc(), 200)?;
-        let mut errors = BoundedSink::new(rt.alloc(), 200)?;
-        assert_eq!(rt;
-            run(rt.alloc(), &arguments, &mut input, &mut output, &mut errors),
-            0
-        );
-        assert_eq!(rt; (input.smallest, input.largest), (65_536, 65_536));
-    }
+// A run with these arguments reads in pieces of 65,536 bytes.
+fn reads_in_pieces(rt: &impl Abort, alloc: Global, arguments: &[&str]) -> Result<(), Fail> {
+    let arguments = words(alloc, arguments)?;
+    let mut input = Measuring {
+        inner: SliceSource::new(MODULE),
+        smallest: usize::MAX,
+        largest: 0,
+    };
+    let mut output = BoundedSink::new(alloc, 200)?;
+    let mut errors = BoundedSink::new(alloc, 200)?;
+    let status = run_over(alloc, &arguments, &mut input, &mut output, &mut errors);
+    assert_eq!(rt; status, 0);
+    assert_eq!(rt; (input.smallest, input.largest), (65_536, 65_536));
     Ok(())
-}
-
-/// A reader that fails.
-#[derive(Drop)]
-struct Broken;
-
-impl Read for Broken {
-    fn read(&mut self, _buf: &mut [u8]) -> io::Result<usize> {
-        Err(io::Error::from(io::ErrorKind::BrokenPipe))
-    }
 }
 
 #[test]
-fn says_which_device_failed(rt: HostRuntime) -> Result<(), Fail> {
-    let mut input = ReadSource::new(Broken);
-    let mut output = BoundedSink::new(rt.alloc(), 200)?;
-    let mut errors = BoundedSink::new(rt.alloc(), 200)?;
-    assert_eq!(rt;
-        run(rt.alloc(), &[], &mut input, &mut output, &mut errors),
-        3
-    );
-    assert_eq!(rt; errors.written(), b"input failed\n".as_slice());
-    assert!(rt; input.failed() && !output.failed());
+fn reads_in_pieces_of_65536(rt: HostRuntime) -> Result<(), Fail> {
+    reads_in_pieces(&rt, rt.alloc(), &[])?;
+    reads_in_pieces(&rt, rt.alloc(), &["strip"])
+}
 
-    let mut input = SliceSource::new(MODULE);
-    let mut output = BoundedSink::new(rt.alloc(), 24)?;
-    let mut errors = BoundedSink::new(rt.alloc(), 200)?;
-    assert_eq!(rt;
-        run(rt.alloc(), &[], &mut input, &mut output, &mut errors),
-        3
-    );
-    assert_eq!(rt; errors.written(), b"output failed\n".as_slice());
-    assert_eq!(rt; output.written(), b"version 0 8 1 module\ncus".as_slice());
-    assert!(rt; output.failed() && !input.failed());
-    Ok(())
+fn finish_with<W: Write>(status: u8, output: &mut WriteSink<W>, errors: &mut BoundedSink) -> u8 {
+    finish(status, output, errors)
 }
 
 #[test]
@@ -237,9 +257,10 @@ fn finishes_by_flushing(rt: HostRuntime) -> Result<(), Fail> {
     let mut output = WriteSink::new(Vec::<u8>::new(rt.alloc()));
     let mut errors = BoundedSink::new(rt.alloc(), 20)?;
     for status in 0..4 {
-        assert_eq!(rt; finish(status, &mut output, &mut errors), status);
+        let answer = finish_with(status, &mut output, &mut errors);
+        assert_eq!(rt; answer, status);
     }
-    assert_eq!(rt; errors.written(), b"".as_slice());
+    assert!(rt; errors.written().is_empty());
     Ok(())
 }
 
@@ -257,118 +278,151 @@ impl Write for Stuck {
     }
 }
 
-#[test]
-fn a_flush_that_fails(rt: HostRuntime) -> Result<(), Fail> {
-    let rows: [(u8, u8, &[u8]); 4] = [
-        (0, 3, b"output failed\n"),
-        (1, 3, b"output failed\n"),
-        (2, 2, b""),
-        (3, 3, b""),
-    ];
-    for (status, answer, said) in rows {
-        let mut output = WriteSink::new(Stuck);
-        let mut errors = BoundedSink::new(rt.alloc(), 20)?;
-        assert_eq!(rt; finish(status, &mut output, &mut errors), answer);
-        assert_eq!(rt; errors.written(), said);
-        assert_eq!(rt; output.failed(), status < 2);
-    }
+// A run with this status whose output cannot be flushed answers and says this.
+fn flush_fails(
+    rt: &impl Abort,
+    alloc: Global,
+    status: u8,
+    answer: u8,
+    said: &[u8],
+) -> Result<(), Fail> {
+    let mut output = WriteSink::new(Stuck);
+    let mut errors = BoundedSink::new(alloc, 20)?;
+    let given = finish_with(status, &mut output, &mut errors);
+    assert_eq!(rt; given, answer);
+    assert_eq!(rt; errors.written(), said);
+    assert_eq!(rt; output.failed(), status < 2);
     Ok(())
 }
 
+#[test]
+fn a_flush_that_fails(rt: HostRuntime) -> Result<(), Fail> {
+    flush_fails(&rt, rt.alloc(), 0, 3, b"output failed\n")?;
+    flush_fails(&rt, rt.alloc(), 1, 3, b"output failed\n")?;
+    flush_fails(&rt, rt.alloc(), 2, 2, b"")?;
+    flush_fails(&rt, rt.alloc(), 3, 3, b"")
+}
+
 // The program's own name, and so many arguments.
-fn arguments(rt: HostRuntime, count: usize) -> Result<Args, Fail> {
-    let mut arguments = vec![in rt.alloc(); String::from_str(rt.alloc(), "wasm_list")?]?;
+fn arguments(alloc: Global, count: usize) -> Result<Args, Fail> {
+    let mut arguments = vec![in alloc; String::from_str(alloc, "wasm_list")?]?;
     for _ in 0..count {
-        arguments.push(String::from_str(rt.alloc(), "strip")?)?;
+        arguments.push(String::from_str(alloc, "strip")?)?;
     }
     Ok(arguments.into_iter())
 }
 
-#[test]
-fn the_whole_program(rt: HostRuntime) -> Result<(), Fail> {
-    let listing = b"version 0 8 1 module\ncustom 10 12 12\nend 12\n".as_slice();
-    let fault = b"version 0 8 1 module\nfault 8 malformed section id\n".as_slice();
-    let usage = b"usage: wasm_list [strip]\n".as_slice();
-    let rows: [(usize, &[u8], u8, &[u8], &[u8]); 5] = [
-        (0, MODULE, 0, listing, b""),
-        (0, b"\0asm\x01\0\0\0\x80", 1, fault, b""),
-        (1, MODULE, 0, b"\0asm\x01\0\0\0", b""),
-        (
-            1,
-            b"\0asm\x01\0\0\0\x80",
-            1,
-            b"",
-            b"malformed section id (at offset 0x8)\n",
-        ),
-        (2, MODULE, 2, b"", usage),
-    ];
-    for (count, stream, status, lines, said) in rows {
-        let mut input = SliceSource::new(stream);
-        let mut written = Vec::<u8>::new(rt.alloc());
-        let mut output = WriteSink::new(&mut written);
-        let mut errors = BoundedSink::new(rt.alloc(), 40)?;
-        let given = Ok(arguments(rt, count)?);
-        assert_eq!(rt;
-            run_program(rt.alloc(), given, &mut input, &mut output, &mut errors),
-            ExitCode::from(status)
-        );
-        assert_eq!(rt; errors.written(), said);
-        assert_eq!(rt; written.as_slice(), lines);
+fn program_over<W: Write>(
+    alloc: Global,
+    given: io::Result<Args>,
+    input: &mut SliceSource<'_>,
+    output: &mut WriteSink<W>,
+    errors: &mut BoundedSink,
+) -> ExitCode {
+    run_program(alloc, given, input, output, errors)
+}
+
+// The whole program over this source answers, writes and says this.
+fn program_answers(
+    rt: &impl Abort,
+    alloc: Global,
+    given: io::Result<Args>,
+    input: &mut SliceSource<'_>,
+    wanted: (u8, &[u8], &[u8]),
+) -> Result<(), Fail> {
+    let mut written = Vec::<u8>::new(alloc);
+    let mut output = WriteSink::new(&mut written);
+    let mut errors = BoundedSink::new(alloc, 40)?;
+    let status = program_over(alloc, given, input, &mut output, &mut errors);
+    assert!(rt; status == ExitCode::from(wanted.0));
+    assert_eq!(rt; errors.written(), wanted.2);
+    assert_eq!(rt; written.as_slice(), wanted.1);
+    Ok(())
+}
+
+/// How many arguments come, a stream, an exit status, and what the program writes and says.
+type ProgramRow = (usize, &'static [u8], u8, &'static [u8], &'static [u8]);
+
+const PROGRAM_ROWS: [ProgramRow; 5] = [
+    (
+        0,
+        MODULE,
+        0,
+        b"version 0 8 1 module\ncustom 10 12 12\nend 12\n",
+        b"",
+    ),
+    (
+        0,
+        b"\0asm\x01\0\0\0\x80",
+        1,
+        b"version 0 8 1 module\nfault 8 malformed section id\n",
+        b"",
+    ),
+    (1, MODULE, 0, b"\0asm\x01\0\0\0", b""),
+    (
+        1,
+        b"\0asm\x01\0\0\0\x80",
+        1,
+        b"",
+        b"malformed section id (at offset 0x8)\n",
+    ),
+    (2, MODULE, 2, b"", USAGE),
+];
+
+fn all_programs_answer(rt: &impl Abort, alloc: Global, rows: &[ProgramRow]) -> Result<(), Fail> {
+    for (count, stream, status, written, said) in rows {
+        let given = Ok(arguments(alloc, *count)?);
+        let input = &mut SliceSource::new(stream);
+        program_answers(rt, alloc, given, input, (*status, written, said))?;
     }
     Ok(())
+}
+
+#[test]
+fn the_whole_program(rt: HostRuntime) -> Result<(), Fail> {
+    all_programs_answer(&rt, rt.alloc(), &PROGRAM_ROWS)
 }
 
 #[test]
 fn a_program_that_cannot_begin(rt: HostRuntime) -> Result<(), Fail> {
     let mut input = SliceSource::new(MODULE);
-    let mut written = Vec::<u8>::new(rt.alloc());
-    let mut output = WriteSink::new(&mut written);
-    let mut errors = BoundedSink::new(rt.alloc(), 40)?;
     let given = Err(io::Error::from(io::ErrorKind::OutOfMemory));
-    assert_eq!(rt;
-        run_program(rt.alloc(), given, &mut input, &mut output, &mut errors),
-        ExitCode::from(3)
-    );
-    assert_eq!(rt; errors.written(), b"out of memory\n".as_slice());
+    let wanted = (3, b"".as_slice(), b"out of memory\n".as_slice());
+    program_answers(&rt, rt.alloc(), given, &mut input, wanted)?;
+    // Nothing was read.
     let mut left = [0; 20];
     assert_eq!(rt; input.read(&mut left), Ok(MODULE.len()));
-    assert_eq!(rt; written.as_slice(), b"".as_slice());
     Ok(())
 }
 
 #[test]
 fn an_argument_that_is_no_text(rt: HostRuntime) -> Result<(), Fail> {
     let mut input = SliceSource::new(MODULE);
-    let mut written = Vec::<u8>::new(rt.alloc());
-    let mut output = WriteSink::new(&mut written);
-    let mut errors = BoundedSink::new(rt.alloc(), 40)?;
     let given = Err(io::Error::from(io::ErrorKind::InvalidData));
-    assert_eq!(rt;
-        run_program(rt.alloc(), given, &mut input, &mut output, &mut errors),
-        ExitCode::from(2)
-    );
-    assert_eq!(rt; errors.written(), b"usage: wasm_list [strip]\n".as_slice());
-    assert_eq!(rt; written.as_slice(), b"".as_slice());
+    program_answers(&rt, rt.alloc(), given, &mut input, (2, b"", USAGE))
+}
+
+// The program with so many arguments answers and says this where its output cannot be flushed.
+fn program_fails(
+    rt: &impl Abort,
+    alloc: Global,
+    count: usize,
+    status: u8,
+    said: &[u8],
+) -> Result<(), Fail> {
+    let mut input = SliceSource::new(MODULE);
+    let mut output = WriteSink::new(Stuck);
+    let mut errors = BoundedSink::new(alloc, 40)?;
+    let given = Ok(arguments(alloc, count)?);
+    let answer = program_over(alloc, given, &mut input, &mut output, &mut errors);
+    assert!(rt; answer == ExitCode::from(status));
+    assert_eq!(rt; errors.written(), said);
     Ok(())
 }
 
 #[test]
 fn a_program_whose_output_fails_at_its_end(rt: HostRuntime) -> Result<(), Fail> {
-    let rows: [(usize, u8, &[u8]); 3] = [
-        (0, 3, b"output failed\n"),
-        (1, 3, b"output failed\n"),
-        (2, 2, b"usage: wasm_list [strip]\n"),
-    ];
-    for (count, status, said) in rows {
-        let mut input = SliceSource::new(MODULE);
-        let mut output = WriteSink::new(Stuck);
-        let mut errors = BoundedSink::new(rt.alloc(), 40)?;
-        let given = Ok(arguments(rt, count)?);
-        assert_eq!(rt;
-            run_program(rt.alloc(), given, &mut input, &mut output, &mut errors),
-            ExitCode::from(status)
-        );
-        assert_eq!(rt; errors.written(), said);
-    }
-    Ok(())
+    program_fails(&rt, rt.alloc(), 0, 3, b"output failed\n")?;
+    program_fails(&rt, rt.alloc(), 1, 3, b"output failed\n")?;
+    program_fails(&rt, rt.alloc(), 2, 2, USAGE)
 }
