@@ -38,7 +38,8 @@ events-smaller-in-Advance g c =
     let t = c.show_answer-turn.ensures in
     let s = shows_step _ _ _ _ _ _ _ _ _ _ _ _ _ _ _ _ _ ready.same ready.enough c.seen.ensures c.deref.ensures.value c.bytes.ensures
     a.parses a.shows a.finished a.wants t.turns ready.keeps (t.shows a.parses.items) (t.counts a.parses.items) in
-    (same_going _ _ _ _ _ (beside (feed_of c.events.stored.items c.events.cursor) c.events.ahead) _ _ _ _ (subst (λ (l : List ℕ). beside (feed_of l c.pass_lent.new.cursor) c.pass_lent.new.self
+    (same_going _ _ _ _ _ (beside (feed_of c.events.stored.items c.events.cursor) c.events.ahead) _ _ _ _
+    (subst (λ (l : List ℕ). beside (feed_of l c.pass_lent.new.cursor) c.pass_lent.new.self
     ≡ lending l c.make_ready.new.ahead c.parse_next-answer.new.cursor) c.deref-in-Advance.ensures.value c.pass_lent.ensures)
     (advanced _ _ _ _ _ _ _ _ c.events.invariant.dumping _ _ _ _ s c.in_ok-go_on.ensures.ok c.in-Advance.is)).1
 
