@@ -3,7 +3,9 @@ use bitflags::Flags;
 use std::alloc::Global;
 use std::process::Abort;
 use std::test::Fail;
-use wasm_feed::{Ahead, Cursor, Feeder, SliceSource, Step, parse_next, seen};
+use wasm_feed::{
+    Ahead, Cursor, Failed, Feeder, ListError, SliceSource, Source, Step, parse_next, seen,
+};
 use wasm_parser::{Error, Fault, Parser, Payload, Result as ParserResult, WasmFeatures};
 
 // A header, a function section, and a code section with one body.
@@ -124,6 +126,38 @@ fn stays(
     Ok(())
 }
 
+/// A source whose reads fail.
+#[derive(Drop)]
+struct Broken;
+
+impl Source for Broken {
+    ghost use Rattle.std.specs.Prelude.{true};
+
+    ghost has_failed = { λ _. true };
+
+    fn read(&mut self, _buf: &mut [u8]) -> Result<usize, Failed> {
+        Err(Failed)
+    }
+
+    fn failed(&self) -> bool {
+        true
+    }
+}
+
+// A read that fails changes nothing: the next step asks as before.
+fn fails_to_read(
+    rt: &impl Abort,
+    ahead: &mut Ahead<Global>,
+    cursor: &mut Cursor,
+    stored: &mut Vec<u8>,
+) -> Result<(), Fail> {
+    ahead.make_ready(cursor, stored)?;
+    let read = ahead.refill(cursor, stored, &mut Broken);
+    assert_eq!(rt; read, Err(ListError::Input));
+    assert_eq!(rt; next_said(ahead, cursor, stored)?, Said::Asks);
+    Ok(())
+}
+
 // How many reads and how many steps without a request it takes to read these bytes by chunks of so many, parsed where they are, and what
 // the last step says.
 fn read_lent(
@@ -143,6 +177,8 @@ fn read_lent(
         let said = say(parse_next(&mut cursor, seen(&stored, ahead.bytes())));
         match said {
             Said::Asks => {
+                fails_to_read(rt, &mut ahead, &mut cursor, &mut stored)?;
+                ahead.make_ready(&mut cursor, &mut stored)?;
                 ahead.refill(&mut cursor, &mut stored, &mut source)?;
                 reads = reads.wrapping_add(1);
             }
