@@ -1,5 +1,6 @@
 -- Bytes that say what follows them.
-use Rattle.std.specs.Prelude.{ℕ, ◌-◌, ◌==◌, List, [], ◌∷◌, Option, Some, None, Ok, Err, if◌then◌else◌}
+use Rattle.std.specs.Prelude.{ℕ, ◌-◌, ◌==◌, Bool, true, false, List, [], ◌∷◌, Option, Some, None, Ok, Err}
+use Rattle.std.specs.Prelude.{if◌then◌else◌}
 use Rattle.wasm_base.specs.FaultAt.{FaultAt}
 use Rattle.wasm_base.specs.Name.{byte_at}
 use Rattle.wasm_base.specs.Outcome.{Outcome, ◌>>=◌}
@@ -31,3 +32,7 @@ unfoldable pub in_table : {A : Type 0} → Lead → List (ℕ × A) → Place �
 in_table lead table p = do
   byte ← byte_at p
   or_leading lead byte.0 (byte.1.offset - 1) (lookup table byte.0) byte.1
+
+-- a byte that is 0 for no, or 1 for yes
+abbrev pub flag_at : Lead → Place → Outcome Bool
+flag_at lead = in_table lead ((0, false) ∷ (1, true) ∷ [])

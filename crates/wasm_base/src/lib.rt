@@ -10,6 +10,7 @@ mod inner;
 mod item;
 mod lanes;
 pub mod laws;
+mod leading;
 mod limits;
 mod number;
 mod owned;
@@ -23,6 +24,7 @@ pub use features::WasmFeatures;
 pub use float::{Ieee32, Ieee64};
 pub use inner::{SkipItem, passed_since, read_inner, read_inner_u32s};
 pub use item::FromReader;
+pub use leading::read_flag;
 pub use limits::{
     _MAX_WASM_TABLE_SIZE, DEFAULT_WASM_PAGE_SIZE, MAX_WASM_BR_TABLE_SIZE, MAX_WASM_CATCHES,
     MAX_WASM_DATA_SEGMENTS, MAX_WASM_ELEMENT_SEGMENTS, MAX_WASM_EXPORTS, MAX_WASM_FUNCTION_LOCALS,

@@ -20,7 +20,7 @@ pub fn read_buffer(alloc: Global) -> Result<Vec<u8>, AllocError>
     vec![in alloc; 0u8; PIECE]
 }
 
-/// Whether the arguments could not be had since one of them is no text; otherwise memory for them was refused.
+/// Whether an argument is not valid UTF-8. The only other error of fetching arguments is out of memory.
 pub fn is_no_text(error: &Error) -> bool
     ensures { result ≡ is_no_text_of (error_kind error.now) }
 {

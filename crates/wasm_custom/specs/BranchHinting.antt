@@ -1,7 +1,7 @@
 -- Branch hints. Tool conventions, Code Metadata, Branch Hints.
-use Rattle.std.specs.Prelude.{Bool, true, false, [], ◌∷◌, Ok}
+use Rattle.std.specs.Prelude.{Bool, [], ◌∷◌, Ok}
 use Rattle.wasm_base.specs.Inner.{inner_section_at, after_reading}
-use Rattle.wasm_base.specs.Leading.{in_table}
+use Rattle.wasm_base.specs.Leading.{in_table, flag_at}
 use Rattle.wasm_base.specs.Number.{unsigned_at}
 use Rattle.wasm_base.specs.Outcome.{Outcome, ◌>>=◌}
 use Rattle.wasm_base.specs.Window.{Place}
@@ -16,7 +16,7 @@ hint_size_at = in_table Leads.BranchHint ((1, tt) ∷ [])
 
 -- a byte for a hint's value: 1 where the branch is likely to be taken, 0 where it isn't
 abbrev pub taken_at : Place → Outcome Bool
-taken_at = in_table Leads.BranchTaken ((0, false) ∷ (1, true) ∷ [])
+taken_at = flag_at Leads.BranchTaken
 
 -- a hint: the offset of its instruction in the function's body, the size of its value, its value
 unfoldable pub branch_hint_at : Place → Outcome BranchHint

@@ -5,11 +5,11 @@ ghost use Rattle.wasm_base.specs.Inner.{after_reading};
 ghost use Rattle.wasm_base.specs.Item.{ReadsAs};
 ghost use Rattle.wasm_base.specs.Outcome.{GivesBy};
 ghost use Rattle.wasm_base.specs.Window.{place, KeepsWindow};
-ghost use Rattle.wasm_custom.specs.BranchHinting.{hint_size_at, taken_at, branch_hint_at};
+ghost use Rattle.wasm_custom.specs.BranchHinting.{hint_size_at, branch_hint_at};
 
 use wasm_base::{
     BinaryReader, FromReader, Lead, Result, SectionLimited, SkipItem, leading_byte_error,
-    read_inner,
+    read_flag, read_inner,
 };
 
 /// The section `metadata.code.branch_hint`: the functions that have hints (tool conventions, Code Metadata, Branch
@@ -50,23 +50,6 @@ fn read_hint_size(reader: &mut BinaryReader<'_>) -> Result<()>
     }
 }
 
-// A hint's value.
-#[tactic(auto, unfolding(wasm_base::specs::Leading::in_table))]
-fn read_taken(reader: &mut BinaryReader<'_>) -> Result<bool>
-    ensures gives { GivesBy (λ taken. taken) result reader.old reader.new taken_at }
-    ensures keeps { KeepsWindow reader.old reader.new }
-    ensures memory { TakesNoMemory result }
-{
-    match reader.read_u8()? {
-        0 => Ok(false),
-        1 => Ok(true),
-        byte => {
-            let offset = reader.original_position() - 1;
-            Err(leading_byte_error(Lead::BranchTaken, byte, offset))
-        }
-    }
-}
-
 /// An offset, a u32; a byte that is 1, the size of the value; and the value, a byte that is 0, or 1 for a branch that is
 /// likely to be taken.
 ///
@@ -78,7 +61,7 @@ impl<'a> FromReader<'a> for BranchHint {
     fn from_reader(reader: &mut BinaryReader<'a>) -> Result<Self> {
         let func_offset = reader.read_var_u32()?;
         read_hint_size(reader)?;
-        let taken = read_taken(reader)?;
+        let taken = read_flag(Lead::BranchTaken, reader)?;
         Ok(BranchHint { func_offset, taken })
     }
 }

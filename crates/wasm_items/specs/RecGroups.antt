@@ -11,7 +11,7 @@ use Rattle.wasm_base.specs.Window.{Place, advanced}
 use Rattle.wasm_base.specs.declared.fault.Fault.TheVariants.{Supertypes}
 use Rattle.wasm_base.specs.declared.fault.Lead.TheVariants as Leads
 use Rattle.wasm_base.specs.declared.fault.NumberKind.TheVariants.{VarU32}
-use Rattle.wasm_base.specs.Leading.{leading_byte, lookup_or, in_table}
+use Rattle.wasm_base.specs.Leading.{leading_byte, lookup_or, flag_at}
 use Rattle.wasm_items.specs.Values.{val_type_at}
 use Rattle.wasm_items.specs.declared.types.CompositeType.{CompositeType}
 use Rattle.wasm_items.specs.declared.types.CompositeType.TheVariants.{Func, Array, Struct}
@@ -39,7 +39,7 @@ storage_type_at p = do
 
 -- whether a field can be changed: 0 for one that can't, 1 for one that can
 abbrev pub mutability_at : Place → Outcome Bool
-mutability_at = in_table Leads.Mutability ((0, false) ∷ (1, true) ∷ [])
+mutability_at = flag_at Leads.Mutability
 
 -- a field: what it holds, and whether it can be changed (Composite Types)
 unfoldable pub field_type_at : Place → Outcome FieldType

@@ -5,14 +5,14 @@ ghost use Rattle.wasm_base.specs.Item.{ReadsAs};
 ghost use Rattle.wasm_base.specs.Outcome.{GivesBy};
 ghost use Rattle.wasm_base.specs.Owned.{GivesUnlessMemory, list_at};
 ghost use Rattle.wasm_base.specs.Window.{place, KeepsWindow};
-ghost use Rattle.wasm_items.specs.RecGroups.{mutability_at, field_type_at, supertypes_at, subtype_parts, subtype_at, extending_at};
+ghost use Rattle.wasm_items.specs.RecGroups.{field_type_at, supertypes_at, subtype_parts, subtype_at, extending_at};
 ghost use Rattle.wasm_items.specs.Values.{val_type_at};
 
 use crate::types::{CompositeType, FieldType, FuncType, RecGroup, StorageType, SubType, ValType};
 use std::alloc::Global;
 use wasm_base::{
     BinaryReader, Error, Fault, FromReader, FromReaderIn, Lead, Result, leading_byte_error,
-    read_list, read_list_in,
+    read_flag, read_list, read_list_in,
 };
 
 /// A byte for 8 or 16 bits, or a value type, with the faults of that.
@@ -37,23 +37,6 @@ impl<'a> FromReader<'a> for StorageType {
     }
 }
 
-// Whether a field can be changed.
-#[tactic(auto, unfolding(wasm_base::specs::Leading::in_table))]
-fn read_mutability(reader: &mut BinaryReader<'_>) -> Result<bool>
-    ensures gives { GivesBy (λ mutable. mutable) result reader.old reader.new mutability_at }
-    ensures keeps { KeepsWindow reader.old reader.new }
-    ensures memory { TakesNoMemory result }
-{
-    match reader.read_u8()? {
-        0 => Ok(false),
-        1 => Ok(true),
-        byte => {
-            let offset = reader.original_position() - 1;
-            Err(leading_byte_error(Lead::Mutability, byte, offset))
-        }
-    }
-}
-
 /// What the field holds, and a byte that is 0, or 1 where it can be changed.
 ///
 /// Another byte is `LeadingByte(Mutability)` at it, with the byte as its number.
@@ -63,7 +46,7 @@ impl<'a> FromReader<'a> for FieldType {
     #[tactic(auto, unfolding(crate::specs::RecGroups::field_type_at))]
     fn from_reader(reader: &mut BinaryReader<'a>) -> Result<Self> {
         let storage = StorageType::from_reader(reader)?;
-        let mutable = read_mutability(reader)?;
+        let mutable = read_flag(Lead::Mutability, reader)?;
         Ok(FieldType { storage, mutable })
     }
 }

@@ -212,7 +212,7 @@ fn command_of(split: Split) -> Command
     command_with(words, options, rest)
 }
 
-// What the arguments after the first ask for, which is the program's own name, unless memory was refused.
+// What the arguments after the program's name ask for, or `None` when an allocation fails.
 fn command_after_name(alloc: Global, mut arguments: Args) -> Option<Command>
     ensures some { IfSome result (λ command. asked_of command
         ≡ asked_by (drop 1 (map string_bytes (into_iter_items arguments)))) }
@@ -226,8 +226,8 @@ fn command_after_name(alloc: Global, mut arguments: Args) -> Option<Command>
     }
 }
 
-/// What these arguments ask for, if they could be had and memory wasn't refused. One that is no text asks for nothing that is
-/// known.
+/// What these arguments ask for, or `None` when an allocation fails. An argument that is not valid UTF-8 makes the command
+/// unknown.
 pub(super) fn command_asked(alloc: Global, arguments: io::Result<Args>) -> Option<Command>
     ensures some { IfSome result (λ command. Some (asked_of command)
         ≡ asked_if_any (λ args. map string_bytes (into_iter_items args)) arguments) }

@@ -3,7 +3,7 @@ use std::alloc::{Allocator, Global};
 use std::process::Abort;
 use std::test::Fail;
 use wasm_feed::ListError;
-use wasm_test_heap::Sparing;
+use wasm_testing::Sparing;
 use wasm_tree::{ItemNames, Space};
 
 const SPACES: [Space; 8] = [

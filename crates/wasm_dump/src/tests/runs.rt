@@ -5,7 +5,8 @@ use std::io::{self, Read, Write};
 use std::process::{Abort, ExitCode};
 use std::test::Fail;
 use wasm_cli::dump::run_program;
-use wasm_feed::{BoundedSink, Failed, ReadSource, Sink, SliceSource, Source, WriteSink};
+use wasm_feed::{BoundedSink, ReadSource, Sink, SliceSource, Source, WriteSink};
+use wasm_testing::Measuring;
 
 pub(super) const MODULE: &[u8] =
     b"\0asm\x01\0\0\0\x03\x02\x01\x05\x0a\x04\x01\x02\0\x0b\0\x06\x04type\xff";
@@ -365,43 +366,13 @@ fn says_that_the_output_failed(rt: HostRuntime) -> Result<(), Fail> {
     Ok(())
 }
 
-/// A source of the bytes of a slice that notes the smallest and the largest buffer that it was given.
-#[derive(Drop)]
-struct Measuring<'a> {
-    inner: SliceSource<'a>,
-    smallest: usize,
-    largest: usize,
-}
-
-impl Source for Measuring<'_> {
-    ghost use Rattle.std.specs.Prelude.{Some, false};
-
-    ghost remaining = { λ s. Some s.inner.rest.now };
-
-    ghost has_failed = { λ _. false };
-
-    fn read(&mut self, buf: &mut [u8]) -> Result<usize, Failed> {
-        self.smallest = self.smallest.min(buf.len());
-        self.largest = self.largest.max(buf.len());
-        self.inner.read(buf)
-    }
-
-    fn failed(&self) -> bool {
-        self.inner.failed()
-    }
-}
-
 #[test]
 fn reads_in_pieces_of_65536(rt: HostRuntime) -> Result<(), Fail> {
     let given = Ok(arguments(rt.alloc(), &[])?);
-    let mut input = Measuring {
-        inner: SliceSource::new(MODULE),
-        smallest: usize::MAX,
-        largest: 0,
-    };
+    let mut input = Measuring::new(MODULE);
     let mut written = Vec::<u8>::new(rt.alloc());
     let (status, _errors) = run_over(rt.alloc(), given, &mut input, &mut written)?;
     assert!(rt; status == ExitCode::from(0));
-    assert_eq!(rt; (input.smallest, input.largest), (65_536, 65_536));
+    assert_eq!(rt; input.measured(), (65_536, 65_536));
     Ok(())
 }

@@ -7,6 +7,7 @@ use std::test::Fail;
 use wasm_feed::{
     BoundedSink, Ended, Failed, ListError, ReadSource, Sink, SliceSource, Source, WriteSink,
 };
+use wasm_testing::Measuring;
 
 /// A source of the bytes of a slice, a few at a time, that fails at one call.
 #[derive(Drop)]
@@ -292,44 +293,18 @@ fn a_sink_flushes_its_writer(rt: HostRuntime) -> Result<(), Fail> {
     Ok(())
 }
 
-/// A source of the bytes of a slice that keeps the largest room that it was given.
-#[derive(Drop)]
-struct Measuring<'a> {
-    inner: SliceSource<'a>,
-    largest: usize,
-}
-
-impl Source for Measuring<'_> {
-    ghost use Rattle.std.specs.Prelude.{Some};
-
-    ghost remaining = { λ s. Some s.inner.rest.now };
-
-    ghost has_failed = { λ _. false };
-
-    fn read(&mut self, buf: &mut [u8]) -> Result<usize, Failed> {
-        self.largest = self.largest.max(buf.len());
-        self.inner.read(buf)
-    }
-
-    fn failed(&self) -> bool {
-        self.inner.failed()
-    }
-}
-
 #[test]
 fn at_most_a_piece_is_read_at_once(rt: HostRuntime) -> Result<(), Fail> {
     for piece in [1, 3, 65_536] {
-        let mut input = Measuring {
-            inner: SliceSource::new(MODULE),
-            largest: 0,
-        };
+        let mut input = Measuring::new(MODULE);
         let mut output = BoundedSink::new(rt.alloc(), 64)?;
         assert_eq!(rt;
             ends(rt.alloc(), &mut input, &mut output, piece),
             Ok(Ended::End)
         );
         assert_eq!(rt; output.written(), LISTING);
-        assert!(rt; 0 < input.largest && input.largest <= piece, "{piece}");
+        let (_, largest) = input.measured();
+        assert!(rt; 0 < largest && largest <= piece, "{piece}");
     }
     Ok(())
 }

@@ -8,7 +8,7 @@ use std::process::Abort;
 use std::test::Fail;
 use wasm_feed::Feeder;
 use wasm_parser::{Error, Fault, Result, WasmFeatures};
-use wasm_test_heap::Sparing;
+use wasm_testing::Sparing;
 
 // The bytes that may be lent: none after the end of input.
 fn lendable<'a, A: Allocator>(feeder: &Feeder<A>, piece: &'a [u8]) -> &'a [u8]

@@ -7,7 +7,7 @@ use std::process::Abort;
 use std::test::Fail;
 use wasm_feed::{Event, EventKind, Feeder, fits_pieces, read_pieces_in};
 use wasm_parser::{Encoding, Error, Fault, WasmFeatures};
-use wasm_test_heap::Sparing;
+use wasm_testing::Sparing;
 
 // A header, a function section, and a code section with one body.
 const MODULE: &[u8] = b"\0asm\x01\0\0\0\x03\x02\x01\0\x0a\x04\x01\x02\0\x0b";

@@ -4,7 +4,7 @@ use std::alloc::Global;
 use std::process::Abort;
 use std::test::Fail;
 use wasm_feed::{BoundedSink, Ended, ListError, Sink, SliceSource, Source, list_in};
-use wasm_test_heap::Sparing;
+use wasm_testing::Sparing;
 
 /// A stream, and its listing.
 const LISTINGS: [(&[u8], &[u8]); 5] = [

@@ -4,7 +4,7 @@ use std::process::Abort;
 use std::test::Fail;
 use wasm_feed::{strip, strip_in, strip_in_place, strip_to_front};
 use wasm_parser::{Error, Fault, Result};
-use wasm_test_heap::Sparing;
+use wasm_testing::Sparing;
 
 /// A stream, what is left of it where the names are kept, and what is left elsewhere.
 type Row = (&'static [u8], &'static [u8], &'static [u8]);

@@ -7,7 +7,8 @@ use std::process::{Abort, ExitCode};
 use std::test::Fail;
 use wasm_cli::finish;
 use wasm_cli::list::run_program;
-use wasm_feed::{BoundedSink, Failed, ReadSource, Sink, SliceSource, Source, WriteSink};
+use wasm_feed::{BoundedSink, ReadSource, Sink, SliceSource, Source, WriteSink};
+use wasm_testing::Measuring;
 
 const MODULE: &[u8] = b"\0asm\x01\0\0\0\0\x02\x01a";
 
@@ -200,45 +201,15 @@ fn says_which_device_failed(rt: HostRuntime) -> Result<(), Fail> {
     output_fails(&rt, rt.alloc(), &["strip"], b"\0asm\x01")
 }
 
-/// A source of the bytes of a slice that notes the smallest and the largest buffer that it was given.
-#[derive(Drop)]
-struct Measuring<'a> {
-    inner: SliceSource<'a>,
-    smallest: usize,
-    largest: usize,
-}
-
-impl Source for Measuring<'_> {
-    ghost use Rattle.std.specs.Prelude.{Some, false};
-
-    ghost remaining = { λ s. Some s.inner.rest.now };
-
-    ghost has_failed = { λ _. false };
-
-    fn read(&mut self, buf: &mut [u8]) -> Result<usize, Failed> {
-        self.smallest = self.smallest.min(buf.len());
-        self.largest = self.largest.max(buf.len());
-        self.inner.read(buf)
-    }
-
-    fn failed(&self) -> bool {
-        self.inner.failed()
-    }
-}
-
 // A run with these arguments reads in pieces of 65,536 bytes.
 fn reads_in_pieces(rt: &impl Abort, alloc: Global, arguments: &[&str]) -> Result<(), Fail> {
     let arguments = words(alloc, arguments)?;
-    let mut input = Measuring {
-        inner: SliceSource::new(MODULE),
-        smallest: usize::MAX,
-        largest: 0,
-    };
+    let mut input = Measuring::new(MODULE);
     let mut output = BoundedSink::new(alloc, 200)?;
     let mut errors = BoundedSink::new(alloc, 200)?;
     let status = run_over(alloc, &arguments, &mut input, &mut output, &mut errors);
     assert_eq!(rt; status, 0);
-    assert_eq!(rt; (input.smallest, input.largest), (65_536, 65_536));
+    assert_eq!(rt; input.measured(), (65_536, 65_536));
     Ok(())
 }
 

@@ -2,7 +2,7 @@
 use std::alloc::Global;
 use std::test::Fail;
 use wasm_base::{BinaryReader, Error, Fault, NumberKind, read_list};
-use wasm_test_heap::Sparing;
+use wasm_testing::Sparing;
 
 // More blocks than the list takes.
 const AMPLE: u64 = 40;

@@ -7,7 +7,7 @@ use std::process::Abort;
 use std::test::Fail;
 use wasm_base::{Error, Fault, Subsection};
 use wasm_custom::{CustomSectionReader, Dylink0Subsection, KnownCustom};
-use wasm_test_heap::Sparing;
+use wasm_testing::Sparing;
 
 /// More blocks than any of the sections takes.
 const AMPLE: u64 = 40;

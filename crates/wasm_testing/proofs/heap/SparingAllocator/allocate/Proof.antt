@@ -40,14 +40,14 @@ use Rattle.std.proofs.alloc.Shapes.{after}
 use denote.Triple.Call.{calls_at}
 use Rattle.std.proofs.alloc.Calls.{Al, α, seen, Answer, answer_val, Answer-typed, Answer-Ok, Answer-err, takes_key, Takes, at_takes}
 use Rattle.std.proofs.alloc.Calls.{Answered, Takes-goes, Takes-gives, answers}
-use Rattle.wasm_test_heap.proofs.heap.is_spent.Symbol as c_sym
-use Rattle.wasm_test_heap.proofs.heap.is_spent.Met as c_met
-use Rattle.wasm_test_heap.specs.contracts.heap.is_spent as S
-use Rattle.wasm_test_heap.specs.contracts.heap.Sparing as wrapper
-use Rattle.wasm_test_heap.specs.contracts.heap.SparingAllocator.allocate as F
-use Rattle.wasm_test_heap.specs.contracts.heap.SparingAllocator.allocate.Key as key
-use Rattle.wasm_test_heap.proofs.heap.SparingAllocator.allocate.Statement as stated
-use Rattle.wasm_test_heap.proofs.heap.SparingAllocator.allocate.Code as code
+use Rattle.wasm_testing.proofs.heap.is_spent.Symbol as c_sym
+use Rattle.wasm_testing.proofs.heap.is_spent.Met as c_met
+use Rattle.wasm_testing.specs.contracts.heap.is_spent as S
+use Rattle.wasm_testing.specs.contracts.heap.Sparing as wrapper
+use Rattle.wasm_testing.specs.contracts.heap.SparingAllocator.allocate as F
+use Rattle.wasm_testing.specs.contracts.heap.SparingAllocator.allocate.Key as key
+use Rattle.wasm_testing.proofs.heap.SparingAllocator.allocate.Statement as stated
+use Rattle.wasm_testing.proofs.heap.SparingAllocator.allocate.Code as code
 
 -- `is_spent` at a call is handed the cell and a token, and gives the token back with one of the two answers.
 abbrev Left : RattleType
@@ -182,5 +182,5 @@ allocate_spec 𝓤 𝓛 𝓜 𝓡 wired Y L g d d' met _ =
     (λ κs. ((λ r vs s. s.0), (uint_Tells w64, (uint_Tells w64, tt))))
     (λ κs qs bounds a τ are. walk Z 𝓛 𝓜.mem 𝓡.returns 𝓣 (met.allocate d')
     (cited 𝓤 𝓛.H _ 𝓜 𝓡 𝓡.env c_sym.name (𝓡.env c_sym.name) refl
-    (c_met.met 𝓤 𝓛 𝓜 𝓡 (code.calls-wasm_test_heap::heap::is_spent 𝓡.env wired))) κs.0 κs.1.0 qs.0 qs.1.0 bounds.0 a.0 a.1.0 a.1.1.0 τ
+    (c_met.met 𝓤 𝓛 𝓜 𝓡 (code.calls-wasm_testing::heap::is_spent 𝓡.env wired))) κs.0 κs.1.0 qs.0 qs.1.0 bounds.0 a.0 a.1.0 a.1.1.0 τ
     are.1.0.1 are.1.1.0.1)))

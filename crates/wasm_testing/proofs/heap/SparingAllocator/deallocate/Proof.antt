@@ -39,11 +39,11 @@ use denote.RawPtr.{Ptr, block_ptr, null_ptr, ptr_val, rawptr_vals, rawptr_Tells}
 use denote.Builtin.{usize, RawPtr, RefOf}
 use denote.Triple.Call.{calls_at}
 use Rattle.std.proofs.alloc.Calls.{Al, α, seen, token, gives_key, Gives, at_gives, Gives-goes, Gives-Gives}
-use Rattle.wasm_test_heap.specs.contracts.heap.Sparing as wrapper
-use Rattle.wasm_test_heap.specs.contracts.heap.SparingAllocator.deallocate as F
-use Rattle.wasm_test_heap.specs.contracts.heap.SparingAllocator.deallocate.Key as key
-use Rattle.wasm_test_heap.proofs.heap.SparingAllocator.deallocate.Statement as stated
-use Rattle.wasm_test_heap.proofs.heap.SparingAllocator.deallocate.Code as code
+use Rattle.wasm_testing.specs.contracts.heap.Sparing as wrapper
+use Rattle.wasm_testing.specs.contracts.heap.SparingAllocator.deallocate as F
+use Rattle.wasm_testing.specs.contracts.heap.SparingAllocator.deallocate.Key as key
+use Rattle.wasm_testing.proofs.heap.SparingAllocator.deallocate.Statement as stated
+use Rattle.wasm_testing.proofs.heap.SparingAllocator.deallocate.Code as code
 
 module _ (Z : Al) where
   abbrev args : Args
