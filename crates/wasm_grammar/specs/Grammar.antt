@@ -52,6 +52,21 @@ pub data Grammar : Type 0 where
   -- the stream may end here, in this way, and a header may not follow; then what the id says
   section_start : (offset : ℕ) → Ending → (ℕ → Grammar) → Grammar
 
+-- What comes next in a grammar that is written with `do`: after a check, or with what a field says.
+infixl 20 ◌>>◌
+
+abbrev pub ◌>>◌ : (Grammar → Grammar) → Grammar → Grammar
+first >> next = first next
+
+infixl 20 ◌>>=◌
+
+abbrev pub ◌>>=◌ : {A : Type 0} → ((A → Grammar) → Grammar) → (A → Grammar) → Grammar
+first >>= next = first next
+
+-- the same as a field: a u32 with its length in bytes
+abbrev pub sized_u32 : (offset : ℕ) → (ℕ × ℕ → Grammar) → Grammar
+sized_u32 offset next = u32_field offset (λ value width. next (value, width))
+
 -- a verdict after these bytes of the tile
 abbrev pub after : List ℕ → Verdict → Verdict
 after prefix (tile t) = tile (record t { bytes = prefix ++ t.bytes })
@@ -107,9 +122,11 @@ version_of offset bits = header_of offset bits (encoding_named (bits % 65536) (b
 
 -- a header at this offset
 unfoldable pub header_grammar : (offset : ℕ) → Grammar
-header_grammar offset = bytes 4 offset (λ prefix.
-    check (when (not (agree prefix magic)) (at_offset BadMagic offset)) (
-    bytes 4 (offset + 4) (λ four. version_of offset (of_four four))))
+header_grammar offset = do
+  prefix ← bytes 4 offset
+  check (when (not (agree prefix magic)) (at_offset BadMagic offset))
+  four ← bytes 4 (offset + 4)
+  version_of offset (of_four four)
 
 -- how a stream ends at the start of a section: a count above 0 wants its other section
 abbrev pub end_at_section : SectionContext → (offset : ℕ) → Ending
@@ -128,10 +145,11 @@ wrong_count context offset count =
 
 -- the head of a code section of this length, whose content begins at this offset
 abbrev pub code_grammar : SectionContext → (offset length : ℕ) → Grammar
-code_grammar context offset size = u32_field offset (λ count width.
-    check (when (nat_lt size width) (at_offset UnexpectedEof offset)) (
-    check (wrong_count context offset count) (
-    accept (code_start count width (size - width)))))
+code_grammar context offset size = do
+  count ← sized_u32 offset
+  check (when (nat_lt size count.1) (at_offset UnexpectedEof offset))
+  check (wrong_count context offset count.0)
+  accept (code_start count.0 count.1 (size - count.1))
 
 -- what a counted section that ends at this offset is wrong in: the data section has as many segments as were announced
 abbrev pub wrong_data : SectionContext → Form → (id offset : ℕ) → List ℕ → Option FaultAt
@@ -142,34 +160,34 @@ wrong_data context other id offset content = None
 
 -- the content of any other section, of this length and at this offset
 abbrev pub whole_grammar : SectionContext → Form → (id offset length : ℕ) → Grammar
-whole_grammar context form id offset size = bytes size offset (λ content.
-    check (wrong_content form offset content) (
-    check (wrong_data context form id (offset + size) content) (
-    accept (section form id content))))
+whole_grammar context form id offset size = do
+  content ← bytes size offset
+  check (wrong_content form offset content)
+  check (wrong_data context form id (offset + size) content)
+  accept (section form id content)
 
 -- the content of a section, of this length and at this offset
 abbrev pub content_grammar : SectionContext → Kind → (id offset length : ℕ) → Grammar
 content_grammar context code id offset size = code_grammar context offset size
 content_grammar context (whole form) id offset size = whole_grammar context form id offset size
 
+-- the fault of a section of this length, whose field is at this offset, that overruns the largest offset
+abbrev pub too_large : (field length : ℕ) → FaultAt
+too_large field size = record { fault = SectionTooLarge; offset = field; number = Some size }
+
 -- a section of this kind and length, whose length field and content begin at these offsets
 abbrev pub after_length : SectionContext → Kind → (id field offset length : ℕ) → Grammar
-after_length context kind id field offset size =
-    check (when (nat_lt (2 ^ 64 - 1) (offset + size)) (record {
-      fault = SectionTooLarge;
-      offset = field;
-      number = Some size;
-    })) (
-    check (when (nat_lt 0 (rank_of kind id) && not (context.may_follow (rank_of kind id)))
-    (at_offset OutOfOrder offset)) (
-    content_grammar context kind id offset size))
+after_length context kind id field offset size = do
+  check (when (nat_lt (2 ^ 64 - 1) (offset + size)) (too_large field size))
+  check (when (nat_lt 0 (rank_of kind id) && not (context.may_follow (rank_of kind id))) (at_offset OutOfOrder offset))
+  content_grammar context kind id offset size
 
 -- a section with this id, at this offset
 abbrev pub after_id : SectionContext → (offset id : ℕ) → Grammar
-after_id context offset id =
-    check (when (nat_le 128 id) (at_offset MalformedSectionId offset)) (
-    u32_field (offset + 1) (λ size width. after_length context (kind_of context.encoding id) id (offset + 1)
-    (offset + 1 + width) size))
+after_id context offset id = do
+  check (when (nat_le 128 id) (at_offset MalformedSectionId offset))
+  size ← sized_u32 (offset + 1)
+  after_length context (kind_of context.encoding id) id (offset + 1) (offset + 1 + size.1) size.0
 
 -- a section at this offset. Core specification, Binary format, Modules, Sections
 unfoldable pub section_grammar : SectionContext → (offset : ℕ) → Grammar
@@ -177,12 +195,14 @@ section_grammar context offset = section_start offset (end_at_section context of
 
 -- a body, in a code section of which so many bytes are left. Its size says by itself whether it passes the section
 abbrev pub body_of : (offset code_bytes size width : ℕ) → Grammar
-body_of offset code_bytes size width =
-    check (when (nat_lt code_bytes (width + size)) (at_offset UnexpectedEof offset)) (
-    bytes size (offset + width) (λ content.
-    accept (code_entry content)))
+body_of offset code_bytes size width = do
+  check (when (nat_lt code_bytes (width + size)) (at_offset UnexpectedEof offset))
+  content ← bytes size (offset + width)
+  accept (code_entry content)
 
 -- what may come in a code section of which so many bodies and bytes are left
 unfoldable pub body_grammar : (bodies code_bytes offset : ℕ) → Grammar
 body_grammar zero code_bytes offset = reject (at_offset TrailingCode offset)
-body_grammar (suc bodies) code_bytes offset = u32_field offset (λ size width. body_of offset code_bytes size width)
+body_grammar (suc bodies) code_bytes offset = do
+  size ← sized_u32 offset
+  body_of offset code_bytes size.0 size.1
