@@ -6,9 +6,11 @@ mod custom;
 mod items;
 mod parser;
 
+use std::alloc::Global;
 use std::fmt::Debug;
 use std::process::Abort;
-use wasm_base::BinaryReader;
+use std::test::Fail;
+use wasm_base::{BinaryReader, FromReader, FromReaderIn, fits};
 
 // That a value is the one that is wanted.
 fn same<T: PartialEq + Debug + Drop>(rt: &impl Abort, found: T, wanted: T) {
@@ -20,4 +22,62 @@ fn window(bytes: &[u8], offset: u64) -> BinaryReader<'_>
     requires { offset + length bytes.now < 2 ^ 64 }
 {
     BinaryReader::new(bytes, offset)
+}
+
+// The debug text of a value is this one.
+fn is_printed<T: Debug>(rt: &impl Abort, alloc: Global, value: &T, text: &str) -> Result<(), Fail> {
+    let found = format!(in alloc; "{value:?}")?;
+    same(rt, found.as_str(), text);
+    Ok(())
+}
+
+// These bytes begin with an item whose copy is printed as this text, and which ends at the offset `end`.
+fn prints<'a, T: FromReader<'a> + Clone + Debug>(
+    rt: &impl Abort,
+    alloc: Global,
+    bytes: &'a [u8],
+    offset: u64,
+    end: u64,
+    text: &str,
+) -> Result<(), Fail> {
+    assert!(rt; fits(offset, bytes.len()));
+    let mut reader = BinaryReader::new(bytes, offset);
+    let item = T::from_reader(&mut reader)?;
+    same(rt, reader.original_position(), end);
+    is_printed(rt, alloc, &item.clone()?, text)
+}
+
+// The same of an item that owns lists.
+fn prints_in<'a, T: FromReaderIn<'a> + Debug>(
+    rt: &impl Abort,
+    alloc: Global,
+    bytes: &'a [u8],
+    offset: u64,
+    end: u64,
+    text: &str,
+) -> Result<(), Fail> {
+    assert!(rt; fits(offset, bytes.len()));
+    let mut reader = BinaryReader::new(bytes, offset);
+    let item = T::from_reader(alloc, &mut reader)?;
+    same(rt, reader.original_position(), end);
+    is_printed(rt, alloc, &item, text)
+}
+
+// An iterator gives items that are printed as these texts, and then nothing, however often it is polled.
+fn gives<I: Iterator>(
+    rt: &impl Abort,
+    alloc: Global,
+    mut items: I,
+    texts: &[&str],
+) -> Result<(), Fail>
+where
+    I::Item: Debug + Drop,
+{
+    for text in texts {
+        is_printed(rt, alloc, &items.next().ok_or("nothing")?, text)?;
+    }
+    for _ in 0..4 {
+        assert!(rt; items.next().is_none());
+    }
+    Ok(())
 }

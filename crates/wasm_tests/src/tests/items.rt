@@ -2,9 +2,7 @@
 mod imports;
 mod instructions;
 mod items;
-mod sections;
 mod segments;
-mod values;
 
 use crate::tests::same;
 use std::test::Fail;

@@ -13,7 +13,7 @@ const HEADER: &[u8] = b"\0asm\x01\0\0\0";
 // A parser that is after a module's header.
 fn after_header(offset: u64) -> Result<Parser, Error> {
     let mut parser = Parser::new(offset);
-    parser.parse(HEADER, true)?;
+    pass(&mut parser, HEADER)?;
     Ok(parser)
 }
 
@@ -23,7 +23,7 @@ fn refusal(parser: &mut Parser, bytes: &[u8]) -> Option<Error> {
 
 // Passes the part that comes next.
 fn pass(parser: &mut Parser, bytes: &[u8]) -> Result<(), Error> {
-    parser.parse(bytes, true)?;
+    drop(parser.parse(bytes, true)?);
     Ok(())
 }
 

@@ -1,22 +1,16 @@
 // Symbols, comdats, subsections for linkers, and relocations by the calls that read them. Tables of rows are in `wasm_rows`.
-use crate::tests::{same, window};
+use crate::tests::{gives, is_printed, prints, same, window};
 use bitflags::Flags;
-use std::alloc::Global;
-use std::ops::Range;
 use std::test::Fail;
-use wasm_base::{
-    BinaryReader, Error, Fault, FromReader, Lead, Result, SectionLimitedIntoIterWithOffsets,
-    Subsection,
-};
+use wasm_base::{Error, Fault, FromReader, Lead, Subsection};
 use wasm_custom::{
-    Comdat, ComdatSymbol, ComdatSymbolKind, DefinedDataSymbol, Linking, LinkingIntoIter,
-    LinkingSectionReader, RelocAddendKind, RelocSectionReader, RelocationEntry, RelocationType,
-    SegmentFlags, SymbolFlags, SymbolInfo,
+    Comdat, Linking, LinkingSectionReader, RelocAddendKind, RelocSectionReader, RelocationEntry,
+    RelocationType, SegmentFlags, SymbolFlags, SymbolInfo,
 };
 
 #[test]
-fn symbols_as_debug_text(rt: HostRuntime) -> std::result::Result<(), Fail> {
-    let rows: [(&[u8], &str); 6] = [
+fn symbols(rt: HostRuntime) -> Result<(), Fail> {
+    let rows: [(&[u8], &str); 9] = [
         (
             b"\x00\x10\x03",
             "Func { flags: SymbolFlags(16), index: 3, name: None }",
@@ -41,161 +35,79 @@ fn symbols_as_debug_text(rt: HostRuntime) -> std::result::Result<(), Fail> {
             b"\x01\x50\x01\x64",
             "Data { flags: SymbolFlags(80), name: \"d\", symbol: None }",
         ),
+        (
+            b"\x01\x30\x01d",
+            "Data { flags: SymbolFlags(48), name: \"d\", symbol: None }",
+        ),
+        (
+            b"\x01\x00\x01d\x02\x00\x04",
+            "Data { flags: SymbolFlags(0), name: \"d\", symbol: Some(DefinedDataSymbol { index: 2, offset: 0, size: 4 }) }",
+        ),
+        (
+            b"\x03\x80\x20\x05",
+            "Section { flags: SymbolFlags(4096), section: 5 }",
+        ),
     ];
-    for (bytes, wanted) in rows {
-        let symbol = SymbolInfo::from_reader(&mut window(bytes, 0))?;
-        let text = format!(in rt.alloc(); "{symbol:?}")?;
-        same(&rt, text.as_str(), wanted);
+    for (bytes, text) in rows {
+        prints::<SymbolInfo<'_>>(&rt, rt.alloc(), bytes, 0, bytes.len() as u64, text)?;
     }
     Ok(())
 }
 
 #[test]
-fn symbols_of_data_and_sections(rt: HostRuntime) -> std::result::Result<(), Fail> {
-    let symbol = SymbolInfo::from_reader(&mut window(b"\x01\x00\x01d\x02\x00\x04", 0))?;
-    match symbol {
-        SymbolInfo::Data {
-            flags,
-            name,
-            symbol: Some(
-                DefinedDataSymbol {
-                    index,
-                    offset,
-                    size,
-                },
-            ),
-        } => {
-            assert!(rt; flags == SymbolFlags::default());
-            same(&rt, name, "d");
-            same(&rt, (index, offset, size), (2, 0, 4));
-        }
-        _ => return Err("another symbol".into()),
-    }
-    match SymbolInfo::from_reader(&mut window(b"\x03\x80\x20\x05", 0))? {
-        SymbolInfo::Section { flags, section } => {
-            same(&rt, section, 5);
-            same(&rt, flags.bits(), 4096);
-            assert!(rt; !flags.contains(SymbolFlags::UNDEFINED));
-        }
-        _ => return Err("another symbol".into()),
-    }
-    match SymbolInfo::from_reader(&mut window(b"\x01\x30\x01d\x02", 0))? {
-        SymbolInfo::Data { flags, symbol, .. } => {
-            assert!(rt; symbol.is_none());
-            let both = SymbolFlags::UNDEFINED.union(SymbolFlags::EXPORTED);
-            assert!(rt; flags == both);
-        }
-        _ => return Err("another symbol".into()),
-    }
-    Ok(())
-}
-
-// The next symbol of a comdat, and its offset: its kind and its index.
-fn next_symbol(
-    symbols: &mut SectionLimitedIntoIterWithOffsets<'_, ComdatSymbol>,
-) -> Option<Result<(u64, ComdatSymbolKind, u32)>> {
-    match symbols.next()? {
-        Ok((offset, symbol)) => Some(Ok((offset, symbol.kind, symbol.index))),
-        Err(error) => Some(Err(error)),
-    }
-}
-
-#[test]
-fn comdats_and_their_symbols(rt: HostRuntime) -> std::result::Result<(), Fail> {
+fn comdats_and_their_symbols(rt: HostRuntime) -> Result<(), Fail> {
     let bytes = b"\x01c\x80\x01\x82\x00\x01\x05\x04\x80\x01\xff";
-    let mut reader = window(bytes, 900);
-    let comdat = Comdat::from_reader(&mut reader)?;
-    same(&rt, comdat.name, "c");
-    same(&rt, comdat.flags, 128);
-    same(&rt, comdat.symbols.range(), 904..911);
-    same(&rt, reader.original_position(), 911);
-    let mut symbols = comdat.symbols.into_iter_with_offsets();
-    let (offset, kind, index) = next_symbol(&mut symbols).ok_or("none")??;
-    same(&rt, offset, 906);
-    assert!(rt; kind == ComdatSymbolKind::Func);
-    same(&rt, index, 5);
-    let (offset, kind, index) = next_symbol(&mut symbols).ok_or("none")??;
-    same(&rt, offset, 908);
-    assert!(rt; kind == ComdatSymbolKind::Table);
-    same(&rt, index, 128);
-    assert!(rt; next_symbol(&mut symbols).is_none());
-    Ok(())
-}
-
-// The first function of the first subsection: its priority and its index.
-fn first_function(section: &LinkingSectionReader<'_>) -> Option<(u32, u32)> {
-    match section.subsections().next()? {
-        Ok(Linking::InitFuncs(functions)) => {
-            let function = functions.into_iter().next()?.ok()?;
-            Some((function.priority, function.symbol_index))
-        }
-        _other => None,
-    }
+    let text =
+        "Comdat { name: \"c\", flags: 128, symbols: SectionLimited { count: 2, range: 904..911 } }";
+    prints::<Comdat<'_>>(&rt, rt.alloc(), bytes, 900, 911, text)?;
+    let symbols = Comdat::from_reader(&mut window(bytes, 900))?.symbols;
+    let texts = [
+        "Ok((906, ComdatSymbol { kind: Func, index: 5 }))",
+        "Ok((908, ComdatSymbol { kind: Table, index: 128 }))",
+    ];
+    gives(&rt, rt.alloc(), symbols.into_iter_with_offsets(), &texts)
 }
 
 #[test]
-fn sections_for_linkers(rt: HostRuntime) -> std::result::Result<(), Fail> {
+fn sections_for_linkers(rt: HostRuntime) -> Result<(), Fail> {
     let bytes = b"\x02\x06\x03\x01\x05\x07";
     let section = LinkingSectionReader::new(rt.alloc(), window(bytes, 0))?;
     same(&rt, section.version(), 2);
     same(&rt, section.original_position(), 1);
     same(&rt, section.range(), 0..6);
-    same(&rt, first_function(&section), Some((5, 7)));
-    Ok(())
-}
-
-// The name of the architecture, if it comes next.
-fn architecture<'a>(subsections: &mut LinkingIntoIter<'a>) -> Option<&'a str> {
-    match subsections.next()? {
-        Ok(Linking::TargetArch(name)) => Some(name),
-        _other => None,
-    }
-}
-
-// The first segment of those that come next: its name, its alignment and its flags.
-fn first_segment<'a>(
-    subsections: &mut LinkingIntoIter<'a>,
-) -> Option<(&'a str, u32, SegmentFlags)> {
-    match subsections.next()? {
-        Ok(Linking::SegmentInfo(segments)) => {
-            let segment = segments.into_iter().next()?.ok()?;
-            Some((segment.name, segment.alignment, segment.flags))
-        }
-        _other => None,
-    }
-}
-
-// The id, the bytes and the range of an unknown subsection, if it comes next.
-fn unknown<'a>(subsections: &mut LinkingIntoIter<'a>) -> Option<(u8, &'a [u8], Range<u64>)> {
-    match subsections.next()? {
-        Ok(
-            Linking::Unknown {
-                ty,
-                contents,
-                range,
-            },
-        ) => Some((ty, contents, range)),
-        _other => None,
-    }
+    let texts = ["Ok(InitFuncs(SectionLimited { count: 1, range: 3..6 }))"];
+    gives(&rt, rt.alloc(), section.subsections(), &texts)
 }
 
 #[test]
-fn subsections_for_linkers(rt: HostRuntime) -> std::result::Result<(), Fail> {
+fn subsections_for_linkers(rt: HostRuntime) -> Result<(), Fail> {
     let bytes = b"\x82\x00\x09\x04\x01w\xff\xff\x05\x05\x01\x01s\x03\x03\x63\x81\x00\x07\x07\x00";
     let section = LinkingSectionReader::new(rt.alloc(), window(bytes, 2000))?;
     same(&rt, section.original_position(), 2002);
-    let mut subsections = section.clone()?.into_iter();
-    same(&rt, architecture(&mut subsections), Some("w"));
-    let flags = SegmentFlags::STRINGS.union(SegmentFlags::TLS);
-    same(&rt, first_segment(&mut subsections), Some(("s", 3, flags)));
-    let one = Some((99, b"\x07".as_slice(), 2018..2019));
-    same(&rt, unknown(&mut subsections), one);
-    let refused = subsections.next().ok_or("none")?.err();
-    same(&rt, refused, Some(Error::new(Fault::UnexpectedEof, 2021)));
-    for _ in 0..4 {
-        assert!(rt; subsections.next().is_none());
-    }
-    Ok(())
+    let texts = [
+        "Ok(TargetArch(\"w\"))",
+        "Ok(SegmentInfo(SectionLimited { count: 1, range: 2010..2015 }))",
+        "Ok(Unknown { ty: 99, contents: [7], range: 2018..2019 })",
+        "Err(Error { fault: UnexpectedEof, offset: 2021, number: None, hint: Some(1) })",
+    ];
+    gives(&rt, rt.alloc(), section.clone()?.into_iter(), &texts)
+}
+
+// The items of the first subsection, which are those of its kind.
+#[test]
+fn segments_and_first_functions(rt: HostRuntime) -> Result<(), Fail> {
+    let segments = Linking::from_reader(rt.alloc(), 5, window(b"\x01\x01s\x03\x03", 0))?;
+    let Linking::SegmentInfo(segments) = segments else {
+        return Err("no segments".into());
+    };
+    let texts = ["Ok(Segment { name: \"s\", alignment: 3, flags: SegmentFlags(3) })"];
+    gives(&rt, rt.alloc(), segments.into_iter(), &texts)?;
+    let functions = Linking::from_reader(rt.alloc(), 6, window(b"\x01\x05\x07", 0))?;
+    let Linking::InitFuncs(functions) = functions else {
+        return Err("no functions".into());
+    };
+    let texts = ["Ok(InitFunc { priority: 5, symbol_index: 7 })"];
+    gives(&rt, rt.alloc(), functions.into_iter(), &texts)
 }
 
 #[test]
@@ -220,40 +132,13 @@ fn bits_of_flags(rt: HostRuntime) {
     assert_eq!(rt; SegmentFlags::all().bits(), 3);
 }
 
-// The id, the bytes and the range of an unknown subsection that a reader is at.
-fn unknown_at<'a>(
-    alloc: Global,
-    id: u8,
-    reader: BinaryReader<'a>,
-) -> Option<(u8, &'a [u8], Range<u64>)> {
-    match Linking::from_reader(alloc, id, reader) {
-        Ok(
-            Linking::Unknown {
-                ty,
-                contents,
-                range,
-            },
-        ) => Some((ty, contents, range)),
-        _other => None,
-    }
-}
-
 #[test]
-fn an_unknown_subsection_that_was_begun(rt: HostRuntime) -> std::result::Result<(), Fail> {
+fn an_unknown_subsection_that_was_begun(rt: HostRuntime) -> Result<(), Fail> {
     let mut reader = window(b"\x09\x08\x07\x06\x05", 500);
     reader.read_bytes(2)?;
-    let rest = Some((99, b"\x07\x06\x05".as_slice(), 502..505));
-    same(&rt, unknown_at(rt.alloc(), 99, reader), rest);
-    Ok(())
-}
-
-fn relocation(ty: RelocationType, offset: u32, index: u32, addend: i64) -> RelocationEntry {
-    RelocationEntry {
-        ty,
-        offset,
-        index,
-        addend,
-    }
+    let unknown = Linking::from_reader(rt.alloc(), 99, reader)?;
+    let text = "Unknown { ty: 99, contents: [7, 6, 5], range: 502..505 }";
+    is_printed(&rt, rt.alloc(), &unknown, text)
 }
 
 #[test]
@@ -284,33 +169,46 @@ fn types_by_number(rt: HostRuntime) {
 }
 
 #[test]
-fn a_section_of_relocations(rt: HostRuntime) -> std::result::Result<(), Fail> {
-    let bytes = b"\x03\x01\x03\x06\x00\x7f";
-    let section = RelocSectionReader::new(window(bytes, 0))?;
+fn a_section_of_relocations(rt: HostRuntime) -> Result<(), Fail> {
+    let section = RelocSectionReader::new(window(b"\x03\x01\x03\x06\x00\x7f", 0))?;
     same(&rt, section.section_index(), 3);
     same(&rt, section.range(), 0..6);
     same(&rt, section.entries().range(), 1..6);
-    let mut entries = section.clone()?.entries().into_iter();
-    let one = relocation(RelocationType::MemoryAddrLeb, 6, 0, -1);
-    same(&rt, entries.next(), Some(Ok(one)));
-    same(&rt, one.relocation_range(), Ok(6..11));
-    same(&rt, entries.next(), None);
-    let last = relocation(RelocationType::FunctionIndexLeb, 4294967292, 0, 0);
-    same(&rt, last.relocation_range(), Ok(4294967292..4294967297));
+    let texts = ["Ok(RelocationEntry { ty: MemoryAddrLeb, offset: 6, index: 0, addend: -1 })"];
+    gives(
+        &rt,
+        rt.alloc(),
+        section.clone()?.entries().into_iter(),
+        &texts,
+    )?;
 
     let bytes = b"\x85\x00\x81\x00\x05\x01\x02\x03\xff";
     let section = RelocSectionReader::new(window(bytes, 70000))?;
     same(&rt, section.section_index(), 5);
     same(&rt, section.range(), 70000..70009);
     same(&rt, section.entries().range(), 70002..70009);
-    let mut entries = section.entries().into_iter_with_offsets();
-    let one = relocation(RelocationType::MemoryAddrI32, 1, 2, 3);
-    same(&rt, entries.next(), Some(Ok((70004, one))));
-    let left = Error::new(Fault::SizeMismatch, 70008);
-    same(&rt, entries.next(), Some(Err(left)));
-    same(&rt, entries.next(), None);
+    let texts = [
+        "Ok((70004, RelocationEntry { ty: MemoryAddrI32, offset: 1, index: 2, addend: 3 }))",
+        "Err(Error { fault: SizeMismatch, offset: 70008, number: None, hint: None })",
+    ];
+    gives(
+        &rt,
+        rt.alloc(),
+        section.entries().into_iter_with_offsets(),
+        &texts,
+    )
+}
+
+#[test]
+fn relocated_bytes(rt: HostRuntime) {
+    let entry = RelocationEntry {
+        ty: RelocationType::FunctionIndexLeb,
+        offset: 4294967292,
+        index: 0,
+        addend: 0,
+    };
+    same(&rt, entry.relocation_range(), Ok(4294967292..4294967297));
     let refused = RelocationType::from_reader(&mut window(&[0x1b], 0)).err();
     let leading = Error::new(Fault::LeadingByte(Lead::Reloc), 0).with_number(27);
     same(&rt, refused, Some(leading));
-    Ok(())
 }

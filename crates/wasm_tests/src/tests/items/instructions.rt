@@ -1,219 +1,116 @@
-// The instructions of constant expressions.
+// The instructions of constant expressions, by their debug texts. Tables of rows are in `wasm_rows`.
+use crate::tests::gives;
+use std::alloc::Global;
 use std::process::Abort;
-use wasm_base::{BinaryReader, Error, Fault, NumberKind, fits};
-use wasm_items::{ConstExpr, ConstInstructions, ConstOperator, HeapType};
+use std::test::Fail;
+use wasm_base::{BinaryReader, fits};
+use wasm_items::ConstExpr;
 
-// The instructions of an expression of these bytes.
-fn instructions<'a>(rt: &impl Abort, offset: u64, bytes: &'a [u8]) -> ConstInstructions<'a> {
+// The instructions of an expression of these bytes are printed as these texts.
+fn instructs(
+    rt: &impl Abort,
+    alloc: Global,
+    offset: u64,
+    bytes: &[u8],
+    texts: &[&str],
+) -> Result<(), Fail> {
     assert!(rt; fits(offset, bytes.len()));
-    ConstExpr::new(BinaryReader::new(bytes, offset)).instructions()
-}
-
-// The expression begins with these instructions.
-fn begins(rt: &impl Abort, given: &mut ConstInstructions<'_>, wanted: &[(u64, ConstOperator)]) {
-    for (offset, operator) in wanted {
-        match given.next() {
-            Some(Ok(instruction)) => {
-                assert_eq!(rt; instruction.offset, *offset);
-                assert!(rt;
-                    instruction.operator == *operator,
-                    "{:?}",
-                    instruction.operator
-                );
-            }
-            Some(Err(error)) => assert!(rt; false, "{error} at {offset}"),
-            None => assert!(rt; false, "nothing at {offset}"),
-        }
-    }
-}
-
-// It has these instructions, and no more.
-fn gives(rt: &impl Abort, offset: u64, bytes: &[u8], wanted: &[(u64, ConstOperator)]) {
-    let mut given = instructions(rt, offset, bytes);
-    begins(rt, &mut given, wanted);
-    assert!(rt; given.next().is_none(), "more of {bytes:?}");
-}
-
-// It has these instructions, and then this fault.
-fn gives_up(rt: &impl Abort, bytes: &[u8], wanted: &[(u64, ConstOperator)], error: Error) {
-    let mut given = instructions(rt, 100, bytes);
-    begins(rt, &mut given, wanted);
-    match given.next() {
-        Some(Err(e)) => assert!(rt; e == error, "{e} of {bytes:?}"),
-        _ => assert!(rt; false, "no fault of {bytes:?}"),
-    }
-    assert!(rt; given.next().is_none(), "more of {bytes:?}");
+    let expression = ConstExpr::new(BinaryReader::new(bytes, offset));
+    gives(rt, alloc, expression.instructions(), texts)
 }
 
 #[test]
-fn sums_and_globals(rt: HostRuntime) {
-    gives(
-        &rt,
-        59,
-        &[0x41, 0xc0, 0xa7, 0x04, 0x0b],
-        &[
-            (59, ConstOperator::I32Const { value: 70592 }),
-            (63, ConstOperator::End),
-        ],
-    );
-    gives(
-        &rt,
-        0,
-        &[0x23, 1, 0x41, 4, 0x6a, 0x0b],
-        &[
-            (0, ConstOperator::GlobalGet { global_index: 1 }),
-            (2, ConstOperator::I32Const { value: 4 }),
-            (4, ConstOperator::I32Add),
-            (5, ConstOperator::End),
-        ],
-    );
-    gives(
-        &rt,
-        18446744073709551600,
-        &[
-            0x42, 0x7f, 0x41, 0x80, 0x7f, 0x6b, 0x6c, 0x7c, 0x7d, 0x7e, 0x0b,
-        ],
-        &[
-            (18446744073709551600, ConstOperator::I64Const { value: -1 }),
-            (
-                18446744073709551602,
-                ConstOperator::I32Const { value: -128 },
-            ),
-            (18446744073709551605, ConstOperator::I32Sub),
-            (18446744073709551606, ConstOperator::I32Mul),
-            (18446744073709551607, ConstOperator::I64Add),
-            (18446744073709551608, ConstOperator::I64Sub),
-            (18446744073709551609, ConstOperator::I64Mul),
-            (18446744073709551610, ConstOperator::End),
-        ],
-    );
+fn sums_and_globals(rt: HostRuntime) -> Result<(), Fail> {
+    let texts = [
+        "Ok(ConstInstruction { offset: 0, operator: GlobalGet { global_index: 1 } })",
+        "Ok(ConstInstruction { offset: 2, operator: I32Const { value: 4 } })",
+        "Ok(ConstInstruction { offset: 4, operator: I32Add })",
+        "Ok(ConstInstruction { offset: 5, operator: End })",
+    ];
+    instructs(&rt, rt.alloc(), 0, b"\x23\x01\x41\x04\x6a\x0b", &texts)?;
+    let texts = [
+        "Ok(ConstInstruction { offset: 18446744073709551600, operator: I64Const { value: -1 } })",
+        "Ok(ConstInstruction { offset: 18446744073709551602, operator: I32Const { value: -128 } })",
+        "Ok(ConstInstruction { offset: 18446744073709551605, operator: I32Sub })",
+        "Ok(ConstInstruction { offset: 18446744073709551606, operator: I32Mul })",
+        "Ok(ConstInstruction { offset: 18446744073709551607, operator: I64Add })",
+        "Ok(ConstInstruction { offset: 18446744073709551608, operator: I64Sub })",
+        "Ok(ConstInstruction { offset: 18446744073709551609, operator: I64Mul })",
+        "Ok(ConstInstruction { offset: 18446744073709551610, operator: End })",
+    ];
+    let bytes = b"\x42\x7f\x41\x80\x7f\x6b\x6c\x7c\x7d\x7e\x0b";
+    instructs(&rt, rt.alloc(), 18446744073709551600, bytes, &texts)
 }
 
 #[test]
-fn references(rt: HostRuntime) {
-    gives(
+fn references(rt: HostRuntime) -> Result<(), Fail> {
+    let texts = [
+        "Ok(ConstInstruction { offset: 7, operator: RefNull { hty: Func } })",
+        "Ok(ConstInstruction { offset: 9, operator: RefNull { hty: Concrete(5) } })",
+        "Ok(ConstInstruction { offset: 11, operator: RefFunc { function_index: 3 } })",
+        "Ok(ConstInstruction { offset: 14, operator: RefI31 })",
+        "Ok(ConstInstruction { offset: 16, operator: End })",
+    ];
+    instructs(
         &rt,
+        rt.alloc(),
         7,
-        &[0xd0, 0x70, 0xd0, 0x05, 0xd2, 0x83, 0x00, 0xfb, 28, 0x0b],
-        &[
-            (
-                7,
-                ConstOperator::RefNull {
-                    hty: HeapType::Func,
-                },
-            ),
-            (
-                9,
-                ConstOperator::RefNull {
-                    hty: HeapType::Concrete(5),
-                },
-            ),
-            (11, ConstOperator::RefFunc { function_index: 3 }),
-            (14, ConstOperator::RefI31),
-            (16, ConstOperator::End),
-        ],
-    );
+        b"\xd0\x70\xd0\x05\xd2\x83\x00\xfb\x1c\x0b",
+        &texts,
+    )
 }
 
 #[test]
-fn structures_and_arrays(rt: HostRuntime) {
-    gives(
-        &rt,
-        0,
-        &[
-            0xfb, 0, 9, 0xfb, 1, 8, 0xfb, 6, 7, 0xfb, 7, 6, 0xfb, 8, 5, 3, 0xfb, 26, 0xfb, 27, 0x0b,
-        ],
-        &[
-            (
-                0,
-                ConstOperator::StructNew {
-                    struct_type_index: 9,
-                },
-            ),
-            (
-                3,
-                ConstOperator::StructNewDefault {
-                    struct_type_index: 8,
-                },
-            ),
-            (
-                6,
-                ConstOperator::ArrayNew {
-                    array_type_index: 7,
-                },
-            ),
-            (
-                9,
-                ConstOperator::ArrayNewDefault {
-                    array_type_index: 6,
-                },
-            ),
-            (
-                12,
-                ConstOperator::ArrayNewFixed {
-                    array_type_index: 5,
-                    array_size: 3,
-                },
-            ),
-            (16, ConstOperator::AnyConvertExtern),
-            (18, ConstOperator::ExternConvertAny),
-            (20, ConstOperator::End),
-        ],
-    );
+fn structures_and_arrays(rt: HostRuntime) -> Result<(), Fail> {
+    let texts = [
+        "Ok(ConstInstruction { offset: 0, operator: StructNew { struct_type_index: 9 } })",
+        "Ok(ConstInstruction { offset: 3, operator: StructNewDefault { struct_type_index: 8 } })",
+        "Ok(ConstInstruction { offset: 6, operator: ArrayNew { array_type_index: 7 } })",
+        "Ok(ConstInstruction { offset: 9, operator: ArrayNewDefault { array_type_index: 6 } })",
+        "Ok(ConstInstruction { offset: 12, operator: ArrayNewFixed { array_type_index: 5, array_size: 3 } })",
+        "Ok(ConstInstruction { offset: 16, operator: AnyConvertExtern })",
+        "Ok(ConstInstruction { offset: 18, operator: ExternConvertAny })",
+        "Ok(ConstInstruction { offset: 20, operator: End })",
+    ];
+    let bytes =
+        b"\xfb\x00\x09\xfb\x01\x08\xfb\x06\x07\xfb\x07\x06\xfb\x08\x05\x03\xfb\x1a\xfb\x1b\x0b";
+    instructs(&rt, rt.alloc(), 0, bytes, &texts)
 }
 
 #[test]
-fn floats_and_vectors(rt: HostRuntime) {
-    let mut given = instructions(
-        &rt,
-        0,
-        &[0x43, 0, 0, 0x80, 0x3f, 0x44, 1, 2, 3, 4, 5, 6, 7, 8],
-    );
-    match given.next() {
-        Some(Ok(instruction)) => match instruction.operator {
-            ConstOperator::F32Const { value } => assert_eq!(rt; value.bits(), 1065353216),
-            other => assert!(rt; false, "{other:?}"),
-        },
-        _ => assert!(rt; false, "no float of 32 bits"),
-    }
-    match given.next() {
-        Some(Ok(instruction)) => match instruction.operator {
-            ConstOperator::F64Const { value } => assert_eq!(rt; value.bits(), 0x0807060504030201),
-            other => assert!(rt; false, "{other:?}"),
-        },
-        _ => assert!(rt; false, "no float of 64 bits"),
-    }
-    let bytes = [1, 2, 3, 4, 5, 6, 7, 8, 9, 10, 11, 12, 13, 14, 15, 16];
-    let mut given = instructions(
-        &rt,
-        0,
-        &[
-            0xfd, 12, 1, 2, 3, 4, 5, 6, 7, 8, 9, 10, 11, 12, 13, 14, 15, 16,
-        ],
-    );
-    match given.next() {
-        Some(Ok(instruction)) => match instruction.operator {
-            ConstOperator::V128Const { value } => assert!(rt; *value.bytes() == bytes),
-            other => assert!(rt; false, "{other:?}"),
-        },
-        _ => assert!(rt; false, "no vector"),
-    }
+fn floats_and_vectors(rt: HostRuntime) -> Result<(), Fail> {
+    let texts = [
+        "Ok(ConstInstruction { offset: 0, operator: F32Const { value: Ieee32(1065353216) } })",
+        "Ok(ConstInstruction { offset: 5, operator: F64Const { value: Ieee64(578437695752307201) } })",
+        "Ok(ConstInstruction { offset: 14, operator: V128Const { \
+            value: V128([1, 2, 3, 4, 5, 6, 7, 8, 9, 10, 11, 12, 13, 14, 15, 16]) } })",
+        "Err(Error { fault: UnexpectedEof, offset: 32, number: None, hint: Some(1) })",
+    ];
+    let bytes =
+        b"\x43\0\0\x80\x3f\x44\x01\x02\x03\x04\x05\x06\x07\x08\xfd\x0c\x01\x02\x03\x04\x05\x06\x07\x08\x09\x0a\x0b\x0c\x0d\x0e\x0f\x10";
+    instructs(&rt, rt.alloc(), 0, bytes, &texts)
 }
 
 #[test]
-fn faults_and_what_comes_after_the_end(rt: HostRuntime) {
-    gives(&rt, 5, &[0x0b, 0x41, 0], &[(5, ConstOperator::End)]);
-    gives_up(&rt, &[], &[], Error::new(Fault::UnexpectedEof, 100));
-    gives_up(
+fn faults_and_what_comes_after_the_end(rt: HostRuntime) -> Result<(), Fail> {
+    let end = ["Ok(ConstInstruction { offset: 5, operator: End })"];
+    instructs(&rt, rt.alloc(), 5, b"\x0b\x41\x00", &end)?;
+    let missing = ["Err(Error { fault: UnexpectedEof, offset: 100, number: None, hint: Some(1) })"];
+    instructs(&rt, rt.alloc(), 100, b"", &missing)?;
+    let texts = [
+        "Ok(ConstInstruction { offset: 100, operator: RefFunc { function_index: 1 } })",
+        "Err(Error { fault: NotConstant, offset: 102, number: None, hint: None })",
+    ];
+    instructs(&rt, rt.alloc(), 100, b"\xd2\x01\x20\x00\x0b", &texts)?;
+    let texts = [
+        "Ok(ConstInstruction { offset: 100, operator: I32Const { value: 1 } })",
+        "Err(Error { fault: NumberTooLarge(VarI32), offset: 107, number: None, hint: None })",
+    ];
+    instructs(
         &rt,
-        &[0xd2, 1, 0x20, 0, 0x0b],
-        &[(100, ConstOperator::RefFunc { function_index: 1 })],
-        Error::new(Fault::NotConstant, 102),
-    );
-    gives_up(
-        &rt,
-        &[0x41, 1, 0x41, 0x80, 0x80, 0x80, 0x80, 0x10],
-        &[(100, ConstOperator::I32Const { value: 1 })],
-        Error::new(Fault::NumberTooLarge(NumberKind::VarI32), 107),
-    );
+        rt.alloc(),
+        100,
+        b"\x41\x01\x41\x80\x80\x80\x80\x10",
+        &texts,
+    )
 }
