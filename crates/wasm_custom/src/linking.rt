@@ -307,6 +307,7 @@ fn read_name<'a>(flags: SymbolFlags, reader: &mut BinaryReader<'a>) -> Result<Op
 
 // The index of a symbol, and its name where it is written.
 #[tactic(auto, unfolding(crate::specs::Linking::index_and_name_at))]
+#[inline(always)]
 fn read_indexed<'a>(
     flags: SymbolFlags,
     reader: &mut BinaryReader<'a>,

@@ -90,7 +90,7 @@ impl<'a> FromReader<'a> for TypeRef {
     #[tactic(auto, unfolding(crate::specs::Imports::type_ref_at))]
     fn from_reader(reader: &mut BinaryReader<'a>) -> Result<Self> {
         match ExternalKind::from_reader(reader)? {
-            ExternalKind::Func => reader.read_var_u32().map(TypeRef::Func),
+            ExternalKind::Func => Ok(TypeRef::Func(reader.read_var_u32()?)),
             ExternalKind::Table => reader.read().map(TypeRef::Table),
             ExternalKind::Memory => reader.read().map(TypeRef::Memory),
             ExternalKind::Global => reader.read().map(TypeRef::Global),
