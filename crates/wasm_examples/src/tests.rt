@@ -1,6 +1,4 @@
 // Worked examples.
-mod ended;
-mod hostile;
 mod imports;
 mod linking;
 mod outside;

@@ -54,12 +54,10 @@ pub data Grammar : Type 0 where
 
 -- What comes next in a grammar that is written with `do`: after a check, or with what a field says.
 infixl 20 ◌>>◌
-
 abbrev pub ◌>>◌ : (Grammar → Grammar) → Grammar → Grammar
 first >> next = first next
 
 infixl 20 ◌>>=◌
-
 abbrev pub ◌>>=◌ : {A : Type 0} → ((A → Grammar) → Grammar) → (A → Grammar) → Grammar
 first >>= next = first next
 

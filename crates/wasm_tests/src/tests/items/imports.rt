@@ -1,9 +1,9 @@
 // Imports by the debug texts of their copies, and the imports of a section. Tables of rows are in `wasm_rows`.
-use crate::tests::{gives, prints};
+use crate::tests::{gives, prints, window};
 use std::alloc::Global;
 use std::process::Abort;
 use std::test::Fail;
-use wasm_base::{BinaryReader, WasmFeatures, fits};
+use wasm_base::{BinaryReader, FromReader, WasmFeatures, fits};
 use wasm_items::{Import, ImportItemCompact, ImportSection, ImportSectionReader, Imports, TypeRef};
 
 #[test]
@@ -21,6 +21,18 @@ fn imports_by_their_fields(rt: HostRuntime) -> Result<(), Fail> {
     prints::<ImportItemCompact<'_>>(&rt, rt.alloc(), b"\x01a\x04\x00\x01", 40, 45, text)?;
     let text = "Single(40, Import { module: \"m\", name: \"a\", ty: Func(3) })";
     prints::<Imports<'_>>(&rt, rt.alloc(), b"\x01m\x01a\x00\x03", 40, 46, text)
+}
+
+// A bundle's imports, of which the second one has a fault.
+#[test]
+fn imports_of_a_bundle(rt: HostRuntime) -> Result<(), Fail> {
+    let bytes = b"\x01m\x00\x7e\x00\x05\x02\x01a\x01\xff";
+    let bundle = Imports::from_reader(&mut window(bytes, 1))?;
+    let texts = [
+        "Ok((8, Import { module: \"m\", name: \"a\", ty: Func(5) }))",
+        "Err(Error { fault: MalformedUtf8, offset: 11, number: None, hint: None })",
+    ];
+    gives(&rt, rt.alloc(), bundle.into_iter(), &texts)
 }
 
 #[test]
