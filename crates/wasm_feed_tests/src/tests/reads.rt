@@ -1,30 +1,11 @@
 // Loops over a source by a feeder.
+use super::feeding::{MODULE, Told, say};
 use bitflags::Flags;
 use std::alloc::Global;
 use std::process::Abort;
 use std::test::Fail;
-use wasm_feed::{
-    Ahead, Cursor, Failed, Feeder, ListError, SliceSource, Source, Step, parse_next, seen,
-};
-use wasm_parser::{Error, Fault, Parser, Payload, Result as ParserResult, WasmFeatures};
-
-// A header, a function section, and a code section with one body.
-const MODULE: &[u8] = b"\0asm\x01\0\0\0\x03\x02\x01\0\x0a\x04\x01\x02\0\x0b";
-
-// Whether a step is the end, and whether it is a request.
-fn look_at(step: Step<'_>) -> (bool, bool) {
-    match step {
-        Step::NeedMoreData(_) => (false, true),
-        Step::Parsed { payload, .. } => (is_end(payload), false),
-    }
-}
-
-fn is_end(payload: Payload<'_>) -> bool {
-    match payload {
-        Payload::End(_) => true,
-        _other => false,
-    }
-}
+use wasm_feed::{Ahead, Cursor, Failed, Feeder, ListError, SliceSource, Source, parse_next, seen};
+use wasm_parser::{Error, Fault, Parser, WasmFeatures};
 
 // How many reads, and how many steps without a request, it takes to read these bytes into room for so many, and how many bytes
 // were stored at most. Bytes are asked for where a step asks, and nowhere else.
@@ -36,12 +17,11 @@ fn read_by(alloc: Global, bytes: &[u8], size: usize) -> Result<(u32, u32, usize)
     let mut steps = 0u32;
     let mut most = 0;
     for _turn in 0..200 {
-        let (is_last, asks) = look_at(feeder.open().step()?);
-        if !asks {
-            steps = steps.wrapping_add(1);
-        }
-        if is_last {
-            return Ok((reads, steps, most));
+        match say(feeder.open().step()) {
+            Told::Asks(_) => {}
+            Told::Shows(_) => steps = steps.wrapping_add(1),
+            Told::Ends(_) => return Ok((reads, steps.wrapping_add(1), most)),
+            Told::Refuses(error) => return Err(error.into()),
         }
         if feeder.wants_more() && buffer.len() > 0 {
             feeder.read_from(&mut source, buffer.as_mut_slice())?;
@@ -78,35 +58,12 @@ fn a_source_with_nothing_is_at_its_end(rt: HostRuntime) -> Result<(), Fail> {
     Ok(())
 }
 
-// What a step says.
-#[derive(Clone, Copy, Debug, PartialEq, Eq)]
-enum Said {
-    Asks,
-    Shows(usize),
-    End,
-    Fault(Error),
-}
-
-fn say(step: ParserResult<Step<'_>>) -> Said {
-    match step {
-        Ok(Step::NeedMoreData(_)) => Said::Asks,
-        Ok(Step::Parsed { bytes, payload }) => {
-            if is_end(payload) {
-                Said::End
-            } else {
-                Said::Shows(bytes.len())
-            }
-        }
-        Err(error) => Said::Fault(error),
-    }
-}
-
 // The next step beside the chunk that was read last.
 fn next_said(
     ahead: &mut Ahead<Global>,
     cursor: &mut Cursor,
     stored: &mut Vec<u8>,
-) -> Result<Said, Fail> {
+) -> Result<Told, Fail> {
     ahead.make_ready(cursor, stored)?;
     Ok(say(parse_next(cursor, seen(stored, ahead.bytes()))))
 }
@@ -117,7 +74,7 @@ fn stays(
     ahead: &mut Ahead<Global>,
     cursor: &mut Cursor,
     stored: &mut Vec<u8>,
-    said: Said,
+    said: Told,
 ) -> Result<(), Fail> {
     for _ in 0..3 {
         ahead.pass_lent(cursor, stored);
@@ -154,7 +111,9 @@ fn fails_to_read(
     ahead.make_ready(cursor, stored)?;
     let read = ahead.refill(cursor, stored, &mut Broken);
     assert_eq!(rt; read, Err(ListError::Input));
-    assert_eq!(rt; next_said(ahead, cursor, stored)?, Said::Asks);
+    let Told::Asks(_) = next_said(ahead, cursor, stored)? else {
+        return Err("no request".into());
+    };
     Ok(())
 }
 
@@ -165,7 +124,7 @@ fn read_lent(
     alloc: Global,
     bytes: &[u8],
     size: usize,
-) -> Result<(u32, u32, Said), Fail> {
+) -> Result<(u32, u32, Told), Fail> {
     let mut source = SliceSource::new(bytes);
     let mut ahead = Ahead::new(vec![in alloc; 0u8; size.max(1)]?);
     let mut stored = Vec::new(alloc);
@@ -176,13 +135,13 @@ fn read_lent(
         ahead.make_ready(&mut cursor, &mut stored)?;
         let said = say(parse_next(&mut cursor, seen(&stored, ahead.bytes())));
         match said {
-            Said::Asks => {
+            Told::Asks(_) => {
                 fails_to_read(rt, &mut ahead, &mut cursor, &mut stored)?;
                 ahead.make_ready(&mut cursor, &mut stored)?;
                 ahead.refill(&mut cursor, &mut stored, &mut source)?;
                 reads = reads.wrapping_add(1);
             }
-            Said::Shows(_) => {
+            Told::Shows(_) => {
                 ahead.pass_lent(&mut cursor, &stored);
                 steps = steps.wrapping_add(1);
             }
@@ -198,21 +157,21 @@ fn read_lent(
 #[test]
 fn chunks_are_parsed_where_they_are(rt: HostRuntime) -> Result<(), Fail> {
     let heap = rt.alloc();
-    assert_eq!(rt; read_lent(&rt, heap, MODULE, 18)?, (2, 4, Said::End));
-    assert_eq!(rt; read_lent(&rt, heap, MODULE, 3)?, (7, 4, Said::End));
-    assert_eq!(rt; read_lent(&rt, heap, MODULE, 1)?, (19, 4, Said::End));
+    assert_eq!(rt; read_lent(&rt, heap, MODULE, 18)?, (2, 4, Told::Ends(18)));
+    assert_eq!(rt; read_lent(&rt, heap, MODULE, 3)?, (7, 4, Told::Ends(18)));
+    assert_eq!(rt; read_lent(&rt, heap, MODULE, 1)?, (19, 4, Told::Ends(18)));
     Ok(())
 }
 
 #[test]
 fn a_fault_in_a_chunk_stays(rt: HostRuntime) -> Result<(), Fail> {
     let heap = rt.alloc();
-    let fault = Said::Fault(Error::new(Fault::MalformedSectionId, 8));
+    let fault = Told::Refuses(Error::new(Fault::MalformedSectionId, 8));
     let stream = b"\0asm\x01\0\0\0\x80\x01\x01\0";
     assert_eq!(rt; read_lent(&rt, heap, stream, 100)?, (1, 1, fault));
     assert_eq!(rt; read_lent(&rt, heap, stream, 9)?, (1, 1, fault));
     assert_eq!(rt; read_lent(&rt, heap, stream, 1)?, (9, 1, fault));
-    let none = Said::Fault(Error::new(Fault::UnexpectedEof, 0));
+    let none = Told::Refuses(Error::new(Fault::UnexpectedEof, 0));
     assert_eq!(rt; read_lent(&rt, heap, b"", 4)?, (1, 0, none));
     Ok(())
 }
