@@ -34,8 +34,7 @@ named_from o content (refused f place) e h = cc
 -- content with no fault in its number has a number
 read_from : (o : ℕ) (content : List ℕ) (n : Number) → number VarU32 content ≡ n → wrong_number o content n ≡ None → IsFormed items content
 read_from o content (read v k) e h = (v, k, e)
-read_from o content (bad f place) e h = cc
-read_from o content short e h = cc
+read_from o content _ e h = cc
 
 -- content with no fault as one number is one number
 single_from : (trailing : Fault) (o : ℕ) (content : List ℕ) (n : Number) → number VarU32 content ≡ n
@@ -46,8 +45,7 @@ single_from trailing o content (read v k) e h =
     let l : length content ≤ k = ltb-false k (length content) (none_when (nat_lt k (length content)) (at_offset trailing (o + k)) h) in
     let z : k ≡ length content = omega (arith, u.there) in
     (v, subst (λ (x : ℕ). number VarU32 content ≡ read v x) z e)
-single_from trailing o content (bad f place) e h = cc
-single_from trailing o content short e h = cc
+single_from trailing o content _ e h = cc
 
 -- content with no fault is good
 pub good_from : (form : Form) (o : ℕ) (content : List ℕ) → wrong_content form o content ≡ None → IsFormed form content

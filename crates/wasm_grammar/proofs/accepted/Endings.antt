@@ -73,9 +73,8 @@ ends_to a b e f o p q = rw (p, q) refl
 
 -- where a stream may end neither fault holds
 ends_from : (a b : Bool) (e f : FaultAt) (o p : ℕ) → cond a (fault e) (cond b (fault f) (ended o)) ≡ ended p → (a ≡ false) × (b ≡ false)
-ends_from true b e f o p h = cc
-ends_from false true e f o p h = cc
 ends_from false false e f o p h = (refl, refl)
+ends_from _ _ e f o p h = cc
 
 -- how a stream ends, reported of its frames
 misses_same : (encoding : Encoding) (fs : List SectionFrame) (p : SectionContext) → Knows encoding fs p → (o : ℕ)

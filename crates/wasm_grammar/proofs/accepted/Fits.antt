@@ -112,8 +112,7 @@ data_right false all e h = refl
 -- a count with which nothing is wrong agrees where it is asked for
 right_data : (b all : Bool) (e : FaultAt) → when (b && not all) e ≡ None → b ≡ true → all ≡ true
 right_data true true e h z = refl
-right_data true false e h z = cc
-right_data false all e h z = cc
+right_data _ _ e h z = cc
 
 -- a component has no section of items
 pub no_items : (id : ℕ) → kind_of Component id ≡ whole items → ⊥
@@ -133,10 +132,7 @@ data_to encoding fs p k f o h items e =
     data_right (f.id == data_id) (list_all (nat_eq (frame_count f)) p.data_counts) (at_offset DataCountDiffer o)
     (λ z. ap (list_all (nat_eq (frame_count f))) k.data_counts ∙ same_to encoding data_count_id (frame_count f) fs
     (h (items_in encoding f.id e, eqb-true f.id data_id z)))
-data_to encoding fs p k f o h custom e = refl
-data_to encoding fs p k f o h index e = refl
-data_to encoding fs p k f o h data_count e = refl
-data_to encoding fs p k f o h unknown e = refl
+data_to encoding fs p k f o h _ e = refl
 
 -- a section with the right count of segments fits
 pub data_from : (encoding : Encoding) (fs : List SectionFrame) (p : SectionContext) → Knows encoding fs p

@@ -75,22 +75,17 @@ of_header o bits None xs t e h = cc
 -- lists of one length that agree are one
 agree_whole : (xs ys : List ℕ) → length xs ≡ length ys → agree xs ys ≡ true → xs ≡ ys
 agree_whole [] [] l e = refl
-agree_whole [] (y ∷ ys) l e = absurd (omega arith)
-agree_whole (x ∷ xs) [] l e = absurd (omega arith)
 agree_whole (x ∷ xs) (y ∷ ys) l e =
     let q : ((nat_eq x y ≡ true) × (agree xs ys ≡ true)) = and_parts _ _ e in
     let a : x ≡ y = eqb-true x y q.0 in
     let b : xs ≡ ys = agree_whole xs ys (omega arith) q.1 in
     cc
+agree_whole _ _ l e = absurd (omega arith)
 
 -- four bytes
 four_parts : (xs : List ℕ) → length xs ≡ 4 → (a : ℕ) × (b : ℕ) × (c : ℕ) × (d : ℕ) × (xs ≡ a ∷ b ∷ c ∷ d ∷ [])
-four_parts [] l = absurd (omega arith)
-four_parts (a ∷ []) l = absurd (omega arith)
-four_parts (a ∷ b ∷ []) l = absurd (omega arith)
-four_parts (a ∷ b ∷ c ∷ []) l = absurd (omega arith)
 four_parts (a ∷ b ∷ c ∷ d ∷ []) l = (a, b, c, d, refl)
-four_parts (a ∷ b ∷ c ∷ d ∷ x ∷ xs) l = absurd (omega arith)
+four_parts _ l = absurd (omega arith)
 
 -- four bytes with the bits of an encoding, one by one
 bits_bytes : (encoding : Encoding) (a b c d : ℕ) → a < 256 → b < 256 → c < 256 → d < 256 → a + 256 * b + 65536 * c + 16777216 * d

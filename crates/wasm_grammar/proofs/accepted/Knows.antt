@@ -72,20 +72,16 @@ IsCounting other = ⊥
 
 -- a section with another id adds no count
 other_count : (n id : ℕ) (k : Form) (content others : List ℕ) → nat_eq id n ≡ false → count_in n (section k id content) others ≡ others
-other_count n id custom content others e = refl
 other_count n id items content others e = rw e refl
-other_count n id index content others e = refl
 other_count n id data_count content others e = rw e refl
-other_count n id unknown content others e = refl
+other_count n id _ content others e = refl
 
 -- a section with this id adds its count
 this_count : (n id : ℕ) (k : Form) (content others : List ℕ) → nat_eq id n ≡ true → IsCounting (whole k)
     → count_in n (section k id content) others ≡ count_of content ∷ others
-this_count n id custom content others e c = absurd c
 this_count n id items content others e c = rw e refl
-this_count n id index content others e c = absurd c
 this_count n id data_count content others e c = rw e refl
-this_count n id unknown content others e c = absurd c
+this_count n id _ content others e c = absurd c
 
 -- a component's section adds no count
 abbrev kind_count : (n id : ℕ) → Kind → (content others : List ℕ) → List ℕ

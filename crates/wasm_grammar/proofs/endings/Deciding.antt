@@ -53,8 +53,6 @@ after_same f (final e) (final x) h = cc
 
 -- Bytes that are missing and then come lead to something else, and so do the bytes that come where a section may start.
 abbrev pub Differs : Grammar → Type 0
-Differs (accept shape) = Unit {0}
-Differs (reject e) = Unit {0}
 Differs (check e next) = Differs next
 Differs (u32_field o next) = (v k : ℕ) → 0 < k → Differs (next v k)
 Differs (bytes n o next) = ((c : List ℕ) → 0 < length c → verdict (next c) [] ≢ final (fault (at_offset UnexpectedEof o)))
@@ -63,6 +61,7 @@ Differs (section_start o e next) = ((id : ℕ) → Differs (next id))
     × (verdict (section_start o e next) [] ≢ verdict (section_start o e next) (replicate 5 0x80))
     × ((id : ℕ) (xs : List ℕ) → agree (id ∷ xs) magic ≡ true → length (id ∷ xs) < 4
     → verdict (section_start o e next) (id ∷ xs) ≢ verdict (section_start o e next) ((id ∷ xs) ++ drop (length (id ∷ xs)) magic))
+Differs _ = Unit {0}
 
 number_differs : (o : ℕ) (xs : List ℕ) (next : ℕ → ℕ → Grammar) (n h : ℕ)
     → ((v k : ℕ) → 0 < k → (zs : List ℕ) (m : ℕ) → waiting (next v k) zs ≡ wants m h
@@ -148,9 +147,6 @@ start_differs o e next id xs n h s ih false l p q w z =
 pub differs : (g : Grammar) → Differs g → (xs : List ℕ) (n h : ℕ) → waiting g xs ≡ wants n h
     → verdict g xs ≢ verdict g (xs ++ deciding_ending g xs)
 unfolding verdict waiting deciding_ending
-differs (accept s) p xs n h w = cc
-differs (reject e) p xs n h w = cc
-differs (check (Some e) next) p xs n h w = cc
 differs (check None next) p xs n h w = differs next p xs n h w
 differs (u32_field o next) p xs n h w = number_differs o xs next n h (λ v k l zs m. differs (next v k) (p v k l) zs m h) (number VarU32 xs)
     refl w
@@ -160,6 +156,7 @@ differs (section_start o e next) p [] n h w = p.1
 differs (section_start o e next) p (id ∷ xs) n h w =
     start_differs o e next id xs n h p (λ m. differs (next id) (p.0 id) xs m h) (agree (id ∷ xs) magic) (nat_le 4 (length (id ∷ xs))) refl
     refl w
+differs _ p xs n h w = cc
 
 -- ---- the grammars of a stream
 
@@ -232,10 +229,7 @@ content_other unknown o c l = tt
 data_other : (p : SectionContext) (form : Form) (id o q : ℕ) (c : List ℕ) → NotMissing q (wrong_data p form id o c)
 data_other p items id o q c = when_other (nat_eq id 11 && not (list_all (nat_eq (count_of c)) p.data_counts)) (at_offset DataCountDiffer o)
     q (other_fault DataCountDiffer o q refl)
-data_other p custom id o q c = tt
-data_other p index id o q c = tt
-data_other p data_count id o q c = tt
-data_other p unknown id o q c = tt
+data_other p _ id o q c = tt
 
 checked_twice : (a b : Option FaultAt) (s : Shape) (o : ℕ) → NotMissing o a → NotMissing o b
     → verdict (check a (check b (accept s))) [] ≢ final (fault (at_offset UnexpectedEof o))

@@ -23,9 +23,8 @@ use Rattle.wasm_grammar.specs.declared.encoding.Encoding.{Encoding}
 below_at : (a b c : Bool) (w v i k p q : ℕ) (f g : Fault) → ((a ≡ true) ⊎ ((b ≡ false) × (c ≡ true)) → w < 2 ^ 32)
     → cond a (read w (suc i)) (cond b (bad f p) (cond c (read w (suc i)) (bad g q))) ≡ read v k → v < 2 ^ 32
 below_at true b c w v i k p q f g h e = let z : w ≡ v = cc in subst (λ (x : ℕ). x < 2 ^ 32) z (h (inl refl))
-below_at false true c w v i k p q f g h e = cc
 below_at false false true w v i k p q f g h e = let z : w ≡ v = cc in subst (λ (x : ℕ). x < 2 ^ 32) z (h (inr (refl, refl)))
-below_at false false false w v i k p q f g h e = cc
+below_at false _ _ w v i k p q f g h e = cc
 
 none_below : (t : Bool) (f : Fault) (p v k : ℕ) → cond t short (bad f p) ≡ read v k → v < 2 ^ 32
 none_below true f p v k e = cc
@@ -55,12 +54,11 @@ read_below xs v k r = read_below_at xs (last_place xs) v k refl r
 
 -- no more than 2^32 bytes are raw at one place
 abbrev Bounded : Grammar → Type 0
-Bounded (accept shape) = Unit {0}
-Bounded (reject e) = Unit {0}
 Bounded (check e next) = Bounded next
 Bounded (u32_field o next) = (v k : ℕ) → v < 2 ^ 32 → Bounded (next v k)
 Bounded (bytes n o next) = (n ≤ 2 ^ 32) × ((b : List ℕ) → Bounded (next b))
 Bounded (section_start o e next) = (id : ℕ) → Bounded (next id)
+Bounded _ = Unit {0}
 
 -- what is said of an ending
 pub record IsSmall (ending : List ℕ) : Type 0 where
@@ -102,9 +100,6 @@ small_start id xs ending s false = s
 
 small_ending : (g : Grammar) → Bounded g → (xs : List ℕ) → IsSmall (deciding_ending g xs)
 unfolding deciding_ending
-small_ending (accept s) b xs = small_nil
-small_ending (reject e) b xs = small_nil
-small_ending (check (Some e) next) b xs = small_nil
 small_ending (check None next) b xs = let s : IsSmall (deciding_ending next xs) = small_ending next b xs in s
 small_ending (u32_field o next) b xs = small_number xs next (λ v k l zs. small_ending (next v k) (b v k l) zs) (number VarU32 xs) refl
 small_ending (bytes n o next) b xs = small_bytes n xs (deciding_ending (next (take n xs)) (drop n xs)) b.0
@@ -112,6 +107,7 @@ small_ending (bytes n o next) b xs = small_bytes n xs (deciding_ending (next (ta
 small_ending (section_start o e next) b [] = small_many 5 0x80 (lit< tt) (lit≤ tt)
 small_ending (section_start o e next) b (id ∷ xs) = small_start id xs (deciding_ending (next id) xs) (small_ending (next id) (b id) xs)
     (agree (id ∷ xs) magic)
+small_ending _ b xs = small_nil
 
 -- ---- the grammars of a stream
 

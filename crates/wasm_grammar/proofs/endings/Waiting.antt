@@ -59,9 +59,6 @@ wait_start id xs ys next ih false l e f w =
 
 pub waiting-more : (g : Grammar) (xs ys : List ℕ) → waiting g xs ≡ enough → waiting g (xs ++ ys) ≡ enough
 unfolding waiting
-waiting-more (accept s) xs ys w = refl
-waiting-more (reject e) xs ys w = refl
-waiting-more (check (Some e) next) xs ys w = refl
 waiting-more (check None next) xs ys w = waiting-more next xs ys w
 waiting-more (u32_field offset next) xs ys w =
     wait_number xs ys next (λ v k zs. waiting-more (next v k) zs ys) (number VarU32 xs) refl w
@@ -70,6 +67,7 @@ waiting-more (bytes count offset next) xs ys w =
 waiting-more (section_start offset e next) [] ys w = cc
 waiting-more (section_start offset e next) (id ∷ xs) ys w =
     wait_start id xs ys next (λ zs. waiting-more (next id) zs ys) (agree (id ∷ xs) magic) (nat_le 4 (length (id ∷ xs))) refl refl w
+waiting-more _ xs ys w = refl
 
 -- where a tile is, bytes suffice
 pub tile_decided : (g : Grammar) → Guarded g → (xs : List ℕ) (t : Tile) → verdict g xs ≡ tile t → waiting g xs ≡ enough
@@ -137,9 +135,6 @@ ask_start id xs next need hint ih false l e w =
 
 pub waiting-asks : (g : Grammar) (xs : List ℕ) (need hint : ℕ) → waiting g xs ≡ wants need hint → Asks xs need hint
 unfolding waiting
-waiting-asks (accept s) xs need hint w = cc
-waiting-asks (reject e) xs need hint w = cc
-waiting-asks (check (Some e) next) xs need hint w = cc
 waiting-asks (check None next) xs need hint w =
     let a : Asks xs need hint = waiting-asks next xs need hint w in a
 waiting-asks (u32_field offset next) xs need hint w = ask_number xs next need hint (λ v k zs n. waiting-asks (next v k) zs n hint)
@@ -152,3 +147,4 @@ waiting-asks (section_start offset e next) [] need hint w =
     record { above = omega (arith, n); some = omega (arith, h) }
 waiting-asks (section_start offset e next) (id ∷ xs) need hint w =
     ask_start id xs next need hint (λ zs n. waiting-asks (next id) zs n hint) (agree (id ∷ xs) magic) (nat_le 4 (length (id ∷ xs))) refl w
+waiting-asks _ xs need hint w = cc

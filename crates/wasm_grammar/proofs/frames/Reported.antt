@@ -39,9 +39,7 @@ kinded_section p o xs t e = each_tile (Kinded p.encoding) (section_grammar p o)
 
 kinded_body : (encoding : Encoding) (s : Shape) → IsBody s → Kinded encoding s
 kinded_body encoding (code_entry content) b = tt
-kinded_body encoding (section kind id content) b = absurd b
-kinded_body encoding (code_start count width size) b = absurd b
-kinded_body encoding (version num other) b = absurd b
+kinded_body encoding _ b = absurd b
 
 kinded_at : (b : Bool) (p : SectionContext) (m l o : ℕ) (xs : List ℕ) (t : Tile)
     → verdict (cond b (section_grammar p o) (body_grammar m l o)) xs ≡ tile t → Kinded p.encoding t.shape
@@ -57,10 +55,8 @@ kinded start u ts xs t e =
     (start + length (bytes_of (u ∷ ts))) xs t e
 
 encoding_kept : (t : Tile) (ts : List Tile) (s : Shape) → t.shape ≡ s → Kinded (encoding_of ts) s → encoding_of (t ∷ ts) ≡ encoding_of ts
-encoding_kept t ts (section kind id content) e k = rw e refl
-encoding_kept t ts (code_start count width size) e k = rw e refl
-encoding_kept t ts (code_entry content) e k = rw e refl
 encoding_kept t ts (version num other) e k = absurd k
+encoding_kept t ts _ e k = rw e refl
 
 -- it names no other encoding
 pub same_encoding : (t : Tile) (ts : List Tile) → Kinded (encoding_of ts) t.shape → encoding_of (t ∷ ts) ≡ encoding_of ts
@@ -72,24 +68,20 @@ same_encoding t ts k = encoding_kept t ts t.shape refl k
 abbrev pub section_at : (high : ℕ) → Shape → Option (ℕ × Range ℕ)
 section_at high (section kind id content) = Some (id, record { start = high - length content; end = high })
 section_at high (code_start count width size) = Some (10, record { start = high - width; end = high + size })
-section_at high (code_entry content) = None
-section_at high (version num encoding) = None
+section_at high _ = None
 
 -- the id that is reported of a section of this kind
 abbrev id_report : Form → ℕ → ℕ
 id_report custom id = 0
-id_report items id = id
 id_report index id = 8
 id_report data_count id = 12
-id_report unknown id = id
+id_report _ id = id
 
 -- it is the section's
 id_same : (encoding : Encoding) (kind : Form) (id : ℕ) → IdOf encoding (whole kind) id → id_report kind id ≡ id
-id_same encoding custom id h = sym h
-id_same encoding index id h = sym h
-id_same encoding data_count id h = sym h
 id_same encoding items id h = refl
 id_same encoding unknown id h = refl
+id_same encoding _ id h = sym h
 
 -- the range of a section
 abbrev over : (id from to : ℕ) → Option (ℕ × Range ℕ)
@@ -104,9 +96,7 @@ report_kind : (features from to : ℕ) (kind : Form) (id : ℕ) (content : List 
     → section_of (section_report features from to kind id content) ≡ over (id_report kind id) from to
 report_kind features from to custom id content e = report_name features from to content (name (Some name_limit) content) e
 report_kind features from to items id content e = ap (over id from) e
-report_kind features from to index id content e = refl
-report_kind features from to data_count id content e = refl
-report_kind features from to unknown id content e = refl
+report_kind features from to _ id content e = refl
 
 report_shape : (encoding : Encoding) (features low : ℕ) (bytes : List ℕ) (s : Shape) → Kinded encoding s → Closes s bytes
     → section_of (tile_report features low (low + length bytes) s) ≡ section_at (low + length bytes) s
@@ -115,9 +105,8 @@ report_shape encoding features low bytes (section kind id content) k (before, c)
     let i : id_report kind id ≡ id = id_same encoding kind id (id_as encoding (whole kind) id (sym k)) in
     report_kind features (low + length bytes - length content) (low + length bytes) kind id content (omega arith)
     ∙ ap (λ (x : ℕ). over x (low + length bytes - length content) (low + length bytes)) i
-report_shape encoding features low bytes (code_start count width size) k c = refl
-report_shape encoding features low bytes (code_entry content) k c = refl
 report_shape encoding features low bytes (version num other) k c = absurd k
+report_shape encoding features low bytes _ k c = refl
 
 -- what is reported of a tile after a header
 pub report_after : (start features low : ℕ) (u : Tile) (ts : List Tile) (t : Tile) → verdict (grammar start (u ∷ ts)) t.bytes ≡ tile t
@@ -127,9 +116,7 @@ report_after start features low u ts t e = report_shape (encoding_of (u ∷ ts))
 
 report_header : (features low high : ℕ) (s : Shape) → IsHeader s → section_of (tile_report features low high s) ≡ None
 report_header features low high (version num other) h = refl
-report_header features low high (section kind id content) h = absurd h
-report_header features low high (code_start count width size) h = absurd h
-report_header features low high (code_entry content) h = absurd h
+report_header features low high _ h = absurd h
 
 -- ---- what is reported of all tiles
 

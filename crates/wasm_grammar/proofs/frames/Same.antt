@@ -43,8 +43,6 @@ frame_same f g e h = λ i. record { id = e i; sized = h i }
 pub frames_same : (fs gs : List SectionFrame) → All (λ f. IsSized f.sized) fs → All (λ f. IsSized f.sized) gs → flat_map frame_bytes fs
     ≡ flat_map frame_bytes gs → fs ≡ gs
 frames_same [] [] a b e = refl
-frames_same [] (g ∷ gs) a b e = cc
-frames_same (f ∷ fs) [] a b e = cc
 frames_same (f ∷ fs) (g ∷ gs) a b e =
     let i : f.id ≡ g.id = cc in
     let z : sized_bytes f.sized ++ flat_map frame_bytes fs ≡ sized_bytes g.sized ++ flat_map frame_bytes gs = cc in
@@ -54,6 +52,7 @@ frames_same (f ∷ fs) (g ∷ gs) a b e =
     let h : f ≡ g = frame_same f g i q.0 in
     let t : fs ≡ gs = frames_same fs gs (All-tail (λ x. IsSized x.sized) f fs a) (All-tail (λ x. IsSized x.sized) g gs b) q.1 in
     cc
+frames_same _ _ a b e = cc
 
 -- a header names one encoding
 pub headers_same : (e f : Encoding) (us vs : List ℕ) → header_bytes e ++ us ≡ header_bytes f ++ vs → (e ≡ f) × (us ≡ vs)

@@ -215,9 +215,7 @@ body_tile_says features o m l t b = subst (λ (x : Tile). SaysItsBytes features 
 -- the event of a header
 header_says : (features o : ℕ) (t : Tile) (s : Shape) → t.shape ≡ s → IsHeader s → SaysItsBytes features o (event_of features o t)
 header_says features o t (Grammar.version num encoding) e h = record { section = λ i range x. cc; body = λ window x. cc }
-header_says features o t (section kind id content) e h = absurd h
-header_says features o t (Grammar.code_start count width size) e h = absurd h
-header_says features o t (Grammar.code_entry content) e h = absurd h
+header_says features o t _ e h = absurd h
 
 -- the event of a tile after a header
 inside_says : (features o : ℕ) (b : Bool) (p : SectionContext) (m l : ℕ) (t : Tile) → ReportedThere features o t

@@ -95,9 +95,7 @@ pairs start features t (u ∷ ts) f =
 named_report : (features low high : ℕ) (s : Shape) (num : ℕ) (encoding other : Encoding) (from to : ℕ) → IsHeader s
     → tile_report features low high s ≡ version num encoding from to → encoding_in s other ≡ encoding
 named_report features low high (Grammar.version n x) num encoding other from to h e = cc
-named_report features low high (section kind id content) num encoding other from to h e = absurd h
-named_report features low high (Grammar.code_start count width size) num encoding other from to h e = absurd h
-named_report features low high (Grammar.code_entry content) num encoding other from to h e = absurd h
+named_report features low high _ num encoding other from to h e = absurd h
 
 -- events that begin with those of tiles name their encoding
 first_named : (start features : ℕ) (t : Tile) (ts : List Tile) (more : List Event) (encoding : Encoding) → Faultless start (t ∷ ts)

@@ -29,14 +29,13 @@ one_division stream a b =
 bodies_same : (ss ts : List Sized) → All IsSized ss → All IsSized ts → length ss ≡ length ts → flat_map sized_bytes ss
     ≡ flat_map sized_bytes ts → ss ≡ ts
 bodies_same [] [] a b n e = refl
-bodies_same [] (t ∷ ts) a b n e = absurd (omega arith)
-bodies_same (s ∷ ss) [] a b n e = absurd (omega arith)
 bodies_same (s ∷ ss) (t ∷ ts) a b n e =
     let q : ((s ≡ t) × (flat_map sized_bytes ss ≡ flat_map sized_bytes ts)) =
     sized_same s t (flat_map sized_bytes ss) (flat_map sized_bytes ts) (All-head IsSized s ss a) (All-head IsSized t ts b) e in
     let h : s ≡ t = q.0 in
     let l : ss ≡ ts = bodies_same ss ts (All-tail IsSized s ss a) (All-tail IsSized t ts b) (omega arith) q.1 in
     λ i. h i ∷ l i
+bodies_same _ _ a b n e = absurd (omega arith)
 
 -- a code section has one division
 division_same : (content : List ℕ) (d e : CodeDivision content) → (d.field ≡ e.field) × (d.bodies ≡ e.bodies)

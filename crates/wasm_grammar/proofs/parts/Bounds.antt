@@ -174,10 +174,7 @@ wider low low' high high' (Some e) l h w = let (a, b) = w in (omega arith, omega
 data_wrong : (p : SectionContext) (kind : Form) (id offset : ℕ) (content : List ℕ)
     → MayLie offset offset (wrong_data p kind id offset content)
 data_wrong p items id offset content = when_lies offset offset _ _ (le_refl offset, le_refl offset)
-data_wrong p custom id offset content = tt
-data_wrong p index id offset content = tt
-data_wrong p data_count id offset content = tt
-data_wrong p unknown id offset content = tt
+data_wrong p _ id offset content = tt
 
 count_wrong_at : (a b : Bool) (offset : ℕ) (e f : FaultAt) → e.offset ≡ offset → f.offset ≡ offset
     → MayLie offset offset (cond a (Some e) (when b f))
@@ -219,9 +216,8 @@ Within-content low here p (whole form) id offset size l z = Within-whole low her
 
 end_lies_at : (a b : Bool) (offset : ℕ) (e f : FaultAt) → e.offset ≡ offset → f.offset ≡ offset
     → EndsIn offset offset (cond a (fault e) (cond b (fault f) (ended offset)))
-end_lies_at true b offset e f z w = (omega arith, omega arith)
-end_lies_at false true offset e f z w = (omega arith, omega arith)
 end_lies_at false false offset e f z w = tt
+end_lies_at _ _ offset e f z w = (omega arith, omega arith)
 
 end_lies : (p : SectionContext) (offset : ℕ) → EndsIn offset offset (end_at_section p offset)
 end_lies p offset = end_lies_at (list_any (nat_lt 0) p.functions && nat_eq (length p.codes) 0)

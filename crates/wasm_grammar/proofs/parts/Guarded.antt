@@ -58,8 +58,7 @@ numbered_at : (o : ℕ) (next : ℕ → ℕ → Grammar) (xs : List ℕ) (t : Ti
 numbered_at o next xs t (read v k) e w =
     let (s, r, q) = after-tile (take k xs) (verdict (next v k) (drop k xs)) t w in
     record { value = v; used = k; reads = e; rest = s; goes_on = r; is = q }
-numbered_at o next xs t (bad f p) e w = cc
-numbered_at o next xs t short e w = cc
+numbered_at o next xs t _ e w = cc
 
 pub numbered : (o : ℕ) (next : ℕ → ℕ → Grammar) (xs : List ℕ) (t : Tile) → verdict (u32_field o next) xs ≡ tile t → Numbered next xs t
 unfolding verdict
@@ -81,8 +80,6 @@ one_byte xs = refl
 
 first_is : (k : ℕ) (xs ys : List ℕ) → 0 < k → 0 < length xs → agree (take k xs ++ ys) (0x61 ∷ 0x73 ∷ 0x6d ∷ []) ≡ true → (zs : List ℕ)
     × (xs ≡ 0x61 ∷ zs)
-first_is zero xs ys h l e = absurd (omega arith)
-first_is (suc k) [] ys h l e = absurd (omega arith)
 first_is (suc k) (x ∷ xs) ys h l e =
     let z : x ≡ 0x61 = eqb-true x 0x61 (code_bytes (nat_eq x 0x61) _ e) in
     (xs, ap (λ (y : ℕ). y ∷ xs) z)
@@ -90,6 +87,7 @@ first_is (suc k) (x ∷ xs) ys h l e =
     code_bytes : (a b : Bool) → (a && b) ≡ true → a ≡ true
     code_bytes true b e = refl
     code_bytes false b e = e
+first_is _ _ ys h l e = absurd (omega arith)
 
 custom_long : (p : SectionContext) (en : Encoding) (f o : ℕ) (xs : List ℕ) (t : Tile)
     → verdict (after_length p (kind_of en 0) 0 f o 0x61) xs ≡ tile t → 0x61 ≤ length t.bytes

@@ -29,8 +29,7 @@ each_after P f v t h e = let (s, r, q) = after-tile f v t e in subst (λ (x : Ti
 each_number : (P : Shape → Type 0) (o : ℕ) (xs : List ℕ) (n : Number) (next : ℕ → ℕ → Verdict) (t : Tile)
     → ((v k : ℕ) (s : Tile) → next v k ≡ tile s → P s.shape) → after_number o xs n next ≡ tile t → P t.shape
 each_number P o xs (read v k) next t h e = each_after P _ (next v k) t (h v k) e
-each_number P o xs (bad f p) next t h e = cc
-each_number P o xs short next t h e = cc
+each_number P o xs _ next t h e = cc
 
 each_test : (P : Shape → Type 0) (b : Bool) (v : Verdict) (e : Ending) (t : Tile) → (v ≡ tile t → P t.shape) → cond b v (final e) ≡ tile t
     → P t.shape
@@ -48,16 +47,14 @@ each_tile P (accept s) h xs t e = let z : s ≡ t.shape = shape_is s t e in subs
   where
     shape_is : (s : Shape) (t : Tile) → tile (record { shape = s; bytes = [] }) ≡ tile t → s ≡ t.shape
     shape_is s t e = let z : record { shape = s; bytes = [] } ≡ t = cc in ap (λ (x : Tile). x.shape) z
-each_tile P (reject e) h xs t w = cc
-each_tile P (check (Some e) next) h xs t w = cc
 each_tile P (check None next) h xs t w = each_tile P next (h refl) xs t w
 each_tile P (u32_field o next) h xs t w = each_number P o xs (number VarU32 xs) (λ v k. verdict (next v k) (drop k xs)) t
     (λ v k. each_tile P (next v k) (h v k) (drop k xs)) w
 each_tile P (bytes n o next) h xs t w = each_test P (nat_le n (length xs)) _ _ t
     (each_after P (take n xs) (verdict (next (take n xs)) (drop n xs)) t (each_tile P (next (take n xs)) (h (take n xs)) (drop n xs))) w
-each_tile P (section_start o z next) h [] t w = cc
 each_tile P (section_start o z next) h (id ∷ xs) t w = each_test' P _ _ _ t
     (each_after P (id ∷ []) (verdict (next id) xs) t (each_tile P (next id) (h id) xs)) w
+each_tile P _ h _ t w = cc
 
 -- a section of this rank may follow
 abbrev pub Follows : SectionContext → ℕ → Type 0
@@ -67,8 +64,7 @@ Follows p r = (nat_lt 0 r && not (p.may_follow r)) ≡ false
 abbrev pub Placed : SectionContext → Shape → Type 0
 Placed p (section kind id content) = Follows p (rank_of (whole kind) id)
 Placed p (code_start count width size) = Follows p (rank_of code 10)
-Placed p (version num encoding) = ⊥
-Placed p (code_entry content) = ⊥
+Placed p _ = ⊥
 
 -- a test that finds nothing wrong fails
 pub none_when : (b : Bool) (e : FaultAt) → when b e ≡ None → b ≡ false
@@ -77,12 +73,8 @@ none_when false e h = refl
 
 placed_content : (p : SectionContext) (kind : Kind) (id o n : ℕ) → Follows p (rank_of kind id)
     → Each (Placed p) (content_grammar p kind id o n)
-placed_content p (whole custom) id o n f = λ b x y. f
-placed_content p (whole items) id o n f = λ b x y. f
-placed_content p (whole index) id o n f = λ b x y. f
-placed_content p (whole data_count) id o n f = λ b x y. f
-placed_content p (whole unknown) id o n f = λ b x y. f
 placed_content p code id o n f = λ v k x y. f
+placed_content p _ id o n f = λ b x y. f
 
 pub placed : (p : SectionContext) (o : ℕ) (xs : List ℕ) (t : Tile) → verdict (section_grammar p o) xs ≡ tile t → Placed p t.shape
 unfolding section_grammar
@@ -92,9 +84,7 @@ placed p o xs t e = each_tile (Placed p) (section_grammar p o)
 -- the tile is a body
 abbrev pub IsBody : Shape → Type 0
 IsBody (code_entry content) = Unit {0}
-IsBody (section kind id content) = ⊥
-IsBody (code_start count width size) = ⊥
-IsBody (version num encoding) = ⊥
+IsBody _ = ⊥
 
 pub bodied : (m l o : ℕ) (xs : List ℕ) (t : Tile) → verdict (body_grammar m l o) xs ≡ tile t → IsBody t.shape
 unfolding body_grammar
@@ -104,9 +94,7 @@ bodied (suc m) l o xs t e = each_tile IsBody (body_grammar (suc m) l o) (λ v k 
 -- the tile is a header
 abbrev pub IsHeader : Shape → Type 0
 IsHeader (version num encoding) = Unit {0}
-IsHeader (section kind id content) = ⊥
-IsHeader (code_start count width size) = ⊥
-IsHeader (code_entry content) = ⊥
+IsHeader _ = ⊥
 
 header_each : (o bits : ℕ) (e : Option Encoding) → Each IsHeader (header_of o bits e)
 header_each o bits (Some e) = tt
@@ -131,14 +119,11 @@ follows_all r false e h = let z : nat_lt 0 r ≡ true = lt-ltb 0 r h in absurd (
 fresh_placed : (ts : List Tile) (s : Shape) → Placed (context_of ts) s → Fresh ts s
 fresh_placed ts (section kind id content) f h = follows_all (rank_of (whole kind) id) _ f h
 fresh_placed ts (code_start count width size) f h = follows_all (rank_of code 10) _ f h
-fresh_placed ts (version num encoding) f h = absurd f
-fresh_placed ts (code_entry content) f h = absurd f
+fresh_placed ts _ f h = absurd f
 
 fresh_body : (ts : List Tile) (s : Shape) → IsBody s → Fresh ts s
 fresh_body ts (code_entry content) f h = absurd (omega arith)
-fresh_body ts (section kind id content) f h = absurd f
-fresh_body ts (code_start count width size) f h = absurd f
-fresh_body ts (version num encoding) f h = absurd f
+fresh_body ts _ f h = absurd f
 
 fresh_at : (b : Bool) (ts : List Tile) (m l o : ℕ) (d : List ℕ) (t : Tile)
     → verdict (cond b (section_grammar (context_of ts) o) (body_grammar m l o)) d ≡ tile t → Fresh ts t.shape

@@ -19,17 +19,13 @@ none_place false n m p f g l s e =
 
 some_place : (a b c : Bool) (w i m n p : ℕ) (f g h : Fault) → nat_lt m (suc i) ≡ b → i < n → 0 < m
     → cond a (read w (suc i)) (cond b (bad f (m - 1)) (cond c (read w (suc i)) (bad g i))) ≡ bad h p → p < n
-some_place true b c w i m n p f g h l s k e = cc
 some_place false true c w i m n p f g h l s k e = let z : m - 1 ≡ p = cc in omega (arith, ltb-true m (suc i) l)
-some_place false false true w i m n p f g h l s k e = cc
 some_place false false false w i m n p f g h l s k e = let z : i ≡ p = cc in omega arith
+some_place _ _ _ w i m n p f g h l s k e = cc
 
 some_bytes : (kind : NumberKind) → 0 < most_bytes kind
 some_bytes VarU32 = omega arith
-some_bytes VarI32 = omega arith
-some_bytes VarS33 = omega arith
-some_bytes VarU64 = omega arith
-some_bytes VarI64 = omega arith
+some_bytes _ = omega arith
 
 place_at : (kind : NumberKind) (xs : List ℕ) (o : Option ℕ) (f : Fault) (p : ℕ) → last_place xs ≡ o → ends_at kind xs o ≡ bad f p
     → p < length xs
@@ -78,9 +74,8 @@ name_place limit xs f p r = name_place_at limit xs (number VarU32 xs) f p refl r
 text_used : (a b : Bool) (text shown : List ℕ) (size used n k : ℕ) → nat_lt (n - used) size ≡ a → used ≤ n
     → cond a (refused UnexpectedEof used) (cond b (named text (used + size)) (refused MalformedUtf8 (used + size - 1))) ≡ named shown k
     → k ≤ n
-text_used true b text shown size used n k l t e = cc
 text_used false true text shown size used n k l t e = let z : used + size ≡ k = cc in omega (arith, ltb-false (n - used) size l)
-text_used false false text shown size used n k l t e = cc
+text_used _ _ text shown size used n k l t e = cc
 
 size_used : (a : Bool) (v : Name) (used n k : ℕ) (shown : List ℕ) → (v ≡ named shown k → k ≤ n) → cond a (refused StringSize (used - 1)) v
     ≡ named shown k → k ≤ n
@@ -89,13 +84,12 @@ size_used false v used n k shown h e = h e
 
 name_used_at : (limit : Option ℕ) (xs : List ℕ) (n : Number) (shown : List ℕ) (k : ℕ) → number VarU32 xs ≡ n → after_size limit xs n
     ≡ named shown k → k ≤ length xs
-name_used_at limit xs (bad g i) shown k e r = cc
-name_used_at limit xs short shown k e r = cc
 name_used_at limit xs (read size used) shown k e r =
     let u : Used VarU32 xs size used = number-used VarU32 xs size used e in
     size_used (is_above limit size) (text_after xs size used) used (length xs) k shown
     (λ q. text_used (nat_lt (length xs - used) size) (is_utf8 (take size (drop used xs))) (take size (drop used xs)) shown size used
     (length xs) k refl u.there (rw (length-drop used xs) at q)) r
+name_used_at limit xs _ shown k e r = cc
 
 -- a name takes no more than the bytes that are there
 pub name_used : (limit : Option ℕ) (xs shown : List ℕ) (k : ℕ) → name limit xs ≡ named shown k → k ≤ length xs

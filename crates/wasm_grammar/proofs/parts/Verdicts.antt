@@ -20,13 +20,12 @@ later-enough k (wants n h) e = cc
 
 -- lists that don't agree still don't, whatever follows
 pub agree-more : (xs ys zs : List ℕ) → agree xs zs ≡ false → agree (xs ++ ys) zs ≡ false
-agree-more [] ys zs e = cc
-agree-more (x ∷ xs) ys [] e = cc
 agree-more (x ∷ xs) ys (z ∷ zs) e = and_false (nat_eq x z) (agree xs zs) (agree (xs ++ ys) zs) (agree-more xs ys zs) e
   where
     and_false : (t a b : Bool) → (a ≡ false → b ≡ false) → (t && a) ≡ false → (t && b) ≡ false
     and_false true a b f e = f e
     and_false false a b f e = refl
+agree-more _ ys _ e = cc
 
 number_more : (offset : ℕ) (xs ys : List ℕ) (next : ℕ → ℕ → Grammar)
     → ((v k : ℕ) (zs : List ℕ) → waiting (next v k) zs ≡ enough → verdict (next v k) (zs ++ ys) ≡ verdict (next v k) zs)
@@ -93,9 +92,6 @@ start_more offset id xs ys next ih false l e f w =
 -- what bytes that suffice decide stays so, whatever follows
 pub verdict-more : (g : Grammar) (xs ys : List ℕ) → waiting g xs ≡ enough → verdict g (xs ++ ys) ≡ verdict g xs
 unfolding verdict waiting
-verdict-more (accept s) xs ys w = refl
-verdict-more (reject e) xs ys w = refl
-verdict-more (check (Some e) next) xs ys w = refl
 verdict-more (check None next) xs ys w = verdict-more next xs ys w
 verdict-more (u32_field offset next) xs ys w =
     number_more offset xs ys next (λ v k zs. verdict-more (next v k) zs ys) (number VarU32 xs) refl w
@@ -104,6 +100,7 @@ verdict-more (bytes count offset next) xs ys w =
 verdict-more (section_start offset e next) [] ys w = cc
 verdict-more (section_start offset e next) (id ∷ xs) ys w =
     start_more offset id xs ys next (λ zs. verdict-more (next id) zs ys) (agree (id ∷ xs) magic) (nat_le 4 (length (id ∷ xs))) refl refl w
+verdict-more _ xs ys w = refl
 
 -- What a tile is does not wait, and depends on its bytes alone.
 
@@ -144,8 +141,7 @@ number_cut offset xs next ih (read v k) e t w =
     let j : Cut (u32_field offset next) (take k xs ++ drop k xs) (record s { bytes = take k xs ++ s.bytes }) =
     number_join offset next v k (take k xs) (drop k xs) s (length-take-le k xs u.there) u.alone (ih v k (drop k xs) s r) in
     subst₂ (λ (x : List ℕ) (y : Tile). Cut (u32_field offset next) x y) (take-append-drop k xs) (sym q) j
-number_cut offset xs next ih (bad f p) e t w = cc
-number_cut offset xs next ih short e t w = cc
+number_cut offset xs next ih _ e t w = cc
 
 bytes_join : (count offset : ℕ) (next : List ℕ → Grammar) (f zs : List ℕ) (s : Tile) → length f ≡ count
     → Cut (next f) zs s → Cut (bytes count offset next) (f ++ zs) (record s { bytes = f ++ s.bytes })
@@ -176,22 +172,20 @@ bytes_cut count offset xs next ih false e t w = cc
 
 -- a tile whose bytes begin as a header does is longer than the magic
 abbrev pub Guarded : Grammar → Type 0
-Guarded (accept s) = Unit {0}
-Guarded (reject e) = Unit {0}
 Guarded (check e next) = Guarded next
 Guarded (u32_field offset next) = (v k : ℕ) → Guarded (next v k)
 Guarded (bytes count offset next) = (b : List ℕ) → Guarded (next b)
 Guarded (section_start offset e next) = (id : ℕ) → Guarded (next id)
     × ((xs : List ℕ) (s : Tile) → verdict (next id) xs ≡ tile s → agree (id ∷ s.bytes) magic ≡ true → 4 ≤ length (id ∷ s.bytes))
+Guarded _ = Unit {0}
 
 agree_prefix : (xs ys zs : List ℕ) → agree (xs ++ ys) zs ≡ true → agree xs zs ≡ true
-agree_prefix [] ys zs e = refl
-agree_prefix (x ∷ xs) ys [] e = refl
 agree_prefix (x ∷ xs) ys (z ∷ zs) e = both (nat_eq x z) (agree (xs ++ ys) zs) (agree xs zs) (agree_prefix xs ys zs) e
   where
     both : (t a b : Bool) → (a ≡ true → b ≡ true) → (t && a) ≡ true → (t && b) ≡ true
     both true a b f e = f e
     both false a b f e = e
+agree_prefix _ ys _ e = refl
 
 start_join : (offset : ℕ) (z : Ending) (next : ℕ → Grammar) (id : ℕ) (zs : List ℕ) (s : Tile) (b : Bool) → agree (id ∷ s.bytes) magic ≡ b
     → (b ≡ true → 4 ≤ length (id ∷ s.bytes)) → ((agree (id ∷ zs) magic && nat_le 4 (length (id ∷ zs))) ≡ false)
@@ -232,8 +226,6 @@ verdict-cut (accept s) gd xs t w =
     let c : Cut (accept s) xs (record { shape = s; bytes = [] }) = record { rest = xs; split = refl; waits = refl; alone = refl } in
     let e : record { shape = s; bytes = [] } ≡ t = cc in
     subst (λ (y : Tile). Cut (accept s) xs y) e c
-verdict-cut (reject e) gd xs t w = cc
-verdict-cut (check (Some e) next) gd xs t w = cc
 verdict-cut (check None next) gd xs t w =
     let c : Cut next xs t = verdict-cut next gd xs t w in
     record { rest = c.rest; split = c.split; waits = c.waits; alone = c.alone }
@@ -241,7 +233,7 @@ verdict-cut (u32_field offset next) gd xs t w = number_cut offset xs next (λ v 
     w
 verdict-cut (bytes count offset next) gd xs t w = bytes_cut count offset xs next (λ b. verdict-cut (next b) (gd b))
     (nat_le count (length xs)) refl t w
-verdict-cut (section_start offset z next) gd [] t w = cc
 verdict-cut (section_start offset z next) gd (id ∷ xs) t w =
     start_cut offset z next id xs (verdict-cut (next id) ((gd id).0) xs) ((gd id).1 xs)
     (agree (id ∷ xs) magic && nat_le 4 (length (id ∷ xs))) refl t w
+verdict-cut _ gd _ t w = cc

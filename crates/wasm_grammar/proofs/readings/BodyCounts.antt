@@ -49,19 +49,14 @@ start_in_section : (features from to : ℕ) (kind : Form) (id : ℕ) (content : 
     → section_report features from to kind id content ≡ code_start count a b size → ⊥
 start_in_section features from to custom id content count a b size e =
     start_in_custom features from to content (name (Some name_limit) content) count a b size e
-start_in_section features from to items id content count a b size e = cc
-start_in_section features from to index id content count a b size e = cc
-start_in_section features from to data_count id content count a b size e = cc
-start_in_section features from to unknown id content count a b size e = cc
+start_in_section features from to _ id content count a b size e = cc
 
 -- the tile of a start misses the bodies that are reported
 start_misses : (features low high old : ℕ) (s : Shape) (count from to size : ℕ) → tile_report features low high s
     ≡ code_start count from to size → bodies_after s old ≡ count
-start_misses features low high old (Grammar.version num encoding) count from to size e = cc
 start_misses features low high old (section kind id content) count from to size e =
     absurd (start_in_section features _ _ kind id content count from to size e)
-start_misses features low high old (Grammar.code_start n width code_bytes) count from to size e = cc
-start_misses features low high old (Grammar.code_entry content) count from to size e = cc
+start_misses features low high old _ count from to size e = cc
 
 no_start : (end : Ending) (count from to size : ℕ) → stream_end end ≡ code_start count from to size → ⊥
 no_start (fault f) count from to size e = cc
@@ -76,29 +71,21 @@ body_in_custom features from to content (refused f place) w e = cc
 pub body_in_section : (features from to : ℕ) (kind : Form) (id : ℕ) (content : List ℕ) (w : Window)
     → section_report features from to kind id content ≡ code_entry w → ⊥
 body_in_section features from to custom id content w e = body_in_custom features from to content (name (Some name_limit) content) w e
-body_in_section features from to items id content w e = cc
-body_in_section features from to index id content w e = cc
-body_in_section features from to data_count id content w e = cc
-body_in_section features from to unknown id content w e = cc
+body_in_section features from to _ id content w e = cc
 
 -- only a body's tile is reported as a body
 report_body : (features low high : ℕ) (s : Shape) (w : Window) → tile_report features low high s ≡ code_entry w → IsBody s
 report_body features low high (section kind id content) w e = absurd (body_in_section features _ _ kind id content w e)
-report_body features low high (Grammar.code_start n width code_bytes) w e = cc
-report_body features low high (Grammar.version num encoding) w e = cc
 report_body features low high (Grammar.code_entry content) w e = tt
+report_body features low high _ w e = cc
 
 placed_apart : (p : SectionContext) (s : Shape) → Placed p s → IsBody s → ⊥
-placed_apart p (section kind id content) q b = b
-placed_apart p (Grammar.code_start n width code_bytes) q b = b
-placed_apart p (Grammar.version num encoding) q b = b
 placed_apart p (Grammar.code_entry content) q b = q
+placed_apart p _ q b = b
 
 header_apart : (s : Shape) → IsHeader s → IsBody s → ⊥
-header_apart (section kind id content) q b = b
-header_apart (Grammar.code_start n width code_bytes) q b = b
-header_apart (Grammar.version num encoding) q b = b
 header_apart (Grammar.code_entry content) q b = q
+header_apart _ q b = b
 
 no_last : (end : Ending) (w : Window) → stream_end end ≡ code_entry w → ⊥
 no_last (fault f) w e = cc

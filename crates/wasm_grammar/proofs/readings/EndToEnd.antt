@@ -61,8 +61,7 @@ closes_number passed o xs next t ih (read v k) e h =
     let u : Used VarU32 xs v k = number-used VarU32 xs v k e in
     closes_after passed (take k xs) (verdict (next v k) (drop k xs)) t
     (λ s r. ih v k (take k xs) (drop k xs) s (length-take-le k xs u.there) r) h
-closes_number passed o xs next t ih (bad g p) e h = cc
-closes_number passed o xs next t ih short e h = cc
+closes_number passed o xs next t ih _ e h = cc
 
 closes_bytes : (passed : List ℕ) (count : ℕ) (xs : List ℕ) (next : List ℕ → Grammar) (t : Tile) (e : Ending)
     → ((b zs : List ℕ) (s : Tile) → verdict (next b) zs ≡ tile s → Closes s.shape ((passed ++ b) ++ s.bytes))
@@ -84,18 +83,16 @@ unfolding verdict
 closes passed (accept shape) xs t c h =
     let z : record { shape = shape; bytes = [] } ≡ t = cc in
     subst (λ (x : Tile). Closes x.shape (passed ++ x.bytes)) z (subst (Closes shape) (sym (append-nil passed)) c)
-closes passed (reject e) xs t c h = cc
-closes passed (check (Some e) next) xs t c h = cc
 closes passed (check None next) xs t c h = closes passed next xs t c h
 closes passed (u32_field o next) xs t c h =
     closes_number passed o xs next t (λ v k b zs s l. closes (passed ++ b) (next v k) zs s (c v k b l)) (number VarU32 xs) refl h
 closes passed (bytes count o next) xs t c h =
     closes_bytes passed count xs next t (fault (at_offset UnexpectedEof o)) (λ b zs s. closes (passed ++ b) (next b) zs s (c b))
     (nat_le count (length xs)) h
-closes passed (section_start o e next) [] t c h = cc
 closes passed (section_start o e next) (id ∷ xs) t c h =
     closes_start passed id (verdict (next id) xs) t (fault (at_offset MagicAtSection o))
     (λ s. closes (passed ++ id ∷ []) (next id) xs s (c id)) (agree (id ∷ xs) magic && nat_le 4 (length (id ∷ xs))) h
+closes passed _ _ t c h = cc
 
 Closing-code : (passed : List ℕ) (k : ℕ) (b : List ℕ) → length b ≡ k → k ≤ length (passed ++ b)
 Closing-code passed k b e = omega (arith, length-append passed b)
@@ -144,9 +141,8 @@ ended_same : (x y : ℕ) → (let e : Ending = ended x in e) ≡ ended y → y �
 ended_same x y e = cc
 
 end_is : (a b : Bool) (o x : ℕ) (e f : FaultAt) → cond a (fault e) (cond b (fault f) (ended o)) ≡ ended x → x ≡ o
-end_is true b o x e f h = cc
-end_is false true o x e f h = cc
 end_is false false o x e f h = ended_same o x h
+end_is _ _ o x e f h = cc
 
 end_report : (p : SectionContext) (o x : ℕ) → end_at_section p o ≡ ended x → x ≡ o
 end_report p o x h = end_is (list_any (nat_lt 0) p.functions && nat_eq (length p.codes) 0)
@@ -228,9 +224,8 @@ section_lies stream start low high features custom id content p =
     custom_lies stream start low high features content (name (Some name_limit) content) refl p
 section_lies stream start low high features items id content p =
     (part_is stream start low high content features p, range_is stream start low high content p, p.ends)
-section_lies stream start low high features index id content p = (whole_range stream start low high content p, refl)
-section_lies stream start low high features data_count id content p = (whole_range stream start low high content p, refl)
 section_lies stream start low high features unknown id content p = (whole_range stream start low high content p, refl, p.part, p.ends)
+section_lies stream start low high features _ id content p = (whole_range stream start low high content p, refl)
 
 lies_between : (stream earlier passed rest : List ℕ) (start low high features : ℕ) (shape : Shape) → stream ≡ earlier ++ (passed ++ rest)
     → low ≡ start + length earlier → high ≡ low + length passed → Closes shape passed

@@ -83,12 +83,11 @@ refuse_moves : (by : ℕ) (e f : Option FaultAt) (next then : Grammar) (xs : Lis
     → Moves by (verdict next xs) (verdict then xs) → Moves by (verdict (check e next) xs) (verdict (check f then) xs)
 unfolding verdict
 refuse_moves by (Some e) (Some f) next then xs (inl z) ih = inl (ap (λ (x : FaultAt). final (fault x)) (same_Some f (shifted_fault by e) z))
-refuse_moves by (Some e) (Some f) next then xs (inr s) ih = inr s
 refuse_moves by (Some e) None next then xs (inl z) ih = cc
 refuse_moves by (Some e) None next then xs (inr s) ih = absurd s
 refuse_moves by None (Some f) next then xs (inl z) ih = cc
-refuse_moves by None (Some f) next then xs (inr s) ih = inr s
 refuse_moves by None None next then xs m ih = ih
+refuse_moves by _ (Some f) next then xs (inr s) ih = inr s
 
 number_moves : (by o : ℕ) (next then : ℕ → ℕ → Grammar) (xs : List ℕ)
     → ((v k : ℕ) (zs : List ℕ) → Moves by (verdict (next v k) zs) (verdict (then v k) zs))
@@ -113,8 +112,6 @@ start_moves by o id v w m false = after_moves (id ∷ []) by v w m
 
 verdict_moves : (by : ℕ) (g h : Grammar) (xs : List ℕ) → Like by g h → Moves by (verdict g xs) (verdict h xs)
 unfolding verdict
-verdict_moves by (accept shape) h xs l = inl (ap (λ (x : Grammar). verdict x xs) l)
-verdict_moves by (reject e) h xs l = inl (ap (λ (x : Grammar). verdict x xs) l)
 verdict_moves by (check e next) h xs (f, then, z, m, l) =
     subst (λ (x : Grammar). Moves by (verdict (check e next) xs) (verdict x xs)) (sym z)
     (refuse_moves by e f next then xs m (verdict_moves by next then xs l))
@@ -131,6 +128,7 @@ verdict_moves by (section_start o e next) h (id ∷ xs) (then, z, l) =
     subst (λ (x : Grammar). Moves by (verdict (section_start o e next) (id ∷ xs)) (verdict x (id ∷ xs))) (sym z)
     (start_moves by o id (verdict (next id) xs) (verdict (then id) xs) (verdict_moves by (next id) (then id) xs (l id))
     (agree (id ∷ xs) magic && nat_le 4 (length (id ∷ xs))))
+verdict_moves by _ h xs l = inl (ap (λ (x : Grammar). verdict x xs) l)
 
 -- ---- the grammars of a stream
 
@@ -168,10 +166,7 @@ content_wrong by unknown o content = inl refl
 data_wrong : (by : ℕ) (p : SectionContext) (kind : Form) (id o n : ℕ) (content : List ℕ)
     → MovesFault by (wrong_data p kind id (o + n) content) (wrong_data p kind id (o + by + n) content)
 data_wrong by p items id o n content = when_moves by _ _ _ (moved_same DataCountDiffer o n by)
-data_wrong by p custom id o n content = inl refl
-data_wrong by p index id o n content = inl refl
-data_wrong by p data_count id o n content = inl refl
-data_wrong by p unknown id o n content = inl refl
+data_wrong by p _ id o n content = inl refl
 
 count_wrong_at : (by : ℕ) (a b : Bool) (e f : FaultAt) → MovesFault by
     (cond a (Some e) (when b f)) (cond a (Some (shifted_fault by e)) (when b (shifted_fault by f)))
@@ -219,10 +214,9 @@ Like-content by p (whole form) id o n = Like-whole by p form id o n
 top_moves : (by top field o n : ℕ) (a b : Bool) → nat_lt top (o + n) ≡ a → nat_lt top (o + by + n) ≡ b
     → MovesFault by (when a (record { fault = SectionTooLarge; offset = field; number = Some n }))
     (when b (record { fault = SectionTooLarge; offset = field + by; number = Some n }))
-top_moves by top field o n true true x y = inl refl
 top_moves by top field o n false true x y = inr refl
-top_moves by top field o n false false x y = inl refl
 top_moves by top field o n true false x y = absurd (omega (arith, ltb-true top (o + n) x, ltb-false top (o + by + n) y))
+top_moves by top field o n _ _ x y = inl refl
 
 Like-sized : (by : ℕ) (p : SectionContext) (kind : Kind) (id field o n : ℕ)
     → Like by (after_length p kind id field o n) (after_length p kind id (field + by) (o + by) n)
@@ -367,10 +361,7 @@ custom_moves by features from to content (refused f p) = refl
 pub section_moves : (by features from to : ℕ) (kind : Form) (id : ℕ) (content : List ℕ)
     → section_report features (from + by) (to + by) kind id content ≡ shifted_report by (section_report features from to kind id content)
 section_moves by features from to custom id content = custom_moves by features from to content (name (Some name_limit) content)
-section_moves by features from to items id content = refl
-section_moves by features from to index id content = refl
-section_moves by features from to data_count id content = refl
-section_moves by features from to unknown id content = refl
+section_moves by features from to _ id content = refl
 
 content_place : (by low high : ℕ) (passed before content : List ℕ) → high ≡ low + length passed → passed ≡ before ++ content
     → high + by - length content ≡ (high - length content) + by
