@@ -2,7 +2,7 @@
 use Rattle.std.proofs.Common.{◌≡◌, ℕ, ◌+◌, ◌≤◌, List, length, Some, None, nat_lt, refl, ap, subst, arith, le-ltb, ltb-false}
 use Rattle.wasm_base.specs.FaultAt.{at_offset}
 use Rattle.wasm_base.specs.Name.{Name, named, refused, name_limit, name}
-use Rattle.wasm_base.specs.Number.{Number, read, bad, short, number}
+use Rattle.wasm_base.specs.Number.{Number, read, number}
 use Rattle.wasm_base.specs.declared.fault.Fault.{Fault}
 use Rattle.wasm_base.specs.declared.fault.Fault.TheVariants.{StartContent, DataCountContent}
 use Rattle.wasm_base.specs.declared.fault.NumberKind.TheVariants.{VarU32}

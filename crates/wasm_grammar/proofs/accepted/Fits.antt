@@ -1,14 +1,14 @@
 -- A section may follow other tiles exactly if it fits after their frames.
-use Rattle.std.proofs.Common.{◌≡◌, ℕ, zero, suc, ◌<◌, ◌⊎◌, inl, inr, ◌==◌, Bool, true, false, cond, not, ◌&&◌, List, length, refl, sym, ap}
-use Rattle.std.proofs.Common.{subst, ◌∙◌, arith, Some, None, nat_lt, nat_eq, eqb-true, eq-eqb, ltb-true, lt-ltb}
+use Rattle.std.proofs.Common.{◌≡◌, ℕ, zero, suc, ◌<◌, ◌⊎◌, ◌==◌, Bool, true, false, not, ◌&&◌, List, length, refl, sym, ap}
+use Rattle.std.proofs.Common.{subst, ◌∙◌, arith, None, nat_lt, nat_eq, eqb-true, eq-eqb, ltb-true, lt-ltb}
 use Rattle.std.proofs.lemmas.Bool.{not-false}
 use Rattle.std.specs.List.{All, Any, list_all, list_any}
 use Rattle.wasm_base.specs.FaultAt.{FaultAt, at_offset}
-use Rattle.wasm_base.specs.declared.fault.Fault.TheVariants.{FunctionCodeDiffer, CodeWithoutFunction, DataCountDiffer}
+use Rattle.wasm_base.specs.declared.fault.Fault.TheVariants.{DataCountDiffer}
 use Rattle.wasm_grammar.proofs.accepted.Tiles.{IsWhole, same_form}
 use Rattle.wasm_grammar.specs.declared.encoding.Encoding.{Encoding}
 use Rattle.wasm_grammar.specs.declared.encoding.Encoding.TheVariants.{Module, Component}
-use Rattle.wasm_grammar.specs.Content.{custom, items, index, data_count, unknown, kind_of, when, Form, whole}
+use Rattle.wasm_grammar.specs.Content.{items, kind_of, when, Form, whole}
 use Rattle.wasm_grammar.specs.Grammar.{SectionContext, wrong_count, wrong_data}
 use Rattle.wasm_grammar.specs.Accepted.{SectionFrame, frame_count, frame_rank, IsSection}
 use Rattle.wasm_grammar.proofs.parts.Placed.{Follows, follows_all}
@@ -55,54 +55,15 @@ pub record CodeFits (encoding : Encoding) (fs : List SectionFrame) (c : ℕ) : T
   pub bodies : HasCount encoding function_id c fs
   pub functions : Any (IsSection encoding function_id) fs ⊎ (c ≡ 0)
 
--- nothing is wrong with a code section's count, if the counts agree and there are functions or no bodies
-right_count : (all none : Bool) (c : ℕ) (e f : FaultAt) → all ≡ true → (none ≡ false) ⊎ (c ≡ 0)
-    → cond (not all) (Some e) (when (nat_lt 0 c && none) f) ≡ None
-right_count all none c e f a (inl b) = rw (a, b) (when_right (nat_lt 0 c))
-  where
-    when_right : (b : Bool) → when (b && false) f ≡ None
-    when_right true = refl
-    when_right false = refl
-right_count all none c e f a (inr b) = rw (a, b) refl
-
 -- a code section that fits has the right count
 pub code_to : (encoding : Encoding) (fs : List SectionFrame) (p : SectionContext) → Knows encoding fs p → (o c : ℕ) → CodeFits encoding fs c
     → wrong_count p o c ≡ None
-code_to encoding fs p k o c h =
-    right_count (list_all (nat_eq c) p.functions) (nat_eq (length p.functions) 0) c (at_offset FunctionCodeDiffer o)
-    (at_offset CodeWithoutFunction o)
-    (ap (list_all (nat_eq c)) k.functions ∙ same_to encoding function_id c fs h.bodies)
-    (elim h.functions [
-      | inl a ↦ inl (ap (λ (x : List ℕ). nat_eq (length x) 0) k.functions ∙ some_to encoding function_id fs a)
-      | inr z ↦ inr
-          z
-    ])
-
--- what it says that nothing is wrong with a code section's count
-count_right : (all none : Bool) (c : ℕ) (e f : FaultAt) → cond (not all) (Some e) (when (nat_lt 0 c && none) f) ≡ None → (all ≡ true)
-    × ((none ≡ false) ⊎ (c ≡ 0))
-count_right false none c e f h = cc
-count_right true false c e f h = (refl, inl refl)
-count_right true true zero e f h = (refl, inr refl)
-count_right true true (suc c) e f h = let z : nat_lt 0 (suc c) ≡ true = lt-ltb 0 (suc c) (omega arith) in let w : Some f
-    ≡ None = rw z at h in cc
+code_to encoding fs p k o c h = grind (arith, same_to, some_to)
 
 -- a code section with the right count fits
 pub code_from : (encoding : Encoding) (fs : List SectionFrame) (p : SectionContext) → Knows encoding fs p → (o c : ℕ) → wrong_count p o c
     ≡ None → CodeFits encoding fs c
-code_from encoding fs p k o c h =
-    let r : ((list_all (nat_eq c) p.functions ≡ true) × ((nat_eq (length p.functions) 0 ≡ false) ⊎ (c ≡ 0))) =
-    count_right (list_all (nat_eq c) p.functions) (nat_eq (length p.functions) 0) c (at_offset FunctionCodeDiffer o)
-    (at_offset CodeWithoutFunction o) h in
-    record {
-      bodies = same_of encoding function_id c fs (sym (ap (list_all (nat_eq c)) k.functions) ∙ r.0);
-      functions = elim r.1 [
-        | inl a ↦ inl (some_from encoding function_id fs
-            (sym (ap (λ (x : List ℕ). nat_eq (length x) 0) k.functions) ∙ a))
-        | inr z
-            ↦ inr z
-      ];
-    }
+code_from encoding fs p k o c h = grind (arith, same_of, some_from)
 
 -- nothing is wrong with a count that isn't asked for, or agrees
 data_right : (b all : Bool) (e : FaultAt) → (b ≡ true → all ≡ true) → when (b && not all) e ≡ None

@@ -7,8 +7,8 @@ use Rattle.std.proofs.Math.Bool.{and_comm}
 use Rattle.std.proofs.lemmas.List.Folds.{list_all-append}
 use Rattle.wasm_grammar.specs.declared.encoding.Encoding.{Encoding}
 use Rattle.wasm_grammar.specs.declared.encoding.Encoding.TheVariants.{Module, Component}
-use Rattle.wasm_grammar.specs.Content.{Kind, custom, items, index, data_count, code, unknown, kind_of, rank_of, count_of, Form, whole}
-use Rattle.wasm_grammar.specs.Grammar.{version, section, code_start, code_entry, Tile, Grammar, section_grammar, body_grammar}
+use Rattle.wasm_grammar.specs.Content.{Kind, items, data_count, code, kind_of, rank_of, count_of, Form, whole}
+use Rattle.wasm_grammar.specs.Grammar.{version, section, code_start, code_entry, Tile, section_grammar, body_grammar}
 use Rattle.wasm_grammar.specs.Tiling.{bytes_of, grammar, context_of, tile_rank, count_in, counts, bodies_to_come, bytes_to_come, is_start}
 use Rattle.wasm_grammar.specs.Accepted.{SectionFrame, frame_count, frame_rank}
 use Rattle.wasm_grammar.proofs.accepted.Counts.{one_count, counts_of, counts_push, Knows}
@@ -19,21 +19,13 @@ use Rattle.wasm_grammar.specs.Ids.{code_id, data_count_id, data_id, function_id}
 pub grammar_closed : (start : ℕ) (ts : List Tile) → is_start ts ≡ false → nat_eq (bodies_to_come ts + bytes_to_come ts) 0 ≡ true
     → grammar start ts ≡ section_grammar (context_of ts) (start + length (bytes_of ts))
 grammar_closed start [] b e = cc
-grammar_closed start (t ∷ ts) b e = closed_at (nat_eq (bodies_to_come (t ∷ ts) + bytes_to_come (t ∷ ts)) 0) _ _ e
-  where
-    closed_at : (b : Bool) (g h : Grammar) → b ≡ true → cond b g h ≡ g
-    closed_at true g h e = refl
-    closed_at false g h e = cc
+grammar_closed start (t ∷ ts) b e = cc
 
 -- what may come after tiles that are within a code section
 pub grammar_open : (start : ℕ) (ts : List Tile) → is_start ts ≡ false → nat_eq (bodies_to_come ts + bytes_to_come ts) 0 ≡ false
     → grammar start ts ≡ body_grammar (bodies_to_come ts) (bytes_to_come ts) (start + length (bytes_of ts))
 grammar_open start [] b e = cc
-grammar_open start (t ∷ ts) b e = open_at (nat_eq (bodies_to_come (t ∷ ts) + bytes_to_come (t ∷ ts)) 0) _ _ e
-  where
-    open_at : (b : Bool) (g h : Grammar) → b ≡ false → cond b g h ≡ h
-    open_at true g h e = cc
-    open_at false g h e = refl
+grammar_open start (t ∷ ts) b e = cc
 
 -- after a header there is no frame yet
 pub knows_header : (encoding : Encoding) (bytes : List ℕ) → Knows encoding []
@@ -61,8 +53,7 @@ knows_body encoding fs ts content bytes k = record {
 
 -- one more frame passes a test with the others
 all_push : (p : SectionFrame → Bool) (fs : List SectionFrame) (f : SectionFrame) → list_all p (fs ++ f ∷ []) ≡ (p f && list_all p fs)
-all_push p fs f = list_all-append p fs (f ∷ []) ∙ (and_comm (list_all p fs) (p f && true)
-    ∙ ap (λ (b : Bool). b && list_all p fs) (and_comm (p f) true))
+all_push p fs f = search (list_all-append, and_comm)
 
 -- a section of this kind has a count
 abbrev pub IsCounting : Kind → Type 0

@@ -1,6 +1,6 @@
 -- Tiles are bytes in the textbook form.
 use Rattle.std.proofs.Common.{◌≡◌, ℕ, zero, suc, ◌+◌, ◌-◌, ◌<◌, ◌≤◌, Bool, true, false, cond, not, ◌&&◌, List, [], ◌∷◌, ◌++◌, length, take}
-use Rattle.std.proofs.Common.{drop, Option, Some, None, nat_lt, nat_le, refl, sym, ap, subst, ◌∙◌, arith, append-nil, leb-true, leb-false}
+use Rattle.std.proofs.Common.{drop, Option, Some, None, nat_lt, nat_le, refl, sym, ap, subst, ◌∙◌, arith, append-nil, leb-false}
 use Rattle.std.proofs.Common.{ltb-false}
 use Rattle.std.proofs.lemmas.List.{length-take-le}
 use Rattle.wasm_base.specs.FaultAt.{FaultAt, at_offset}
@@ -14,7 +14,6 @@ use Rattle.wasm_grammar.specs.Grammar.{Shape, section, code_start, code_entry, T
 use Rattle.wasm_grammar.specs.Grammar.{check, u32_field, bytes, verdict, section_grammar, body_grammar, content_grammar, whole_grammar}
 use Rattle.wasm_grammar.specs.Grammar.{code_grammar, after_length, after_id, wrong_count, wrong_data}
 use Rattle.wasm_grammar.specs.Accepted.{IsNumber}
-use Rattle.wasm_grammar.proofs.parts.Verdicts.{after-tile}
 use Rattle.wasm_grammar.proofs.parts.Placed.{Follows, none_when}
 use Rattle.wasm_grammar.proofs.parts.Guarded.{Numbered, numbered}
 use Rattle.wasm_grammar.proofs.accepted.Tiles.{made, IsWhole}
@@ -64,9 +63,7 @@ pub record BytesParts (n : ℕ) (next : List ℕ → Grammar) (t : Tile) : Type 
 -- what a tile after so many bytes consists of, if they are there
 bytes_at : (b : Bool) (n : ℕ) (next : List ℕ → Grammar) (xs : List ℕ) (e : Ending) (t : Tile) → nat_le n (length xs) ≡ b
     → cond b (after (take n xs) (verdict (next (take n xs)) (drop n xs))) (final e) ≡ tile t → BytesParts n next t
-bytes_at true n next xs e t l h =
-    let (s, r, q) = after-tile (take n xs) (verdict (next (take n xs)) (drop n xs)) t h in
-    record { prefix = take n xs; size = length-take-le n xs (leb-true _ _ l); others = drop n xs; rest = s; goes_on = r; is = q }
+bytes_at true n next xs e t l h = grind (arith, length-take-le)
 bytes_at false n next xs e t l h = cc
 
 -- what a tile after so many bytes consists of
@@ -125,9 +122,7 @@ framed_parts p o id xs s t h e =
 start_at : (b : Bool) (p : SectionContext) (o id : ℕ) (xs : List ℕ) (x : FaultAt) (t : Tile)
     → cond b (final (fault x)) (after (id ∷ []) (verdict (after_id p o id) xs)) ≡ tile t → SectionParts p o t
 start_at true p o id xs x t h = cc
-start_at false p o id xs x t h =
-    let (s, r, q) = after-tile (id ∷ []) (verdict (after_id p o id) xs) t h in
-    framed_parts p o id xs s t r q
+start_at false p o id xs x t h = grind (arith, framed_parts)
 
 -- what a section's tile consists of
 pub section_parts : (p : SectionContext) (o : ℕ) (xs : List ℕ) (t : Tile) → verdict (section_grammar p o) xs ≡ tile t → SectionParts p o t
@@ -152,19 +147,12 @@ whole_parts p kind id o size xs t h =
     let c : ((wrong_content kind o b.prefix ≡ None) × (verdict _ b.others ≡ tile b.rest)) = refuse_parts _ _ b.others b.rest b.goes_on in
     let d : ((wrong_data p kind id (o + size) b.prefix ≡ None) × (verdict (accept (section kind id b.prefix)) b.others ≡ tile b.rest)) =
     refuse_parts _ _ b.others b.rest c.1 in
-    record {
-      content = b.prefix;
-      long = b.size;
-      right = c.0;
-      counted = d.0;
-      is = ends_there t b.rest (section kind id b.prefix) b.prefix b.is (takes_parts _ b.others b.rest d.1);
-    }
+    search (ends_there, takes_parts)
 
 -- the same for each of its kinds
 pub content_parts : (p : SectionContext) (kind : Kind) (id o size : ℕ) (xs : List ℕ) (t : Tile) (w : IsWhole kind)
     → verdict (content_grammar p kind id o size) xs ≡ tile t → WholeParts p w.0 id o size t
-content_parts p kind id o size xs t w h = whole_parts p w.0 id o size xs t
-    (subst (λ (k : Kind). verdict (content_grammar p k id o size) xs ≡ tile t) w.1 h)
+content_parts p kind id o size xs t w h = grind (arith, whole_parts)
 
 -- a code section up to its count: that count
 pub record HeadParts (p : SectionContext) (o size : ℕ) (t : Tile) : Type 0 where

@@ -45,8 +45,7 @@ in_order_none encoding = record {
 fits_push : (encoding : Encoding) (fs earlier : List SectionFrame) (f g : SectionFrame) → FitsAfter encoding fs f
     → ((earlier later : List SectionFrame) (h : SectionFrame) → fs ≡ earlier ++ h ∷ later → FitsAfter encoding earlier h)
     → ((earlier ≡ fs) × (g ≡ f)) ⊎ ((more : List SectionFrame) × (fs ≡ earlier ++ g ∷ more)) → FitsAfter encoding earlier g
-fits_push encoding fs earlier f g a order (inl q) = subst (λ (x : List SectionFrame). FitsAfter encoding x g) (sym q.0)
-    (subst (λ (x : SectionFrame). FitsAfter encoding fs x) (sym q.1) a)
+fits_push encoding fs earlier f g a order (inl q) = grind arith
 fits_push encoding fs earlier f g a order (inr q) = order earlier q.0 g q.1
 
 -- one more that fits

@@ -13,7 +13,7 @@ use Rattle.wasm_grammar.specs.Grammar.{version, section, code_start, Tile, tile,
 use Rattle.wasm_grammar.specs.Grammar.{section_grammar}
 use Rattle.wasm_grammar.specs.Tiling.{bytes_of, grammar, Faultless, context_of, bodies_to_come, bytes_to_come, is_start}
 use Rattle.wasm_grammar.specs.Reading.{Event, events_of, Reads}
-use Rattle.wasm_grammar.specs.Accepted.{sized_bytes, SectionFrame, frame_bytes, IsFrame, IsGood, FitsAfter, CodeDivision, IsAccepted}
+use Rattle.wasm_grammar.specs.Accepted.{sized_bytes, SectionFrame, frame_bytes, IsFrame, FitsAfter, CodeDivision, IsAccepted}
 use Rattle.wasm_grammar.specs.Accepted.{header_bytes}
 use Rattle.wasm_grammar.proofs.accepted.Counts.{Knows}
 use Rattle.wasm_grammar.proofs.accepted.KindIds.{code_has_its_id}
@@ -52,8 +52,7 @@ pub record Reached (start : ℕ) (encoding : Encoding) (fs : List SectionFrame) 
 closed_verdict : (start : ℕ) (encoding : Encoding) (fs : List SectionFrame) (ts : List Tile) (c : Closed start encoding fs ts)
     (bytes : List ℕ) (t : Tile)
     → verdict (section_grammar (context_of ts) (start + length (bytes_of ts))) bytes ≡ tile t → verdict (grammar start ts) bytes ≡ tile t
-closed_verdict start encoding fs ts c bytes t h = subst (λ (g : Grammar). verdict g bytes ≡ tile t)
-    (sym (grammar_closed start ts c.begun c.closed)) h
+closed_verdict start encoding fs ts c bytes t h = search grammar_closed
 
 -- the bytes of one more frame
 pub stream_more : (encoding : Encoding) (fs : List SectionFrame) (f : SectionFrame) (prefix : List ℕ) → prefix ≡ stream_of encoding fs
@@ -74,16 +73,7 @@ told_more : (start features : ℕ) (encoding : Encoding) (fs : List SectionFrame
     → bytes_of ts ≡ stream_of encoding fs → Told start features encoding fs ts
     → FrameEvents features encoding (start + length (bytes_of ts)) f events → events_of start features us ≡ events_of start features ts
     ++ events → Told start features encoding (fs ++ f ∷ []) us
-told_more start features encoding fs f ts us events j t e l =
-    let n : length (bytes_of ts) ≡ length (header_bytes encoding) + length (flat_map frame_bytes fs) = ap (λ (x : List ℕ). length x) j
-    ∙ length-append (header_bytes encoding) (flat_map frame_bytes fs) in
-    let o : start + length (bytes_of ts) ≡ start + length (header_bytes encoding) + length (flat_map frame_bytes fs) = omega arith in
-    record {
-      inner = t.inner ++ events;
-      sections = push_events features encoding (start + length (header_bytes encoding)) fs f t.inner events t.sections
-          (subst (λ (x : ℕ). FrameEvents features encoding x f events) o e);
-      listed = l ∙ ap (λ (x : List Event). x ++ events) t.listed;
-    }
+told_more start features encoding fs f ts us events j t e l = grind (arith, push_events)
 
 -- one more frame that fits and is no code section
 whole_step : (start : ℕ) (encoding : Encoding) (fs : List SectionFrame) (f : SectionFrame) → Reached start encoding fs
@@ -169,8 +159,7 @@ module_step start fs f z d q r i a =
 code_frame : (start : ℕ) (encoding : Encoding) (fs : List SectionFrame) (f : SectionFrame) → encoding ≡ Module → Reached start encoding fs
     → start + length (stream_of encoding (fs ++ f ∷ [])) < 2 ^ 64 → IsFrame encoding f → FitsAfter encoding fs f
     → kind_of encoding f.id ≡ code → Reached start encoding (fs ++ f ∷ [])
-code_frame start Module fs f e q r i a k =
-    module_step start fs f (code_has_its_id Module f.id k).1 (subst (λ (x : Kind). IsGood x f.sized.content) k i.content) q r i a
+code_frame start Module fs f e q r i a k = grind (arith, module_step)
 code_frame start Component fs f e q r i a k = cc
 
 -- one more frame that fits

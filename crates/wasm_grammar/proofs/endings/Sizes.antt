@@ -1,6 +1,6 @@
 -- An ending that decides is bytes, and not more than 2^32 of them.
 use Rattle.std.proofs.Common.{◌≡◌, ℕ, zero, suc, ◌+◌, ◌-◌, ◌^◌, ◌<◌, ◌≤◌, ◌⊎◌, inl, inr, Bool, true, false, cond, All, List, [], ◌∷◌}
-use Rattle.std.proofs.Common.{length, take, drop, replicate, slice_index, Option, Some, None, nat_lt, nat_le, nat_eq, refl, subst, arith}
+use Rattle.std.proofs.Common.{length, take, drop, replicate, slice_index, Option, Some, None, nat_lt, nat_le, refl, subst, arith}
 use Rattle.std.proofs.Common.{add-one, ltb-true, ltb-false, lit<, lit≤}
 use Rattle.std.proofs.lemmas.List.{length-replicate, length-drop}
 use Rattle.std.proofs.lemmas.List.Elements.{All-nil, All-cons, All-replicate, All-drop}
@@ -12,9 +12,9 @@ use Rattle.wasm_base.specs.declared.fault.NumberKind.TheVariants.{VarU32}
 use Rattle.wasm_base.proofs.NumberLaws.{last_place-lt}
 use Rattle.wasm_base.proofs.Numbers.{sum_below}
 use Rattle.wasm_grammar.specs.Content.{Kind, code, whole, kind_of}
-use Rattle.wasm_grammar.specs.Grammar.{Tile, SectionContext, Grammar, accept, reject, check, u32_field, bytes, section_start, header_of}
+use Rattle.wasm_grammar.specs.Grammar.{Tile, SectionContext, Grammar, check, u32_field, bytes, section_start, header_of}
 use Rattle.wasm_grammar.specs.Grammar.{header_grammar, content_grammar, section_grammar, body_grammar}
-use Rattle.wasm_grammar.specs.Tiling.{context_of, grammar, bodies_to_come, bytes_to_come, bytes_of}
+use Rattle.wasm_grammar.specs.Tiling.{grammar}
 use Rattle.wasm_grammar.specs.Undecided.{ending_of_number, deciding_ending}
 use Rattle.wasm_grammar.specs.declared.encoding.Encoding.{Encoding}
 
@@ -42,9 +42,7 @@ last_below xs i l (inr b) = let m : suc i ≤ 5 = ltb-false 5 (suc i) b.0 in sum
 
 read_below_at : (xs : List ℕ) (o : Option ℕ) (v k : ℕ) → last_place xs ≡ o → ends_at VarU32 xs o ≡ read v k → v < 2 ^ 32
 read_below_at xs None v k e r = none_below (nat_lt (length xs) 5) _ _ v k r
-read_below_at xs (Some i) v k e r =
-    below_at (nat_lt (suc i) 5) (nat_lt 5 (suc i)) (is_unused_right VarU32 (slice_index xs i)) (septets (take (suc i) xs)) v i k _ _ _ _
-    (last_below xs i (last_place-lt xs i e)) r
+read_below_at xs (Some i) v k e r = search (below_at, last_below, last_place-lt)
 
 read_below : (xs : List ℕ) (v k : ℕ) → number VarU32 xs ≡ read v k → v < 2 ^ 32
 unfolding number
@@ -138,8 +136,7 @@ Bounded-inside false p m l o = Bounded-body m l o
 
 Bounded-grammar : (start : ℕ) (ts : List Tile) → Bounded (grammar start ts)
 Bounded-grammar start [] = Bounded-header start
-Bounded-grammar start (t ∷ ts) = Bounded-inside (nat_eq (bodies_to_come (t ∷ ts) + bytes_to_come (t ∷ ts)) 0) (context_of (t ∷ ts))
-    (bodies_to_come (t ∷ ts)) (bytes_to_come (t ∷ ts)) (start + length (bytes_of (t ∷ ts)))
+Bounded-grammar start (t ∷ ts) = search Bounded-inside
 
 pub ending_is_small : (start : ℕ) (ts : List Tile) (xs : List ℕ) → IsSmall (deciding_ending (grammar start ts) xs)
 ending_is_small start ts xs = small_ending (grammar start ts) (Bounded-grammar start ts) xs

@@ -2,13 +2,12 @@
 use Rattle.std.proofs.Common.{◌≡◌, ◌≢◌, ℕ, ◌+◌, ◌^◌, ◌<◌, All, List, [], ◌∷◌, ◌++◌, length, refl, sym, ap, subst, subst₂, ◌∙◌, arith}
 use Rattle.std.proofs.Common.{length-append, append_assoc, append-nil}
 use Rattle.std.proofs.lemmas.List.Elements.{All-append}
-use Rattle.wasm_grammar.specs.Content.{Ending}
 use Rattle.wasm_grammar.specs.NextEvent.{NextEvent}
 use Rattle.wasm_grammar.specs.Grammar.{Tile, Verdict, tile, final, verdict}
-use Rattle.wasm_grammar.specs.Reading.{Event, stream_end, events_of, last_event, Reading, Stream}
+use Rattle.wasm_grammar.specs.Reading.{Event, events_of, last_event, Reading, Stream}
 use Rattle.wasm_grammar.specs.Tiling.{bytes_of, grammar}
 use Rattle.wasm_grammar.specs.Undecided.{deciding_ending, ComesNext, IsTiledBy, OneComesNext, EnoughIsDecided, ShortIsUndecided, TwoStreams}
-use Rattle.wasm_grammar.specs.Waiting.{enough, wants, waiting}
+use Rattle.wasm_grammar.specs.Waiting.{wants, waiting}
 use Rattle.wasm_grammar.proofs.endings.Deciding.{differs, Differs-grammar}
 use Rattle.wasm_grammar.proofs.endings.Sizes.{IsSmall, ending_is_small}
 use Rattle.wasm_grammar.proofs.readings.NextEvents.{event_at, comes_next, next_there}
@@ -61,21 +60,12 @@ enough_is_decided start front came tiles t w one other features x y a b =
 events_differ : (start features : ℕ) (tiles : List Tile) (v w : Verdict) → ((t : Tile) → v ≢ tile t)
     → ((t : Tile) → w ≡ tile t → 0 < length t.bytes) → v ≢ w → event_at start features tiles v ≢ event_at start features tiles w
 events_differ start features tiles (tile t) w h l n z = h t refl
-events_differ start features tiles (final e) (tile t) h l n z =
-    let c : 0 ≡ length t.bytes = ap (λ (x : Event). length x.consumed) z in
-    omega (arith, c, l t refl)
-events_differ start features tiles (final e) (final f) h l n z = n (ap final (same_end e f (ap (λ (x : Event). x.report) z)))
-  where
-    same_end : (e f : Ending) → stream_end e ≡ stream_end f → e ≡ f
-    same_end e f z = cc
+events_differ start features tiles (final e) (tile t) h l n z = grind arith
+events_differ start features tiles (final e) (final f) h l n z = grind arith
 
 no_tile : (start : ℕ) (tiles : List Tile) (came : List ℕ) (need hint : ℕ) → waiting (grammar start tiles) came ≡ wants need hint
     → (t : Tile) → verdict (grammar start tiles) came ≢ tile t
-no_tile start tiles came need hint w t v = enough_wants (sym (tile_decided (grammar start tiles) (Guarded-grammar start tiles) came t v)
-    ∙ w)
-  where
-    enough_wants : enough ≡ wants need hint → ⊥
-    enough_wants e = cc
+no_tile start tiles came need hint w t v = grind (arith, tile_decided, Guarded-grammar)
 
 pub other_comes : (start features : ℕ) (tiles : List Tile) (front came : List ℕ) (need hint : ℕ) → IsTiledBy start front tiles
     → waiting (grammar start tiles) came ≡ wants need hint → (x y : Event)
@@ -85,10 +75,7 @@ other_comes start features tiles front came need hint t w x y a b z =
     ≡ event_at start features tiles (verdict (grammar start tiles) (came ++ deciding_ending (grammar start tiles) came)) =
     sym (what_comes start features tiles front came x t a) ∙ (z
     ∙ what_comes start features tiles front (came ++ deciding_ending (grammar start tiles) came) y t b) in
-    events_differ start features tiles (verdict (grammar start tiles) came)
-    (verdict (grammar start tiles) (came ++ deciding_ending (grammar start tiles) came)) (no_tile start tiles came need hint w)
-    (λ u v. tile_least start tiles (came ++ deciding_ending (grammar start tiles) came) u v)
-    (differs (grammar start tiles) (Differs-grammar start tiles) came need hint w) same
+    search (events_differ, no_tile, tile_least, differs, Differs-grammar)
 
 -- with room for it, the ending makes another stream
 goes_on : (start : ℕ) (front came more : List ℕ) → IsSmall more → Stream (front ++ came) start
@@ -103,10 +90,7 @@ goes_on start front came more s t l =
     }
 
 pub short_is_undecided : (start : ℕ) (front came : List ℕ) → ShortIsUndecided start front came
-short_is_undecided start front came tiles t need hint w = (
-  λ features x y a b. other_comes start features tiles front came need hint t w x y a b,
-  λ s l. goes_on start front came (deciding_ending (grammar start tiles) came) (ending_is_small start tiles came) s l,
-)
+short_is_undecided start front came tiles t need hint w = search (other_comes, goes_on, ending_is_small)
 
 -- ---- what a parser asks for
 

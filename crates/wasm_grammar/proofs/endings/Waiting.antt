@@ -1,13 +1,12 @@
 -- Laws of bytes that don't decide yet what is there.
-use Rattle.std.proofs.Common.{◌≡◌, ◌≢◌, ℕ, ◌-◌, ◌+◌, ◌<◌, ◌≤◌, Bool, true, false, cond, List, [], ◌∷◌, ◌++◌, length, take, drop, Some, None}
+use Rattle.std.proofs.Common.{◌≡◌, ℕ, ◌-◌, ◌+◌, ◌<◌, ◌≤◌, Bool, true, false, cond, List, [], ◌∷◌, ◌++◌, length, take, drop, None}
 use Rattle.std.proofs.Common.{nat_le, refl, ap, ◌∙◌, arith, length-append, length-drop, leb-true, le-leb}
-use Rattle.std.proofs.lemmas.Bool.{leb-false}
 use Rattle.std.proofs.lemmas.List.{take-append-le, drop-append-le}
 use Rattle.wasm_base.specs.Header.{magic, agree}
 use Rattle.wasm_base.specs.Number.{Number, read, bad, short, number}
 use Rattle.wasm_base.specs.declared.fault.NumberKind.TheVariants.{VarU32}
 use Rattle.wasm_base.proofs.NumberLaws.{number-more, number-short, number-used, Used}
-use Rattle.wasm_grammar.specs.Grammar.{Tile, tile, Grammar, accept, reject, check, u32_field, bytes, section_start, verdict}
+use Rattle.wasm_grammar.specs.Grammar.{Tile, tile, Grammar, check, u32_field, bytes, section_start, verdict}
 use Rattle.wasm_grammar.specs.Waiting.{Waiting, enough, wants, later, later_number, waiting}
 use Rattle.wasm_grammar.proofs.parts.Verdicts.{later-enough, agree_same, agree-more, Guarded, Cut, verdict-cut}
 
@@ -17,15 +16,8 @@ wait_number : (xs ys : List ℕ) (next : ℕ → ℕ → Grammar)
     → ((v k : ℕ) (zs : List ℕ) → waiting (next v k) zs ≡ enough → waiting (next v k) (zs ++ ys) ≡ enough)
     → (n : Number) → number VarU32 xs ≡ n → later_number n (λ v k. waiting (next v k) (drop k xs)) ≡ enough
     → later_number (number VarU32 (xs ++ ys)) (λ v k. waiting (next v k) (drop k (xs ++ ys))) ≡ enough
-wait_number xs ys next ih (read v k) e w =
-    let u : Used VarU32 xs v k = number-used VarU32 xs v k e in
-    let ns : number VarU32 xs ≢ short = λ z. (cc) in
-    let m : number VarU32 (xs ++ ys) ≡ read v k = number-more VarU32 xs ys ns ∙ e in
-    rw m (rw (drop-append-le k xs ys u.there) (ap (later k) (ih v k (drop k xs) (later-enough k _ w))))
-wait_number xs ys next ih (bad f p) e w =
-    let ns : number VarU32 xs ≢ short = λ z. (cc) in
-    let m : number VarU32 (xs ++ ys) ≡ bad f p = number-more VarU32 xs ys ns ∙ e in
-    rw m refl
+wait_number xs ys next ih (read v k) e w = grind (arith, number-used, number-more, drop-append-le)
+wait_number xs ys next ih (bad f p) e w = grind (arith, number-more)
 wait_number xs ys next ih short e w = cc
 
 wait_bytes : (count : ℕ) (xs ys : List ℕ) (next : List ℕ → Grammar)
@@ -53,9 +45,7 @@ wait_start id xs ys next ih true true e f w =
     let g : agree (id ∷ (xs ++ ys)) magic ≡ true = agree_same (id ∷ xs) ys magic l ∙ e in
     rw (g, le-leb 4 (length (id ∷ (xs ++ ys))) m) refl
 wait_start id xs ys next ih true false e f w = cc
-wait_start id xs ys next ih false l e f w =
-    let g : agree (id ∷ (xs ++ ys)) magic ≡ false = agree-more (id ∷ xs) ys magic e in
-    rw g (ap (later 1) (ih xs (later-enough 1 _ w)))
+wait_start id xs ys next ih false l e f w = grind (arith, agree-more)
 
 pub waiting-more : (g : Grammar) (xs ys : List ℕ) → waiting g xs ≡ enough → waiting g (xs ++ ys) ≡ enough
 unfolding waiting
@@ -95,10 +85,7 @@ ask_number xs next need hint ih (read v k) e w =
     let s = a.above in
     record { above = omega (arith, length-drop k xs, r, s); some = a.some }
 ask_number xs next need hint ih (bad f p) e w = cc
-ask_number xs next need hint ih short e w =
-    let n : need ≡ 5 = cc in
-    let h : hint ≡ 1 = cc in
-    record { above = omega (arith, n, (number-short VarU32 xs e).1); some = omega (arith, h) }
+ask_number xs next need hint ih short e w = grind (arith, number-short)
 
 ask_bytes : (count : ℕ) (xs : List ℕ) (next : List ℕ → Grammar) (need hint : ℕ)
     → ((b zs : List ℕ) (n : ℕ) → waiting (next b) zs ≡ wants n hint → Asks zs n hint)
@@ -111,27 +98,15 @@ ask_bytes count xs next need hint ih true e w =
     let s = a.above in
     let l = leb-true count (length xs) e in
     record { above = omega (arith, length-drop count xs, r, s, l); some = a.some }
-ask_bytes count xs next need hint ih false e w =
-    let n : need ≡ count = cc in
-    let h : hint ≡ count - length xs = cc in
-    let l = leb-false count (length xs) e in
-    record { above = omega (arith, n, l); some = omega (arith, h, l) }
+ask_bytes count xs next need hint ih false e w = grind arith
 
 ask_start : (id : ℕ) (xs : List ℕ) (next : ℕ → Grammar) (need hint : ℕ)
     → ((zs : List ℕ) (n : ℕ) → waiting (next id) zs ≡ wants n hint → Asks zs n hint)
     → (a l : Bool) → nat_le 4 (length (id ∷ xs)) ≡ l
     → cond a (cond l enough (wants 4 (4 - length (id ∷ xs)))) (later 1 (waiting (next id) xs)) ≡ wants need hint → Asks (id ∷ xs) need hint
 ask_start id xs next need hint ih true true e w = cc
-ask_start id xs next need hint ih true false e w =
-    let n : need ≡ 4 = cc in
-    let h : hint ≡ 4 - length (id ∷ xs) = cc in
-    let l = leb-false 4 (length (id ∷ xs)) e in
-    record { above = omega (arith, n, l); some = omega (arith, h, l) }
-ask_start id xs next need hint ih false l e w =
-    let (n, q, r) = later-wants 1 (waiting (next id) xs) need hint w in
-    let a : Asks xs n hint = ih xs n q in
-    let s = a.above in
-    record { above = omega (arith, r, s); some = a.some }
+ask_start id xs next need hint ih true false e w = grind arith
+ask_start id xs next need hint ih false l e w = grind arith
 
 pub waiting-asks : (g : Grammar) (xs : List ℕ) (need hint : ℕ) → waiting g xs ≡ wants need hint → Asks xs need hint
 unfolding waiting
@@ -141,10 +116,7 @@ waiting-asks (u32_field offset next) xs need hint w = ask_number xs next need hi
     (number VarU32 xs) refl w
 waiting-asks (bytes count offset next) xs need hint w = ask_bytes count xs next need hint (λ b zs n. waiting-asks (next b) zs n hint)
     (nat_le count (length xs)) refl w
-waiting-asks (section_start offset e next) [] need hint w =
-    let n : need ≡ 4 = cc in
-    let h : hint ≡ 1 = cc in
-    record { above = omega (arith, n); some = omega (arith, h) }
+waiting-asks (section_start offset e next) [] need hint w = grind arith
 waiting-asks (section_start offset e next) (id ∷ xs) need hint w =
     ask_start id xs next need hint (λ zs n. waiting-asks (next id) zs n hint) (agree (id ∷ xs) magic) (nat_le 4 (length (id ∷ xs))) refl w
 waiting-asks _ xs need hint w = cc

@@ -1,21 +1,19 @@
 -- Sections that have no rank may go, and come.
 use Rattle.std.proofs.Common.{◌≡◌, ℕ, ◌+◌, ◌<◌, inl, inr, Bool, true, false, cond, ◌||◌, List, [], ◌∷◌, ◌++◌, length, nat_lt, refl, sym, ap}
 use Rattle.std.proofs.Common.{subst, ◌∙◌, arith, ltb-true, ltb-false}
-use Rattle.std.specs.List.{All, Any, filter, list_any, flat_map}
+use Rattle.std.specs.List.{All, Any, filter, list_any}
 use Rattle.std.proofs.lemmas.List.Elements.{All-nil, All-cons, All-head, All-tail, All-filter, All-weaker}
-use Rattle.wasm_base.specs.Window.{window_over}
-use Rattle.wasm_grammar.specs.Accepted.{Sized, sized_bytes, SectionFrame, frame_bytes, frame_count, frame_rank, IsFrame, IsSection}
+use Rattle.wasm_grammar.specs.Accepted.{Sized, sized_bytes, SectionFrame, frame_count, frame_rank, IsFrame, IsSection}
 use Rattle.wasm_grammar.specs.Accepted.{FitsAfter, IsMatched, CodeDivision, IsAccepted}
 use Rattle.wasm_grammar.specs.Content.{Kind, code, kind_of, rank_of, Form, whole}
 use Rattle.wasm_grammar.specs.FrameEvents.{section_event, body_event, body_events, code_events, KindEvents, has_rank, SayTheSame}
 use Rattle.wasm_grammar.specs.FrameLaws.{FramesReadTheSame, RanklessMayGo}
-use Rattle.wasm_grammar.specs.Reading.{code_start, code_entry, section_report, Event}
-use Rattle.wasm_grammar.specs.Shifted.{shifted_report, shifted_event, shifted_events}
+use Rattle.wasm_grammar.specs.Reading.{Event}
+use Rattle.wasm_grammar.specs.Shifted.{shifted_event, shifted_events}
 use Rattle.wasm_grammar.specs.declared.encoding.Encoding.{Encoding}
 use Rattle.wasm_grammar.specs.declared.encoding.Encoding.TheVariants.{Module}
 use Rattle.wasm_grammar.proofs.accepted.Counts.{is_section, section_yes, yes_section}
 use Rattle.wasm_grammar.proofs.PlainLists.{any_of, any_to, all_prefix, Spares, filter_twice, each_of}
-use Rattle.wasm_grammar.proofs.readings.Shifting.{section_moves}
 use Rattle.wasm_grammar.specs.Ids.{data_count_id, function_id}
 
 -- ---- what is left of lists
@@ -82,8 +80,7 @@ module _ {X : Type 0} where
 -- a section with this id has a rank
 ranked : (encoding : Encoding) (n : ℕ) (g : SectionFrame) → nat_lt 0 (rank_of (kind_of Module n) n) ≡ true → IsSection encoding n g
     → has_rank encoding g ≡ true
-ranked encoding n g h (e, i) = ap (λ (x : Encoding). nat_lt 0 (rank_of (kind_of x g.id) g.id)) e
-    ∙ (ap (λ (x : ℕ). nat_lt 0 (rank_of (kind_of Module x) x)) i ∙ h)
+ranked encoding n g h (e, i) = cc
 
 -- one without a rank has another id
 rankless : (encoding : Encoding) (n : ℕ) (g : SectionFrame) → nat_lt 0 (rank_of (kind_of Module n) n) ≡ true → has_rank encoding g ≡ false
@@ -120,9 +117,7 @@ fits_same encoding earlier others f s a = record {
 -- ---- events at another offset
 
 body_event_moves : (features at by : ℕ) (s : Sized) → shifted_event by (body_event features at s) ≡ body_event features (at + by) s
-body_event_moves features at by s =
-    let a : at + length s.field + by ≡ at + by + length s.field = omega arith in
-    λ i. record { report = code_entry (window_over features (a i) s.content); consumed = sized_bytes s }
+body_event_moves features at by s = grind arith
 
 body_events_move : (features at by : ℕ) (bodies : List Sized) → shifted_events by (body_events features at bodies)
     ≡ body_events features (at + by) bodies
@@ -137,30 +132,11 @@ body_events_move features at by (s ∷ bodies) =
 
 section_event_moves : (features at by : ℕ) (form : Form) (f : SectionFrame) → shifted_event by (section_event features at form f)
     ≡ section_event features (at + by) form f
-section_event_moves features at by form f =
-    let a : at + 1 + length f.sized.field + by ≡ at + by + 1 + length f.sized.field = omega arith in
-    let b : at + length (frame_bytes f) + by ≡ at + by + length (frame_bytes f) = omega arith in
-    let m : shifted_report by (section_report features (at + 1 + length f.sized.field) (at + length (frame_bytes f)) form f.id
-    f.sized.content)
-    ≡ section_report features (at + 1 + length f.sized.field + by) (at + length (frame_bytes f) + by) form f.id f.sized.content =
-    sym (section_moves by features (at + 1 + length f.sized.field) (at + length (frame_bytes f)) form f.id f.sized.content) in
-    (λ i. record { report = m i; consumed = frame_bytes f }) ∙ (λ i.
-    record { report = section_report features (a i) (b i) form f.id f.sized.content; consumed = frame_bytes f })
+section_event_moves features at by form f = grind arith
 
 code_events_move : (features at by : ℕ) (f : SectionFrame) (d : CodeDivision f.sized.content)
     → shifted_events by (code_events features at f d) ≡ code_events features (at + by) f d
-code_events_move features at by f d =
-    let a : at + 1 + length f.sized.field + by ≡ at + by + 1 + length f.sized.field = omega arith in
-    let b : at + length (frame_bytes f) + by ≡ at + by + length (frame_bytes f) = omega arith in
-    let c : at + 1 + length f.sized.field + length d.field + by ≡ at + by + 1 + length f.sized.field + length d.field = omega arith in
-    let t : shifted_events by (body_events features (at + 1 + length f.sized.field + length d.field) d.bodies)
-    ≡ body_events features (at + by + 1 + length f.sized.field + length d.field) d.bodies =
-    body_events_move features (at + 1 + length f.sized.field + length d.field) by d.bodies
-    ∙ ap (λ (x : ℕ). body_events features x d.bodies) c in
-    λ i. record {
-      report = code_start (length d.bodies) (a i) (b i) (length (flat_map sized_bytes d.bodies));
-      consumed = f.id ∷ (f.sized.field ++ d.field);
-    } ∷ t i
+code_events_move features at by f d = grind (arith, body_events_move)
 
 events_here : (features at by : ℕ) (k : Kind) (f : SectionFrame) (moved : List Event) → KindEvents features (at + by) k f moved
     → (events : List Event) × KindEvents features at k f events × (moved ≡ shifted_events by events)
@@ -174,8 +150,7 @@ events_here features at by code f moved (d, e) = (code_events features at f d, (
 
 events_moved : (features at by : ℕ) (k : Kind) (f : SectionFrame) (moved events : List Event) → KindEvents features at k f events → moved
     ≡ shifted_events by events → KindEvents features (at + by) k f moved
-events_moved features at by (whole form) f moved events e m = m
-    ∙ (ap (shifted_events by) e ∙ ap (λ (x : Event). x ∷ []) (section_event_moves features at by form f))
+events_moved features at by (whole form) f moved events e m = grind arith
 events_moved features at by code f moved events (d, e) m = (d, m ∙ (ap (shifted_events by) e ∙ code_events_move features at by f d))
 
 pub frames_read_the_same : FramesReadTheSame

@@ -1,7 +1,7 @@
 -- The sections that are reported of tiles.
 use Rattle.std.specs.declared.ops.Range.{Range}
 use Rattle.std.proofs.Common.{◌≡◌, ℕ, ◌+◌, ◌-◌, Bool, true, false, cond, List, [], ◌∷◌, ◌++◌, length, Option, Some, None, option_to_list}
-use Rattle.std.proofs.Common.{nat_eq, refl, sym, ap, ◌∙◌, arith, length-append, append-nil}
+use Rattle.std.proofs.Common.{refl, sym, ap, ◌∙◌, arith, length-append, append-nil}
 use Rattle.std.specs.List.{cons_option}
 use Rattle.std.proofs.lemmas.List.Elements.{filter_map-append}
 use Rattle.wasm_base.specs.Name.{Name, named, refused, name_limit, name}
@@ -12,7 +12,7 @@ use Rattle.wasm_grammar.specs.Grammar.{Shape, version, section, code_start, code
 use Rattle.wasm_grammar.specs.Grammar.{section_grammar, body_grammar, content_grammar}
 use Rattle.wasm_grammar.specs.Reading.{Event, custom_report, section_report, tile_report, event_of, last_event, events_of}
 use Rattle.wasm_grammar.specs.Sections.{section_of, sections_of}
-use Rattle.wasm_grammar.specs.Tiling.{bytes_of, context_of, grammar, encoding_of, bodies_to_come, bytes_to_come}
+use Rattle.wasm_grammar.specs.Tiling.{bytes_of, grammar, encoding_of}
 use Rattle.wasm_grammar.proofs.readings.EndToEnd.{Closes, tile_closes}
 use Rattle.wasm_grammar.proofs.parts.Placed.{Each, each_tile, IsBody, bodied, IsHeader, headed}
 use Rattle.wasm_grammar.proofs.accepted.KindIds.{IdOf, id_as, code_has_its_id}
@@ -49,10 +49,7 @@ kinded_at false p m l o xs t e = kinded_body p.encoding t.shape (bodied m l o xs
 -- each tile after a header is
 pub kinded : (start : ℕ) (u : Tile) (ts : List Tile) (xs : List ℕ) (t : Tile) → verdict (grammar start (u ∷ ts)) xs ≡ tile t
     → Kinded (encoding_of (u ∷ ts)) t.shape
-kinded start u ts xs t e =
-    kinded_at (nat_eq (bodies_to_come (u ∷ ts) + bytes_to_come (u ∷ ts)) 0) (context_of (u ∷ ts)) (bodies_to_come (u ∷ ts))
-    (bytes_to_come (u ∷ ts))
-    (start + length (bytes_of (u ∷ ts))) xs t e
+kinded start u ts xs t e = search kinded_at
 
 encoding_kept : (t : Tile) (ts : List Tile) (s : Shape) → t.shape ≡ s → Kinded (encoding_of ts) s → encoding_of (t ∷ ts) ≡ encoding_of ts
 encoding_kept t ts (version num other) e k = absurd k
@@ -111,8 +108,7 @@ report_shape encoding features low bytes _ k c = refl
 -- what is reported of a tile after a header
 pub report_after : (start features low : ℕ) (u : Tile) (ts : List Tile) (t : Tile) → verdict (grammar start (u ∷ ts)) t.bytes ≡ tile t
     → section_of (event_of features low t).report ≡ section_at (low + length t.bytes) t.shape
-report_after start features low u ts t e = report_shape (encoding_of (u ∷ ts)) features low t.bytes t.shape (kinded start u ts t.bytes t e)
-    (tile_closes start (u ∷ ts) t.bytes t e)
+report_after start features low u ts t e = search (report_shape, kinded, tile_closes)
 
 report_header : (features low high : ℕ) (s : Shape) → IsHeader s → section_of (tile_report features low high s) ≡ None
 report_header features low high (version num other) h = refl
@@ -125,23 +121,18 @@ cons_one (Some x) = refl
 cons_one None = refl
 
 sections_push : (es : List Event) (e : Event) → sections_of (es ++ e ∷ []) ≡ sections_of es ++ option_to_list (section_of e.report)
-sections_push es e = filter_map-append (λ (x : Event). section_of x.report) es (e ∷ [])
-    ∙ ap (λ (x : List (ℕ × Range ℕ)). sections_of es ++ x) (cons_one (section_of e.report))
+sections_push es e = search (filter_map-append, cons_one)
 
 -- one tile more after a header
 pub sections_more : (start features : ℕ) (u : Tile) (ts : List Tile) (t : Tile) → verdict (grammar start (u ∷ ts)) t.bytes ≡ tile t
     → sections_of (events_of start features (t ∷ u ∷ ts)) ≡ sections_of (events_of start features (u ∷ ts))
     ++ option_to_list (section_at (start + length (bytes_of (u ∷ ts)) + length t.bytes) t.shape)
-sections_more start features u ts t e =
-    sections_push (events_of start features (u ∷ ts)) (event_of features (start + length (bytes_of (u ∷ ts))) t)
-    ∙ ap (λ (x : Option (ℕ × Range ℕ)). sections_of (events_of start features (u ∷ ts)) ++ option_to_list x)
-    (report_after start features (start + length (bytes_of (u ∷ ts))) u ts t e)
+sections_more start features u ts t e = grind (arith, sections_push, report_after)
 
 -- a header alone
 pub sections_first : (start features : ℕ) (t : Tile) → verdict (grammar start []) t.bytes ≡ tile t
     → sections_of (events_of start features (t ∷ [])) ≡ []
-sections_first start features t e = ap (λ (x : Option (ℕ × Range ℕ)). cons_option x [])
-    (report_header features (start + 0) (start + 0 + length t.bytes) t.shape (headed start t.bytes t e))
+sections_first start features t e = search (report_header, headed)
 
 report_last : (e : Ending) → section_of (last_event e).report ≡ None
 report_last (fault f) = refl

@@ -1,29 +1,23 @@
 -- The reading of an accepted stream is told by its sections, which it is divided into in one way.
 use Rattle.std.proofs.Common.{◌≡◌, ℕ, ◌+◌, List, [], ◌∷◌, ◌++◌, length, refl, sym, ◌∙◌, arith}
 use Rattle.std.specs.List.{All, flat_map}
-use Rattle.std.proofs.lemmas.List.Elements.{All-head, All-tail, All-weaker}
-use Rattle.wasm_grammar.specs.Accepted.{header_bytes, Sized, sized_bytes, IsSized, SectionFrame, frame_bytes, IsFrame, CodeDivision}
+use Rattle.std.proofs.lemmas.List.Elements.{All-head, All-tail}
+use Rattle.wasm_grammar.specs.Accepted.{header_bytes, Sized, sized_bytes, IsSized, SectionFrame, frame_bytes, CodeDivision}
 use Rattle.wasm_grammar.specs.Accepted.{IsAccepted}
 use Rattle.wasm_grammar.specs.Content.{Kind, code, kind_of, ended, whole}
-use Rattle.wasm_grammar.specs.FrameEvents.{header_event, body_events, code_events, KindEvents, FramesEvents}
+use Rattle.wasm_grammar.specs.FrameEvents.{header_event, code_events, KindEvents, FramesEvents}
 use Rattle.wasm_grammar.specs.FrameLaws.{OneDivision, FramesGiveEvents}
 use Rattle.wasm_grammar.specs.Grammar.{Tile}
-use Rattle.wasm_grammar.specs.Reading.{code_start, Event, events_of, last_event, Reads}
+use Rattle.wasm_grammar.specs.Reading.{Event, events_of, last_event, Reads}
 use Rattle.wasm_grammar.specs.declared.encoding.Encoding.{Encoding}
 use Rattle.wasm_grammar.proofs.accepted.Walks.{Told, Reached, accepted_walk, accepted_ends_there}
-use Rattle.wasm_grammar.proofs.frames.Same.{prefixes_same, numbers_same, sized_same, frames_same, headers_same}
+use Rattle.wasm_grammar.proofs.frames.Same.{prefixes_same, numbers_same, sized_same, frames_same}
 use Rattle.wasm_grammar.proofs.readings.Readings.{reads_same}
 
 -- ---- divided in one way
 
 pub one_division : OneDivision
-one_division stream a b =
-    let q : ((a.encoding ≡ b.encoding) × (flat_map frame_bytes a.frames ≡ flat_map frame_bytes b.frames)) =
-    headers_same a.encoding b.encoding (flat_map frame_bytes a.frames) (flat_map frame_bytes b.frames) (sym a.whole ∙ b.whole) in (
-      q.0,
-      frames_same a.frames b.frames (All-weaker (IsFrame a.encoding) (λ f. IsSized f.sized) (λ f i. i.sized) a.frames a.each)
-          (All-weaker (IsFrame b.encoding) (λ f. IsSized f.sized) (λ f i. i.sized) b.frames b.each) q.1,
-    )
+one_division stream a b = grind (arith, frames_same)
 
 -- as many bodies, with the same bytes
 bodies_same : (ss ts : List Sized) → All IsSized ss → All IsSized ts → length ss ≡ length ts → flat_map sized_bytes ss
@@ -54,11 +48,7 @@ code_events_same features at f d e =
     let q : ((d.field ≡ e.field) × (d.bodies ≡ e.bodies)) = division_same f.sized.content d e in
     let x : d.field ≡ e.field = q.0 in
     let y : d.bodies ≡ e.bodies = q.1 in
-    λ i. record {
-      report = code_start (length (y i)) (at + 1 + length f.sized.field) (at + length (frame_bytes f))
-          (length (flat_map sized_bytes (y i)));
-      consumed = f.id ∷ (f.sized.field ++ x i);
-    } ∷ body_events features (at + 1 + length f.sized.field + length (x i)) (y i)
+    cc
 
 -- a section has one list of events
 kind_events_same : (features at : ℕ) (k : Kind) (f : SectionFrame) (xs ys : List Event) → KindEvents features at k f xs
@@ -83,11 +73,7 @@ told_events : (stream : List ℕ) (start features : ℕ) (a : IsAccepted stream)
     → events_of start features ts ++ last_event (ended (start + length stream)) ∷ []
     ≡ header_event start a.encoding ∷ (inner ++ last_event (ended
     (start + length (header_bytes a.encoding ++ flat_map frame_bytes a.frames))) ∷ [])
-told_events stream start features a ts t inner e =
-    let w : stream ≡ header_bytes a.encoding ++ flat_map frame_bytes a.frames = a.whole in
-    (λ i. t.listed i ++ last_event (ended (start + length (w i))) ∷ [])
-    ∙ (λ i. header_event start a.encoding ∷ (e i ++ last_event (ended
-    (start + length (header_bytes a.encoding ++ flat_map frame_bytes a.frames))) ∷ []))
+told_events stream start features a ts t inner e = cc
 
 pub frames_give_events : FramesGiveEvents
 frames_give_events stream start features events s a =

@@ -1,7 +1,6 @@
 -- Where the faults of a grammar lie.
-use Rattle.std.proofs.Common.{◌≡◌, ℕ, zero, suc, ◌+◌, ◌<◌, ◌≤◌, Bool, true, false, cond, ◌&&◌, not, List, [], ◌∷◌, length, take, drop}
-use Rattle.std.proofs.Common.{Option, Some, None, nat_lt, nat_le, nat_eq, refl, ap, subst, ◌∙◌, arith, le_refl, length-append, leb-true}
-use Rattle.std.specs.List.{list_all, list_any}
+use Rattle.std.proofs.Common.{◌≡◌, ℕ, zero, suc, ◌+◌, ◌≤◌, Bool, true, false, cond, ◌&&◌, List, [], ◌∷◌, length, take, drop}
+use Rattle.std.proofs.Common.{Option, Some, None, nat_le, refl, ap, subst, ◌∙◌, arith, le_refl, length-append}
 use Rattle.std.proofs.lemmas.List.{length-take-le, length-drop}
 use Rattle.wasm_base.specs.FaultAt.{FaultAt, at_offset}
 use Rattle.wasm_base.specs.Header.{magic, agree}
@@ -10,7 +9,7 @@ use Rattle.wasm_base.specs.Number.{Number, read, bad, short, number}
 use Rattle.wasm_base.specs.declared.fault.Fault.{Fault}
 use Rattle.wasm_base.specs.declared.fault.Fault.TheVariants.{UnexpectedEof, MagicAtSection, StartContent, DataCountContent}
 use Rattle.wasm_base.specs.declared.fault.NumberKind.TheVariants.{VarU32}
-use Rattle.wasm_base.proofs.NumberLaws.{Used, number-used}
+use Rattle.wasm_base.proofs.NumberLaws.{number-used}
 use Rattle.wasm_grammar.specs.Content.{Kind, custom, items, index, data_count, code, unknown, kind_of, Ending, fault, ended, when}
 use Rattle.wasm_grammar.specs.Content.{wrong_number, wrong_single, wrong_name, wrong_content, Form, whole}
 use Rattle.wasm_grammar.specs.Grammar.{Tile, Verdict, final, Grammar, accept, reject, check, u32_field, bytes, section_start, after}
@@ -18,9 +17,8 @@ use Rattle.wasm_grammar.specs.Grammar.{after_number, verdict, SectionContext, he
 use Rattle.wasm_grammar.specs.Grammar.{code_grammar, wrong_data, whole_grammar, content_grammar, after_length, section_grammar}
 use Rattle.wasm_grammar.specs.Grammar.{body_grammar}
 use Rattle.wasm_grammar.specs.Laws.{FaultLiesWithin}
-use Rattle.wasm_grammar.specs.Tiling.{context_of, grammar, bodies_to_come, bytes_to_come, bytes_of}
+use Rattle.wasm_grammar.specs.Tiling.{grammar, bytes_of}
 use Rattle.wasm_grammar.specs.declared.encoding.Encoding.{Encoding}
-use Rattle.wasm_grammar.proofs.readings.Endings.{after_final}
 use Rattle.wasm_grammar.proofs.parts.Places.{number_place, name_place}
 
 -- an offset between these
@@ -49,71 +47,40 @@ final_same f g e = cc
 
 ending_lies : (low here more : ℕ) (e : Ending) (f : FaultAt) → EndsIn low here e → final e ≡ final (fault f)
     → Between low (here + more) f.offset
-ending_lies low here more (fault g) f w h =
-    let z : g.offset ≡ f.offset = ap (λ (x : FaultAt). x.offset) (final_same g f h) in
-    let (a, b) = w in
-    (omega arith, omega arith)
+ending_lies low here more (fault g) f w h = grind arith
 ending_lies low here more (ended o) f w h = cc
 
 number_lies : (low here o : ℕ) (xs : List ℕ) (next : ℕ → ℕ → Grammar) (f : FaultAt) → Between low here o
     → ((v k : ℕ) (zs : List ℕ) → verdict (next v k) zs ≡ final (fault f) → Between low (here + k + length zs) f.offset)
     → (n : Number) → number VarU32 xs ≡ n → after_number o xs n (λ v k. verdict (next v k) (drop k xs)) ≡ final (fault f)
     → Between low (here + length xs) f.offset
-number_lies low here o xs next f w ih (read v k) e h =
-    let u : Used VarU32 xs v k = number-used VarU32 xs v k e in
-    let (a, b) = ih v k (drop k xs) (after_final (take k xs) _ _ h) in
-    let l : k ≤ length xs = u.there in
-    (a, omega (arith, length-drop k xs))
-number_lies low here o xs next f w ih (bad g p) e h =
-    let l : p < length xs = number_place VarU32 xs g p e in
-    let z : o + p ≡ f.offset = ap (λ (x : FaultAt). x.offset) (final_same (at_offset g (o + p)) f h) in
-    let (a, b) = w in
-    (omega arith, omega arith)
-number_lies low here o xs next f w ih short e h =
-    let z : o + length xs ≡ f.offset = ap (λ (x : FaultAt). x.offset) (final_same (at_offset UnexpectedEof (o + length xs)) f h) in
-    let (a, b) = w in
-    (omega arith, omega arith)
+number_lies low here o xs next f w ih (read v k) e h = grind (arith, number-used, length-drop)
+number_lies low here o xs next f w ih (bad g p) e h = grind (arith, number_place)
+number_lies low here o xs next f w ih short e h = grind arith
 
 bytes_lie : (low here count o : ℕ) (xs : List ℕ) (next : List ℕ → Grammar) (f : FaultAt) → Between low here o
     → ((b zs : List ℕ) → length b ≡ count → verdict (next b) zs ≡ final (fault f) → Between low (here + count + length zs) f.offset)
     → (t : Bool) → nat_le count (length xs) ≡ t → cond t (after (take count xs) (verdict (next (take count xs)) (drop count xs)))
     (final (fault (at_offset UnexpectedEof o))) ≡ final (fault f)
     → Between low (here + length xs) f.offset
-bytes_lie low here count o xs next f w ih true e h =
-    let l : count ≤ length xs = leb-true count (length xs) e in
-    let (a, b) = ih (take count xs) (drop count xs) (length-take-le count xs l) (after_final (take count xs) _ _ h) in
-    (a, omega (arith, length-drop count xs))
-bytes_lie low here count o xs next f w ih false e h =
-    let z : o ≡ f.offset = ap (λ (x : FaultAt). x.offset) (final_same (at_offset UnexpectedEof o) f h) in
-    let (a, b) = w in
-    (omega arith, omega arith)
+bytes_lie low here count o xs next f w ih true e h = grind (arith, length-take-le, length-drop)
+bytes_lie low here count o xs next f w ih false e h = grind arith
 
 start_lies : (low here o id : ℕ) (xs : List ℕ) (v : Verdict) (f : FaultAt) → Between low here o
     → (v ≡ final (fault f) → Between low (here + 1 + length xs) f.offset)
     → (t : Bool) → cond t (final (fault (at_offset MagicAtSection o))) (after (id ∷ []) v) ≡ final (fault f)
     → Between low (here + length (id ∷ xs)) f.offset
-start_lies low here o id xs v f w ih true h =
-    let z : o ≡ f.offset = ap (λ (x : FaultAt). x.offset) (final_same (at_offset MagicAtSection o) f h) in
-    let (a, b) = w in
-    (omega arith, omega arith)
-start_lies low here o id xs v f w ih false h =
-    let (a, b) = ih (after_final (id ∷ []) v _ h) in
-    (a, omega arith)
+start_lies low here o id xs v f w ih true h = grind arith
+start_lies low here o id xs v f w ih false h = grind arith
 
 -- a fault lies among the bytes, or at their end
 pub verdict_lies : (low here : ℕ) (g : Grammar) (xs : List ℕ) (f : FaultAt) → Within low here g → verdict g xs ≡ final (fault f)
     → Between low (here + length xs) f.offset
 unfolding verdict
 verdict_lies low here (accept shape) xs f w h = cc
-verdict_lies low here (reject e) xs f w h =
-    let z : e.offset ≡ f.offset = ap (λ (x : FaultAt). x.offset) (final_same e f h) in
-    let (a, b) = w in
-    (omega arith, omega arith)
+verdict_lies low here (reject e) xs f w h = grind arith
 verdict_lies low here (check None next) xs f w h = verdict_lies low here next xs f w.1 h
-verdict_lies low here (check (Some e) next) xs f w h =
-    let z : e.offset ≡ f.offset = ap (λ (x : FaultAt). x.offset) (final_same e f h) in
-    let (a, b) = w.0 in
-    (omega arith, omega arith)
+verdict_lies low here (check (Some e) next) xs f w h = grind arith
 verdict_lies low here (u32_field o next) xs f w h =
     number_lies low here o xs next f w.0 (λ v k zs. verdict_lies low (here + k) (next v k) zs f (w.1 v k)) (number VarU32 xs) refl h
 verdict_lies low here (bytes count o next) xs f w h =
@@ -136,28 +103,19 @@ lies low high a l m = (l, m)
 number_wrong : (offset : ℕ) (content : List ℕ) (n : Number) → number VarU32 content ≡ n
     → MayLie offset (offset + length content) (wrong_number offset content n)
 number_wrong offset content (read v k) e = tt
-number_wrong offset content (bad g p) e =
-    let l : p < length content = number_place VarU32 content g p e in
-    (omega arith, omega arith)
+number_wrong offset content (bad g p) e = grind (arith, number_place)
 number_wrong offset content short e = (omega arith, omega arith)
 
 single_wrong : (code_bytes : Fault) (offset : ℕ) (content : List ℕ) (n : Number) → number VarU32 content ≡ n
     → MayLie offset (offset + length content) (wrong_single code_bytes offset content n)
-single_wrong code_bytes offset content (read v k) e =
-    let u : Used VarU32 content v k = number-used VarU32 content v k e in
-    let l : k ≤ length content = u.there in
-    when_lies offset (offset + length content) (nat_lt k (length content)) (at_offset code_bytes (offset + k)) (omega arith, omega arith)
-single_wrong code_bytes offset content (bad g p) e =
-    let l : p < length content = number_place VarU32 content g p e in
-    (omega arith, omega arith)
+single_wrong code_bytes offset content (read v k) e = grind arith
+single_wrong code_bytes offset content (bad g p) e = grind (arith, number_place)
 single_wrong code_bytes offset content short e = (omega arith, omega arith)
 
 name_wrong : (offset : ℕ) (content : List ℕ) (n : Name) → name (Some name_limit) content ≡ n
     → MayLie offset (offset + length content) (wrong_name offset n)
 name_wrong offset content (named text used) e = tt
-name_wrong offset content (refused g p) e =
-    let l : p ≤ length content = name_place (Some name_limit) content g p e in
-    (omega arith, omega arith)
+name_wrong offset content (refused g p) e = grind (arith, name_place)
 
 content_wrong : (kind : Form) (offset : ℕ) (content : List ℕ) → MayLie offset (offset + length content) (wrong_content kind offset content)
 unfolding wrong_content
@@ -183,8 +141,7 @@ count_wrong_at false true offset e f z w = (omega arith, omega arith)
 count_wrong_at false false offset e f z w = tt
 
 count_wrong : (p : SectionContext) (offset count : ℕ) → MayLie offset offset (wrong_count p offset count)
-count_wrong p offset count = count_wrong_at (not (list_all (nat_eq count) p.functions)) (nat_lt 0 count && nat_eq (length p.functions) 0)
-    offset _ _ refl refl
+count_wrong p offset count = search count_wrong_at
 
 Within-whole : (low here : ℕ) (p : SectionContext) (kind : Form) (id offset size : ℕ) → low ≤ offset → offset ≡ here
     → Within low here (whole_grammar p kind id offset size)
@@ -220,8 +177,7 @@ end_lies_at false false offset e f z w = tt
 end_lies_at _ _ offset e f z w = (omega arith, omega arith)
 
 end_lies : (p : SectionContext) (offset : ℕ) → EndsIn offset offset (end_at_section p offset)
-end_lies p offset = end_lies_at (list_any (nat_lt 0) p.functions && nat_eq (length p.codes) 0)
-    (list_any (nat_lt 0) p.data_counts && nat_eq (length p.datas) 0) offset _ _ refl refl
+end_lies p offset = search end_lies_at
 
 Within-sized : (o : ℕ) (p : SectionContext) (kind : Kind) (id size width : ℕ)
     → Within o (o + 1 + width) (after_length p kind id (o + 1) (o + 1 + width) size)
@@ -280,8 +236,7 @@ Within-inside false p bodies code_bytes o = Within-body bodies code_bytes o
 
 pub Within-grammar : (start : ℕ) (ts : List Tile) → Within (start + length (bytes_of ts)) (start + length (bytes_of ts)) (grammar start ts)
 Within-grammar start [] = subst (λ (o : ℕ). Within o o (header_grammar start)) (omega arith) (Within-header start)
-Within-grammar start (t ∷ ts) = Within-inside (nat_eq (bodies_to_come (t ∷ ts) + bytes_to_come (t ∷ ts)) 0) (context_of (t ∷ ts))
-    (bodies_to_come (t ∷ ts)) (bytes_to_come (t ∷ ts)) (start + length (bytes_of (t ∷ ts)))
+Within-grammar start (t ∷ ts) = search Within-inside
 
 pub fault_lies_within : FaultLiesWithin
 fault_lies_within stream start tiles f r =

@@ -5,13 +5,13 @@ use Rattle.std.proofs.lemmas.List.{length-take-le}
 use Rattle.std.proofs.lemmas.Bool.{and_parts}
 use Rattle.wasm_base.specs.FaultAt.{FaultAt, at_offset}
 use Rattle.wasm_base.specs.Name.{of_four}
-use Rattle.wasm_base.specs.Number.{Number, read, bad, short, number}
+use Rattle.wasm_base.specs.Number.{Number, read, number}
 use Rattle.wasm_grammar.specs.Content.{Kind, code, kind_of, Ending, fault, whole}
 use Rattle.wasm_base.specs.Header.{magic, agree}
 use Rattle.wasm_grammar.specs.Grammar.{Tile, Verdict, tile, final, after, after_number, Grammar, check, u32_field, bytes, section_start}
 use Rattle.wasm_grammar.specs.Grammar.{verdict, SectionContext, header_of, header_grammar, content_grammar, after_length, after_id}
 use Rattle.wasm_grammar.specs.Grammar.{section_grammar, body_of, body_grammar}
-use Rattle.wasm_grammar.specs.Tiling.{context_of, grammar, bodies_to_come, bytes_to_come, bytes_of}
+use Rattle.wasm_grammar.specs.Tiling.{grammar}
 use Rattle.wasm_base.specs.declared.fault.NumberKind.TheVariants.{VarU32}
 use Rattle.wasm_base.specs.declared.fault.Fault.TheVariants.{MagicAtSection}
 use Rattle.wasm_grammar.specs.declared.encoding.Encoding.{Encoding}
@@ -41,8 +41,7 @@ bytes_least_at false count xs v e t h w = cc
 pub bytes_least : (count o : ℕ) (next : List ℕ → Grammar) (xs : List ℕ) (t : Tile) → verdict (bytes count o next) xs ≡ tile t
     → count ≤ length t.bytes
 unfolding verdict
-bytes_least count o next xs t w = bytes_least_at (nat_le count (length xs)) count xs (verdict (next (take count xs)) (drop count xs)) _ t
-    refl w
+bytes_least count o next xs t w = search bytes_least_at
 
 -- what a tile that begins with a number is
 pub record Numbered (next : ℕ → ℕ → Grammar) (xs : List ℕ) (t : Tile) : Type 0 where
@@ -55,9 +54,7 @@ pub record Numbered (next : ℕ → ℕ → Grammar) (xs : List ℕ) (t : Tile) 
 
 numbered_at : (o : ℕ) (next : ℕ → ℕ → Grammar) (xs : List ℕ) (t : Tile) (n : Number) → number VarU32 xs ≡ n
     → after_number o xs n (λ v k. verdict (next v k) (drop k xs)) ≡ tile t → Numbered next xs t
-numbered_at o next xs t (read v k) e w =
-    let (s, r, q) = after-tile (take k xs) (verdict (next v k) (drop k xs)) t w in
-    record { value = v; used = k; reads = e; rest = s; goes_on = r; is = q }
+numbered_at o next xs t (read v k) e w = grind arith
 numbered_at o next xs t _ e w = cc
 
 pub numbered : (o : ℕ) (next : ℕ → ℕ → Grammar) (xs : List ℕ) (t : Tile) → verdict (u32_field o next) xs ≡ tile t → Numbered next xs t
@@ -141,16 +138,12 @@ Guarded-inside_at false p m l o = Guarded-body m l o
 
 pub Guarded-grammar : (start : ℕ) (ts : List Tile) → Guarded (grammar start ts)
 Guarded-grammar start [] = Guarded-header start
-Guarded-grammar start (t ∷ ts) = Guarded-inside_at (nat_eq (bodies_to_come (t ∷ ts) + bytes_to_come (t ∷ ts)) 0) (context_of (t ∷ ts))
-    (bodies_to_come (t ∷ ts)) (bytes_to_come (t ∷ ts)) (start + length (bytes_of (t ∷ ts)))
+Guarded-grammar start (t ∷ ts) = search Guarded-inside_at
 
 least_start_at : (b : Bool) (o id : ℕ) (v : Verdict) (t : Tile) → cond b (final (fault (at_offset MagicAtSection o))) (after (id ∷ []) v)
     ≡ tile t → 0 < length t.bytes
 least_start_at true o id v t e = cc
-least_start_at false o id v t e =
-    let (s, r, q) = after-tile (id ∷ []) v t e in
-    let z : t.bytes ≡ id ∷ s.bytes = ap (λ (x : Tile). x.bytes) q in
-    rw z (omega arith)
+least_start_at false o id v t e = grind arith
 
 least_start : (o : ℕ) (z : Ending) (next : ℕ → Grammar) (xs : List ℕ) (t : Tile) → verdict (section_start o z next) xs ≡ tile t
     → 0 < length t.bytes
@@ -179,5 +172,4 @@ least_inside false p m l o xs t e = least_body m l o xs t e
 -- each tile has a byte
 pub tile_least : (start : ℕ) (ts : List Tile) (xs : List ℕ) (t : Tile) → verdict (grammar start ts) xs ≡ tile t → 0 < length t.bytes
 tile_least start [] xs t e = least_header start xs t e
-tile_least start (u ∷ ts) xs t e = least_inside (nat_eq (bodies_to_come (u ∷ ts) + bytes_to_come (u ∷ ts)) 0) (context_of (u ∷ ts))
-    (bodies_to_come (u ∷ ts)) (bytes_to_come (u ∷ ts)) (start + length (bytes_of (u ∷ ts))) xs t e
+tile_least start (u ∷ ts) xs t e = search least_inside

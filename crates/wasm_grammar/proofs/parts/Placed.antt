@@ -1,15 +1,15 @@
 -- What is at a place is what may come there.
-use Rattle.std.proofs.Common.{◌≡◌, ℕ, zero, suc, ◌+◌, ◌-◌, ◌<◌, Bool, true, false, cond, not, ◌&&◌, List, [], ◌∷◌, ◌++◌, length, Option}
-use Rattle.std.proofs.Common.{Some, None, nat_lt, nat_eq, refl, sym, ap, subst, ◌∙◌, arith, nat_le, take, drop, lt-ltb}
+use Rattle.std.proofs.Common.{◌≡◌, ℕ, zero, suc, ◌+◌, ◌<◌, Bool, true, false, cond, not, ◌&&◌, List, [], ◌∷◌, length, Option}
+use Rattle.std.proofs.Common.{Some, None, nat_lt, refl, sym, subst, arith, nat_le, take, drop}
 use Rattle.std.specs.List.{list_all}
 use Rattle.wasm_grammar.specs.declared.encoding.Encoding.{Encoding}
 use Rattle.wasm_base.specs.FaultAt.{FaultAt}
-use Rattle.wasm_base.specs.Number.{Number, read, bad, short, number}
-use Rattle.wasm_grammar.specs.Content.{Kind, items, data_count, custom, index, code, unknown, rank_of, kind_of, Ending, when, whole}
+use Rattle.wasm_base.specs.Number.{Number, read, number}
+use Rattle.wasm_grammar.specs.Content.{Kind, code, rank_of, kind_of, Ending, when, whole}
 use Rattle.wasm_grammar.specs.Grammar.{Shape, version, section, code_start, code_entry, Tile, Verdict, tile, final, after, after_number}
 use Rattle.wasm_grammar.specs.Grammar.{SectionContext, Grammar, accept, reject, check, u32_field, bytes, section_start, verdict}
 use Rattle.wasm_grammar.specs.Grammar.{header_grammar, section_grammar, body_grammar, content_grammar, header_of}
-use Rattle.wasm_grammar.specs.Tiling.{bytes_of, grammar, context_of, tile_rank, bodies_to_come, bytes_to_come}
+use Rattle.wasm_grammar.specs.Tiling.{grammar, context_of, tile_rank}
 use Rattle.wasm_base.specs.declared.fault.NumberKind.TheVariants.{VarU32}
 use Rattle.wasm_grammar.proofs.parts.Verdicts.{after-tile}
 
@@ -43,10 +43,7 @@ each_test' P false v e t h w = h w
 
 pub each_tile : (P : Shape → Type 0) (g : Grammar) → Each P g → (xs : List ℕ) (t : Tile) → verdict g xs ≡ tile t → P t.shape
 unfolding verdict
-each_tile P (accept s) h xs t e = let z : s ≡ t.shape = shape_is s t e in subst P z h
-  where
-    shape_is : (s : Shape) (t : Tile) → tile (record { shape = s; bytes = [] }) ≡ tile t → s ≡ t.shape
-    shape_is s t e = let z : record { shape = s; bytes = [] } ≡ t = cc in ap (λ (x : Tile). x.shape) z
+each_tile P (accept s) h xs t e = grind arith
 each_tile P (check None next) h xs t w = each_tile P next (h refl) xs t w
 each_tile P (u32_field o next) h xs t w = each_number P o xs (number VarU32 xs) (λ v k. verdict (next v k) (drop k xs)) t
     (λ v k. each_tile P (next v k) (h v k) (drop k xs)) w
@@ -111,10 +108,7 @@ Fresh ts s = 0 < tile_rank s → list_all (λ (u : Tile). nat_lt (tile_rank u.sh
 -- where a section of a rank may follow, each tile ranks below it
 pub follows_all : (r : ℕ) (b : Bool) → (nat_lt 0 r && not b) ≡ false → 0 < r → b ≡ true
 follows_all r true e h = refl
-follows_all r false e h = let z : nat_lt 0 r ≡ true = lt-ltb 0 r h in absurd (true_false (rw z at e))
-  where
-    true_false : (true && not false) ≡ false → ⊥
-    true_false e = cc
+follows_all r false e h = grind arith
 
 fresh_placed : (ts : List Tile) (s : Shape) → Placed (context_of ts) s → Fresh ts s
 fresh_placed ts (section kind id content) f h = follows_all (rank_of (whole kind) id) _ f h
@@ -132,5 +126,4 @@ fresh_at false ts m l o d t e = fresh_body ts t.shape (bodied m l o d t e)
 
 pub fresh : (start : ℕ) (ts : List Tile) (d : List ℕ) (t : Tile) → verdict (grammar start ts) d ≡ tile t → Fresh ts t.shape
 fresh start [] d t e = λ h. refl
-fresh start (u ∷ ts) d t e = fresh_at (nat_eq (bodies_to_come (u ∷ ts) + bytes_to_come (u ∷ ts)) 0) (u ∷ ts) (bodies_to_come (u ∷ ts))
-    (bytes_to_come (u ∷ ts)) (start + length (bytes_of (u ∷ ts))) d t e
+fresh start (u ∷ ts) d t e = search fresh_at

@@ -1,12 +1,12 @@
 -- Laws of every grammar.
-use Rattle.std.proofs.Common.{◌≡◌, ◌≢◌, ℕ, ◌-◌, ◌≤◌, Bool, true, false, cond, ◌&&◌, List, [], ◌∷◌, ◌++◌, length, take, drop, Some, None}
+use Rattle.std.proofs.Common.{◌≡◌, ◌≢◌, ℕ, ◌-◌, ◌≤◌, Bool, true, false, cond, ◌&&◌, List, [], ◌∷◌, ◌++◌, length, take, drop, None}
 use Rattle.std.proofs.Common.{nat_le, nat_eq, refl, sym, ap, subst, subst₂, true≢false, ◌∙◌, arith, length-append, leb-true, le-leb}
 use Rattle.std.proofs.Common.{append_assoc}
 use Rattle.std.proofs.lemmas.List.{take-append-le, drop-append-le, take-append-drop, take_at, drop_at, length-take-le}
 use Rattle.wasm_base.specs.FaultAt.{at_offset}
 use Rattle.wasm_base.specs.Number.{Number, read, bad, short, number}
 use Rattle.wasm_base.specs.Header.{magic, agree}
-use Rattle.wasm_grammar.specs.Grammar.{Tile, Verdict, tile, final, after, after_number, Grammar, accept, reject, check, u32_field, bytes}
+use Rattle.wasm_grammar.specs.Grammar.{Tile, Verdict, tile, final, after, after_number, Grammar, accept, check, u32_field, bytes}
 use Rattle.wasm_grammar.specs.Grammar.{section_start, verdict}
 use Rattle.wasm_grammar.specs.Content.{Ending, fault}
 use Rattle.wasm_grammar.specs.Waiting.{Waiting, enough, wants, later, later_number, waiting}
@@ -34,16 +34,8 @@ number_more : (offset : ℕ) (xs ys : List ℕ) (next : ℕ → ℕ → Grammar)
     → after_number offset (xs ++ ys) (number VarU32 (xs ++ ys)) (λ v k. verdict (next v k) (drop k (xs ++ ys)))
     ≡ after_number offset xs n (λ v k. verdict (next v k) (drop k xs))
 number_more offset xs ys next ih (read v k) e w =
-    let u : Used VarU32 xs v k = number-used VarU32 xs v k e in
-    let ns : number VarU32 xs ≢ short = λ z. (cc) in
-    let m : number VarU32 (xs ++ ys) ≡ read v k = number-more VarU32 xs ys ns ∙ e in
-    let t : take k (xs ++ ys) ≡ take k xs = take-append-le k xs ys u.there in
-    let d : drop k (xs ++ ys) ≡ drop k xs ++ ys = drop-append-le k xs ys u.there in
-    rw m (rw (t, d) (ap (λ (x : Verdict). after (take k xs) x) (ih v k (drop k xs) (later-enough k _ w))))
-number_more offset xs ys next ih (bad f p) e w =
-    let ns : number VarU32 xs ≢ short = λ z. (cc) in
-    let m : number VarU32 (xs ++ ys) ≡ bad f p = number-more VarU32 xs ys ns ∙ e in
-    rw m
+    grind (arith, number-used, number-more, take-append-le, drop-append-le)
+number_more offset xs ys next ih (bad f p) e w = grind (arith, number-more)
 number_more offset xs ys next ih short e w = cc
 
 bytes_more : (count offset : ℕ) (xs ys : List ℕ) (next : List ℕ → Grammar)
@@ -85,9 +77,7 @@ start_more offset id xs ys next ih true true e f w =
     let g : agree (id ∷ (xs ++ ys)) magic ≡ true = agree_same (id ∷ xs) ys magic l ∙ e in
     rw (g, le-leb 4 (length (id ∷ (xs ++ ys))) m)
 start_more offset id xs ys next ih true false e f w = cc
-start_more offset id xs ys next ih false l e f w =
-    let g : agree (id ∷ (xs ++ ys)) magic ≡ false = agree-more (id ∷ xs) ys magic e in
-    rw g (ap (λ (x : Verdict). after (id ∷ []) x) (ih xs (later-enough 1 _ w)))
+start_more offset id xs ys next ih false l e f w = grind (arith, agree-more)
 
 -- what bytes that suffice decide stays so, whatever follows
 pub verdict-more : (g : Grammar) (xs ys : List ℕ) → waiting g xs ≡ enough → verdict g (xs ++ ys) ≡ verdict g xs
@@ -179,14 +169,6 @@ Guarded (section_start offset e next) = (id : ℕ) → Guarded (next id)
     × ((xs : List ℕ) (s : Tile) → verdict (next id) xs ≡ tile s → agree (id ∷ s.bytes) magic ≡ true → 4 ≤ length (id ∷ s.bytes))
 Guarded _ = Unit {0}
 
-agree_prefix : (xs ys zs : List ℕ) → agree (xs ++ ys) zs ≡ true → agree xs zs ≡ true
-agree_prefix (x ∷ xs) ys (z ∷ zs) e = both (nat_eq x z) (agree (xs ++ ys) zs) (agree xs zs) (agree_prefix xs ys zs) e
-  where
-    both : (t a b : Bool) → (a ≡ true → b ≡ true) → (t && a) ≡ true → (t && b) ≡ true
-    both true a b f e = f e
-    both false a b f e = e
-agree_prefix _ ys _ e = refl
-
 start_join : (offset : ℕ) (z : Ending) (next : ℕ → Grammar) (id : ℕ) (zs : List ℕ) (s : Tile) (b : Bool) → agree (id ∷ s.bytes) magic ≡ b
     → (b ≡ true → 4 ≤ length (id ∷ s.bytes)) → ((agree (id ∷ zs) magic && nat_le 4 (length (id ∷ zs))) ≡ false)
     → Cut (next id) zs s → Cut (section_start offset z next) (id ∷ zs) (record s { bytes = id ∷ s.bytes })
@@ -213,11 +195,7 @@ start_cut : (offset : ℕ) (z : Ending) (next : ℕ → Grammar) (id : ℕ) (xs 
     → cond b (final (fault (at_offset MagicAtSection offset))) (after (id ∷ []) (verdict (next id) xs)) ≡ tile t
     → Cut (section_start offset z next) (id ∷ xs) t
 start_cut offset z next id xs ih g true e t w = cc
-start_cut offset z next id xs ih g false e t w =
-    let (s, r, q) = after-tile (id ∷ []) (verdict (next id) xs) t w in
-    let j : Cut (section_start offset z next) (id ∷ xs) (record s { bytes = id ∷ s.bytes }) =
-    start_join offset z next id xs s (agree (id ∷ s.bytes) magic) refl (g s r) e (ih s r) in
-    subst (λ (y : Tile). Cut (section_start offset z next) (id ∷ xs) y) (sym q) j
+start_cut offset z next id xs ih g false e t w = grind (arith, start_join)
 
 -- a tile has the first of the bytes, and no other byte matters to it
 pub verdict-cut : (g : Grammar) → Guarded g → (xs : List ℕ) (t : Tile) → verdict g xs ≡ tile t → Cut g xs t

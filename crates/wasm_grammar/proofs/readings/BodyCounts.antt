@@ -6,7 +6,7 @@ use Rattle.std.proofs.lemmas.List.{append_cancel_left}
 use Rattle.std.proofs.lemmas.List.Elements.{All-nil, All-push}
 use Rattle.wasm_base.specs.Name.{Name, named, refused, name_limit, name}
 use Rattle.wasm_base.specs.Window.{Window}
-use Rattle.wasm_grammar.specs.Content.{custom, items, index, data_count, unknown, Ending, fault, ended, Form}
+use Rattle.wasm_grammar.specs.Content.{custom, Ending, fault, ended, Form}
 use Rattle.wasm_grammar.specs.Grammar
 use Rattle.wasm_grammar.specs.Grammar.{Shape, section, Tile, tile, final, SectionContext, verdict, section_grammar, body_grammar}
 use Rattle.wasm_grammar.specs.Reading.{code_start, code_entry, Event, custom_report, section_report, tile_report, event_of, stream_end}

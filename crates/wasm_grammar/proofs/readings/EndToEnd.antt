@@ -1,27 +1,26 @@
 -- Events lie end to end.
 use Rattle.std.proofs.Common.{◌≡◌, ℕ, zero, suc, ◌+◌, ◌-◌, ◌≤◌, Bool, true, false, cond, ◌&&◌, List, [], ◌∷◌, ◌++◌, length, take, drop}
-use Rattle.std.proofs.Common.{Option, Some, None, nat_lt, nat_le, nat_eq, refl, sym, ap, subst, ◌∙◌, arith, le_refl, length-append}
+use Rattle.std.proofs.Common.{Option, Some, None, nat_le, refl, sym, ap, subst, ◌∙◌, arith, le_refl, length-append}
 use Rattle.std.proofs.Common.{append-nil, append_assoc}
-use Rattle.std.specs.List.{list_any}
 use Rattle.std.proofs.lemmas.List.{length-take-le, take_at, drop_at}
 use Rattle.std.proofs.lemmas.Grind.{flat_map-append}
-use Rattle.wasm_base.specs.FaultAt.{FaultAt, at_offset}
+use Rattle.wasm_base.specs.FaultAt.{at_offset}
 use Rattle.wasm_base.specs.Header.{magic, agree}
 use Rattle.wasm_base.specs.Name.{Name, named, refused, name_limit, name, of_four}
-use Rattle.wasm_base.specs.Number.{Number, read, bad, short, number}
+use Rattle.wasm_base.specs.Number.{Number, read, number}
 use Rattle.wasm_base.specs.declared.fault.Fault.TheVariants.{UnexpectedEof, MagicAtSection}
 use Rattle.wasm_base.specs.declared.fault.NumberKind.TheVariants.{VarU32}
 use Rattle.wasm_base.proofs.NumberLaws.{Used, number-used}
 use Rattle.wasm_base.specs.Window.{window_over}
-use Rattle.wasm_grammar.specs.Content.{Kind, custom, items, index, data_count, code, unknown, kind_of, Ending, fault, ended, Form, whole}
+use Rattle.wasm_grammar.specs.Content.{Kind, custom, items, code, unknown, kind_of, Ending, fault, ended, Form, whole}
 use Rattle.wasm_grammar.specs.Grammar.{Shape, version, section, code_start, code_entry, Tile, Verdict, tile, final, Grammar, accept, reject}
 use Rattle.wasm_grammar.specs.Grammar.{check, u32_field, bytes, section_start, after, after_number, verdict, SectionContext, header_of}
-use Rattle.wasm_grammar.specs.Grammar.{header_grammar, end_at_section, content_grammar, section_grammar, body_grammar}
+use Rattle.wasm_grammar.specs.Grammar.{header_grammar, content_grammar, section_grammar, body_grammar}
 use Rattle.wasm_grammar.specs.Laws.{EventsLieEndToEnd}
 use Rattle.wasm_grammar.specs.Reading.{Event, custom_report, section_report, tile_report, event_of, stream_end, last_event, events_of}
 use Rattle.wasm_grammar.specs.Reading.{Reads}
 use Rattle.wasm_grammar.specs.EventRanges.{consumed_by, IsPart, LiesIn, LiesBetween, AtOffsets, EndToEnd}
-use Rattle.wasm_grammar.specs.Tiling.{context_of, grammar, bodies_to_come, bytes_to_come, bytes_of, Faultless}
+use Rattle.wasm_grammar.specs.Tiling.{grammar, bytes_of, Faultless}
 use Rattle.wasm_grammar.specs.declared.encoding.Encoding.{Encoding}
 use Rattle.wasm_grammar.proofs.readings.Endings.{header_end, inside_end}
 use Rattle.wasm_grammar.proofs.parts.Verdicts.{after-tile}
@@ -59,16 +58,14 @@ closes_number : (passed : List ℕ) (o : ℕ) (xs : List ℕ) (next : ℕ → �
     → Closes t.shape (passed ++ t.bytes)
 closes_number passed o xs next t ih (read v k) e h =
     let u : Used VarU32 xs v k = number-used VarU32 xs v k e in
-    closes_after passed (take k xs) (verdict (next v k) (drop k xs)) t
-    (λ s r. ih v k (take k xs) (drop k xs) s (length-take-le k xs u.there) r) h
+    search (closes_after, length-take-le)
 closes_number passed o xs next t ih _ e h = cc
 
 closes_bytes : (passed : List ℕ) (count : ℕ) (xs : List ℕ) (next : List ℕ → Grammar) (t : Tile) (e : Ending)
     → ((b zs : List ℕ) (s : Tile) → verdict (next b) zs ≡ tile s → Closes s.shape ((passed ++ b) ++ s.bytes))
     → (b : Bool) → cond b (after (take count xs) (verdict (next (take count xs)) (drop count xs))) (final e) ≡ tile t
     → Closes t.shape (passed ++ t.bytes)
-closes_bytes passed count xs next t e ih true h = closes_after passed (take count xs) (verdict (next (take count xs)) (drop count xs)) t
-    (ih (take count xs) (drop count xs)) h
+closes_bytes passed count xs next t e ih true h = search closes_after
 closes_bytes passed count xs next t e ih false h = cc
 
 closes_start : (passed : List ℕ) (id : ℕ) (v : Verdict) (t : Tile) (e : Ending)
@@ -124,8 +121,7 @@ Closing-inside false p m l o = Closing-body m l o
 
 Closing-grammar : (start : ℕ) (ts : List Tile) → Closing [] (grammar start ts)
 Closing-grammar start [] = Closing-header start
-Closing-grammar start (t ∷ ts) = Closing-inside (nat_eq (bodies_to_come (t ∷ ts) + bytes_to_come (t ∷ ts)) 0) (context_of (t ∷ ts))
-    (bodies_to_come (t ∷ ts)) (bytes_to_come (t ∷ ts)) (start + length (bytes_of (t ∷ ts)))
+Closing-grammar start (t ∷ ts) = search Closing-inside
 
 -- a tile's bytes end with its content
 pub tile_closes : (start : ℕ) (ts : List Tile) (xs : List ℕ) (t : Tile) → verdict (grammar start ts) xs ≡ tile t → Closes t.shape t.bytes
@@ -137,24 +133,10 @@ tile_closes start ts xs t h = closes [] (grammar start ts) xs t (Closing-grammar
 abbrev pub IsEndAt : (o : ℕ) (rest : List ℕ) (x : ℕ) → Type 0
 IsEndAt o rest x = (rest ≡ []) × (x ≡ o)
 
-ended_same : (x y : ℕ) → (let e : Ending = ended x in e) ≡ ended y → y ≡ x
-ended_same x y e = cc
-
-end_is : (a b : Bool) (o x : ℕ) (e f : FaultAt) → cond a (fault e) (cond b (fault f) (ended o)) ≡ ended x → x ≡ o
-end_is false false o x e f h = ended_same o x h
-end_is _ _ o x e f h = cc
-
-end_report : (p : SectionContext) (o x : ℕ) → end_at_section p o ≡ ended x → x ≡ o
-end_report p o x h = end_is (list_any (nat_lt 0) p.functions && nat_eq (length p.codes) 0)
-    (list_any (nat_lt 0) p.data_counts && nat_eq (length p.datas) 0) o x _ _ h
-
 end_at : (start : ℕ) (ts : List Tile) (xs : List ℕ) (x : ℕ) → verdict (grammar start ts) xs ≡ final (ended x)
     → IsEndAt (start + length (bytes_of ts)) xs x
 end_at start [] xs x h = absurd (header_end start xs x h)
-end_at start (t ∷ ts) xs x h =
-    let e = inside_end (nat_eq (bodies_to_come (t ∷ ts) + bytes_to_come (t ∷ ts)) 0) (context_of (t ∷ ts)) (bodies_to_come (t ∷ ts))
-    (bytes_to_come (t ∷ ts)) (start + length (bytes_of (t ∷ ts))) xs x h in
-    (e.1, end_report (context_of (t ∷ ts)) (start + length (bytes_of (t ∷ ts))) x e.2)
+end_at start (t ∷ ts) xs x h = grind (arith, inside_end)
 
 -- a reading that doesn't stop at a fault ends after the whole stream
 pub ends_after_all : (stream : List ℕ) (start : ℕ) (ts : List Tile) (x : ℕ) → Reads stream start ts (ended x) → (x ≡ start + length stream)
@@ -196,34 +178,23 @@ part_is stream start low high content features p = record { has = refl; after = 
 
 range_is : (stream : List ℕ) (start low high : ℕ) (content : List ℕ) → Placed stream start low high content
     → LiesIn (high - length content) ((high - length content) + length content) low high
-range_is stream start low high content p = let z : (high - length content) + length content
-    ≡ high = p.ends in record { above = p.above; order = omega arith; below = omega arith }
+range_is stream start low high content p = grind arith
 
 whole_range : (stream : List ℕ) (start low high : ℕ) (content : List ℕ) → Placed stream start low high content
     → LiesIn (high - length content) high low high
-whole_range stream start low high content p = let z : (high - length content) + length content
-    ≡ high = p.ends in record { above = p.above; order = omega arith; below = le_refl high }
+whole_range stream start low high content p = grind arith
 
 custom_lies : (stream : List ℕ) (start low high features : ℕ) (content : List ℕ) (n : Name) → name (Some name_limit) content ≡ n
     → Placed stream start low high content → LiesBetween stream start features low high
     (custom_report features (high - length content) high content n)
-custom_lies stream start low high features content (named text used) e p =
-    let u : used ≤ length content = name_used (Some name_limit) content text used e in
-    let z : (high - length content) + length content ≡ high = p.ends in (
-      part_is stream start low high content features p,
-      range_is stream start low high content p,
-      p.ends,
-      record { above = omega arith; order = omega arith; below = le_refl high },
-    )
+custom_lies stream start low high features content (named text used) e p = grind (arith, name_used)
 custom_lies stream start low high features content (refused g i) e p = (whole_range stream start low high content p, refl, p.part, p.ends)
 
 section_lies : (stream : List ℕ) (start low high features : ℕ) (kind : Form) (id : ℕ) (content : List ℕ)
     → Placed stream start low high content → LiesBetween stream start features low high
     (section_report features (high - length content) high kind id content)
-section_lies stream start low high features custom id content p =
-    custom_lies stream start low high features content (name (Some name_limit) content) refl p
-section_lies stream start low high features items id content p =
-    (part_is stream start low high content features p, range_is stream start low high content p, p.ends)
+section_lies stream start low high features custom id content p = search custom_lies
+section_lies stream start low high features items id content p = search range_is
 section_lies stream start low high features unknown id content p = (whole_range stream start low high content p, refl, p.part, p.ends)
 section_lies stream start low high features _ id content p = (whole_range stream start low high content p, refl)
 

@@ -3,12 +3,12 @@ use Rattle.std.proofs.Common.{◌≡◌, ℕ, zero, suc, ◌+◌, Bool, true, fa
 use Rattle.std.proofs.Common.{nat_le, refl}
 use Rattle.wasm_base.specs.FaultAt.{FaultAt, at_offset}
 use Rattle.wasm_base.specs.Header.{magic, agree}
-use Rattle.wasm_base.specs.Number.{Number, read, bad, short, number}
+use Rattle.wasm_base.specs.Number.{Number, read, number}
 use Rattle.wasm_base.specs.declared.fault.Fault.TheVariants.{MagicAtSection, UnexpectedEof}
 use Rattle.wasm_base.specs.declared.fault.NumberKind.TheVariants.{VarU32}
 use Rattle.wasm_grammar.specs.declared.encoding.Encoding.{Encoding}
 use Rattle.wasm_grammar.specs.Content.{Kind, code, kind_of, Ending, fault, ended, whole}
-use Rattle.wasm_grammar.specs.Grammar.{Verdict, tile, final, after, after_number, SectionContext, Grammar, accept, reject, check, u32_field}
+use Rattle.wasm_grammar.specs.Grammar.{Verdict, tile, final, after, after_number, SectionContext, Grammar, check, u32_field}
 use Rattle.wasm_grammar.specs.Grammar.{bytes, section_start, verdict, header_of, header_grammar, end_at_section, section_grammar}
 use Rattle.wasm_grammar.specs.Grammar.{body_grammar, content_grammar, after_id}
 

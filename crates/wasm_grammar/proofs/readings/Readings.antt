@@ -5,7 +5,7 @@ use Rattle.std.proofs.lemmas.List.{append_cancel_left}
 use Rattle.wasm_grammar.specs.Content.{Ending, ended}
 use Rattle.wasm_grammar.specs.Grammar.{Tile, Verdict, tile, final, verdict}
 use Rattle.wasm_grammar.specs.Tiling.{bytes_of, grammar, Faultless}
-use Rattle.wasm_grammar.specs.Reading.{Reads, Reading, Event, events_of, last_event}
+use Rattle.wasm_grammar.specs.Reading.{Reads, Reading, Event}
 use Rattle.wasm_grammar.proofs.parts.Verdicts.{Cut, verdict-more, verdict-cut}
 use Rattle.wasm_grammar.proofs.parts.Guarded.{Guarded-grammar, tile_least}
 
@@ -23,13 +23,7 @@ pub grows : (start : ℕ) (ts : List Tile) (d : List ℕ) (t : Tile) → Faultle
     → Grown start ts d t
 grows start ts d t f e =
     let c : Cut (grammar start ts) d t = verdict-cut (grammar start ts) (Guarded-grammar start ts) d t e in
-    record {
-      faultless = (f, c.alone);
-      rest = c.rest;
-      split = c.split;
-      some = tile_least start ts d t e;
-      stays = λ more. verdict-more (grammar start ts) t.bytes more c.waits ∙ c.alone;
-    }
+    search (tile_least, verdict-more)
 
 -- the tiles from one place on, in the order of the stream, and the ending
 abbrev pub Runs : (start : ℕ) → List Tile → List ℕ → List Tile → Ending → Type 0
@@ -90,12 +84,7 @@ pub reading_same : (stream : List ℕ) (start features : ℕ) (xs ys : List Even
     → Reading stream start features ys → xs ≡ ys
 reading_same stream start features xs ys p q =
     let (s, k) = reads_same stream start p.tiles q.tiles p.end q.end p.reads q.reads in
-    p.listed ∙ (ap₂' p.tiles q.tiles p.end q.end s k ∙ sym q.listed)
-  where
-    ap₂' : (ts us : List Tile) (e f : Ending) → ts ≡ us → e ≡ f → events_of start features ts ++ last_event e ∷ []
-        ≡ events_of start features us ++ last_event f ∷ []
-    ap₂' ts us e f s k = subst₂ (λ (x : List Tile) (y : Ending). events_of start features ts ++ last_event e ∷ []
-        ≡ events_of start features x ++ last_event y ∷ []) s k refl
+    cc
 
 -- a reading whose tiles begin with these
 pub record Onward (stream : List ℕ) (start : ℕ) (first : List Tile) : Type 0 where

@@ -2,7 +2,6 @@
 use Rattle.std.proofs.Common.{◌≡◌, ℕ, zero, suc, ◌+◌, ◌-◌, ◌^◌, Bool, true, false, cond, ◌&&◌, not, List, [], ◌∷◌, ◌++◌, length, take, drop}
 use Rattle.std.proofs.Common.{Option, Some, None, option_map, nat_lt, nat_le, nat_eq, ◌⊎◌, inl, inr, refl, sym, ap, subst, subst₂, ◌∙◌}
 use Rattle.std.proofs.Common.{arith, length-append, ltb-true, ltb-false}
-use Rattle.std.specs.List.{list_all, list_any}
 use Rattle.std.proofs.lemmas.List.{map-append}
 use Rattle.std.proofs.lemmas.Option.{same_Some}
 use Rattle.wasm_base.specs.FaultAt.{FaultAt, at_offset}
@@ -11,8 +10,7 @@ use Rattle.wasm_base.specs.Name.{Name, named, refused, name_limit, name, of_four
 use Rattle.wasm_base.specs.Number.{Number, read, bad, short, number}
 use Rattle.wasm_base.specs.declared.fault.Fault.{Fault}
 use Rattle.wasm_base.specs.declared.fault.Fault.TheVariants.{UnexpectedEof, MagicAtSection, SectionTooLarge, StartContent, DataCountContent}
-use Rattle.wasm_base.specs.declared.fault.Fault.TheVariants.{UnknownVersion, OutOfOrder, MalformedSectionId, BadMagic, FunctionCodeDiffer}
-use Rattle.wasm_base.specs.declared.fault.Fault.TheVariants.{CodeWithoutFunction, FunctionWithoutCode, DataCountWithoutData}
+use Rattle.wasm_base.specs.declared.fault.Fault.TheVariants.{UnknownVersion, OutOfOrder, MalformedSectionId, BadMagic}
 use Rattle.wasm_base.specs.declared.fault.Fault.TheVariants.{DataCountDiffer}
 use Rattle.wasm_base.specs.declared.fault.NumberKind.TheVariants.{VarU32}
 use Rattle.wasm_base.specs.Window.{window_over}
@@ -25,7 +23,7 @@ use Rattle.wasm_grammar.specs.Grammar.{end_at_section, wrong_count, code_grammar
 use Rattle.wasm_grammar.specs.Grammar.{after_id, section_grammar, body_of, body_grammar}
 use Rattle.wasm_grammar.specs.Laws.{StartOnlyMoves}
 use Rattle.wasm_grammar.specs.Shifted.{shifted_fault, shifted_ending, shifted_report, shifted_event, shifted_events, PassesTheTop}
-use Rattle.wasm_grammar.specs.Reading.{code_start, code_entry, custom_section, custom_report, section_report, tile_report, event_of}
+use Rattle.wasm_grammar.specs.Reading.{code_entry, custom_report, section_report, tile_report, event_of}
 use Rattle.wasm_grammar.specs.Reading.{last_event, events_of, Reads}
 use Rattle.wasm_grammar.specs.Tiling.{inside, context_of, grammar, bodies_to_come, bytes_to_come, bytes_of, Faultless}
 use Rattle.wasm_grammar.specs.declared.encoding.Encoding.{Encoding}
@@ -93,8 +91,7 @@ number_moves : (by o : ℕ) (next then : ℕ → ℕ → Grammar) (xs : List ℕ
     → ((v k : ℕ) (zs : List ℕ) → Moves by (verdict (next v k) zs) (verdict (then v k) zs))
     → (n : Number) → Moves by (after_number o xs n (λ v k. verdict (next v k) (drop k xs)))
     (after_number (o + by) xs n (λ v k. verdict (then v k) (drop k xs)))
-number_moves by o next then xs ih (read v k) = after_moves (take k xs) by
-    (verdict (next v k) (drop k xs)) (verdict (then v k) (drop k xs)) (ih v k (drop k xs))
+number_moves by o next then xs ih (read v k) = search after_moves
 number_moves by o next then xs ih (bad kind p) = inl (ap (λ (x : FaultAt). final (fault x)) (moved_same kind o p by))
 number_moves by o next then xs ih short = inl (ap (λ (x : FaultAt). final (fault x)) (moved_same UnexpectedEof o (length xs) by))
 
@@ -122,8 +119,7 @@ verdict_moves by (bytes count o next) h xs (then, z, l) =
     subst (λ (x : Grammar). Moves by (verdict (bytes count o next) xs) (verdict x xs)) (sym z)
     (bytes_move by o (take count xs) (verdict (next (take count xs)) (drop count xs)) (verdict (then (take count xs)) (drop count xs))
     (verdict_moves by (next (take count xs)) (then (take count xs)) (drop count xs) (l (take count xs))) (nat_le count (length xs)))
-verdict_moves by (section_start o e next) h [] (then, z, l) =
-    subst (λ (x : Grammar). Moves by (verdict (section_start o e next) []) (verdict x [])) (sym z) (inl refl)
+verdict_moves by (section_start o e next) h [] (then, z, l) = grind arith
 verdict_moves by (section_start o e next) h (id ∷ xs) (then, z, l) =
     subst (λ (x : Grammar). Moves by (verdict (section_start o e next) (id ∷ xs)) (verdict x (id ∷ xs))) (sym z)
     (start_moves by o id (verdict (next id) xs) (verdict (then id) xs) (verdict_moves by (next id) (then id) xs (l id))
@@ -168,15 +164,8 @@ data_wrong : (by : ℕ) (p : SectionContext) (kind : Form) (id o n : ℕ) (conte
 data_wrong by p items id o n content = when_moves by _ _ _ (moved_same DataCountDiffer o n by)
 data_wrong by p _ id o n content = inl refl
 
-count_wrong_at : (by : ℕ) (a b : Bool) (e f : FaultAt) → MovesFault by
-    (cond a (Some e) (when b f)) (cond a (Some (shifted_fault by e)) (when b (shifted_fault by f)))
-count_wrong_at by true b e f = inl refl
-count_wrong_at by false true e f = inl refl
-count_wrong_at by false false e f = inl refl
-
 count_wrong : (by : ℕ) (p : SectionContext) (o count : ℕ) → MovesFault by (wrong_count p o count) (wrong_count p (o + by) count)
-count_wrong by p o count = count_wrong_at by (not (list_all (nat_eq count) p.functions)) (nat_lt 0 count && nat_eq (length p.functions) 0)
-    (at_offset FunctionCodeDiffer o) (at_offset CodeWithoutFunction o)
+count_wrong by p o count = grind arith
 
 Like-whole : (by : ℕ) (p : SectionContext) (kind : Form) (id o n : ℕ)
     → Like by (whole_grammar p kind id o n) (whole_grammar p kind id (o + by) n)
@@ -251,17 +240,8 @@ Like-framed by p o id = (
   ),
 )
 
-end_moves_at : (by : ℕ) (a b : Bool) (o : ℕ) (e f : FaultAt) → cond a (fault (shifted_fault by e))
-    (cond b (fault (shifted_fault by f)) (ended (o + by))) ≡ shifted_ending by (cond a (fault e) (cond b (fault f) (ended o)))
-end_moves_at by true b o e f = refl
-end_moves_at by false true o e f = refl
-end_moves_at by false false o e f = refl
-
 end_moves : (by : ℕ) (p : SectionContext) (o : ℕ) → end_at_section p (o + by) ≡ shifted_ending by (end_at_section p o)
-end_moves by p o =
-    end_moves_at by (list_any (nat_lt 0) p.functions && nat_eq (length p.codes) 0)
-    (list_any (nat_lt 0) p.data_counts && nat_eq (length p.datas) 0) o (at_offset FunctionWithoutCode o)
-    (at_offset DataCountWithoutData o)
+end_moves by p o = grind arith
 
 Like-section : (by : ℕ) (p : SectionContext) (o : ℕ) → Like by (section_grammar p o) (section_grammar p (o + by))
 unfolding section_grammar
@@ -354,8 +334,7 @@ faultless_back by start (t ∷ ts) f = (
 
 custom_moves : (by features from to : ℕ) (content : List ℕ) (n : Name) → custom_report features (from + by) (to + by) content n
     ≡ shifted_report by (custom_report features from to content n)
-custom_moves by features from to content (named text used) = ap
-    (λ (x : ℕ). custom_section text x (window_over features (from + by) content)) (omega arith)
+custom_moves by features from to content (named text used) = grind arith
 custom_moves by features from to content (refused f p) = refl
 
 pub section_moves : (by features from to : ℕ) (kind : Form) (id : ℕ) (content : List ℕ)
@@ -375,10 +354,7 @@ report_moves by features low high (Grammar.version num encoding) passed h c = re
 report_moves by features low high (section kind id content) passed h (before, c) =
     ap (λ (x : ℕ). section_report features x (high + by) kind id content) (content_place by low high passed before content h c)
     ∙ section_moves by features (high - length content) high kind id content
-report_moves by features low high (Grammar.code_start count width size) passed h c =
-    let a : high + by - width ≡ (high - width) + by = omega arith in
-    let b : high + by + size ≡ high + size + by = omega arith in
-    (λ i. code_start count (a i) (b i) size)
+report_moves by features low high (Grammar.code_start count width size) passed h c = grind arith
 report_moves by features low high (Grammar.code_entry content) passed h (before, c) =
     ap (λ (x : ℕ). code_entry (window_over features x content)) (content_place by low high passed before content h c)
 
