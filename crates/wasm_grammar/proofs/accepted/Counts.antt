@@ -112,8 +112,7 @@ passes_to false t h = refl
 
 -- what such a test says where it is asked for
 passes_of : (b t : Bool) → (not b || t) ≡ true → b ≡ true → t ≡ true
-passes_of true t e f = e
-passes_of false t e f = cc
+passes_of b t e f = cc
 
 -- each section with this id has this count
 abbrev pub HasCount : Encoding → ℕ → ℕ → List SectionFrame → Type 0

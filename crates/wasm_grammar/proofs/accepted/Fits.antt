@@ -1,5 +1,5 @@
 -- A section may follow other tiles exactly if it fits after their frames.
-use Rattle.std.proofs.Common.{◌≡◌, ℕ, zero, suc, ◌<◌, ◌⊎◌, ◌==◌, Bool, true, false, not, ◌&&◌, List, length, refl, sym, ap}
+use Rattle.std.proofs.Common.{◌≡◌, ℕ, ◌<◌, ◌⊎◌, ◌==◌, Bool, true, false, not, ◌&&◌, List, length, refl, sym, ap}
 use Rattle.std.proofs.Common.{subst, ◌∙◌, arith, None, nat_lt, nat_eq, eqb-true, eq-eqb, ltb-true, lt-ltb}
 use Rattle.std.proofs.lemmas.Bool.{not-false}
 use Rattle.std.specs.List.{All, Any, list_all, list_any}
@@ -7,7 +7,7 @@ use Rattle.wasm_base.specs.FaultAt.{FaultAt, at_offset}
 use Rattle.wasm_base.specs.declared.fault.Fault.TheVariants.{DataCountDiffer}
 use Rattle.wasm_grammar.proofs.accepted.Tiles.{IsWhole, same_form}
 use Rattle.wasm_grammar.specs.declared.encoding.Encoding.{Encoding}
-use Rattle.wasm_grammar.specs.declared.encoding.Encoding.TheVariants.{Module, Component}
+use Rattle.wasm_grammar.specs.declared.encoding.Encoding.TheVariants.{Module}
 use Rattle.wasm_grammar.specs.Content.{items, kind_of, when, Form, whole}
 use Rattle.wasm_grammar.specs.Grammar.{SectionContext, wrong_count, wrong_data}
 use Rattle.wasm_grammar.specs.Accepted.{SectionFrame, frame_count, frame_rank, IsSection}
@@ -19,8 +19,7 @@ use Rattle.wasm_grammar.specs.Ids.{data_count_id, data_id, function_id}
 
 -- a rank that is asked for only above 0
 follows_to : (r : ℕ) (b : Bool) → (0 < r → b ≡ true) → (nat_lt 0 r && not b) ≡ false
-follows_to zero b h = refl
-follows_to (suc r) b h = let e : b ≡ true = h (omega arith) in rw (e, lt-ltb 0 (suc r) (omega arith))
+follows_to r b h = grind arith
 
 -- a section that ranks above the frames may follow
 pub rank_to : (encoding : Encoding) (fs : List SectionFrame) (p : SectionContext) → Knows encoding fs p → (r : ℕ)
@@ -67,23 +66,15 @@ code_from encoding fs p k o c h = grind (arith, same_of, some_from)
 
 -- nothing is wrong with a count that isn't asked for, or agrees
 data_right : (b all : Bool) (e : FaultAt) → (b ≡ true → all ≡ true) → when (b && not all) e ≡ None
-data_right true all e h = rw (h refl) refl
-data_right false all e h = refl
+data_right b all e h = grind arith
 
 -- a count with which nothing is wrong agrees where it is asked for
 right_data : (b all : Bool) (e : FaultAt) → when (b && not all) e ≡ None → b ≡ true → all ≡ true
-right_data true true e h z = refl
-right_data _ _ e h z = cc
-
--- a component has no section of items
-pub no_items : (id : ℕ) → kind_of Component id ≡ whole items → ⊥
-no_items zero e = cc
-no_items (suc id) e = cc
+right_data b all e h z = grind arith
 
 -- sections of items are a module's
 items_in : (encoding : Encoding) (id : ℕ) → kind_of encoding id ≡ whole items → encoding ≡ Module
-items_in Module id e = refl
-items_in Component id e = absurd (no_items id e)
+items_in encoding id e = grind arith
 
 -- a section that fits has the right count of segments
 pub data_to : (encoding : Encoding) (fs : List SectionFrame) (p : SectionContext) → Knows encoding fs p → (f : SectionFrame) (o : ℕ)

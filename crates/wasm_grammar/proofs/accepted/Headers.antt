@@ -1,6 +1,6 @@
 -- The header's tile has the header's bytes.
 use Rattle.std.proofs.Common.{◌≡◌, ℕ, ◌+◌, ◌/◌, ◌%◌, ◌<◌, true, not, List, [], ◌∷◌, ◌++◌}
-use Rattle.std.proofs.Common.{length, Option, Some, None, nat_eq, refl, ap, subst, ◌∙◌, arith, eqb-true}
+use Rattle.std.proofs.Common.{length, Option, None, nat_eq, refl, ap, subst, ◌∙◌, arith, eqb-true}
 use Rattle.std.specs.List.{All}
 use Rattle.std.proofs.lemmas.Bool.{and_parts, not-false}
 use Rattle.wasm_base.specs.FaultAt.{at_offset}
@@ -31,8 +31,7 @@ of_header : (o bits : ℕ) (e : Option Encoding) (xs : List ℕ) (t : Tile) → 
     → verdict (header_of o bits e) xs ≡ tile t
     → (encoding : Encoding) × (bits ≡ header_bits encoding) × (t ≡ made (version (header_version encoding) encoding) [])
 unfolding verdict
-of_header o bits (Some encoding) xs t e h = grind arith
-of_header o bits None xs t e h = cc
+of_header o bits e xs t m h = grind arith
 
 -- lists of one length that agree are one
 agree_whole : (xs ys : List ℕ) → length xs ≡ length ys → agree xs ys ≡ true → xs ≡ ys
@@ -56,8 +55,7 @@ four_bytes encoding four l each e = grind (arith, four_parts)
 
 -- the magic and the last four bytes are the header
 header_whole : (encoding : Encoding) → magic ++ last_four encoding ≡ header_bytes encoding
-header_whole Module = refl
-header_whole Component = refl
+header_whole encoding = grind arith
 
 -- what a header's tile is
 pub record HeaderParts (t : Tile) : Type 0 where

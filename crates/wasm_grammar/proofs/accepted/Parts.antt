@@ -1,6 +1,6 @@
 -- Tiles are bytes in the textbook form.
-use Rattle.std.proofs.Common.{◌≡◌, ℕ, zero, suc, ◌+◌, ◌-◌, ◌<◌, ◌≤◌, Bool, true, false, cond, not, ◌&&◌, List, [], ◌∷◌, ◌++◌, length, take}
-use Rattle.std.proofs.Common.{drop, Option, Some, None, nat_lt, nat_le, refl, sym, ap, subst, ◌∙◌, arith, append-nil, leb-false}
+use Rattle.std.proofs.Common.{◌≡◌, ℕ, zero, suc, ◌+◌, ◌-◌, ◌<◌, ◌≤◌, Bool, cond, not, ◌&&◌, List, [], ◌∷◌, ◌++◌, length, take}
+use Rattle.std.proofs.Common.{drop, Option, None, nat_lt, nat_le, refl, sym, ap, subst, ◌∙◌, arith, append-nil, leb-false}
 use Rattle.std.proofs.Common.{ltb-false}
 use Rattle.std.proofs.lemmas.List.{length-take-le}
 use Rattle.wasm_base.specs.FaultAt.{FaultAt, at_offset}
@@ -22,8 +22,7 @@ use Rattle.wasm_grammar.proofs.accepted.Tiles.{made, IsWhole}
 pub refuse_parts : (e : Option FaultAt) (next : Grammar) (xs : List ℕ) (t : Tile) → verdict (check e next) xs ≡ tile t → (e ≡ None)
     × (verdict next xs ≡ tile t)
 unfolding verdict
-refuse_parts (Some e) next xs t h = cc
-refuse_parts None next xs t h = (refl, h)
+refuse_parts e next xs t h = grind arith
 
 -- a tile that begins with a number
 record NumberParts (next : ℕ → ℕ → Grammar) (t : Tile) : Type 0 where
@@ -63,8 +62,7 @@ pub record BytesParts (n : ℕ) (next : List ℕ → Grammar) (t : Tile) : Type 
 -- what a tile after so many bytes consists of, if they are there
 bytes_at : (b : Bool) (n : ℕ) (next : List ℕ → Grammar) (xs : List ℕ) (e : Ending) (t : Tile) → nat_le n (length xs) ≡ b
     → cond b (after (take n xs) (verdict (next (take n xs)) (drop n xs))) (final e) ≡ tile t → BytesParts n next t
-bytes_at true n next xs e t l h = grind (arith, length-take-le)
-bytes_at false n next xs e t l h = cc
+bytes_at b n next xs e t l h = grind (arith, length-take-le)
 
 -- what a tile after so many bytes consists of
 pub bytes_parts : (n o : ℕ) (next : List ℕ → Grammar) (xs : List ℕ) (t : Tile) → verdict (bytes n o next) xs ≡ tile t → BytesParts n next t
@@ -121,8 +119,7 @@ framed_parts p o id xs s t h e =
 -- what a section's tile consists of, if it begins no header
 start_at : (b : Bool) (p : SectionContext) (o id : ℕ) (xs : List ℕ) (x : FaultAt) (t : Tile)
     → cond b (final (fault x)) (after (id ∷ []) (verdict (after_id p o id) xs)) ≡ tile t → SectionParts p o t
-start_at true p o id xs x t h = cc
-start_at false p o id xs x t h = grind (arith, framed_parts)
+start_at b p o id xs x t h = grind (arith, framed_parts)
 
 -- what a section's tile consists of
 pub section_parts : (p : SectionContext) (o : ℕ) (xs : List ℕ) (t : Tile) → verdict (section_grammar p o) xs ≡ tile t → SectionParts p o t

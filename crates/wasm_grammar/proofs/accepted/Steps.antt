@@ -6,7 +6,7 @@ use Rattle.std.proofs.lemmas.Bool.{ne_eqb}
 use Rattle.std.proofs.lemmas.List.Elements.{All-head, All-tail}
 use Rattle.wasm_base.specs.Name.{named, name_limit, name}
 use Rattle.wasm_grammar.specs.declared.encoding.Encoding.{Encoding}
-use Rattle.wasm_grammar.specs.declared.encoding.Encoding.TheVariants.{Module, Component}
+use Rattle.wasm_grammar.specs.declared.encoding.Encoding.TheVariants.{Module}
 use Rattle.wasm_grammar.specs.Content.{kind_of, rank_of, value_of, count_of, Kind}
 use Rattle.wasm_grammar.specs.FrameEvents.{body_events}
 use Rattle.wasm_grammar.specs.Grammar.{section, code_start, code_entry, Tile, tile, SectionContext, Grammar, verdict, section_grammar}
@@ -38,8 +38,7 @@ head_of_frame p fs o f k i a r = record {
 -- a good section with the id 0 has a name
 named_zero : (encoding : Encoding) (id : ℕ) (content : List ℕ) → IsGood (kind_of encoding id) content → id ≡ custom_id → (text : List ℕ)
     × (used : ℕ) × (name (Some name_limit) content ≡ named text used)
-named_zero Module id content g z = subst (λ (x : ℕ). IsGood (kind_of Module x) content) z g
-named_zero Component id content g z = subst (λ (x : ℕ). IsGood (kind_of Component x) content) z g
+named_zero encoding id content g z = grind arith
 
 -- a good section that fits after tiles of its own encoding is a tile
 section_at : (p : SectionContext) (fs : List SectionFrame) (o : ℕ) (f : SectionFrame) → o + length (frame_bytes f) < 2 ^ 64

@@ -51,8 +51,7 @@ bytes_tile n o next prefix rest s b len h =
 refuse_tile : (e : Option FaultAt) (next : Grammar) (xs : List ℕ) (t : Tile) → e ≡ None → verdict next xs ≡ tile t
     → verdict (check e next) xs ≡ tile t
 unfolding verdict
-refuse_tile (Some e) next xs t z h = cc
-refuse_tile None next xs t z h = h
+refuse_tile e next xs t z h = cc
 
 -- a test that fails, and then a tile
 when_tile : (b : Bool) (e : FaultAt) (next : Grammar) (xs : List ℕ) (t : Tile) → b ≡ false → verdict next xs ≡ tile t
@@ -205,5 +204,4 @@ header_version Component = 13
 pub header_tile : (o : ℕ) (encoding : Encoding) → verdict (header_grammar o) (header_bytes encoding)
     ≡ tile (made (version (header_version encoding) encoding) (header_bytes encoding))
 unfolding verdict header_grammar
-header_tile o Module = refl
-header_tile o Component = refl
+header_tile o encoding = grind arith

@@ -6,7 +6,7 @@ use Rattle.std.proofs.lemmas.List.{flat_map_more}
 use Rattle.std.proofs.lemmas.Grind.{flat_map-append}
 use Rattle.std.proofs.lemmas.List.Elements.{All-head, All-tail}
 use Rattle.wasm_grammar.specs.declared.encoding.Encoding.{Encoding}
-use Rattle.wasm_grammar.specs.declared.encoding.Encoding.TheVariants.{Module, Component}
+use Rattle.wasm_grammar.specs.declared.encoding.Encoding.TheVariants.{Module}
 use Rattle.wasm_grammar.specs.Content.{Kind, code, kind_of, ended}
 use Rattle.wasm_grammar.specs.FrameEvents.{header_event, section_event, code_events, KindEvents, FrameEvents, FramesEvents, body_events}
 use Rattle.wasm_grammar.specs.Grammar.{version, section, code_start, Tile, tile, final, SectionContext, Grammar, verdict, end_at_section}
@@ -159,8 +159,7 @@ module_step start fs f z d q r i a =
 code_frame : (start : ℕ) (encoding : Encoding) (fs : List SectionFrame) (f : SectionFrame) → encoding ≡ Module → Reached start encoding fs
     → start + length (stream_of encoding (fs ++ f ∷ [])) < 2 ^ 64 → IsFrame encoding f → FitsAfter encoding fs f
     → kind_of encoding f.id ≡ code → Reached start encoding (fs ++ f ∷ [])
-code_frame start Module fs f e q r i a k = grind (arith, module_step)
-code_frame start Component fs f e q r i a k = cc
+code_frame start encoding fs f e q r i a k = grind (arith, module_step)
 
 -- one more frame that fits
 frame_step : (start : ℕ) (encoding : Encoding) (fs : List SectionFrame) (f : SectionFrame) → Reached start encoding fs

@@ -1,6 +1,6 @@
 -- Where bytes don't suffice, something else is there after their ending than where the stream ends.
-use Rattle.std.proofs.Common.{◌≡◌, ◌≢◌, ℕ, zero, suc, ◌+◌, ◌-◌, ◌<◌, ◌≤◌, Bool, true, false, cond, ◌&&◌, List, [], ◌∷◌, ◌++◌}
-use Rattle.std.proofs.Common.{length, take, drop, replicate, Option, Some, None, nat_lt, nat_le, nat_eq, refl, sym, ap, subst, ◌∙◌, arith}
+use Rattle.std.proofs.Common.{◌≡◌, ◌≢◌, ℕ, ◌+◌, ◌-◌, ◌<◌, ◌≤◌, Bool, true, false, cond, ◌&&◌, List, [], ◌∷◌, ◌++◌}
+use Rattle.std.proofs.Common.{length, take, drop, replicate, Option, Some, None, nat_lt, nat_le, nat_eq, refl, sym, subst, ◌∙◌, arith}
 use Rattle.std.proofs.Common.{length-append, leb-true, le-leb}
 use Rattle.std.specs.List.{list_any}
 use Rattle.std.proofs.lemmas.Bool.{leb-false, eqb-true, and_parts, lt-leb}
@@ -12,13 +12,13 @@ use Rattle.wasm_base.specs.Name.{name_limit, name, after_size}
 use Rattle.wasm_base.specs.Number.{Number, read, bad, short, number}
 use Rattle.wasm_base.specs.declared.fault.Fault.{Fault}
 use Rattle.wasm_base.specs.declared.fault.Fault.TheVariants.{UnexpectedEof, BadMagic, MagicAtSection, MalformedSectionId}
-use Rattle.wasm_base.specs.declared.fault.Fault.TheVariants.{StartContent, DataCountContent, FunctionWithoutCode}
+use Rattle.wasm_base.specs.declared.fault.Fault.TheVariants.{FunctionWithoutCode}
 use Rattle.wasm_base.specs.declared.fault.Fault.TheVariants.{DataCountWithoutData}
 use Rattle.wasm_base.specs.declared.fault.NumberKind.TheVariants.{VarU32}
 use Rattle.wasm_base.proofs.NumberLaws.{number-used, number-more, number-long}
-use Rattle.wasm_grammar.specs.Content.{Form, custom, items, index, data_count, unknown, Kind, code, kind_of, Ending, fault, ended, when}
+use Rattle.wasm_grammar.specs.Content.{Form, Kind, code, kind_of, Ending, fault, ended, when}
 use Rattle.wasm_grammar.specs.Content.{whole, wrong_number, wrong_single, wrong_name, wrong_content}
-use Rattle.wasm_grammar.specs.Grammar.{Shape, code_entry, Tile, Verdict, tile, final, after, after_number, SectionContext, Grammar}
+use Rattle.wasm_grammar.specs.Grammar.{Shape, code_entry, Tile, Verdict, final, after, after_number, SectionContext, Grammar}
 use Rattle.wasm_grammar.specs.Grammar.{accept, check, u32_field, bytes, section_start, verdict, header_of}
 use Rattle.wasm_grammar.specs.Grammar.{header_grammar, end_at_section, wrong_data, content_grammar, after_id, section_grammar}
 use Rattle.wasm_grammar.specs.Grammar.{body_grammar}
@@ -34,16 +34,9 @@ use Rattle.wasm_grammar.proofs.endings.Waiting.{later-wants}
 
 -- ---- every grammar
 
--- a stream that ends at another fault ends differently
-apart : (f g : FaultAt) → f.fault ≢ g.fault → (let v : Verdict = final (fault f) in v) ≢ final (fault g)
-apart f g h z = h (ap (λ (x : FaultAt). x.fault) (final_same f g z))
-
 -- what is there after the same bytes tells what is there
 after_same : (f : List ℕ) (a b : Verdict) → after f a ≡ after f b → a ≡ b
-after_same f (tile s) (tile t) e = grind (arith, append_cancel_left)
-after_same f (tile s) (final e) h = cc
-after_same f (final e) (tile s) h = cc
-after_same f (final e) (final x) h = cc
+after_same f a b h = grind (arith, append_cancel_left)
 
 -- Bytes that are missing and then come lead to something else, and so do the bytes that come where a section may start.
 abbrev pub Differs : Grammar → Type 0
@@ -141,36 +134,17 @@ abbrev NotMissing : (offset : ℕ) → Option FaultAt → Type 0
 NotMissing o None = Unit {0}
 NotMissing o (Some f) = f ≢ at_offset UnexpectedEof o
 
-elsewhere : (f : Fault) (p o : ℕ) → o < p → at_offset f p ≢ at_offset UnexpectedEof o
-elsewhere f p o l e = let z : p ≡ o = ap (λ (x : FaultAt). x.offset) e in omega arith
-
-not_missing : (f : FaultAt) (o : ℕ) → hint_at 1 f.fault ≡ None → f ≢ at_offset UnexpectedEof o
-not_missing f o h e = cc
-
-other_fault : (f : Fault) (p o : ℕ) → hint_at 1 f ≡ None → at_offset f p ≢ at_offset UnexpectedEof o
-other_fault f p o h e = not_missing (at_offset f p) o h e
-
-when_other : (b : Bool) (f : FaultAt) (o : ℕ) → f ≢ at_offset UnexpectedEof o → NotMissing o (when b f)
-when_other true f o h = h
-when_other false f o h = tt
-
 -- content of some bytes misses none at its start
 number_other : (o : ℕ) (c : List ℕ) → 0 < length c → (n : Number) → number VarU32 c ≡ n → NotMissing o (wrong_number o c n)
-number_other o c l (read v k) e = tt
-number_other o c l (bad f p) e = other_fault f (o + p) o (bad_hint c f p e)
-number_other o c l short e = elsewhere UnexpectedEof (o + length c) o (omega arith)
+number_other o c l n e = grind (arith, bad_hint)
 
 single_other : (f : Fault) (o : ℕ) (c : List ℕ) → hint_at 1 f ≡ None → 0 < length c → (n : Number) → number VarU32 c ≡ n
     → NotMissing o (wrong_single f o c n)
-single_other f o c h l (read v k) e = when_other (nat_lt k (length c)) (at_offset f (o + k)) o (other_fault f (o + k) o h)
-single_other f o c h l (bad g p) e = other_fault g (o + p) o (bad_hint c g p e)
-single_other f o c h l short e = elsewhere UnexpectedEof (o + length c) o (omega arith)
+single_other f o c h l n e = grind (arith, bad_hint)
 
 name_other_at : (o : ℕ) (c : List ℕ) → 0 < length c → (n : Number) → number VarU32 c ≡ n
     → NotMissing o (wrong_name o (after_size (Some name_limit) c n))
-name_other_at o c l (bad f p) e = other_fault f (o + p) o (bad_hint c f p e)
-name_other_at o c l short e = elsewhere UnexpectedEof (o + length c) o (omega arith)
-name_other_at o c l (read size used) e = grind (arith, number-used)
+name_other_at o c l n e = grind (arith, bad_hint, number-used)
 
 name_other : (o : ℕ) (c : List ℕ) → 0 < length c → NotMissing o (wrong_name o (name (Some name_limit) c))
 unfolding name
@@ -178,15 +152,10 @@ name_other o c l = name_other_at o c l (number VarU32 c) refl
 
 content_other : (form : Form) (o : ℕ) (c : List ℕ) → 0 < length c → NotMissing o (wrong_content form o c)
 unfolding wrong_content
-content_other custom o c l = name_other o c l
-content_other items o c l = number_other o c l (number VarU32 c) refl
-content_other index o c l = single_other StartContent o c refl l (number VarU32 c) refl
-content_other data_count o c l = single_other DataCountContent o c refl l (number VarU32 c) refl
-content_other unknown o c l = tt
+content_other form o c l = grind (arith, name_other, number_other, single_other)
 
 data_other : (p : SectionContext) (form : Form) (id o q : ℕ) (c : List ℕ) → NotMissing q (wrong_data p form id o c)
-data_other p items id o q c = search (when_other, other_fault)
-data_other p _ id o q c = tt
+data_other p form id o q c = grind arith
 
 checked_twice : (a b : Option FaultAt) (s : Shape) (o : ℕ) → NotMissing o a → NotMissing o b
     → verdict (check a (check b (accept s))) [] ≢ final (fault (at_offset UnexpectedEof o))
@@ -205,23 +174,21 @@ body_there c o z = cc
 
 Differs-body : (m l o : ℕ) → Differs (body_grammar m l o)
 unfolding body_grammar
-Differs-body zero l o = tt
-Differs-body (suc m) l o = λ v k h. (λ c g. body_there c (o + k), λ b. tt)
+Differs-body m l o = grind (arith, body_there)
 
 Differs-header_of : (o bits : ℕ) (e : Option Encoding) → Differs (header_of o bits e)
-Differs-header_of o bits (Some e) = tt
-Differs-header_of o bits None = tt
+Differs-header_of o bits e = grind arith
 
 version_other : (o p bits : ℕ) (e : Option Encoding) → verdict (header_of o bits e) [] ≢ final (fault (at_offset UnexpectedEof p))
 unfolding verdict
 version_other o p bits (Some e) z = cc
-version_other o p bits None z = search (not_missing, final_same)
+version_other o p bits None z = grind arith
 
 magic_other : (b : Bool) (o : ℕ) (next : List ℕ → Grammar) → verdict (check (when b (at_offset BadMagic o)) (bytes 4 (o + 4) next)) [] ≢
     final (fault (at_offset UnexpectedEof o))
 unfolding verdict
-magic_other true o next z = other_fault BadMagic o o refl (final_same _ _ z)
-magic_other false o next z = elsewhere UnexpectedEof (o + 4) o (omega arith) (final_same _ _ z)
+magic_other true o next z = grind arith
+magic_other false o next z = grind arith
 
 Differs-header : (o : ℕ) → Differs (header_grammar o)
 unfolding header_grammar
@@ -229,8 +196,8 @@ Differs-header o = search (magic_other, version_other, Differs-header_of)
 
 end_other : (a b : Bool) (o : ℕ) → cond a (fault (at_offset FunctionWithoutCode o))
     (cond b (fault (at_offset DataCountWithoutData o)) (ended o)) ≢ fault (at_offset MalformedSectionId o)
-end_other true b o z = apart (at_offset FunctionWithoutCode o) (at_offset MalformedSectionId o) (λ y. (cc)) (ap final z)
-end_other false true o z = apart (at_offset DataCountWithoutData o) (at_offset MalformedSectionId o) (λ y. (cc)) (ap final z)
+end_other true b o z = grind arith
+end_other false true o z = grind arith
 end_other false false o z = cc
 
 final_is : (e f : Ending) → final e ≡ final f → e ≡ f
@@ -242,9 +209,9 @@ final_is e f z = cc
 begun_magic : (p : SectionContext) (o : ℕ) (xs : List ℕ) → agree xs (0x61 ∷ 0x73 ∷ 0x6d ∷ []) ≡ true → length xs < 3
     → verdict (after_id p o 0) xs ≢ final (fault (at_offset MagicAtSection o))
 unfolding verdict number
-begun_magic p o [] a l z = apart (at_offset UnexpectedEof (o + 1 + 0)) (at_offset MagicAtSection o) (λ y. (cc)) z
-begun_magic p o (b ∷ []) a l z = grind (arith, after_final)
-begun_magic p o (b ∷ c ∷ []) a l z = grind (arith, after_final)
+begun_magic p o [] a l z = grind arith
+begun_magic p o (b ∷ []) a l z = grind arith
+begun_magic p o (b ∷ c ∷ []) a l z = grind arith
 begun_magic p o (b ∷ c ∷ d ∷ xs) a l z = absurd (omega arith)
 
 begun_start : (p : SectionContext) (o : ℕ) (id : ℕ) (xs : List ℕ) → agree (id ∷ xs) magic ≡ true → length (id ∷ xs) < 4
@@ -276,9 +243,7 @@ Differs-section p o = (
 )
 
 Differs-inside : (b : Bool) (p : SectionContext) (m l o : ℕ) → Differs (cond b (section_grammar p o) (body_grammar m l o))
-Differs-inside true p m l o = Differs-section p o
-Differs-inside false p m l o = Differs-body m l o
+Differs-inside b p m l o = grind (arith, Differs-section, Differs-body)
 
 pub Differs-grammar : (start : ℕ) (ts : List Tile) → Differs (grammar start ts)
-Differs-grammar start [] = Differs-header start
-Differs-grammar start (t ∷ ts) = search Differs-inside
+Differs-grammar start ts = grind (arith, Differs-header, Differs-inside)

@@ -1,5 +1,5 @@
 -- Bytes that begin as a header does.
-use Rattle.std.proofs.Common.{◌≡◌, ℕ, ◌-◌, ◌<◌, ◌≤◌, Bool, true, false, cond, ◌&&◌, List, [], ◌∷◌, length, Some, None, nat_eq, nat_lt, refl}
+use Rattle.std.proofs.Common.{◌≡◌, ℕ, ◌-◌, ◌<◌, ◌≤◌, Bool, true, false, cond, ◌&&◌, List, [], ◌∷◌, length, Some, None, nat_eq, nat_lt}
 use Rattle.std.proofs.Common.{sym, ap, ◌∙◌, arith, lt-ltb}
 use Rattle.std.specs.List.{starts_with}
 use Rattle.wasm_base.specs.Header.{magic, agree}
@@ -13,8 +13,7 @@ agrees (x ∷ whole) (b ∷ bytes) l = ap (λ t. nat_eq b x && t) (agrees whole 
 
 by_tests : (bytes : List ℕ) (a few : Bool) → false ≡ nat_eq (length bytes) 0 → agree bytes magic ≡ a → nat_lt (length bytes) 4 ≡ few
     → asked_at_section bytes ≡ cond (a && few) (Some (4 - length bytes)) None
-by_tests [] a few e f g = cc
-by_tests (b ∷ bytes) a few e f g = rw (f, g) refl
+by_tests bytes a few e f g = grind arith
 
 pub begun_asks : (bytes : List ℕ) → false ≡ nat_eq (length bytes) 0 → length bytes < 4 → true ≡ starts_with nat_eq magic bytes
     → Some (4 - length bytes) ≡ asked_at_section bytes

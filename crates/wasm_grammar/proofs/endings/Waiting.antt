@@ -16,9 +16,7 @@ wait_number : (xs ys : List ℕ) (next : ℕ → ℕ → Grammar)
     → ((v k : ℕ) (zs : List ℕ) → waiting (next v k) zs ≡ enough → waiting (next v k) (zs ++ ys) ≡ enough)
     → (n : Number) → number VarU32 xs ≡ n → later_number n (λ v k. waiting (next v k) (drop k xs)) ≡ enough
     → later_number (number VarU32 (xs ++ ys)) (λ v k. waiting (next v k) (drop k (xs ++ ys))) ≡ enough
-wait_number xs ys next ih (read v k) e w = grind (arith, number-used, number-more, drop-append-le)
-wait_number xs ys next ih (bad f p) e w = grind (arith, number-more)
-wait_number xs ys next ih short e w = cc
+wait_number xs ys next v k zs n = grind (arith, number-used, number-more, drop-append-le)
 
 wait_bytes : (count : ℕ) (xs ys : List ℕ) (next : List ℕ → Grammar)
     → ((b zs : List ℕ) → waiting (next b) zs ≡ enough → waiting (next b) (zs ++ ys) ≡ enough)
@@ -72,8 +70,7 @@ pub record Asks (xs : List ℕ) (need hint : ℕ) : Type 0 where
   pub some : 1 ≤ hint
 
 pub later-wants : (k : ℕ) (w : Waiting) (need hint : ℕ) → later k w ≡ wants need hint → (n : ℕ) × (w ≡ wants n hint) × (need ≡ k + n)
-later-wants k enough need hint e = cc
-later-wants k (wants n h) need hint e = (n, cc, cc)
+later-wants k w need hint e = grind arith
 
 ask_number : (xs : List ℕ) (next : ℕ → ℕ → Grammar) (need hint : ℕ)
     → ((v k : ℕ) (zs : List ℕ) (n : ℕ) → waiting (next v k) zs ≡ wants n hint → Asks zs n hint)
@@ -104,9 +101,7 @@ ask_start : (id : ℕ) (xs : List ℕ) (next : ℕ → Grammar) (need hint : ℕ
     → ((zs : List ℕ) (n : ℕ) → waiting (next id) zs ≡ wants n hint → Asks zs n hint)
     → (a l : Bool) → nat_le 4 (length (id ∷ xs)) ≡ l
     → cond a (cond l enough (wants 4 (4 - length (id ∷ xs)))) (later 1 (waiting (next id) xs)) ≡ wants need hint → Asks (id ∷ xs) need hint
-ask_start id xs next need hint ih true true e w = cc
-ask_start id xs next need hint ih true false e w = grind arith
-ask_start id xs next need hint ih false l e w = grind arith
+ask_start id xs next need hint zs n a l w = grind arith
 
 pub waiting-asks : (g : Grammar) (xs : List ℕ) (need hint : ℕ) → waiting g xs ≡ wants need hint → Asks xs need hint
 unfolding waiting

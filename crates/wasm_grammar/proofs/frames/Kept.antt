@@ -85,7 +85,7 @@ ranked encoding n g h (e, i) = cc
 -- one without a rank has another id
 rankless : (encoding : Encoding) (n : ℕ) (g : SectionFrame) → nat_lt 0 (rank_of (kind_of Module n) n) ≡ true → has_rank encoding g ≡ false
     → IsSection encoding n g → ⊥
-rankless encoding n g h f s = let t : has_rank encoding g ≡ true = ranked encoding n g h s in cc
+rankless encoding n g h f s = grind arith
 
 -- there is a section with this id among others that say the same
 some_same : (encoding : Encoding) (n : ℕ) (earlier others : List SectionFrame) → nat_lt 0 (rank_of (kind_of Module n) n) ≡ true

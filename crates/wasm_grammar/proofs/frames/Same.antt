@@ -1,13 +1,12 @@
 -- Bytes are sections in one way.
 use Rattle.std.proofs.Common.{◌≡◌, ℕ, List, [], ◌∷◌, ◌++◌, length, take, drop, refl, sym, ap, ◌∙◌, arith, append_assoc}
 use Rattle.std.specs.List.{All, flat_map}
-use Rattle.std.proofs.lemmas.List.{take_at, drop_at, append_cancel_left}
+use Rattle.std.proofs.lemmas.List.{take_at, drop_at}
 use Rattle.std.proofs.lemmas.List.Elements.{All-head, All-tail}
 use Rattle.wasm_base.specs.Number.{read, number}
 use Rattle.wasm_base.specs.declared.fault.NumberKind.TheVariants.{VarU32}
 use Rattle.wasm_grammar.specs.Accepted.{header_bytes, IsNumber, Sized, sized_bytes, IsSized, SectionFrame, frame_bytes}
 use Rattle.wasm_grammar.specs.declared.encoding.Encoding.{Encoding}
-use Rattle.wasm_grammar.specs.declared.encoding.Encoding.TheVariants.{Module, Component}
 use Rattle.wasm_grammar.proofs.accepted.Tiles.{number_on}
 
 -- prefixes of one length are one
@@ -56,7 +55,4 @@ frames_same _ _ a b e = cc
 
 -- a header names one encoding
 pub headers_same : (e f : Encoding) (us vs : List ℕ) → header_bytes e ++ us ≡ header_bytes f ++ vs → (e ≡ f) × (us ≡ vs)
-headers_same Module Module us vs z = (refl, append_cancel_left (header_bytes Module) us vs z)
-headers_same Component Component us vs z = (refl, append_cancel_left (header_bytes Component) us vs z)
-headers_same Module Component us vs z = let n : (let b : ℕ = 0x01 in b) ≡ 0x0d = cc in absurd (omega arith)
-headers_same Component Module us vs z = let n : (let b : ℕ = 0x0d in b) ≡ 0x01 = cc in absurd (omega arith)
+headers_same e f us vs z = grind arith

@@ -3,23 +3,21 @@ use Rattle.std.specs.declared.ops.Range.{Range}
 use Rattle.std.proofs.Common.{◌≡◌, ℕ, ◌+◌, ◌-◌, Bool, true, false, cond, List, [], ◌∷◌, ◌++◌, length, Option, Some, None, nat_eq, refl, sym}
 use Rattle.std.proofs.Common.{ap, subst, ◌∙◌, arith, length-append, inl, inr}
 use Rattle.std.specs.Prelude.{◌⊎◌}
-use Rattle.wasm_base.specs.Name.{Name, named, refused, name_limit, name}
-use Rattle.wasm_base.specs.Number.{read}
 use Rattle.wasm_base.specs.Window.{Window, window_over}
 use Rattle.wasm_grammar.specs.Accepted.{IsNumber, IsFormed}
-use Rattle.wasm_grammar.specs.Content.{Kind, custom, items, index, data_count, code, unknown, kind_of, Ending, fault, ended, value_of, Form}
+use Rattle.wasm_grammar.specs.Content.{Kind, code, kind_of, Ending, Form}
 use Rattle.wasm_grammar.specs.Grammar
 use Rattle.wasm_grammar.specs.Grammar.{Shape, section, Tile, tile, SectionContext, verdict, section_grammar, body_grammar, content_grammar}
 use Rattle.wasm_grammar.specs.Grammar.{code_grammar}
 use Rattle.wasm_grammar.specs.Laws.{EventsSayTheirBytes}
-use Rattle.wasm_grammar.specs.Reading.{Report, code_entry, custom_report, section_report, event_of, last_event, events_of}
+use Rattle.wasm_grammar.specs.Reading.{Report, code_entry, section_report, event_of, last_event, events_of}
 use Rattle.wasm_grammar.specs.SectionEvents.{bytes_of_bodies, SaysContent, IsSectionEvent, SaysItsBytes}
 use Rattle.wasm_grammar.specs.Sections.{section_of}
 use Rattle.wasm_grammar.specs.EventRanges.{AtOffsets}
 use Rattle.wasm_grammar.specs.Tiling.{bytes_of, context_of, grammar, bodies_to_come, bytes_to_come, Faultless}
 use Rattle.wasm_grammar.proofs.readings.BodyCounts.{body_in_section}
 use Rattle.wasm_grammar.proofs.readings.EndToEnd.{at_offsets_more, tiles_consume}
-use Rattle.wasm_grammar.proofs.parts.Placed.{IsHeader, headed}
+use Rattle.wasm_grammar.proofs.parts.Placed.{headed}
 use Rattle.wasm_grammar.proofs.accepted.Contents.{good_from}
 use Rattle.wasm_grammar.proofs.accepted.KindIds.{code_has_its_id}
 use Rattle.wasm_grammar.proofs.accepted.Parts.{SectionParts, section_parts, WholeParts, content_parts, HeadParts, head_parts, BodyParts}
@@ -35,30 +33,9 @@ record Said (features from : ℕ) (content : List ℕ) (report : Report) : Type 
   says : SaysContent features from content report
   no_bodies : bytes_of_bodies report ≡ 0
 
-said_name : (features from to : ℕ) (content text : List ℕ) (used : ℕ) (n : Name) → n ≡ named text used → name (Some name_limit) content
-    ≡ named text used → Said features from content (custom_report features from to content n)
-said_name features from to content text used (named other k) e h =
-    let z : used ≡ k = cc in
-    let y : text ≡ other = cc in
-    record { says = (refl, (k, h ∙ (λ i. named (y i) (z i)), refl)); no_bodies = refl }
-said_name features from to content text used (refused f place) e h = cc
-
 said : (features from to : ℕ) (kind : Form) (id : ℕ) (content : List ℕ) → IsFormed kind content
     → Said features from content (section_report features from to kind id content)
-said features from to custom id content (text, used, h) = said_name features from to content text used (name (Some name_limit) content) h h
-said features from to items id content (n, used, h) = record {
-  says = (refl, (used, h ∙ ap (λ (x : ℕ). read x used) (sym (ap value_of h))));
-  no_bodies = refl;
-}
-said features from to index id content (n, h) = record {
-  says = h ∙ ap (λ (x : ℕ). read x (length content)) (sym (ap value_of h));
-  no_bodies = refl;
-}
-said features from to data_count id content (n, h) = record {
-  says = h ∙ ap (λ (x : ℕ). read x (length content)) (sym (ap value_of h));
-  no_bodies = refl;
-}
-said features from to unknown id content g = record { says = refl; no_bodies = refl }
+said features from to kind id content g = grind arith
 
 -- ---- the event of a section
 
@@ -212,11 +189,6 @@ body_tile_says : (features o m l : ℕ) (t : Tile) → BodyParts m l t → SaysI
 body_tile_says features o m l t b = subst (λ (x : Tile). SaysItsBytes features o (event_of features o x)) (sym b.is)
     (body_says features o b.field b.content b.whole)
 
--- the event of a header
-header_says : (features o : ℕ) (t : Tile) (s : Shape) → t.shape ≡ s → IsHeader s → SaysItsBytes features o (event_of features o t)
-header_says features o t (Grammar.version num encoding) e h = record { section = λ i range x. cc; body = λ window x. cc }
-header_says features o t _ e h = absurd h
-
 -- the event of a tile after a header
 inside_says : (features o : ℕ) (b : Bool) (p : SectionContext) (m l : ℕ) (t : Tile) → ReportedThere features o t
     → verdict (cond b (section_grammar p o) (body_grammar m l o)) t.bytes ≡ tile t → SaysItsBytes features o (event_of features o t)
@@ -225,7 +197,7 @@ inside_says features o false p m l t q v = body_tile_says features o m l t (body
 
 tile_says : (start features : ℕ) (ts : List Tile) (t : Tile) → verdict (grammar start ts) t.bytes ≡ tile t
     → SaysItsBytes features (start + length (bytes_of ts)) (event_of features (start + length (bytes_of ts)) t)
-tile_says start features [] t v = header_says features (start + 0) t t.shape refl (headed start t.bytes t v)
+tile_says start features [] t v = grind (arith, headed)
 tile_says start features (u ∷ ts) t v =
     let us : List Tile = u ∷ ts in
     inside_says features (start + length (bytes_of us)) (nat_eq (bodies_to_come us + bytes_to_come us) 0) (context_of us)
@@ -235,8 +207,7 @@ tile_says start features (u ∷ ts) t v =
 -- ---- all events
 
 last_says : (features at : ℕ) (e : Ending) → SaysItsBytes features at (last_event e)
-last_says features at (fault f) = record { section = λ i range x. cc; body = λ window x. cc }
-last_says features at (ended o) = record { section = λ i range x. cc; body = λ window x. cc }
+last_says features at e = grind arith
 
 tiles_say : (start features : ℕ) (ts : List Tile) → Faultless start ts
     → AtOffsets (SaysItsBytes features) start (events_of start features ts)

@@ -4,7 +4,7 @@ use Rattle.std.specs.List.{All, flat_map}
 use Rattle.std.proofs.lemmas.List.Elements.{All-head, All-tail}
 use Rattle.wasm_grammar.specs.Accepted.{header_bytes, Sized, sized_bytes, IsSized, SectionFrame, frame_bytes, CodeDivision}
 use Rattle.wasm_grammar.specs.Accepted.{IsAccepted}
-use Rattle.wasm_grammar.specs.Content.{Kind, code, kind_of, ended, whole}
+use Rattle.wasm_grammar.specs.Content.{Kind, kind_of, ended}
 use Rattle.wasm_grammar.specs.FrameEvents.{header_event, code_events, KindEvents, FramesEvents}
 use Rattle.wasm_grammar.specs.FrameLaws.{OneDivision, FramesGiveEvents}
 use Rattle.wasm_grammar.specs.Grammar.{Tile}
@@ -53,8 +53,7 @@ code_events_same features at f d e =
 -- a section has one list of events
 kind_events_same : (features at : ℕ) (k : Kind) (f : SectionFrame) (xs ys : List Event) → KindEvents features at k f xs
     → KindEvents features at k f ys → xs ≡ ys
-kind_events_same features at (whole form) f xs ys x y = x ∙ sym y
-kind_events_same features at code f xs ys (d, x) (e, y) = x ∙ (code_events_same features at f d e ∙ sym y)
+kind_events_same features at k f xs ys x y = grind (arith, code_events_same)
 
 -- and so have sections
 frames_events_same : (features : ℕ) (encoding : Encoding) (at : ℕ) (frames : List SectionFrame) (xs ys : List Event)

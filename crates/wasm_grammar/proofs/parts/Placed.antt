@@ -1,10 +1,10 @@
 -- What is at a place is what may come there.
 use Rattle.std.proofs.Common.{◌≡◌, ℕ, zero, suc, ◌+◌, ◌<◌, Bool, true, false, cond, not, ◌&&◌, List, [], ◌∷◌, length, Option}
-use Rattle.std.proofs.Common.{Some, None, nat_lt, refl, sym, subst, arith, nat_le, take, drop}
+use Rattle.std.proofs.Common.{None, nat_lt, refl, sym, subst, arith, nat_le, take, drop}
 use Rattle.std.specs.List.{list_all}
 use Rattle.wasm_grammar.specs.declared.encoding.Encoding.{Encoding}
 use Rattle.wasm_base.specs.FaultAt.{FaultAt}
-use Rattle.wasm_base.specs.Number.{Number, read, number}
+use Rattle.wasm_base.specs.Number.{Number, number}
 use Rattle.wasm_grammar.specs.Content.{Kind, code, rank_of, kind_of, Ending, when, whole}
 use Rattle.wasm_grammar.specs.Grammar.{Shape, version, section, code_start, code_entry, Tile, Verdict, tile, final, after, after_number}
 use Rattle.wasm_grammar.specs.Grammar.{SectionContext, Grammar, accept, reject, check, u32_field, bytes, section_start, verdict}
@@ -28,18 +28,15 @@ each_after P f v t h e = let (s, r, q) = after-tile f v t e in subst (λ (x : Ti
 
 each_number : (P : Shape → Type 0) (o : ℕ) (xs : List ℕ) (n : Number) (next : ℕ → ℕ → Verdict) (t : Tile)
     → ((v k : ℕ) (s : Tile) → next v k ≡ tile s → P s.shape) → after_number o xs n next ≡ tile t → P t.shape
-each_number P o xs (read v k) next t h e = each_after P _ (next v k) t (h v k) e
-each_number P o xs _ next t h e = cc
+each_number P o xs n next t v k = grind arith
 
 each_test : (P : Shape → Type 0) (b : Bool) (v : Verdict) (e : Ending) (t : Tile) → (v ≡ tile t → P t.shape) → cond b v (final e) ≡ tile t
     → P t.shape
-each_test P true v e t h w = h w
-each_test P false v e t h w = cc
+each_test P b v e t h w = grind arith
 
 each_test' : (P : Shape → Type 0) (b : Bool) (v : Verdict) (e : Ending) (t : Tile) → (v ≡ tile t → P t.shape) → cond b (final e) v ≡ tile t
     → P t.shape
-each_test' P true v e t h w = cc
-each_test' P false v e t h w = h w
+each_test' P b v e t h w = grind arith
 
 pub each_tile : (P : Shape → Type 0) (g : Grammar) → Each P g → (xs : List ℕ) (t : Tile) → verdict g xs ≡ tile t → P t.shape
 unfolding verdict
@@ -65,13 +62,11 @@ Placed p _ = ⊥
 
 -- a test that finds nothing wrong fails
 pub none_when : (b : Bool) (e : FaultAt) → when b e ≡ None → b ≡ false
-none_when true e h = cc
-none_when false e h = refl
+none_when b e h = grind arith
 
 placed_content : (p : SectionContext) (kind : Kind) (id o n : ℕ) → Follows p (rank_of kind id)
     → Each (Placed p) (content_grammar p kind id o n)
-placed_content p code id o n f = λ v k x y. f
-placed_content p _ id o n f = λ b x y. f
+placed_content p kind id o n f = grind arith
 
 pub placed : (p : SectionContext) (o : ℕ) (xs : List ℕ) (t : Tile) → verdict (section_grammar p o) xs ≡ tile t → Placed p t.shape
 unfolding section_grammar
@@ -94,8 +89,7 @@ IsHeader (version num encoding) = Unit {0}
 IsHeader _ = ⊥
 
 header_each : (o bits : ℕ) (e : Option Encoding) → Each IsHeader (header_of o bits e)
-header_each o bits (Some e) = tt
-header_each o bits None = tt
+header_each o bits e = grind arith
 
 pub headed : (o : ℕ) (xs : List ℕ) (t : Tile) → verdict (header_grammar o) xs ≡ tile t → IsHeader t.shape
 unfolding header_grammar
@@ -107,12 +101,11 @@ Fresh ts s = 0 < tile_rank s → list_all (λ (u : Tile). nat_lt (tile_rank u.sh
 
 -- where a section of a rank may follow, each tile ranks below it
 pub follows_all : (r : ℕ) (b : Bool) → (nat_lt 0 r && not b) ≡ false → 0 < r → b ≡ true
-follows_all r true e h = refl
-follows_all r false e h = grind arith
+follows_all r b e h = grind arith
 
 fresh_placed : (ts : List Tile) (s : Shape) → Placed (context_of ts) s → Fresh ts s
-fresh_placed ts (section kind id content) f h = follows_all (rank_of (whole kind) id) _ f h
-fresh_placed ts (code_start count width size) f h = follows_all (rank_of code 10) _ f h
+fresh_placed ts (section kind id content) f h = grind arith
+fresh_placed ts (code_start count width size) f h = grind arith
 fresh_placed ts _ f h = absurd f
 
 fresh_body : (ts : List Tile) (s : Shape) → IsBody s → Fresh ts s

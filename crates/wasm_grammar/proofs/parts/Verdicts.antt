@@ -4,7 +4,7 @@ use Rattle.std.proofs.Common.{nat_le, nat_eq, refl, sym, ap, subst, subst₂, tr
 use Rattle.std.proofs.Common.{append_assoc}
 use Rattle.std.proofs.lemmas.List.{take-append-le, drop-append-le, take-append-drop, take_at, drop_at, length-take-le}
 use Rattle.wasm_base.specs.FaultAt.{at_offset}
-use Rattle.wasm_base.specs.Number.{Number, read, bad, short, number}
+use Rattle.wasm_base.specs.Number.{Number, read, short, number}
 use Rattle.wasm_base.specs.Header.{magic, agree}
 use Rattle.wasm_grammar.specs.Grammar.{Tile, Verdict, tile, final, after, after_number, Grammar, accept, check, u32_field, bytes}
 use Rattle.wasm_grammar.specs.Grammar.{section_start, verdict}
@@ -15,8 +15,7 @@ use Rattle.wasm_base.specs.declared.fault.Fault.TheVariants.{UnexpectedEof, Magi
 use Rattle.wasm_base.proofs.NumberLaws.{number-more, number-used, Used}
 
 pub later-enough : (k : ℕ) (w : Waiting) → later k w ≡ enough → w ≡ enough
-later-enough k enough e = refl
-later-enough k (wants n h) e = cc
+later-enough k w e = grind arith
 
 -- lists that don't agree still don't, whatever follows
 pub agree-more : (xs ys zs : List ℕ) → agree xs zs ≡ false → agree (xs ++ ys) zs ≡ false
@@ -33,10 +32,7 @@ number_more : (offset : ℕ) (xs ys : List ℕ) (next : ℕ → ℕ → Grammar)
     → later_number n (λ v k. waiting (next v k) (drop k xs)) ≡ enough
     → after_number offset (xs ++ ys) (number VarU32 (xs ++ ys)) (λ v k. verdict (next v k) (drop k (xs ++ ys)))
     ≡ after_number offset xs n (λ v k. verdict (next v k) (drop k xs))
-number_more offset xs ys next ih (read v k) e w =
-    grind (arith, number-used, number-more, take-append-le, drop-append-le)
-number_more offset xs ys next ih (bad f p) e w = grind (arith, number-more)
-number_more offset xs ys next ih short e w = cc
+number_more offset xs ys next v k zs n = grind (arith, number-used, number-more, take-append-le, drop-append-le)
 
 bytes_more : (count offset : ℕ) (xs ys : List ℕ) (next : List ℕ → Grammar)
     → ((b zs : List ℕ) → waiting (next b) zs ≡ enough → verdict (next b) (zs ++ ys) ≡ verdict (next b) zs)
@@ -96,8 +92,7 @@ verdict-more _ xs ys w = refl
 
 pub after-tile : (prefix : List ℕ) (v : Verdict) (t : Tile) → after prefix v ≡ tile t → (s : Tile) × (v ≡ tile s)
     × (t ≡ record s { bytes = prefix ++ s.bytes })
-after-tile prefix (tile s) t e = (s, refl, cc)
-after-tile prefix (final f) t e = cc
+after-tile prefix v t e = grind arith
 
 -- what the verdict `tile t` on bytes says: t has the first of them, and no other byte mattered
 pub record Cut (g : Grammar) (xs : List ℕ) (t : Tile) : Type 0 where

@@ -1,21 +1,20 @@
 -- As many bodies follow the start of a code section as it counts, or a fault comes first.
-use Rattle.std.proofs.Common.{◌≡◌, ℕ, zero, suc, ◌+◌, ◌-◌, ◌<◌, ◌⊎◌, inl, inr, Bool, true, false, cond, List, [], ◌∷◌, ◌++◌, length, Some}
+use Rattle.std.proofs.Common.{◌≡◌, ℕ, zero, suc, ◌+◌, ◌-◌, ◌<◌, ◌⊎◌, inl, inr, Bool, true, false, cond, List, [], ◌∷◌, ◌++◌, length}
 use Rattle.std.proofs.Common.{nat_eq, refl, sym, ap, subst, ◌∙◌, arith, length-append, append_assoc, eqb-true}
 use Rattle.std.specs.List.{All}
 use Rattle.std.proofs.lemmas.List.{append_cancel_left}
 use Rattle.std.proofs.lemmas.List.Elements.{All-nil, All-push}
-use Rattle.wasm_base.specs.Name.{Name, named, refused, name_limit, name}
 use Rattle.wasm_base.specs.Window.{Window}
-use Rattle.wasm_grammar.specs.Content.{custom, Ending, fault, ended, Form}
+use Rattle.wasm_grammar.specs.Content.{Ending, fault, ended, Form}
 use Rattle.wasm_grammar.specs.Grammar
 use Rattle.wasm_grammar.specs.Grammar.{Shape, section, Tile, tile, final, SectionContext, verdict, section_grammar, body_grammar}
-use Rattle.wasm_grammar.specs.Reading.{code_start, code_entry, Event, custom_report, section_report, tile_report, event_of, stream_end}
+use Rattle.wasm_grammar.specs.Reading.{code_start, code_entry, Event, section_report, tile_report, event_of, stream_end}
 use Rattle.wasm_grammar.specs.Reading.{last_event, events_of}
 use Rattle.wasm_grammar.specs.SectionLaws.{BodiesFollowTheirCount}
 use Rattle.wasm_grammar.specs.Sections.{ReportsBody, ReportsFault, BodiesFollow}
 use Rattle.wasm_grammar.specs.Tiling.{bytes_of, context_of, grammar, bodies_to_come, bytes_to_come, bodies_after, Faultless}
 use Rattle.wasm_grammar.proofs.readings.Endings.{inside_end}
-use Rattle.wasm_grammar.proofs.parts.Placed.{Placed, placed, IsBody, IsHeader, headed}
+use Rattle.wasm_grammar.proofs.parts.Placed.{placed, IsBody, IsHeader, headed}
 use Rattle.wasm_grammar.proofs.PlainLists.{split_last}
 use Rattle.wasm_grammar.proofs.accepted.Parts.{BodyParts, body_parts}
 
@@ -40,56 +39,28 @@ split_end {X} xs earlier later x y e = elim (split_last xs earlier later x y e) 
 
 -- ---- which reports are a start or a body
 
-start_in_custom : (features from to : ℕ) (content : List ℕ) (n : Name) (count a b size : ℕ) → custom_report features from to content n
-    ≡ code_start count a b size → ⊥
-start_in_custom features from to content (named text used) count a b size e = cc
-start_in_custom features from to content (refused f place) count a b size e = cc
-
-start_in_section : (features from to : ℕ) (kind : Form) (id : ℕ) (content : List ℕ) (count a b size : ℕ)
-    → section_report features from to kind id content ≡ code_start count a b size → ⊥
-start_in_section features from to custom id content count a b size e =
-    start_in_custom features from to content (name (Some name_limit) content) count a b size e
-start_in_section features from to _ id content count a b size e = cc
-
 -- the tile of a start misses the bodies that are reported
 start_misses : (features low high old : ℕ) (s : Shape) (count from to size : ℕ) → tile_report features low high s
     ≡ code_start count from to size → bodies_after s old ≡ count
-start_misses features low high old (section kind id content) count from to size e =
-    absurd (start_in_section features _ _ kind id content count from to size e)
-start_misses features low high old _ count from to size e = cc
+start_misses features low high old s count from to size e = grind arith
 
 no_start : (end : Ending) (count from to size : ℕ) → stream_end end ≡ code_start count from to size → ⊥
-no_start (fault f) count from to size e = cc
-no_start (ended o) count from to size e = cc
-
-body_in_custom : (features from to : ℕ) (content : List ℕ) (n : Name) (w : Window) → custom_report features from to content n ≡ code_entry w
-    → ⊥
-body_in_custom features from to content (named text used) w e = cc
-body_in_custom features from to content (refused f place) w e = cc
+no_start end count from to size e = cc
 
 -- what is reported of a section is no body
 pub body_in_section : (features from to : ℕ) (kind : Form) (id : ℕ) (content : List ℕ) (w : Window)
     → section_report features from to kind id content ≡ code_entry w → ⊥
-body_in_section features from to custom id content w e = body_in_custom features from to content (name (Some name_limit) content) w e
-body_in_section features from to _ id content w e = cc
+body_in_section features from to kind id content w e = grind arith
 
 -- only a body's tile is reported as a body
 report_body : (features low high : ℕ) (s : Shape) (w : Window) → tile_report features low high s ≡ code_entry w → IsBody s
-report_body features low high (section kind id content) w e = absurd (body_in_section features _ _ kind id content w e)
-report_body features low high (Grammar.code_entry content) w e = tt
-report_body features low high _ w e = cc
-
-placed_apart : (p : SectionContext) (s : Shape) → Placed p s → IsBody s → ⊥
-placed_apart p (Grammar.code_entry content) q b = q
-placed_apart p _ q b = b
+report_body features low high s w e = grind arith
 
 header_apart : (s : Shape) → IsHeader s → IsBody s → ⊥
-header_apart (Grammar.code_entry content) q b = q
-header_apart _ q b = b
+header_apart s q b = grind arith
 
 no_last : (end : Ending) (w : Window) → stream_end end ≡ code_entry w → ⊥
-no_last (fault f) w e = cc
-no_last (ended o) w e = cc
+no_last end w e = cc
 
 -- ---- after a start
 
@@ -139,10 +110,7 @@ open_more : (start features : ℕ) (u : Tile) (ts : List Tile) (t : Tile) (count
     → verdict (cond b (section_grammar (context_of (u ∷ ts)) o) (body_grammar (bodies_to_come (u ∷ ts)) (bytes_to_come (u ∷ ts)) o)) t.bytes
     ≡ tile t → Open (u ∷ ts) count after
     → (Open (t ∷ u ∷ ts) count (after ++ event_of features o t ∷ [])) ⊎ Shut count (after ++ event_of features o t ∷ [])
-open_more start features u ts t count after true z o e s =
-    let p : Placed (context_of (u ∷ ts)) t.shape = placed (context_of (u ∷ ts)) o t.bytes t e in
-    let n : bodies_to_come (u ∷ ts) + bytes_to_come (u ∷ ts) ≡ 0 = eqb-true _ _ z in
-    inr (shuts features o count t (u ∷ ts) after (placed_apart (context_of (u ∷ ts)) t.shape p) (omega arith) s)
+open_more start features u ts t count after true z o e s = grind (arith, placed)
 open_more start features u ts t count after false z o e s =
     let p : BodyParts (bodies_to_come (u ∷ ts)) (bytes_to_come (u ∷ ts)) t =
     body_parts (bodies_to_come (u ∷ ts)) (bytes_to_come (u ∷ ts)) o t.bytes t e in

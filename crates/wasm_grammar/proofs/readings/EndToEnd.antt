@@ -1,27 +1,26 @@
 -- Events lie end to end.
-use Rattle.std.proofs.Common.{◌≡◌, ℕ, zero, suc, ◌+◌, ◌-◌, ◌≤◌, Bool, true, false, cond, ◌&&◌, List, [], ◌∷◌, ◌++◌, length, take, drop}
-use Rattle.std.proofs.Common.{Option, Some, None, nat_le, refl, sym, ap, subst, ◌∙◌, arith, le_refl, length-append}
+use Rattle.std.proofs.Common.{◌≡◌, ℕ, ◌+◌, ◌-◌, ◌≤◌, Bool, cond, ◌&&◌, List, [], ◌∷◌, ◌++◌, length, take, drop}
+use Rattle.std.proofs.Common.{Some, None, nat_le, refl, sym, ap, subst, ◌∙◌, arith, le_refl, length-append}
 use Rattle.std.proofs.Common.{append-nil, append_assoc}
 use Rattle.std.proofs.lemmas.List.{length-take-le, take_at, drop_at}
 use Rattle.std.proofs.lemmas.Grind.{flat_map-append}
 use Rattle.wasm_base.specs.FaultAt.{at_offset}
 use Rattle.wasm_base.specs.Header.{magic, agree}
-use Rattle.wasm_base.specs.Name.{Name, named, refused, name_limit, name, of_four}
-use Rattle.wasm_base.specs.Number.{Number, read, number}
+use Rattle.wasm_base.specs.Name.{Name, name_limit, name}
+use Rattle.wasm_base.specs.Number.{Number, number}
 use Rattle.wasm_base.specs.declared.fault.Fault.TheVariants.{UnexpectedEof, MagicAtSection}
 use Rattle.wasm_base.specs.declared.fault.NumberKind.TheVariants.{VarU32}
-use Rattle.wasm_base.proofs.NumberLaws.{Used, number-used}
+use Rattle.wasm_base.proofs.NumberLaws.{number-used}
 use Rattle.wasm_base.specs.Window.{window_over}
-use Rattle.wasm_grammar.specs.Content.{Kind, custom, items, code, unknown, kind_of, Ending, fault, ended, Form, whole}
+use Rattle.wasm_grammar.specs.Content.{Kind, custom, items, unknown, kind_of, Ending, fault, ended, Form}
 use Rattle.wasm_grammar.specs.Grammar.{Shape, version, section, code_start, code_entry, Tile, Verdict, tile, final, Grammar, accept, reject}
-use Rattle.wasm_grammar.specs.Grammar.{check, u32_field, bytes, section_start, after, after_number, verdict, SectionContext, header_of}
+use Rattle.wasm_grammar.specs.Grammar.{check, u32_field, bytes, section_start, after, after_number, verdict, SectionContext}
 use Rattle.wasm_grammar.specs.Grammar.{header_grammar, content_grammar, section_grammar, body_grammar}
 use Rattle.wasm_grammar.specs.Laws.{EventsLieEndToEnd}
 use Rattle.wasm_grammar.specs.Reading.{Event, custom_report, section_report, tile_report, event_of, stream_end, last_event, events_of}
 use Rattle.wasm_grammar.specs.Reading.{Reads}
 use Rattle.wasm_grammar.specs.EventRanges.{consumed_by, IsPart, LiesIn, LiesBetween, AtOffsets, EndToEnd}
 use Rattle.wasm_grammar.specs.Tiling.{grammar, bytes_of, Faultless}
-use Rattle.wasm_grammar.specs.declared.encoding.Encoding.{Encoding}
 use Rattle.wasm_grammar.proofs.readings.Endings.{header_end, inside_end}
 use Rattle.wasm_grammar.proofs.parts.Verdicts.{after-tile}
 use Rattle.wasm_grammar.proofs.parts.Places.{name_used}
@@ -56,23 +55,18 @@ closes_number : (passed : List ℕ) (o : ℕ) (xs : List ℕ) (next : ℕ → �
     → ((v k : ℕ) (b zs : List ℕ) (s : Tile) → length b ≡ k → verdict (next v k) zs ≡ tile s → Closes s.shape ((passed ++ b) ++ s.bytes))
     → (n : Number) → number VarU32 xs ≡ n → after_number o xs n (λ v k. verdict (next v k) (drop k xs)) ≡ tile t
     → Closes t.shape (passed ++ t.bytes)
-closes_number passed o xs next t ih (read v k) e h =
-    let u : Used VarU32 xs v k = number-used VarU32 xs v k e in
-    search (closes_after, length-take-le)
-closes_number passed o xs next t ih _ e h = cc
+closes_number passed o xs next t ih n e h = grind (arith, number-used, closes_after, length-take-le)
 
 closes_bytes : (passed : List ℕ) (count : ℕ) (xs : List ℕ) (next : List ℕ → Grammar) (t : Tile) (e : Ending)
     → ((b zs : List ℕ) (s : Tile) → verdict (next b) zs ≡ tile s → Closes s.shape ((passed ++ b) ++ s.bytes))
     → (b : Bool) → cond b (after (take count xs) (verdict (next (take count xs)) (drop count xs))) (final e) ≡ tile t
     → Closes t.shape (passed ++ t.bytes)
-closes_bytes passed count xs next t e ih true h = search closes_after
-closes_bytes passed count xs next t e ih false h = cc
+closes_bytes passed count xs next t e ih b h = grind (arith, closes_after)
 
 closes_start : (passed : List ℕ) (id : ℕ) (v : Verdict) (t : Tile) (e : Ending)
     → ((s : Tile) → v ≡ tile s → Closes s.shape ((passed ++ id ∷ []) ++ s.bytes))
     → (b : Bool) → cond b (final e) (after (id ∷ []) v) ≡ tile t → Closes t.shape (passed ++ t.bytes)
-closes_start passed id v t e ih true h = cc
-closes_start passed id v t e ih false h = closes_after passed (id ∷ []) v t ih h
+closes_start passed id v t e ih b h = grind (arith, closes_after)
 
 closes : (passed : List ℕ) (g : Grammar) (xs : List ℕ) (t : Tile) → Closing passed g → verdict g xs ≡ tile t
     → Closes t.shape (passed ++ t.bytes)
@@ -95,33 +89,25 @@ Closing-code : (passed : List ℕ) (k : ℕ) (b : List ℕ) → length b ≡ k �
 Closing-code passed k b e = omega (arith, length-append passed b)
 
 Closing-content : (passed : List ℕ) (p : SectionContext) (kind : Kind) (id o n : ℕ) → Closing passed (content_grammar p kind id o n)
-Closing-content passed p (whole form) id o n = λ b. (passed, refl)
-Closing-content passed p code id o n = λ v k b e. Closing-code passed k b e
+Closing-content passed p kind id o n = grind (arith, Closing-code)
 
 Closing-section : (p : SectionContext) (o : ℕ) → Closing [] (section_grammar p o)
 unfolding section_grammar
 Closing-section p o = λ id size width b e. Closing-content (id ∷ b) p (kind_of p.encoding id) id (o + 1 + width) size
 
-Closing-header_of : (passed : List ℕ) (o bits : ℕ) (e : Option Encoding) → Closing passed (header_of o bits e)
-Closing-header_of passed o bits (Some e) = tt
-Closing-header_of passed o bits None = tt
-
 Closing-header : (o : ℕ) → Closing [] (header_grammar o)
 unfolding header_grammar
-Closing-header o = λ a b. Closing-header_of (a ++ b) o (of_four b) _
+Closing-header o = grind arith
 
 Closing-body : (m l o : ℕ) → Closing [] (body_grammar m l o)
 unfolding body_grammar
-Closing-body zero l o = tt
-Closing-body (suc m) l o = λ v k b e content. (b, refl)
+Closing-body m l o = grind arith
 
 Closing-inside : (b : Bool) (p : SectionContext) (m l o : ℕ) → Closing [] (cond b (section_grammar p o) (body_grammar m l o))
-Closing-inside true p m l o = Closing-section p o
-Closing-inside false p m l o = Closing-body m l o
+Closing-inside b p m l o = grind (arith, Closing-section, Closing-body)
 
 Closing-grammar : (start : ℕ) (ts : List Tile) → Closing [] (grammar start ts)
-Closing-grammar start [] = Closing-header start
-Closing-grammar start (t ∷ ts) = search Closing-inside
+Closing-grammar start ts = grind (arith, Closing-header, Closing-inside)
 
 -- a tile's bytes end with its content
 pub tile_closes : (start : ℕ) (ts : List Tile) (xs : List ℕ) (t : Tile) → verdict (grammar start ts) xs ≡ tile t → Closes t.shape t.bytes
@@ -135,8 +121,7 @@ IsEndAt o rest x = (rest ≡ []) × (x ≡ o)
 
 end_at : (start : ℕ) (ts : List Tile) (xs : List ℕ) (x : ℕ) → verdict (grammar start ts) xs ≡ final (ended x)
     → IsEndAt (start + length (bytes_of ts)) xs x
-end_at start [] xs x h = absurd (header_end start xs x h)
-end_at start (t ∷ ts) xs x h = grind (arith, inside_end)
+end_at start ts xs x h = grind (arith, header_end, inside_end)
 
 -- a reading that doesn't stop at a fault ends after the whole stream
 pub ends_after_all : (stream : List ℕ) (start : ℕ) (ts : List Tile) (x : ℕ) → Reads stream start ts (ended x) → (x ≡ start + length stream)
@@ -187,14 +172,13 @@ whole_range stream start low high content p = grind arith
 custom_lies : (stream : List ℕ) (start low high features : ℕ) (content : List ℕ) (n : Name) → name (Some name_limit) content ≡ n
     → Placed stream start low high content → LiesBetween stream start features low high
     (custom_report features (high - length content) high content n)
-custom_lies stream start low high features content (named text used) e p = grind (arith, name_used)
-custom_lies stream start low high features content (refused g i) e p = (whole_range stream start low high content p, refl, p.part, p.ends)
+custom_lies stream start low high features content n e p = grind (arith, name_used)
 
 section_lies : (stream : List ℕ) (start low high features : ℕ) (kind : Form) (id : ℕ) (content : List ℕ)
     → Placed stream start low high content → LiesBetween stream start features low high
     (section_report features (high - length content) high kind id content)
 section_lies stream start low high features custom id content p = search custom_lies
-section_lies stream start low high features items id content p = search range_is
+section_lies stream start low high features items id content p = grind arith
 section_lies stream start low high features unknown id content p = (whole_range stream start low high content p, refl, p.part, p.ends)
 section_lies stream start low high features _ id content p = (whole_range stream start low high content p, refl)
 

@@ -1,21 +1,18 @@
 -- The start offset only moves offsets.
-use Rattle.std.proofs.Common.{◌≡◌, ℕ, zero, suc, ◌+◌, ◌-◌, ◌^◌, Bool, true, false, cond, ◌&&◌, not, List, [], ◌∷◌, ◌++◌, length, take, drop}
-use Rattle.std.proofs.Common.{Option, Some, None, option_map, nat_lt, nat_le, nat_eq, ◌⊎◌, inl, inr, refl, sym, ap, subst, subst₂, ◌∙◌}
-use Rattle.std.proofs.Common.{arith, length-append, ltb-true, ltb-false}
+use Rattle.std.proofs.Common.{◌≡◌, ℕ, zero, suc, ◌+◌, ◌-◌, ◌^◌, Bool, cond, ◌&&◌, not, List, [], ◌∷◌, ◌++◌, length, take, drop}
+use Rattle.std.proofs.Common.{Option, Some, None, option_map, nat_lt, nat_le, nat_eq, ◌⊎◌, inl, refl, sym, ap, subst, subst₂, ◌∙◌}
+use Rattle.std.proofs.Common.{arith, length-append}
 use Rattle.std.proofs.lemmas.List.{map-append}
-use Rattle.std.proofs.lemmas.Option.{same_Some}
 use Rattle.wasm_base.specs.FaultAt.{FaultAt, at_offset}
 use Rattle.wasm_base.specs.Header.{magic, agree}
-use Rattle.wasm_base.specs.Name.{Name, named, refused, name_limit, name, of_four}
-use Rattle.wasm_base.specs.Number.{Number, read, bad, short, number}
-use Rattle.wasm_base.specs.declared.fault.Fault.{Fault}
-use Rattle.wasm_base.specs.declared.fault.Fault.TheVariants.{UnexpectedEof, MagicAtSection, SectionTooLarge, StartContent, DataCountContent}
-use Rattle.wasm_base.specs.declared.fault.Fault.TheVariants.{UnknownVersion, OutOfOrder, MalformedSectionId, BadMagic}
-use Rattle.wasm_base.specs.declared.fault.Fault.TheVariants.{DataCountDiffer}
+use Rattle.wasm_base.specs.Name.{of_four}
+use Rattle.wasm_base.specs.Number.{Number, number}
+use Rattle.wasm_base.specs.declared.fault.Fault.TheVariants.{UnexpectedEof, MagicAtSection, SectionTooLarge}
+use Rattle.wasm_base.specs.declared.fault.Fault.TheVariants.{OutOfOrder, MalformedSectionId, BadMagic}
 use Rattle.wasm_base.specs.declared.fault.NumberKind.TheVariants.{VarU32}
 use Rattle.wasm_base.specs.Window.{window_over}
-use Rattle.wasm_grammar.specs.Content.{Kind, custom, items, index, data_count, code, unknown, kind_of, rank_of, Ending, fault, ended, when}
-use Rattle.wasm_grammar.specs.Content.{wrong_number, wrong_single, wrong_name, wrong_content, Form, whole}
+use Rattle.wasm_grammar.specs.Content.{Kind, code, kind_of, rank_of, Ending, fault, when}
+use Rattle.wasm_grammar.specs.Content.{wrong_content, Form, whole}
 use Rattle.wasm_grammar.specs.Grammar
 use Rattle.wasm_grammar.specs.Grammar.{Shape, section, Tile, Verdict, tile, final, Grammar, accept, reject, check, u32_field, bytes}
 use Rattle.wasm_grammar.specs.Grammar.{section_start, after, after_number, verdict, SectionContext, header_of, version_of, header_grammar}
@@ -23,7 +20,7 @@ use Rattle.wasm_grammar.specs.Grammar.{end_at_section, wrong_count, code_grammar
 use Rattle.wasm_grammar.specs.Grammar.{after_id, section_grammar, body_of, body_grammar}
 use Rattle.wasm_grammar.specs.Laws.{StartOnlyMoves}
 use Rattle.wasm_grammar.specs.Shifted.{shifted_fault, shifted_ending, shifted_report, shifted_event, shifted_events, PassesTheTop}
-use Rattle.wasm_grammar.specs.Reading.{code_entry, custom_report, section_report, tile_report, event_of}
+use Rattle.wasm_grammar.specs.Reading.{code_entry, section_report, tile_report, event_of}
 use Rattle.wasm_grammar.specs.Reading.{last_event, events_of, Reads}
 use Rattle.wasm_grammar.specs.Tiling.{inside, context_of, grammar, bodies_to_come, bytes_to_come, bytes_of, Faultless}
 use Rattle.wasm_grammar.specs.declared.encoding.Encoding.{Encoding}
@@ -62,50 +59,26 @@ StopsAtTheTop (final e) = PassesTheTop e
 abbrev Moves : ℕ → Verdict → Verdict → Type 0
 Moves by v w = (w ≡ moved_verdict by v) ⊎ StopsAtTheTop w
 
-after_moved : (prefix : List ℕ) (by : ℕ) (v : Verdict) → after prefix (moved_verdict by v) ≡ moved_verdict by (after prefix v)
-after_moved prefix by (tile t) = refl
-after_moved prefix by (final e) = refl
-
-after_top : (prefix : List ℕ) (w : Verdict) → StopsAtTheTop w → StopsAtTheTop (after prefix w)
-after_top prefix (tile t) s = s
-after_top prefix (final e) s = s
-
-after_moves : (prefix : List ℕ) (by : ℕ) (v w : Verdict) → Moves by v w → Moves by (after prefix v) (after prefix w)
-after_moves prefix by v w (inl p) = inl (ap (after prefix) p ∙ after_moved prefix by v)
-after_moves prefix by v w (inr s) = inr (after_top prefix w s)
-
-moved_same : (kind : Fault) (o p by : ℕ) → at_offset kind (o + by + p) ≡ shifted_fault by (at_offset kind (o + p))
-moved_same kind o p by = ap (at_offset kind) (omega arith)
-
 refuse_moves : (by : ℕ) (e f : Option FaultAt) (next then : Grammar) (xs : List ℕ) → MovesFault by e f
     → Moves by (verdict next xs) (verdict then xs) → Moves by (verdict (check e next) xs) (verdict (check f then) xs)
 unfolding verdict
-refuse_moves by (Some e) (Some f) next then xs (inl z) ih = inl (ap (λ (x : FaultAt). final (fault x)) (same_Some f (shifted_fault by e) z))
-refuse_moves by (Some e) None next then xs (inl z) ih = cc
-refuse_moves by (Some e) None next then xs (inr s) ih = absurd s
-refuse_moves by None (Some f) next then xs (inl z) ih = cc
-refuse_moves by None None next then xs m ih = ih
-refuse_moves by _ (Some f) next then xs (inr s) ih = inr s
+refuse_moves by e f next then xs m ih = grind arith
 
 number_moves : (by o : ℕ) (next then : ℕ → ℕ → Grammar) (xs : List ℕ)
     → ((v k : ℕ) (zs : List ℕ) → Moves by (verdict (next v k) zs) (verdict (then v k) zs))
     → (n : Number) → Moves by (after_number o xs n (λ v k. verdict (next v k) (drop k xs)))
     (after_number (o + by) xs n (λ v k. verdict (then v k) (drop k xs)))
-number_moves by o next then xs ih (read v k) = search after_moves
-number_moves by o next then xs ih (bad kind p) = inl (ap (λ (x : FaultAt). final (fault x)) (moved_same kind o p by))
-number_moves by o next then xs ih short = inl (ap (λ (x : FaultAt). final (fault x)) (moved_same UnexpectedEof o (length xs) by))
+number_moves by o next then xs ih n = grind arith
 
 bytes_move : (by o : ℕ) (prefix : List ℕ) (v w : Verdict) → Moves by v w → (b : Bool)
     → Moves by (cond b (after prefix v) (final (fault (at_offset UnexpectedEof o))))
     (cond b (after prefix w) (final (fault (at_offset UnexpectedEof (o + by)))))
-bytes_move by o prefix v w m true = after_moves prefix by v w m
-bytes_move by o prefix v w m false = inl refl
+bytes_move by o prefix v w m b = grind arith
 
 start_moves : (by o id : ℕ) (v w : Verdict) → Moves by v w → (b : Bool)
     → Moves by (cond b (final (fault (at_offset MagicAtSection o))) (after (id ∷ []) v))
     (cond b (final (fault (at_offset MagicAtSection (o + by)))) (after (id ∷ []) w))
-start_moves by o id v w m true = inl refl
-start_moves by o id v w m false = after_moves (id ∷ []) by v w m
+start_moves by o id v w m b = grind arith
 
 verdict_moves : (by : ℕ) (g h : Grammar) (xs : List ℕ) → Like by g h → Moves by (verdict g xs) (verdict h xs)
 unfolding verdict
@@ -129,43 +102,16 @@ verdict_moves by _ h xs l = inl (ap (λ (x : Grammar). verdict x xs) l)
 -- ---- the grammars of a stream
 
 when_moves : (by : ℕ) (t : Bool) (e f : FaultAt) → f ≡ shifted_fault by e → MovesFault by (when t e) (when t f)
-when_moves by true e f z = inl (ap Some z)
-when_moves by false e f z = inl refl
-
-some_moves : (by : ℕ) (kind : Fault) (o p : ℕ) → MovesFault by (Some (at_offset kind (o + p))) (Some (at_offset kind (o + by + p)))
-some_moves by kind o p = inl (ap Some (moved_same kind o p by))
-
-number_wrong : (by o : ℕ) (content : List ℕ) (n : Number) → MovesFault by (wrong_number o content n) (wrong_number (o + by) content n)
-number_wrong by o content (read v k) = inl refl
-number_wrong by o content (bad kind p) = some_moves by kind o p
-number_wrong by o content short = some_moves by UnexpectedEof o (length content)
-
-single_wrong : (by : ℕ) (code_bytes : Fault) (o : ℕ) (content : List ℕ) (n : Number)
-    → MovesFault by (wrong_single code_bytes o content n) (wrong_single code_bytes (o + by) content n)
-single_wrong by code_bytes o content (read v k) = when_moves by (nat_lt k (length content)) _ _ (moved_same code_bytes o k by)
-single_wrong by code_bytes o content (bad kind p) = some_moves by kind o p
-single_wrong by code_bytes o content short = some_moves by UnexpectedEof o (length content)
-
-name_wrong : (by o : ℕ) (n : Name) → MovesFault by (wrong_name o n) (wrong_name (o + by) n)
-name_wrong by o (named text used) = inl refl
-name_wrong by o (refused kind p) = some_moves by kind o p
+when_moves by t e f z = grind arith
 
 content_wrong : (by : ℕ) (kind : Form) (o : ℕ) (content : List ℕ)
     → MovesFault by (wrong_content kind o content) (wrong_content kind (o + by) content)
 unfolding wrong_content
-content_wrong by custom o content = name_wrong by o (name (Some name_limit) content)
-content_wrong by items o content = number_wrong by o content (number VarU32 content)
-content_wrong by index o content = single_wrong by StartContent o content (number VarU32 content)
-content_wrong by data_count o content = single_wrong by DataCountContent o content (number VarU32 content)
-content_wrong by unknown o content = inl refl
+content_wrong by kind o content = grind arith
 
 data_wrong : (by : ℕ) (p : SectionContext) (kind : Form) (id o n : ℕ) (content : List ℕ)
     → MovesFault by (wrong_data p kind id (o + n) content) (wrong_data p kind id (o + by + n) content)
-data_wrong by p items id o n content = when_moves by _ _ _ (moved_same DataCountDiffer o n by)
-data_wrong by p _ id o n content = inl refl
-
-count_wrong : (by : ℕ) (p : SectionContext) (o count : ℕ) → MovesFault by (wrong_count p o count) (wrong_count p (o + by) count)
-count_wrong by p o count = grind arith
+data_wrong by p kind id o n content = grind arith
 
 Like-whole : (by : ℕ) (p : SectionContext) (kind : Form) (id o n : ℕ)
     → Like by (whole_grammar p kind id o n) (whole_grammar p kind id (o + by) n)
@@ -181,31 +127,15 @@ Like-whole by p kind id o n = (
   ),
 )
 
-Like-code : (by : ℕ) (p : SectionContext) (o n : ℕ) → Like by (code_grammar p o n) (code_grammar p (o + by) n)
-Like-code by p o n = (
-  _,
-  refl,
-  λ count width. (
-    _,
-    _,
-    refl,
-    when_moves by
-        (nat_lt n width) (at_offset UnexpectedEof o) (at_offset UnexpectedEof (o + by)) refl,
-    (_, _, refl, count_wrong by p o count, refl),
-  ),
-)
-
 Like-content : (by : ℕ) (p : SectionContext) (kind : Kind) (id o n : ℕ)
     → Like by (content_grammar p kind id o n) (content_grammar p kind id (o + by) n)
-Like-content by p code id o n = Like-code by p o n
+Like-content by p code id o n = grind arith
 Like-content by p (whole form) id o n = Like-whole by p form id o n
 
 top_moves : (by top field o n : ℕ) (a b : Bool) → nat_lt top (o + n) ≡ a → nat_lt top (o + by + n) ≡ b
     → MovesFault by (when a (record { fault = SectionTooLarge; offset = field; number = Some n }))
     (when b (record { fault = SectionTooLarge; offset = field + by; number = Some n }))
-top_moves by top field o n false true x y = inr refl
-top_moves by top field o n true false x y = absurd (omega (arith, ltb-true top (o + n) x, ltb-false top (o + by + n) y))
-top_moves by top field o n _ _ x y = inl refl
+top_moves by top field o n a b x y = grind arith
 
 Like-sized : (by : ℕ) (p : SectionContext) (kind : Kind) (id field o n : ℕ)
     → Like by (after_length p kind id field o n) (after_length p kind id (field + by) (o + by) n)
@@ -267,8 +197,7 @@ Like-body by zero code_bytes o = refl
 Like-body by (suc bodies) code_bytes o = (_, refl, λ n width. Like-body_of by o code_bytes n width)
 
 Like-header_of : (by o bits : ℕ) (e : Option Encoding) → Like by (header_of o bits e) (header_of (o + by) bits e)
-Like-header_of by o bits (Some e) = refl
-Like-header_of by o bits None = ap (λ (x : ℕ). reject (record { fault = UnknownVersion; offset = x; number = Some bits })) (omega arith)
+Like-header_of by o bits e = grind arith
 
 Like-header : (by o : ℕ) → Like by (header_grammar o) (header_grammar (o + by))
 unfolding header_grammar
@@ -291,8 +220,7 @@ Like-header by o = (
 Like-inside : (by : ℕ) (b : Bool) (p : SectionContext) (bodies code_bytes o : ℕ)
     → Like by (cond b (section_grammar p o) (body_grammar bodies code_bytes o))
     (cond b (section_grammar p (o + by)) (body_grammar bodies code_bytes (o + by)))
-Like-inside by true p bodies code_bytes o = Like-section by p o
-Like-inside by false p bodies code_bytes o = Like-body by bodies code_bytes o
+Like-inside by b p bodies code_bytes o = grind (arith, Like-section, Like-body)
 
 Like-grammar : (by start : ℕ) (ts : List Tile) → Like by (grammar start ts) (grammar (start + by) ts)
 Like-grammar by start [] = Like-header by start
@@ -305,22 +233,15 @@ Like-grammar by start (t ∷ ts) =
 -- ---- readings
 
 tile_back : (by : ℕ) (v w : Verdict) (t : Tile) → Moves by v w → w ≡ tile t → v ≡ tile t
-tile_back by (tile s) w t (inl p) e = sym p ∙ e
-tile_back by (final x) w t (inl p) e = let z : final (shifted_ending by x) ≡ tile t = sym p ∙ e in cc
-tile_back by v w t (inr s) e = absurd (subst StopsAtTheTop e s)
+tile_back by v w t h e = grind arith
 
 record Back (by : ℕ) (v : Verdict) (y : Ending) : Type 0 where
   end : Ending
   stops : v ≡ final end
   is : y ≡ shifted_ending by end
 
-final_same : (x y : Ending) → final x ≡ final y → x ≡ y
-final_same x y e = cc
-
 final_back : (by : ℕ) (v w : Verdict) (y : Ending) → ¬ PassesTheTop y → Moves by v w → w ≡ final y → Back by v y
-final_back by (tile s) w y n (inl p) e = let z : tile s ≡ final y = sym p ∙ e in cc
-final_back by (final x) w y n (inl p) e = record { end = x; stops = refl; is = final_same y (shifted_ending by x) (sym e ∙ p) }
-final_back by v w y n (inr s) e = absurd (n (subst StopsAtTheTop e s))
+final_back by v w y n h e = grind arith
 
 faultless_back : (by start : ℕ) (ts : List Tile) → Faultless (start + by) ts → Faultless start ts
 faultless_back by start [] f = tt
@@ -332,15 +253,9 @@ faultless_back by start (t ∷ ts) f = (
 
 -- ---- what is reported
 
-custom_moves : (by features from to : ℕ) (content : List ℕ) (n : Name) → custom_report features (from + by) (to + by) content n
-    ≡ shifted_report by (custom_report features from to content n)
-custom_moves by features from to content (named text used) = grind arith
-custom_moves by features from to content (refused f p) = refl
-
 pub section_moves : (by features from to : ℕ) (kind : Form) (id : ℕ) (content : List ℕ)
     → section_report features (from + by) (to + by) kind id content ≡ shifted_report by (section_report features from to kind id content)
-section_moves by features from to custom id content = custom_moves by features from to content (name (Some name_limit) content)
-section_moves by features from to _ id content = refl
+section_moves by features from to kind id content = grind arith
 
 content_place : (by low high : ℕ) (passed before content : List ℕ) → high ≡ low + length passed → passed ≡ before ++ content
     → high + by - length content ≡ (high - length content) + by
@@ -381,8 +296,7 @@ events_move by start features (t ∷ ts) f =
     (event_of features (start + length (bytes_of ts)) t ∷ []))
 
 last_moves : (by : ℕ) (e : Ending) → last_event (shifted_ending by e) ≡ shifted_event by (last_event e)
-last_moves by (fault f) = refl
-last_moves by (ended o) = refl
+last_moves by e = grind arith
 
 pub start_only_moves : StartOnlyMoves
 start_only_moves stream start by features xs ys x y n =
