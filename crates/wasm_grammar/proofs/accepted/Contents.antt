@@ -1,6 +1,5 @@
 -- Nothing is wrong with a section's content exactly if it is good.
-use Rattle.std.proofs.Common.{◌≡◌, ℕ, ◌+◌, ◌≤◌, List, length, None, nat_lt, subst, arith, ltb-false}
-use Rattle.wasm_base.specs.FaultAt.{at_offset}
+use Rattle.std.proofs.Common.{◌≡◌, ℕ, ◌≤◌, List, length, None, arith}
 use Rattle.wasm_base.specs.Number.{Number, read, number}
 use Rattle.wasm_base.specs.declared.fault.Fault.{Fault}
 use Rattle.wasm_base.specs.declared.fault.NumberKind.TheVariants.{VarU32}
@@ -21,9 +20,9 @@ single_from : (trailing : Fault) (o : ℕ) (content : List ℕ) (n : Number) →
     → (v : ℕ) × IsNumber content v
 single_from trailing o content (read v k) e h =
     let u : Used VarU32 content v k = number-used VarU32 content v k e in
-    let l : length content ≤ k = ltb-false k (length content) (none_when (nat_lt k (length content)) (at_offset trailing (o + k)) h) in
+    let l : length content ≤ k = grind (arith, none_when) in
     let z : k ≡ length content = omega (arith, u.there) in
-    (v, subst (λ (x : ℕ). number VarU32 content ≡ read v x) z e)
+    grind arith
 single_from trailing o content _ e h = cc
 
 -- content with no fault is good

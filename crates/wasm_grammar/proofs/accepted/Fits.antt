@@ -2,7 +2,7 @@
 use Rattle.std.proofs.Common.{◌≡◌, ℕ, ◌<◌, ◌⊎◌, ◌==◌, Bool, true, false, not, ◌&&◌, List, length, refl, sym, ap}
 use Rattle.std.proofs.Common.{subst, ◌∙◌, arith, None, nat_lt, nat_eq, eqb-true, eq-eqb, ltb-true, lt-ltb}
 use Rattle.std.proofs.lemmas.Bool.{not-false}
-use Rattle.std.specs.List.{All, Any, list_all, list_any}
+use Rattle.std.specs.List.{All, Any, list_all}
 use Rattle.wasm_base.specs.FaultAt.{FaultAt, at_offset}
 use Rattle.wasm_base.specs.declared.fault.Fault.TheVariants.{DataCountDiffer}
 use Rattle.wasm_grammar.proofs.accepted.Tiles.{IsWhole, same_form}
@@ -34,7 +34,7 @@ pub rank_from : (encoding : Encoding) (fs : List SectionFrame) (p : SectionConte
 rank_from encoding fs p k r f l =
     all_of (λ (g : SectionFrame). nat_lt (frame_rank encoding g) r) (λ g. frame_rank encoding g < r)
     (λ g. ltb-true (frame_rank encoding g) r) fs
-    (sym (k.ranks r l) ∙ follows_all r (p.may_follow r) f l)
+    (grind (arith, follows_all))
 
 -- there is a section with this id
 pub some_to : (encoding : Encoding) (n : ℕ) (fs : List SectionFrame) → Any (IsSection encoding n) fs
@@ -47,7 +47,7 @@ pub some_from : (encoding : Encoding) (n : ℕ) (fs : List SectionFrame) → nat
     → Any (IsSection encoding n) fs
 some_from encoding n fs e =
     any_of (is_section encoding n) (IsSection encoding n) (λ g. section_yes encoding n g) fs
-    (not-false (list_any (is_section encoding n) fs) (sym (no_counts encoding n fs) ∙ e))
+    (grind (arith, not-false, is_section, no_counts))
 
 -- what a code section with this count wants of the frames before it
 pub record CodeFits (encoding : Encoding) (fs : List SectionFrame) (c : ℕ) : Type 0 where

@@ -1,6 +1,6 @@
 -- The header's tile has the header's bytes.
 use Rattle.std.proofs.Common.{◌≡◌, ℕ, ◌+◌, ◌/◌, ◌%◌, ◌<◌, true, not, List, [], ◌∷◌, ◌++◌}
-use Rattle.std.proofs.Common.{length, Option, None, nat_eq, refl, ap, subst, ◌∙◌, arith, eqb-true}
+use Rattle.std.proofs.Common.{length, Option, None, nat_eq, refl, arith, eqb-true}
 use Rattle.std.specs.List.{All}
 use Rattle.std.proofs.lemmas.Bool.{and_parts, not-false}
 use Rattle.wasm_base.specs.FaultAt.{at_offset}
@@ -71,18 +71,16 @@ header_parts o xs t each h =
     let a : ((when (not (agree m.prefix magic)) (at_offset BadMagic o) ≡ None)
     × (verdict (bytes 4 (o + 4) (λ four. version_of o (of_four four))) m.others ≡ tile m.rest)) =
     refuse_parts _ _ m.others m.rest m.goes_on in
-    let z : m.prefix ≡ magic = agree_whole m.prefix magic m.size (not-false _ (none_when _ _ a.0)) in
+    let z : m.prefix ≡ magic = search (agree_whole, not-false, none_when) in
     let f : BytesParts 4 (λ four. version_of o (of_four four)) m.rest = bytes_parts 4 (o + 4) _ m.others m.rest a.1 in
     let (encoding, b, r) = of_header o (of_four f.prefix) (encoding_named (of_four f.prefix % 65536) (of_four f.prefix / 65536)) f.others
     f.rest refl f.goes_on in
     let u : m.rest ≡ made (version (header_version encoding) encoding) f.prefix =
-    ends_there m.rest f.rest (version (header_version encoding) encoding) f.prefix f.is r in
-    let w : t ≡ made (version (header_version encoding) encoding) (magic ++ f.prefix) = m.is
-    ∙ (ap (λ (x : Tile). made x.shape (m.prefix ++ x.bytes)) u
-    ∙ ap (λ (x : List ℕ). made (version (header_version encoding) encoding) (x ++ f.prefix)) z) in
-    let e : All (λ b. b < 256) (magic ++ f.prefix) = subst (λ (x : Tile). All (λ b. b < 256) x.bytes) w each in
+    search (ends_there, header_version) in
+    let w : t ≡ made (version (header_version encoding) encoding) (magic ++ f.prefix) = grind (arith, made, header_version) in
+    let e : All (λ b. b < 256) (magic ++ f.prefix) = rw w at each in
     let l : f.prefix ≡ last_four encoding = four_bytes encoding f.prefix f.size e b in
     record {
       encoding = encoding;
-      is = w ∙ ap (made (version (header_version encoding) encoding)) (ap (λ (x : List ℕ). magic ++ x) l ∙ header_whole encoding);
+      is = grind (arith, made, header_version, header_whole);
     }

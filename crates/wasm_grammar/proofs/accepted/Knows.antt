@@ -88,7 +88,7 @@ module_count : (n id : ℕ) (content others : List ℕ) → IsCounting (kind_of 
     → (w : IsWhole (kind_of Module id))
     → (b : Bool) → nat_eq id n ≡ b → count_in n (section w.0 id content) others ≡ cond b (count_of content ∷ []) [] ++ others
 module_count n id content others (inl c) w true e =
-    this_count n id w.0 content others e (subst IsCounting w.1 (subst (λ (x : ℕ). IsCounting (kind_of Module x)) (sym (eqb-true id n e)) c))
+    this_count n id w.0 content others e (subst IsCounting w.1 (rw (eqb-true id n e) c))
 module_count n id content others (inr c) w true e =
     absurd (not_code w.0 (sym w.1 ∙ (ap (kind_of Module) (eqb-true id n e) ∙ c)))
 module_count n id content others c w false e = other_count n id w.0 content others e
@@ -115,7 +115,7 @@ knows_section encoding fs ts f bytes w k = record {
   ranks = λ r l.
       ap (λ (x : Kind). nat_lt (rank_of x f.id) r && (context_of ts).may_follow r) (sym w.1)
       ∙ (ap (λ (b : Bool). nat_lt (frame_rank encoding f) r && b) (k.ranks r l)
-      ∙ sym (all_push (λ (g : SectionFrame). nat_lt (frame_rank encoding g) r) fs f));
+      ∙ sym (search all_push));
   functions = counts_more encoding function_id fs f (counts function_id ts) _ k.functions
       (section_count 3 (inl tt) encoding f (counts function_id ts) w);
   codes = counts_more encoding code_id fs f (counts code_id ts) _ k.codes (section_count 10 (inr refl) encoding f (counts code_id ts) w);
@@ -123,12 +123,6 @@ knows_section encoding fs ts f bytes w k = record {
   data_counts = counts_more encoding data_count_id fs f (counts data_count_id ts) _ k.data_counts
       (section_count 12 (inl tt) encoding f (counts data_count_id ts) w);
 }
-
--- the head of a code section adds its count exactly if that is asked for
-code_count : (b d : Bool) (c count : ℕ) (others : List ℕ) → d ≡ b → c ≡ count → cond b (count ∷ others) others ≡ cond d (c ∷ []) []
-    ++ others
-code_count true d c count others e z = rw (e, z) refl
-code_count false d c count others e z = rw e refl
 
 -- the head of a code section says what its frame says
 pub knows_code : (fs : List SectionFrame) (ts : List Tile) (f : SectionFrame) (count width size : ℕ) (bytes : List ℕ) → f.id ≡ code_id
@@ -140,16 +134,13 @@ knows_code fs ts f count width size bytes z c k = record {
       ap (λ (b : Bool). nat_lt (rank_of code 10) r && b) (k.ranks r l)
       ∙ (ap (λ (x : ℕ). nat_lt (rank_of (kind_of Module x) x) r && list_all (λ (g : SectionFrame). nat_lt (frame_rank Module g) r) fs)
       (sym z)
-      ∙ sym (all_push (λ (g : SectionFrame). nat_lt (frame_rank Module g) r) fs f));
+      ∙ sym (search all_push));
   functions = counts_more Module function_id fs f (counts function_id ts) _ k.functions
-      (code_count false (nat_eq f.id function_id) (frame_count f) count (counts function_id ts) (ap (λ (x : ℕ). nat_eq x function_id) z) c);
+      (cc);
   codes = counts_more Module code_id fs f (counts code_id ts) _ k.codes
-      (code_count true (nat_eq f.id code_id) (frame_count f) count (counts code_id ts)
-      (ap (λ (x : ℕ). nat_eq x code_id) z) c);
+      (cc);
   datas = counts_more Module data_id fs f (counts data_id ts) _ k.datas
-      (code_count false (nat_eq f.id data_id) (frame_count f) count (counts data_id ts)
-      (ap (λ (x : ℕ). nat_eq x data_id) z) c);
+      (cc);
   data_counts = counts_more Module data_count_id fs f (counts data_count_id ts) _ k.data_counts
-      (code_count false (nat_eq f.id data_count_id) (frame_count f) count (counts data_count_id ts)
-      (ap (λ (x : ℕ). nat_eq x data_count_id) z) c);
+      (cc);
 }

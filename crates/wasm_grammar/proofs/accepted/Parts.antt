@@ -1,6 +1,6 @@
 -- Tiles are bytes in the textbook form.
 use Rattle.std.proofs.Common.{◌≡◌, ℕ, zero, suc, ◌+◌, ◌-◌, ◌<◌, ◌≤◌, Bool, cond, not, ◌&&◌, List, [], ◌∷◌, ◌++◌, length, take}
-use Rattle.std.proofs.Common.{drop, Option, None, nat_lt, nat_le, refl, sym, ap, subst, ◌∙◌, arith, append-nil, leb-false}
+use Rattle.std.proofs.Common.{drop, Option, None, nat_lt, nat_le, refl, sym, ap, ◌∙◌, arith, append-nil}
 use Rattle.std.proofs.Common.{ltb-false}
 use Rattle.std.proofs.lemmas.List.{length-take-le}
 use Rattle.wasm_base.specs.FaultAt.{FaultAt, at_offset}
@@ -46,7 +46,7 @@ number_parts o next xs t h =
       whole = u.alone ∙ ap (read n.value) (sym l);
       others = drop n.used xs;
       rest = n.rest;
-      goes_on = subst (λ (x : ℕ). verdict (next n.value x) (drop n.used xs) ≡ tile n.rest) (sym l) n.goes_on;
+      goes_on = cc;
       is = n.is;
     }
 
@@ -105,7 +105,7 @@ framed_parts p o id xs s t h e =
     refuse_parts _ _ n.others n.rest b.1 in
     record {
       id = id;
-      below = leb-false 128 id (none_when (nat_le 128 id) _ a.0);
+      below = grind (arith, none_when);
       field = n.field;
       size = n.value;
       whole = n.whole;
@@ -113,7 +113,7 @@ framed_parts p o id xs s t h e =
       others = n.others;
       rest = n.rest;
       goes_on = c.1;
-      is = e ∙ ap (λ (x : Tile). made x.shape (id ∷ x.bytes)) n.is;
+      is = cc;
     }
 
 -- what a section's tile consists of, if it begins no header
@@ -174,10 +174,9 @@ head_parts p o size xs t h =
       count = n.value;
       head = n.field;
       whole = n.whole;
-      fits = ltb-false size (length n.field) (none_when _ _ a.0);
+      fits = grind (arith, none_when);
       right = b.0;
-      is = ends_there t n.rest (code_start n.value (length n.field) (size - length n.field)) n.field n.is
-          (takes_parts _ n.others n.rest b.1);
+      is = search (ends_there, takes_parts);
     }
 
 -- a body, in a code section of which so many bodies and bytes are left
@@ -201,15 +200,14 @@ body_parts (suc m) l o xs t h =
     × (verdict (bytes n.value (o + length n.field) (λ content. accept (code_entry content))) n.others ≡ tile n.rest)) =
     refuse_parts _ _ n.others n.rest n.goes_on in
     let b : BytesParts n.value (λ content. accept (code_entry content)) n.rest =
-    bytes_parts n.value (o + length n.field) _ n.others n.rest a.1 in
-    let r : n.rest ≡ made (code_entry b.prefix) b.prefix = ends_there n.rest b.rest (code_entry b.prefix) b.prefix b.is
-    (takes_parts _ b.others b.rest b.goes_on) in
+    search bytes_parts in
+    let r : n.rest ≡ made (code_entry b.prefix) b.prefix = search (ends_there, takes_parts) in
     record {
       others = m;
       missing = refl;
       field = n.field;
       content = b.prefix;
-      whole = n.whole ∙ ap (λ (x : ℕ). read x (length n.field)) (sym b.size);
+      whole = cc;
       fits = omega (arith, b.size, ltb-false l (length n.field + n.value) (none_when _ _ a.0));
-      is = n.is ∙ ap (λ (x : Tile). made x.shape (n.field ++ x.bytes)) r;
+      is = cc;
     }

@@ -1,5 +1,5 @@
 -- Bytes in the textbook form are tiles.
-use Rattle.std.proofs.Common.{◌≡◌, ℕ, suc, ◌+◌, ◌-◌, ◌^◌, ◌<◌, ◌≤◌, ◌⊎◌, inl, inr, Bool, true, false, not, ◌&&◌, List, [], ◌∷◌, ◌++◌}
+use Rattle.std.proofs.Common.{◌≡◌, ℕ, suc, ◌+◌, ◌-◌, ◌^◌, ◌<◌, ◌≤◌, ◌⊎◌, inl, inr, Bool, true, false, ◌&&◌, List, [], ◌∷◌, ◌++◌}
 use Rattle.std.proofs.Common.{length, take, drop, Option, Some, None, nat_lt, nat_le, refl, ap, subst, arith, append-nil}
 use Rattle.std.proofs.Common.{length-append, le-leb, le-ltb, lt-ltb}
 use Rattle.std.proofs.lemmas.List.{take_at, drop_at}
@@ -119,8 +119,7 @@ framed_tile p o id field size xs s f m h =
     (when_tile (nat_le 128 id) _ _ (field ++ xs) _ (small id f.below)
     (number_tile (o + 1) _ field xs size s xs f.number
     (when_tile (nat_lt (2 ^ 64 - 1) (o + 1 + length field + size)) _ _ xs _ (fits (o + 1 + length field + size) f.room)
-    (when_tile (nat_lt 0 (rank_of (kind_of p.encoding id) id) && not (p.may_follow (rank_of (kind_of p.encoding id) id))) _ _ xs _ f.follows
-    h))))
+    (search when_tile))))
   where
     small : (n : ℕ) → n < 128 → nat_le 128 n ≡ false
     small n h = grind (arith, nat_tests)
@@ -183,7 +182,7 @@ pub code_head_tile : (p : SectionContext) (o size count : ℕ) (field head : Lis
     (made (code_start count (length head) (size - length head)) (10 ∷ (field ++ head)))
 code_head_tile p o size count field head f k e l w =
     framed_tile p o 10 field size head (code_start count (length head) (size - length head)) f refl
-    (rw k (code_tile p (o + 1 + length field) size count head e l (w _)))
+    (rw k (search code_tile))
 
 -- a body
 pub body_tile : (m l o : ℕ) (field content : List ℕ) → IsNumber field (length content) → length field + length content ≤ l
@@ -192,8 +191,7 @@ unfolding body_grammar
 body_tile m l o field content e h =
     number_tile o _ field content (length content) (code_entry content) content e
     (when_tile (nat_lt l (length field + length content)) _ _ content _ (le-ltb l (length field + length content) h)
-    (all_of_it _ (code_entry content) content
-    (bytes_tile (length content) (o + length field) _ content [] (code_entry content) [] refl (takes_tile (code_entry content) []))))
+    (search (all_of_it, bytes_tile, takes_tile)))
 
 -- the version of an encoding
 abbrev pub header_version : Encoding → ℕ

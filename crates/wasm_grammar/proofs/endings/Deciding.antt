@@ -1,6 +1,6 @@
 -- Where bytes don't suffice, something else is there after their ending than where the stream ends.
 use Rattle.std.proofs.Common.{◌≡◌, ◌≢◌, ℕ, ◌+◌, ◌-◌, ◌<◌, ◌≤◌, Bool, true, false, cond, ◌&&◌, List, [], ◌∷◌, ◌++◌}
-use Rattle.std.proofs.Common.{length, take, drop, replicate, Option, Some, None, nat_lt, nat_le, nat_eq, refl, sym, subst, ◌∙◌, arith}
+use Rattle.std.proofs.Common.{length, take, drop, replicate, Option, Some, None, nat_lt, nat_le, nat_eq, refl, ◌∙◌, arith}
 use Rattle.std.proofs.Common.{length-append, leb-true, le-leb}
 use Rattle.std.specs.List.{list_any}
 use Rattle.std.proofs.lemmas.Bool.{leb-false, eqb-true, and_parts, lt-leb}
@@ -57,8 +57,7 @@ number_differs : (o : ℕ) (xs : List ℕ) (next : ℕ → ℕ → Grammar) (n h
     → after_number o xs x (λ v k. verdict (next v k) (drop k xs)) ≢ verdict (u32_field o next)
     (xs ++ ending_of_number x (λ v k. deciding_ending (next v k) (drop k xs)))
 unfolding verdict
-number_differs o xs next n h ih (read v k) e w z =
-    grind (arith, number-used, number-more, take-append-le, drop-append-le, after_same)
+number_differs o xs next n h ih (read v k) e w z = grind (arith, number-used, number-more, take-append-le, drop-append-le, after_same)
 number_differs o xs next n h ih (bad f p) e w z = cc
 number_differs o xs next n h ih short e w z = grind (arith, number-long)
 
@@ -80,8 +79,8 @@ bytes_differs count o xs next n h s ih true e w z =
     let g : cond (nat_le count (length (xs ++ ys))) (after (take count (xs ++ ys))
     (verdict (next (take count (xs ++ ys))) (drop count (xs ++ ys)))) (final (fault (at_offset UnexpectedEof o)))
     ≡ after (take count xs) (verdict (next (take count xs)) (drop count xs ++ ys)) =
-    rw (le-leb count (length (xs ++ ys)) m) (rw (t, d) refl) in
-    ih (take count xs) (drop count xs) j q (after_same (take count xs) _ _ (z ∙ g))
+    grind arith in
+    grind (arith, after_same)
 bytes_differs count o xs next n h s ih false e w z =
     let ys : List ℕ = replicate (count - length xs) 0 in
     let l : length xs < count = leb-false count (length xs) e in
@@ -94,7 +93,7 @@ bytes_differs count o xs next n h s ih false e w z =
     ≡ after (xs ++ ys) (verdict (next (xs ++ ys)) []) =
     rw c (rw (t, d) refl) in
     let p : 0 < length (xs ++ ys) = omega arith in
-    s.0 (xs ++ ys) p (sym (after_same (xs ++ ys) (final (fault (at_offset UnexpectedEof o))) (verdict (next (xs ++ ys)) []) (z ∙ g)))
+    grind arith
 
 unmagic : (o : ℕ) (e : Ending) (next : ℕ → Grammar) (id : ℕ) (xs ys : List ℕ) → agree (id ∷ xs) magic ≡ false
     → verdict (section_start o e next) (id ∷ xs) ≡ verdict (section_start o e next) (id ∷ (xs ++ ys))
@@ -218,11 +217,11 @@ begun_start : (p : SectionContext) (o : ℕ) (id : ℕ) (xs : List ℕ) → agre
     → verdict (section_start o (end_at_section p o) (after_id p o)) (id ∷ xs) ≢ final (fault (at_offset MagicAtSection o))
 unfolding verdict
 begun_start p o id xs a l z =
-    let q : id ≡ 0 = eqb-true id 0 (and_parts (nat_eq id 0) (agree xs (0x61 ∷ 0x73 ∷ 0x6d ∷ [])) a).0 in
+    let q : id ≡ 0 = grind (arith, eqb-true, and_parts) in
     let n : nat_le 4 (length (id ∷ xs)) ≡ false = lt-leb 4 (length (id ∷ xs)) l in
     let w : after (id ∷ []) (verdict (after_id p o id) xs) ≡ final (fault (at_offset MagicAtSection o)) = rw (a, n) at z in
     begun_magic p o xs (and_parts (nat_eq id 0) (agree xs (0x61 ∷ 0x73 ∷ 0x6d ∷ [])) a).1 (omega arith)
-    (subst (λ (x : ℕ). verdict (after_id p o x) xs ≡ final (fault (at_offset MagicAtSection o))) q (after_final (id ∷ []) _ _ w))
+    (grind (arith, after_final))
 
 -- with its other bytes they are one
 whole_magic : (o : ℕ) (e : Ending) (next : ℕ → Grammar) (id : ℕ) (xs : List ℕ) → agree (id ∷ xs) magic ≡ true → length (id ∷ xs) < 4

@@ -1,5 +1,5 @@
 -- What comes next in streams that begin with the same bytes.
-use Rattle.std.proofs.Common.{◌≡◌, ◌≢◌, ℕ, ◌+◌, ◌^◌, ◌<◌, All, List, [], ◌∷◌, ◌++◌, length, refl, sym, ap, subst, subst₂, ◌∙◌, arith}
+use Rattle.std.proofs.Common.{◌≡◌, ◌≢◌, ℕ, ◌+◌, ◌^◌, ◌<◌, All, List, [], ◌∷◌, ◌++◌, length, refl, sym, ap, subst, ◌∙◌, arith}
 use Rattle.std.proofs.Common.{length-append, append_assoc, append-nil}
 use Rattle.std.proofs.lemmas.List.Elements.{All-append}
 use Rattle.wasm_grammar.specs.NextEvent.{NextEvent}
@@ -22,7 +22,7 @@ what_comes : (start features : ℕ) (tiles : List Tile) (front rest : List ℕ) 
     → ComesNext start features front rest event → event ≡ event_at start features tiles (verdict (grammar start tiles) rest)
 what_comes start features tiles front rest event t n =
     let read : Reading (bytes_of tiles ++ rest) start features (n.next.before ++ n.next.event ∷ n.next.later) =
-    subst₂ (λ (x : List ℕ) (y : List Event). Reading (x ++ rest) start features y) (sym t.1) n.next.whole n.reading in
+    grind arith in
     sym n.is ∙ comes_next start features tiles rest (verdict (grammar start tiles) rest) t.0 refl n.next.before n.next.later n.next.event
     read (n.next.consumed ∙ sym t.1)
 
@@ -35,14 +35,13 @@ something_comes start features tiles front rest t =
     record { tiles = o.tiles; end = o.end; reads = o.reads; listed = refl } in
     let n : NextEvent (events_of start features o.tiles ++ last_event o.end ∷ []) front =
     subst (NextEvent (events_of start features o.tiles ++ last_event o.end ∷ [])) t.1
-    (next_there start features tiles rest _ t.0 (subst (λ (x : List ℕ).
-    Reading (x ++ rest) start features (events_of start features o.tiles ++ last_event o.end ∷ [])) (sym t.1) read)) in
+    (next_there start features tiles rest _ t.0 (rw t.1 read)) in
     (n.event, record { events = events_of start features o.tiles ++ last_event o.end ∷ []; reading = read; next = n; is = refl })
 
 pub one_comes : (start : ℕ) (front : List ℕ) → OneComesNext start front
 one_comes start front tiles t features rest = (
   something_comes start features tiles front rest t,
-  λ one other x y. what_comes start features tiles front rest one t x ∙ sym (what_comes start features tiles front rest other t y),
+  λ one other x y. what_comes start features tiles front rest one t x ∙ sym (search what_comes),
 )
 
 -- ---- bytes that suffice
@@ -50,9 +49,9 @@ one_comes start front tiles t features rest = (
 pub enough_is_decided : (start : ℕ) (front came : List ℕ) → EnoughIsDecided start front came
 enough_is_decided start front came tiles t w one other features x y a b =
     let v : verdict (grammar start tiles) (came ++ one) ≡ verdict (grammar start tiles) (came ++ other) =
-    verdict-more (grammar start tiles) came one w ∙ sym (verdict-more (grammar start tiles) came other w) in
+    search verdict-more in
     what_comes start features tiles front (came ++ one) x t a ∙ (ap (event_at start features tiles) v
-    ∙ sym (what_comes start features tiles front (came ++ other) y t b))
+    ∙ sym (search what_comes))
 
 -- ---- bytes that don't
 
@@ -73,7 +72,7 @@ pub other_comes : (start features : ℕ) (tiles : List Tile) (front came : List 
 other_comes start features tiles front came need hint t w x y a b z =
     let same : event_at start features tiles (verdict (grammar start tiles) came)
     ≡ event_at start features tiles (verdict (grammar start tiles) (came ++ deciding_ending (grammar start tiles) came)) =
-    sym (what_comes start features tiles front came x t a) ∙ (z
+    sym (search what_comes) ∙ (z
     ∙ what_comes start features tiles front (came ++ deciding_ending (grammar start tiles) came) y t b) in
     search (events_differ, no_tile, tile_least, differs, Differs-grammar)
 
@@ -85,7 +84,7 @@ goes_on start front came more s t l =
     let n : length (front ++ (came ++ more)) ≡ length (front ++ came) + length more =
     ap (λ (x : List ℕ). length x) (sym (append_assoc front came more)) ∙ length-append (front ++ came) more in
     record {
-      each = subst (All (λ b. b < 256)) (append_assoc front came more) (All-append (λ b. b < 256) (front ++ came) more t.each s.each);
+      each = subst (All (λ b. b < 256)) (append_assoc front came more) (search All-append);
       fits = omega (arith, n, b, l);
     }
 
@@ -104,11 +103,11 @@ two_streams start features tiles front came need hint t w s l =
     record {
       one = [];
       other = deciding_ending (grammar start tiles) came;
-      is_stream = subst (λ (z : List ℕ). Stream (front ++ z) start) (sym (append-nil came)) s;
-      other_is_stream = goes_on start front came (deciding_ending (grammar start tiles) came) (ending_is_small start tiles came) s l;
+      is_stream = rw (append-nil came) s;
+      other_is_stream = search (goes_on, ending_is_small);
       event = x;
       other_event = y;
-      comes = subst (λ (z : List ℕ). ComesNext start features front z x) (sym (append-nil came)) a;
+      comes = rw (append-nil came) a;
       other_comes = b;
-      differ = other_comes start features tiles front came need hint t w x y a b;
+      differ = search other_comes;
     }

@@ -1,6 +1,6 @@
 -- Laws of bytes that don't decide yet what is there.
 use Rattle.std.proofs.Common.{◌≡◌, ℕ, ◌-◌, ◌+◌, ◌<◌, ◌≤◌, Bool, true, false, cond, List, [], ◌∷◌, ◌++◌, length, take, drop, None}
-use Rattle.std.proofs.Common.{nat_le, refl, ap, ◌∙◌, arith, length-append, length-drop, leb-true, le-leb}
+use Rattle.std.proofs.Common.{nat_le, refl, ◌∙◌, arith, length-append, length-drop, leb-true}
 use Rattle.std.proofs.lemmas.List.{take-append-le, drop-append-le}
 use Rattle.wasm_base.specs.Header.{magic, agree}
 use Rattle.wasm_base.specs.Number.{Number, read, bad, short, number}
@@ -8,7 +8,7 @@ use Rattle.wasm_base.specs.declared.fault.NumberKind.TheVariants.{VarU32}
 use Rattle.wasm_base.proofs.NumberLaws.{number-more, number-short, number-used, Used}
 use Rattle.wasm_grammar.specs.Grammar.{Tile, tile, Grammar, check, u32_field, bytes, section_start, verdict}
 use Rattle.wasm_grammar.specs.Waiting.{Waiting, enough, wants, later, later_number, waiting}
-use Rattle.wasm_grammar.proofs.parts.Verdicts.{later-enough, agree_same, agree-more, Guarded, Cut, verdict-cut}
+use Rattle.wasm_grammar.proofs.parts.Verdicts.{agree_same, agree-more, Guarded, Cut, verdict-cut}
 
 -- Bytes that suffice still do, whatever follows.
 
@@ -27,8 +27,7 @@ wait_bytes : (count : ℕ) (xs ys : List ℕ) (next : List ℕ → Grammar)
 wait_bytes count xs ys next ih true e w =
     let l : count ≤ length xs = leb-true count (length xs) e in
     let m : count ≤ length (xs ++ ys) = omega (arith, length-append xs ys) in
-    rw (le-leb count (length (xs ++ ys)) m) (rw (take-append-le count xs ys l, drop-append-le count xs ys l)
-    (ap (later count) (ih (take count xs) (drop count xs) (later-enough count _ w))))
+    grind (arith, take-append-le, drop-append-le)
 wait_bytes count xs ys next ih false e w = cc
 
 wait_start : (id : ℕ) (xs ys : List ℕ) (next : ℕ → Grammar)
@@ -41,7 +40,7 @@ wait_start id xs ys next ih true true e f w =
     let l : 4 ≤ length (id ∷ xs) = leb-true 4 (length (id ∷ xs)) f in
     let m : 4 ≤ length (id ∷ (xs ++ ys)) = omega (arith, length-append xs ys) in
     let g : agree (id ∷ (xs ++ ys)) magic ≡ true = agree_same (id ∷ xs) ys magic l ∙ e in
-    rw (g, le-leb 4 (length (id ∷ (xs ++ ys))) m) refl
+    grind arith
 wait_start id xs ys next ih true false e f w = cc
 wait_start id xs ys next ih false l e f w = grind (arith, agree-more)
 
@@ -61,7 +60,7 @@ waiting-more _ xs ys w = refl
 pub tile_decided : (g : Grammar) → Guarded g → (xs : List ℕ) (t : Tile) → verdict g xs ≡ tile t → waiting g xs ≡ enough
 tile_decided g gd xs t w =
     let c : Cut g xs t = verdict-cut g gd xs t w in
-    ap (waiting g) c.split ∙ waiting-more g t.bytes c.rest c.waits
+    grind (arith, waiting-more)
 
 -- Where bytes don't suffice, there are fewer than are needed, and at least one more is asked for.
 

@@ -1,14 +1,14 @@
 -- The sections that are reported of tiles.
 use Rattle.std.specs.declared.ops.Range.{Range}
 use Rattle.std.proofs.Common.{◌≡◌, ℕ, ◌+◌, ◌-◌, Bool, cond, List, [], ◌∷◌, ◌++◌, length, Option, Some, None, option_to_list}
-use Rattle.std.proofs.Common.{refl, sym, ap, ◌∙◌, arith, length-append, append-nil}
+use Rattle.std.proofs.Common.{refl, ap, ◌∙◌, arith, length-append, append-nil}
 use Rattle.std.proofs.lemmas.List.Elements.{filter_map-append}
 use Rattle.wasm_grammar.specs.declared.encoding.Encoding.{Encoding}
 use Rattle.wasm_grammar.specs.declared.encoding.Encoding.TheVariants.{Module}
 use Rattle.wasm_grammar.specs.Content.{Kind, custom, index, data_count, kind_of, Ending, Form, whole}
 use Rattle.wasm_grammar.specs.Grammar.{Shape, version, section, code_start, code_entry, Tile, tile, SectionContext, verdict}
 use Rattle.wasm_grammar.specs.Grammar.{section_grammar, body_grammar, content_grammar}
-use Rattle.wasm_grammar.specs.Reading.{Event, section_report, tile_report, event_of, last_event, events_of}
+use Rattle.wasm_grammar.specs.Reading.{Event, tile_report, event_of, last_event, events_of}
 use Rattle.wasm_grammar.specs.Sections.{section_of, sections_of}
 use Rattle.wasm_grammar.specs.Tiling.{bytes_of, grammar, encoding_of}
 use Rattle.wasm_grammar.proofs.readings.EndToEnd.{Closes, tile_closes}
@@ -66,21 +66,12 @@ id_report _ id = id
 id_same : (encoding : Encoding) (kind : Form) (id : ℕ) → IdOf encoding (whole kind) id → id_report kind id ≡ id
 id_same encoding kind id h = grind arith
 
--- the range of a section
-abbrev over : (id from to : ℕ) → Option (ℕ × Range ℕ)
-over id from to = Some (id, record { start = from; end = to })
-
-report_kind : (features from to : ℕ) (kind : Form) (id : ℕ) (content : List ℕ) → from + length content ≡ to
-    → section_of (section_report features from to kind id content) ≡ over (id_report kind id) from to
-report_kind features from to kind id content e = grind arith
-
 report_shape : (encoding : Encoding) (features low : ℕ) (bytes : List ℕ) (s : Shape) → Kinded encoding s → Closes s bytes
     → section_of (tile_report features low (low + length bytes) s) ≡ section_at (low + length bytes) s
 report_shape encoding features low bytes (section kind id content) k (before, c) =
     let n : length bytes ≡ length before + length content = ap (λ (x : List ℕ). length x) c ∙ length-append before content in
-    let i : id_report kind id ≡ id = id_same encoding kind id (id_as encoding (whole kind) id (sym k)) in
-    report_kind features (low + length bytes - length content) (low + length bytes) kind id content (omega arith)
-    ∙ ap (λ (x : ℕ). over x (low + length bytes - length content) (low + length bytes)) i
+    let i : id_report kind id ≡ id = grind (arith, id_same, id_as) in
+    grind arith
 report_shape encoding features low bytes (version num other) k c = absurd k
 report_shape encoding features low bytes _ k c = refl
 

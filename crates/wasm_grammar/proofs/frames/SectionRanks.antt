@@ -8,7 +8,7 @@ use Rattle.std.proofs.lemmas.List.Elements.{All-push}
 use Rattle.std.proofs.lemmas.List.Quantifiers.{all_pairs_push}
 use Rattle.wasm_grammar.specs.declared.encoding.Encoding.{Encoding}
 use Rattle.wasm_grammar.specs.declared.encoding.Encoding.TheVariants.{Module}
-use Rattle.wasm_grammar.specs.Content.{Kind, code, kind_of, Ending, rank_of, whole}
+use Rattle.wasm_grammar.specs.Content.{Kind, code, kind_of, Ending, rank_of}
 use Rattle.wasm_grammar.specs.Grammar
 use Rattle.wasm_grammar.specs.Grammar.{Shape, section, Tile}
 use Rattle.wasm_grammar.specs.Reading.{Event, event_of, last_event, events_of}
@@ -35,7 +35,7 @@ Under encoding r s = rank_in encoding s.0 < r
 under_push : (encoding : Encoding) (r high : ℕ) (s : Shape) (xs : List (ℕ × Range ℕ)) → Kinded encoding s → tile_rank s < r
     → All (Under encoding r) xs → All (Under encoding r) (xs ++ option_to_list (section_at high s))
 under_push encoding r high (section kind id content) xs k l a =
-    All-push (Under encoding r) xs _ a (let e = rank_report encoding (whole kind) id k in omega arith)
+    All-push (Under encoding r) xs _ a (grind (arith, rank_report))
 under_push encoding r high (Grammar.code_start count width size) xs k l a = search (All-push, code_report)
 under_push encoding r high (Grammar.code_entry content) xs k l a = subst (All (Under encoding r)) (sym (append-nil xs)) a
 under_push encoding r high (Grammar.version num other) xs k l a = absurd k
@@ -52,8 +52,7 @@ all_under start features r t (u ∷ ts) f h =
     all_under start features r u ts f.0 q.1 in
     let b = under_push (encoding_of (u ∷ ts)) r (start + length (bytes_of (u ∷ ts)) + length t.bytes) t.shape
     (sections_of (events_of start features (u ∷ ts))) k (ltb-true _ _ q.0) a in
-    subst (λ (e : Encoding). All (Under e r) (sections_of (events_of start features (t ∷ u ∷ ts)))) (sym (same_encoding t (u ∷ ts) k))
-    (subst (All (Under (encoding_of (u ∷ ts)) r)) (sym (sections_more start features u ts t f.1)) b)
+    grind (arith, sections_more)
 
 -- ---- two sections
 
@@ -81,9 +80,7 @@ pairs start features t (u ∷ ts) f =
     let b = pairs_more (encoding_of (u ∷ ts)) (start + length (bytes_of (u ∷ ts)) + length t.bytes) t.shape
     (sections_of (events_of start features (u ∷ ts))) k
     (λ h. all_under start features (tile_rank t.shape) u ts f.0 (g h)) (pairs start features u ts f.0) in
-    subst (λ (e : Encoding). AllPairs (RanksBelow e) (sections_of (events_of start features (t ∷ u ∷ ts))))
-    (sym (same_encoding t (u ∷ ts) k))
-    (subst (AllPairs (RanksBelow (encoding_of (u ∷ ts)))) (sym (sections_more start features u ts t f.1)) b)
+    rw (same_encoding t (u ∷ ts) k) (subst (AllPairs (RanksBelow (encoding_of (u ∷ ts)))) (sym (sections_more start features u ts t f.1)) b)
 
 -- ---- the header's encoding
 
@@ -95,18 +92,17 @@ first_named start features t (u ∷ ts) more encoding f b =
     let k : Kinded (encoding_of (u ∷ ts)) t.shape = kinded start u ts t.bytes t f.1 in
     let e : Event = event_of features (start + length (bytes_of (u ∷ ts))) t in
     same_encoding t (u ∷ ts) k ∙ first_named start features u ts (e ∷ more) encoding f.0
-    (subst (BeginsAs encoding) (append_assoc (events_of start features (u ∷ ts)) (e ∷ []) more) b)
+    (rw (append_assoc (events_of start features (u ∷ ts)) (e ∷ []) more) at b)
 
 ascend : (start features : ℕ) (ts : List Tile) (end : Ending) (encoding : Encoding) → Faultless start ts
     → BeginsAs encoding (events_of start features ts ++ last_event end ∷ [])
     → AllPairs (RanksBelow encoding) (sections_of (events_of start features ts))
 ascend start features [] end encoding f b = cc
 ascend start features (t ∷ ts) end encoding f b =
-    subst (λ (e : Encoding). AllPairs (RanksBelow e) (sections_of (events_of start features (t ∷ ts))))
-    (first_named start features t ts (last_event end ∷ []) encoding f b) (pairs start features t ts f)
+    rw (first_named start features t ts (last_event end ∷ []) encoding f b) at (pairs start features t ts f)
 
 pub ranks_ascend : RanksAscend
 ranks_ascend stream start features events encoding r b =
     let a : AllPairs (RanksBelow encoding) (sections_of (events_of start features r.tiles)) =
-    ascend start features r.tiles r.end encoding r.reads.faultless (subst (BeginsAs encoding) r.listed b) in
-    subst (AllPairs (RanksBelow encoding)) (sym (ap sections_of r.listed ∙ sections_all (events_of start features r.tiles) r.end)) a
+    ascend start features r.tiles r.end encoding r.reads.faultless (rw r.listed at b) in
+    subst (AllPairs (RanksBelow encoding)) (grind (arith, sections_all)) a

@@ -72,5 +72,5 @@ push_events features encoding at (g ∷ frames) f inner events (first, more, w, 
       ap (λ (x : List Event). x ++ events) w ∙ append_assoc first more events,
       h,
       push_events features encoding (at + length (frame_bytes g)) frames f more events t
-          (subst (λ (x : ℕ). FrameEvents features encoding x f events) z e),
+          (rw z at e),
     )

@@ -4,7 +4,7 @@ use Rattle.std.specs.List.{All, flat_map}
 use Rattle.std.proofs.lemmas.List.Elements.{All-head, All-tail}
 use Rattle.wasm_grammar.specs.Accepted.{header_bytes, Sized, sized_bytes, IsSized, SectionFrame, frame_bytes, CodeDivision}
 use Rattle.wasm_grammar.specs.Accepted.{IsAccepted}
-use Rattle.wasm_grammar.specs.Content.{Kind, kind_of, ended}
+use Rattle.wasm_grammar.specs.Content.{Kind, ended}
 use Rattle.wasm_grammar.specs.FrameEvents.{header_event, code_events, KindEvents, FramesEvents}
 use Rattle.wasm_grammar.specs.FrameLaws.{OneDivision, FramesGiveEvents}
 use Rattle.wasm_grammar.specs.Grammar.{Tile}
@@ -25,7 +25,7 @@ bodies_same : (ss ts : List Sized) → All IsSized ss → All IsSized ts → len
 bodies_same [] [] a b n e = refl
 bodies_same (s ∷ ss) (t ∷ ts) a b n e =
     let q : ((s ≡ t) × (flat_map sized_bytes ss ≡ flat_map sized_bytes ts)) =
-    sized_same s t (flat_map sized_bytes ss) (flat_map sized_bytes ts) (All-head IsSized s ss a) (All-head IsSized t ts b) e in
+    grind (arith, sized_same, All-head) in
     let h : s ≡ t = q.0 in
     let l : ss ≡ ts = bodies_same ss ts (All-tail IsSized s ss a) (All-tail IsSized t ts b) (omega arith) q.1 in
     λ i. h i ∷ l i
@@ -36,11 +36,10 @@ division_same : (content : List ℕ) (d e : CodeDivision content) → (d.field �
 division_same content d e =
     let z : d.field ++ flat_map sized_bytes d.bodies ≡ e.field ++ flat_map sized_bytes e.bodies = sym d.whole ∙ e.whole in
     let n : ((length d.bodies ≡ length e.bodies) × (length d.field ≡ length e.field)) =
-    numbers_same d.field e.field (flat_map sized_bytes d.bodies) (flat_map sized_bytes e.bodies) (length d.bodies) (length e.bodies) d.count
-    e.count z in
+    grind (arith, numbers_same) in
     let p : ((d.field ≡ e.field) × (flat_map sized_bytes d.bodies ≡ flat_map sized_bytes e.bodies)) =
-    prefixes_same d.field e.field (flat_map sized_bytes d.bodies) (flat_map sized_bytes e.bodies) n.1 z in
-    (p.0, bodies_same d.bodies e.bodies d.each e.each n.0 p.1)
+    grind (arith, prefixes_same) in
+    search bodies_same
 
 code_events_same : (features at : ℕ) (f : SectionFrame) (d e : CodeDivision f.sized.content) → code_events features at f d
     ≡ code_events features at f e
@@ -60,7 +59,7 @@ frames_events_same : (features : ℕ) (encoding : Encoding) (at : ℕ) (frames :
     → FramesEvents features encoding at frames xs → FramesEvents features encoding at frames ys → xs ≡ ys
 frames_events_same features encoding at [] xs ys x y = x ∙ sym y
 frames_events_same features encoding at (f ∷ frames) xs ys (a, b, w, h, t) (c, d, v, i, u) =
-    let p : a ≡ c = kind_events_same features at (kind_of encoding f.id) f a c h i in
+    let p : a ≡ c = grind (arith, kind_events_same) in
     let q : b ≡ d = frames_events_same features encoding (at + length (frame_bytes f)) frames b d t u in
     w ∙ ((λ j. p j ++ q j) ∙ sym v)
 
@@ -86,15 +85,12 @@ frames_give_events stream start features events s a =
           record {
             inner = t.inner;
             sections = t.sections;
-            whole = r.listed ∙ ((λ i. events_of start features (z' i) ++ last_event (y' i) ∷ [])
-                ∙ told_events stream start features a q.tiles t t.inner refl);
+            whole = cc;
           },
       λ h. record {
         tiles = q.tiles;
         end = ended (start + length stream);
         reads = reads;
-        listed = h.whole ∙ sym (told_events stream start features a q.tiles t h.inner
-            (frames_events_same features a.encoding (start + length (header_bytes a.encoding)) a.frames t.inner h.inner t.sections
-            h.sections));
+        listed = grind (arith, told_events, frames_events_same);
       },
     )

@@ -4,7 +4,7 @@ use Rattle.std.proofs.Common.{Option, Some, None, nat_le, refl, ap, ◌∙◌, a
 use Rattle.std.proofs.lemmas.List.{length-take-le, length-drop}
 use Rattle.wasm_base.specs.FaultAt.{FaultAt, at_offset}
 use Rattle.wasm_base.specs.Header.{magic, agree}
-use Rattle.wasm_base.specs.Name.{Name, name_limit, name, of_four}
+use Rattle.wasm_base.specs.Name.{Name, name_limit, name}
 use Rattle.wasm_base.specs.Number.{Number, number}
 use Rattle.wasm_base.specs.declared.fault.Fault.{Fault}
 use Rattle.wasm_base.specs.declared.fault.Fault.TheVariants.{UnexpectedEof, MagicAtSection}
@@ -13,12 +13,11 @@ use Rattle.wasm_base.proofs.NumberLaws.{number-used}
 use Rattle.wasm_grammar.specs.Content.{Kind, code, kind_of, Ending, fault, ended, when}
 use Rattle.wasm_grammar.specs.Content.{wrong_number, wrong_single, wrong_name, wrong_content, Form, whole}
 use Rattle.wasm_grammar.specs.Grammar.{Tile, Verdict, final, Grammar, accept, reject, check, u32_field, bytes, section_start, after}
-use Rattle.wasm_grammar.specs.Grammar.{after_number, verdict, SectionContext, header_of, header_grammar, end_at_section}
+use Rattle.wasm_grammar.specs.Grammar.{after_number, verdict, SectionContext, header_grammar, end_at_section}
 use Rattle.wasm_grammar.specs.Grammar.{wrong_data, whole_grammar, content_grammar, after_length, section_grammar}
 use Rattle.wasm_grammar.specs.Grammar.{body_grammar}
 use Rattle.wasm_grammar.specs.Laws.{FaultLiesWithin}
 use Rattle.wasm_grammar.specs.Tiling.{grammar, bytes_of}
-use Rattle.wasm_grammar.specs.declared.encoding.Encoding.{Encoding}
 use Rattle.wasm_grammar.proofs.parts.Places.{number_place, name_place}
 
 -- an offset between these
@@ -106,25 +105,13 @@ content_wrong : (kind : Form) (offset : ℕ) (content : List ℕ) → MayLie off
 unfolding wrong_content
 content_wrong kind offset content = grind (arith, name_wrong, number_wrong, single_wrong)
 
-wider : (low low' high high' : ℕ) (e : Option FaultAt) → low' ≤ low → high ≤ high' → MayLie low high e → MayLie low' high' e
-wider low low' high high' e l h w = grind arith
-
 data_wrong : (p : SectionContext) (kind : Form) (id offset : ℕ) (content : List ℕ)
     → MayLie offset offset (wrong_data p kind id offset content)
 data_wrong p kind id offset content = grind arith
 
 Within-whole : (low here : ℕ) (p : SectionContext) (kind : Form) (id offset size : ℕ) → low ≤ offset → offset ≡ here
     → Within low here (whole_grammar p kind id offset size)
-Within-whole low here p kind id offset size l z = (
-  lies low here offset l (omega arith),
-  λ content n. (
-    wider offset low (offset + length content) (here + size) _ l (omega arith) (content_wrong kind offset content),
-    (
-      wider (offset + size) low (offset + size) (here + size) _ (omega arith) (omega arith) (data_wrong p kind id (offset + size) content),
-      tt,
-    ),
-  ),
-)
+Within-whole low here p kind id offset size l z = grind (arith, content_wrong, data_wrong)
 
 Within-content : (low here : ℕ) (p : SectionContext) (kind : Kind) (id offset size : ℕ) → low ≤ offset → offset ≡ here
     → Within low here (content_grammar p kind id offset size)
@@ -136,13 +123,7 @@ end_lies p offset = grind arith
 
 Within-sized : (o : ℕ) (p : SectionContext) (kind : Kind) (id size width : ℕ)
     → Within o (o + 1 + width) (after_length p kind id (o + 1) (o + 1 + width) size)
-Within-sized o p kind id size width = (
-  when_lies o (o + 1 + width) _ _ (omega arith, omega arith),
-  (
-    when_lies o (o + 1 + width) _ _ (omega arith, omega arith),
-    Within-content o (o + 1 + width) p kind id (o + 1 + width) size (omega arith) refl,
-  ),
-)
+Within-sized o p kind id size width = grind (arith, Within-content)
 
 Within-section : (p : SectionContext) (o : ℕ) → Within o o (section_grammar p o)
 unfolding section_grammar
@@ -163,18 +144,9 @@ Within-body : (bodies code_bytes o : ℕ) → Within o o (body_grammar bodies co
 unfolding body_grammar
 Within-body bodies code_bytes o = grind arith
 
-Within-header_of : (o bits : ℕ) (e : Option Encoding) → Within o (o + 4 + 4) (header_of o bits e)
-Within-header_of o bits e = grind arith
-
 Within-header : (o : ℕ) → Within o o (header_grammar o)
 unfolding header_grammar
-Within-header o = (
-  (le_refl o, le_refl o),
-  λ a n. (
-    when_lies o (o + 4) _ _ (omega arith, omega arith),
-    ((omega arith, omega arith), λ b m. Within-header_of o (of_four b) _),
-  ),
-)
+Within-header o = grind arith
 
 Within-inside : (b : Bool) (p : SectionContext) (bodies code_bytes o : ℕ)
     → Within o o (cond b (section_grammar p o) (body_grammar bodies code_bytes o))

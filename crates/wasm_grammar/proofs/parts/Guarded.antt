@@ -1,6 +1,6 @@
 -- What each grammar of the stream keeps: its tiles are guarded, and take at least one byte.
 use Rattle.std.proofs.Common.{◌≡◌, ℕ, zero, suc, ◌+◌, ◌<◌, ◌≤◌, Bool, true, false, cond, List, [], ◌∷◌, ◌++◌, length, take, drop}
-use Rattle.std.proofs.Common.{Option, nat_le, nat_eq, refl, sym, ap, ◌∙◌, arith, length-append, leb-true, eqb-true, subst₂}
+use Rattle.std.proofs.Common.{Option, nat_le, nat_eq, refl, sym, ap, ◌∙◌, arith, length-append, leb-true, eqb-true}
 use Rattle.std.proofs.lemmas.List.{length-take-le}
 use Rattle.std.proofs.lemmas.Bool.{and_parts}
 use Rattle.wasm_base.specs.FaultAt.{FaultAt}
@@ -58,7 +58,7 @@ number_least o next xs t w =
     let z : t.bytes ≡ take n.used xs ++ n.rest.bytes = ap (λ (x : Tile). x.bytes) n.is in
     let l : length (take n.used xs) ≡ n.used = length-take-le n.used xs u.there in
     let a : 0 < n.used = u.some in
-    rw z (omega (arith, length-append (take n.used xs) n.rest.bytes))
+    grind arith
 
 -- 0x61 alone is a number, 97
 pub one_byte : (xs : List ℕ) → number VarU32 (0x61 ∷ xs) ≡ read 0x61 1
@@ -81,17 +81,15 @@ longer p o id xs s w e =
     let u : Used VarU32 xs n.value n.used = number-used VarU32 xs n.value n.used n.reads in
     let b : s.bytes ≡ take n.used xs ++ n.rest.bytes = ap (λ (x : Tile). x.bytes) n.is in
     let parts : ((nat_eq id 0 ≡ true) × (agree s.bytes (0x61 ∷ 0x73 ∷ 0x6d ∷ []) ≡ true)) =
-    and_parts (nat_eq id 0) (agree s.bytes (0x61 ∷ 0x73 ∷ 0x6d ∷ [])) e in
+    search and_parts in
     let z : id ≡ 0 = eqb-true id 0 parts.0 in
     let (zs, q) = first_is n.used xs n.rest.bytes u.some (omega (arith, u.some, u.there)) (rw b at parts.1) in
     let m : number VarU32 xs ≡ read 0x61 1 = ap (number VarU32) q ∙ one_byte zs in
     let v : n.value ≡ 0x61 = value_is n.value n.used 0x61 1 (sym n.reads ∙ m) in
     let g : verdict (after_length p (kind_of p.encoding 0) 0 (o + 1) (o + 1 + n.used) 0x61) (drop n.used xs) ≡ tile n.rest =
-    subst₂ (λ (i x : ℕ). verdict (after_length p (kind_of p.encoding i) i (o + 1) (o + 1 + n.used) x) (drop n.used xs) ≡ tile n.rest) z v
-    n.goes_on in
-    let l : 0x61 ≤ length n.rest.bytes = custom_long p p.encoding (o + 1) (o + 1 + n.used) (drop n.used xs) n.rest g in
-    let r : length s.bytes ≡ length (take n.used xs) + length n.rest.bytes = ap (λ (x : List ℕ). length x) b
-    ∙ length-append (take n.used xs) n.rest.bytes in
+    cc in
+    let l : 0x61 ≤ length n.rest.bytes = search custom_long in
+    let r : length s.bytes ≡ length (take n.used xs) + length n.rest.bytes = grind arith in
     omega arith
   where
     value_is : (a b c d : ℕ) → read a b ≡ read c d → a ≡ c

@@ -1,6 +1,6 @@
 -- Laws of every grammar.
 use Rattle.std.proofs.Common.{◌≡◌, ◌≢◌, ℕ, ◌-◌, ◌≤◌, Bool, true, false, cond, ◌&&◌, List, [], ◌∷◌, ◌++◌, length, take, drop, None}
-use Rattle.std.proofs.Common.{nat_le, nat_eq, refl, sym, ap, subst, subst₂, true≢false, ◌∙◌, arith, length-append, leb-true, le-leb}
+use Rattle.std.proofs.Common.{nat_le, nat_eq, refl, sym, ap, true≢false, ◌∙◌, arith, length-append, leb-true, le-leb}
 use Rattle.std.proofs.Common.{append_assoc}
 use Rattle.std.proofs.lemmas.List.{take-append-le, drop-append-le, take-append-drop, take_at, drop_at, length-take-le}
 use Rattle.wasm_base.specs.FaultAt.{at_offset}
@@ -46,8 +46,7 @@ bytes_more count offset xs ys next ih true e w =
     let m : count ≤ length (xs ++ ys) = omega (arith, length-append xs ys) in
     let t : take count (xs ++ ys) ≡ take count xs = take-append-le count xs ys l in
     let d : drop count (xs ++ ys) ≡ drop count xs ++ ys = drop-append-le count xs ys l in
-    rw (le-leb count (length (xs ++ ys)) m) (rw (t, d) (ap (λ (x : Verdict). after (take count xs) x)
-    (ih (take count xs) (drop count xs) (later-enough count _ w))))
+    grind arith
 bytes_more count offset xs ys next ih false e w = cc
 
 pub agree_same : (xs ys zs : List ℕ) → length zs ≤ length xs → agree (xs ++ ys) zs ≡ agree xs zs
@@ -124,8 +123,8 @@ number_cut offset xs next ih (read v k) e t w =
     let u : Used VarU32 xs v k = number-used VarU32 xs v k e in
     let (s, r, q) = after-tile (take k xs) (verdict (next v k) (drop k xs)) t w in
     let j : Cut (u32_field offset next) (take k xs ++ drop k xs) (record s { bytes = take k xs ++ s.bytes }) =
-    number_join offset next v k (take k xs) (drop k xs) s (length-take-le k xs u.there) u.alone (ih v k (drop k xs) s r) in
-    subst₂ (λ (x : List ℕ) (y : Tile). Cut (u32_field offset next) x y) (take-append-drop k xs) (sym q) j
+    search (number_join, length-take-le) in
+    grind (arith, take-append-drop)
 number_cut offset xs next ih _ e t w = cc
 
 bytes_join : (count offset : ℕ) (next : List ℕ → Grammar) (f zs : List ℕ) (s : Tile) → length f ≡ count
@@ -150,9 +149,8 @@ bytes_cut : (count offset : ℕ) (xs : List ℕ) (next : List ℕ → Grammar)
 bytes_cut count offset xs next ih true e t w =
     let (s, r, q) = after-tile (take count xs) (verdict (next (take count xs)) (drop count xs)) t w in
     let j : Cut (bytes count offset next) (take count xs ++ drop count xs) (record s { bytes = take count xs ++ s.bytes }) =
-    bytes_join count offset next (take count xs) (drop count xs) s (length-take-le count xs (leb-true _ _ e))
-    (ih (take count xs) (drop count xs) s r) in
-    subst₂ (λ (x : List ℕ) (y : Tile). Cut (bytes count offset next) x y) (take-append-drop count xs) (sym q) j
+    grind (arith, bytes_join, length-take-le) in
+    grind (arith, take-append-drop)
 bytes_cut count offset xs next ih false e t w = cc
 
 -- a tile whose bytes begin as a header does is longer than the magic
@@ -173,12 +171,12 @@ start_join offset z next id zs s true e g m c =
     let n : 4 ≤ length (id ∷ (s.bytes ++ c.rest)) = omega (arith, length-append s.bytes c.rest) in
     let a : agree (id ∷ (s.bytes ++ c.rest)) magic ≡ true = agree_same (id ∷ s.bytes) c.rest magic l ∙ e in
     let m' : (agree (id ∷ (s.bytes ++ c.rest)) magic && nat_le 4 (length (id ∷ (s.bytes ++ c.rest))))
-    ≡ false = subst (λ (x : List ℕ). (agree (id ∷ x) magic && nat_le 4 (length (id ∷ x))) ≡ false) c.split m in
-    let k : true ≡ false = rw (a, le-leb 4 (length (id ∷ (s.bytes ++ c.rest))) n) at m' in
+    ≡ false = cc in
+    let k : true ≡ false = grind arith in
     absurd (true≢false k)
 start_join offset z next id zs s false e g m c = record {
   rest = c.rest;
-  split = ap (λ (x : List ℕ). id ∷ x) c.split;
+  split = rw c.split;
   waits = rw e (rw c.waits refl);
   alone = rw e (rw c.alone refl);
 }
@@ -198,7 +196,7 @@ unfolding verdict waiting
 verdict-cut (accept s) gd xs t w =
     let c : Cut (accept s) xs (record { shape = s; bytes = [] }) = record { rest = xs; split = refl; waits = refl; alone = refl } in
     let e : record { shape = s; bytes = [] } ≡ t = cc in
-    subst (λ (y : Tile). Cut (accept s) xs y) e c
+    rw e at c
 verdict-cut (check None next) gd xs t w =
     let c : Cut next xs t = verdict-cut next gd xs t w in
     record { rest = c.rest; split = c.split; waits = c.waits; alone = c.alone }

@@ -30,8 +30,7 @@ split_end {X} xs earlier later x y e = elim (split_last xs earlier later x y e) 
     tail_same a b xs ys e = cc
 
     at_end : earlier ≡ xs → y ≡ x → later ≡ []
-    at_end p q = sym (tail_same x y [] later (append_cancel_left earlier (x ∷ []) (y ∷ later)
-        (subst (λ (l : List X). l ++ x ∷ [] ≡ earlier ++ y ∷ later) (sym p) e)))
+    at_end p q = sym (grind (arith, append_cancel_left))
 
     before_end : (more : List X) → xs ≡ earlier ++ y ∷ more → later ≡ more ++ x ∷ []
     before_end more p = sym (tail_same y y (more ++ x ∷ []) later (append_cancel_left earlier (y ∷ (more ++ x ∷ [])) (y ∷ later)
@@ -43,9 +42,6 @@ split_end {X} xs earlier later x y e = elim (split_last xs earlier later x y e) 
 start_misses : (features low high old : ℕ) (s : Shape) (count from to size : ℕ) → tile_report features low high s
     ≡ code_start count from to size → bodies_after s old ≡ count
 start_misses features low high old s count from to size e = grind arith
-
-no_start : (end : Ending) (count from to size : ℕ) → stream_end end ≡ code_start count from to size → ⊥
-no_start end count from to size e = cc
 
 -- what is reported of a section is no body
 pub body_in_section : (features from to : ℕ) (kind : Form) (id : ℕ) (content : List ℕ) (w : Window)
@@ -100,7 +96,7 @@ shuts features low count t ts after n z s = record {
   later = [];
   whole = refl;
   each = s.each;
-  other = λ q. n (report_body features low (low + length t.bytes) t.shape q.0 q.1);
+  other = λ q. n (search report_body);
   many = omega (arith, s.misses);
 }
 
@@ -113,9 +109,9 @@ open_more : (start features : ℕ) (u : Tile) (ts : List Tile) (t : Tile) (count
 open_more start features u ts t count after true z o e s = grind (arith, placed)
 open_more start features u ts t count after false z o e s =
     let p : BodyParts (bodies_to_come (u ∷ ts)) (bytes_to_come (u ∷ ts)) t =
-    body_parts (bodies_to_come (u ∷ ts)) (bytes_to_come (u ∷ ts)) o t.bytes t e in
+    search body_parts in
     let h : t.shape ≡ Grammar.code_entry p.content = ap (λ (x : Tile). x.shape) p.is in
-    let l : bodies_to_come (t ∷ u ∷ ts) ≡ bodies_to_come (u ∷ ts) - 1 = ap (λ (x : Shape). bodies_after x (bodies_to_come (u ∷ ts))) h in
+    let l : bodies_to_come (t ∷ u ∷ ts) ≡ bodies_to_come (u ∷ ts) - 1 = rw h in
     inl (record {
       each = All-push ReportsBody after (event_of features o t) s.each (_, ap (tile_report features o (o + length t.bytes)) h);
       misses = omega (arith, s.misses, p.missing, length-append after (event_of features o t ∷ []));
@@ -131,7 +127,7 @@ follows start features [] f before after e count from to size z c = absurd (no_s
     no_split (x ∷ before) z = cc
 follows start features (t ∷ ts) f before after e count from to size z c =
     elim (split_end (events_of start features ts) before after (event_of features (start + length (bytes_of ts)) t) e z) [
-      | inl q ↦ inl (started t ts (start + length (bytes_of ts)) q.0 q.1)
+      | inl q ↦ inl (grind arith)
       | inr q ↦ subst (λ (l : List Event). Open (t ∷ ts) count l ⊎ Shut count l) (sym q.2)
           (more t ts f q.0 (follows start features ts f.0 before q.0 e count from to size q.1 c))
     ]
@@ -139,15 +135,14 @@ follows start features (t ∷ ts) f before after e count from to size z c =
     started : (t : Tile) (ts : List Tile) (o : ℕ) → e ≡ event_of features o t → after ≡ [] → Open (t ∷ ts) count after
     started t ts o q n =
         let m : bodies_to_come (t ∷ ts)
-        ≡ count = start_misses features o (o + length t.bytes) (bodies_to_come ts) t.shape count from to size
-        (ap (λ (x : Event). x.report) (sym q) ∙ c) in
+        ≡ count = grind (arith, start_misses) in
         subst (Open (t ∷ ts) count) (sym n) (record { each = All-nil ReportsBody; misses = omega arith })
 
     more : (t : Tile) (ts : List Tile) → Faultless start (t ∷ ts) → (l : List Event) → Open ts count l ⊎ Shut count l
         → Open (t ∷ ts) count (l ++ event_of features (start + length (bytes_of ts)) t ∷ [])
         ⊎ Shut count (l ++ event_of features (start + length (bytes_of ts)) t ∷ [])
     more t ts f l (inr s) = inr (shut_more count l _ s)
-    more t [] f l (inl s) = inr (shuts features (start + 0) count t [] l (header_apart t.shape (headed start t.bytes t f.1)) refl s)
+    more t [] f l (inl s) = inr (grind (arith, shuts, header_apart, headed))
     more t (u ∷ ts) f l (inl s) = open_more start features u ts t count l (nat_eq (bodies_to_come (u ∷ ts) + bytes_to_come (u ∷ ts)) 0) refl
         (start + length (bytes_of (u ∷ ts))) f.1 s
 
@@ -194,9 +189,9 @@ shut_follow count after s = record {
 pub bodies_follow : BodiesFollowTheirCount
 bodies_follow stream start features events before after e count from to size r z c =
     elim (split_end (events_of start features r.tiles) before after (last_event r.end) e (sym r.listed ∙ z)) [
-      | inl q ↦ absurd (no_start r.end count from to size (ap (λ (x : Event). x.report) (sym q.0) ∙ c))
+      | inl q ↦ absurd (cc)
       | inr q ↦ subst (BodiesFollow count) (sym q.2) (all_of q.0
-          (follows start features r.tiles r.reads.faultless before q.0 e count from to size q.1 c))
+          (search follows))
     ]
   where
     all_of : (l : List Event) → Open r.tiles count l ⊎ Shut count l → BodiesFollow count (l ++ last_event r.end ∷ [])

@@ -1,6 +1,6 @@
 -- Events lie end to end.
 use Rattle.std.proofs.Common.{◌≡◌, ℕ, ◌+◌, ◌-◌, ◌≤◌, Bool, cond, ◌&&◌, List, [], ◌∷◌, ◌++◌, length, take, drop}
-use Rattle.std.proofs.Common.{Some, None, nat_le, refl, sym, ap, subst, ◌∙◌, arith, le_refl, length-append}
+use Rattle.std.proofs.Common.{Some, None, nat_le, refl, sym, ap, subst, ◌∙◌, arith, length-append}
 use Rattle.std.proofs.Common.{append-nil, append_assoc}
 use Rattle.std.proofs.lemmas.List.{length-take-le, take_at, drop_at}
 use Rattle.std.proofs.lemmas.Grind.{flat_map-append}
@@ -11,7 +11,6 @@ use Rattle.wasm_base.specs.Number.{Number, number}
 use Rattle.wasm_base.specs.declared.fault.Fault.TheVariants.{UnexpectedEof, MagicAtSection}
 use Rattle.wasm_base.specs.declared.fault.NumberKind.TheVariants.{VarU32}
 use Rattle.wasm_base.proofs.NumberLaws.{number-used}
-use Rattle.wasm_base.specs.Window.{window_over}
 use Rattle.wasm_grammar.specs.Content.{Kind, custom, items, unknown, kind_of, Ending, fault, ended, Form}
 use Rattle.wasm_grammar.specs.Grammar.{Shape, version, section, code_start, code_entry, Tile, Verdict, tile, final, Grammar, accept, reject}
 use Rattle.wasm_grammar.specs.Grammar.{check, u32_field, bytes, section_start, after, after_number, verdict, SectionContext}
@@ -19,7 +18,7 @@ use Rattle.wasm_grammar.specs.Grammar.{header_grammar, content_grammar, section_
 use Rattle.wasm_grammar.specs.Laws.{EventsLieEndToEnd}
 use Rattle.wasm_grammar.specs.Reading.{Event, custom_report, section_report, tile_report, event_of, stream_end, last_event, events_of}
 use Rattle.wasm_grammar.specs.Reading.{Reads}
-use Rattle.wasm_grammar.specs.EventRanges.{consumed_by, IsPart, LiesIn, LiesBetween, AtOffsets, EndToEnd}
+use Rattle.wasm_grammar.specs.EventRanges.{consumed_by, LiesIn, LiesBetween, AtOffsets, EndToEnd}
 use Rattle.wasm_grammar.specs.Tiling.{grammar, bytes_of, Faultless}
 use Rattle.wasm_grammar.proofs.readings.Endings.{header_end, inside_end}
 use Rattle.wasm_grammar.proofs.parts.Verdicts.{after-tile}
@@ -48,8 +47,8 @@ closes_after : (passed prefix : List ℕ) (v : Verdict) (t : Tile)
     → Closes t.shape (passed ++ t.bytes)
 closes_after passed prefix v t ih h =
     let (s, r, q) = after-tile prefix v t h in
-    let c : Closes s.shape (passed ++ (prefix ++ s.bytes)) = subst (Closes s.shape) (append_assoc passed prefix s.bytes) (ih s r) in
-    subst (λ (x : Tile). Closes x.shape (passed ++ x.bytes)) (sym q) c
+    let c : Closes s.shape (passed ++ (prefix ++ s.bytes)) = rw (append_assoc passed prefix s.bytes) at (ih s r) in
+    rw q c
 
 closes_number : (passed : List ℕ) (o : ℕ) (xs : List ℕ) (next : ℕ → ℕ → Grammar) (t : Tile)
     → ((v k : ℕ) (b zs : List ℕ) (s : Tile) → length b ≡ k → verdict (next v k) zs ≡ tile s → Closes s.shape ((passed ++ b) ++ s.bytes))
@@ -73,7 +72,7 @@ closes : (passed : List ℕ) (g : Grammar) (xs : List ℕ) (t : Tile) → Closin
 unfolding verdict
 closes passed (accept shape) xs t c h =
     let z : record { shape = shape; bytes = [] } ≡ t = cc in
-    subst (λ (x : Tile). Closes x.shape (passed ++ x.bytes)) z (subst (Closes shape) (sym (append-nil passed)) c)
+    rw (← z) (subst (Closes shape) (sym (append-nil passed)) c)
 closes passed (check None next) xs t c h = closes passed next xs t c h
 closes passed (u32_field o next) xs t c h =
     closes_number passed o xs next t (λ v k b zs s l. closes (passed ++ b) (next v k) zs s (c v k b l)) (number VarU32 xs) refl h
@@ -129,7 +128,7 @@ pub ends_after_all : (stream : List ℕ) (start : ℕ) (ts : List Tile) (x : ℕ
 ends_after_all stream start ts x r =
     let (none, z) = end_at start ts r.rest x r.stops in
     let w : stream ≡ bytes_of ts = r.whole ∙ (ap (λ (y : List ℕ). bytes_of ts ++ y) none ∙ append-nil (bytes_of ts)) in
-    (z ∙ ap (λ (y : List ℕ). start + length y) (sym w), z)
+    grind arith
 
 -- ---- one event
 
@@ -147,19 +146,13 @@ placed stream earlier prefix content rest start low high w l h =
     let m : length (earlier ++ prefix) ≡ length earlier + length prefix = length-append earlier prefix in
     let z : length (earlier ++ prefix) ≡ high - length content - start = omega arith in
     let s : stream ≡ (earlier ++ prefix) ++ (content ++ rest) = w ∙ simp append_assoc refl in
-    let d : drop (high - length content - start) stream ≡ content ++ rest = ap (drop (high - length content - start)) s
-    ∙ drop_at (earlier ++ prefix) (content ++ rest) (high - length content - start) z in
+    let d : drop (high - length content - start) stream ≡ content ++ rest = grind (arith, drop_at) in
     record {
       after_start = omega arith;
       above = omega arith;
       ends = omega arith;
-      part = ap (take (length content)) d ∙ take_at content rest (length content) refl;
+      part = grind (arith, take_at);
     }
-
--- a window over content
-part_is : (stream : List ℕ) (start low high : ℕ) (content : List ℕ) (features : ℕ) → Placed stream start low high content
-    → IsPart stream start features (window_over features (high - length content) content)
-part_is stream start low high content features p = record { has = refl; after = p.after_start; bytes = p.part; unread = refl }
 
 range_is : (stream : List ℕ) (start low high : ℕ) (content : List ℕ) → Placed stream start low high content
     → LiesIn (high - length content) ((high - length content) + length content) low high
@@ -188,14 +181,14 @@ lies_between : (stream earlier passed rest : List ℕ) (start low high features 
 lies_between stream earlier passed rest start low high features (version num encoding) w l h c = (refl, refl)
 lies_between stream earlier passed rest start low high features (section kind id content) w l h (before, c) =
     section_lies stream start low high features kind id content
-    (placed stream earlier before content rest start low high (w ∙ ap (λ (x : List ℕ). earlier ++ (x ++ rest)) c) l
+    (placed stream earlier before content rest start low high (cc) l
     (h ∙ ap (λ (x : List ℕ). low + length x) c))
 lies_between stream earlier passed rest start low high features (code_start count width size) w l h c =
-    (record { above = omega arith; order = omega arith; below = le_refl high }, refl)
+    omega arith
 lies_between stream earlier passed rest start low high features (code_entry content) w l h (before, c) =
     let p : Placed stream start low high content = placed stream earlier before content rest start low high
-    (w ∙ ap (λ (x : List ℕ). earlier ++ (x ++ rest)) c) l (h ∙ ap (λ (x : List ℕ). low + length x) c) in
-    (part_is stream start low high content features p, range_is stream start low high content p, p.ends)
+    (cc) l (h ∙ ap (λ (x : List ℕ). low + length x) c) in
+    search range_is
 
 -- ---- all events
 
@@ -222,10 +215,9 @@ tiles_lie stream start features (t ∷ ts) rest f w =
     let z : stream ≡ bytes_of ts ++ (t.bytes ++ rest) = w ∙ append_assoc (bytes_of ts) t.bytes rest in
     at_offsets_more (λ low e. LiesBetween stream start features low (low + length e.consumed) e.report) start (events_of start features ts)
     (event_of features (start + length (bytes_of ts)) t) (start + length (bytes_of ts))
-    (ap (λ (l : List ℕ). start + length l) (sym (tiles_consume start features ts)))
+    (search tiles_consume)
     (tiles_lie stream start features ts (t.bytes ++ rest) f.0 z)
-    (lies_between stream (bytes_of ts) t.bytes rest start (start + length (bytes_of ts)) (start + length (bytes_of ts) + length t.bytes)
-    features t.shape z refl refl (tile_closes start ts t.bytes t f.1))
+    (search (lies_between, tile_closes))
 
 last_lies : (stream : List ℕ) (start features : ℕ) (ts : List Tile) (end : Ending) → Reads stream start ts end
     → LiesBetween stream start features (start + length (bytes_of ts)) (start + length (bytes_of ts) + 0) (stream_end end)
@@ -237,8 +229,8 @@ pub events_lie_end_to_end : EventsLieEndToEnd
 events_lie_end_to_end stream start features ts end r =
     let n : consumed_by (events_of start features ts) ≡ bytes_of ts = tiles_consume start features ts in (
       at_offsets_more (λ low e. LiesBetween stream start features low (low + length e.consumed) e.report) start
-          (events_of start features ts) (last_event end) (start + length (bytes_of ts)) (ap (λ (l : List ℕ). start + length l) (sym n))
-          (tiles_lie stream start features ts r.rest r.faultless r.whole)
+          (events_of start features ts) (last_event end) (start + length (bytes_of ts)) (rw (sym n))
+          (grind (arith, tiles_lie))
           (last_lies stream start features ts end r),
       consumed_more (events_of start features ts) (last_event end) ∙ (append-nil (consumed_by (events_of start features ts)) ∙ n),
     )

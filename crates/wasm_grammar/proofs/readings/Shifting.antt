@@ -1,6 +1,6 @@
 -- The start offset only moves offsets.
-use Rattle.std.proofs.Common.{◌≡◌, ℕ, zero, suc, ◌+◌, ◌-◌, ◌^◌, Bool, cond, ◌&&◌, not, List, [], ◌∷◌, ◌++◌, length, take, drop}
-use Rattle.std.proofs.Common.{Option, Some, None, option_map, nat_lt, nat_le, nat_eq, ◌⊎◌, inl, refl, sym, ap, subst, subst₂, ◌∙◌}
+use Rattle.std.proofs.Common.{◌≡◌, ℕ, zero, suc, ◌+◌, ◌-◌, Bool, cond, ◌&&◌, not, List, [], ◌∷◌, ◌++◌, length, take, drop}
+use Rattle.std.proofs.Common.{Option, Some, None, option_map, nat_lt, nat_le, nat_eq, ◌⊎◌, inl, refl, ap, subst, subst₂, ◌∙◌}
 use Rattle.std.proofs.Common.{arith, length-append}
 use Rattle.std.proofs.lemmas.List.{map-append}
 use Rattle.wasm_base.specs.FaultAt.{FaultAt, at_offset}
@@ -8,10 +8,9 @@ use Rattle.wasm_base.specs.Header.{magic, agree}
 use Rattle.wasm_base.specs.Name.{of_four}
 use Rattle.wasm_base.specs.Number.{Number, number}
 use Rattle.wasm_base.specs.declared.fault.Fault.TheVariants.{UnexpectedEof, MagicAtSection, SectionTooLarge}
-use Rattle.wasm_base.specs.declared.fault.Fault.TheVariants.{OutOfOrder, MalformedSectionId, BadMagic}
+use Rattle.wasm_base.specs.declared.fault.Fault.TheVariants.{MalformedSectionId, BadMagic}
 use Rattle.wasm_base.specs.declared.fault.NumberKind.TheVariants.{VarU32}
-use Rattle.wasm_base.specs.Window.{window_over}
-use Rattle.wasm_grammar.specs.Content.{Kind, code, kind_of, rank_of, Ending, fault, when}
+use Rattle.wasm_grammar.specs.Content.{Kind, code, kind_of, Ending, fault, when}
 use Rattle.wasm_grammar.specs.Content.{wrong_content, Form, whole}
 use Rattle.wasm_grammar.specs.Grammar
 use Rattle.wasm_grammar.specs.Grammar.{Shape, section, Tile, Verdict, tile, final, Grammar, accept, reject, check, u32_field, bytes}
@@ -20,7 +19,7 @@ use Rattle.wasm_grammar.specs.Grammar.{end_at_section, wrong_count, code_grammar
 use Rattle.wasm_grammar.specs.Grammar.{after_id, section_grammar, body_of, body_grammar}
 use Rattle.wasm_grammar.specs.Laws.{StartOnlyMoves}
 use Rattle.wasm_grammar.specs.Shifted.{shifted_fault, shifted_ending, shifted_report, shifted_event, shifted_events, PassesTheTop}
-use Rattle.wasm_grammar.specs.Reading.{code_entry, section_report, tile_report, event_of}
+use Rattle.wasm_grammar.specs.Reading.{section_report, tile_report, event_of}
 use Rattle.wasm_grammar.specs.Reading.{last_event, events_of, Reads}
 use Rattle.wasm_grammar.specs.Tiling.{inside, context_of, grammar, bodies_to_come, bytes_to_come, bytes_of, Faultless}
 use Rattle.wasm_grammar.specs.declared.encoding.Encoding.{Encoding}
@@ -83,19 +82,15 @@ start_moves by o id v w m b = grind arith
 verdict_moves : (by : ℕ) (g h : Grammar) (xs : List ℕ) → Like by g h → Moves by (verdict g xs) (verdict h xs)
 unfolding verdict
 verdict_moves by (check e next) h xs (f, then, z, m, l) =
-    subst (λ (x : Grammar). Moves by (verdict (check e next) xs) (verdict x xs)) (sym z)
-    (refuse_moves by e f next then xs m (verdict_moves by next then xs l))
+    rw z (refuse_moves by e f next then xs m (verdict_moves by next then xs l))
 verdict_moves by (u32_field o next) h xs (then, z, l) =
-    subst (λ (x : Grammar). Moves by (verdict (u32_field o next) xs) (verdict x xs)) (sym z)
-    (number_moves by o next then xs (λ v k zs. verdict_moves by (next v k) (then v k) zs (l v k)) (number VarU32 xs))
+    rw z (number_moves by o next then xs (λ v k zs. verdict_moves by (next v k) (then v k) zs (l v k)) (number VarU32 xs))
 verdict_moves by (bytes count o next) h xs (then, z, l) =
-    subst (λ (x : Grammar). Moves by (verdict (bytes count o next) xs) (verdict x xs)) (sym z)
-    (bytes_move by o (take count xs) (verdict (next (take count xs)) (drop count xs)) (verdict (then (take count xs)) (drop count xs))
+    rw z (bytes_move by o (take count xs) (verdict (next (take count xs)) (drop count xs)) (verdict (then (take count xs)) (drop count xs))
     (verdict_moves by (next (take count xs)) (then (take count xs)) (drop count xs) (l (take count xs))) (nat_le count (length xs)))
 verdict_moves by (section_start o e next) h [] (then, z, l) = grind arith
 verdict_moves by (section_start o e next) h (id ∷ xs) (then, z, l) =
-    subst (λ (x : Grammar). Moves by (verdict (section_start o e next) (id ∷ xs)) (verdict x (id ∷ xs))) (sym z)
-    (start_moves by o id (verdict (next id) xs) (verdict (then id) xs) (verdict_moves by (next id) (then id) xs (l id))
+    rw z (start_moves by o id (verdict (next id) xs) (verdict (then id) xs) (verdict_moves by (next id) (then id) xs (l id))
     (agree (id ∷ xs) magic && nat_le 4 (length (id ∷ xs))))
 verdict_moves by _ h xs l = inl (ap (λ (x : Grammar). verdict x xs) l)
 
@@ -109,50 +104,18 @@ content_wrong : (by : ℕ) (kind : Form) (o : ℕ) (content : List ℕ)
 unfolding wrong_content
 content_wrong by kind o content = grind arith
 
-data_wrong : (by : ℕ) (p : SectionContext) (kind : Form) (id o n : ℕ) (content : List ℕ)
-    → MovesFault by (wrong_data p kind id (o + n) content) (wrong_data p kind id (o + by + n) content)
-data_wrong by p kind id o n content = grind arith
-
 Like-whole : (by : ℕ) (p : SectionContext) (kind : Form) (id o n : ℕ)
     → Like by (whole_grammar p kind id o n) (whole_grammar p kind id (o + by) n)
-Like-whole by p kind id o n = (
-  _,
-  refl,
-  λ content. (
-    _,
-    _,
-    refl,
-    content_wrong by kind o content,
-    (_, _, refl, data_wrong by p kind id o n content, refl),
-  ),
-)
+Like-whole by p kind id o n = grind (arith, content_wrong)
 
 Like-content : (by : ℕ) (p : SectionContext) (kind : Kind) (id o n : ℕ)
     → Like by (content_grammar p kind id o n) (content_grammar p kind id (o + by) n)
 Like-content by p code id o n = grind arith
 Like-content by p (whole form) id o n = Like-whole by p form id o n
 
-top_moves : (by top field o n : ℕ) (a b : Bool) → nat_lt top (o + n) ≡ a → nat_lt top (o + by + n) ≡ b
-    → MovesFault by (when a (record { fault = SectionTooLarge; offset = field; number = Some n }))
-    (when b (record { fault = SectionTooLarge; offset = field + by; number = Some n }))
-top_moves by top field o n a b x y = grind arith
-
 Like-sized : (by : ℕ) (p : SectionContext) (kind : Kind) (id field o n : ℕ)
     → Like by (after_length p kind id field o n) (after_length p kind id (field + by) (o + by) n)
-Like-sized by p kind id field o n = (
-  _,
-  _,
-  refl,
-  top_moves by (2 ^ 64 - 1) field o n _ _ refl refl,
-  (
-    _,
-    _,
-    refl,
-    when_moves by (nat_lt 0 (rank_of kind id) && not (p.may_follow (rank_of kind id))) (at_offset OutOfOrder o)
-        (at_offset OutOfOrder (o + by)) refl,
-    Like-content by p kind id o n,
-  ),
-)
+Like-sized by p kind id field o n = grind (arith, Like-content)
 
 Like-framed : (by : ℕ) (p : SectionContext) (o id : ℕ) → Like by (after_id p o id) (after_id p (o + by) id)
 Like-framed by p o id = (
@@ -248,7 +211,7 @@ faultless_back by start [] f = tt
 faultless_back by start (t ∷ ts) f = (
   faultless_back by start ts f.0,
   tile_back by (verdict (grammar start ts) t.bytes) (verdict (grammar (start + by) ts) t.bytes) t
-      (verdict_moves by (grammar start ts) (grammar (start + by) ts) t.bytes (Like-grammar by start ts)) f.1,
+      (search (verdict_moves, Like-grammar)) f.1,
 )
 
 -- ---- what is reported
@@ -267,11 +230,11 @@ report_moves : (by features low high : ℕ) (shape : Shape) (passed : List ℕ) 
     → tile_report features (low + by) (high + by) shape ≡ shifted_report by (tile_report features low high shape)
 report_moves by features low high (Grammar.version num encoding) passed h c = refl
 report_moves by features low high (section kind id content) passed h (before, c) =
-    ap (λ (x : ℕ). section_report features x (high + by) kind id content) (content_place by low high passed before content h c)
+    ap (λ (x : ℕ). section_report features x (high + by) kind id content) (search content_place)
     ∙ section_moves by features (high - length content) high kind id content
 report_moves by features low high (Grammar.code_start count width size) passed h c = grind arith
 report_moves by features low high (Grammar.code_entry content) passed h (before, c) =
-    ap (λ (x : ℕ). code_entry (window_over features x content)) (content_place by low high passed before content h c)
+    rw (content_place by low high passed before content h c)
 
 event_moves : (by features o : ℕ) (t : Tile) → Closes t.shape t.bytes → event_of features (o + by) t
     ≡ shifted_event by (event_of features o t)
@@ -279,8 +242,8 @@ event_moves by features o t c =
     let z : o + by + length t.bytes ≡ o + length t.bytes + by = omega arith in
     let report : tile_report features (o + by) (o + by + length t.bytes) t.shape
     ≡ shifted_report by (tile_report features o (o + length t.bytes) t.shape) =
-    ap (λ (x : ℕ). tile_report features (o + by) x t.shape) z ∙ report_moves by features o (o + length t.bytes) t.shape t.bytes refl c in
-    (λ i. record { report = report i; consumed = t.bytes })
+    grind (arith, report_moves) in
+    cc
 
 events_move : (by start features : ℕ) (ts : List Tile) → Faultless start ts → events_of (start + by) features ts
     ≡ shifted_events by (events_of start features ts)
@@ -289,11 +252,10 @@ events_move by start features (t ∷ ts) f =
     let o : start + by + length (bytes_of ts) ≡ start + length (bytes_of ts) + by = omega arith in
     let e : event_of features (start + by + length (bytes_of ts)) t
     ≡ shifted_event by (event_of features (start + length (bytes_of ts)) t) =
-    ap (λ (x : ℕ). event_of features x t) o ∙ event_moves by features (start + length (bytes_of ts)) t (tile_closes start ts t.bytes t f.1)
+    grind (arith, event_moves, tile_closes)
     in
     let all : events_of (start + by) features ts ≡ shifted_events by (events_of start features ts) = events_move by start features ts f.0 in
-    (λ i. all i ++ e i ∷ []) ∙ sym (map-append (shifted_event by) (events_of start features ts)
-    (event_of features (start + length (bytes_of ts)) t ∷ []))
+    grind (arith, map-append)
 
 last_moves : (by : ℕ) (e : Ending) → last_event (shifted_ending by e) ≡ shifted_event by (last_event e)
 last_moves by e = grind arith
@@ -301,8 +263,7 @@ last_moves by e = grind arith
 pub start_only_moves : StartOnlyMoves
 start_only_moves stream start by features xs ys x y n =
     let b : Back by (verdict (grammar start y.tiles) y.reads.rest) y.end =
-    final_back by (verdict (grammar start y.tiles) y.reads.rest) (verdict (grammar (start + by) y.tiles) y.reads.rest) y.end n
-    (verdict_moves by (grammar start y.tiles) (grammar (start + by) y.tiles) y.reads.rest (Like-grammar by start y.tiles)) y.reads.stops
+    search (final_back, verdict_moves, Like-grammar)
     in
     let r : Reads stream start y.tiles b.end = record {
       rest = y.reads.rest;
@@ -312,8 +273,6 @@ start_only_moves stream start by features xs ys x y n =
     } in
     let (tiles, end) = reads_same stream start y.tiles x.tiles b.end x.end r x.reads in
     let events : events_of (start + by) features y.tiles ≡ shifted_events by (events_of start features x.tiles) =
-    events_move by start features y.tiles r.faultless ∙ ap (λ (ts : List Tile). shifted_events by (events_of start features ts)) tiles in
-    let last : last_event y.end ≡ shifted_event by (last_event x.end) = ap last_event b.is
-    ∙ (last_moves by b.end ∙ ap (λ (e : Ending). shifted_event by (last_event e)) end) in
-    y.listed ∙ ((λ i. events i ++ last i ∷ []) ∙ (sym (map-append (shifted_event by) (events_of start features x.tiles)
-    (last_event x.end ∷ [])) ∙ ap (shifted_events by) (sym x.listed)))
+    grind (arith, events_move) in
+    let last : last_event y.end ≡ shifted_event by (last_event x.end) = grind (arith, last_moves) in
+    grind (arith, map-append)
