@@ -1,5 +1,5 @@
 -- What is in a code section: its head and its bodies.
-use Rattle.std.proofs.Common.{◌≡◌, ℕ, zero, suc, ◌+◌, ◌-◌, ◌<◌, ◌≤◌, Bool, true, false, not, ◌&&◌, ◌||◌, length, take, drop, option_to_list}
+use Rattle.std.proofs.Common.{◌≡◌, ℕ, zero, suc, ◌+◌, ◌-◌, ◌<◌, ◌≤◌, Bool, true, false, not, ◌&&◌, length, take, drop, option_to_list}
 use Rattle.std.proofs.Common.{Some, None, Result, Ok, Err, nat_lt, nat_eq, refl, sym, ap, subst, ◌∙◌, arith, lt-ltb, le-ltb}
 use Rattle.std.proofs.lemmas.List.{length-take-le}
 use Rattle.std.specs.List.{list_all, list_any}
@@ -45,8 +45,7 @@ code_short context size p q count e a h l f hint =
     let o : q.offset ≡ p.offset + m.used = ap (λ (x : Place). x.offset) m.after in
     let w : when (nat_lt size m.used) (at_offset UnexpectedEof p.offset)
     ≡ Some (fault_at e) = rw (lt-ltb size m.used (omega arith)) (ap Some (sym f)) in
-    λ s. report_number s p p.offset (counted_grammar context p.offset size) (Err e) a count m.used m.reads
-    (report_wrong s (advanced m.used p) (when (nat_lt size m.used) (at_offset UnexpectedEof p.offset)) _ e a w hint)
+    search (report_number, report_wrong)
 
 -- a count that lies in the section, and that of the functions
 counted_right : (context : SectionContext) (size : ℕ) (p q : Place) (count : ℕ) (r : Result Payload Error) (a : Place)
@@ -56,8 +55,7 @@ counted_right : (context : SectionContext) (size : ℕ) (p q : Place) (count : �
 counted_right context size p q count r a m l next =
     let o : q.offset ≡ p.offset + m.used = ap (λ (x : Place). x.offset) m.after in
     let w : when (nat_lt size m.used) (at_offset UnexpectedEof p.offset) ≡ None = rw (le-ltb size m.used (omega arith)) refl in
-    λ s. report_number s p p.offset (counted_grammar context p.offset size) r a count m.used m.reads
-    (report_right s (advanced m.used p) (when (nat_lt size m.used) (at_offset UnexpectedEof p.offset)) _ r a w (next s))
+    search (report_number, report_right)
 
 pub code_wrong : (context : SectionContext) (size : ℕ) (p q : Place) (count : ℕ) (e : Error) (a : Place) → unsigned_at VarU32 p
     ≡ Ok (count, q) → q.offset ≤ p.offset + size → wrong_count context p.offset count ≡ Some (fault_at e)
@@ -89,24 +87,14 @@ pub counts_differ : (context : SectionContext) (offset count : ℕ) (f : FaultAt
     ≡ at_offset FunctionCodeDiffer offset → wrong_count context offset count ≡ Some f
 counts_differ context offset count f d e = rw (← d) (ap Some (sym e))
 
--- one count that is above 0
-any_one : (b : Bool) → (b || false) ≡ b
-any_one true = refl
-any_one false = refl
-
-lacks_one : (context : SectionContext) (count : ℕ) (b : Bool) → b
-    ≡ (list_any (nat_lt 0) (option_to_list (Some count)) && nat_eq (length context.functions) 0) → b
-    ≡ (nat_lt 0 count && nat_eq (length context.functions) 0)
-lacks_one context count b e = e ∙ ap (λ (x : Bool). x && nat_eq (length context.functions) 0) (any_one (nat_lt 0 count))
-
 pub no_function : (context : SectionContext) (offset count : ℕ) (f : FaultAt) → false ≡ not (list_all (nat_eq count) context.functions)
     → true ≡ (list_any (nat_lt 0) (option_to_list (Some count)) && nat_eq (length context.functions) 0)
     → f ≡ at_offset CodeWithoutFunction offset → wrong_count context offset count ≡ Some f
-no_function context offset count f d n e = rw (← d, ← lacks_one context count true n) (ap Some (sym e))
+no_function context offset count f d n e = grind arith
 
 pub right_count : (context : SectionContext) (offset count : ℕ) → false ≡ not (list_all (nat_eq count) context.functions) → false
     ≡ (list_any (nat_lt 0) (option_to_list (Some count)) && nat_eq (length context.functions) 0) → wrong_count context offset count ≡ None
-right_count context offset count d n = rw (← d, ← lacks_one context count false n) refl
+right_count context offset count d n = grind arith
 
 -- ---- a body
 
@@ -114,8 +102,7 @@ right_count context offset count d n = rw (← d, ← lacks_one context count fa
 a_body : (bodies code_bytes offset : ℕ) → 0 < bodies → body_grammar bodies code_bytes offset
     ≡ u32_field offset (λ size width. body_of offset code_bytes size width)
 unfolding body_grammar
-a_body zero code_bytes offset l = absurd (omega arith)
-a_body (suc n) code_bytes offset l = refl
+a_body bodies code_bytes offset l = grind arith
 
 body_there : (bodies code_bytes : ℕ) (p : Place) (r : Result Payload Error) (a : Place) → 0 < bodies
     → ReadsByGrammar (u32_field p.offset (λ size width. body_of p.offset code_bytes size width)) p r a
@@ -133,8 +120,7 @@ no_body_left (suc n) code_bytes p e a z f hint = absurd (omega arith)
 pub body_no_size : (bodies code_bytes : ℕ) (p : Place) (e : Error) (a : Place) → 0 < bodies → unsigned_at VarU32 p ≡ Err (fault_at e)
     → hint_of e
     ≡ hint_at 1 (fault_at e).fault → ReadsByGrammar (body_grammar bodies code_bytes p.offset) p (Err e) a
-body_no_size bodies code_bytes p e a l h hint = body_there bodies code_bytes p (Err e) a l
-    (λ s. report_no_number s p (λ size width. body_of p.offset code_bytes size width) e a h hint)
+body_no_size bodies code_bytes p e a l h hint = search (body_there, report_no_number)
 
 -- after a size, by whether the body passes its section
 body_sized : (bodies code_bytes : ℕ) (p q : Place) (size : ℕ) (past : Bool) (r : Result Payload Error) (a : Place) (m : ReadNumber p size q)

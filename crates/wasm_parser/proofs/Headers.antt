@@ -59,9 +59,6 @@ pub record ReadHeader (p : Place) (bits : ℕ) (q : Place) : Type 0 where
 read_at : (few other fewer : Bool) (p : Place) (bits : ℕ) (q : Place) → nat_lt (length p.rest) 4 ≡ few → agree (take 4 p.rest) magic ≡ other
     → nat_lt (length (drop 4 p.rest)) 4 ≡ fewer
     → version_steps few other fewer p ≡ Ok (bits, q) → ReadHeader p bits q
-read_at true other fewer p bits q a b c h = cc
-read_at false false fewer p bits q a b c h = cc
-read_at false true true p bits q a b c h = cc
 read_at false true false p bits q a b c h =
     let z : (of_four (take 4 (drop 4 p.rest)), advanced 4 (advanced 4 p)) ≡ (bits, q) = cc in
     record {
@@ -71,6 +68,7 @@ read_at false true false p bits q a b c h =
       four = ap (λ (x : ℕ × Place). x.0) z;
       place = sym (ap (λ (x : ℕ × Place). x.1) z);
     }
+read_at _ _ _ p bits q a b c h = cc
 
 pub header_read : (p : Place) (bits : ℕ) (q : Place) → header_version_at p ≡ Ok (bits, q) → ReadHeader p bits q
 header_read p bits q h = read_at (nat_lt (length p.rest) 4) (agree (take 4 p.rest) magic) (nat_lt (length (drop 4 p.rest)) 4) p bits q refl
@@ -86,9 +84,7 @@ report_eight s p bits q r a h t =
     subst (λ (x : Place). MatchesGrammar s x (version_of p.offset bits) r a) h.place t in
     let w : MatchesGrammar s (advanced 4 (advanced 4 p)) (version_of p.offset (of_four (take 4 (drop 4 p.rest)))) r a =
     subst (λ (x : ℕ). MatchesGrammar s (advanced 4 (advanced 4 p)) (version_of p.offset x) r a) (sym h.four) v in
-    report_bytes s p 4 p.offset _ r a h.there (
-    report_right s (advanced 4 p) (when (not (agree (take 4 p.rest) magic)) (at_offset BadMagic p.offset)) _ r a m (
-    report_bytes s (advanced 4 p) 4 (p.offset + 4) (λ four. version_of p.offset (of_four four)) r a h.after w))
+    search (report_bytes, report_right)
 
 -- a header of a known version
 pub header_report : (p : Place) (bits : ℕ) (q : Place) (e : Encoding) (payload : Payload) → header_version_at p ≡ Ok (bits, q) → Some e

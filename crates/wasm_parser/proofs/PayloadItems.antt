@@ -3,18 +3,16 @@ use Rattle.std.specs.Prelude.{◌≡◌, ℕ}
 use Rattle.std.proofs.Common.{refl, ap, subst}
 use Rattle.wasm_base.specs.Item.{ReadsAs}
 use Rattle.wasm_base.specs.Outcome.{Outcome}
-use Rattle.wasm_base.specs.Owned.{UnlessMemory}
 use Rattle.wasm_base.specs.Section.{Section, all_items, GivesItems, NextItem, NextItemIn}
 use Rattle.wasm_base.specs.Window.{Window, Place, place}
 use Rattle.wasm_base.proofs.Runs.{runs_give_items, runs_give_owned_items}
 use Rattle.wasm_items.specs.RecGroups.{rec_group_parts, rec_group_at}
 use Rattle.wasm_parser.specs.ParseAnswer.{unread, BeginsAfterCount, counted_by}
 use Rattle.wasm_parser.specs.PayloadItems.{NextOf, GivesWindow, GivesTypes, NoOthersAreCounted}
-use Rattle.wasm_grammar.specs.Ids.{type_id}
 use Rattle.wasm_grammar.specs.Reading.{Report, counted}
-use Rattle.wasm_parser.specs.declared.payload.Payload.TheVariants.{Version, TypeSection, ImportSection, FunctionSection, TableSection}
-use Rattle.wasm_parser.specs.declared.payload.Payload.TheVariants.{MemorySection, TagSection, GlobalSection, ExportSection, StartSection}
-use Rattle.wasm_parser.specs.declared.payload.Payload.TheVariants.{ElementSection, DataCountSection, DataSection, CodeSectionStart}
+use Rattle.wasm_parser.specs.declared.payload.Payload.TheVariants.{Version}
+use Rattle.wasm_parser.specs.declared.payload.Payload.TheVariants.{StartSection}
+use Rattle.wasm_parser.specs.declared.payload.Payload.TheVariants.{DataCountSection, CodeSectionStart}
 use Rattle.wasm_parser.specs.declared.payload.Payload.TheVariants.{CodeSectionEntry, CustomSection, UnknownSection, End}
 
 abbrev window_in : Report → Window → Window
@@ -42,21 +40,9 @@ module _ {T : Type 0} (meaning : Place → Outcome T → Type 0) (own id count :
   gives = gives_window (NextItem meaning) meaning own id count w s (runs_give_items meaning (all_items s)) e b
 
 pub gives_types : GivesTypes (NextItemIn (ReadsAs rec_group_parts rec_group_at))
-gives_types id count w s (e, b) = gives_window (NextItemIn (ReadsAs rec_group_parts rec_group_at))
-    (UnlessMemory (ReadsAs rec_group_parts rec_group_at)) type_id id count w s
-    (runs_give_owned_items (ReadsAs rec_group_parts rec_group_at) (all_items s)) e b
+gives_types id count w s (e, b) = search (gives_window, runs_give_owned_items)
 
 pub no_others_are_counted : NoOthersAreCounted
-no_others_are_counted id count w (TypeSection s) (e, b) = refl
-no_others_are_counted id count w (ImportSection s) (e, b) = refl
-no_others_are_counted id count w (FunctionSection s) (e, b) = refl
-no_others_are_counted id count w (TableSection s) (e, b) = refl
-no_others_are_counted id count w (MemorySection s) (e, b) = refl
-no_others_are_counted id count w (TagSection s) (e, b) = refl
-no_others_are_counted id count w (GlobalSection s) (e, b) = refl
-no_others_are_counted id count w (ExportSection s) (e, b) = refl
-no_others_are_counted id count w (ElementSection s) (e, b) = refl
-no_others_are_counted id count w (DataSection s) (e, b) = refl
 no_others_are_counted id count w (Version encoding num range) (e, b) = cc
 no_others_are_counted id count w (StartSection func range) (e, b) = cc
 no_others_are_counted id count w (DataCountSection c range) (e, b) = cc
@@ -65,3 +51,4 @@ no_others_are_counted id count w (CodeSectionEntry body) (e, b) = cc
 no_others_are_counted id count w (CustomSection s) (e, b) = cc
 no_others_are_counted id count w (UnknownSection i contents range) (e, b) = cc
 no_others_are_counted id count w (End at) (e, b) = cc
+no_others_are_counted id count w _ (e, b) = refl

@@ -1,18 +1,17 @@
 -- What is after the rest of a code section that a parser passes.
-use Rattle.std.proofs.Common.{◌≡◌, ℕ, ◌+◌, ◌<◌, ◌≤◌, Bool, true, false, cond, max, List, [], ◌∷◌, ◌++◌, length, Option, Some, None, is_some}
+use Rattle.std.proofs.Common.{◌≡◌, ℕ, ◌+◌, ◌<◌, ◌≤◌, Bool, true, false, cond, max, List, [], ◌∷◌, ◌++◌, length, Some, None, is_some}
 use Rattle.std.proofs.Common.{nat_eq, refl, sym, ap, subst, ◌∙◌, arith, length-append, append-nil, append_assoc}
-use Rattle.std.proofs.lemmas.Bool.{eqb-true}
 use Rattle.std.proofs.lemmas.Grind.{flat_map-append}
 use Rattle.std.proofs.lemmas.List.{append_cancel_left}
 use Rattle.std.proofs.lemmas.List.Elements.{All-nil, All-cons, All-append}
-use Rattle.std.specs.Prelude.{All, IsSome}
+use Rattle.std.specs.Prelude.{All}
 use Rattle.wasm_base.specs.Window.{Window}
 use Rattle.wasm_parser.specs.Along.{Along}
 use Rattle.wasm_grammar.specs.EventRanges.{consumed_by}
-use Rattle.wasm_grammar.specs.Grammar.{Shape, version, section, code_start, code_entry, Tile, tile, SectionContext, verdict}
+use Rattle.wasm_grammar.specs.Grammar.{Shape, code_entry, Tile, tile, SectionContext, verdict}
 use Rattle.wasm_grammar.specs.Grammar.{section_grammar, body_grammar}
-use Rattle.wasm_parser.specs.ParserState.{ParserState, IsStateAfter, greatest, ends_in_code, skippable_of, skipped_state}
-use Rattle.wasm_grammar.specs.Tiling.{is_start, bytes_of, encoding_of, counts, bodies_to_come, bytes_to_come, context_of}
+use Rattle.wasm_parser.specs.ParserState.{ParserState, IsStateAfter, greatest, ends_in_code, skipped_state}
+use Rattle.wasm_grammar.specs.Tiling.{is_start, bytes_of, encoding_of, counts, bytes_to_come}
 use Rattle.wasm_grammar.specs.Tiling.{grammar, Faultless}
 use Rattle.wasm_grammar.specs.Reading as reading
 use Rattle.wasm_grammar.specs.Reading.{Event, tile_report, event_of, events_of}
@@ -29,16 +28,11 @@ use Rattle.wasm_grammar.specs.Ids.{code_id, data_count_id, data_id, function_id}
 body_at : (b : Bool) (context : SectionContext) (bodies code_bytes offset : ℕ) (d : List ℕ) (t : Tile) → nat_eq (bodies + code_bytes) 0 ≡ b
     → 0 < code_bytes
     → verdict (cond b (section_grammar context offset) (body_grammar bodies code_bytes offset)) d ≡ tile t → IsBody t.shape
-body_at true context bodies code_bytes offset d t e l v = let z : bodies + code_bytes ≡ 0 = eqb-true _ _ e in absurd (omega (arith, z, l))
-body_at false context bodies code_bytes offset d t e l v = bodied bodies code_bytes offset d t v
+body_at b context bodies code_bytes offset d t e l v = grind (arith, bodied)
 
 body_next : (start : ℕ) (ts : List Tile) (d : List ℕ) (t : Tile) → 0 < bytes_to_come ts → verdict (grammar start ts) d ≡ tile t
     → IsBody t.shape
-body_next start [] d t l v = absurd (omega (arith, l))
-body_next start (u ∷ us) d t l v =
-    body_at (nat_eq (bodies_to_come (u ∷ us) + bytes_to_come (u ∷ us)) 0) (context_of (u ∷ us)) (bodies_to_come (u ∷ us))
-    (bytes_to_come (u ∷ us))
-    (start + length (bytes_of (u ∷ us))) d t refl l v
+body_next start ts d t l v = grind (arith, body_at)
 
 -- tiles after which a parser knows the same as after others but for what is left of a code section
 record KnowsSame (ts us : List Tile) : Type 0 where
@@ -60,9 +54,7 @@ after_body ts us (code_entry content) bytes b l s k = record {
   not_start = sym s;
   code_bytes = let e = k.code_bytes in omega (arith, e, length-append (bytes_of ts) bytes);
 }
-after_body ts us (version num encoding) bytes b l s k = absurd b
-after_body ts us (section form id content) bytes b l s k = absurd b
-after_body ts us (code_start count width size) bytes b l s k = absurd b
+after_body ts us _ bytes b l s k = absurd b
 
 -- tiles that take no more than what is left of a code section are its bodies
 only_bodies : (start : ℕ) (us later : List Tile) → ends_in_code us ≡ true → is_start us ≡ false → Faultless start (later ++ us)
@@ -85,8 +77,7 @@ only_bodies start us (t ∷ later) c s f l =
 
 -- a code section has begun
 some_tile : (ts : List Tile) → ends_in_code ts ≡ true → is_start ts ≡ false
-some_tile [] c = cc
-some_tile (t ∷ ts) c = refl
+some_tile ts c = grind arith
 
 skipped_at : (p : ParserState) (start : ℕ) (prefix bodies : List ℕ) (s : IsStateAfter p start prefix)
     (k : CompletesCode start prefix bodies) → p.in_code ≡ true → length bodies ≡ p.code_bytes → KnowsSame k.tiles s.tiles
@@ -131,8 +122,7 @@ skips_section p q c e start prefix bodies s l k =
     (skipped_at p start prefix bodies s k c l (subst (λ (x : List Tile). KnowsSame x s.tiles) (sym z) same))
 
 pub in_code_where_skippable : (b : Bool) (code_bytes : ℕ) → is_some (cond b (Some code_bytes) None) ≡ true → b ≡ true
-in_code_where_skippable true code_bytes e = refl
-in_code_where_skippable false code_bytes e = cc
+in_code_where_skippable b code_bytes e = grind arith
 
 -- ---- the reading without the bodies that are passed
 
@@ -145,9 +135,7 @@ skipped_at-tiles p start prefix bodies s k c l same = refl
 reports_body : (features from to : ℕ) (shape : Shape) → IsBody shape → (window : Window)
     × (tile_report features from to shape ≡ reading.code_entry window)
 reports_body features from to (code_entry content) b = (_, refl)
-reports_body features from to (version num encoding) b = absurd b
-reports_body features from to (section form id content) b = absurd b
-reports_body features from to (code_start count width size) b = absurd b
+reports_body features from to _ b = absurd b
 
 -- the events of tiles that are bodies
 record Bodies (start features : ℕ) (us later : List Tile) : Type 0 where

@@ -17,7 +17,7 @@ use Rattle.wasm_grammar.specs.Sections.{section_of, sections_of, TiledBySections
 use Rattle.wasm_parser.specs.ParserState.{ParserState, IsStateAfter, initial_state, grammar_of}
 use Rattle.wasm_parser.specs.StateAfter.{state_after_tile}
 use Rattle.wasm_grammar.specs.Tiling.{bytes_of, grammar, Faultless}
-use Rattle.wasm_parser.specs.ParseAll.{HoldsItems, Walk, walk_over, consumed_between, GivesAnswer, NextPayload, sections_given}
+use Rattle.wasm_parser.specs.ParseAll.{HoldsItems, Walk, walk_over, consumed_between, NextPayload, sections_given}
 use Rattle.wasm_parser.specs.ParseAll.{given_report, event_report, EndsAt, GivesReading, WalksWhole}
 use Rattle.wasm_parser.specs.declared.payload.Chunk.TheVariants.{Parsed}
 use Rattle.wasm_parser.specs.declared.payload.Payload.{Payload}
@@ -122,10 +122,7 @@ steps_on start features stream s m tiles w t consumed v n p b =
 report_there : (start features : ℕ) (stream : List ℕ) (s : Walk) (tiles : List Tile) (w : Walked start features stream s tiles) (t : Tile)
     (x : Report) → x ≡ tile_report s.state.features s.state.offset (s.state.offset + length t.bytes) t.shape
     → x ≡ event_report (event_of features (start + length (bytes_of tiles)) t)
-report_there start features stream s tiles w t x e =
-    let o : s.state.offset ≡ start + length (bytes_of tiles) = w.is_after.offset
-    ∙ ap (λ (y : List ℕ). start + length y) (sym (is_prefix start features stream s tiles w)) in
-    e ∙ (λ i. tile_report (w.takes i) (o i) (o i + length t.bytes) t.shape)
+report_there start features stream s tiles w t x e = cc
 
 -- ---- the whole walk
 
@@ -133,8 +130,7 @@ report_there start features stream s tiles w t x e =
 walks : (start features : ℕ) (stream : List ℕ) (given : List (Result Payload Error)) (s t u : Walk) (tiles : List Tile)
     → Walked start features stream s tiles → s.ended ≡ false → Yields NextPayload s given t → NextPayload t None u
     → ReadsOn start features stream tiles (map given_report given)
-walks start features stream [] s t u tiles w going run end = absurd
-    (subst (λ (y : Walk). y.ended ≡ false → GivesAnswer y None u) (sym run) end.going going)
+walks start features stream [] s t u tiles w going run end = grind (arith)
 walks start features stream (Err e ∷ given) s t u tiles w going run end =
     let step = run.1.going going in
     let none : given ≡ [] = over_gives_nothing run.0 t given step.2 run.2 in
@@ -188,15 +184,13 @@ begins start features bytes l = record {
 
 walk_reads : (start features : ℕ) (bytes : List ℕ) → start + length bytes < 2 ^ 64 → (given : List (Result Payload Error))
     → Drains NextPayload (walk_over (initial_state start features) bytes) given → ReadsOn start features bytes [] (map given_report given)
-walk_reads start features bytes l given run = walks start features bytes given (walk_over (initial_state start features) bytes) run.1.0
-    run.0 [] (begins start features bytes l) refl run.1.1 run.1.2
+walk_reads start features bytes l given run = search (walks, begins)
 
 -- ---- how it ends
 
 ends_append : (o : ℕ) (xs : List Report) (x : Report) → EndsAt o (xs ++ x ∷ []) ↔ (x ≡ stream_end (ended o))
-ends_append o [] x = (λ h. h, λ h. h)
-ends_append o (y ∷ []) x = (λ h. h, λ h. h)
 ends_append o (y ∷ (z ∷ zs)) x = ends_append o (z ∷ zs) x
+ends_append o _ x = (λ h. h, λ h. h)
 
 map_append : (xs ys : List Event) → map event_report (xs ++ ys) ≡ map event_report xs ++ map event_report ys
 map_append [] ys = refl
@@ -204,8 +198,7 @@ map_append (x ∷ xs) ys = ap (λ (l : List Report). x.report ∷ l) (map_append
 
 -- the end that was reported is that of the reading
 report_end : (o : ℕ) (e : Ending) → stream_end e ≡ stream_end (ended o) → e ≡ ended o
-report_end o (fault f) h = cc
-report_end o (ended x) h = let z : x ≡ o = cc in ap ended z
+report_end o e h = cc
 
 -- what is given of the images of a list
 mapped : {X Y Z : Type 0} (f : X → Y) (h : Y → Option Z) (xs : List X) → filter_map (λ x. h (f x)) xs ≡ filter_map h (map f xs)
@@ -220,9 +213,7 @@ same_sections given events e = mapped event_report section_of events
 
 -- each payload that a walk gives holds its items
 holds_one : (b : Bool) (s t : Walk) (x : Result Payload Error) → s.ended ≡ b → NextPayload s (Some x) t → HoldsItems x
-holds_one true s t x e n = absurd (let z = (n.over e).0 in cc)
-holds_one false s t (Ok payload) e n = (n.going e).0.items
-holds_one false s t (Err f) e n = tt
+holds_one b s t x e n = grind arith
 
 holds_all : (given : List (Result Payload Error)) (s t : Walk) → Yields NextPayload s given t → All HoldsItems given
 holds_all [] s t run = All-nil HoldsItems
@@ -262,6 +253,4 @@ gives_reading start features bytes stream = record {
 -- the walk of a parser that has passed nothing
 pub walks_whole : (p : ParserState) (bytes : List ℕ) (walk : Walk) → All (λ b. b < 256) bytes → walk ≡ walk_over p bytes
     → WalksWhole p bytes walk
-walks_whole p bytes walk each w start features same fits =
-    subst (GivesReading start features bytes) (sym (w ∙ ap (λ (q : ParserState). walk_over q bytes) same))
-    (gives_reading start features bytes (record { each = each; fits = fits }))
+walks_whole p bytes walk each w start features same fits = grind (arith, gives_reading)
