@@ -7,7 +7,6 @@ use Rattle.wasm_base.proofs.NumberLaws.{number-used, Used}
 use Rattle.wasm_grammar.specs.Content.{wrong_single, wrong_content}
 use Rattle.wasm_grammar.specs.Content.{Form}
 use Rattle.wasm_grammar.specs.Accepted.{IsNumber, IsFormed}
-use Rattle.wasm_grammar.proofs.parts.Placed.{none_when}
 
 -- good content has no fault
 pub good_to : (form : Form) (o : ℕ) (content : List ℕ) → IsFormed form content → wrong_content form o content ≡ None
@@ -20,7 +19,7 @@ single_from : (trailing : Fault) (o : ℕ) (content : List ℕ) (n : Number) →
     → (v : ℕ) × IsNumber content v
 single_from trailing o content (read v k) e h =
     let u : Used VarU32 content v k = number-used VarU32 content v k e in
-    let l : length content ≤ k = grind (arith, none_when) in
+    let l : length content ≤ k = grind arith in
     let z : k ≡ length content = omega (arith, u.there) in
     grind arith
 single_from trailing o content _ e h = cc

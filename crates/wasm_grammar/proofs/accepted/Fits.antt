@@ -1,7 +1,6 @@
 -- A section may follow other tiles exactly if it fits after their frames.
 use Rattle.std.proofs.Common.{◌≡◌, ℕ, ◌<◌, ◌⊎◌, ◌==◌, Bool, true, false, not, ◌&&◌, List, length, refl, sym, ap}
 use Rattle.std.proofs.Common.{subst, ◌∙◌, arith, None, nat_lt, nat_eq, eqb-true, eq-eqb, ltb-true, lt-ltb}
-use Rattle.std.proofs.lemmas.Bool.{not-false}
 use Rattle.std.specs.List.{All, Any, list_all}
 use Rattle.wasm_base.specs.FaultAt.{FaultAt, at_offset}
 use Rattle.wasm_base.specs.declared.fault.Fault.TheVariants.{DataCountDiffer}
@@ -11,7 +10,7 @@ use Rattle.wasm_grammar.specs.declared.encoding.Encoding.TheVariants.{Module}
 use Rattle.wasm_grammar.specs.Content.{items, kind_of, when, Form, whole}
 use Rattle.wasm_grammar.specs.Grammar.{SectionContext, wrong_count, wrong_data}
 use Rattle.wasm_grammar.specs.Accepted.{SectionFrame, frame_count, frame_rank, IsSection}
-use Rattle.wasm_grammar.proofs.parts.Placed.{Follows, follows_all}
+use Rattle.wasm_grammar.proofs.parts.Placed.{Follows}
 use Rattle.wasm_grammar.proofs.PlainLists.{all_of, all_to, any_of, any_to}
 use Rattle.wasm_grammar.proofs.accepted.Counts.{is_section, counts_of, Knows, section_yes, yes_section, no_counts, HasCount, same_to}
 use Rattle.wasm_grammar.proofs.accepted.Counts.{same_of}
@@ -34,7 +33,7 @@ pub rank_from : (encoding : Encoding) (fs : List SectionFrame) (p : SectionConte
 rank_from encoding fs p k r f l =
     all_of (λ (g : SectionFrame). nat_lt (frame_rank encoding g) r) (λ g. frame_rank encoding g < r)
     (λ g. ltb-true (frame_rank encoding g) r) fs
-    (grind (arith, follows_all))
+    (grind arith)
 
 -- there is a section with this id
 pub some_to : (encoding : Encoding) (n : ℕ) (fs : List SectionFrame) → Any (IsSection encoding n) fs
@@ -47,7 +46,7 @@ pub some_from : (encoding : Encoding) (n : ℕ) (fs : List SectionFrame) → nat
     → Any (IsSection encoding n) fs
 some_from encoding n fs e =
     any_of (is_section encoding n) (IsSection encoding n) (λ g. section_yes encoding n g) fs
-    (grind (arith, not-false, is_section, no_counts))
+    (grind (arith, no_counts))
 
 -- what a code section with this count wants of the frames before it
 pub record CodeFits (encoding : Encoding) (fs : List SectionFrame) (c : ℕ) : Type 0 where

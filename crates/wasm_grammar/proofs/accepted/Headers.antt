@@ -76,8 +76,8 @@ header_parts o xs t each h =
     let (encoding, b, r) = of_header o (of_four f.prefix) (encoding_named (of_four f.prefix % 65536) (of_four f.prefix / 65536)) f.others
     f.rest refl f.goes_on in
     let u : m.rest ≡ made (version (header_version encoding) encoding) f.prefix =
-    search (ends_there, header_version) in
-    let w : t ≡ made (version (header_version encoding) encoding) (magic ++ f.prefix) = grind (arith, made, header_version) in
+    search ends_there in
+    let w : t ≡ made (version (header_version encoding) encoding) (magic ++ f.prefix) = grind (arith, header_version) in
     let e : All (λ b. b < 256) (magic ++ f.prefix) = rw w at each in
     let l : f.prefix ≡ last_four encoding = four_bytes encoding f.prefix f.size e b in
     record {

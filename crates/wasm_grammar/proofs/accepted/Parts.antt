@@ -105,7 +105,7 @@ framed_parts p o id xs s t h e =
     refuse_parts _ _ n.others n.rest b.1 in
     record {
       id = id;
-      below = grind (arith, none_when);
+      below = grind arith;
       field = n.field;
       size = n.value;
       whole = n.whole;
@@ -174,7 +174,7 @@ head_parts p o size xs t h =
       count = n.value;
       head = n.field;
       whole = n.whole;
-      fits = grind (arith, none_when);
+      fits = grind arith;
       right = b.0;
       is = search (ends_there, takes_parts);
     }

@@ -110,7 +110,7 @@ settles ts p e =
     record {
       frames = p.frames ++ f ∷ [];
       joined = cc;
-      knows = grind (arith, Knows);
+      knows = grind arith;
       sections = rw p.of_module (in_order_push Module p.frames f p.sections i (p.fits f refl c));
       closed = e;
     }
@@ -168,7 +168,7 @@ code_fits : (p : SectionContext) (fs : List SectionFrame) → Knows Module fs p 
     → Follows p (rank_of (kind_of Module code_id) code_id)
     → wrong_count p at count ≡ None → (f : SectionFrame) → f.id ≡ code_id → frame_count f ≡ count → FitsAfter Module fs f
 code_fits p fs k at count r w f z c =
-    let g : CodeFits Module fs (frame_count f) = grind (arith, CodeFits, code_from) in
+    let g : CodeFits Module fs (frame_count f) = grind (arith, code_from) in
     record {
       ranks = rank_from Module fs p k (frame_rank Module f) (cc);
       bodies = λ y. g.bodies;
@@ -262,7 +262,7 @@ body_pending ts t q h =
       counted = q.counted;
       bodies = q.bodies ++ s ∷ [];
       each = All-push IsSized q.bodies s q.each h.whole;
-      joined = grind (arith, body_joined, stream_of);
+      joined = grind (arith, body_joined);
       bodies_miss = m;
       bytes_miss = y;
       knows = λ f a c. knows_body Module (q.frames ++ f ∷ []) ts h.content b (q.knows f a c);

@@ -1,10 +1,9 @@
 -- A good section that fits after other tiles is one tile more, or the head of a code section and its bodies.
-use Rattle.std.proofs.Common.{◌≡◌, ℕ, suc, ◌+◌, ◌-◌, ◌^◌, ◌<◌, ◌≤◌, true, false, List, [], ◌∷◌, ◌++◌, length, Some, nat_eq, refl, sym, ap}
+use Rattle.std.proofs.Common.{◌≡◌, ℕ, suc, ◌+◌, ◌-◌, ◌^◌, ◌<◌, ◌≤◌, true, false, List, [], ◌∷◌, ◌++◌, length, nat_eq, refl, sym, ap}
 use Rattle.std.proofs.Common.{subst, ◌∙◌, arith, length-append, append-nil, append_assoc, lit<}
 use Rattle.std.specs.List.{All, flat_map}
 use Rattle.std.proofs.lemmas.Bool.{ne_eqb}
 use Rattle.std.proofs.lemmas.List.Elements.{All-head, All-tail}
-use Rattle.wasm_base.specs.Name.{named, name_limit, name}
 use Rattle.wasm_grammar.specs.declared.encoding.Encoding.{Encoding}
 use Rattle.wasm_grammar.specs.declared.encoding.Encoding.TheVariants.{Module}
 use Rattle.wasm_grammar.specs.Content.{kind_of, rank_of, value_of, count_of}
@@ -12,7 +11,7 @@ use Rattle.wasm_grammar.specs.FrameEvents.{body_events}
 use Rattle.wasm_grammar.specs.Grammar.{section, code_start, code_entry, Tile, tile, SectionContext, verdict, section_grammar}
 use Rattle.wasm_grammar.specs.Tiling.{bytes_of, grammar, Faultless, context_of, bodies_to_come, bytes_to_come, is_start}
 use Rattle.wasm_grammar.specs.Reading.{events_of}
-use Rattle.wasm_grammar.specs.Accepted.{Sized, sized_bytes, IsSized, SectionFrame, frame_bytes, frame_count, frame_rank, IsFrame, IsGood}
+use Rattle.wasm_grammar.specs.Accepted.{Sized, sized_bytes, IsSized, SectionFrame, frame_bytes, frame_count, frame_rank, IsFrame}
 use Rattle.wasm_grammar.specs.Accepted.{FitsAfter, CodeDivision}
 use Rattle.wasm_grammar.proofs.parts.Placed.{Follows}
 use Rattle.wasm_grammar.proofs.accepted.Counts.{Knows}
@@ -21,7 +20,7 @@ use Rattle.wasm_grammar.proofs.accepted.Contents.{good_to}
 use Rattle.wasm_grammar.proofs.accepted.Tiles.{made, IsWhole, HeadIsRight, number_on, section_tile, code_head_tile, body_tile}
 use Rattle.wasm_grammar.proofs.accepted.Knows.{grammar_open, knows_body}
 use Rattle.wasm_grammar.proofs.frames.TileEvents.{body_tile_event}
-use Rattle.wasm_grammar.specs.Ids.{code_id, custom_id}
+use Rattle.wasm_grammar.specs.Ids.{code_id}
 
 -- what comes before a good section's content is right, if the section fits
 head_of_frame : (p : SectionContext) (fs : List SectionFrame) (o : ℕ) (f : SectionFrame) → Knows p.encoding fs p → IsFrame p.encoding f
@@ -34,11 +33,6 @@ head_of_frame p fs o f k i a r = record {
   follows = search rank_to;
 }
 
--- a good section with the id 0 has a name
-named_zero : (encoding : Encoding) (id : ℕ) (content : List ℕ) → IsGood (kind_of encoding id) content → id ≡ custom_id → (text : List ℕ)
-    × (used : ℕ) × (name (Some name_limit) content ≡ named text used)
-named_zero encoding id content g z = grind arith
-
 -- a good section that fits after tiles of its own encoding is a tile
 section_at : (p : SectionContext) (fs : List SectionFrame) (o : ℕ) (f : SectionFrame) → o + length (frame_bytes f) < 2 ^ 64
     → Knows p.encoding fs p → IsFrame p.encoding f → FitsAfter p.encoding fs f
@@ -46,7 +40,7 @@ section_at : (p : SectionContext) (fs : List SectionFrame) (o : ℕ) (f : Sectio
     ≡ tile (made (section w.0 f.id f.sized.content) (frame_bytes f))
 section_at p fs o f r k i a w =
     section_tile p o f.id f.sized.field f.sized.content (head_of_frame p fs o f k i a r) w
-    (grind (arith, named_zero))
+    (grind arith)
     (λ at. good_to w.0 at f.sized.content (grind arith))
     (λ at. data_to p.encoding fs p k f at a.segments w.0 w.1)
 

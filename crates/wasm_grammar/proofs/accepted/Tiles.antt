@@ -3,7 +3,6 @@ use Rattle.std.proofs.Common.{◌≡◌, ℕ, suc, ◌+◌, ◌-◌, ◌^◌, �
 use Rattle.std.proofs.Common.{length, take, drop, Option, Some, None, nat_lt, nat_le, refl, ap, subst, arith, append-nil}
 use Rattle.std.proofs.Common.{length-append, le-leb, le-ltb, lt-ltb}
 use Rattle.std.proofs.lemmas.List.{take_at, drop_at}
-use Rattle.std.proofs.lemmas.Bool.Decides.{nat_tests}
 use Rattle.wasm_base.specs.FaultAt.{FaultAt}
 use Rattle.wasm_base.specs.Header.{magic, agree}
 use Rattle.wasm_base.specs.Name.{named, refused, name_limit, name}
@@ -122,7 +121,7 @@ framed_tile p o id field size xs s f m h =
     (search when_tile))))
   where
     small : (n : ℕ) → n < 128 → nat_le 128 n ≡ false
-    small n h = grind (arith, nat_tests)
+    small n h = grind arith
 
     fits : (n : ℕ) → n < 2 ^ 64 → nat_lt (2 ^ 64 - 1) n ≡ false
     fits n h = grind arith

@@ -3,7 +3,7 @@ use Rattle.std.proofs.Common.{◌≡◌, ◌≢◌, ℕ, ◌+◌, ◌-◌, ◌<�
 use Rattle.std.proofs.Common.{length, take, drop, replicate, Option, Some, None, nat_lt, nat_le, nat_eq, refl, ◌∙◌, arith}
 use Rattle.std.proofs.Common.{length-append, leb-true, le-leb}
 use Rattle.std.specs.List.{list_any}
-use Rattle.std.proofs.lemmas.Bool.{leb-false, eqb-true, and_parts, lt-leb}
+use Rattle.std.proofs.lemmas.Bool.{leb-false, and_parts, lt-leb}
 use Rattle.std.proofs.lemmas.List.{append_cancel_left, take-append-le, drop-append-le, length-replicate, take_all, drop_all}
 use Rattle.wasm_base.specs.FaultAt.{FaultAt, at_offset}
 use Rattle.wasm_base.specs.Header.{magic, agree}
@@ -217,7 +217,7 @@ begun_start : (p : SectionContext) (o : ℕ) (id : ℕ) (xs : List ℕ) → agre
     → verdict (section_start o (end_at_section p o) (after_id p o)) (id ∷ xs) ≢ final (fault (at_offset MagicAtSection o))
 unfolding verdict
 begun_start p o id xs a l z =
-    let q : id ≡ 0 = grind (arith, eqb-true, and_parts) in
+    let q : id ≡ 0 = grind arith in
     let n : nat_le 4 (length (id ∷ xs)) ≡ false = lt-leb 4 (length (id ∷ xs)) l in
     let w : after (id ∷ []) (verdict (after_id p o id) xs) ≡ final (fault (at_offset MagicAtSection o)) = rw (a, n) at z in
     begun_magic p o xs (and_parts (nat_eq id 0) (agree xs (0x61 ∷ 0x73 ∷ 0x6d ∷ [])) a).1 (omega arith)

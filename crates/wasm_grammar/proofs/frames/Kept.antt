@@ -93,10 +93,10 @@ some_same : (encoding : Encoding) (n : ℕ) (earlier others : List SectionFrame)
 some_same encoding n earlier others h s a =
     let spared : (g : SectionFrame) → Spares (is_section encoding n) (has_rank encoding) g = λ g e.
     ranked encoding n g h (section_yes encoding n g e) in
-    let t : list_any (is_section encoding n) earlier ≡ true = search (any_to, is_section, yes_section) in
+    let t : list_any (is_section encoding n) earlier ≡ true = search (any_to, yes_section) in
     any_of (is_section encoding n) (IsSection encoding n) (λ g. section_yes encoding n g) others
     (sym (any_left (is_section encoding n) (has_rank encoding) others
-    (search (each_of, Spares, is_section)))
+    (search (Spares, is_section)))
     ∙ (ap (list_any (is_section encoding n)) (sym s) ∙ (any_left (is_section encoding n) (has_rank encoding) earlier
     (search (each_of, Spares, is_section)) ∙ t)))
 
@@ -155,7 +155,7 @@ matched_left : (encoding : Encoding) (n other : ℕ) (stays : SectionFrame → B
     → IsMatched encoding n other (filter stays frames)
 matched_left encoding n other stays frames h k m =
     let spared : All (Spares (is_section encoding other) stays) frames =
-    grind (arith, All-weaker, Spares, is_section, ranked, section_yes) in
+    grind (arith, is_section, ranked, section_yes) in
     let kept : Any (IsSection encoding other) frames → Any (IsSection encoding other) (filter stays frames) = λ a.
     any_of (is_section encoding other) (IsSection encoding other) (λ g. section_yes encoding other g) (filter stays frames)
     (any_left (is_section encoding other) stays frames spared ∙ any_to (is_section encoding other) (IsSection encoding other)

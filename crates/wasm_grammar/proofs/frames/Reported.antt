@@ -13,7 +13,6 @@ use Rattle.wasm_grammar.specs.Sections.{section_of, sections_of}
 use Rattle.wasm_grammar.specs.Tiling.{bytes_of, grammar, encoding_of}
 use Rattle.wasm_grammar.proofs.readings.EndToEnd.{Closes, tile_closes}
 use Rattle.wasm_grammar.proofs.parts.Placed.{Each, each_tile, bodied, headed}
-use Rattle.wasm_grammar.proofs.accepted.KindIds.{IdOf, id_as}
 
 -- ---- a tile of an encoding
 
@@ -62,15 +61,11 @@ id_report index id = 8
 id_report data_count id = 12
 id_report _ id = id
 
--- it is the section's
-id_same : (encoding : Encoding) (kind : Form) (id : ℕ) → IdOf encoding (whole kind) id → id_report kind id ≡ id
-id_same encoding kind id h = grind arith
-
 report_shape : (encoding : Encoding) (features low : ℕ) (bytes : List ℕ) (s : Shape) → Kinded encoding s → Closes s bytes
     → section_of (tile_report features low (low + length bytes) s) ≡ section_at (low + length bytes) s
 report_shape encoding features low bytes (section kind id content) k (before, c) =
     let n : length bytes ≡ length before + length content = ap (λ (x : List ℕ). length x) c ∙ length-append before content in
-    let i : id_report kind id ≡ id = grind (arith, id_same, id_as) in
+    let i : id_report kind id ≡ id = grind arith in
     grind arith
 report_shape encoding features low bytes (version num other) k c = absurd k
 report_shape encoding features low bytes _ k c = refl

@@ -97,7 +97,7 @@ head_event features o id size count field head z n c i range e =
       end = omega (arith, l);
       says = c;
     } in
-    let a : id ≡ i = grind (arith, id_is) in
+    let a : id ≡ i = grind arith in
     let r : record { start = high - length head; end = high + size }
     ≡ range = search range_is in
     grind arith

@@ -4,7 +4,7 @@ use Rattle.std.proofs.Common.{◌≡◌, ℕ, ◌+◌, ◌-◌, ◌<◌, List, [
 use Rattle.std.proofs.Common.{◌∙◌, arith, length-append, append-nil, append_assoc, eqb-true}
 use Rattle.std.specs.List.{All, flat_map}
 use Rattle.std.proofs.lemmas.List.{take_at, drop_at}
-use Rattle.std.proofs.lemmas.List.Elements.{All-nil, All-push, All-weaker}
+use Rattle.std.proofs.lemmas.List.Elements.{All-nil, All-push}
 use Rattle.wasm_grammar.specs.Accepted.{header_bytes, IsNumber, IsSized, SectionFrame, frame_bytes, IsAccepted}
 use Rattle.wasm_grammar.specs.Content.{Kind, code, kind_of, ended}
 use Rattle.wasm_grammar.specs.Grammar.{section, code_start, Tile, tile, verdict, content_grammar}
@@ -14,7 +14,7 @@ use Rattle.wasm_grammar.specs.Sections.{sections_of, bytes_in, id_and_bytes, id_
 use Rattle.wasm_grammar.specs.Tiling.{bytes_of, context_of, grammar, encoding_of, bodies_to_come, bytes_to_come}
 use Rattle.wasm_grammar.specs.declared.encoding.Encoding.{Encoding}
 use Rattle.wasm_grammar.proofs.readings.Endings.{header_end, inside_end}
-use Rattle.wasm_grammar.proofs.frames.Same.{frames_same, headers_same}
+use Rattle.wasm_grammar.proofs.frames.Same.{frames_same}
 use Rattle.wasm_grammar.proofs.readings.Readings.{reads_same}
 use Rattle.wasm_grammar.proofs.accepted.KindIds.{code_has_its_id}
 use Rattle.wasm_grammar.proofs.accepted.Headers.{HeaderParts, header_parts}
@@ -163,7 +163,7 @@ closed_whole start features u ts o t h q s w =
     let m : length (s.field ++ c.content) ≡ length s.field + length c.content = length-append s.field c.content in
     let p : sections_of (events_of start features (t ∷ u ∷ ts)) ≡ sections_of (events_of start features (u ∷ ts))
     ++ (s.id, record { start = low + length (frame_bytes f) - length c.content; end = low + length (frame_bytes f) }) ∷ [] =
-    grind (arith, sections_more, section_at) in
+    grind (arith, sections_more) in
     record {
       encoding = q.encoding;
       frames = q.frames ++ f ∷ [];
@@ -191,7 +191,7 @@ closed_code start features u ts o t h q s e =
     let code_bytes : ℕ = s.size - length c.head in
     let bytes : List ℕ = 10 ∷ (s.field ++ c.head) in
     let z : t ≡ made (code_start c.count (length c.head) code_bytes) bytes =
-    grind (arith, made) in
+    grind arith in
     let low : ℕ = start + length (bytes_of (u ∷ ts)) in
     let n : length (bytes_of (u ∷ ts)) ≡ length (stream_of q.encoding q.frames) = rw q.joined in
     let m : length (s.field ++ c.head) ≡ length s.field + length c.head = length-append s.field c.head in
@@ -200,7 +200,7 @@ closed_code start features u ts o t h q s e =
     let b : low + length bytes + code_bytes ≡ from + s.size = omega (arith, c.fits) in
     let p : sections_of (events_of start features (t ∷ u ∷ ts)) ≡ sections_of (events_of start features (u ∷ ts))
     ++ (10, record { start = low + length bytes - length c.head; end = low + length bytes + code_bytes }) ∷ [] =
-    grind (arith, sections_more, section_at) in
+    grind (arith, sections_more) in
     let l : bytes_to_come (t ∷ u ∷ ts) ≡ code_bytes = rw z in
     record {
       encoding = q.encoding;
@@ -276,7 +276,7 @@ report_sections : (stream : List ℕ) (start features : ℕ) (a : IsAccepted str
     → sections_of (events_of start features ts) ≡ places_of (start + length (header_bytes a.encoding)) a.frames
 report_sections stream start features a ts c w s =
     let q : ((c.encoding ≡ a.encoding) × (flat_map frame_bytes c.frames ≡ flat_map frame_bytes a.frames)) =
-    grind (arith, headers_same) in
+    grind arith in
     let f : c.frames ≡ a.frames = frames_same c.frames a.frames c.sized s q.1 in
     cc
 
@@ -286,7 +286,7 @@ sections_tile stream start features events s a r =
     let (z, y) = reads_same stream start r.tiles ts r.end (ended (start + length stream)) r.reads e in
     let n : Reads stream start r.tiles (ended (start + length stream)) = rw y at r.reads in
     let (c, w) = closed_end stream start features (start + length stream) r.tiles s.each n in
-    let sized : All (λ f. IsSized f.sized) a.frames = grind (arith, All-weaker) in
+    let sized : All (λ f. IsSized f.sized) a.frames = grind arith in
     let p : sections_of events ≡ places_of (start + length (header_bytes a.encoding)) a.frames =
     ap sections_of r.listed ∙ (search (sections_all, report_sections)) in
     record {

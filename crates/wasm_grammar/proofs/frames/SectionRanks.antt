@@ -35,7 +35,7 @@ Under encoding r s = rank_in encoding s.0 < r
 under_push : (encoding : Encoding) (r high : ℕ) (s : Shape) (xs : List (ℕ × Range ℕ)) → Kinded encoding s → tile_rank s < r
     → All (Under encoding r) xs → All (Under encoding r) (xs ++ option_to_list (section_at high s))
 under_push encoding r high (section kind id content) xs k l a =
-    All-push (Under encoding r) xs _ a (grind (arith, rank_report))
+    All-push (Under encoding r) xs _ a (grind arith)
 under_push encoding r high (Grammar.code_start count width size) xs k l a = search (All-push, code_report)
 under_push encoding r high (Grammar.code_entry content) xs k l a = subst (All (Under encoding r)) (sym (append-nil xs)) a
 under_push encoding r high (Grammar.version num other) xs k l a = absurd k

@@ -2,13 +2,11 @@
 use Rattle.std.proofs.Common.{◌≡◌, ℕ, ◌+◌, List, [], ◌∷◌, ◌++◌, length, refl, sym, ◌∙◌, arith}
 use Rattle.std.specs.List.{All, flat_map}
 use Rattle.std.proofs.lemmas.List.Elements.{All-head, All-tail}
-use Rattle.wasm_grammar.specs.Accepted.{header_bytes, Sized, sized_bytes, IsSized, SectionFrame, frame_bytes, CodeDivision}
-use Rattle.wasm_grammar.specs.Accepted.{IsAccepted}
+use Rattle.wasm_grammar.specs.Accepted.{Sized, sized_bytes, IsSized, SectionFrame, frame_bytes, CodeDivision}
 use Rattle.wasm_grammar.specs.Content.{Kind, ended}
-use Rattle.wasm_grammar.specs.FrameEvents.{header_event, code_events, KindEvents, FramesEvents}
+use Rattle.wasm_grammar.specs.FrameEvents.{code_events, KindEvents, FramesEvents}
 use Rattle.wasm_grammar.specs.FrameLaws.{OneDivision, FramesGiveEvents}
-use Rattle.wasm_grammar.specs.Grammar.{Tile}
-use Rattle.wasm_grammar.specs.Reading.{Event, events_of, last_event, Reads}
+use Rattle.wasm_grammar.specs.Reading.{Event, Reads}
 use Rattle.wasm_grammar.specs.declared.encoding.Encoding.{Encoding}
 use Rattle.wasm_grammar.proofs.accepted.Walks.{Told, Reached, accepted_walk, accepted_ends_there}
 use Rattle.wasm_grammar.proofs.frames.Same.{prefixes_same, numbers_same, sized_same, frames_same}
@@ -65,14 +63,6 @@ frames_events_same features encoding at (f ∷ frames) xs ys (a, b, w, h, t) (c,
 
 -- ---- told by sections
 
--- the events of a stream that its sections tell
-told_events : (stream : List ℕ) (start features : ℕ) (a : IsAccepted stream) (ts : List Tile)
-    (t : Told start features a.encoding a.frames ts) (inner : List Event) → t.inner ≡ inner
-    → events_of start features ts ++ last_event (ended (start + length stream)) ∷ []
-    ≡ header_event start a.encoding ∷ (inner ++ last_event (ended
-    (start + length (header_bytes a.encoding ++ flat_map frame_bytes a.frames))) ∷ [])
-told_events stream start features a ts t inner e = cc
-
 pub frames_give_events : FramesGiveEvents
 frames_give_events stream start features events s a =
     let q : Reached start a.encoding a.frames = accepted_walk stream start s.fits a in
@@ -91,6 +81,6 @@ frames_give_events stream start features events s a =
         tiles = q.tiles;
         end = ended (start + length stream);
         reads = reads;
-        listed = grind (arith, told_events, frames_events_same);
+        listed = grind (arith, frames_events_same);
       },
     )

@@ -9,13 +9,10 @@ use Rattle.wasm_base.specs.Header.{magic, agree}
 use Rattle.wasm_grammar.specs.Grammar.{Tile, Verdict, tile, final, after, after_number, Grammar, accept, check, u32_field, bytes}
 use Rattle.wasm_grammar.specs.Grammar.{section_start, verdict}
 use Rattle.wasm_grammar.specs.Content.{Ending, fault}
-use Rattle.wasm_grammar.specs.Waiting.{Waiting, enough, wants, later, later_number, waiting}
+use Rattle.wasm_grammar.specs.Waiting.{enough, wants, later, later_number, waiting}
 use Rattle.wasm_base.specs.declared.fault.NumberKind.TheVariants.{VarU32}
 use Rattle.wasm_base.specs.declared.fault.Fault.TheVariants.{UnexpectedEof, MagicAtSection}
 use Rattle.wasm_base.proofs.NumberLaws.{number-more, number-used, Used}
-
-pub later-enough : (k : ℕ) (w : Waiting) → later k w ≡ enough → w ≡ enough
-later-enough k w e = grind arith
 
 -- lists that don't agree still don't, whatever follows
 pub agree-more : (xs ys zs : List ℕ) → agree xs zs ≡ false → agree (xs ++ ys) zs ≡ false

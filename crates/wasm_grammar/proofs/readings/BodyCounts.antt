@@ -5,14 +5,14 @@ use Rattle.std.specs.List.{All}
 use Rattle.std.proofs.lemmas.List.{append_cancel_left}
 use Rattle.std.proofs.lemmas.List.Elements.{All-nil, All-push}
 use Rattle.wasm_base.specs.Window.{Window}
-use Rattle.wasm_grammar.specs.Content.{Ending, fault, ended, Form}
+use Rattle.wasm_grammar.specs.Content.{Ending, fault, ended}
 use Rattle.wasm_grammar.specs.Grammar
 use Rattle.wasm_grammar.specs.Grammar.{Shape, section, Tile, tile, final, SectionContext, verdict, section_grammar, body_grammar}
-use Rattle.wasm_grammar.specs.Reading.{code_start, code_entry, Event, section_report, tile_report, event_of, stream_end}
+use Rattle.wasm_grammar.specs.Reading.{code_start, code_entry, Event, tile_report, event_of, stream_end}
 use Rattle.wasm_grammar.specs.Reading.{last_event, events_of}
 use Rattle.wasm_grammar.specs.SectionLaws.{BodiesFollowTheirCount}
 use Rattle.wasm_grammar.specs.Sections.{ReportsBody, ReportsFault, BodiesFollow}
-use Rattle.wasm_grammar.specs.Tiling.{bytes_of, context_of, grammar, bodies_to_come, bytes_to_come, bodies_after, Faultless}
+use Rattle.wasm_grammar.specs.Tiling.{bytes_of, context_of, grammar, bodies_to_come, bytes_to_come, Faultless}
 use Rattle.wasm_grammar.proofs.readings.Endings.{inside_end}
 use Rattle.wasm_grammar.proofs.parts.Placed.{placed, IsBody, IsHeader, headed}
 use Rattle.wasm_grammar.proofs.PlainLists.{split_last}
@@ -37,20 +37,6 @@ split_end {X} xs earlier later x y e = elim (split_last xs earlier later x y e) 
         (sym (append_assoc earlier (y ∷ more) (x ∷ [])) ∙ subst (λ (l : List X). l ++ x ∷ [] ≡ earlier ++ y ∷ later) p e)))
 
 -- ---- which reports are a start or a body
-
--- the tile of a start misses the bodies that are reported
-start_misses : (features low high old : ℕ) (s : Shape) (count from to size : ℕ) → tile_report features low high s
-    ≡ code_start count from to size → bodies_after s old ≡ count
-start_misses features low high old s count from to size e = grind arith
-
--- what is reported of a section is no body
-pub body_in_section : (features from to : ℕ) (kind : Form) (id : ℕ) (content : List ℕ) (w : Window)
-    → section_report features from to kind id content ≡ code_entry w → ⊥
-body_in_section features from to kind id content w e = grind arith
-
--- only a body's tile is reported as a body
-report_body : (features low high : ℕ) (s : Shape) (w : Window) → tile_report features low high s ≡ code_entry w → IsBody s
-report_body features low high s w e = grind arith
 
 header_apart : (s : Shape) → IsHeader s → IsBody s → ⊥
 header_apart s q b = grind arith
@@ -85,19 +71,6 @@ shut_more count after e s = record {
   each = s.each;
   other = s.other;
   many = s.many;
-}
-
--- a tile that is no body after all bodies
-shuts : (features low count : ℕ) (t : Tile) (ts : List Tile) (after : List Event) → (IsBody t.shape → ⊥) → bodies_to_come ts ≡ 0
-    → Open ts count after → Shut count (after ++ event_of features low t ∷ [])
-shuts features low count t ts after n z s = record {
-  bodies = after;
-  next = event_of features low t;
-  later = [];
-  whole = refl;
-  each = s.each;
-  other = λ q. n (search report_body);
-  many = omega (arith, s.misses);
 }
 
 -- a tile more after the bodies so far
@@ -135,14 +108,14 @@ follows start features (t ∷ ts) f before after e count from to size z c =
     started : (t : Tile) (ts : List Tile) (o : ℕ) → e ≡ event_of features o t → after ≡ [] → Open (t ∷ ts) count after
     started t ts o q n =
         let m : bodies_to_come (t ∷ ts)
-        ≡ count = grind (arith, start_misses) in
+        ≡ count = grind arith in
         subst (Open (t ∷ ts) count) (sym n) (record { each = All-nil ReportsBody; misses = omega arith })
 
     more : (t : Tile) (ts : List Tile) → Faultless start (t ∷ ts) → (l : List Event) → Open ts count l ⊎ Shut count l
         → Open (t ∷ ts) count (l ++ event_of features (start + length (bytes_of ts)) t ∷ [])
         ⊎ Shut count (l ++ event_of features (start + length (bytes_of ts)) t ∷ [])
     more t ts f l (inr s) = inr (shut_more count l _ s)
-    more t [] f l (inl s) = inr (grind (arith, shuts, header_apart, headed))
+    more t [] f l (inl s) = inr (grind (arith, header_apart, headed))
     more t (u ∷ ts) f l (inl s) = open_more start features u ts t count l (nat_eq (bodies_to_come (u ∷ ts) + bytes_to_come (u ∷ ts)) 0) refl
         (start + length (bytes_of (u ∷ ts))) f.1 s
 

@@ -257,9 +257,6 @@ events_move by start features (t ∷ ts) f =
     let all : events_of (start + by) features ts ≡ shifted_events by (events_of start features ts) = events_move by start features ts f.0 in
     grind (arith, map-append)
 
-last_moves : (by : ℕ) (e : Ending) → last_event (shifted_ending by e) ≡ shifted_event by (last_event e)
-last_moves by e = grind arith
-
 pub start_only_moves : StartOnlyMoves
 start_only_moves stream start by features xs ys x y n =
     let b : Back by (verdict (grammar start y.tiles) y.reads.rest) y.end =
@@ -274,5 +271,5 @@ start_only_moves stream start by features xs ys x y n =
     let (tiles, end) = reads_same stream start y.tiles x.tiles b.end x.end r x.reads in
     let events : events_of (start + by) features y.tiles ≡ shifted_events by (events_of start features x.tiles) =
     grind (arith, events_move) in
-    let last : last_event y.end ≡ shifted_event by (last_event x.end) = grind (arith, last_moves) in
+    let last : last_event y.end ≡ shifted_event by (last_event x.end) = grind arith in
     grind (arith, map-append)
