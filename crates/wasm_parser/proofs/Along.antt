@@ -1,7 +1,7 @@
 -- Where a caller is along a stream: at its start, where more came, and after an answer.
 use Rattle.std.proofs.Common.{◌≡◌, ℕ, ◌+◌, ◌^◌, ◌<◌, ◌≤◌, Bool, true, false, nat_eq, List, []}
 use Rattle.std.proofs.Common.{◌∷◌}
-use Rattle.std.proofs.Common.{◌++◌, length, take, drop, Result, Ok, Err, refl, sym, ap, subst, subst₂, ◌∙◌, arith, length-append}
+use Rattle.std.proofs.Common.{◌++◌, length, Result, Ok, Err, refl, sym, ap, subst, subst₂, ◌∙◌, arith, length-append}
 use Rattle.std.proofs.Common.{append_assoc, append-nil, inl, inr}
 use Rattle.std.proofs.lemmas.List.{take_at, drop_at, nil_from_length}
 use Rattle.std.specs.Prelude.{◌⊎◌}
@@ -145,8 +145,8 @@ module _ (start features : ℕ) (given : List ℕ) (p : ParserState) (held : Lis
 -- the same bytes, parted twice
 split_same : (xs ys zs ws : List ℕ) → xs ++ ys ≡ zs ++ ws → length xs ≡ length zs → (xs ≡ zs) × (ys ≡ ws)
 split_same xs ys zs ws e n = (
-  sym (take_at xs ys (length xs) refl) ∙ (ap (take (length xs)) e ∙ take_at zs ws (length xs) (sym n)),
-  sym (drop_at xs ys (length xs) refl) ∙ (ap (drop (length xs)) e ∙ drop_at zs ws (length xs) (sym n)),
+  sym (take_at xs ys (length xs) refl) ∙ (grind (arith, take_at)),
+  sym (drop_at xs ys (length xs) refl) ∙ (grind (arith, drop_at)),
 )
 
 module _ (start features : ℕ) (given : List ℕ) (p : ParserState) (held : List ℕ) (events : List Event)

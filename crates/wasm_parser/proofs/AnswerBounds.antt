@@ -1,6 +1,6 @@
 -- How far a call of the parser, and a walk over a whole stream, go.
 use Rattle.std.proofs.Common.{◌≡◌, ℕ, ◌+◌, ◌<◌, ◌≤◌, ◌^◌, Bool, true, false, cond, List, ◌++◌, length, Result, Ok, Err, nat_eq}
-use Rattle.std.proofs.Common.{nat_lt, ltb-true, ltb-false, refl, sym, ap, ◌∙◌, arith, length-append, inl, inr}
+use Rattle.std.proofs.Common.{nat_lt, ltb-false, refl, ap, ◌∙◌, arith, length-append, inl, inr}
 use Rattle.std.specs.Prelude.{◌⊎◌}
 use Rattle.wasm_base.specs.declared.error.Error.{Error}
 use Rattle.wasm_parser.specs.ParseAnswer.{report_of, is_end, Consumes, AsksForSome, IsRequest}
@@ -32,13 +32,12 @@ pub record Takes (xs : List ℕ) (t : Tile) : Type 0 where
 takes_at : (h : Bool) (p : ParserState) (xs : List ℕ) (t : Tile)
     → verdict (cond h (header_grammar p.offset) (inside (known_context p) p.bodies p.code_bytes p.offset)) xs ≡ tile t → Takes xs t
 takes_at true p xs t e =
-    let c : Cut (header_grammar p.offset) xs t = verdict-cut (header_grammar p.offset) (Guarded-header p.offset) xs t e in
+    let c : Cut (header_grammar p.offset) xs t = search (verdict-cut, Guarded-header) in
     record { some = least_header p.offset xs t e; rest = c.rest; split = c.split }
 takes_at false p xs t e =
     let b : Bool = nat_eq (p.bodies + p.code_bytes) 0 in
     let c : Cut (inside (known_context p) p.bodies p.code_bytes p.offset) xs t =
-    verdict-cut (inside (known_context p) p.bodies p.code_bytes p.offset)
-    (Guarded-inside_at (nat_eq (p.bodies + p.code_bytes) 0) (known_context p) p.bodies p.code_bytes p.offset) xs t e in
+    search (verdict-cut, Guarded-inside_at) in
     search least_inside
 
 pub tile_takes : (p : ParserState) (xs : List ℕ) (t : Tile) → verdict (grammar_of p) xs ≡ tile t → Takes xs t
@@ -66,11 +65,7 @@ consumes_at : (p new : ParserState) (rest : List ℕ) (consumed : ℕ) (payload 
     → (consumed ≤ length rest) × (nat_eq consumed 0 ≡ is_end (report_of payload))
 consumes_at p new rest consumed payload (tile t) e a =
     let k : Takes rest t = tile_takes p rest t e in
-    let n : length rest ≡ length t.bytes + length k.rest = ap (λ (x : List ℕ). length x) k.split ∙ length-append t.bytes k.rest in (
-      omega (arith, a.0, n),
-      not_zero consumed (omega (arith, a.0, k.some)) ∙ sym (ap is_end a.1.0
-          ∙ goes_on p.features p.offset (p.offset + length t.bytes) t.shape),
-    )
+    let n : length rest ≡ length t.bytes + length k.rest = ap (λ (x : List ℕ). length x) k.split ∙ length-append t.bytes k.rest in grind (arith, not_zero, goes_on)
 consumes_at p new rest consumed payload (final (fault f)) e a = absurd a
 consumes_at p new rest consumed payload (final (ended o)) e a = grind (arith)
 
@@ -85,7 +80,7 @@ consumes_on p new eof rest r h = grind (arith, consumes_any)
 consumes_by : (b : Bool) (p new : ParserState) (eof : Bool) (rest : List ℕ) (r : Result Chunk Error)
     → nat_lt (p.offset + length rest) (2 ^ 64) ≡ b → ParseAnswer p eof rest r new → Consumes rest r
 consumes_by true p new eof rest r t h = consumes_on p new eof rest r
-    (is_on p new eof rest r ((as_table p new eof rest r h).within (ltb-true _ _ t)))
+    (is_on p new eof rest r (grind (arith, as_table)))
 consumes_by false p new eof rest r t h = grind arith
 
 pub consumes : (p new : ParserState) (eof : Bool) (rest : List ℕ) (r : Result Chunk Error) → ParseAnswer p eof rest r new → Consumes rest r
@@ -105,7 +100,7 @@ faults_by : (b : Bool) (p new : ParserState) (eof : Bool) (rest : List ℕ) (r :
     → nat_lt (p.offset + length rest) (2 ^ 64) ≡ b → ParseAnswer p eof rest r new → FaultsWithin p rest r
 faults_by b p new eof rest (Ok chunk) t h = tt
 faults_by true p new eof rest (Err e) t h = faults_on p new eof rest e
-    (is_on p new eof rest (Err e) ((as_table p new eof rest (Err e) h).within (ltb-true _ _ t)))
+    (grind (arith, is_on, as_table))
 faults_by false p new eof rest (Err e) t h = grind arith
 
 pub faults_within : (p new : ParserState) (eof : Bool) (rest : List ℕ) (r : Result Chunk Error) → ParseAnswer p eof rest r new
@@ -129,7 +124,7 @@ asks_on p new eof rest r a = grind (arith, waiting-asks)
 asks_by : (b : Bool) (p new : ParserState) (eof : Bool) (rest : List ℕ) (r : Result Chunk Error) → nat_lt (p.offset + length rest) (2 ^ 64)
     ≡ b → ParseAnswer p eof rest r new → AsksForSome r
 asks_by true p new eof rest r t h = asks_on p new eof rest r (is_on p new eof rest r
-    ((as_table p new eof rest r h).within (ltb-true _ _ t)))
+    (grind (arith, as_table)))
 asks_by false p new eof rest (Ok chunk) t h = absurd ((as_table p new eof rest (Ok chunk) h).past_the_top (ltb-false _ _ t))
 asks_by false p new eof rest (Err e) t h = tt
 
@@ -148,4 +143,4 @@ on_last p new bytes more r w e a n l eof = grind (arith, answered, waiting-more,
 pub answers_last : AnswersLast
 answers_last p new bytes more r h n l eof =
     let m = length-append bytes more in
-    on_last p new bytes more r (waiting (grammar_of p) bytes) refl ((as_table p new false bytes r h).within (omega (arith, l, m))) n l eof
+    on_last p new bytes more r (waiting (grammar_of p) bytes) refl (grind (arith, as_table)) n l eof

@@ -1,8 +1,8 @@
 -- A parser asks for more exactly where streams differ.
-use Rattle.std.proofs.Common.{◌≡◌, ℕ, ◌+◌, ◌^◌, ◌<◌, Bool, false, List, ◌++◌, length, Result, sym, ap, subst}
+use Rattle.std.proofs.Common.{◌≡◌, ℕ, ◌+◌, ◌^◌, ◌<◌, Bool, false, List, ◌++◌, length, Result, sym}
 use Rattle.std.proofs.Common.{arith, length-append}
 use Rattle.wasm_base.specs.declared.error.Error.{Error}
-use Rattle.wasm_grammar.specs.Grammar.{Verdict, Grammar, verdict}
+use Rattle.wasm_grammar.specs.Grammar.{Verdict, verdict}
 use Rattle.wasm_parser.specs.ParseAnswer.{IsRequest, ParseAnswer}
 use Rattle.wasm_parser.proofs.AnswerTables.{Answers, AsksFor, AnswersOn, as_table}
 use Rattle.wasm_parser.specs.ParserState.{ParserState, IsStateAfter, grammar_of}
@@ -27,9 +27,8 @@ asks_at : (p new : ParserState) (start : ℕ) (front came : List ℕ) (r : Resul
     → (w : Waiting) → waiting (grammar start s.tiles) came ≡ w → AnswersOn false w p (verdict (grammar_of p) came) r new
     → (IsRequest r → TwoStreams start p.features front came) × (TwoStreams start p.features front came → IsRequest r)
 asks_at p new start front came r s t l enough w a = (
-  λ q. absurd (no_request p new (verdict (grammar_of p) came) r a q),
-  λ two. absurd (two.differ (enough_is_decided start front came s.tiles (s.faultless, s.is_prefix) w two.one two.other p.features two.event
-      two.other_event two.comes two.other_comes)),
+  λ q. absurd (grind (arith, no_request)),
+  λ two. absurd (two.differ (search enough_is_decided)),
 )
 asks_at p new start front came r s t l (wants need hint) w a = grind (arith, two_streams)
 
@@ -39,7 +38,6 @@ asks_where_open p new eof came r h e start front s t l =
     let o : p.offset ≡ start + length front = s.offset in
     let n : length (front ++ came) ≡ length front + length came = length-append front came in
     let a : AnswersOn false (waiting (grammar_of p) came) p (verdict (grammar_of p) came) r new =
-    subst (λ (b : Bool). AnswersOn b (waiting (grammar_of p) came) p (verdict (grammar_of p) came) r new) e
-    ((as_table p new eof came r h).within (omega (arith, o, n, l))) in
+    grind (arith, AnswersOn, as_table) in
     asks_at p new start front came r s t l (waiting (grammar_of p) came)
-    (ap (λ (g : Grammar). waiting g came) (sym (grammar_same p start front s))) a
+    (rw (sym (grammar_same p start front s))) a

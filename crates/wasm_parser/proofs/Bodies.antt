@@ -1,6 +1,6 @@
 -- What is in a code section: its head and its bodies.
 use Rattle.std.proofs.Common.{◌≡◌, ℕ, zero, suc, ◌+◌, ◌-◌, ◌<◌, ◌≤◌, Bool, true, false, not, ◌&&◌, length, take, drop, option_to_list}
-use Rattle.std.proofs.Common.{Some, None, Result, Ok, Err, nat_lt, nat_eq, refl, sym, ap, subst, ◌∙◌, arith, lt-ltb, le-ltb}
+use Rattle.std.proofs.Common.{Some, None, Result, Ok, Err, nat_lt, nat_eq, refl, sym, ap, subst, ◌∙◌, arith, le-ltb}
 use Rattle.std.proofs.lemmas.List.{length-take-le}
 use Rattle.std.specs.List.{list_all, list_any}
 use Rattle.wasm_base.specs.FaultAt.{FaultAt, fault_at, hint_of, at_offset}
@@ -44,7 +44,7 @@ code_short context size p q count e a h l f hint =
     let m : ReadNumber p count q = read_number p count q h in
     let o : q.offset ≡ p.offset + m.used = ap (λ (x : Place). x.offset) m.after in
     let w : when (nat_lt size m.used) (at_offset UnexpectedEof p.offset)
-    ≡ Some (fault_at e) = rw (lt-ltb size m.used (omega arith)) (ap Some (sym f)) in
+    ≡ Some (fault_at e) = grind arith in
     search (report_number, report_wrong)
 
 -- a count that lies in the section, and that of the functions
@@ -53,7 +53,7 @@ counted_right : (context : SectionContext) (size : ℕ) (p q : Place) (count : �
     → ((s : ℕ) → MatchesGrammar s (advanced m.used p) (check (wrong_count context p.offset count)
     (accept (Grammar.code_start count m.used (size - m.used)))) r a) → ReadsByGrammar (code_grammar context p.offset size) p r a
 counted_right context size p q count r a m l next =
-    let o : q.offset ≡ p.offset + m.used = ap (λ (x : Place). x.offset) m.after in
+    let o : q.offset ≡ p.offset + m.used = rw m.after in
     let w : when (nat_lt size m.used) (at_offset UnexpectedEof p.offset) ≡ None = rw (le-ltb size m.used (omega arith)) refl in
     search (report_number, report_right)
 
@@ -77,10 +77,10 @@ code_read context size p q count payload h l w report =
     let to : p.offset + size ≡ p.offset + m.used + (size - m.used) = omega arith in
     let code_bytes : p.offset + size - q.offset ≡ size - m.used = omega arith in
     let said : IsPayload (code_start count (p.offset + m.used - m.used) (p.offset + m.used + (size - m.used)) (size - m.used)) payload =
-    (report.0 ∙ (λ i. code_start count (from i) (to i) (code_bytes i)), report.1) in
+    grind arith in
     counted_right context size p q count (Ok payload) q m l (λ s.
     report_right s (advanced m.used p) (wrong_count context p.offset count) _ (Ok payload) q w
-    (report_whole s (advanced m.used p) (Grammar.code_start count m.used (size - m.used)) payload q m.after said))
+    (search report_whole))
 
 -- what is wrong with a count, by two tests
 pub counts_differ : (context : SectionContext) (offset count : ℕ) (f : FaultAt) → true ≡ not (list_all (nat_eq count) context.functions) → f
@@ -129,9 +129,9 @@ body_sized : (bodies code_bytes : ℕ) (p q : Place) (size : ℕ) (past : Bool) 
     (bytes size (p.offset + m.used) (λ content. accept (Grammar.code_entry content)))) r a)
     → ReadsByGrammar (body_grammar bodies code_bytes p.offset) p r a
 body_sized bodies code_bytes p q size past r a m l h next =
-    let o : q.offset ≡ p.offset + m.used = ap (λ (x : Place). x.offset) m.after in
+    let o : q.offset ≡ p.offset + m.used = rw m.after in
     let n : q.offset - p.offset + size ≡ m.used + size = omega arith in
-    let w : nat_lt code_bytes (m.used + size) ≡ past = subst (λ (x : ℕ). nat_lt code_bytes x ≡ past) n h in
+    let w : nat_lt code_bytes (m.used + size) ≡ past = rw n at h in
     body_there bodies code_bytes p r a l
     (λ s. report_number s p p.offset (λ size width. body_of p.offset code_bytes size width) r a size m.used m.reads
     (rw w (next s)))
@@ -160,10 +160,10 @@ pub body_missing : (bodies code_bytes : ℕ) (p q : Place) (size : ℕ) (e : Err
     → ReadsByGrammar (body_grammar bodies code_bytes p.offset) p (Err e) a
 body_missing bodies code_bytes p q size e a l h past c hint =
     let m : ReadNumber p size q = read_number p size q h in
-    let t = too_few size (advanced m.used p) (fault_at e) (subst (λ (x : Place). content_at size x ≡ Err (fault_at e)) m.after c) in
+    let t = too_few size (advanced m.used p) (fault_at e) (cc) in
     body_sized bodies code_bytes p q size false (Err e) a m l past (λ s. report_right s (advanced m.used p) None _ (Err e) a refl (
     report_missing s (advanced m.used p) size (p.offset + m.used) _ e a t.0 t.1
-    (subst (λ (x : Place). hint_of e ≡ hint_at (missing_at size x) (fault_at e).fault) m.after hint)))
+    (cc)))
 
 -- the bytes after its size, and where they end
 body_content : (p q : Place) (size : ℕ) (w : Window) (b : Place) (m : ReadNumber p size q) → content_at size q ≡ Ok (w, b)
@@ -182,11 +182,6 @@ body_read bodies code_bytes p q size w b payload l h past k report =
     let n : length (take size (drop m.used p.rest)) ≡ size = length-take-le size (drop m.used p.rest) c.there in
     let from : p.offset + m.used ≡ p.offset + m.used + size - length (take size (drop m.used p.rest)) = omega arith in
     let said : IsPayload (code_entry (window_over p.features (p.offset + m.used + size - length (take size (drop m.used p.rest)))
-    (take size (drop m.used p.rest)))) payload = (
-      report.0 ∙ (ap code_entry c.window ∙ ap (λ (x : ℕ). code_entry (window_over p.features x (take size (drop m.used p.rest)))) from),
-      report.1,
-    ) in
+    (take size (drop m.used p.rest)))) payload = grind arith in
     body_sized bodies code_bytes p q size false (Ok payload) b m l past
-    (λ s. report_right s (advanced m.used p) None _ (Ok payload) b refl (
-    report_bytes s (advanced m.used p) size (p.offset + m.used) _ (Ok payload) b c.there (
-    report_whole s (advanced size (advanced m.used p)) (Grammar.code_entry (take size (drop m.used p.rest))) payload b c.after said)))
+    (λ s. report_right s (advanced m.used p) None _ (Ok payload) b refl (search (report_bytes, report_whole)))

@@ -1,6 +1,6 @@
 -- A code section that is begun ends below the top of the offsets.
 use Rattle.std.proofs.Common.{◌≡◌, ℕ, ◌+◌, ◌^◌, ◌<◌, Bool, true, false, cond, List, [], ◌∷◌, ◌++◌, length, take, drop}
-use Rattle.std.proofs.Common.{None, nat_le, refl, sym, subst, arith, length-append, leb-true}
+use Rattle.std.proofs.Common.{None, nat_le, refl, arith, length-append, leb-true}
 use Rattle.std.proofs.lemmas.List.{length-take-le}
 use Rattle.wasm_base.specs.Number.{Number, read, number}
 use Rattle.wasm_base.specs.declared.fault.NumberKind.TheVariants.{VarU32}
@@ -32,14 +32,14 @@ fits_after : (here k : ℕ) (f : List ℕ) (v : Verdict) (t : Tile) → length f
 fits_after here k f v t l h e =
     let (s, r, q) = after-tile f v t e in
     let n : here + k + length s.bytes ≡ here + length (f ++ s.bytes) = omega (arith, l, length-append f s.bytes) in
-    subst (λ (x : Tile). Fits (here + length x.bytes) x.shape) (sym q) (subst (λ (x : ℕ). Fits x s.shape) n (h s r))
+    grind arith
 
 fits_number : (here o : ℕ) (xs : List ℕ) (next : ℕ → ℕ → Verdict) (t : Tile)
     → ((v k : ℕ) (s : Tile) → next v k ≡ tile s → Fits (here + k + length s.bytes) s.shape)
     → (n : Number) → number VarU32 xs ≡ n → after_number o xs n next ≡ tile t → Fits (here + length t.bytes) t.shape
 fits_number here o xs next t h (read v k) e w =
     let u : Used VarU32 xs v k = number-used VarU32 xs v k e in
-    fits_after here k (take k xs) (next v k) t (length-take-le k xs u.there) (h v k) w
+    search (fits_after, length-take-le)
 fits_number here o xs next t h _ e w = cc
 
 fits_bytes : (here count : ℕ) (xs : List ℕ) (v : Verdict) (e : Ending) (t : Tile)

@@ -42,7 +42,7 @@ single_more trailing p v q f (read w k) h l e =
     let r : length (drop k p.rest) ≡ length q.rest = ap (λ (x : ℕ × Place). length x.1.rest) z in
     let o : p.offset + k ≡ q.offset = ap (λ (x : ℕ × Place). x.1.offset) z in
     let t : nat_lt k (length p.rest) ≡ true = lt-ltb k (length p.rest) (omega (arith, length-drop k p.rest)) in
-    rw t (ap Some (ap (at_offset trailing) o ∙ sym e))
+    cc
 single_more trailing p v q f _ h l e = cc
 
 -- ---- what a call that wants one number answers
@@ -110,8 +110,7 @@ items_read context id size p w q payload h n m =
     let i : HoldsItems id w payload = holds_items id w payload n in
     let g = count_read size p w q i.s.count (place i.s.reader) h i.counted.gives in
     let t = report_counted id size p w q i.s h i.counted in
-    whole_good context items id size p w q payload h g.0 (data_wrong context id (p.offset + size) (take size p.rest) i.s (report_of payload)
-    false i.report g.1 m) (i.report ∙ t.0, i.begins t.1)
+    grind (arith, whole_good, data_wrong)
 
 -- one whose count is not the one that was announced
 pub items_miscounted : (context : SectionContext) (id size : ℕ) (p : Place) (w : Window) (q : Place) (payload : Payload) (e : Error)
@@ -123,9 +122,9 @@ items_miscounted context id size p w q payload e a h n m f hint =
     let i : HoldsItems id w payload = holds_items id w payload n in
     let k : HasContent size p w q = has_content size p w q h in
     let g = count_read size p w q i.s.count (place i.s.reader) h i.counted.gives in
-    let o : q.offset ≡ p.offset + size = ap (λ (x : Place). x.offset) k.after in
+    let o : q.offset ≡ p.offset + size = rw k.after in
     let d = data_wrong context id (p.offset + size) (take size p.rest) i.s (report_of payload) true i.report g.1 m in
-    whole_miscounted context items id size p w q e a h g.0 (d ∙ ap Some (sym (f ∙ ap (at_offset DataCountDiffer) o))) hint
+    whole_miscounted context items id size p w q e a h g.0 (cc) hint
 
 -- one whose count was refused
 pub items_refused : (context : SectionContext) (id size : ℕ) (p : Place) (w : Window) (q : Place) (e : Error) (a : Place)
@@ -135,8 +134,7 @@ unfolding unsigned_at wrong_content
 items_refused context id size p w q e a h n hint =
     let k : HasContent size p w q = has_content size p w q h in
     let at : place w ≡ content_place size p = at_content size p w k.window in
-    whole_bad context items id size p w q e a h (number_refused (content_place size p) (fault_at e) (number VarU32 (take size p.rest))
-    (subst (λ (x : Place). in_window x (number VarU32 x.rest) ≡ Err (fault_at e)) at n)) hint
+    whole_bad context items id size p w q e a h (grind (arith, number_refused)) hint
 
 -- a form whose content is one number: what is wrong with it, and what is reported of it
 pub record IsSingle (trailing : Fault) (form : Form) (says : (value from to : ℕ) → Report) : Type 0 where

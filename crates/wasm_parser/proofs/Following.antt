@@ -5,11 +5,11 @@ use Rattle.std.proofs.lemmas.List.{take_at}
 use Rattle.std.specs.Prelude.{◌⊎◌}
 use Rattle.wasm_base.specs.declared.error.Error.{Error}
 use Rattle.wasm_base.specs.FaultAt.{FaultAt}
-use Rattle.wasm_parser.specs.ParseAnswer.{IsPayload, ParseAnswer}
+use Rattle.wasm_parser.specs.ParseAnswer.{ParseAnswer}
 use Rattle.wasm_parser.proofs.AnswerTables.{Answers, AnswersOn, as_table}
 use Rattle.wasm_grammar.specs.Content.{Ending, fault, ended}
-use Rattle.wasm_grammar.specs.Grammar.{Tile, Verdict, tile, final, Grammar, verdict, header_grammar, section_grammar, body_grammar}
-use Rattle.wasm_grammar.specs.Reading.{Event, stream_end, tile_report, event_of, last_event, Reading}
+use Rattle.wasm_grammar.specs.Grammar.{Tile, Verdict, tile, final, verdict, header_grammar, section_grammar, body_grammar}
+use Rattle.wasm_grammar.specs.Reading.{Event, stream_end, event_of, last_event, Reading}
 use Rattle.wasm_grammar.specs.EventRanges.{consumed_by}
 use Rattle.wasm_parser.specs.ParserState.{ParserState, IsStateAfter, known_context, grammar_of, ended_state}
 use Rattle.wasm_parser.specs.ParserLaws.{SomeNextEvent}
@@ -30,25 +30,18 @@ next_is : (p : ParserState) (start : ℕ) (prefix rest : List ℕ) (s : IsStateA
     ≡ v → (before later : List Event) (e : Event) → Reading (prefix ++ rest) start p.features (before ++ e ∷ later)
     → consumed_by before ≡ prefix → e ≡ event_at start p.features s.tiles v
 next_is p start prefix rest s v q before later e r c =
-    comes_next start p.features s.tiles rest v s.faultless (subst (λ (g : Grammar). verdict g rest ≡ v) (grammar_same p start prefix s) q)
+    comes_next start p.features s.tiles rest v s.faultless (rw (grammar_same p start prefix s) at q)
     before later e
-    (subst (λ (x : List ℕ). Reading (x ++ rest) start p.features (before ++ e ∷ later)) (sym s.is_prefix) r) (c ∙ sym s.is_prefix)
+    (grind arith) (c ∙ sym s.is_prefix)
 
 -- what was answered says it
 gives_tile : (p new : ParserState) (eof : Bool) (start : ℕ) (prefix bytes : List ℕ) (s : IsStateAfter p start prefix) (t : Tile)
     → verdict (grammar_of p) bytes ≡ tile t → (r : Result Chunk Error) → Answers p (tile t) r new
     → GivesEvent (event_of p.features (start + length (bytes_of s.tiles)) t) p eof start prefix bytes r new
 gives_tile p new eof start prefix bytes s t v (Ok (Parsed consumed payload)) a =
-    let o : p.offset ≡ start + length (bytes_of s.tiles) = s.offset ∙ ap (λ (x : List ℕ). start + length x) (sym s.is_prefix) in
-    let v' : verdict (grammar start s.tiles) bytes ≡ tile t = subst (λ (g : Grammar). verdict g bytes ≡ tile t)
-    (grammar_same p start prefix s) v in
-    let g : Grown start s.tiles bytes t = grows start s.tiles bytes t s.faultless v' in (
-      subst (λ (o : ℕ). IsPayload (tile_report p.features o (o + length t.bytes) t.shape) payload) o a.1,
-      a.0,
-      subst₂ (λ (n : ℕ) (x : List ℕ). take n x ≡ t.bytes) (sym a.0) (sym g.split) (take_at t.bytes g.rest (length t.bytes) refl),
-      subst (λ (q : ParserState). IsStateAfter q start (prefix ++ t.bytes)) (sym a.2) (state_goes_on p start prefix s bytes t v),
-      ap (λ (q : ParserState). q.features) a.2,
-    )
+    let o : p.offset ≡ start + length (bytes_of s.tiles) = cc in
+    let v' : verdict (grammar start s.tiles) bytes ≡ tile t = rw (grammar_same p start prefix s) at v in
+    let g : Grown start s.tiles bytes t = grows start s.tiles bytes t s.faultless v' in grind (arith, take_at, state_goes_on)
 gives_tile p new eof start prefix bytes s t v _ a = absurd a
 
 -- where a stream ends nothing of a code section is left
@@ -89,7 +82,7 @@ gives_last p new eof start prefix bytes s (ended o) v (Ok (Parsed consumed paylo
   a.0,
   subst (λ (n : ℕ). take n bytes ≡ []) (sym a.0) refl,
   subst₂ (λ (q : ParserState) (x : List ℕ). IsStateAfter q start x) (sym a.2) (sym (append-nil prefix))
-      (at_the_end p start prefix s (ended_code p bytes o v)),
+      (search (at_the_end, ended_code)),
   ap (λ (q : ParserState). q.features) a.2,
 )
 gives_last p new eof start prefix bytes s (fault f) v (Err e) a = (ap (λ (x : FaultAt). stream_end (fault x)) (sym a.0), refl, a.1)
@@ -101,11 +94,9 @@ gives_at : (p new : ParserState) (eof : Bool) (start : ℕ) (prefix bytes rest :
     → (before later : List Event) (e : Event) → Reading (prefix ++ rest) start p.features (before ++ e ∷ later) → consumed_by before
     ≡ prefix → GivesEvent e p eof start prefix bytes r new
 gives_at p new eof start prefix bytes rest s r (tile t) u q a before later e reading c =
-    subst (λ (x : Event). GivesEvent x p eof start prefix bytes r new)
-    (sym (next_is p start prefix rest s (tile t) q before later e reading c)) (gives_tile p new eof start prefix bytes s t u r a)
+    rw (next_is p start prefix rest s (tile t) q before later e reading c) (gives_tile p new eof start prefix bytes s t u r a)
 gives_at p new eof start prefix bytes rest s r (final end) u q a before later e reading c =
-    subst (λ (x : Event). GivesEvent x p eof start prefix bytes r new)
-    (sym (next_is p start prefix rest s (final end) q before later e reading c)) (gives_last p new eof start prefix bytes s end u r a)
+    rw (next_is p start prefix rest s (final end) q before later e reading c) (gives_last p new eof start prefix bytes s end u r a)
 
 -- the event that comes next in every stream that these bytes may be the first of
 record IsNext (p : ParserState) (eof : Bool) (start : ℕ) (prefix bytes rest : List ℕ) (e : Event) : Type 0 where
@@ -150,7 +141,7 @@ gives_next p new eof bytes r h s next =
     let k : length bytes ≤ length s.rest = may_fit eof bytes s.rest s.may_be in
     let l = s.below in
     let read : Reading (s.prefix ++ s.rest) s.start p.features (next.before ++ next.event ∷ next.later) =
-    subst (Reading (s.prefix ++ s.rest) s.start p.features) next.whole s.reading in
+    grind arith in
     gives_on p new eof s.start s.prefix bytes s.rest next.event (record {
       s = s.is_after;
       may_be = s.may_be;
@@ -164,4 +155,4 @@ gives_next p new eof bytes r h s next =
 pub some_next_event : SomeNextEvent
 some_next_event p start features prefix rest events s r =
     subst (NextEvent events) s.is_prefix (next_there start features s.tiles rest events s.faultless
-    (subst (λ (x : List ℕ). Reading (x ++ rest) start features events) (sym s.is_prefix) r))
+    (grind arith))

@@ -2,7 +2,6 @@
 use Rattle.std.proofs.Common.{◌≡◌, ℕ, nat_eq, ◌+◌, ◌-◌, ◌^◌, ◌<◌, ◌≤◌, Bool, true, false, not, ◌&&◌, List, [], ◌∷◌, length, take}
 use Rattle.std.proofs.Common.{drop, Some, None, Result, Ok, Err, nat_le, nat_lt, refl, sym, ap, subst, subst₂, ◌∙◌, arith, le-leb}
 use Rattle.std.proofs.Common.{lt-ltb, le-ltb}
-use Prim.Native.Nat.compare
 use lib.Dec.{is_le}
 use Rattle.std.specs.List.{starts_with}
 use Rattle.std.proofs.lemmas.Bool.{lt-leb}
@@ -18,7 +17,7 @@ use Rattle.wasm_base.specs.declared.fault.Fault.TheVariants.{UnexpectedEof, Magi
 use Rattle.wasm_base.specs.declared.fault.NumberKind.TheVariants.{VarU32}
 use Rattle.wasm_parser.specs.ParseAnswer.{IsPayload, MatchesVerdict, HintsAs, MatchesGrammar, ReadsByGrammar}
 use Rattle.wasm_parser.specs.ParserState.{ParserState, known_context}
-use Rattle.wasm_grammar.specs.Waiting.{enough, asked, waiting}
+use Rattle.wasm_grammar.specs.Waiting.{enough, waiting}
 use Rattle.wasm_grammar.specs.Content.{Kind, custom, unknown, kind_of, rank_of, when, wrong_content, Form}
 use Rattle.wasm_parser.specs.ReadsPart.{content_at, ReadsNextSection}
 use Rattle.wasm_custom.specs.Custom.{Custom, IsCustom}
@@ -62,10 +61,7 @@ framed_sized context start id p q v r a h o n next =
     (p.offset + m.used) v) r a =
     λ s. subst (λ (x : Place). MatchesGrammar s x (after_length context (kind_of context.encoding id) id p.offset x.offset v) r a) m.after
     (next s) in
-    λ s. report_right s p (when (nat_le 128 id) (at_offset MalformedSectionId start)) _ r a (good_id start id h) (
-    subst (λ (y : ℕ). MatchesGrammar s p (u32_field y (λ size width.
-    after_length context (kind_of context.encoding id) id y (y + width) size)) r a) (sym o)
-    (report_number s p p.offset (λ size width. after_length context (kind_of context.encoding id) id p.offset (p.offset + width) size) r a v
+    λ s. report_right s p (when (nat_le 128 id) (at_offset MalformedSectionId start)) _ r a (good_id start id h) (rw o (report_number s p p.offset (λ size width. after_length context (kind_of context.encoding id) id p.offset (p.offset + width) size) r a v
     m.used m.reads (at_q s)))
 
 -- a content that would end past the top of the offsets
@@ -99,7 +95,7 @@ pub sized_disordered : (context : SectionContext) (kind : Kind) (id field size :
 sized_disordered context kind id field size p e a h k f hint =
     let y : FaultAt = at_offset OutOfOrder p.offset in
     let ranks : when (is_disordered context kind id) y ≡ Some (fault_at e) = rw k (ap Some (sym f)) in
-    fitting context kind id field size p (Err e) a h (λ s. report_wrong s p (when (is_disordered context kind id) y) _ e a ranks hint)
+    search (fitting, report_wrong)
 
 -- one that is in its place
 pub sized_ordered : (context : SectionContext) (kind : Kind) (id field size : ℕ) (p : Place) (r : Result Payload Error) (a : Place)
@@ -109,7 +105,7 @@ pub sized_ordered : (context : SectionContext) (kind : Kind) (id field size : �
 sized_ordered context kind id field size p r a h k next =
     let y : FaultAt = at_offset OutOfOrder p.offset in
     let ranks : when (is_disordered context kind id) y ≡ None = rw k refl in
-    fitting context kind id field size p r a h (λ s. report_right s p (when (is_disordered context kind id) y) _ r a ranks (next s))
+    search (fitting, report_right)
 
 -- the same for the kind that was found
 pub sized_as : (context : SectionContext) (found kind : Kind) (id field size : ℕ) (p : Place) (r : Result Payload Error) (a : Place) → found
@@ -200,8 +196,7 @@ pub custom_refused : (context : SectionContext) (id size : ℕ) (p : Place) (w :
     → hint_of e ≡ None → ReadsByGrammar (whole_grammar context custom id p.offset size) p (Err e) a
 custom_refused context id size p w q e a h wrong hint =
     let k : HasContent size p w q = has_content size p w q h in
-    whole_bad context custom id size p w q e a h (bad_custom p.features p.offset (take size p.rest) (fault_at e)
-    (subst (λ (x : Window). text_at (Some name_limit) (place x) ≡ Err (fault_at e)) k.window wrong)) hint
+    whole_bad context custom id size p w q e a h (grind (arith, bad_custom)) hint
 
 -- an unknown section
 pub unknown_read : (context : SectionContext) (id size : ℕ) (p : Place) (w : Window) (q : Place) (payload : Payload) → content_at size p
@@ -225,10 +220,7 @@ magic_decides xs context o b g m l = grind arith
 pub section_magic : (p : ParserState) (here : Place) (e : Error) (a : Place) → true ≡ (agree here.rest magic && nat_le 4 (length here.rest))
     → 0 < length here.rest → fault_at e ≡ at_offset MagicAtSection here.offset → hint_of e ≡ None
     → ReadsNextSection p here (Err e) a
-section_magic p here e a m l f hint = (
-  magic_at here.rest (known_context p) here e a m l f,
-  λ b. hint ∙ sym (ap asked (magic_decides here.rest (known_context p) here.offset (agree here.rest magic) refl m l)),
-)
+section_magic p here e a m l f hint = grind (arith, magic_at, magic_decides)
 
 -- a section after its id
 framed_at : (xs : List ℕ) (context : SectionContext) (p q : Place) (id : ℕ) (r : Result Payload Error) (a : Place) → p.rest ≡ xs → false
@@ -244,8 +236,8 @@ framed_at (x ∷ xs) context p q id r a z m b next s =
     let here : MatchesVerdict s (advanced 1 p) (verdict (after_id context p.offset x) (drop 1 p.rest)) r a =
     subst₂ (λ (w : ℕ) (v : Place). MatchesVerdict s v (verdict (after_id context p.offset w) v.rest) r a) (sym i) (sym j) (next s).0 in
     let there : MatchesVerdict s (advanced 1 p) (verdict (after_id context p.offset x) xs) r a =
-    subst (λ (w : List ℕ). MatchesVerdict s (advanced 1 p) (verdict (after_id context p.offset x) w) r a) k here in
-    rw (← m) (report_at s p 1 (x ∷ []) (verdict (after_id context p.offset x) xs) r a refl there)
+    grind arith in
+    grind (arith, report_at)
 
 -- bytes that begin no header
 not_begun : (b l : Bool) (m n : ℕ) → nat_le m n ≡ l → false ≡ (b && l) → (b && nat_lt n m) ≡ false → b ≡ false
@@ -263,7 +255,7 @@ pub section_framed : (p : ParserState) (here q : Place) (id : ℕ) (r : Result P
 section_framed p here q id r a m b next = (
   framed_at here.rest (known_context p) here q id r a refl m b next,
   λ begun. framed_hints here.rest (known_context p) here q id r refl
-      (not_begun (agree here.rest magic) (nat_le 4 (length here.rest)) 4 (length here.rest) refl m begun) b (next 0).1,
+      (search not_begun) b (next 0).1,
 )
 
 -- bytes begin with others exactly if they agree with them, and are as many
@@ -278,7 +270,7 @@ begins_with [] [] = refl
 begins_with [] (x ∷ bytes) = sym (le-leb 0 (length (x ∷ bytes)) (omega arith))
 begins_with (m ∷ first) [] = sym (lt-leb (length (m ∷ first)) 0 (omega arith))
 begins_with (m ∷ first) (x ∷ bytes) = begins_at (nat_eq m x) (nat_eq x m) (turned m x _ _ refl refl) _ _ _ (begins_with first bytes)
-    ∙ ap (λ o. (nat_eq x m && agree bytes first) && is_le o) (sym (compare.suc-suc (length first) (length bytes)))
+    ∙ ap (λ o. (nat_eq x m && agree bytes first) && is_le o) (grind arith)
 
 pub begins_with_magic : (bytes : List ℕ) → starts_with nat_eq bytes magic ≡ (agree bytes magic && nat_le 4 (length bytes))
 begins_with_magic bytes = begins_with magic bytes

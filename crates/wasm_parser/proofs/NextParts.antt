@@ -1,17 +1,16 @@
 -- What is read where a parser is, and what it answers then.
-use Rattle.std.proofs.Common.{◌≡◌, ℕ, ◌+◌, ◌-◌, ◌^◌, ◌<◌, Bool, true, false, not, List, length, Result, Ok, Err, nat_eq, refl, sym}
-use Rattle.std.proofs.Common.{ap, subst, subst₂, ◌∙◌, arith, add-zero}
+use Rattle.std.proofs.Common.{◌≡◌, ℕ, ◌+◌, ◌-◌, ◌^◌, ◌<◌, Bool, true, false, not, List, length, Result, Ok, Err, nat_eq, refl}
+use Rattle.std.proofs.Common.{ap, subst, ◌∙◌, arith, add-zero}
 use Rattle.wasm_base.specs.Window.{Window, Place, place, window_over}
 use Rattle.wasm_base.specs.declared.error.Error.{Error}
 use Rattle.wasm_grammar.specs.Content.{fault, ended}
 use Rattle.wasm_grammar.specs.Grammar.{Shape, Verdict, tile, final, Grammar}
 use Rattle.wasm_grammar.specs.Grammar.{body_grammar, verdict}
-use Rattle.wasm_parser.specs.ParseAnswer.{IsPayload, MatchesVerdict, HintsAs, MatchesGrammar, Advances, ParseAnswer, report_of}
+use Rattle.wasm_parser.specs.ParseAnswer.{IsPayload, MatchesVerdict, MatchesGrammar, Advances, ParseAnswer, report_of}
 use Rattle.wasm_parser.specs.ParserState.{ParserState, grammar_of}
 use Rattle.wasm_parser.specs.ReadsPart.{IsBegun, Refuses, ReadsHeader, ReadsBody, ReadsNext}
 use Rattle.wasm_grammar.specs.Reading.{tile_report}
 use Rattle.wasm_parser.specs.StateAfter.{missing_bytes, state_after_tile}
-use Rattle.wasm_grammar.specs.Waiting.{waiting}
 use Rattle.wasm_parser.specs.declared.payload.Chunk.{Chunk}
 use Rattle.wasm_parser.specs.declared.payload.Chunk.TheVariants.{Parsed}
 use Rattle.wasm_parser.specs.declared.payload.Payload.{Payload}
@@ -25,10 +24,7 @@ not_true b e = grind arith
 
 matches : (p : ParserState) (here after : Place) (r : Result Payload Error) (g : Grammar) → grammar_of p ≡ g
     → MatchesGrammar p.offset here g r after → ReadsNext p here r after
-matches p here after r g e m = (
-  subst (λ (x : Grammar). MatchesVerdict p.offset here (verdict x here.rest) r after) (sym e) m.0,
-  λ b. subst (λ (x : Grammar). HintsAs (waiting x here.rest) r) (sym e) m.1,
-)
+matches p here after r g e m = grind arith
 
 pub next_header : (p : ParserState) (here after : Place) (r : Result Payload Error) → p.expects_header ≡ true → here.offset ≡ p.offset
     → ReadsHeader here r after → ReadsNext p here r after
@@ -62,12 +58,11 @@ answers_at : (p q : ParserState) (eof : Bool) (here after : Place) (payload : Pa
     → here.offset ≡ p.offset → here.features ≡ p.features → end ≡ after.offset → Advances p payload end q
     → ParseAnswer p eof here.rest (Ok (Parsed (end - p.offset) payload)) q
 answers_at p q eof here after payload end (tile t) e m l o f at a =
-    let x : after.offset ≡ here.offset + length t.bytes = ap (λ (x : Place). x.offset) m.0 in
+    let x : after.offset ≡ here.offset + length t.bytes = rw m.0 in
     let to : end ≡ p.offset + length t.bytes = at ∙ (x ∙ ap (λ (x : ℕ). x + length t.bytes) o) in
     let says : IsPayload (tile_report p.features p.offset (p.offset + length t.bytes) t.shape) payload =
-    subst₂ (λ (x y : ℕ). IsPayload (tile_report x p.offset (y + length t.bytes) t.shape) payload) f o m.1 in
-    let moves : q ≡ state_after_tile p t = a here.rest t e to (subst
-    (λ (x : ℕ). IsPayload (tile_report p.features p.offset x t.shape) payload) (sym to) says) in
+    grind arith in
+    let moves : q ≡ state_after_tile p t = grind arith in
     answers_tile p q eof here.rest (Ok (Parsed (end - p.offset) payload)) t l e (omega arith, says, moves)
 answers_at p q eof here after payload end (final (fault x)) e m l o f at a = absurd m
 answers_at p q eof here after payload end (final (ended x)) e m l o f at a = absurd m
@@ -98,8 +93,7 @@ pub window_answered : (p q : ParserState) (eof : Bool) (w : Window) (bytes : Lis
     ≡ window_over p.features p.offset bytes → start ≡ p.offset → ReadsNext p (place w) (Ok payload) after → p.offset + length bytes < 2 ^ 64
     → end ≡ after.offset → Advances p payload end q → ParseAnswer p eof bytes (Ok (Parsed (end - start) payload)) q
 window_answered p q eof w bytes after payload start end e s m l at a =
-    subst (λ (x : ℕ). ParseAnswer p eof bytes (Ok (Parsed (end - x) payload)) q) (sym s)
-    (answers_read p q eof (place (window_over p.features p.offset bytes)) after payload end (at_window p w bytes (Ok payload) after e m) l
+    rw s (answers_read p q eof (place (window_over p.features p.offset bytes)) after payload end (at_window p w bytes (Ok payload) after e m) l
     (add-zero p.offset) refl at a)
 
 pub window_refused : (p : ParserState) (eof : Bool) (w : Window) (bytes : List ℕ) (after : Place) (e : Error) (r : Result Chunk Error) → w

@@ -1,18 +1,16 @@
 -- What a call of the parser answers.
 use Rattle.std.proofs.Common.{◌≡◌, ℕ, ◌+◌, ◌^◌, ◌<◌, ◌≤◌, Bool, true, false, cond, List, [], length, Some}
-use Rattle.std.proofs.Common.{Result, Ok, Err, nat_eq, refl, ap, ◌∙◌, arith}
-use Rattle.wasm_parser.specs.ReadsPart.{IsBegun, is_lacking, Refuses, ReadsNext}
+use Rattle.std.proofs.Common.{Result, Ok, Err, nat_eq, refl, arith}
+use Rattle.wasm_parser.specs.ReadsPart.{is_lacking}
 use Rattle.wasm_base.specs.FaultAt.{fault_at, at_offset}
-use Rattle.wasm_base.specs.Window.{Place}
 use Rattle.wasm_base.specs.declared.error.Error.{Error}
 use Rattle.wasm_base.specs.declared.fault.Fault.TheVariants.{OffsetRange, FunctionWithoutCode, DataCountWithoutData}
 use Rattle.wasm_parser.specs.ParseAnswer.{report_of, Advances, ParseAnswer}
 use Rattle.wasm_parser.proofs.AnswerTables.{Answers, AnswersOn, from_table}
 use Rattle.wasm_parser.specs.StateAfter.{state_after}
 use Rattle.wasm_grammar.specs.Content.{Ending, fault, ended}
-use Rattle.wasm_grammar.specs.Grammar.{Tile, Verdict, tile, final, SectionContext, Grammar, end_at_section, header_grammar}
+use Rattle.wasm_grammar.specs.Grammar.{Tile, Verdict, tile, final, SectionContext, end_at_section, header_grammar}
 use Rattle.wasm_grammar.specs.Grammar.{section_grammar, verdict}
-use Rattle.wasm_grammar.specs.Reading.{stream_end}
 use Rattle.wasm_parser.specs.ParserState.{ParserState, known_context, grammar_of, is_at_section, ended_state}
 use Rattle.wasm_grammar.specs.Tiling.{inside}
 use Rattle.wasm_grammar.specs.Waiting.{Waiting, enough, asked, waiting, asked_at_section}
@@ -54,7 +52,7 @@ pub nothing_lacks : (p q : ParserState) (o : ℕ) → o ≡ p.offset → p.offse
     ≡ is_lacking p.functions p.codes → false ≡ is_lacking p.data_counts p.datas → q ≡ ended_state p
     → ParseAnswer p true [] (Ok (Parsed 0 (End o))) q
 nothing_lacks p q o e l h a b s = ends_as p q (ended p.offset) (Ok (Parsed 0 (End o))) l h (rw (← a, ← b) refl)
-    (refl, (ap (λ (x : ℕ). stream_end (ended x)) e, tt), s)
+    (grind arith)
 
 -- ---- requests for more
 
@@ -82,7 +80,7 @@ pub asks_at_section : (p : ParserState) (rest : List ℕ) (hint : ℕ) → p.off
 asks_at_section p rest hint l h a = from_table p p false rest (Ok (NeedMoreData hint)) (record {
   past_the_top = λ k. absurd (omega arith);
   within = λ k. asks_for p rest hint (waiting (grammar_of p) rest) (verdict (grammar_of p) rest)
-      (ap (λ (g : Grammar). asked (waiting g rest)) (grammar_at_section p h) ∙ asks_at rest (known_context p) p.offset hint a);
+      (search (grammar_at_section, asks_at));
 })
 
 -- ---- what was read is answered
@@ -112,11 +110,6 @@ answered p eof rest r q l w a = from_table p q eof rest r (record {
 pub answers_tile : (p q : ParserState) (eof : Bool) (rest : List ℕ) (r : Result Chunk Error) (t : Tile) → p.offset + length rest < 2 ^ 64
     → verdict (grammar_of p) rest ≡ tile t → Answers p (tile t) r q → ParseAnswer p eof rest r q
 answers_tile p q eof rest r t l v a = grind (arith, decided_tile)
-
-pub answers_refused : (p q : ParserState) (eof : Bool) (here after : Place) (e : Error) (r : Result Chunk Error)
-    → p.offset + length here.rest < 2 ^ 64 → IsBegun p eof here.rest → ReadsNext p here (Err e) after → Refuses eof e r → q ≡ p
-    → ParseAnswer p eof here.rest r q
-answers_refused p q eof here after e r l b n f s = grind arith
 
 -- ---- the state after a payload
 

@@ -30,8 +30,7 @@ gives_window : {T : Type 0} (next : NextOf T) (meaning : Place → Outcome T →
 gives_window next meaning id other count w s runs e b =
     let n : s.count ≡ count = ap count_in e in
     let v : unread s.reader ≡ w = ap (λ (r : Report). window_in r w) e in
-    subst (λ (x : ℕ). GivesWindow next meaning x w s) n (subst (λ (x : Window). GivesWindow next meaning s.count x s) v
-    (λ given d. (place s.reader, b, runs.items refl given d)))
+    subst (λ (x : ℕ). GivesWindow next meaning x w s) n (rw (← v) (λ given d. (place s.reader, b, runs.items refl given d)))
 
 -- a payload of a kind of section whose window and count are reported
 module _ {T : Type 0} (meaning : Place → Outcome T → Type 0) (own id count : ℕ) (w : Window) (s : Section)

@@ -1,6 +1,6 @@
 -- How what is at a place is reported, field by field.
 use Rattle.std.proofs.Common.{◌≡◌, ℕ, ◌+◌, ◌<◌, ◌≤◌, List, ◌++◌, length, take, Option, Some, None, Result, Ok, Err, refl, sym}
-use Rattle.std.proofs.Common.{ap, subst, ◌∙◌, arith, length-append}
+use Rattle.std.proofs.Common.{subst, arith, length-append}
 use Rattle.std.proofs.lemmas.List.{length-take-le}
 use Rattle.wasm_base.specs.FaultAt.{FaultAt, fault_at, hint_of, at_offset}
 use Rattle.wasm_base.specs.Hints.{hint_at, missing_at}
@@ -24,10 +24,7 @@ pub report_after : (s : ℕ) (p : Place) (f : List ℕ) (v : Verdict) (r : Resul
     → MatchesVerdict s (advanced (length f) p) v r a → MatchesVerdict s p (after f v) r a
 report_after s p f (tile t) (Ok payload) a h =
     let n : length f + length t.bytes ≡ length (f ++ t.bytes) = sym (length-append f t.bytes) in
-    let to : p.offset + length f + length t.bytes ≡ p.offset + length (f ++ t.bytes) = omega arith in (
-      h.0 ∙ (advanced_twice (length f) (length t.bytes) p ∙ ap (λ (k : ℕ). advanced k p) n),
-      subst (λ (k : ℕ). IsPayload (tile_report p.features s k t.shape) payload) to h.1,
-    )
+    let to : p.offset + length f + length t.bytes ≡ p.offset + length (f ++ t.bytes) = omega arith in grind (arith, advanced_twice)
 report_after s p f _ _ a h = h
 
 pub report_at : (s : ℕ) (p : Place) (k : ℕ) (f : List ℕ) (v : Verdict) (r : Result Payload Error) (a : Place) → length f ≡ k
@@ -35,10 +32,6 @@ pub report_at : (s : ℕ) (p : Place) (k : ℕ) (f : List ℕ) (v : Verdict) (r 
 report_at s p k f v r a l h = report_after s p f v r a (subst (λ (n : ℕ). MatchesVerdict s (advanced n p) v r a) (sym l) h)
 
 -- ---- hints
-
--- bytes before a place change no hint
-pub later_asked : (k : ℕ) (w : Waiting) (r : Result Payload Error) → HintsAs w r → HintsAs (later k w) r
-later_asked k w r h = grind arith
 
 -- enough bytes
 pub report_bytes : (s : ℕ) (p : Place) (n o : ℕ) (next : List ℕ → Grammar) (r : Result Payload Error) (a : Place) → n ≤ length p.rest

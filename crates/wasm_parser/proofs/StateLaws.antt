@@ -1,11 +1,11 @@
 -- What a parser knows is what the tiles before it say.
 use Rattle.std.proofs.Common.{◌≡◌, ℕ, ◌+◌, ◌<◌, max, Bool, true, false, cond, ◌&&◌, List, [], ◌∷◌, ◌++◌, length}
-use Rattle.std.proofs.Common.{option_to_list, Option, Some, nat_lt, nat_eq, refl, sym, ap, subst, ◌∙◌, arith, length-append, lit<}
+use Rattle.std.proofs.Common.{option_to_list, Option, Some, nat_lt, nat_eq, refl, sym, ap, ◌∙◌, arith, length-append}
 use Rattle.std.proofs.Common.{ltb-true, eqb-true}
 use Rattle.std.specs.List.{list_all}
 use Rattle.std.proofs.lemmas.Bool.{and_parts}
 use Rattle.wasm_grammar.specs.Content.{Kind, items, data_count, index, count_of, kind_of}
-use Rattle.wasm_grammar.specs.Grammar.{Shape, section, code_start, Tile, tile, SectionContext, Grammar, verdict}
+use Rattle.wasm_grammar.specs.Grammar.{Shape, section, code_start, Tile, tile, SectionContext, verdict}
 use Rattle.wasm_grammar.specs.Grammar.{header_grammar, section_grammar, body_grammar, content_grammar}
 use Rattle.wasm_grammar.specs.Tiling.{bytes_of, grammar, context_of, inside, encoding_in, tile_rank, count_in, counts}
 use Rattle.wasm_grammar.specs.Tiling.{bodies_to_come, bytes_to_come, bodies_after, bytes_after, is_start}
@@ -37,8 +37,7 @@ grammar_at : (p : ParserState) (start : ℕ) (prefix : List ℕ) (s : IsStateAft
 grammar_at p start prefix s [] z = grind (arith)
 grammar_at p start prefix s (t ∷ ts) z =
     let h : p.expects_header ≡ false = s.expects_header ∙ ap is_start z in
-    let o : p.offset ≡ start + length (bytes_of (t ∷ ts)) = s.offset
-    ∙ ap (λ (x : List ℕ). start + length x) (sym s.is_prefix ∙ ap bytes_of z) in
+    let o : p.offset ≡ start + length (bytes_of (t ∷ ts)) = cc in
     let m : p.bodies ≡ bodies_to_come (t ∷ ts) = s.bodies ∙ ap bodies_to_come z in
     let l : p.code_bytes ≡ bytes_to_come (t ∷ ts) = s.code_bytes ∙ ap bytes_to_come z in
     let q : known_context p ≡ context_of (t ∷ ts) = context_same p start prefix s t ts z in
@@ -82,7 +81,7 @@ none_of_rank : (n id : ℕ) (ts : List Tile) → 0 < place_of n → (0 < place_o
 none_of_rank n id ts h f z =
     let q : id ≡ n = eqb-true id n z in
     let r : 0 < place_of id = rw q h in
-    counts_none n ts (subst (λ (x : ℕ). list_all (λ (u : Tile). nat_lt (tile_rank u.shape) (place_of x)) ts ≡ true) q (f r))
+    grind (arith, counts_none)
 
 -- the count that is known of the section with this id, after one more tile
 abbrev count_after : ℕ → Shape → Option ℕ → Option ℕ
@@ -195,7 +194,7 @@ code_is_open t bodies code_bytes shape l = grind arith
 pub state_goes_on : (p : ParserState) (start : ℕ) (prefix : List ℕ) (s : IsStateAfter p start prefix) (d : List ℕ) (t : Tile)
     → verdict (grammar_of p) d ≡ tile t → IsStateAfter (state_after_tile p t) start (prefix ++ t.bytes)
 state_goes_on p start prefix s d t e =
-    let v : verdict (grammar start s.tiles) d ≡ tile t = subst (λ (g : Grammar). verdict g d ≡ tile t) (grammar_same p start prefix s) e in
+    let v : verdict (grammar start s.tiles) d ≡ tile t = rw (grammar_same p start prefix s) at e in
     let g : Grown start s.tiles d t = grows start s.tiles d t s.faultless v in
     let f : Fresh s.tiles t.shape = fresh start s.tiles d t v in
     let o : p.offset ≡ start + length prefix = s.offset in
@@ -203,20 +202,18 @@ state_goes_on p start prefix s d t e =
     record {
       tiles = t ∷ s.tiles;
       faultless = g.faultless;
-      is_prefix = ap (λ (x : List ℕ). x ++ t.bytes) s.is_prefix;
+      is_prefix = rw s.is_prefix;
       offset = omega (arith, length-append prefix t.bytes);
       expects_header = refl;
-      encoding = ap (λ (x : ParserState). x.encoding) q ∙ ap (encoding_in t.shape) s.encoding;
+      encoding = cc;
       rank = ap (λ (x : ParserState). x.rank) q ∙ rank_grows (tile_rank t.shape) p.rank (greatest s.tiles) s.rank
           (λ h. greatest_lt (tile_rank t.shape) s.tiles h (f h));
-      functions = ap (λ (x : ParserState). option_to_list x.functions) q
-          ∙ count_same function_id t.shape p.functions s.tiles (lit< tt) s.functions f;
-      codes = ap (λ (x : ParserState). option_to_list x.codes) q ∙ count_same code_id t.shape p.codes s.tiles (lit< tt) s.codes f;
-      datas = ap (λ (x : ParserState). option_to_list x.datas) q ∙ count_same data_id t.shape p.datas s.tiles (lit< tt) s.datas f;
-      data_counts = ap (λ (x : ParserState). option_to_list x.data_counts) q
-          ∙ count_same data_count_id t.shape p.data_counts s.tiles (lit< tt) s.data_counts f;
-      bodies = ap (λ (x : ParserState). x.bodies) q ∙ ap (bodies_after t.shape) s.bodies;
-      code_bytes = ap (λ (x : ParserState). x.code_bytes) q ∙ ap (bytes_after t t.shape) s.code_bytes;
+      functions = grind (arith, count_same);
+      codes = grind (arith, count_same);
+      datas = grind (arith, count_same);
+      data_counts = grind (arith, count_same);
+      bodies = cc;
+      code_bytes = cc;
       in_code = λ h. sym (ap (λ (x : ParserState). x.in_code) q) ∙ h;
       open_code = λ l. ap (λ (x : ParserState). x.in_code) q ∙ code_is_open t (bodies_to_come s.tiles) (bytes_to_come s.tiles) t.shape l;
     }

@@ -7,16 +7,16 @@ use Rattle.std.specs.declared.ops.Range.{Range}
 use Rattle.std.specs.List.{cons_option}
 use Rattle.std.specs.Prelude.{◌↔◌, map, filter_map, All}
 use Rattle.std.specs.Iterator.{Yields, Drains}
-use Rattle.wasm_base.specs.FaultAt.{FaultAt, fault_at}
+use Rattle.wasm_base.specs.FaultAt.{fault_at}
 use Rattle.wasm_base.specs.declared.error.Error.{Error}
 use Rattle.wasm_parser.specs.ParseAnswer.{report_of, is_end}
 use Rattle.wasm_grammar.specs.Content.{Ending, fault, ended}
-use Rattle.wasm_grammar.specs.Grammar.{Tile, Verdict, tile, final, Grammar, verdict}
-use Rattle.wasm_grammar.specs.Reading.{Report, stream_end, tile_report, Event, event_of, events_of, last_event, Reads, Reading, Stream}
+use Rattle.wasm_grammar.specs.Grammar.{Tile, Verdict, tile, final, verdict}
+use Rattle.wasm_grammar.specs.Reading.{Report, stream_end, Event, event_of, events_of, last_event, Reading, Stream}
 use Rattle.wasm_grammar.specs.Sections.{section_of, sections_of, TiledBySections}
 use Rattle.wasm_parser.specs.ParserState.{ParserState, IsStateAfter, initial_state, grammar_of}
 use Rattle.wasm_parser.specs.StateAfter.{state_after_tile}
-use Rattle.wasm_grammar.specs.Tiling.{bytes_of, grammar, Faultless}
+use Rattle.wasm_grammar.specs.Tiling.{bytes_of, grammar}
 use Rattle.wasm_parser.specs.ParseAll.{HoldsItems, Walk, walk_over, consumed_between, NextPayload, sections_given}
 use Rattle.wasm_parser.specs.ParseAll.{given_report, event_report, EndsAt, GivesReading, WalksWhole}
 use Rattle.wasm_parser.specs.declared.payload.Chunk.TheVariants.{Parsed}
@@ -52,8 +52,7 @@ record Walked (start features : ℕ) (stream : List ℕ) (s : Walk) (tiles : Lis
 -- what comes next there
 here : (start features : ℕ) (stream : List ℕ) (s : Walk) (tiles : List Tile) → Walked start features stream s tiles
     → verdict (grammar_of s.state) s.bytes ≡ verdict (grammar start tiles) s.bytes
-here start features stream s tiles w = ap (λ (g : Grammar). verdict g s.bytes)
-    (grammar_same s.state start w.prefix w.is_after ∙ ap (grammar start) w.same)
+here start features stream s tiles w = rw (grammar_same s.state start w.prefix w.is_after ∙ ap (grammar start) w.same)
 
 within : (start features : ℕ) (stream : List ℕ) (s : Walk) (tiles : List Tile) → Walked start features stream s tiles
     → s.state.offset + length s.bytes < 2 ^ 64
@@ -62,10 +61,6 @@ within start features stream s tiles w =
     let n : length stream ≡ length w.prefix + length s.bytes = ap (λ (x : List ℕ). length x) w.whole ∙ length-append w.prefix s.bytes in
     let f : start + length stream < 2 ^ 64 = w.fits in
     omega arith
-
-is_prefix : (start features : ℕ) (stream : List ℕ) (s : Walk) (tiles : List Tile) (w : Walked start features stream s tiles)
-    → bytes_of tiles ≡ w.prefix
-is_prefix start features stream s tiles w = ap bytes_of (sym w.same) ∙ w.is_after.is_prefix
 
 -- a reading that stops here
 stops_here : (start features : ℕ) (stream : List ℕ) (s : Walk) (tiles : List Tile) (w : Walked start features stream s tiles) (end : Ending)
@@ -77,13 +72,13 @@ stops_here start features stream s tiles w end x v t = record {
     end = end;
     reads = record {
       rest = s.bytes;
-      whole = w.whole ∙ ap (λ (y : List ℕ). y ++ s.bytes) (sym (is_prefix start features stream s tiles w));
-      faultless = subst (λ (y : List Tile). Faultless start y) w.same w.is_after.faultless;
+      whole = cc;
+      faultless = grind arith;
       stops = sym (here start features stream s tiles w) ∙ v;
     };
     listed = refl;
   };
-  gives = ap (λ (y : Report). y ∷ []) t;
+  gives = rw t;
 }
 
 -- a tile more
@@ -92,8 +87,8 @@ goes_further : (start features : ℕ) (stream : List ℕ) (tiles : List Tile) (t
     → ReadsOn start features stream tiles (x ∷ others)
 goes_further start features stream tiles t x others e r = record {
   events = event_of features (start + length (bytes_of tiles)) t ∷ r.events;
-  reading = subst (Reading stream start features) (append_assoc (events_of start features tiles)
-      (event_of features (start + length (bytes_of tiles)) t ∷ []) r.events) r.reading;
+  reading = rw (append_assoc (events_of start features tiles)
+      (event_of features (start + length (bytes_of tiles)) t ∷ []) r.events) at r.reading;
   gives = (λ i. e i ∷ r.gives i);
 }
 
@@ -103,26 +98,19 @@ steps_on : (start features : ℕ) (stream : List ℕ) (s m : Walk) (tiles : List
     → m.state ≡ state_after_tile s.state t → m.bytes ≡ drop consumed s.bytes → Walked start features stream m (t ∷ tiles)
 steps_on start features stream s m tiles w t consumed v n p b =
     let v' : verdict (grammar start w.is_after.tiles) s.bytes ≡ tile t =
-    subst (λ (g : Grammar). verdict g s.bytes ≡ tile t) (grammar_same s.state start w.prefix w.is_after) v in
-    let g : Grown start w.is_after.tiles s.bytes t = grows start w.is_after.tiles s.bytes t w.is_after.faultless v' in
-    let d : m.bytes ≡ g.rest = b ∙ (ap (λ (k : ℕ). drop k s.bytes) n
-    ∙ (ap (drop (length t.bytes)) g.split ∙ drop_at t.bytes g.rest (length t.bytes) refl)) in
+    rw (grammar_same s.state start w.prefix w.is_after) at v in
+    let g : Grown start w.is_after.tiles s.bytes t = search grows in
+    let d : m.bytes ≡ g.rest = grind (arith, drop_at) in
     let on : Walked start features stream (record { state = state_after_tile s.state t; bytes = g.rest; ended = m.ended }) (t ∷ tiles) =
     record {
       prefix = w.prefix ++ t.bytes;
-      is_after = state_goes_on s.state start w.prefix w.is_after s.bytes t v;
-      same = state_goes_on-tiles s.state start w.prefix w.is_after s.bytes t v ∙ ap (λ (y : List Tile). t ∷ y) w.same;
+      is_after = search state_goes_on;
+      same = search state_goes_on-tiles;
       whole = w.whole ∙ (ap (λ (y : List ℕ). w.prefix ++ y) g.split ∙ sym (append_assoc w.prefix t.bytes g.rest));
       takes = w.takes;
       fits = w.fits;
     } in
-    subst (λ (y : Walk). Walked start features stream y (t ∷ tiles)) (λ i. record { state = sym p i; bytes = sym d i; ended = m.ended }) on
-
--- what a payload reports of a tile there
-report_there : (start features : ℕ) (stream : List ℕ) (s : Walk) (tiles : List Tile) (w : Walked start features stream s tiles) (t : Tile)
-    (x : Report) → x ≡ tile_report s.state.features s.state.offset (s.state.offset + length t.bytes) t.shape
-    → x ≡ event_report (event_of features (start + length (bytes_of tiles)) t)
-report_there start features stream s tiles w t x e = cc
+    grind arith
 
 -- ---- the whole walk
 
@@ -144,13 +132,12 @@ walks start features stream (Err e ∷ given) s t u tiles w going run end =
         → ReadsOn start features stream tiles (stream_end (fault (fault_at e)) ∷ [])
     refused (tile x) q a = absurd a
     refused (final (fault f)) q a = stops_here start features stream s tiles w (fault f) (stream_end (fault (fault_at e))) q
-        (ap (λ (x : FaultAt). stream_end (fault x)) a.0)
+        (rw a.0)
     refused (final (ended o)) q a = absurd a
 walks start features stream (Ok payload ∷ given) s t u tiles w going run end =
     let step = run.1.going going in
     answered (λ ts on still. walks start features stream given run.0 t u ts on still run.2 end) (verdict (grammar_of s.state) s.bytes) refl
-    ((as_table s.state run.0.state true s.bytes (Ok (Parsed (consumed_between s run.0) payload)) step.0).within
-    (within start features stream s tiles w))
+    (grind (arith, as_table, within))
   where
     answered : ((ts : List Tile) → Walked start features stream run.0 ts → run.0.ended ≡ false
         → ReadsOn start features stream ts (map given_report given)) → (v : Verdict) → verdict (grammar_of s.state) s.bytes ≡ v
@@ -158,17 +145,15 @@ walks start features stream (Ok payload ∷ given) s t u tiles w going run end =
         → ReadsOn start features stream tiles (report_of payload ∷ map given_report given)
     answered next (tile x) q a =
         let on : Walked start features stream run.0 (x ∷ tiles) =
-        steps_on start features stream s run.0 tiles w x (consumed_between s run.0) q a.0 a.2 (run.1.going going).1 in
-        let still : run.0.ended ≡ false = (run.1.going going).2
-        ∙ (ap is_end a.1.0 ∙ goes_on s.state.features s.state.offset (s.state.offset + length x.bytes) x.shape) in
+        grind (arith, steps_on) in
+        let still : run.0.ended ≡ false = grind (arith, goes_on) in
         goes_further start features stream tiles x (report_of payload) (map given_report given)
-        (report_there start features stream s tiles w x (report_of payload) a.1.0) (next (x ∷ tiles) on still)
+        (cc) (next (x ∷ tiles) on still)
     answered next (final (fault f)) q a = absurd a
     answered next (final (ended o)) q a =
         let over : run.0.ended ≡ true = (run.1.going going).2 ∙ ap is_end a.1.0 in
         let none : given ≡ [] = over_gives_nothing run.0 t given over run.2 in
-        subst (λ (y : List (Result Payload Error)). ReadsOn start features stream tiles (report_of payload ∷ map given_report y)) (sym none)
-        (stops_here start features stream s tiles w (ended o) (report_of payload) q a.1.0)
+        grind (arith, stops_here)
 
 -- a walk that has not begun
 begins : (start features : ℕ) (bytes : List ℕ) → start + length bytes < 2 ^ 64
@@ -223,15 +208,14 @@ gives_reading : (start features : ℕ) (bytes : List ℕ) → Stream bytes start
     → GivesReading start features bytes (walk_over (initial_state start features) bytes)
 gives_reading start features bytes stream = record {
   reading = λ given run events r.
-      let w : ReadsOn start features bytes [] (map given_report given) = walk_reads start features bytes stream.fits given run in
-      w.gives ∙ ap (map event_report) (reading_same bytes start features w.events events w.reading r);
+      let w : ReadsOn start features bytes [] (map given_report given) = search walk_reads in
+      w.gives ∙ ap (map event_report) (search reading_same);
   items = λ given run. holds_all given (walk_over (initial_state start features) bytes) run.1.0 run.1.1;
   accepted = λ given run.
-      let w : ReadsOn start features bytes [] (map given_report given) = walk_reads start features bytes stream.fits given run in
+      let w : ReadsOn start features bytes [] (map given_report given) = search walk_reads in
       let a = accepted_ends bytes start stream in
       let l : map given_report given ≡ map event_report (events_of start features w.reading.tiles) ++ stream_end w.reading.end ∷ [] =
-      w.gives ∙ (ap (map event_report) w.reading.listed ∙ map_append (events_of start features w.reading.tiles)
-      (last_event w.reading.end ∷ [])) in
+      grind (arith, map_append) in
       let told = map event_report (events_of start features w.reading.tiles) in
       let e = ends_append (start + length bytes) told (stream_end w.reading.end) in (
         λ h.
@@ -241,13 +225,13 @@ gives_reading start features bytes stream = record {
             subst (EndsAt (start + length bytes)) (sym l) (e.1 (ap stream_end same)),
         λ h.
             let same : w.reading.end ≡ ended (start + length bytes) =
-            report_end (start + length bytes) w.reading.end (e.0 (subst (EndsAt (start + length bytes)) l h)) in
-            a.1 (w.reading.tiles, subst (Reads bytes start w.reading.tiles) same w.reading.reads),
+            grind (arith, report_end) in
+            a.1 (grind arith),
       );
   sections = λ given run a.
-      let w : ReadsOn start features bytes [] (map given_report given) = walk_reads start features bytes stream.fits given run in
+      let w : ReadsOn start features bytes [] (map given_report given) = search walk_reads in
       subst (λ (y : List (ℕ × Range ℕ)). TiledBySections bytes start y a.encoding a.frames) (same_sections given w.events w.gives)
-      (sections_tile bytes start features w.events stream a w.reading);
+      (search sections_tile);
 }
 
 -- the walk of a parser that has passed nothing
