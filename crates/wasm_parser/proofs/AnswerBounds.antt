@@ -3,9 +3,8 @@ use Rattle.std.proofs.Common.{◌≡◌, ℕ, ◌+◌, ◌<◌, ◌≤◌, ◌^�
 use Rattle.std.proofs.Common.{nat_lt, ltb-false, refl, ap, ◌∙◌, arith, length-append, inl, inr}
 use Rattle.std.specs.Prelude.{◌⊎◌}
 use Rattle.wasm_base.specs.declared.error.Error.{Error}
-use Rattle.wasm_parser.specs.ParseAnswer.{report_of, is_end, Consumes, AsksForSome, IsRequest}
+use Rattle.wasm_parser.specs.ParseAnswer.{report_of, is_end, Consumes, AsksForSome, IsRequest, ParseAnswer, FaultsWithin, IsUnchanged}
 use Rattle.wasm_parser.proofs.AnswerTables.{Answers, AsksFor, AnswersOn, as_table, goes_on}
-use Rattle.wasm_parser.specs.ParseAnswer.{ParseAnswer, FaultsWithin, IsUnchanged}
 use Rattle.wasm_grammar.specs.Waiting.{Waiting, wants, waiting}
 use Rattle.wasm_grammar.specs.Content.{fault, ended}
 use Rattle.wasm_grammar.specs.Grammar.{Tile, Verdict, tile, final, header_grammar, verdict}
@@ -67,7 +66,7 @@ consumes_at p new rest consumed payload (tile t) e a =
     let k : Takes rest t = tile_takes p rest t e in
     let n : length rest ≡ length t.bytes + length k.rest = ap (λ (x : List ℕ). length x) k.split ∙ length-append t.bytes k.rest in grind (arith, not_zero, goes_on)
 consumes_at p new rest consumed payload (final (fault f)) e a = absurd a
-consumes_at p new rest consumed payload (final (ended o)) e a = grind (arith)
+consumes_at p new rest consumed payload (final (ended o)) e a = grind arith
 
 -- what the answers of a parser consume
 consumes_any : (p new : ParserState) (rest : List ℕ) (r : Result Chunk Error) → Answers p (verdict (grammar_of p) rest) r new

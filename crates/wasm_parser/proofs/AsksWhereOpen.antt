@@ -1,6 +1,5 @@
 -- A parser asks for more exactly where streams differ.
-use Rattle.std.proofs.Common.{◌≡◌, ℕ, ◌+◌, ◌^◌, ◌<◌, Bool, false, List, ◌++◌, length, Result, sym}
-use Rattle.std.proofs.Common.{arith, length-append}
+use Rattle.std.proofs.Common.{◌≡◌, ℕ, ◌+◌, ◌^◌, ◌<◌, Bool, false, List, ◌++◌, length, Result, sym, arith, length-append}
 use Rattle.wasm_base.specs.declared.error.Error.{Error}
 use Rattle.wasm_grammar.specs.Grammar.{Verdict, verdict}
 use Rattle.wasm_parser.specs.ParseAnswer.{IsRequest, ParseAnswer}

@@ -72,7 +72,7 @@ abbrev content_place : ℕ → Place → Place
 content_place size p = record { features = p.features; offset = p.offset; rest = take size p.rest }
 
 at_content : (size : ℕ) (p : Place) (w : Window) → w ≡ window_over p.features p.offset (take size p.rest) → place w ≡ content_place size p
-at_content size p w e = grind (arith)
+at_content size p w e = grind arith
 
 -- a number that was read of the whole window
 count_read : (size : ℕ) (p : Place) (w : Window) (q : Place) (v : ℕ) (after : Place) → content_at size p ≡ Ok (w, q)

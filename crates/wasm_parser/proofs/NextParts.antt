@@ -4,8 +4,7 @@ use Rattle.std.proofs.Common.{ap, subst, ◌∙◌, arith, add-zero}
 use Rattle.wasm_base.specs.Window.{Window, Place, place, window_over}
 use Rattle.wasm_base.specs.declared.error.Error.{Error}
 use Rattle.wasm_grammar.specs.Content.{fault, ended}
-use Rattle.wasm_grammar.specs.Grammar.{Shape, Verdict, tile, final, Grammar}
-use Rattle.wasm_grammar.specs.Grammar.{body_grammar, verdict}
+use Rattle.wasm_grammar.specs.Grammar.{Shape, Verdict, tile, final, Grammar, body_grammar, verdict}
 use Rattle.wasm_parser.specs.ParseAnswer.{IsPayload, MatchesVerdict, MatchesGrammar, Advances, ParseAnswer, report_of}
 use Rattle.wasm_parser.specs.ParserState.{ParserState, grammar_of}
 use Rattle.wasm_parser.specs.ReadsPart.{IsBegun, Refuses, ReadsHeader, ReadsBody, ReadsNext}

@@ -9,8 +9,7 @@ use Rattle.wasm_parser.specs.ParseAnswer.{report_of, Advances, ParseAnswer}
 use Rattle.wasm_parser.proofs.AnswerTables.{Answers, AnswersOn, from_table}
 use Rattle.wasm_parser.specs.StateAfter.{state_after}
 use Rattle.wasm_grammar.specs.Content.{Ending, fault, ended}
-use Rattle.wasm_grammar.specs.Grammar.{Tile, Verdict, tile, final, SectionContext, end_at_section, header_grammar}
-use Rattle.wasm_grammar.specs.Grammar.{section_grammar, verdict}
+use Rattle.wasm_grammar.specs.Grammar.{Tile, Verdict, tile, final, SectionContext, end_at_section, header_grammar, section_grammar, verdict}
 use Rattle.wasm_parser.specs.ParserState.{ParserState, known_context, grammar_of, is_at_section, ended_state}
 use Rattle.wasm_grammar.specs.Tiling.{inside}
 use Rattle.wasm_grammar.specs.Waiting.{Waiting, enough, asked, waiting, asked_at_section}

@@ -10,9 +10,7 @@ use Rattle.wasm_items.specs.RecGroups.{rec_group_parts, rec_group_at}
 use Rattle.wasm_parser.specs.ParseAnswer.{unread, BeginsAfterCount, counted_by}
 use Rattle.wasm_parser.specs.PayloadItems.{NextOf, GivesWindow, GivesTypes, NoOthersAreCounted}
 use Rattle.wasm_grammar.specs.Reading.{Report, counted}
-use Rattle.wasm_parser.specs.declared.payload.Payload.TheVariants.{Version}
-use Rattle.wasm_parser.specs.declared.payload.Payload.TheVariants.{StartSection}
-use Rattle.wasm_parser.specs.declared.payload.Payload.TheVariants.{DataCountSection, CodeSectionStart}
+use Rattle.wasm_parser.specs.declared.payload.Payload.TheVariants.{Version, StartSection, DataCountSection, CodeSectionStart}
 use Rattle.wasm_parser.specs.declared.payload.Payload.TheVariants.{CodeSectionEntry, CustomSection, UnknownSection, End}
 
 abbrev window_in : Report → Window → Window

@@ -12,8 +12,7 @@ use Rattle.wasm_base.specs.declared.fault.NumberKind.TheVariants.{VarU32}
 use Rattle.wasm_base.proofs.NumberLaws.{number-used}
 use Rattle.wasm_base.proofs.Texts.{advanced_twice}
 use Rattle.wasm_parser.specs.ParseAnswer.{IsPayload, MatchesVerdict, HintsAs, MatchesGrammar}
-use Rattle.wasm_grammar.specs.Grammar.{Shape, Verdict, tile, after, after_number, Grammar, accept, reject, check, u32_field, bytes}
-use Rattle.wasm_grammar.specs.Grammar.{verdict}
+use Rattle.wasm_grammar.specs.Grammar.{Shape, Verdict, tile, after, after_number, Grammar, accept, reject, check, u32_field, bytes, verdict}
 use Rattle.wasm_grammar.specs.Reading.{tile_report}
 use Rattle.wasm_grammar.specs.Waiting.{Waiting, later, later_number, waiting}
 use Rattle.wasm_parser.specs.declared.payload.Payload.{Payload}
@@ -80,7 +79,7 @@ report_right s p f next r a h k = grind arith
 pub report_whole : (s : ℕ) (p : Place) (shape : Shape) (payload : Payload) (a : Place) → a ≡ p
     → IsPayload (tile_report p.features s p.offset shape) payload → MatchesGrammar s p (accept shape) (Ok payload) a
 unfolding verdict
-report_whole s p shape payload a e h = grind (arith)
+report_whole s p shape payload a e h = grind arith
 
 pub report_stops : (s : ℕ) (p : Place) (f : FaultAt) (e : Error) (a : Place) → fault_at e ≡ f → hint_of e ≡ None
     → MatchesGrammar s p (reject f) (Err e) a

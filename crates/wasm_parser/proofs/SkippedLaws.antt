@@ -8,11 +8,9 @@ use Rattle.std.specs.Prelude.{All}
 use Rattle.wasm_base.specs.Window.{Window}
 use Rattle.wasm_parser.specs.Along.{Along}
 use Rattle.wasm_grammar.specs.EventRanges.{consumed_by}
-use Rattle.wasm_grammar.specs.Grammar.{Shape, code_entry, Tile, tile, SectionContext, verdict}
-use Rattle.wasm_grammar.specs.Grammar.{section_grammar, body_grammar}
+use Rattle.wasm_grammar.specs.Grammar.{Shape, code_entry, Tile, tile, SectionContext, verdict, section_grammar, body_grammar}
 use Rattle.wasm_parser.specs.ParserState.{ParserState, IsStateAfter, greatest, ends_in_code, skipped_state}
-use Rattle.wasm_grammar.specs.Tiling.{is_start, bytes_of, encoding_of, counts, bytes_to_come}
-use Rattle.wasm_grammar.specs.Tiling.{grammar, Faultless}
+use Rattle.wasm_grammar.specs.Tiling.{is_start, bytes_of, encoding_of, counts, bytes_to_come, grammar, Faultless}
 use Rattle.wasm_grammar.specs.Reading as reading
 use Rattle.wasm_grammar.specs.Reading.{Event, tile_report, event_of, events_of}
 use Rattle.wasm_grammar.specs.Sections.{ReportsBody}

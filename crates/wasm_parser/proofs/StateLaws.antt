@@ -1,7 +1,6 @@
 -- What a parser knows is what the tiles before it say.
-use Rattle.std.proofs.Common.{◌≡◌, ℕ, ◌+◌, ◌<◌, max, Bool, true, false, cond, ◌&&◌, List, [], ◌∷◌, ◌++◌, length}
-use Rattle.std.proofs.Common.{option_to_list, Option, Some, nat_lt, nat_eq, refl, sym, ap, ◌∙◌, arith, length-append}
-use Rattle.std.proofs.Common.{ltb-true, eqb-true}
+use Rattle.std.proofs.Common.{◌≡◌, ℕ, ◌+◌, ◌<◌, max, Bool, true, false, cond, ◌&&◌, List, [], ◌∷◌, ◌++◌, length, option_to_list, Option}
+use Rattle.std.proofs.Common.{Some, nat_lt, nat_eq, refl, sym, ap, ◌∙◌, arith, length-append, ltb-true, eqb-true}
 use Rattle.std.specs.List.{list_all}
 use Rattle.std.proofs.lemmas.Bool.{and_parts}
 use Rattle.wasm_grammar.specs.Content.{Kind, items, data_count, index, count_of, kind_of}
@@ -14,9 +13,7 @@ use Rattle.wasm_parser.specs.ParserState.{ParserState, initial_state, greatest, 
 use Rattle.wasm_grammar.proofs.accepted.KindIds.{IdOf, id_of_kind}
 use Rattle.wasm_grammar.proofs.readings.Readings.{Grown, grows}
 use Rattle.wasm_grammar.proofs.parts.Placed.{Each, each_tile, bodied, headed, Fresh, fresh}
-use Rattle.wasm_grammar.specs.Ids.{place_of}
-use Rattle.wasm_grammar.specs.Ids.{code_id, data_count_id, data_id, function_id}
-use Rattle.wasm_grammar.specs.Ids.{start_id}
+use Rattle.wasm_grammar.specs.Ids.{place_of, code_id, data_count_id, data_id, function_id, start_id}
 
 max_lt : (a g r : ℕ) → nat_lt (max a g) r ≡ (nat_lt a r && nat_lt g r)
 max_lt a g r = grind arith
@@ -34,7 +31,7 @@ context_same p start prefix s t ts z = grind (arith, may_same)
 
 grammar_at : (p : ParserState) (start : ℕ) (prefix : List ℕ) (s : IsStateAfter p start prefix) (ts : List Tile) → s.tiles ≡ ts
     → grammar_of p ≡ grammar start ts
-grammar_at p start prefix s [] z = grind (arith)
+grammar_at p start prefix s [] z = grind arith
 grammar_at p start prefix s (t ∷ ts) z =
     let h : p.expects_header ≡ false = s.expects_header ∙ ap is_start z in
     let o : p.offset ≡ start + length (bytes_of (t ∷ ts)) = cc in

@@ -118,7 +118,7 @@ steps_on start features stream s m tiles w t consumed v n p b =
 walks : (start features : ℕ) (stream : List ℕ) (given : List (Result Payload Error)) (s t u : Walk) (tiles : List Tile)
     → Walked start features stream s tiles → s.ended ≡ false → Yields NextPayload s given t → NextPayload t None u
     → ReadsOn start features stream tiles (map given_report given)
-walks start features stream [] s t u tiles w going run end = grind (arith)
+walks start features stream [] s t u tiles w going run end = grind arith
 walks start features stream (Err e ∷ given) s t u tiles w going run end =
     let step = run.1.going going in
     let none : given ≡ [] = over_gives_nothing run.0 t given step.2 run.2 in

@@ -4,8 +4,7 @@ use Rattle.wasm_base.specs.Number.{Number, read, number}
 use Rattle.wasm_base.specs.declared.fault.Fault.{Fault}
 use Rattle.wasm_base.specs.declared.fault.NumberKind.TheVariants.{VarU32}
 use Rattle.wasm_base.proofs.NumberLaws.{number-used, Used}
-use Rattle.wasm_grammar.specs.Content.{wrong_single, wrong_content}
-use Rattle.wasm_grammar.specs.Content.{Form}
+use Rattle.wasm_grammar.specs.Content.{wrong_single, wrong_content, Form}
 use Rattle.wasm_grammar.specs.Accepted.{IsNumber, IsFormed}
 
 -- good content has no fault

@@ -19,8 +19,7 @@ use Rattle.wasm_grammar.specs.Grammar.{content_grammar, whole_grammar, code_gram
 use Rattle.wasm_grammar.specs.Accepted.{IsNumber, header_bytes}
 use Rattle.wasm_grammar.proofs.parts.Placed.{Follows}
 use Rattle.wasm_grammar.proofs.parts.Guarded.{one_byte}
-use Rattle.wasm_grammar.specs.Ids.{custom_id}
-use Rattle.wasm_grammar.specs.Ids.{code_id}
+use Rattle.wasm_grammar.specs.Ids.{custom_id, code_id}
 
 -- a tile of this shape with these bytes
 abbrev pub made : Shape → List ℕ → Tile

@@ -13,8 +13,7 @@ use Rattle.wasm_grammar.specs.Grammar.{version, section, code_start, Tile, tile,
 use Rattle.wasm_grammar.specs.Grammar.{section_grammar}
 use Rattle.wasm_grammar.specs.Tiling.{bytes_of, grammar, Faultless, context_of, bodies_to_come, bytes_to_come, is_start}
 use Rattle.wasm_grammar.specs.Reading.{Event, events_of, Reads}
-use Rattle.wasm_grammar.specs.Accepted.{sized_bytes, SectionFrame, frame_bytes, IsFrame, FitsAfter, CodeDivision, IsAccepted}
-use Rattle.wasm_grammar.specs.Accepted.{header_bytes}
+use Rattle.wasm_grammar.specs.Accepted.{sized_bytes, SectionFrame, frame_bytes, IsFrame, FitsAfter, CodeDivision, IsAccepted, header_bytes}
 use Rattle.wasm_grammar.proofs.accepted.Counts.{Knows}
 use Rattle.wasm_grammar.proofs.accepted.KindIds.{code_has_its_id}
 use Rattle.wasm_grammar.proofs.accepted.Endings.{end_to}

@@ -1,7 +1,6 @@
 -- Where bytes don't suffice, something else is there after their ending than where the stream ends.
-use Rattle.std.proofs.Common.{◌≡◌, ◌≢◌, ℕ, ◌+◌, ◌-◌, ◌<◌, ◌≤◌, Bool, true, false, cond, ◌&&◌, List, [], ◌∷◌, ◌++◌}
-use Rattle.std.proofs.Common.{length, take, drop, replicate, Option, Some, None, nat_lt, nat_le, nat_eq, refl, ◌∙◌, arith}
-use Rattle.std.proofs.Common.{length-append, leb-true, le-leb}
+use Rattle.std.proofs.Common.{◌≡◌, ◌≢◌, ℕ, ◌+◌, ◌-◌, ◌<◌, ◌≤◌, Bool, true, false, cond, ◌&&◌, List, [], ◌∷◌, ◌++◌, length, take, drop}
+use Rattle.std.proofs.Common.{replicate, Option, Some, None, nat_lt, nat_le, nat_eq, refl, ◌∙◌, arith, length-append, leb-true, le-leb}
 use Rattle.std.specs.List.{list_any}
 use Rattle.std.proofs.lemmas.Bool.{leb-false, and_parts, lt-leb}
 use Rattle.std.proofs.lemmas.List.{append_cancel_left, take-append-le, drop-append-le, length-replicate, take_all, drop_all}
@@ -12,16 +11,14 @@ use Rattle.wasm_base.specs.Name.{name_limit, name, after_size}
 use Rattle.wasm_base.specs.Number.{Number, read, bad, short, number}
 use Rattle.wasm_base.specs.declared.fault.Fault.{Fault}
 use Rattle.wasm_base.specs.declared.fault.Fault.TheVariants.{UnexpectedEof, BadMagic, MagicAtSection, MalformedSectionId}
-use Rattle.wasm_base.specs.declared.fault.Fault.TheVariants.{FunctionWithoutCode}
-use Rattle.wasm_base.specs.declared.fault.Fault.TheVariants.{DataCountWithoutData}
+use Rattle.wasm_base.specs.declared.fault.Fault.TheVariants.{FunctionWithoutCode, DataCountWithoutData}
 use Rattle.wasm_base.specs.declared.fault.NumberKind.TheVariants.{VarU32}
 use Rattle.wasm_base.proofs.NumberLaws.{number-used, number-more, number-long}
 use Rattle.wasm_grammar.specs.Content.{Form, Kind, code, kind_of, Ending, fault, ended, when}
 use Rattle.wasm_grammar.specs.Content.{whole, wrong_number, wrong_single, wrong_name, wrong_content}
-use Rattle.wasm_grammar.specs.Grammar.{Shape, code_entry, Tile, Verdict, final, after, after_number, SectionContext, Grammar}
-use Rattle.wasm_grammar.specs.Grammar.{accept, check, u32_field, bytes, section_start, verdict, header_of}
-use Rattle.wasm_grammar.specs.Grammar.{header_grammar, end_at_section, wrong_data, content_grammar, after_id, section_grammar}
-use Rattle.wasm_grammar.specs.Grammar.{body_grammar}
+use Rattle.wasm_grammar.specs.Grammar.{Shape, code_entry, Tile, Verdict, final, after, after_number, SectionContext, Grammar, accept, check}
+use Rattle.wasm_grammar.specs.Grammar.{u32_field, bytes, section_start, verdict, header_of, header_grammar, end_at_section, wrong_data}
+use Rattle.wasm_grammar.specs.Grammar.{content_grammar, after_id, section_grammar, body_grammar}
 use Rattle.wasm_grammar.specs.Tiling.{grammar}
 use Rattle.wasm_grammar.specs.Undecided.{ending_of_number, deciding_ending}
 use Rattle.wasm_grammar.specs.Waiting.{enough, wants, later, later_number, waiting}

@@ -1,7 +1,6 @@
 -- An ending that decides is bytes, and not more than 2^32 of them.
-use Rattle.std.proofs.Common.{◌≡◌, ℕ, suc, ◌+◌, ◌-◌, ◌^◌, ◌<◌, ◌≤◌, ◌⊎◌, Bool, true, false, cond, All, List, [], ◌∷◌}
-use Rattle.std.proofs.Common.{length, take, drop, replicate, slice_index, Option, Some, None, nat_lt, nat_le, refl, arith}
-use Rattle.std.proofs.Common.{add-one, lit≤}
+use Rattle.std.proofs.Common.{◌≡◌, ℕ, suc, ◌+◌, ◌-◌, ◌^◌, ◌<◌, ◌≤◌, ◌⊎◌, Bool, true, false, cond, All, List, [], ◌∷◌, length, take, drop}
+use Rattle.std.proofs.Common.{replicate, slice_index, Option, Some, None, nat_lt, nat_le, refl, arith, add-one, lit≤}
 use Rattle.std.proofs.lemmas.List.{length-replicate, length-drop}
 use Rattle.std.proofs.lemmas.List.Elements.{All-nil, All-replicate, All-drop}
 use Rattle.wasm_base.specs.Header.{magic, agree}

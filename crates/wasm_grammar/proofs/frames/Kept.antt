@@ -13,7 +13,7 @@ use Rattle.wasm_grammar.specs.Shifted.{shifted_event, shifted_events}
 use Rattle.wasm_grammar.specs.declared.encoding.Encoding.{Encoding}
 use Rattle.wasm_grammar.specs.declared.encoding.Encoding.TheVariants.{Module}
 use Rattle.wasm_grammar.proofs.accepted.Counts.{is_section, section_yes, yes_section}
-use Rattle.wasm_grammar.proofs.PlainLists.{any_of, any_to, all_prefix, Spares, filter_twice, each_of}
+use Rattle.wasm_grammar.proofs.PlainLists.{any_of, any_to, all_prefix, Spares, filter_twice}
 use Rattle.wasm_grammar.specs.Ids.{data_count_id, function_id}
 
 -- ---- what is left of lists
@@ -96,9 +96,9 @@ some_same encoding n earlier others h s a =
     let t : list_any (is_section encoding n) earlier ≡ true = search (any_to, yes_section) in
     any_of (is_section encoding n) (IsSection encoding n) (λ g. section_yes encoding n g) others
     (sym (any_left (is_section encoding n) (has_rank encoding) others
-    (search (Spares, is_section)))
+    (search spared))
     ∙ (ap (list_any (is_section encoding n)) (sym s) ∙ (any_left (is_section encoding n) (has_rank encoding) earlier
-    (search (each_of, Spares, is_section)) ∙ t)))
+    (search spared) ∙ t)))
 
 -- a section fits after sections that say the same
 fits_same : (encoding : Encoding) (earlier others : List SectionFrame) (f : SectionFrame) → SayTheSame encoding earlier others

@@ -13,9 +13,8 @@ use Rattle.wasm_base.proofs.NumberLaws.{number-used}
 use Rattle.wasm_grammar.specs.Content.{Kind, code, kind_of, Ending, fault, ended, when}
 use Rattle.wasm_grammar.specs.Content.{wrong_number, wrong_single, wrong_name, wrong_content, Form, whole}
 use Rattle.wasm_grammar.specs.Grammar.{Tile, Verdict, final, Grammar, accept, reject, check, u32_field, bytes, section_start, after}
-use Rattle.wasm_grammar.specs.Grammar.{after_number, verdict, SectionContext, header_grammar, end_at_section}
-use Rattle.wasm_grammar.specs.Grammar.{wrong_data, whole_grammar, content_grammar, after_length, section_grammar}
-use Rattle.wasm_grammar.specs.Grammar.{body_grammar}
+use Rattle.wasm_grammar.specs.Grammar.{after_number, verdict, SectionContext, header_grammar, end_at_section, wrong_data, whole_grammar}
+use Rattle.wasm_grammar.specs.Grammar.{content_grammar, after_length, section_grammar, body_grammar}
 use Rattle.wasm_grammar.specs.Laws.{FaultLiesWithin}
 use Rattle.wasm_grammar.specs.Tiling.{grammar, bytes_of}
 use Rattle.wasm_grammar.proofs.parts.Places.{number_place, name_place}

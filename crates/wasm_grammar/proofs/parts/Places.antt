@@ -1,6 +1,5 @@
 -- What is wrong with bytes is wrong at one of them, or at their end.
-use Rattle.std.proofs.Common.{◌≡◌, ℕ, suc, ◌-◌, ◌<◌, ◌≤◌, Bool, cond, List, length, Option, Some}
-use Rattle.std.proofs.Common.{None, nat_lt, refl, arith}
+use Rattle.std.proofs.Common.{◌≡◌, ℕ, suc, ◌-◌, ◌<◌, ◌≤◌, Bool, cond, List, length, Option, Some, None, nat_lt, refl, arith}
 use Rattle.std.proofs.lemmas.List.{length-drop}
 use Rattle.wasm_base.specs.Name.{named, refused, name, after_size}
 use Rattle.wasm_base.specs.Number.{Number, read, bad, number, last_place, ends_at, most_bytes}

@@ -1,7 +1,6 @@
 -- Events lie end to end.
-use Rattle.std.proofs.Common.{◌≡◌, ℕ, ◌+◌, ◌-◌, ◌≤◌, Bool, cond, ◌&&◌, List, [], ◌∷◌, ◌++◌, length, take, drop}
-use Rattle.std.proofs.Common.{Some, None, nat_le, refl, sym, ap, subst, ◌∙◌, arith, length-append}
-use Rattle.std.proofs.Common.{append-nil, append_assoc}
+use Rattle.std.proofs.Common.{◌≡◌, ℕ, ◌+◌, ◌-◌, ◌≤◌, Bool, cond, ◌&&◌, List, [], ◌∷◌, ◌++◌, length, take, drop, Some, None, nat_le, refl}
+use Rattle.std.proofs.Common.{sym, ap, subst, ◌∙◌, arith, length-append, append-nil, append_assoc}
 use Rattle.std.proofs.lemmas.List.{length-take-le, take_at, drop_at}
 use Rattle.std.proofs.lemmas.Grind.{flat_map-append}
 use Rattle.wasm_base.specs.FaultAt.{at_offset}

@@ -1,17 +1,14 @@
 -- The start offset only moves offsets.
-use Rattle.std.proofs.Common.{◌≡◌, ℕ, zero, suc, ◌+◌, ◌-◌, Bool, cond, ◌&&◌, not, List, [], ◌∷◌, ◌++◌, length, take, drop}
-use Rattle.std.proofs.Common.{Option, Some, None, option_map, nat_lt, nat_le, nat_eq, ◌⊎◌, inl, refl, ap, subst, subst₂, ◌∙◌}
-use Rattle.std.proofs.Common.{arith, length-append}
+use Rattle.std.proofs.Common.{◌≡◌, ℕ, zero, suc, ◌+◌, ◌-◌, Bool, cond, ◌&&◌, not, List, [], ◌∷◌, ◌++◌, length, take, drop, Option, Some}
+use Rattle.std.proofs.Common.{None, option_map, nat_lt, nat_le, nat_eq, ◌⊎◌, inl, refl, ap, subst, subst₂, ◌∙◌, arith, length-append}
 use Rattle.std.proofs.lemmas.List.{map-append}
 use Rattle.wasm_base.specs.FaultAt.{FaultAt, at_offset}
 use Rattle.wasm_base.specs.Header.{magic, agree}
 use Rattle.wasm_base.specs.Name.{of_four}
 use Rattle.wasm_base.specs.Number.{Number, number}
-use Rattle.wasm_base.specs.declared.fault.Fault.TheVariants.{UnexpectedEof, MagicAtSection, SectionTooLarge}
-use Rattle.wasm_base.specs.declared.fault.Fault.TheVariants.{MalformedSectionId, BadMagic}
+use Rattle.wasm_base.specs.declared.fault.Fault.TheVariants.{UnexpectedEof, MagicAtSection, SectionTooLarge, MalformedSectionId, BadMagic}
 use Rattle.wasm_base.specs.declared.fault.NumberKind.TheVariants.{VarU32}
-use Rattle.wasm_grammar.specs.Content.{Kind, code, kind_of, Ending, fault, when}
-use Rattle.wasm_grammar.specs.Content.{wrong_content, Form, whole}
+use Rattle.wasm_grammar.specs.Content.{Kind, code, kind_of, Ending, fault, when, wrong_content, Form, whole}
 use Rattle.wasm_grammar.specs.Grammar
 use Rattle.wasm_grammar.specs.Grammar.{Shape, section, Tile, Verdict, tile, final, Grammar, accept, reject, check, u32_field, bytes}
 use Rattle.wasm_grammar.specs.Grammar.{section_start, after, after_number, verdict, SectionContext, header_of, version_of, header_grammar}
@@ -19,8 +16,7 @@ use Rattle.wasm_grammar.specs.Grammar.{end_at_section, wrong_count, code_grammar
 use Rattle.wasm_grammar.specs.Grammar.{after_id, section_grammar, body_of, body_grammar}
 use Rattle.wasm_grammar.specs.Laws.{StartOnlyMoves}
 use Rattle.wasm_grammar.specs.Shifted.{shifted_fault, shifted_ending, shifted_report, shifted_event, shifted_events, PassesTheTop}
-use Rattle.wasm_grammar.specs.Reading.{section_report, tile_report, event_of}
-use Rattle.wasm_grammar.specs.Reading.{last_event, events_of, Reads}
+use Rattle.wasm_grammar.specs.Reading.{section_report, tile_report, event_of, last_event, events_of, Reads}
 use Rattle.wasm_grammar.specs.Tiling.{inside, context_of, grammar, bodies_to_come, bytes_to_come, bytes_of, Faultless}
 use Rattle.wasm_grammar.specs.declared.encoding.Encoding.{Encoding}
 use Rattle.wasm_grammar.proofs.readings.EndToEnd.{Closes, tile_closes}
