@@ -64,7 +64,8 @@ consumes_at : (p new : ParserState) (rest : List ℕ) (consumed : ℕ) (payload 
     → (consumed ≤ length rest) × (nat_eq consumed 0 ≡ is_end (report_of payload))
 consumes_at p new rest consumed payload (tile t) e a =
     let k : Takes rest t = tile_takes p rest t e in
-    let n : length rest ≡ length t.bytes + length k.rest = ap (λ (x : List ℕ). length x) k.split ∙ length-append t.bytes k.rest in grind (arith, not_zero, goes_on)
+    let n : length rest ≡ length t.bytes + length k.rest = ap (λ (x : List ℕ). length x) k.split ∙ length-append t.bytes k.rest in
+    grind (arith, not_zero, goes_on)
 consumes_at p new rest consumed payload (final (fault f)) e a = absurd a
 consumes_at p new rest consumed payload (final (ended o)) e a = grind arith
 

@@ -60,8 +60,9 @@ framed_sized context start id p q v r a h o n next =
     (p.offset + m.used) v) r a =
     λ s. subst (λ (x : Place). MatchesGrammar s x (after_length context (kind_of context.encoding id) id p.offset x.offset v) r a) m.after
     (next s) in
-    λ s. report_right s p (when (nat_le 128 id) (at_offset MalformedSectionId start)) _ r a (good_id start id h) (rw o (report_number s p p.offset (λ size width. after_length context (kind_of context.encoding id) id p.offset (p.offset + width) size) r a v
-    m.used m.reads (at_q s)))
+    λ s. report_right s p (when (nat_le 128 id) (at_offset MalformedSectionId start)) _ r a (good_id start id h)
+    (rw o (report_number s p p.offset
+    (λ size width. after_length context (kind_of context.encoding id) id p.offset (p.offset + width) size) r a v m.used m.reads (at_q s)))
 
 -- a content that would end past the top of the offsets
 pub sized_large : (context : SectionContext) (kind : Kind) (id field size : ℕ) (p : Place) (e : Error) (a : Place)

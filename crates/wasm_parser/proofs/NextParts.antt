@@ -92,8 +92,8 @@ pub window_answered : (p q : ParserState) (eof : Bool) (w : Window) (bytes : Lis
     ≡ window_over p.features p.offset bytes → start ≡ p.offset → ReadsNext p (place w) (Ok payload) after → p.offset + length bytes < 2 ^ 64
     → end ≡ after.offset → Advances p payload end q → ParseAnswer p eof bytes (Ok (Parsed (end - start) payload)) q
 window_answered p q eof w bytes after payload start end e s m l at a =
-    rw s (answers_read p q eof (place (window_over p.features p.offset bytes)) after payload end (at_window p w bytes (Ok payload) after e m) l
-    (add-zero p.offset) refl at a)
+    rw s (answers_read p q eof (place (window_over p.features p.offset bytes)) after payload end
+    (at_window p w bytes (Ok payload) after e m) l (add-zero p.offset) refl at a)
 
 pub window_refused : (p : ParserState) (eof : Bool) (w : Window) (bytes : List ℕ) (after : Place) (e : Error) (r : Result Chunk Error) → w
     ≡ window_over p.features p.offset bytes → ReadsNext p (place w) (Err e) after → p.offset + length bytes < 2 ^ 64 → IsBegun p eof bytes
