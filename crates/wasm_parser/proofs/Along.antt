@@ -1,8 +1,6 @@
 -- Where a caller is along a stream: at its start, where more came, and after an answer.
-use Rattle.std.proofs.Common.{◌≡◌, ℕ, zero, suc, ◌+◌, ◌^◌, ◌<◌, ◌≤◌, Bool, true, false, cond, nat_eq, nat_lt, ltb-true, ltb-false, List, []}
-use Rattle.std.proofs.Common.{◌∷◌}
-use Rattle.std.proofs.Common.{◌++◌, length, take, drop, Result, Ok, Err, refl, sym, ap, subst, subst₂, ◌∙◌, arith, length-append}
-use Rattle.std.proofs.Common.{append_assoc, append-nil, inl, inr}
+use Rattle.std.proofs.Common.{◌≡◌, ℕ, ◌+◌, ◌^◌, ◌<◌, ◌≤◌, Bool, true, false, nat_eq, List, [], ◌∷◌, ◌++◌, length, Result, Ok, Err, refl}
+use Rattle.std.proofs.Common.{sym, ap, subst, subst₂, ◌∙◌, arith, length-append, append_assoc, append-nil, inl, inr}
 use Rattle.std.proofs.lemmas.List.{take_at, drop_at, nil_from_length}
 use Rattle.std.specs.Prelude.{◌⊎◌}
 use Rattle.wasm_base.specs.FaultAt.{FaultAt, fault_at, at_offset}
@@ -12,12 +10,11 @@ use Rattle.wasm_grammar.specs.Content.{Ending, fault, ended}
 use Rattle.wasm_grammar.specs.EventRanges.{consumed_by}
 use Rattle.wasm_parser.specs.GivesNextEvent.{MayBe, IsUndecided}
 use Rattle.wasm_grammar.specs.Grammar.{Tile, Verdict, tile, final, Grammar, verdict}
-use Rattle.wasm_parser.specs.ParseAnswer.{IsPayload, report_of, is_end, said, refuses, answer_to, state_after_answer}
-use Rattle.wasm_parser.specs.ParseAnswer.{ParseAnswer}
+use Rattle.wasm_parser.specs.ParseAnswer.{IsPayload, report_of, is_end, said, refuses, ParseAnswer}
 use Rattle.wasm_parser.proofs.AnswerTables.{Answers, AsksFor, AnswersOn, as_table, answer_past, goes_on}
-use Rattle.wasm_parser.specs.ParserState.{ParserState, initial_state, ended_state, grammar_of}
-use Rattle.wasm_grammar.specs.Reading.{Report, stream_end, Event, tile_report, event_of, events_of, last_event, Reading}
-use Rattle.wasm_parser.specs.StateAfter.{state_after, state_after_tile}
+use Rattle.wasm_parser.specs.ParserState.{ParserState, initial_state, grammar_of}
+use Rattle.wasm_grammar.specs.Reading.{stream_end, Event, tile_report, event_of, events_of, last_event, Reading}
+use Rattle.wasm_parser.specs.StateAfter.{state_after_tile}
 use Rattle.wasm_grammar.specs.Tiling.{bytes_of, grammar}
 use Rattle.wasm_grammar.specs.Waiting.{Waiting, enough, wants, waiting}
 use Rattle.wasm_parser.specs.declared.payload.Payload.{Payload}
@@ -145,8 +142,8 @@ module _ (start features : ℕ) (given : List ℕ) (p : ParserState) (held : Lis
 -- the same bytes, parted twice
 split_same : (xs ys zs ws : List ℕ) → xs ++ ys ≡ zs ++ ws → length xs ≡ length zs → (xs ≡ zs) × (ys ≡ ws)
 split_same xs ys zs ws e n = (
-  sym (take_at xs ys (length xs) refl) ∙ (ap (take (length xs)) e ∙ take_at zs ws (length xs) (sym n)),
-  sym (drop_at xs ys (length xs) refl) ∙ (ap (drop (length xs)) e ∙ drop_at zs ws (length xs) (sym n)),
+  sym (take_at xs ys (length xs) refl) ∙ (grind (arith, take_at)),
+  sym (drop_at xs ys (length xs) refl) ∙ (grind (arith, drop_at)),
 )
 
 module _ (start features : ℕ) (given : List ℕ) (p : ParserState) (held : List ℕ) (events : List Event)
@@ -269,54 +266,28 @@ module _ (start features : ℕ) (given : List ℕ) (p : ParserState) (held : Lis
 
 -- ---- the same is answered
 
--- a parser that reported the end knows no more, but that no section is open
-again_at : (b : Bool) (p new other : ParserState) (eof : Bool) (held : List ℕ) (one two : Result Chunk Error)
-    → (to : ℕ) (r : Report) → b ≡ true → new ≡ cond b (ended_state p) (state_after p to r) → said one ≡ answer_to p eof held
-    → said two ≡ answer_to new eof held → SaysTheSame one two
-again_at true p new other eof held one two to r l s a b =
-    a ∙ sym (b ∙ ap (λ (x : ParserState). answer_to x eof held) s)
-again_at false p new other eof held one two to r l s a b = cc
-
 again : (p new other : ParserState) (eof : Bool) (held : List ℕ) (one two : Result Chunk Error) → is_last one ≡ true
     → ParseAnswer p eof held one new → ParseAnswer new eof held two other → SaysTheSame one two
 again p new other eof held (Ok (NeedMoreData hint)) two l a b = cc
-again p new other eof held (Ok (Parsed consumed payload)) two l a b =
-    again_at (is_end (report_of payload)) p new other eof held (Ok (Parsed consumed payload)) two (p.offset + consumed)
-    (report_of payload) l a.state a.answer b.answer
-again p new other eof held (Err e) two l a b =
-    a.answer ∙ sym (b.answer ∙ ap (λ (x : ParserState). answer_to x eof held) a.state)
+again p new other eof held (Ok (Parsed consumed payload)) two l a b = cc
+again p new other eof held (Err e) two l a b = cc
 
 -- ---- what callers lean on
 
 consumed : (start features : ℕ) (given : List ℕ) (p : ParserState) (held : List ℕ) (events : List Event)
     → Along start features given p held events → given ≡ consumed_by events ++ held
-consumed start features given p held events a =
-    a.whole ∙ ap (λ (x : List ℕ). x ++ held) (sym a.is_after.is_prefix
-    ∙ (sym (tiles_consume start features a.is_after.tiles) ∙ ap consumed_by (sym a.listed)))
+consumed start features given p held events a = grind (arith, tiles_consume)
 
 positive : (k : ℕ) → nat_eq k 0 ≡ false → 0 < k
-positive zero e = cc
-positive (suc k) e = omega arith
-
-below_by : (b : Bool) (p new : ParserState) (eof : Bool) (held : List ℕ) (chunk : Chunk) → nat_lt (p.offset + length held) (2 ^ 64) ≡ b
-    → ParseAnswer p eof held (Ok chunk) new → p.offset + length held < 2 ^ 64
-below_by true p new eof held chunk t a = ltb-true _ _ t
-below_by false p new eof held chunk t a = absurd ((as_table p new eof held (Ok chunk) a).past_the_top (ltb-false _ _ t))
+positive k e = grind arith
 
 below : (p new : ParserState) (eof : Bool) (held : List ℕ) (chunk : Chunk) → ParseAnswer p eof held (Ok chunk) new
     → p.offset + length held < 2 ^ 64
-below p new eof held chunk a = below_by (nat_lt (p.offset + length held) (2 ^ 64)) p new eof held chunk refl a
-
-asks_on : (p new : ParserState) (eof : Bool) (held : List ℕ) (hint : ℕ) (w : Waiting) → waiting (grammar_of p) held ≡ w
-    → AnswersOn eof w p (verdict (grammar_of p) held) (Ok (NeedMoreData hint)) new → IsUndecided p eof held hint
-asks_on p new true held hint w e a = absurd (asks_never p new hint (verdict (grammar_of p) held) a)
-asks_on p new false held hint enough e a = absurd (asks_never p new hint (verdict (grammar_of p) held) a)
-asks_on p new false held hint (wants need some) e a = (refl, (need, e ∙ ap (wants need) (sym a.0)))
+below p new eof held chunk a = grind arith
 
 asks : (p new : ParserState) (eof : Bool) (held : List ℕ) (hint : ℕ) → ParseAnswer p eof held (Ok (NeedMoreData hint)) new
     → IsUndecided p eof held hint
-asks p new eof held hint a = asks_on p new eof held hint (waiting (grammar_of p) held) refl
-    ((as_table p new eof held (Ok (NeedMoreData hint)) a).within (below p new eof held (NeedMoreData hint) a))
+asks p new eof held hint a = grind arith
 
 past_the_top : (p new : ParserState) (eof : Bool) (held : List ℕ) (answer : Result Chunk Error) → ParseAnswer p eof held answer new
     → 2 ^ 64 ≤ p.offset + length held → said answer ≡ refuses (at_offset OffsetRange p.offset)

@@ -1,27 +1,21 @@
 -- How far a call of the parser, and a walk over a whole stream, go.
-use Rattle.std.proofs.Common.{◌≡◌, ℕ, ◌+◌, ◌-◌, ◌<◌, ◌≤◌, ◌^◌, Bool, true, false, cond, List, ◌++◌, length, Some, Result, Ok, Err, nat_eq}
-use Rattle.std.proofs.Common.{nat_lt, ltb-true, ltb-false, refl, sym, ap, subst, ◌∙◌, arith, length-append, inl, inr}
-use Rattle.std.proofs.lemmas.Bool.Decides.{nat_tests}
+use Rattle.std.proofs.Common.{◌≡◌, ℕ, ◌+◌, ◌<◌, ◌≤◌, ◌^◌, Bool, true, false, cond, List, ◌++◌, length, Result, Ok, Err, nat_eq}
+use Rattle.std.proofs.Common.{nat_lt, ltb-false, refl, ap, ◌∙◌, arith, length-append, inl, inr}
 use Rattle.std.specs.Prelude.{◌⊎◌}
-use Rattle.wasm_base.specs.FaultAt.{FaultAt, at_offset}
 use Rattle.wasm_base.specs.declared.error.Error.{Error}
-use Rattle.wasm_base.specs.declared.fault.Fault.TheVariants.{OffsetRange}
-use Rattle.wasm_parser.specs.ParseAnswer.{report_of, is_end, Consumes, AsksForSome, IsRequest}
-use Rattle.wasm_parser.proofs.AnswerTables.{Answers, AsksFor, AnswersOn, IsFaultAlone, as_table, goes_on}
-use Rattle.wasm_parser.specs.ParseAnswer.{ParseAnswer, FaultsWithin, IsUnchanged, ItemsBegin}
-use Rattle.wasm_grammar.specs.Waiting.{Waiting, enough, wants, waiting}
-use Rattle.wasm_grammar.specs.Content.{custom, items, index, data_count, unknown, fault, ended}
-use Rattle.wasm_grammar.specs.Grammar.{Shape, version, section, code_start, code_entry, Tile, Verdict, tile, final, header_grammar, verdict}
-use Rattle.wasm_grammar.specs.Reading.{tile_report, custom_report}
+use Rattle.wasm_parser.specs.ParseAnswer.{report_of, is_end, Consumes, AsksForSome, IsRequest, ParseAnswer, FaultsWithin, IsUnchanged}
+use Rattle.wasm_parser.proofs.AnswerTables.{Answers, AsksFor, AnswersOn, as_table, goes_on}
+use Rattle.wasm_grammar.specs.Waiting.{Waiting, wants, waiting}
+use Rattle.wasm_grammar.specs.Content.{fault, ended}
+use Rattle.wasm_grammar.specs.Grammar.{Tile, Verdict, tile, final, header_grammar, verdict}
 use Rattle.wasm_parser.specs.ParserState.{ParserState, known_context, grammar_of}
 use Rattle.wasm_grammar.specs.Tiling.{inside}
 use Rattle.wasm_parser.specs.declared.payload.Payload.{Payload}
 use Rattle.wasm_parser.specs.declared.payload.Chunk.{Chunk}
 use Rattle.wasm_parser.specs.declared.payload.Chunk.TheVariants.{NeedMoreData, Parsed}
-use Rattle.wasm_base.specs.Name.{Name, named, refused, name_limit, name}
 use Rattle.wasm_parser.proofs.Bounds.{parser_fault_lies}
 use Rattle.wasm_grammar.proofs.parts.Verdicts.{Cut, verdict-cut, verdict-more}
-use Rattle.wasm_grammar.proofs.endings.Waiting.{Asks, waiting-asks, waiting-more}
+use Rattle.wasm_grammar.proofs.endings.Waiting.{waiting-asks, waiting-more}
 use Rattle.wasm_parser.proofs.Parsing.{answered}
 use Rattle.wasm_parser.specs.ParserLaws.{AnswersLast}
 use Rattle.wasm_grammar.proofs.parts.Guarded.{Guarded-header, Guarded-inside_at, least_header, least_inside}
@@ -37,24 +31,19 @@ pub record Takes (xs : List ℕ) (t : Tile) : Type 0 where
 takes_at : (h : Bool) (p : ParserState) (xs : List ℕ) (t : Tile)
     → verdict (cond h (header_grammar p.offset) (inside (known_context p) p.bodies p.code_bytes p.offset)) xs ≡ tile t → Takes xs t
 takes_at true p xs t e =
-    let c : Cut (header_grammar p.offset) xs t = verdict-cut (header_grammar p.offset) (Guarded-header p.offset) xs t e in
+    let c : Cut (header_grammar p.offset) xs t = search (verdict-cut, Guarded-header) in
     record { some = least_header p.offset xs t e; rest = c.rest; split = c.split }
 takes_at false p xs t e =
     let b : Bool = nat_eq (p.bodies + p.code_bytes) 0 in
     let c : Cut (inside (known_context p) p.bodies p.code_bytes p.offset) xs t =
-    verdict-cut (inside (known_context p) p.bodies p.code_bytes p.offset)
-    (Guarded-inside_at (nat_eq (p.bodies + p.code_bytes) 0) (known_context p) p.bodies p.code_bytes p.offset) xs t e in
-    record {
-      some = least_inside (nat_eq (p.bodies + p.code_bytes) 0) (known_context p) p.bodies p.code_bytes p.offset xs t e;
-      rest = c.rest;
-      split = c.split;
-    }
+    search (verdict-cut, Guarded-inside_at) in
+    search least_inside
 
 pub tile_takes : (p : ParserState) (xs : List ℕ) (t : Tile) → verdict (grammar_of p) xs ≡ tile t → Takes xs t
 tile_takes p xs t e = takes_at p.expects_header p xs t e
 
 not_zero : (n : ℕ) → 0 < n → nat_eq n 0 ≡ false
-not_zero n l = grind (arith, nat_tests)
+not_zero n l = grind arith
 
 -- ---- an answer, or a request
 
@@ -64,15 +53,9 @@ IsOn p eof rest r new =
     Answers p (verdict (grammar_of p) rest) r new ⊎ ((need : ℕ) × (hint : ℕ) × (waiting (grammar_of p) rest ≡ wants need hint)
     × AsksFor hint p r new)
 
-on_at : (p new : ParserState) (eof : Bool) (rest : List ℕ) (r : Result Chunk Error) (w : Waiting) → waiting (grammar_of p) rest ≡ w
-    → AnswersOn eof w p (verdict (grammar_of p) rest) r new → IsOn p eof rest r new
-on_at p new true rest r w e a = inl a
-on_at p new false rest r enough e a = inl a
-on_at p new false rest r (wants need hint) e a = inr (need, hint, e, a)
-
 pub is_on : (p new : ParserState) (eof : Bool) (rest : List ℕ) (r : Result Chunk Error)
     → AnswersOn eof (waiting (grammar_of p) rest) p (verdict (grammar_of p) rest) r new → IsOn p eof rest r new
-is_on p new eof rest r a = on_at p new eof rest r (waiting (grammar_of p) rest) refl a
+is_on p new eof rest r a = grind arith
 
 -- ---- what a call consumes
 
@@ -81,41 +64,24 @@ consumes_at : (p new : ParserState) (rest : List ℕ) (consumed : ℕ) (payload 
     → (consumed ≤ length rest) × (nat_eq consumed 0 ≡ is_end (report_of payload))
 consumes_at p new rest consumed payload (tile t) e a =
     let k : Takes rest t = tile_takes p rest t e in
-    let n : length rest ≡ length t.bytes + length k.rest = ap (λ (x : List ℕ). length x) k.split ∙ length-append t.bytes k.rest in (
-      omega (arith, a.0, n),
-      not_zero consumed (omega (arith, a.0, k.some)) ∙ sym (ap is_end a.1.0
-          ∙ goes_on p.features p.offset (p.offset + length t.bytes) t.shape),
-    )
+    let n : length rest ≡ length t.bytes + length k.rest = ap (λ (x : List ℕ). length x) k.split ∙ length-append t.bytes k.rest in
+    grind (arith, not_zero, goes_on)
 consumes_at p new rest consumed payload (final (fault f)) e a = absurd a
-consumes_at p new rest consumed payload (final (ended o)) e a = let z : consumed
-    ≡ 0 = a.0 in (omega (arith, z), ap (λ (n : ℕ). nat_eq n 0) z ∙ sym (ap is_end a.1.0))
+consumes_at p new rest consumed payload (final (ended o)) e a = grind arith
 
 -- what the answers of a parser consume
 consumes_any : (p new : ParserState) (rest : List ℕ) (r : Result Chunk Error) → Answers p (verdict (grammar_of p) rest) r new
     → Consumes rest r
-consumes_any p new rest (Ok (Parsed consumed payload)) a = consumes_at p new rest consumed payload (verdict (grammar_of p) rest) refl a
-consumes_any p new rest (Ok (NeedMoreData hint)) a = tt
-consumes_any p new rest (Err e) a = tt
-
-alone_consumes : (f : FaultAt) (p new : ParserState) (rest : List ℕ) (r : Result Chunk Error) → IsFaultAlone f p r new → Consumes rest r
-alone_consumes f p new rest (Ok chunk) a = absurd a
-alone_consumes f p new rest (Err e) a = tt
-
-asking_consumes : (hint : ℕ) (p new : ParserState) (rest : List ℕ) (r : Result Chunk Error) → AsksFor hint p r new → Consumes rest r
-asking_consumes hint p new rest (Ok (NeedMoreData asked)) a = tt
-asking_consumes hint p new rest (Ok (Parsed consumed payload)) a = absurd a
-asking_consumes hint p new rest (Err e) a = tt
+consumes_any p new rest r a = grind (arith, consumes_at)
 
 consumes_on : (p new : ParserState) (eof : Bool) (rest : List ℕ) (r : Result Chunk Error) → IsOn p eof rest r new → Consumes rest r
-consumes_on p new eof rest r (inl a) = consumes_any p new rest r a
-consumes_on p new eof rest r (inr a) = asking_consumes a.1 p new rest r a.3
+consumes_on p new eof rest r h = grind (arith, consumes_any)
 
 consumes_by : (b : Bool) (p new : ParserState) (eof : Bool) (rest : List ℕ) (r : Result Chunk Error)
     → nat_lt (p.offset + length rest) (2 ^ 64) ≡ b → ParseAnswer p eof rest r new → Consumes rest r
 consumes_by true p new eof rest r t h = consumes_on p new eof rest r
-    (is_on p new eof rest r ((as_table p new eof rest r h).within (ltb-true _ _ t)))
-consumes_by false p new eof rest r t h = alone_consumes (at_offset OffsetRange p.offset) p new rest r
-    ((as_table p new eof rest r h).past_the_top (ltb-false _ _ t))
+    (is_on p new eof rest r (grind (arith, as_table)))
+consumes_by false p new eof rest r t h = grind arith
 
 pub consumes : (p new : ParserState) (eof : Bool) (rest : List ℕ) (r : Result Chunk Error) → ParseAnswer p eof rest r new → Consumes rest r
 consumes p new eof rest r h = consumes_by (nat_lt (p.offset + length rest) (2 ^ 64)) p new eof rest r refl h
@@ -124,12 +90,7 @@ consumes p new eof rest r h = consumes_by (nat_lt (p.offset + length rest) (2 ^ 
 
 faults_at : (p new : ParserState) (rest : List ℕ) (e : Error) (v : Verdict) → verdict (grammar_of p) rest ≡ v → Answers p v (Err e) new
     → FaultsWithin p rest (Err e)
-faults_at p new rest e (tile t) q a = absurd a
-faults_at p new rest e (final (fault f)) q a =
-    let (l, m) = parser_fault_lies p rest f q in
-    let z = ap (λ (x : FaultAt). x.offset) a.0 in
-    (omega (arith, l, z), omega (arith, m, z))
-faults_at p new rest e (final (ended o)) q a = absurd a
+faults_at p new rest e v q a = grind (arith, parser_fault_lies)
 
 faults_on : (p new : ParserState) (eof : Bool) (rest : List ℕ) (e : Error) → IsOn p eof rest (Err e) new → FaultsWithin p rest (Err e)
 faults_on p new eof rest e (inl a) = faults_at p new rest e (verdict (grammar_of p) rest) refl a
@@ -139,11 +100,8 @@ faults_by : (b : Bool) (p new : ParserState) (eof : Bool) (rest : List ℕ) (r :
     → nat_lt (p.offset + length rest) (2 ^ 64) ≡ b → ParseAnswer p eof rest r new → FaultsWithin p rest r
 faults_by b p new eof rest (Ok chunk) t h = tt
 faults_by true p new eof rest (Err e) t h = faults_on p new eof rest e
-    (is_on p new eof rest (Err e) ((as_table p new eof rest (Err e) h).within (ltb-true _ _ t)))
-faults_by false p new eof rest (Err e) t h =
-    let a = (as_table p new eof rest (Err e) h).past_the_top (ltb-false _ _ t) in
-    let z = ap (λ (x : FaultAt). x.offset) a.0 in
-    (omega (arith, z), omega (arith, z))
+    (grind (arith, is_on, as_table))
+faults_by false p new eof rest (Err e) t h = grind arith
 
 pub faults_within : (p new : ParserState) (eof : Bool) (rest : List ℕ) (r : Result Chunk Error) → ParseAnswer p eof rest r new
     → FaultsWithin p rest r
@@ -152,32 +110,21 @@ faults_within p new eof rest r h = faults_by (nat_lt (p.offset + length rest) (2
 -- ---- what a fault or a request leaves
 
 pub asks_never : (p new : ParserState) (hint : ℕ) (v : Verdict) → Answers p v (Ok (NeedMoreData hint)) new → ⊥
-asks_never p new hint (tile t) a = a
-asks_never p new hint (final (fault f)) a = a
-asks_never p new hint (final (ended o)) a = a
+asks_never p new hint v a = grind arith
 
 pub unchanged : (p new : ParserState) (eof : Bool) (rest : List ℕ) (r : Result Chunk Error) → ParseAnswer p eof rest r new
     → IsUnchanged p r new
-unchanged p new eof rest (Ok (Parsed consumed payload)) h = tt
-unchanged p new eof rest (Ok (NeedMoreData hint)) h = h.state
-unchanged p new eof rest (Err e) h = h.state
+unchanged p new eof rest r h = grind arith
 
 -- ---- what a request asks for
 
 asks_on : (p new : ParserState) (eof : Bool) (rest : List ℕ) (r : Result Chunk Error) → IsOn p eof rest r new → AsksForSome r
-asks_on p new eof rest (Ok (Parsed consumed payload)) a = tt
-asks_on p new eof rest (Ok (NeedMoreData hint)) (inl a) = absurd (asks_never p new hint (verdict (grammar_of p) rest) a)
-asks_on p new eof rest (Ok (NeedMoreData hint)) (inr a) =
-    let k : Asks rest a.0 a.1 = waiting-asks (grammar_of p) rest a.0 a.1 a.2 in
-    let s = k.some in
-    let z : hint ≡ a.1 = a.3.0 in
-    omega (arith, s, z)
-asks_on p new eof rest (Err e) a = tt
+asks_on p new eof rest r a = grind (arith, waiting-asks)
 
 asks_by : (b : Bool) (p new : ParserState) (eof : Bool) (rest : List ℕ) (r : Result Chunk Error) → nat_lt (p.offset + length rest) (2 ^ 64)
     ≡ b → ParseAnswer p eof rest r new → AsksForSome r
 asks_by true p new eof rest r t h = asks_on p new eof rest r (is_on p new eof rest r
-    ((as_table p new eof rest r h).within (ltb-true _ _ t)))
+    (grind (arith, as_table)))
 asks_by false p new eof rest (Ok chunk) t h = absurd ((as_table p new eof rest (Ok chunk) h).past_the_top (ltb-false _ _ t))
 asks_by false p new eof rest (Err e) t h = tt
 
@@ -191,13 +138,9 @@ asks_for_some p new eof rest r h = asks_by (nat_lt (p.offset + length rest) (2 ^
 on_last : (p new : ParserState) (bytes more : List ℕ) (r : Result Chunk Error) (w : Waiting) → waiting (grammar_of p) bytes ≡ w
     → AnswersOn false w p (verdict (grammar_of p) bytes) r new → ¬ IsRequest r → p.offset + length (bytes ++ more) < 2 ^ 64
     → (eof : Bool) → ParseAnswer p eof (bytes ++ more) r new
-on_last p new bytes more r enough e a n l eof = answered p eof (bytes ++ more) r new l (waiting-more (grammar_of p) bytes more e)
-    (subst (λ (v : Verdict). Answers p v r new) (sym (verdict-more (grammar_of p) bytes more e)) a)
-on_last p new bytes more (Ok (NeedMoreData asked)) (wants need hint) e a n l eof = absurd (n tt)
-on_last p new bytes more (Ok (Parsed consumed payload)) (wants need hint) e a n l eof = absurd a
-on_last p new bytes more (Err x) (wants need hint) e a n l eof = absurd a
+on_last p new bytes more r w e a n l eof = grind (arith, answered, waiting-more, verdict-more)
 
 pub answers_last : AnswersLast
 answers_last p new bytes more r h n l eof =
     let m = length-append bytes more in
-    on_last p new bytes more r (waiting (grammar_of p) bytes) refl ((as_table p new false bytes r h).within (omega (arith, l, m))) n l eof
+    on_last p new bytes more r (waiting (grammar_of p) bytes) refl (grind (arith, as_table)) n l eof

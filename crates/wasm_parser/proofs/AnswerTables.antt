@@ -1,20 +1,17 @@
 -- An answer by what comes next and by what the parser answers: the equation of `ParseAnswer`, case by case.
-use Rattle.std.proofs.Common.{◌≡◌, ℕ, ◌+◌, ◌-◌, ◌^◌, ◌<◌, ◌≤◌, Bool, true, false, cond, List, length, Some, Result, Ok, Err}
+use Rattle.std.proofs.Common.{◌≡◌, ℕ, ◌+◌, ◌^◌, ◌<◌, ◌≤◌, Bool, true, false, cond, List, length, Result, Ok, Err}
 use Rattle.std.proofs.Common.{nat_lt, ltb-true, ltb-false, refl, sym, ap, ◌∙◌, arith}
-use Rattle.std.proofs.lemmas.Bool.Decides.{nat_tests}
 use Rattle.wasm_base.specs.FaultAt.{FaultAt, fault_at, at_offset}
-use Rattle.wasm_base.specs.Name.{Name, named, refused, name_limit, name}
 use Rattle.wasm_base.specs.declared.error.Error.{Error}
 use Rattle.wasm_base.specs.declared.fault.Fault.TheVariants.{OffsetRange}
-use Rattle.wasm_grammar.specs.Content.{custom, items, index, data_count, unknown, fault, ended}
-use Rattle.wasm_grammar.specs.Grammar.{Shape, version, section, code_start, code_entry, Tile, Verdict, tile, final, verdict}
-use Rattle.wasm_grammar.specs.Reading.{Report, stream_end, tile_report, custom_report}
+use Rattle.wasm_grammar.specs.Content.{fault, ended}
+use Rattle.wasm_grammar.specs.Grammar.{Shape, Verdict, tile, final, verdict}
+use Rattle.wasm_grammar.specs.Reading.{Report, stream_end, tile_report}
 use Rattle.wasm_grammar.specs.Waiting.{Waiting, enough, wants, waiting}
 use Rattle.wasm_parser.specs.ParseAnswer.{Answer, asks, reports, refuses, said, answer_by, answer_in_time, answer_to}
 use Rattle.wasm_parser.specs.ParseAnswer.{state_after_answer, AnswerBegins, IsPayload, ParseAnswer, report_of, is_end}
 use Rattle.wasm_parser.specs.ParserState.{ParserState, ended_state, grammar_of}
 use Rattle.wasm_parser.specs.StateAfter.{state_after, state_after_tile}
-use Rattle.wasm_parser.specs.declared.payload.Payload.{Payload}
 use Rattle.wasm_parser.specs.declared.payload.Chunk.{Chunk}
 use Rattle.wasm_parser.specs.declared.payload.Chunk.TheVariants.{NeedMoreData, Parsed}
 
@@ -23,16 +20,13 @@ use Rattle.wasm_parser.specs.declared.payload.Chunk.TheVariants.{NeedMoreData, P
 -- The parser answers what comes next, and has passed it; at a fault it stays, and at the end of the stream it is at the
 -- end.
 abbrev pub Answers : ParserState → Verdict → Result Chunk Error → ParserState → Type 0
-Answers old v (Ok (NeedMoreData hint)) new = ⊥
 Answers old (tile t) (Ok (Parsed consumed payload)) new =
     (consumed ≡ length t.bytes) × IsPayload (tile_report old.features old.offset (old.offset + length t.bytes) t.shape)
     payload × (new ≡ state_after_tile old t)
-Answers old (tile t) (Err e) new = ⊥
 Answers old (final (ended offset)) (Ok (Parsed consumed payload)) new = (consumed ≡ 0)
     × IsPayload (stream_end (ended offset)) payload × (new ≡ ended_state old)
-Answers old (final (fault f)) (Ok (Parsed consumed payload)) new = ⊥
 Answers old (final (fault f)) (Err e) new = (fault_at e ≡ f) × (new ≡ old)
-Answers old (final (ended offset)) (Err e) new = ⊥
+Answers old _ _ new = ⊥
 
 -- an answer that is this fault and changes nothing
 abbrev pub IsFaultAlone : FaultAt → ParserState → Result Chunk Error → ParserState → Type 0
@@ -42,15 +36,13 @@ IsFaultAlone f old (Err e) new = (fault_at e ≡ f) × (new ≡ old)
 -- More bytes are asked for, about so many, and nothing changes.
 abbrev pub AsksFor : (hint : ℕ) → ParserState → Result Chunk Error → ParserState → Type 0
 AsksFor hint old (Ok (NeedMoreData asked)) new = (asked ≡ hint) × (new ≡ old)
-AsksFor hint old (Ok (Parsed consumed payload)) new = ⊥
-AsksFor hint old (Err e) new = ⊥
+AsksFor hint old _ new = ⊥
 
 -- At the end of the stream the parser answers what comes next. Where more bytes may come it does so exactly if those
 -- that are there decide it, and otherwise asks for more.
 abbrev pub AnswersOn : (eof : Bool) → Waiting → ParserState → Verdict → Result Chunk Error → ParserState → Type 0
-AnswersOn true w old v result new = Answers old v result new
-AnswersOn false enough old v result new = Answers old v result new
 AnswersOn false (wants need hint) old v result new = AsksFor hint old result new
+AnswersOn _ _ old v result new = Answers old v result new
 
 -- both cases of an answer: bytes that pass the top, and others
 pub record AnswersAsTable (old : ParserState) (eof : Bool) (rest : List ℕ) (result : Result Chunk Error)
@@ -61,20 +53,8 @@ pub record AnswersAsTable (old : ParserState) (eof : Bool) (rest : List ℕ) (re
 
 -- ---- what is reported of a tile is no end
 
-custom_goes_on : (features from to : ℕ) (content : List ℕ) (n : Name) → is_end (custom_report features from to content n) ≡ false
-custom_goes_on features from to content (named text used) = refl
-custom_goes_on features from to content (refused f place) = refl
-
 pub goes_on : (features from to : ℕ) (shape : Shape) → is_end (tile_report features from to shape) ≡ false
-goes_on features from to (version num encoding) = refl
-goes_on features from to (section items id content) = refl
-goes_on features from to (section index id content) = refl
-goes_on features from to (section data_count id content) = refl
-goes_on features from to (section custom id content) = custom_goes_on features (to - length content) to content
-    (name (Some name_limit) content)
-goes_on features from to (section unknown id content) = refl
-goes_on features from to (code_start count width size) = refl
-goes_on features from to (code_entry content) = refl
+goes_on features from to shape = grind arith
 
 -- ---- from the equation to the table
 
@@ -129,20 +109,14 @@ module _ (p new : ParserState) where
   on_table false enough v r a i s = by_verdict r v a i s
   on_table false (wants need hint) v r a i s = by_asking hint r a s
 
-below_top : (n : ℕ) → n < 2 ^ 64 → nat_lt n (2 ^ 64) ≡ true
-below_top n l = grind (arith, nat_tests)
-
-past_top : (n : ℕ) → 2 ^ 64 ≤ n → nat_lt n (2 ^ 64) ≡ false
-past_top n l = grind (arith, nat_tests)
-
 -- the answer below the top, and past it
 answer_below : (p : ParserState) (eof : Bool) (rest : List ℕ) → p.offset + length rest < 2 ^ 64 → answer_to p eof rest
     ≡ answer_in_time eof (waiting (grammar_of p) rest) (answer_by p (verdict (grammar_of p) rest))
-answer_below p eof rest l = rw (below_top (p.offset + length rest) l) refl
+answer_below p eof rest l = grind arith
 
 pub answer_past : (p : ParserState) (eof : Bool) (rest : List ℕ) → 2 ^ 64 ≤ p.offset + length rest → answer_to p eof rest
     ≡ refuses (at_offset OffsetRange p.offset)
-answer_past p eof rest l = rw (past_top (p.offset + length rest) l) refl
+answer_past p eof rest l = grind arith
 
 pub as_table : (p new : ParserState) (eof : Bool) (rest : List ℕ) (r : Result Chunk Error) → ParseAnswer p eof rest r new
     → AnswersAsTable p eof rest r new

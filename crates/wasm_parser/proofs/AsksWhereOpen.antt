@@ -1,9 +1,7 @@
 -- A parser asks for more exactly where streams differ.
-use Rattle.std.proofs.Common.{◌≡◌, ◌≢◌, ℕ, ◌+◌, ◌^◌, ◌<◌, Bool, false, List, [], ◌∷◌, ◌++◌, length, Result, Ok, Err, sym, ap, subst, ◌∙◌}
-use Rattle.std.proofs.Common.{arith, length-append}
+use Rattle.std.proofs.Common.{◌≡◌, ℕ, ◌+◌, ◌^◌, ◌<◌, Bool, false, List, ◌++◌, length, Result, sym, arith, length-append}
 use Rattle.wasm_base.specs.declared.error.Error.{Error}
-use Rattle.wasm_grammar.specs.Content.{fault, ended}
-use Rattle.wasm_grammar.specs.Grammar.{Verdict, tile, final, Grammar, verdict}
+use Rattle.wasm_grammar.specs.Grammar.{Verdict, verdict}
 use Rattle.wasm_parser.specs.ParseAnswer.{IsRequest, ParseAnswer}
 use Rattle.wasm_parser.proofs.AnswerTables.{Answers, AsksFor, AnswersOn, as_table}
 use Rattle.wasm_parser.specs.ParserState.{ParserState, IsStateAfter, grammar_of}
@@ -13,37 +11,25 @@ use Rattle.wasm_grammar.specs.Undecided.{TwoStreams}
 use Rattle.wasm_parser.specs.AsksWhereOpen.{AsksWhereOpen}
 use Rattle.wasm_grammar.specs.Waiting.{Waiting, enough, wants, waiting}
 use Rattle.wasm_parser.specs.declared.payload.Chunk.{Chunk}
-use Rattle.wasm_parser.specs.declared.payload.Chunk.TheVariants.{NeedMoreData, Parsed}
 use Rattle.wasm_parser.proofs.StateLaws.{grammar_same}
-use Rattle.wasm_grammar.proofs.endings.Undecided.{enough_is_decided, other_comes, two_streams}
+use Rattle.wasm_grammar.proofs.endings.Undecided.{enough_is_decided, two_streams}
 
 -- an answer is no request
 no_request : (p new : ParserState) (v : Verdict) (r : Result Chunk Error) → Answers p v r new → IsRequest r → ⊥
-no_request p new (tile t) (Ok (NeedMoreData hint)) a q = a
-no_request p new (final (fault f)) (Ok (NeedMoreData hint)) a q = a
-no_request p new (final (ended o)) (Ok (NeedMoreData hint)) a q = a
-no_request p new v (Ok (Parsed consumed payload)) a q = q
-no_request p new v (Err e) a q = q
+no_request p new v r a q = grind arith
 
 request : (hint : ℕ) (p new : ParserState) (r : Result Chunk Error) → AsksFor hint p r new → IsRequest r
-request hint p new (Ok (NeedMoreData asked)) a = tt
-request hint p new (Ok (Parsed consumed payload)) a = absurd a
-request hint p new (Err e) a = absurd a
+request hint p new r a = grind arith
 
 asks_at : (p new : ParserState) (start : ℕ) (front came : List ℕ) (r : Result Chunk Error) (s : IsStateAfter p start front)
     → Stream (front ++ came) start → start + length (front ++ came) + 2 ^ 33 < 2 ^ 64
     → (w : Waiting) → waiting (grammar start s.tiles) came ≡ w → AnswersOn false w p (verdict (grammar_of p) came) r new
     → (IsRequest r → TwoStreams start p.features front came) × (TwoStreams start p.features front came → IsRequest r)
 asks_at p new start front came r s t l enough w a = (
-  λ q. absurd (no_request p new (verdict (grammar_of p) came) r a q),
-  λ two. absurd (two.differ (enough_is_decided start front came s.tiles (s.faultless, s.is_prefix) w two.one two.other p.features two.event
-      two.other_event two.comes two.other_comes)),
+  λ q. absurd (grind (arith, no_request)),
+  λ two. absurd (two.differ (search enough_is_decided)),
 )
-asks_at p new start front came r s t l (wants need hint) w a = (
-  λ q.
-      two_streams start p.features s.tiles front came need hint (s.faultless, s.is_prefix) w t l,
-  λ two. request hint p new r a,
-)
+asks_at p new start front came r s t l (wants need hint) w a = grind (arith, two_streams)
 
 pub asks_where_open : (p new : ParserState) (eof : Bool) (came : List ℕ) (r : Result Chunk Error) → ParseAnswer p eof came r new
     → AsksWhereOpen p eof came r
@@ -51,7 +37,6 @@ asks_where_open p new eof came r h e start front s t l =
     let o : p.offset ≡ start + length front = s.offset in
     let n : length (front ++ came) ≡ length front + length came = length-append front came in
     let a : AnswersOn false (waiting (grammar_of p) came) p (verdict (grammar_of p) came) r new =
-    subst (λ (b : Bool). AnswersOn b (waiting (grammar_of p) came) p (verdict (grammar_of p) came) r new) e
-    ((as_table p new eof came r h).within (omega (arith, o, n, l))) in
+    grind (arith, AnswersOn, as_table) in
     asks_at p new start front came r s t l (waiting (grammar_of p) came)
-    (ap (λ (g : Grammar). waiting g came) (sym (grammar_same p start front s))) a
+    (rw (sym (grammar_same p start front s))) a

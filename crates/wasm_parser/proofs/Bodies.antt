@@ -1,6 +1,6 @@
 -- What is in a code section: its head and its bodies.
-use Rattle.std.proofs.Common.{◌≡◌, ℕ, zero, suc, ◌+◌, ◌-◌, ◌<◌, ◌≤◌, Bool, true, false, not, ◌&&◌, ◌||◌, length, take, drop, option_to_list}
-use Rattle.std.proofs.Common.{Some, None, Result, Ok, Err, nat_lt, nat_eq, refl, sym, ap, subst, ◌∙◌, arith, lt-ltb, le-ltb}
+use Rattle.std.proofs.Common.{◌≡◌, ℕ, zero, suc, ◌+◌, ◌-◌, ◌<◌, ◌≤◌, Bool, true, false, not, ◌&&◌, length, take, drop, option_to_list}
+use Rattle.std.proofs.Common.{Some, None, Result, Ok, Err, nat_lt, nat_eq, refl, sym, ap, subst, ◌∙◌, arith, le-ltb}
 use Rattle.std.proofs.lemmas.List.{length-take-le}
 use Rattle.std.specs.List.{list_all, list_any}
 use Rattle.wasm_base.specs.FaultAt.{FaultAt, fault_at, hint_of, at_offset}
@@ -44,9 +44,8 @@ code_short context size p q count e a h l f hint =
     let m : ReadNumber p count q = read_number p count q h in
     let o : q.offset ≡ p.offset + m.used = ap (λ (x : Place). x.offset) m.after in
     let w : when (nat_lt size m.used) (at_offset UnexpectedEof p.offset)
-    ≡ Some (fault_at e) = rw (lt-ltb size m.used (omega arith)) (ap Some (sym f)) in
-    λ s. report_number s p p.offset (counted_grammar context p.offset size) (Err e) a count m.used m.reads
-    (report_wrong s (advanced m.used p) (when (nat_lt size m.used) (at_offset UnexpectedEof p.offset)) _ e a w hint)
+    ≡ Some (fault_at e) = grind arith in
+    search (report_number, report_wrong)
 
 -- a count that lies in the section, and that of the functions
 counted_right : (context : SectionContext) (size : ℕ) (p q : Place) (count : ℕ) (r : Result Payload Error) (a : Place)
@@ -54,10 +53,9 @@ counted_right : (context : SectionContext) (size : ℕ) (p q : Place) (count : �
     → ((s : ℕ) → MatchesGrammar s (advanced m.used p) (check (wrong_count context p.offset count)
     (accept (Grammar.code_start count m.used (size - m.used)))) r a) → ReadsByGrammar (code_grammar context p.offset size) p r a
 counted_right context size p q count r a m l next =
-    let o : q.offset ≡ p.offset + m.used = ap (λ (x : Place). x.offset) m.after in
+    let o : q.offset ≡ p.offset + m.used = rw m.after in
     let w : when (nat_lt size m.used) (at_offset UnexpectedEof p.offset) ≡ None = rw (le-ltb size m.used (omega arith)) refl in
-    λ s. report_number s p p.offset (counted_grammar context p.offset size) r a count m.used m.reads
-    (report_right s (advanced m.used p) (when (nat_lt size m.used) (at_offset UnexpectedEof p.offset)) _ r a w (next s))
+    search (report_number, report_right)
 
 pub code_wrong : (context : SectionContext) (size : ℕ) (p q : Place) (count : ℕ) (e : Error) (a : Place) → unsigned_at VarU32 p
     ≡ Ok (count, q) → q.offset ≤ p.offset + size → wrong_count context p.offset count ≡ Some (fault_at e)
@@ -79,34 +77,24 @@ code_read context size p q count payload h l w report =
     let to : p.offset + size ≡ p.offset + m.used + (size - m.used) = omega arith in
     let code_bytes : p.offset + size - q.offset ≡ size - m.used = omega arith in
     let said : IsPayload (code_start count (p.offset + m.used - m.used) (p.offset + m.used + (size - m.used)) (size - m.used)) payload =
-    (report.0 ∙ (λ i. code_start count (from i) (to i) (code_bytes i)), report.1) in
+    grind arith in
     counted_right context size p q count (Ok payload) q m l (λ s.
     report_right s (advanced m.used p) (wrong_count context p.offset count) _ (Ok payload) q w
-    (report_whole s (advanced m.used p) (Grammar.code_start count m.used (size - m.used)) payload q m.after said))
+    (search report_whole))
 
 -- what is wrong with a count, by two tests
 pub counts_differ : (context : SectionContext) (offset count : ℕ) (f : FaultAt) → true ≡ not (list_all (nat_eq count) context.functions) → f
     ≡ at_offset FunctionCodeDiffer offset → wrong_count context offset count ≡ Some f
 counts_differ context offset count f d e = rw (← d) (ap Some (sym e))
 
--- one count that is above 0
-any_one : (b : Bool) → (b || false) ≡ b
-any_one true = refl
-any_one false = refl
-
-lacks_one : (context : SectionContext) (count : ℕ) (b : Bool) → b
-    ≡ (list_any (nat_lt 0) (option_to_list (Some count)) && nat_eq (length context.functions) 0) → b
-    ≡ (nat_lt 0 count && nat_eq (length context.functions) 0)
-lacks_one context count b e = e ∙ ap (λ (x : Bool). x && nat_eq (length context.functions) 0) (any_one (nat_lt 0 count))
-
 pub no_function : (context : SectionContext) (offset count : ℕ) (f : FaultAt) → false ≡ not (list_all (nat_eq count) context.functions)
     → true ≡ (list_any (nat_lt 0) (option_to_list (Some count)) && nat_eq (length context.functions) 0)
     → f ≡ at_offset CodeWithoutFunction offset → wrong_count context offset count ≡ Some f
-no_function context offset count f d n e = rw (← d, ← lacks_one context count true n) (ap Some (sym e))
+no_function context offset count f d n e = grind arith
 
 pub right_count : (context : SectionContext) (offset count : ℕ) → false ≡ not (list_all (nat_eq count) context.functions) → false
     ≡ (list_any (nat_lt 0) (option_to_list (Some count)) && nat_eq (length context.functions) 0) → wrong_count context offset count ≡ None
-right_count context offset count d n = rw (← d, ← lacks_one context count false n) refl
+right_count context offset count d n = grind arith
 
 -- ---- a body
 
@@ -114,8 +102,7 @@ right_count context offset count d n = rw (← d, ← lacks_one context count fa
 a_body : (bodies code_bytes offset : ℕ) → 0 < bodies → body_grammar bodies code_bytes offset
     ≡ u32_field offset (λ size width. body_of offset code_bytes size width)
 unfolding body_grammar
-a_body zero code_bytes offset l = absurd (omega arith)
-a_body (suc n) code_bytes offset l = refl
+a_body bodies code_bytes offset l = grind arith
 
 body_there : (bodies code_bytes : ℕ) (p : Place) (r : Result Payload Error) (a : Place) → 0 < bodies
     → ReadsByGrammar (u32_field p.offset (λ size width. body_of p.offset code_bytes size width)) p r a
@@ -133,8 +120,7 @@ no_body_left (suc n) code_bytes p e a z f hint = absurd (omega arith)
 pub body_no_size : (bodies code_bytes : ℕ) (p : Place) (e : Error) (a : Place) → 0 < bodies → unsigned_at VarU32 p ≡ Err (fault_at e)
     → hint_of e
     ≡ hint_at 1 (fault_at e).fault → ReadsByGrammar (body_grammar bodies code_bytes p.offset) p (Err e) a
-body_no_size bodies code_bytes p e a l h hint = body_there bodies code_bytes p (Err e) a l
-    (λ s. report_no_number s p (λ size width. body_of p.offset code_bytes size width) e a h hint)
+body_no_size bodies code_bytes p e a l h hint = search (body_there, report_no_number)
 
 -- after a size, by whether the body passes its section
 body_sized : (bodies code_bytes : ℕ) (p q : Place) (size : ℕ) (past : Bool) (r : Result Payload Error) (a : Place) (m : ReadNumber p size q)
@@ -143,9 +129,9 @@ body_sized : (bodies code_bytes : ℕ) (p q : Place) (size : ℕ) (past : Bool) 
     (bytes size (p.offset + m.used) (λ content. accept (Grammar.code_entry content)))) r a)
     → ReadsByGrammar (body_grammar bodies code_bytes p.offset) p r a
 body_sized bodies code_bytes p q size past r a m l h next =
-    let o : q.offset ≡ p.offset + m.used = ap (λ (x : Place). x.offset) m.after in
+    let o : q.offset ≡ p.offset + m.used = rw m.after in
     let n : q.offset - p.offset + size ≡ m.used + size = omega arith in
-    let w : nat_lt code_bytes (m.used + size) ≡ past = subst (λ (x : ℕ). nat_lt code_bytes x ≡ past) n h in
+    let w : nat_lt code_bytes (m.used + size) ≡ past = rw n at h in
     body_there bodies code_bytes p r a l
     (λ s. report_number s p p.offset (λ size width. body_of p.offset code_bytes size width) r a size m.used m.reads
     (rw w (next s)))
@@ -174,10 +160,10 @@ pub body_missing : (bodies code_bytes : ℕ) (p q : Place) (size : ℕ) (e : Err
     → ReadsByGrammar (body_grammar bodies code_bytes p.offset) p (Err e) a
 body_missing bodies code_bytes p q size e a l h past c hint =
     let m : ReadNumber p size q = read_number p size q h in
-    let t = too_few size (advanced m.used p) (fault_at e) (subst (λ (x : Place). content_at size x ≡ Err (fault_at e)) m.after c) in
+    let t = too_few size (advanced m.used p) (fault_at e) (cc) in
     body_sized bodies code_bytes p q size false (Err e) a m l past (λ s. report_right s (advanced m.used p) None _ (Err e) a refl (
     report_missing s (advanced m.used p) size (p.offset + m.used) _ e a t.0 t.1
-    (subst (λ (x : Place). hint_of e ≡ hint_at (missing_at size x) (fault_at e).fault) m.after hint)))
+    (cc)))
 
 -- the bytes after its size, and where they end
 body_content : (p q : Place) (size : ℕ) (w : Window) (b : Place) (m : ReadNumber p size q) → content_at size q ≡ Ok (w, b)
@@ -196,11 +182,6 @@ body_read bodies code_bytes p q size w b payload l h past k report =
     let n : length (take size (drop m.used p.rest)) ≡ size = length-take-le size (drop m.used p.rest) c.there in
     let from : p.offset + m.used ≡ p.offset + m.used + size - length (take size (drop m.used p.rest)) = omega arith in
     let said : IsPayload (code_entry (window_over p.features (p.offset + m.used + size - length (take size (drop m.used p.rest)))
-    (take size (drop m.used p.rest)))) payload = (
-      report.0 ∙ (ap code_entry c.window ∙ ap (λ (x : ℕ). code_entry (window_over p.features x (take size (drop m.used p.rest)))) from),
-      report.1,
-    ) in
+    (take size (drop m.used p.rest)))) payload = grind arith in
     body_sized bodies code_bytes p q size false (Ok payload) b m l past
-    (λ s. report_right s (advanced m.used p) None _ (Ok payload) b refl (
-    report_bytes s (advanced m.used p) size (p.offset + m.used) _ (Ok payload) b c.there (
-    report_whole s (advanced size (advanced m.used p)) (Grammar.code_entry (take size (drop m.used p.rest))) payload b c.after said)))
+    (λ s. report_right s (advanced m.used p) None _ (Ok payload) b refl (search (report_bytes, report_whole)))

@@ -1,13 +1,12 @@
 -- Where the faults lie that a parser answers.
-use Rattle.std.proofs.Common.{◌≡◌, ℕ, ◌+◌, ◌<◌, ◌≤◌, ◌&&◌, List, [], ◌∷◌, length, nat_eq, ◌∙◌}
+use Rattle.std.proofs.Common.{◌≡◌, ℕ, ◌+◌, List, length}
 use Rattle.wasm_base.specs.FaultAt.{FaultAt}
 use Rattle.wasm_grammar.specs.Content.{fault}
 use Rattle.wasm_grammar.specs.Grammar.{final, verdict}
-use Rattle.wasm_parser.specs.ParserState.{ParserState, known_context, grammar_of}
+use Rattle.wasm_parser.specs.ParserState.{ParserState, grammar_of}
 use Rattle.wasm_grammar.proofs.parts.Bounds.{Between, verdict_lies, Within-any}
 
 -- the same of a parser, wherever it is
 pub parser_fault_lies : (p : ParserState) (rest : List ℕ) (f : FaultAt) → verdict (grammar_of p) rest ≡ final (fault f)
     → Between p.offset (p.offset + length rest) f.offset
-parser_fault_lies p rest f v = verdict_lies p.offset p.offset (grammar_of p) rest f
-    (Within-any p.expects_header (nat_eq (p.bodies + p.code_bytes) 0) (known_context p) p.bodies p.code_bytes p.offset) v
+parser_fault_lies p rest f v = search (verdict_lies, Within-any)

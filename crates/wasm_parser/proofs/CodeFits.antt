@@ -1,26 +1,22 @@
 -- A code section that is begun ends below the top of the offsets.
-use Rattle.std.proofs.Common.{◌≡◌, ℕ, zero, suc, ◌+◌, ◌-◌, ◌^◌, ◌<◌, ◌≤◌, Bool, true, false, cond, List, [], ◌∷◌, ◌++◌, length, take, drop}
-use Rattle.std.proofs.Common.{Option, Some, None, nat_lt, nat_le, refl, sym, subst, arith, length-append, ltb-false, leb-true}
+use Rattle.std.proofs.Common.{◌≡◌, ℕ, ◌+◌, ◌^◌, ◌<◌, Bool, true, false, cond, List, [], ◌∷◌, ◌++◌, length, take, drop}
+use Rattle.std.proofs.Common.{None, nat_le, refl, arith, length-append, leb-true}
 use Rattle.std.proofs.lemmas.List.{length-take-le}
-use Rattle.wasm_base.specs.FaultAt.{FaultAt}
-use Rattle.wasm_base.specs.Number.{Number, read, bad, short, number}
+use Rattle.wasm_base.specs.Number.{Number, read, number}
 use Rattle.wasm_base.specs.declared.fault.NumberKind.TheVariants.{VarU32}
 use Rattle.wasm_base.proofs.NumberLaws.{Used, number-used}
-use Rattle.wasm_grammar.specs.Content.{Kind, code, kind_of, whole, Ending, when}
-use Rattle.wasm_grammar.specs.Grammar.{Shape, version, section, code_start, code_entry, Tile, Verdict, tile, final, Grammar, accept, reject}
-use Rattle.wasm_grammar.specs.Grammar.{check, u32_field, bytes, section_start, after, after_number, verdict, SectionContext, header_of}
-use Rattle.wasm_grammar.specs.Grammar.{header_grammar, content_grammar, section_grammar, body_grammar}
+use Rattle.wasm_grammar.specs.Content.{Ending}
+use Rattle.wasm_grammar.specs.Grammar.{Shape, code_start, Tile, Verdict, tile, final, Grammar, accept, reject}
+use Rattle.wasm_grammar.specs.Grammar.{check, u32_field, bytes, section_start, after, after_number, verdict, SectionContext}
+use Rattle.wasm_grammar.specs.Grammar.{header_grammar, section_grammar, body_grammar}
 use Rattle.wasm_parser.specs.ParserState.{ParserState, known_context, grammar_of}
 use Rattle.wasm_grammar.specs.Tiling.{inside}
-use Rattle.wasm_grammar.specs.declared.encoding.Encoding.{Encoding}
 use Rattle.wasm_grammar.proofs.parts.Verdicts.{after-tile}
 
 -- The section that a tile begins and that goes on here ends below the top.
 abbrev pub Fits : (here : ℕ) → Shape → Type 0
 Fits here (code_start count width size) = here + size < 2 ^ 64
-Fits here (code_entry content) = Unit {0}
-Fits here (version num encoding) = Unit {0}
-Fits here (section form id content) = Unit {0}
+Fits here _ = Unit {0}
 
 -- the same of every tile of a grammar, so many bytes of which were passed
 abbrev AllFit : (here : ℕ) → Grammar → Type 0
@@ -36,16 +32,15 @@ fits_after : (here k : ℕ) (f : List ℕ) (v : Verdict) (t : Tile) → length f
 fits_after here k f v t l h e =
     let (s, r, q) = after-tile f v t e in
     let n : here + k + length s.bytes ≡ here + length (f ++ s.bytes) = omega (arith, l, length-append f s.bytes) in
-    subst (λ (x : Tile). Fits (here + length x.bytes) x.shape) (sym q) (subst (λ (x : ℕ). Fits x s.shape) n (h s r))
+    grind arith
 
 fits_number : (here o : ℕ) (xs : List ℕ) (next : ℕ → ℕ → Verdict) (t : Tile)
     → ((v k : ℕ) (s : Tile) → next v k ≡ tile s → Fits (here + k + length s.bytes) s.shape)
     → (n : Number) → number VarU32 xs ≡ n → after_number o xs n next ≡ tile t → Fits (here + length t.bytes) t.shape
 fits_number here o xs next t h (read v k) e w =
     let u : Used VarU32 xs v k = number-used VarU32 xs v k e in
-    fits_after here k (take k xs) (next v k) t (length-take-le k xs u.there) (h v k) w
-fits_number here o xs next t h (bad f p) e w = cc
-fits_number here o xs next t h short e w = cc
+    search (fits_after, length-take-le)
+fits_number here o xs next t h _ e w = cc
 
 fits_bytes : (here count : ℕ) (xs : List ℕ) (v : Verdict) (e : Ending) (t : Tile)
     → ((s : Tile) → v ≡ tile s → Fits (here + count + length s.bytes) s.shape)
@@ -55,66 +50,38 @@ fits_bytes here count xs v e t h false l w = cc
 
 fits_start : (here id : ℕ) (v : Verdict) (e : Ending) (t : Tile) → ((s : Tile) → v ≡ tile s → Fits (here + 1 + length s.bytes) s.shape)
     → (b : Bool) → cond b (final e) (after (id ∷ []) v) ≡ tile t → Fits (here + length t.bytes) t.shape
-fits_start here id v e t h true w = cc
-fits_start here id v e t h false w = fits_after here 1 (id ∷ []) v t refl h w
-
-fits_here : (here : ℕ) (s : Shape) (t : Tile) → Fits here s → tile (record { shape = s; bytes = [] }) ≡ tile t
-    → Fits (here + length t.bytes) t.shape
-fits_here here s t h e =
-    let z : record { shape = s; bytes = [] } ≡ t = cc in
-    let n : here ≡ here + 0 = omega arith in
-    subst (λ (x : Tile). Fits (here + length x.bytes) x.shape) z (subst (λ (x : ℕ). Fits x s) n h)
+fits_start here id v e t s b w = grind arith
 
 all_fit : (here : ℕ) (g : Grammar) → AllFit here g → (xs : List ℕ) (t : Tile) → verdict g xs ≡ tile t → Fits (here + length t.bytes) t.shape
 unfolding verdict
-all_fit here (accept s) h xs t e = fits_here here s t h e
-all_fit here (reject x) h xs t e = cc
-all_fit here (check (Some x) next) h xs t e = cc
+all_fit here (accept s) h xs t e = grind arith
 all_fit here (check None next) h xs t e = all_fit here next (h refl) xs t e
 all_fit here (u32_field o next) h xs t e = fits_number here o xs (λ v k. verdict (next v k) (drop k xs)) t
     (λ v k s. all_fit (here + k) (next v k) (h v k) (drop k xs) s) (number VarU32 xs) refl e
 all_fit here (bytes count o next) h xs t e = fits_bytes here count xs (verdict (next (take count xs)) (drop count xs)) _ t
     (λ s. all_fit (here + count) (next (take count xs)) (h (take count xs)) (drop count xs) s) (nat_le count (length xs)) refl e
-all_fit here (section_start o x next) h [] t e = cc
 all_fit here (section_start o x next) h (id ∷ xs) t e = fits_start here id (verdict (next id) xs) _ t
     (λ s. all_fit (here + 1) (next id) (h id) xs s) _ e
-
-no_fault : (b : Bool) (f : FaultAt) → when b f ≡ None → b ≡ false
-no_fault true f e = cc
-no_fault false f e = refl
-
-content_fits : (p : SectionContext) (kind : Kind) (id o n : ℕ) → o + n ≤ 2 ^ 64 - 1 → AllFit o (content_grammar p kind id o n)
-content_fits p (whole form) id o n l = λ b x y. tt
-content_fits p code id o n l = λ v k x y.
-    let m : k ≤ n = ltb-false n k (no_fault (nat_lt n k) _ x) in
-    omega arith
+all_fit here _ h _ t e = cc
 
 section_fits : (p : SectionContext) (o : ℕ) → AllFit o (section_grammar p o)
 unfolding section_grammar
-section_fits p o = λ id x n k y z. content_fits p (kind_of p.encoding id) id (o + 1 + k) n
-    (ltb-false (2 ^ 64 - 1) (o + 1 + k + n) (no_fault (nat_lt (2 ^ 64 - 1) (o + 1 + k + n)) _ y))
-
-header_of_fits : (here o bits : ℕ) (e : Option Encoding) → AllFit here (header_of o bits e)
-header_of_fits here o bits (Some encoding) = tt
-header_of_fits here o bits None = tt
+section_fits p o = grind arith
 
 header_fits : (o : ℕ) → AllFit o (header_grammar o)
 unfolding header_grammar
-header_fits o = λ a x b. header_of_fits (o + 4 + 4) o _ _
+header_fits o = grind arith
 
 body_fits : (m l o : ℕ) → AllFit o (body_grammar m l o)
 unfolding body_grammar
-body_fits zero l o = tt
-body_fits (suc m) l o = λ v k b x. tt
+body_fits m l o = grind arith
 
 inside_fits : (b : Bool) (p : SectionContext) (m l o : ℕ) → AllFit o (cond b (section_grammar p o) (body_grammar m l o))
-inside_fits true p m l o = section_fits p o
-inside_fits false p m l o = body_fits m l o
+inside_fits b p m l o = grind (arith, section_fits, body_fits)
 
 parser_fits : (h : Bool) (p : ParserState) → AllFit p.offset (cond h (header_grammar p.offset)
     (inside (known_context p) p.bodies p.code_bytes p.offset))
-parser_fits true p = header_fits p.offset
-parser_fits false p = inside_fits _ (known_context p) p.bodies p.code_bytes p.offset
+parser_fits h p = grind (arith, header_fits, inside_fits)
 
 -- what a tile begins that comes next ends below the top
 pub tile_fits : (p : ParserState) (xs : List ℕ) (t : Tile) → verdict (grammar_of p) xs ≡ tile t → Fits (p.offset + length t.bytes) t.shape

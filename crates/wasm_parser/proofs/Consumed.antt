@@ -44,5 +44,5 @@ end_consumes_all stream start features events offset r =
     let end : r.end ≡ ended offset = same_end r.end (ended offset) (ap (λ (e : Event). e.report) (sym same)) in
     let none : r.reads.rest ≡ [] = rest_is_none start r.tiles r.reads.rest offset (r.reads.stops ∙ ap final end) in
     let joined : consumed_by events ≡ bytes_of r.tiles = sym (last_consumes events (ended offset))
-    ∙ (ap consumed_by r.listed ∙ (last_consumes all r.end ∙ tiles_consume start features r.tiles)) in
+    ∙ (ap consumed_by r.listed ∙ (search (last_consumes, tiles_consume))) in
     r.reads.whole ∙ (ap (λ (x : List ℕ). bytes_of r.tiles ++ x) none ∙ (append-nil (bytes_of r.tiles) ∙ sym joined))

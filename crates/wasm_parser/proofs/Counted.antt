@@ -1,54 +1,27 @@
 -- Contents that are one number, or begin with a count.
-use Rattle.std.proofs.Common.{◌≡◌, ℕ, ◌+◌, ◌<◌, Bool, true, false, List, length, take, drop, Option, Some, None, IfSome, Result, Ok, Err}
-use Rattle.std.proofs.Common.{nat_lt, nat_eq, refl, sym, ap, subst, ◌∙◌, arith, add-zero, lt-ltb, le-ltb, length-drop}
-use Rattle.std.proofs.lemmas.Bool.Decides.{nat_tests}
+use Rattle.std.proofs.Common.{◌≡◌, ℕ, ◌+◌, ◌<◌, Bool, true, false, List, length, take, drop, Some, None, Ok, Err}
+use Rattle.std.proofs.Common.{nat_lt, nat_eq, refl, sym, ap, subst, ◌∙◌, arith, lt-ltb, le-ltb, length-drop}
 use Rattle.std.proofs.lemmas.List.{length-take-le}
 use Rattle.wasm_base.specs.FaultAt.{FaultAt, fault_at, hint_of, at_offset}
-use Rattle.wasm_base.specs.Number.{Number, read, bad, short, number, in_window, unsigned_at}
+use Rattle.wasm_base.specs.Number.{Number, read, number, in_window, unsigned_at}
 use Rattle.wasm_base.specs.Section.{Section}
 use Rattle.wasm_base.specs.Window.{Window, Place, place, advanced, window_over}
 use Rattle.wasm_base.specs.declared.error.Error.{Error}
 use Rattle.wasm_base.specs.declared.fault.Fault.{Fault}
-use Rattle.wasm_base.specs.declared.fault.Fault.TheVariants.{UnexpectedEof, StartContent, DataCountContent, DataCountDiffer}
+use Rattle.wasm_base.specs.declared.fault.Fault.TheVariants.{StartContent, DataCountContent, DataCountDiffer}
 use Rattle.wasm_base.specs.declared.fault.NumberKind.TheVariants.{VarU32}
-use Rattle.wasm_parser.specs.ParseAnswer.{unread, counted_by, report_of, BeginsAfterCount, items_in, ItemsBegin, IsPayload, ReadsByGrammar}
+use Rattle.wasm_parser.specs.ParseAnswer.{counted_by, report_of, BeginsAfterCount, ItemsBegin, IsPayload, ReadsByGrammar}
 use Rattle.wasm_grammar.specs.Content.{items, index, data_count, wrong_number, wrong_single, when, wrong_content, value_of, count_of, Form}
-use Rattle.wasm_parser.specs.ReadsPart.{content_at, ReadsSingleNumber, IsCounted, IsCountedAs, ReadsCounted, is_miscounted_by}
+use Rattle.wasm_parser.specs.ReadsPart.{content_at, ReadsSingleNumber, IsCounted, ReadsCounted, is_miscounted_by}
 use Rattle.wasm_grammar.specs.Grammar.{SectionContext, whole_grammar, wrong_data}
 use Rattle.wasm_grammar.specs.Reading.{Report, counted, start_section, data_count_section, section_report}
 use Rattle.wasm_parser.specs.declared.payload.Payload.{Payload}
-use Rattle.wasm_parser.specs.declared.payload.Payload.TheVariants.{Version, TypeSection, ImportSection, FunctionSection, TableSection}
-use Rattle.wasm_parser.specs.declared.payload.Payload.TheVariants.{MemorySection, TagSection, GlobalSection, ExportSection, StartSection}
-use Rattle.wasm_parser.specs.declared.payload.Payload.TheVariants.{ElementSection, DataCountSection, DataSection, CodeSectionStart}
-use Rattle.wasm_parser.specs.declared.payload.Payload.TheVariants.{CodeSectionEntry, CustomSection, UnknownSection, End}
 use Rattle.wasm_parser.proofs.Framed.{HasContent, has_content, whole_good, whole_bad, whole_miscounted}
-use Rattle.wasm_grammar.specs.Ids.{data_id, element_id, export_id, function_id, global_id, import_id, memory_id}
-use Rattle.wasm_grammar.specs.Ids.{table_id, tag_id, type_id}
 
 -- ---- numbers
 
--- the fault of a number that is not read
-refused_as : (f g : FaultAt) → (let a : Result (ℕ × Place) FaultAt = Err f in a) ≡ Err g → f ≡ g
-refused_as f g e = cc
-
 number_refused : (p : Place) (f : FaultAt) (n : Number) → in_window p n ≡ Err f → wrong_number p.offset p.rest n ≡ Some f
-number_refused p f (read v k) h = cc
-number_refused p f (bad g i) h = ap Some (refused_as (at_offset g (p.offset + i)) f h)
-number_refused p f short h = ap Some (refused_as (at_offset UnexpectedEof (p.offset + length p.rest)) f h)
-
-number_good : (p : Place) (v : ℕ) (q : Place) (n : Number) → in_window p n ≡ Ok (v, q) → (wrong_number p.offset p.rest n ≡ None)
-    × (value_of n ≡ v)
-number_good p v q (read w k) h =
-    let z : (w, advanced k p) ≡ (v, q) = cc in
-    (refl, ap (λ (x : ℕ × Place). x.0) z)
-number_good p v q (bad f i) h = cc
-number_good p v q short h = cc
-
-single_unread : (trailing : Fault) (p : Place) (f : FaultAt) (n : Number) → in_window p n ≡ Err f
-    → wrong_single trailing p.offset p.rest n ≡ Some f
-single_unread trailing p f (read v k) h = cc
-single_unread trailing p f (bad g i) h = ap Some (refused_as (at_offset g (p.offset + i)) f h)
-single_unread trailing p f short h = ap Some (refused_as (at_offset UnexpectedEof (p.offset + length p.rest)) f h)
+number_refused p f n h = grind arith
 
 single_good : (trailing : Fault) (p : Place) (v : ℕ) (q : Place) (n : Number) → in_window p n ≡ Ok (v, q) → length q.rest ≡ 0
     → (wrong_single trailing p.offset p.rest n ≡ None) × (value_of n ≡ v)
@@ -58,8 +31,7 @@ single_good trailing p v q (read w k) h l =
     let r : length (drop k p.rest) ≡ length q.rest = ap (λ (x : ℕ × Place). length x.1.rest) z in
     let t : nat_lt k (length p.rest) ≡ false = le-ltb k (length p.rest) (omega (arith, length-drop k p.rest)) in
     (rw t refl, ap (λ (x : ℕ × Place). x.0) z)
-single_good trailing p v q (bad f i) h l = cc
-single_good trailing p v q short h l = cc
+single_good trailing p v q _ h l = cc
 
 single_more : (trailing : Fault) (p : Place) (v : ℕ) (q : Place) (f : FaultAt) (n : Number) → in_window p n ≡ Ok (v, q) → 0 < length q.rest
     → f
@@ -70,19 +42,18 @@ single_more trailing p v q f (read w k) h l e =
     let r : length (drop k p.rest) ≡ length q.rest = ap (λ (x : ℕ × Place). length x.1.rest) z in
     let o : p.offset + k ≡ q.offset = ap (λ (x : ℕ × Place). x.1.offset) z in
     let t : nat_lt k (length p.rest) ≡ true = lt-ltb k (length p.rest) (omega (arith, length-drop k p.rest)) in
-    rw t (ap Some (ap (at_offset trailing) o ∙ sym e))
-single_more trailing p v q f (bad g i) h l e = cc
-single_more trailing p v q f short h l e = cc
+    cc
+single_more trailing p v q f _ h l e = cc
 
 -- ---- what a call that wants one number answers
 
 pub single_refused : (trailing : Fault) (p : Place) (f : FaultAt) → unsigned_at VarU32 p ≡ Err f
     → wrong_single trailing p.offset p.rest (number VarU32 p.rest) ≡ Some f
 unfolding unsigned_at
-single_refused trailing p f h = single_unread trailing p f (number VarU32 p.rest) h
+single_refused trailing p f h = grind arith
 
 not_zero : (n : ℕ) → false ≡ nat_eq n 0 → 0 < n
-not_zero n e = grind (arith, nat_tests)
+not_zero n e = grind arith
 
 pub single_trailing : (trailing : Fault) (p : Place) (v : ℕ) (q : Place) (e : Error) → unsigned_at VarU32 p ≡ Ok (v, q) → false
     ≡ nat_eq (length q.rest) 0 → fault_at e ≡ at_offset trailing q.offset → ReadsSingleNumber trailing p (Err e)
@@ -101,61 +72,19 @@ abbrev content_place : ℕ → Place → Place
 content_place size p = record { features = p.features; offset = p.offset; rest = take size p.rest }
 
 at_content : (size : ℕ) (p : Place) (w : Window) → w ≡ window_over p.features p.offset (take size p.rest) → place w ≡ content_place size p
-at_content size p w e =
-    let o : p.offset + 0 ≡ p.offset = add-zero p.offset in
-    let z : place (window_over p.features p.offset (take size p.rest))
-    ≡ content_place size p = λ i. record { features = p.features; offset = o i; rest = take size p.rest } in
-    ap place e ∙ z
+at_content size p w e = grind arith
 
 -- a number that was read of the whole window
 count_read : (size : ℕ) (p : Place) (w : Window) (q : Place) (v : ℕ) (after : Place) → content_at size p ≡ Ok (w, q)
     → unsigned_at VarU32 (place w) ≡ Ok (v, after)
     → (wrong_content items p.offset (take size p.rest) ≡ None) × (count_of (take size p.rest) ≡ v)
 unfolding unsigned_at wrong_content
-count_read size p w q v after h n =
-    let k : HasContent size p w q = has_content size p w q h in
-    number_good (content_place size p) v after (number VarU32 (take size p.rest))
-    (subst (λ (x : Place). in_window x (number VarU32 x.rest) ≡ Ok (v, after)) (at_content size p w k.window) n)
+count_read size p w q v after h n = grind (arith, has_content)
 
 -- what is reported of a section with this id that was made of the window
 report_counted : (id size : ℕ) (p : Place) (w : Window) (q : Place) (s : Section) → content_at size p ≡ Ok (w, q) → IsCounted w s
     → (counted_by id s ≡ counted id (count_of (take size p.rest)) (window_over p.features p.offset (take size p.rest))) × BeginsAfterCount s
-report_counted id size p w q s h n =
-    let k : HasContent size p w q = has_content size p w q h in
-    let g = count_read size p w q s.count (place s.reader) h n.gives in
-    let f : s.reader.features ≡ p.features = n.keeps.features ∙ ap (λ (x : Window). x.features) k.window in
-    let o : s.reader.start ≡ p.offset = n.keeps.start ∙ ap (λ (x : Window). x.start) k.window in
-    let b : s.reader.bytes ≡ take size p.rest = n.keeps.bytes ∙ ap (λ (x : Window). x.bytes) k.window in
-    let same : w ≡ unread s.reader = k.window ∙ (λ i. record { features = sym f i; start = sym o i; bytes = sym b i; position = 0 }) in (
-      λ i. counted id (sym g.1 i) (record { features = f i; start = o i; bytes = b i; position = 0 }),
-      subst (λ (x : Window). unsigned_at VarU32 (place x) ≡ Ok (s.count, place s.reader)) same n.gives,
-    )
-
-same_items : (id : ℕ) (s : Section) (x : ℕ × Section) → Some (id, s) ≡ Some x → counted_by id s ≡ counted_by x.0 x.1
-same_items id s x e =
-    let z : (id, s) ≡ x = cc in
-    λ i. counted_by (z i).0 (z i).1
-
--- what a payload reports that holds this section
-given_reports : (payload : Payload) (x : ℕ × Section) → items_in payload ≡ Some x → report_of payload ≡ counted_by x.0 x.1
-given_reports (TypeSection s) x e = same_items type_id s x e
-given_reports (ImportSection s) x e = same_items import_id s x e
-given_reports (FunctionSection s) x e = same_items function_id s x e
-given_reports (TableSection s) x e = same_items table_id s x e
-given_reports (MemorySection s) x e = same_items memory_id s x e
-given_reports (TagSection s) x e = same_items tag_id s x e
-given_reports (GlobalSection s) x e = same_items global_id s x e
-given_reports (ExportSection s) x e = same_items export_id s x e
-given_reports (ElementSection s) x e = same_items element_id s x e
-given_reports (DataSection s) x e = same_items data_id s x e
-given_reports (Version encoding num range) x e = cc
-given_reports (StartSection func range) x e = cc
-given_reports (DataCountSection count range) x e = cc
-given_reports (CodeSectionStart count size unchecked_range) x e = cc
-given_reports (CodeSectionEntry body) x e = cc
-given_reports (CustomSection s) x e = cc
-given_reports (UnknownSection id contents range) x e = cc
-given_reports (End at) x e = cc
+report_counted id size p w q s h n = grind (arith, has_content, count_read)
 
 -- a payload that holds a section with this id, made of the window
 pub record HoldsItems (id : ℕ) (w : Window) (payload : Payload) : Type 0 where
@@ -164,26 +93,14 @@ pub record HoldsItems (id : ℕ) (w : Window) (payload : Payload) : Type 0 where
   pub report : report_of payload ≡ counted_by id s
   pub begins : BeginsAfterCount s → ItemsBegin payload
 
-holds_at : (id : ℕ) (w : Window) (payload : Payload) (o : Option (ℕ × Section)) → items_in payload ≡ o → IsCountedAs id w o
-    → HoldsItems id w payload
-holds_at id w payload None e c = absurd c
-holds_at id w payload (Some x) e c = record {
-  s = x.1;
-  counted = c.1;
-  report = given_reports payload x e ∙ ap (λ (i : ℕ). counted_by i x.1) c.0;
-  begins = λ b. subst (λ (o : Option (ℕ × Section)). IfSome o (λ y. BeginsAfterCount y.1)) (sym e) b;
-}
-
 holds_items : (id : ℕ) (w : Window) (payload : Payload) → ReadsCounted id w (Ok payload) → HoldsItems id w payload
-holds_items id w payload c = holds_at id w payload (items_in payload) refl c
+holds_items id w payload c = grind arith
 
 -- the data that was announced
 data_wrong : (context : SectionContext) (id end : ℕ) (content : List ℕ) (s : Section) (report : Report) (b : Bool) → report
     ≡ counted_by id s → count_of content ≡ s.count → b ≡ is_miscounted_by context.data_counts report
     → wrong_data context items id end content ≡ when b (at_offset DataCountDiffer end)
-data_wrong context id end content s report b t c m =
-    let x : b ≡ is_miscounted_by context.data_counts (counted_by id s) = m ∙ ap (is_miscounted_by context.data_counts) t in
-    rw (x, c) refl
+data_wrong context id end content s report b t c m = cc
 
 -- a section of items whose count was read
 pub items_read : (context : SectionContext) (id size : ℕ) (p : Place) (w : Window) (q : Place) (payload : Payload) → content_at size p
@@ -193,8 +110,7 @@ items_read context id size p w q payload h n m =
     let i : HoldsItems id w payload = holds_items id w payload n in
     let g = count_read size p w q i.s.count (place i.s.reader) h i.counted.gives in
     let t = report_counted id size p w q i.s h i.counted in
-    whole_good context items id size p w q payload h g.0 (data_wrong context id (p.offset + size) (take size p.rest) i.s (report_of payload)
-    false i.report g.1 m) (i.report ∙ t.0, i.begins t.1)
+    grind (arith, whole_good, data_wrong)
 
 -- one whose count is not the one that was announced
 pub items_miscounted : (context : SectionContext) (id size : ℕ) (p : Place) (w : Window) (q : Place) (payload : Payload) (e : Error)
@@ -206,9 +122,9 @@ items_miscounted context id size p w q payload e a h n m f hint =
     let i : HoldsItems id w payload = holds_items id w payload n in
     let k : HasContent size p w q = has_content size p w q h in
     let g = count_read size p w q i.s.count (place i.s.reader) h i.counted.gives in
-    let o : q.offset ≡ p.offset + size = ap (λ (x : Place). x.offset) k.after in
+    let o : q.offset ≡ p.offset + size = rw k.after in
     let d = data_wrong context id (p.offset + size) (take size p.rest) i.s (report_of payload) true i.report g.1 m in
-    whole_miscounted context items id size p w q e a h g.0 (d ∙ ap Some (sym (f ∙ ap (at_offset DataCountDiffer) o))) hint
+    whole_miscounted context items id size p w q e a h g.0 (cc) hint
 
 -- one whose count was refused
 pub items_refused : (context : SectionContext) (id size : ℕ) (p : Place) (w : Window) (q : Place) (e : Error) (a : Place)
@@ -218,8 +134,7 @@ unfolding unsigned_at wrong_content
 items_refused context id size p w q e a h n hint =
     let k : HasContent size p w q = has_content size p w q h in
     let at : place w ≡ content_place size p = at_content size p w k.window in
-    whole_bad context items id size p w q e a h (number_refused (content_place size p) (fault_at e) (number VarU32 (take size p.rest))
-    (subst (λ (x : Place). in_window x (number VarU32 x.rest) ≡ Err (fault_at e)) at n)) hint
+    whole_bad context items id size p w q e a h (grind (arith, number_refused)) hint
 
 -- a form whose content is one number: what is wrong with it, and what is reported of it
 pub record IsSingle (trailing : Fault) (form : Form) (says : (value from to : ℕ) → Report) : Type 0 where

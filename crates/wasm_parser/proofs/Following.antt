@@ -1,16 +1,15 @@
 -- What a call of a parser says of the reading of a stream.
-use Rattle.std.proofs.Common.{◌≡◌, ℕ, ◌+◌, ◌<◌, ◌≤◌, Bool, true, false, cond, nat_eq, List, [], ◌∷◌, ◌++◌, length, take, Result, Ok, Err}
+use Rattle.std.proofs.Common.{◌≡◌, ℕ, ◌+◌, ◌≤◌, Bool, true, false, cond, nat_eq, List, [], ◌∷◌, ◌++◌, length, take, Result, Ok, Err}
 use Rattle.std.proofs.Common.{refl, sym, ap, subst, subst₂, ◌∙◌, arith, length-append, append-nil, inl, inr}
-use Rattle.std.proofs.lemmas.Bool.{eqb-true}
 use Rattle.std.proofs.lemmas.List.{take_at}
 use Rattle.std.specs.Prelude.{◌⊎◌}
 use Rattle.wasm_base.specs.declared.error.Error.{Error}
 use Rattle.wasm_base.specs.FaultAt.{FaultAt}
-use Rattle.wasm_parser.specs.ParseAnswer.{IsPayload, ParseAnswer}
-use Rattle.wasm_parser.proofs.AnswerTables.{Answers, AsksFor, AnswersOn, as_table}
+use Rattle.wasm_parser.specs.ParseAnswer.{ParseAnswer}
+use Rattle.wasm_parser.proofs.AnswerTables.{Answers, AnswersOn, as_table}
 use Rattle.wasm_grammar.specs.Content.{Ending, fault, ended}
-use Rattle.wasm_grammar.specs.Grammar.{Tile, Verdict, tile, final, Grammar, verdict, header_grammar, section_grammar, body_grammar}
-use Rattle.wasm_grammar.specs.Reading.{Event, stream_end, tile_report, event_of, last_event, Reading}
+use Rattle.wasm_grammar.specs.Grammar.{Tile, Verdict, tile, final, verdict, header_grammar, section_grammar, body_grammar}
+use Rattle.wasm_grammar.specs.Reading.{Event, stream_end, event_of, last_event, Reading}
 use Rattle.wasm_grammar.specs.EventRanges.{consumed_by}
 use Rattle.wasm_parser.specs.ParserState.{ParserState, IsStateAfter, known_context, grammar_of, ended_state}
 use Rattle.wasm_parser.specs.ParserLaws.{SomeNextEvent}
@@ -19,7 +18,7 @@ use Rattle.wasm_parser.specs.GivesNextEvent.{MayBe, GivesEvent, GivesNextEvent}
 use Rattle.wasm_grammar.specs.Tiling.{bytes_of, grammar}
 use Rattle.wasm_grammar.specs.Waiting.{Waiting, enough, wants, waiting}
 use Rattle.wasm_parser.specs.declared.payload.Chunk.{Chunk}
-use Rattle.wasm_parser.specs.declared.payload.Chunk.TheVariants.{NeedMoreData, Parsed}
+use Rattle.wasm_parser.specs.declared.payload.Chunk.TheVariants.{Parsed}
 use Rattle.wasm_grammar.proofs.readings.Endings.{header_end, inside_end}
 use Rattle.wasm_grammar.proofs.parts.Verdicts.{verdict-more}
 use Rattle.wasm_grammar.proofs.readings.Readings.{Grown, grows}
@@ -31,34 +30,25 @@ next_is : (p : ParserState) (start : ℕ) (prefix rest : List ℕ) (s : IsStateA
     ≡ v → (before later : List Event) (e : Event) → Reading (prefix ++ rest) start p.features (before ++ e ∷ later)
     → consumed_by before ≡ prefix → e ≡ event_at start p.features s.tiles v
 next_is p start prefix rest s v q before later e r c =
-    comes_next start p.features s.tiles rest v s.faultless (subst (λ (g : Grammar). verdict g rest ≡ v) (grammar_same p start prefix s) q)
+    comes_next start p.features s.tiles rest v s.faultless (rw (grammar_same p start prefix s) at q)
     before later e
-    (subst (λ (x : List ℕ). Reading (x ++ rest) start p.features (before ++ e ∷ later)) (sym s.is_prefix) r) (c ∙ sym s.is_prefix)
+    (grind arith) (c ∙ sym s.is_prefix)
 
 -- what was answered says it
 gives_tile : (p new : ParserState) (eof : Bool) (start : ℕ) (prefix bytes : List ℕ) (s : IsStateAfter p start prefix) (t : Tile)
     → verdict (grammar_of p) bytes ≡ tile t → (r : Result Chunk Error) → Answers p (tile t) r new
     → GivesEvent (event_of p.features (start + length (bytes_of s.tiles)) t) p eof start prefix bytes r new
-gives_tile p new eof start prefix bytes s t v (Ok (NeedMoreData hint)) a = absurd a
 gives_tile p new eof start prefix bytes s t v (Ok (Parsed consumed payload)) a =
-    let o : p.offset ≡ start + length (bytes_of s.tiles) = s.offset ∙ ap (λ (x : List ℕ). start + length x) (sym s.is_prefix) in
-    let v' : verdict (grammar start s.tiles) bytes ≡ tile t = subst (λ (g : Grammar). verdict g bytes ≡ tile t)
-    (grammar_same p start prefix s) v in
-    let g : Grown start s.tiles bytes t = grows start s.tiles bytes t s.faultless v' in (
-      subst (λ (o : ℕ). IsPayload (tile_report p.features o (o + length t.bytes) t.shape) payload) o a.1,
-      a.0,
-      subst₂ (λ (n : ℕ) (x : List ℕ). take n x ≡ t.bytes) (sym a.0) (sym g.split) (take_at t.bytes g.rest (length t.bytes) refl),
-      subst (λ (q : ParserState). IsStateAfter q start (prefix ++ t.bytes)) (sym a.2) (state_goes_on p start prefix s bytes t v),
-      ap (λ (q : ParserState). q.features) a.2,
-    )
-gives_tile p new eof start prefix bytes s t v (Err e) a = absurd a
+    let o : p.offset ≡ start + length (bytes_of s.tiles) = cc in
+    let v' : verdict (grammar start s.tiles) bytes ≡ tile t = rw (grammar_same p start prefix s) at v in
+    let g : Grown start s.tiles bytes t = grows start s.tiles bytes t s.faultless v' in grind (arith, take_at, state_goes_on)
+gives_tile p new eof start prefix bytes s t v _ a = absurd a
 
 -- where a stream ends nothing of a code section is left
 ended_at : (h b : Bool) (p : ParserState) (bytes : List ℕ) (o : ℕ) → nat_eq (p.bodies + p.code_bytes) 0 ≡ b
     → verdict (cond h (header_grammar p.offset) (cond b (section_grammar (known_context p) p.offset)
     (body_grammar p.bodies p.code_bytes p.offset))) bytes ≡ final (ended o) → p.bodies + p.code_bytes ≡ 0
-ended_at true b p bytes o n v = absurd (header_end p.offset bytes o v)
-ended_at false b p bytes o n v = eqb-true _ _ (n ∙ (inside_end b (known_context p) p.bodies p.code_bytes p.offset bytes o v).0)
+ended_at h b p bytes o n v = grind (arith, header_end, inside_end)
 
 ended_code : (p : ParserState) (bytes : List ℕ) (o : ℕ) → verdict (grammar_of p) bytes ≡ final (ended o) → p.bodies + p.code_bytes ≡ 0
 ended_code p bytes o v = ended_at p.expects_header (nat_eq (p.bodies + p.code_bytes) 0) p bytes o refl v
@@ -87,19 +77,16 @@ at_the_end p start prefix s z = record {
 gives_last : (p new : ParserState) (eof : Bool) (start : ℕ) (prefix bytes : List ℕ) → IsStateAfter p start prefix → (end : Ending)
     → verdict (grammar_of p) bytes ≡ final end → (r : Result Chunk Error) → Answers p (final end) r new
     → GivesEvent (last_event end) p eof start prefix bytes r new
-gives_last p new eof start prefix bytes s (fault f) v (Ok (NeedMoreData hint)) a = absurd a
-gives_last p new eof start prefix bytes s (ended o) v (Ok (NeedMoreData hint)) a = absurd a
-gives_last p new eof start prefix bytes s (fault f) v (Ok (Parsed consumed payload)) a = absurd a
 gives_last p new eof start prefix bytes s (ended o) v (Ok (Parsed consumed payload)) a = (
   a.1,
   a.0,
   subst (λ (n : ℕ). take n bytes ≡ []) (sym a.0) refl,
   subst₂ (λ (q : ParserState) (x : List ℕ). IsStateAfter q start x) (sym a.2) (sym (append-nil prefix))
-      (at_the_end p start prefix s (ended_code p bytes o v)),
+      (search (at_the_end, ended_code)),
   ap (λ (q : ParserState). q.features) a.2,
 )
 gives_last p new eof start prefix bytes s (fault f) v (Err e) a = (ap (λ (x : FaultAt). stream_end (fault x)) (sym a.0), refl, a.1)
-gives_last p new eof start prefix bytes s (ended o) v (Err e) a = absurd a
+gives_last p new eof start prefix bytes s _ v _ a = absurd a
 
 -- on all the rest of a stream
 gives_at : (p new : ParserState) (eof : Bool) (start : ℕ) (prefix bytes rest : List ℕ) (s : IsStateAfter p start prefix)
@@ -107,11 +94,9 @@ gives_at : (p new : ParserState) (eof : Bool) (start : ℕ) (prefix bytes rest :
     → (before later : List Event) (e : Event) → Reading (prefix ++ rest) start p.features (before ++ e ∷ later) → consumed_by before
     ≡ prefix → GivesEvent e p eof start prefix bytes r new
 gives_at p new eof start prefix bytes rest s r (tile t) u q a before later e reading c =
-    subst (λ (x : Event). GivesEvent x p eof start prefix bytes r new)
-    (sym (next_is p start prefix rest s (tile t) q before later e reading c)) (gives_tile p new eof start prefix bytes s t u r a)
+    rw (next_is p start prefix rest s (tile t) q before later e reading c) (gives_tile p new eof start prefix bytes s t u r a)
 gives_at p new eof start prefix bytes rest s r (final end) u q a before later e reading c =
-    subst (λ (x : Event). GivesEvent x p eof start prefix bytes r new)
-    (sym (next_is p start prefix rest s (final end) q before later e reading c)) (gives_last p new eof start prefix bytes s end u r a)
+    rw (next_is p start prefix rest s (final end) q before later e reading c) (gives_last p new eof start prefix bytes s end u r a)
 
 -- the event that comes next in every stream that these bytes may be the first of
 record IsNext (p : ParserState) (eof : Bool) (start : ℕ) (prefix bytes rest : List ℕ) (e : Event) : Type 0 where
@@ -125,9 +110,7 @@ record IsNext (p : ParserState) (eof : Bool) (start : ℕ) (prefix bytes rest : 
 -- what bytes decide is what it is in the whole
 decides_rest : (p : ParserState) (eof : Bool) (bytes rest : List ℕ) → MayBe eof bytes rest → (eof ≡ true)
     ⊎ (waiting (grammar_of p) bytes ≡ enough) → verdict (grammar_of p) rest ≡ verdict (grammar_of p) bytes
-decides_rest p true bytes rest m d = ap (verdict (grammar_of p)) m
-decides_rest p false bytes rest m (inl e) = cc
-decides_rest p false bytes rest m (inr w) = ap (verdict (grammar_of p)) m.1 ∙ verdict-more (grammar_of p) bytes m.0 w
+decides_rest p eof bytes rest m d = grind (arith, verdict-more)
 
 gives_decided : (p new : ParserState) (eof : Bool) (start : ℕ) (prefix bytes rest : List ℕ) (e : Event)
     (n : IsNext p eof start prefix bytes rest e) (r : Result Chunk Error) → (eof ≡ true) ⊎ (waiting (grammar_of p) bytes ≡ enough)
@@ -136,19 +119,13 @@ gives_decided p new eof start prefix bytes rest e n r d a =
     gives_at p new eof start prefix bytes rest n.s r (verdict (grammar_of p) bytes) refl (decides_rest p eof bytes rest n.may_be d) a
     n.before n.later e n.reading n.consumed
 
-gives_asked : (p new : ParserState) (start : ℕ) (prefix bytes : List ℕ) (e : Event) (need hint : ℕ) → waiting (grammar_of p) bytes
-    ≡ wants need hint → (r : Result Chunk Error) → AsksFor hint p r new → GivesEvent e p false start prefix bytes r new
-gives_asked p new start prefix bytes e need hint w (Ok (NeedMoreData asked)) a = ((refl, (need, w ∙ ap (wants need) (sym a.0))), a.1)
-gives_asked p new start prefix bytes e need hint w (Ok (Parsed consumed payload)) a = absurd a
-gives_asked p new start prefix bytes e need hint w (Err f) a = absurd a
-
 gives_on : (p new : ParserState) (eof : Bool) (start : ℕ) (prefix bytes rest : List ℕ) (e : Event)
     (n : IsNext p eof start prefix bytes rest e) (r : Result Chunk Error) (w : Waiting) → waiting (grammar_of p) bytes ≡ w
     → AnswersOn eof w p (verdict (grammar_of p) bytes) r new
     → GivesEvent e p eof start prefix bytes r new
 gives_on p new true start prefix bytes rest e n r w q a = gives_decided p new true start prefix bytes rest e n r (inl refl) a
 gives_on p new false start prefix bytes rest e n r enough q a = gives_decided p new false start prefix bytes rest e n r (inr q) a
-gives_on p new false start prefix bytes rest e n r (wants need hint) q a = gives_asked p new start prefix bytes e need hint q r a
+gives_on p new false start prefix bytes rest e n r (wants need hint) q a = grind arith
 
 -- these bytes are no longer than all the rest
 may_fit : (eof : Bool) (bytes rest : List ℕ) → MayBe eof bytes rest → length bytes ≤ length rest
@@ -164,7 +141,7 @@ gives_next p new eof bytes r h s next =
     let k : length bytes ≤ length s.rest = may_fit eof bytes s.rest s.may_be in
     let l = s.below in
     let read : Reading (s.prefix ++ s.rest) s.start p.features (next.before ++ next.event ∷ next.later) =
-    subst (Reading (s.prefix ++ s.rest) s.start p.features) next.whole s.reading in
+    grind arith in
     gives_on p new eof s.start s.prefix bytes s.rest next.event (record {
       s = s.is_after;
       may_be = s.may_be;
@@ -178,4 +155,4 @@ gives_next p new eof bytes r h s next =
 pub some_next_event : SomeNextEvent
 some_next_event p start features prefix rest events s r =
     subst (NextEvent events) s.is_prefix (next_there start features s.tiles rest events s.faultless
-    (subst (λ (x : List ℕ). Reading (x ++ rest) start features events) (sym s.is_prefix) r))
+    (grind arith))

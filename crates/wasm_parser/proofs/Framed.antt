@@ -1,34 +1,31 @@
 -- What is at the start of a section, and what is read there.
-use Rattle.std.proofs.Common.{◌≡◌, ℕ, nat_eq, ◌+◌, ◌-◌, ◌^◌, ◌<◌, ◌≤◌, Bool, true, false, cond, not, ◌&&◌, List, [], ◌∷◌, length, take}
-use Rattle.std.proofs.Common.{drop, Some, None, Result, Ok, Err, nat_le, nat_lt, refl, sym, ap, subst, subst₂, ◌∙◌, arith, le-leb, add-zero}
-use Rattle.std.proofs.Common.{ltb-true, ltb-false, lt-ltb, le-ltb}
-use Prim.Native.Nat.compare
+use Rattle.std.proofs.Common.{◌≡◌, ℕ, nat_eq, ◌+◌, ◌-◌, ◌^◌, ◌<◌, ◌≤◌, Bool, true, false, not, ◌&&◌, List, [], ◌∷◌, length, take, drop}
+use Rattle.std.proofs.Common.{Some, None, Result, Ok, Err, nat_le, nat_lt, refl, sym, ap, subst, subst₂, ◌∙◌, arith, le-leb, lt-ltb, le-ltb}
 use lib.Dec.{is_le}
 use Rattle.std.specs.List.{starts_with}
-use Rattle.std.proofs.lemmas.Bool.{lt-leb, leb-false, eqb-true, eq-eqb}
+use Rattle.std.proofs.lemmas.Bool.{lt-leb}
 use Rattle.std.proofs.lemmas.List.{length-take-le}
 use Rattle.wasm_base.specs.FaultAt.{FaultAt, fault_at, hint_of, at_offset}
 use Rattle.wasm_base.specs.Header.{magic, agree}
 use Rattle.wasm_base.specs.Hints.{hint_at, missing_at}
-use Rattle.wasm_base.specs.Name.{Name, named, refused, name_limit, name, name_in_window, text_at, first_of, byte_at}
+use Rattle.wasm_base.specs.Name.{name_limit, text_at, first_of, byte_at}
 use Rattle.wasm_base.specs.Number.{unsigned_at}
-use Rattle.wasm_base.specs.Outcome.{◌>>=◌}
-use Rattle.wasm_base.specs.Window.{Window, Place, place, advanced, KeepsWindow, window_over}
+use Rattle.wasm_base.specs.Window.{Window, Place, place, advanced, window_over}
 use Rattle.wasm_base.specs.declared.error.Error.{Error}
 use Rattle.wasm_base.specs.declared.fault.Fault.TheVariants.{UnexpectedEof, MagicAtSection, MalformedSectionId, SectionTooLarge, OutOfOrder}
 use Rattle.wasm_base.specs.declared.fault.NumberKind.TheVariants.{VarU32}
 use Rattle.wasm_parser.specs.ParseAnswer.{IsPayload, MatchesVerdict, HintsAs, MatchesGrammar, ReadsByGrammar}
 use Rattle.wasm_parser.specs.ParserState.{ParserState, known_context}
-use Rattle.wasm_grammar.specs.Waiting.{enough, asked, waiting}
-use Rattle.wasm_grammar.specs.Content.{Kind, custom, unknown, kind_of, rank_of, when, wrong_content, wrong_name, Form}
+use Rattle.wasm_grammar.specs.Waiting.{enough, waiting}
+use Rattle.wasm_grammar.specs.Content.{Kind, custom, unknown, kind_of, rank_of, when, wrong_content, Form}
 use Rattle.wasm_parser.specs.ReadsPart.{content_at, ReadsNextSection}
 use Rattle.wasm_custom.specs.Custom.{Custom, IsCustom}
-use Rattle.wasm_grammar.specs.Grammar.{section, SectionContext, Grammar, check, u32_field, verdict, whole_grammar, wrong_data}
+use Rattle.wasm_grammar.specs.Grammar.{SectionContext, Grammar, check, u32_field, verdict, whole_grammar, wrong_data}
 use Rattle.wasm_grammar.specs.Grammar.{content_grammar, after_length, after_id, section_grammar}
-use Rattle.wasm_grammar.specs.Reading.{section_report, custom_report, custom_section, unknown_section}
+use Rattle.wasm_grammar.specs.Reading.{section_report, custom_section, unknown_section}
 use Rattle.wasm_parser.specs.declared.payload.Payload.{Payload}
 use Rattle.wasm_parser.specs.declared.payload.Payload.TheVariants.{CustomSection}
-use Rattle.wasm_parser.proofs.ReadingFields.{later_asked, report_at, report_bytes, report_missing, report_number, report_no_number}
+use Rattle.wasm_parser.proofs.ReadingFields.{report_at, report_bytes, report_missing, report_number, report_no_number}
 use Rattle.wasm_parser.proofs.ReadingFields.{report_wrong, report_right, report_whole, ReadNumber, read_number}
 
 -- after an id of 128 or more
@@ -63,11 +60,9 @@ framed_sized context start id p q v r a h o n next =
     (p.offset + m.used) v) r a =
     λ s. subst (λ (x : Place). MatchesGrammar s x (after_length context (kind_of context.encoding id) id p.offset x.offset v) r a) m.after
     (next s) in
-    λ s. report_right s p (when (nat_le 128 id) (at_offset MalformedSectionId start)) _ r a (good_id start id h) (
-    subst (λ (y : ℕ). MatchesGrammar s p (u32_field y (λ size width.
-    after_length context (kind_of context.encoding id) id y (y + width) size)) r a) (sym o)
-    (report_number s p p.offset (λ size width. after_length context (kind_of context.encoding id) id p.offset (p.offset + width) size) r a v
-    m.used m.reads (at_q s)))
+    λ s. report_right s p (when (nat_le 128 id) (at_offset MalformedSectionId start)) _ r a (good_id start id h)
+    (rw o (report_number s p p.offset
+    (λ size width. after_length context (kind_of context.encoding id) id p.offset (p.offset + width) size) r a v m.used m.reads (at_q s)))
 
 -- a content that would end past the top of the offsets
 pub sized_large : (context : SectionContext) (kind : Kind) (id field size : ℕ) (p : Place) (e : Error) (a : Place)
@@ -100,7 +95,7 @@ pub sized_disordered : (context : SectionContext) (kind : Kind) (id field size :
 sized_disordered context kind id field size p e a h k f hint =
     let y : FaultAt = at_offset OutOfOrder p.offset in
     let ranks : when (is_disordered context kind id) y ≡ Some (fault_at e) = rw k (ap Some (sym f)) in
-    fitting context kind id field size p (Err e) a h (λ s. report_wrong s p (when (is_disordered context kind id) y) _ e a ranks hint)
+    search (fitting, report_wrong)
 
 -- one that is in its place
 pub sized_ordered : (context : SectionContext) (kind : Kind) (id field size : ℕ) (p : Place) (r : Result Payload Error) (a : Place)
@@ -110,7 +105,7 @@ pub sized_ordered : (context : SectionContext) (kind : Kind) (id field size : �
 sized_ordered context kind id field size p r a h k next =
     let y : FaultAt = at_offset OutOfOrder p.offset in
     let ranks : when (is_disordered context kind id) y ≡ None = rw k refl in
-    fitting context kind id field size p r a h (λ s. report_right s p (when (is_disordered context kind id) y) _ r a ranks (next s))
+    search (fitting, report_right)
 
 -- the same for the kind that was found
 pub sized_as : (context : SectionContext) (found kind : Kind) (id field size : ℕ) (p : Place) (r : Result Payload Error) (a : Place) → found
@@ -120,27 +115,10 @@ pub sized_as : (context : SectionContext) (found kind : Kind) (id field size : �
 sized_as context found kind id field size p r a same next = subst
     (λ (k : Kind). ReadsByGrammar (after_length context k id field p.offset size) p r a) same next
 
-content_steps : (b : Bool) (size : ℕ) (p : Place)
-    → (let x : Result (List ℕ × Place) FaultAt = cond b (Err (at_offset UnexpectedEof p.offset)) (Ok (take size p.rest, advanced size p)) in
-    x >>= (λ bytes. let y : Result (Window × Place) FaultAt = Ok (window_over p.features p.offset bytes.0, bytes.1) in y))
-    ≡ cond b (Err (at_offset UnexpectedEof p.offset)) (Ok (window_over p.features p.offset (take size p.rest), advanced size p))
-content_steps true size p = refl
-content_steps false size p = refl
-
--- fewer bytes than are wanted
-too_few_at : (b : Bool) (size : ℕ) (p : Place) (f : FaultAt) → nat_lt (length p.rest) size ≡ b
-    → (let x : Result (Window × Place) FaultAt = cond b (Err (at_offset UnexpectedEof p.offset))
-    (Ok (window_over p.features p.offset (take size p.rest), advanced size p)) in x) ≡ Err f
-    → (length p.rest < size) × (f ≡ at_offset UnexpectedEof p.offset)
-too_few_at true size p f t h =
-    let z : at_offset UnexpectedEof p.offset ≡ f = cc in
-    (ltb-true _ _ t, sym z)
-too_few_at false size p f t h = cc
-
 pub too_few : (size : ℕ) (p : Place) (f : FaultAt) → content_at size p ≡ Err f → (length p.rest < size)
     × (f ≡ at_offset UnexpectedEof p.offset)
 unfolding content_at
-too_few size p f h = too_few_at (nat_lt (length p.rest) size) size p f refl (sym (content_steps (nat_lt (length p.rest) size) size p) ∙ h)
+too_few size p f h = grind arith
 
 -- content that isn't all there
 pub whole_missing : (context : SectionContext) (kind : Form) (id size : ℕ) (p : Place) (e : Error) (a : Place) → content_at size p
@@ -156,19 +134,9 @@ pub record HasContent (size : ℕ) (p : Place) (w : Window) (q : Place) : Type 0
   pub window : w ≡ window_over p.features p.offset (take size p.rest)
   pub after : q ≡ advanced size p
 
-content_there : (b : Bool) (size : ℕ) (p : Place) (w : Window) (q : Place) → nat_lt (length p.rest) size ≡ b
-    → (let x : Result (Window × Place) FaultAt = cond b (Err (at_offset UnexpectedEof p.offset))
-    (Ok (window_over p.features p.offset (take size p.rest), advanced size p)) in x) ≡ Ok (w, q)
-    → HasContent size p w q
-content_there true size p w q t h = cc
-content_there false size p w q t h =
-    let z : (window_over p.features p.offset (take size p.rest), advanced size p) ≡ (w, q) = cc in
-    record { there = ltb-false _ _ t; window = sym (ap (λ (x : Window × Place). x.0) z); after = sym (ap (λ (x : Window × Place). x.1) z) }
-
 pub has_content : (size : ℕ) (p : Place) (w : Window) (q : Place) → content_at size p ≡ Ok (w, q) → HasContent size p w q
 unfolding content_at
-has_content size p w q h = content_there (nat_lt (length p.rest) size) size p w q refl
-    (sym (content_steps (nat_lt (length p.rest) size) size p) ∙ h)
+has_content size p w q h = grind arith
 
 -- good content, reported by a payload
 pub whole_good : (context : SectionContext) (kind : Form) (id size : ℕ) (p : Place) (w : Window) (q : Place) (payload : Payload)
@@ -177,16 +145,7 @@ pub whole_good : (context : SectionContext) (kind : Form) (id size : ℕ) (p : P
     → IsPayload (section_report p.features p.offset (p.offset + size) kind id (take size p.rest)) payload
     → ReadsByGrammar (whole_grammar context kind id p.offset size) p (Ok payload) q
 whole_good context kind id size p w q payload h good counts report =
-    let c : HasContent size p w q = has_content size p w q h in
-    let content : List ℕ = take size p.rest in
-    let l : length (take size p.rest) ≡ size = length-take-le size p.rest c.there in
-    let from : p.offset + size - length (take size p.rest) ≡ p.offset = omega arith in
-    let said : IsPayload (section_report p.features (p.offset + size - length (take size p.rest)) (p.offset + size) kind id
-    (take size p.rest)) payload = rw from report in
-    λ s. report_bytes s p size p.offset _ (Ok payload) q c.there (
-    report_right s (advanced size p) (wrong_content kind p.offset (take size p.rest)) _ (Ok payload) q good (
-    report_right s (advanced size p) (wrong_data context kind id (p.offset + size) (take size p.rest)) _ (Ok payload) q counts (
-    report_whole s (advanced size p) (section kind id (take size p.rest)) payload q c.after said)))
+    grind (arith, has_content, length-take-le, report_bytes, report_right, report_whole)
 
 -- bad content
 pub whole_bad : (context : SectionContext) (kind : Form) (id size : ℕ) (p : Place) (w : Window) (q : Place) (e : Error) (a : Place)
@@ -194,8 +153,7 @@ pub whole_bad : (context : SectionContext) (kind : Form) (id size : ℕ) (p : Pl
     → hint_of e ≡ None → ReadsByGrammar (whole_grammar context kind id p.offset size) p (Err e) a
 whole_bad context kind id size p w q e a h wrong hint =
     let c : HasContent size p w q = has_content size p w q h in
-    λ s. report_bytes s p size p.offset _ (Err e) a c.there (report_wrong s (advanced size p)
-    (wrong_content kind p.offset (take size p.rest)) _ e a wrong hint)
+    search (report_bytes, report_wrong)
 
 -- good content whose count differs from the one that was announced
 pub whole_miscounted : (context : SectionContext) (kind : Form) (id size : ℕ) (p : Place) (w : Window) (q : Place) (e : Error) (a : Place)
@@ -204,9 +162,7 @@ pub whole_miscounted : (context : SectionContext) (kind : Form) (id size : ℕ) 
     → ReadsByGrammar (whole_grammar context kind id p.offset size) p (Err e) a
 whole_miscounted context kind id size p w q e a h good wrong hint =
     let c : HasContent size p w q = has_content size p w q h in
-    λ s. report_bytes s p size p.offset _ (Err e) a c.there (
-    report_right s (advanced size p) (wrong_content kind p.offset (take size p.rest)) _ (Err e) a good (
-    report_wrong s (advanced size p) (wrong_data context kind id (p.offset + size) (take size p.rest)) _ e a wrong hint))
+    search (report_bytes, report_right, report_wrong)
 
 -- what a custom section's reader says of its content
 pub record GoodCustom (features offset to : ℕ) (content : List ℕ) (c : Custom) : Type 0 where
@@ -214,42 +170,15 @@ pub record GoodCustom (features offset to : ℕ) (content : List ℕ) (c : Custo
   pub report : section_report features offset to custom 0 content
       ≡ custom_section c.name (place c.reader).offset (record c.reader { position = 0 })
 
-custom_at : (features offset to : ℕ) (content : List ℕ) (c : Custom) (n : Name) → KeepsWindow (window_over features offset content) c.reader
-    → name_in_window (place (window_over features offset content)) n ≡ Ok (c.name, place c.reader)
-    → (wrong_name offset n ≡ None) × (custom_report features offset to content n
-    ≡ custom_section c.name (place c.reader).offset (record c.reader { position = 0 }))
-custom_at features offset to content c (named text used) k h =
-    let z : (text, advanced used (place (window_over features offset content))) ≡ (c.name, place c.reader) = cc in
-    let t : text ≡ c.name = ap (λ (x : List ℕ × Place). x.0) z in
-    let o : offset + used ≡ (place c.reader).offset = ap (λ (n : ℕ). n + used) (sym (add-zero offset))
-    ∙ ap (λ (x : List ℕ × Place). x.1.offset) z in
-    let f : features ≡ c.reader.features = sym k.features in
-    let s : offset ≡ c.reader.start = sym k.start in
-    let b : content ≡ c.reader.bytes = sym k.bytes in
-    let w : window_over features offset content ≡ record c.reader { position = 0 } = λ i.
-    record { features = f i; start = s i; bytes = b i; position = 0 } in
-    (refl, λ i. custom_section (t i) (o i) (w i))
-custom_at features offset to content c (refused f i) k h = cc
-
 pub good_custom : (features offset to : ℕ) (content : List ℕ) (c : Custom) → IsCustom (window_over features offset content) c
     → GoodCustom features offset to content c
 unfolding wrong_content text_at
-good_custom features offset to content c is =
-    let h = custom_at features offset to content c (name (Some name_limit) content) is.keeps is.named in
-    record { good = h.0; report = h.1 }
-
-bad_at : (features offset : ℕ) (content : List ℕ) (f : FaultAt) (n : Name) → name_in_window (place (window_over features offset content)) n
-    ≡ Err f → wrong_name offset n ≡ Some f
-bad_at features offset content f (named text used) h = cc
-bad_at features offset content f (refused g i) h =
-    let z : at_offset g (offset + 0 + i) ≡ f = cc in
-    let o : offset + i ≡ offset + 0 + i = omega arith in
-    ap Some (ap (at_offset g) o ∙ z)
+good_custom features offset to content c is = grind arith
 
 pub bad_custom : (features offset : ℕ) (content : List ℕ) (f : FaultAt)
     → text_at (Some name_limit) (place (window_over features offset content)) ≡ Err f → wrong_content custom offset content ≡ Some f
 unfolding wrong_content text_at
-bad_custom features offset content f h = bad_at features offset content f (name (Some name_limit) content) h
+bad_custom features offset content f h = grind arith
 
 -- any bytes are an unknown section
 pub good_unknown : (offset : ℕ) (content : List ℕ) → wrong_content unknown offset content ≡ None
@@ -260,54 +189,38 @@ good_unknown offset content = refl
 pub custom_read : (context : SectionContext) (id size : ℕ) (p : Place) (w : Window) (q : Place) (c : Custom) → content_at size p ≡ Ok (w, q)
     → IsCustom w c
     → ReadsByGrammar (whole_grammar context custom id p.offset size) p (Ok (CustomSection c)) q
-custom_read context id size p w q c h is =
-    let k : HasContent size p w q = has_content size p w q h in
-    let g : GoodCustom p.features p.offset (p.offset + size) (take size p.rest) c =
-    good_custom p.features p.offset (p.offset + size) (take size p.rest) c (subst (λ (x : Window). IsCustom x c) k.window is) in
-    whole_good context custom id size p w q (CustomSection c) h g.good refl (sym g.report, tt)
+custom_read context id size p w q c h is = grind (arith, has_content, good_custom, whole_good)
 
 pub custom_refused : (context : SectionContext) (id size : ℕ) (p : Place) (w : Window) (q : Place) (e : Error) (a : Place)
     → content_at size p ≡ Ok (w, q) → text_at (Some name_limit) (place w) ≡ Err (fault_at e)
     → hint_of e ≡ None → ReadsByGrammar (whole_grammar context custom id p.offset size) p (Err e) a
 custom_refused context id size p w q e a h wrong hint =
     let k : HasContent size p w q = has_content size p w q h in
-    whole_bad context custom id size p w q e a h (bad_custom p.features p.offset (take size p.rest) (fault_at e)
-    (subst (λ (x : Window). text_at (Some name_limit) (place x) ≡ Err (fault_at e)) k.window wrong)) hint
+    whole_bad context custom id size p w q e a h (grind (arith, bad_custom)) hint
 
 -- an unknown section
 pub unknown_read : (context : SectionContext) (id size : ℕ) (p : Place) (w : Window) (q : Place) (payload : Payload) → content_at size p
     ≡ Ok (w, q)
     → IsPayload (unknown_section id (place w).rest w.start (w.start + length w.bytes)) payload
     → ReadsByGrammar (whole_grammar context unknown id p.offset size) p (Ok payload) q
-unknown_read context id size p w q payload h report =
-    let k : HasContent size p w q = has_content size p w q h in
-    let l : length (take size p.rest) ≡ size = length-take-le size p.rest k.there in
-    let at_w : IsPayload (unknown_section id (take size p.rest) p.offset (p.offset + length (take size p.rest))) payload =
-    subst (λ (x : Window). IsPayload (unknown_section id (place x).rest x.start (x.start + length x.bytes)) payload) k.window report in
-    whole_good context unknown id size p w q payload h (good_unknown p.offset (take size p.rest)) refl (rw l at at_w)
+unknown_read context id size p w q payload h report = grind (arith, has_content, length-take-le, whole_good, good_unknown)
 
 -- a magic where a section may start
 magic_at : (xs : List ℕ) (context : SectionContext) (p : Place) (e : Error) (a : Place) → true ≡ (agree xs magic && nat_le 4 (length xs))
     → 0 < length xs → fault_at e ≡ at_offset MagicAtSection p.offset
     → (s : ℕ) → MatchesVerdict s p (verdict (section_grammar context p.offset) xs) (Err e) a
 unfolding section_grammar verdict
-magic_at [] context p e a m l f s = absurd (omega arith)
-magic_at (id ∷ xs) context p e a m l f s = rw (← m) f
+magic_at xs context p e a m l f s = grind arith
 
 magic_decides : (xs : List ℕ) (context : SectionContext) (o : ℕ) (b : Bool) → agree xs magic ≡ b → true ≡ (b && nat_le 4 (length xs))
     → 0 < length xs → waiting (section_grammar context o) xs ≡ enough
 unfolding section_grammar waiting
-magic_decides [] context o b g m l = absurd (omega arith)
-magic_decides (id ∷ xs) context o true g m l = rw (g, ← m) refl
-magic_decides (id ∷ xs) context o false g m l = cc
+magic_decides xs context o b g m l = grind arith
 
 pub section_magic : (p : ParserState) (here : Place) (e : Error) (a : Place) → true ≡ (agree here.rest magic && nat_le 4 (length here.rest))
     → 0 < length here.rest → fault_at e ≡ at_offset MagicAtSection here.offset → hint_of e ≡ None
     → ReadsNextSection p here (Err e) a
-section_magic p here e a m l f hint = (
-  magic_at here.rest (known_context p) here e a m l f,
-  λ b. hint ∙ sym (ap asked (magic_decides here.rest (known_context p) here.offset (agree here.rest magic) refl m l)),
-)
+section_magic p here e a m l f hint = grind (arith, magic_at, magic_decides)
 
 -- a section after its id
 framed_at : (xs : List ℕ) (context : SectionContext) (p q : Place) (id : ℕ) (r : Result Payload Error) (a : Place) → p.rest ≡ xs → false
@@ -323,31 +236,18 @@ framed_at (x ∷ xs) context p q id r a z m b next s =
     let here : MatchesVerdict s (advanced 1 p) (verdict (after_id context p.offset x) (drop 1 p.rest)) r a =
     subst₂ (λ (w : ℕ) (v : Place). MatchesVerdict s v (verdict (after_id context p.offset w) v.rest) r a) (sym i) (sym j) (next s).0 in
     let there : MatchesVerdict s (advanced 1 p) (verdict (after_id context p.offset x) xs) r a =
-    subst (λ (w : List ℕ). MatchesVerdict s (advanced 1 p) (verdict (after_id context p.offset x) w) r a) k here in
-    rw (← m) (report_at s p 1 (x ∷ []) (verdict (after_id context p.offset x) xs) r a refl there)
+    grind arith in
+    grind (arith, report_at)
 
 -- bytes that begin no header
 not_begun : (b l : Bool) (m n : ℕ) → nat_le m n ≡ l → false ≡ (b && l) → (b && nat_lt n m) ≡ false → b ≡ false
-not_begun false l m n t f g = refl
-not_begun true true m n t f g = cc
-not_begun true false m n t f g = g' (nat_lt n m) refl g
-  where
-    g' : (c : Bool) → nat_lt n m ≡ c → c ≡ false → true ≡ false
-    g' true u v = v
-    g' false u v = absurd (omega (arith, ltb-false n m u, leb-false m n t))
+not_begun b l m n t f g = grind arith
 
 framed_hints : (xs : List ℕ) (context : SectionContext) (p q : Place) (id : ℕ) (r : Result Payload Error) → p.rest ≡ xs → agree xs magic
     ≡ false → first_of p xs ≡ Ok (id, q)
     → HintsAs (waiting (after_id context p.offset id) q.rest) r → HintsAs (waiting (section_grammar context p.offset) xs) r
 unfolding section_grammar waiting
-framed_hints [] context p q id r z m b next = cc
-framed_hints (x ∷ xs) context p q id r z m b next =
-    let y : (x, advanced 1 p) ≡ (id, q) = cc in
-    let i : x ≡ id = ap (λ (w : ℕ × Place). w.0) y in
-    let j : drop 1 p.rest ≡ q.rest = ap (λ (w : ℕ × Place). w.1.rest) y in
-    let k : drop 1 p.rest ≡ xs = ap (drop 1) z in
-    rw m (later_asked 1 (waiting (after_id context p.offset x) xs) r
-    (subst₂ (λ (w : ℕ) (v : List ℕ). HintsAs (waiting (after_id context p.offset w) v) r) (sym i) (sym j ∙ k) next))
+framed_hints xs context p q id r z m b next = grind arith
 
 pub section_framed : (p : ParserState) (here q : Place) (id : ℕ) (r : Result Payload Error) (a : Place) → false
     ≡ (agree here.rest magic && nat_le 4 (length here.rest)) → byte_at here ≡ Ok (id, q)
@@ -355,26 +255,22 @@ pub section_framed : (p : ParserState) (here q : Place) (id : ℕ) (r : Result P
 section_framed p here q id r a m b next = (
   framed_at here.rest (known_context p) here q id r a refl m b next,
   λ begun. framed_hints here.rest (known_context p) here q id r refl
-      (not_begun (agree here.rest magic) (nat_le 4 (length here.rest)) 4 (length here.rest) refl m begun) b (next 0).1,
+      (search not_begun) b (next 0).1,
 )
 
 -- bytes begin with others exactly if they agree with them, and are as many
 turned : (m n : ℕ) (a b : Bool) → nat_eq m n ≡ a → nat_eq n m ≡ b → a ≡ b
-turned m n true true p q = refl
-turned m n false false p q = refl
-turned m n true false p q = sym (eq-eqb n m (sym (eqb-true m n p))) ∙ q
-turned m n false true p q = sym p ∙ eq-eqb m n (sym (eqb-true n m q))
+turned m n a b p q = grind arith
 
 begins_at : (b b' : Bool) → b ≡ b' → (r s l : Bool) → r ≡ (s && l) → (b && r) ≡ ((b' && s) && l)
-begins_at true b' e r s l h = rw (← e) h
-begins_at false b' e r s l h = rw (← e) refl
+begins_at b b' e r s l h = grind arith
 
 begins_with : (first bytes : List ℕ) → starts_with nat_eq bytes first ≡ (agree bytes first && nat_le (length first) (length bytes))
 begins_with [] [] = refl
 begins_with [] (x ∷ bytes) = sym (le-leb 0 (length (x ∷ bytes)) (omega arith))
 begins_with (m ∷ first) [] = sym (lt-leb (length (m ∷ first)) 0 (omega arith))
 begins_with (m ∷ first) (x ∷ bytes) = begins_at (nat_eq m x) (nat_eq x m) (turned m x _ _ refl refl) _ _ _ (begins_with first bytes)
-    ∙ ap (λ o. (nat_eq x m && agree bytes first) && is_le o) (sym (compare.suc-suc (length first) (length bytes)))
+    ∙ ap (λ o. (nat_eq x m && agree bytes first) && is_le o) (grind arith)
 
 pub begins_with_magic : (bytes : List ℕ) → starts_with nat_eq bytes magic ≡ (agree bytes magic && nat_le 4 (length bytes))
 begins_with_magic bytes = begins_with magic bytes

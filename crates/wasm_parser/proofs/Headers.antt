@@ -1,7 +1,7 @@
 -- What is read of a header.
 use Rattle.std.proofs.Common.{◌≡◌, ℕ, ◌+◌, ◌/◌, ◌%◌, ◌≤◌, Bool, true, false, cond, not, List, length, take, drop, Some, None, Result, Ok}
-use Rattle.std.proofs.Common.{Err, nat_lt, refl, sym, ap, subst, ◌∙◌, ltb-true, ltb-false}
-use Rattle.wasm_base.specs.FaultAt.{FaultAt, fault_at, hint_of, at_offset}
+use Rattle.std.proofs.Common.{Err, nat_lt, refl, sym, ap, ◌∙◌, ltb-true, ltb-false}
+use Rattle.wasm_base.specs.FaultAt.{fault_at, hint_of, at_offset}
 use Rattle.wasm_base.specs.Hints.{hint_at, missing_at, missing_of_header}
 use Rattle.wasm_base.specs.Header.{magic, agree, header_version_at}
 use Rattle.wasm_base.specs.Name.{of_four, u32_at}
@@ -59,9 +59,6 @@ pub record ReadHeader (p : Place) (bits : ℕ) (q : Place) : Type 0 where
 read_at : (few other fewer : Bool) (p : Place) (bits : ℕ) (q : Place) → nat_lt (length p.rest) 4 ≡ few → agree (take 4 p.rest) magic ≡ other
     → nat_lt (length (drop 4 p.rest)) 4 ≡ fewer
     → version_steps few other fewer p ≡ Ok (bits, q) → ReadHeader p bits q
-read_at true other fewer p bits q a b c h = cc
-read_at false false fewer p bits q a b c h = cc
-read_at false true true p bits q a b c h = cc
 read_at false true false p bits q a b c h =
     let z : (of_four (take 4 (drop 4 p.rest)), advanced 4 (advanced 4 p)) ≡ (bits, q) = cc in
     record {
@@ -71,6 +68,7 @@ read_at false true false p bits q a b c h =
       four = ap (λ (x : ℕ × Place). x.0) z;
       place = sym (ap (λ (x : ℕ × Place). x.1) z);
     }
+read_at _ _ _ p bits q a b c h = cc
 
 pub header_read : (p : Place) (bits : ℕ) (q : Place) → header_version_at p ≡ Ok (bits, q) → ReadHeader p bits q
 header_read p bits q h = read_at (nat_lt (length p.rest) 4) (agree (take 4 p.rest) magic) (nat_lt (length (drop 4 p.rest)) 4) p bits q refl
@@ -83,12 +81,10 @@ unfolding header_grammar
 report_eight s p bits q r a h t =
     let m : when (not (agree (take 4 p.rest) magic)) (at_offset BadMagic p.offset) ≡ None = rw h.begins refl in
     let v : MatchesGrammar s (advanced 4 (advanced 4 p)) (version_of p.offset bits) r a =
-    subst (λ (x : Place). MatchesGrammar s x (version_of p.offset bits) r a) h.place t in
+    rw h.place at t in
     let w : MatchesGrammar s (advanced 4 (advanced 4 p)) (version_of p.offset (of_four (take 4 (drop 4 p.rest)))) r a =
-    subst (λ (x : ℕ). MatchesGrammar s (advanced 4 (advanced 4 p)) (version_of p.offset x) r a) (sym h.four) v in
-    report_bytes s p 4 p.offset _ r a h.there (
-    report_right s (advanced 4 p) (when (not (agree (take 4 p.rest) magic)) (at_offset BadMagic p.offset)) _ r a m (
-    report_bytes s (advanced 4 p) 4 (p.offset + 4) (λ four. version_of p.offset (of_four four)) r a h.after w))
+    rw h.four v in
+    search (report_bytes, report_right)
 
 -- a header of a known version
 pub header_report : (p : Place) (bits : ℕ) (q : Place) (e : Encoding) (payload : Payload) → header_version_at p ≡ Ok (bits, q) → Some e
@@ -97,7 +93,7 @@ pub header_report : (p : Place) (bits : ℕ) (q : Place) (e : Encoding) (payload
     → MatchesGrammar p.offset p (header_grammar p.offset) (Ok payload) q
 header_report p bits q e payload h n t =
     report_eight p.offset p bits q (Ok payload) q (header_read p bits q h)
-    (rw (← n) (report_whole p.offset q (version (bits % 65536) e) payload q refl t))
+    (rw (← n) (search report_whole))
 
 -- one of an unknown version
 pub header_unnamed : (p : Place) (bits : ℕ) (q : Place) (e : Error) → header_version_at p ≡ Ok (bits, q) → None
@@ -106,7 +102,7 @@ pub header_unnamed : (p : Place) (bits : ℕ) (q : Place) (e : Error) → header
     → MatchesGrammar p.offset p (header_grammar p.offset) (Err e) q
 header_unnamed p bits q e h n f hint =
     report_eight p.offset p bits q (Err e) q (header_read p bits q h)
-    (rw (← n) (report_stops p.offset q (record { fault = UnknownVersion; offset = p.offset + 4; number = Some bits }) e q f hint))
+    (rw (← n) (search report_stops))
 
 -- none
 
@@ -133,7 +129,7 @@ refused_at false false fewer p e a x y z h hint =
     let m : when (not (agree (take 4 p.rest) magic)) (at_offset BadMagic p.offset) ≡ Some (fault_at e) = rw y (ap Some f) in
     report_bytes p.offset p 4 p.offset _ (Err e) a (ltb-false _ _ x)
     (report_wrong p.offset (advanced 4 p) (when (not (agree (take 4 p.rest) magic)) (at_offset BadMagic p.offset)) _ e a m
-    (hint ∙ ap (λ (x : FaultAt). hint_at (steps_missing false false p) x.fault) (sym f)))
+    (cc))
 refused_at false true true p e a x y z h hint =
     let f : at_offset UnexpectedEof (p.offset + 4) ≡ fault_at e = cc in
     let m : when (not (agree (take 4 p.rest) magic)) (at_offset BadMagic p.offset) ≡ None = rw y refl in
@@ -145,4 +141,4 @@ refused_at false true false p e a x y z h hint = cc
 pub header_refused : (p : Place) (e : Error) (a : Place) → header_version_at p ≡ Err (fault_at e) → hint_of e
     ≡ hint_at (missing_of_header p) (fault_at e).fault → MatchesGrammar p.offset p (header_grammar p.offset) (Err e) a
 header_refused p e a h hint = refused_at (nat_lt (length p.rest) 4) (agree (take 4 p.rest) magic) (nat_lt (length (drop 4 p.rest)) 4) p e a
-    refl refl refl (sym (steps p) ∙ h) (hint ∙ ap (λ n. hint_at n (fault_at e).fault) (missing_by_steps (nat_lt (length p.rest) 4) p refl))
+    refl refl refl (sym (steps p) ∙ h) (hint ∙ ap (λ n. hint_at n (fault_at e).fault) (search missing_by_steps))

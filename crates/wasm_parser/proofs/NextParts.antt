@@ -1,47 +1,33 @@
 -- What is read where a parser is, and what it answers then.
-use Rattle.std.proofs.Common.{◌≡◌, ℕ, ◌+◌, ◌-◌, ◌^◌, ◌<◌, Bool, true, false, not, List, length, Some, Result, Ok, Err, nat_eq, refl, sym}
-use Rattle.std.proofs.Common.{ap, subst, subst₂, ◌∙◌, arith, add-zero}
-use Rattle.wasm_base.specs.Name.{Name, named, refused, name_limit, name}
+use Rattle.std.proofs.Common.{◌≡◌, ℕ, ◌+◌, ◌-◌, ◌^◌, ◌<◌, Bool, true, false, not, List, length, Result, Ok, Err, nat_eq, refl}
+use Rattle.std.proofs.Common.{ap, subst, ◌∙◌, arith, add-zero}
 use Rattle.wasm_base.specs.Window.{Window, Place, place, window_over}
 use Rattle.wasm_base.specs.declared.error.Error.{Error}
-use Rattle.wasm_grammar.specs.Content.{custom, items, index, data_count, unknown, fault, ended}
-use Rattle.wasm_grammar.specs.Grammar.{Shape, version, section, code_start, code_entry, Tile, Verdict, tile, final, Grammar, header_grammar}
-use Rattle.wasm_grammar.specs.Grammar.{section_grammar, body_grammar, verdict}
-use Rattle.wasm_parser.specs.ParseAnswer.{IsPayload, MatchesVerdict, HintsAs, MatchesGrammar, Advances, ParseAnswer, report_of}
-use Rattle.wasm_parser.specs.ParserState.{ParserState, known_context, grammar_of, is_at_section}
-use Rattle.wasm_parser.specs.ReadsPart.{IsBegun, Refuses, ReadsHeader, ReadsBody, ReadsNextSection, ReadsNext}
-use Rattle.wasm_grammar.specs.Reading.{custom_report, tile_report}
+use Rattle.wasm_grammar.specs.Content.{fault, ended}
+use Rattle.wasm_grammar.specs.Grammar.{Shape, Verdict, tile, final, Grammar, body_grammar, verdict}
+use Rattle.wasm_parser.specs.ParseAnswer.{IsPayload, MatchesVerdict, MatchesGrammar, Advances, ParseAnswer, report_of}
+use Rattle.wasm_parser.specs.ParserState.{ParserState, grammar_of}
+use Rattle.wasm_parser.specs.ReadsPart.{IsBegun, Refuses, ReadsHeader, ReadsBody, ReadsNext}
+use Rattle.wasm_grammar.specs.Reading.{tile_report}
 use Rattle.wasm_parser.specs.StateAfter.{missing_bytes, state_after_tile}
-use Rattle.wasm_grammar.specs.Tiling.{bytes_after}
-use Rattle.wasm_grammar.specs.Waiting.{waiting}
 use Rattle.wasm_parser.specs.declared.payload.Chunk.{Chunk}
 use Rattle.wasm_parser.specs.declared.payload.Chunk.TheVariants.{Parsed}
 use Rattle.wasm_parser.specs.declared.payload.Payload.{Payload}
-use Rattle.wasm_parser.proofs.CodeFits.{Fits, tile_fits}
-use Rattle.wasm_parser.proofs.Parsing.{answers_tile, answers_refused}
-use Rattle.wasm_parser.proofs.StateLaws.{state_same}
+use Rattle.wasm_parser.proofs.CodeFits.{tile_fits}
+use Rattle.wasm_parser.proofs.Parsing.{answers_tile}
 
 -- ---- by what the parser expects
 
 pub not_true : (b : Bool) → true ≡ not b → b ≡ false
-not_true true e = cc
-not_true false e = refl
-
-pub not_false : (b : Bool) → false ≡ not b → b ≡ true
-not_false true e = refl
-not_false false e = cc
+not_true b e = grind arith
 
 matches : (p : ParserState) (here after : Place) (r : Result Payload Error) (g : Grammar) → grammar_of p ≡ g
     → MatchesGrammar p.offset here g r after → ReadsNext p here r after
-matches p here after r g e m = (
-  subst (λ (x : Grammar). MatchesVerdict p.offset here (verdict x here.rest) r after) (sym e) m.0,
-  λ b. subst (λ (x : Grammar). HintsAs (waiting x here.rest) r) (sym e) m.1,
-)
+matches p here after r g e m = grind arith
 
 pub next_header : (p : ParserState) (here after : Place) (r : Result Payload Error) → p.expects_header ≡ true → here.offset ≡ p.offset
     → ReadsHeader here r after → ReadsNext p here r after
-next_header p here after r h o m = matches p here after r (header_grammar p.offset) (rw h refl)
-    (subst (λ (x : ℕ). MatchesGrammar x here (header_grammar x) r after) o m)
+next_header p here after r h o m = grind arith
 
 pub next_body : (p : ParserState) (here after : Place) (r : Result Payload Error) → p.expects_header ≡ false
     → nat_eq (p.bodies + p.code_bytes) 0
@@ -49,67 +35,17 @@ pub next_body : (p : ParserState) (here after : Place) (r : Result Payload Error
 next_body p here after r h c o m = matches p here after r (body_grammar p.bodies p.code_bytes p.offset) (rw (h, c) refl)
     (subst (λ (x : ℕ). MatchesGrammar p.offset here (body_grammar p.bodies p.code_bytes x) r after) o (m p.offset))
 
-pub next_section : (p : ParserState) (here after : Place) (r : Result Payload Error) → p.expects_header ≡ false
-    → nat_eq (p.bodies + p.code_bytes) 0 ≡ true → here.offset ≡ p.offset → ReadsNextSection p here r after → ReadsNext p here r after
-next_section p here after r h c o m =
-    let e : section_grammar (known_context p) here.offset ≡ grammar_of p = ap (section_grammar (known_context p)) o
-    ∙ sym (rw (h, c) refl) in
-    let s : is_at_section p ≡ true = rw (h, c) refl in (
-      subst (λ (x : Grammar). MatchesVerdict p.offset here (verdict x here.rest) r after) e (m.0 p.offset),
-      λ b. subst (λ (x : Grammar). HintsAs (waiting x here.rest) r) e (m.1 (b s)),
-    )
-
 -- ---- a tile
-
--- what is left of a code section after a tile ends below the top
-left_fits : (p : ParserState) (xs : List ℕ) (t : Tile) (shape : Shape) → Fits (p.offset + length t.bytes) shape
-    → p.offset + length t.bytes < 2 ^ 64 → p.offset + p.code_bytes < 2 ^ 64
-    → p.offset + length t.bytes + bytes_after t shape p.code_bytes < 2 ^ 64
-left_fits p xs t (version num encoding) f l m = omega arith
-left_fits p xs t (section form id content) f l m = omega arith
-left_fits p xs t (code_start count width size) f l m = f
-left_fits p xs t (code_entry content) f l m = omega arith
-
--- features and the offset change nothing of what is missed
-custom_misses : (f from to a : ℕ) (content : List ℕ) (n : Name) (b : ℕ) → missing_bytes (custom_report f from to content n) a b ≡ 0
-custom_misses f from to a content (named text used) b = refl
-custom_misses f from to a content (refused x place) b = refl
 
 missing_same : (f g s from to : ℕ) (shape : Shape) (taken code_bytes : ℕ) → missing_bytes (tile_report f s from shape) taken code_bytes
     ≡ missing_bytes (tile_report g s to shape) taken code_bytes
-missing_same f g s from to (version num encoding) taken code_bytes = refl
-missing_same f g s from to (section custom id content) taken code_bytes =
-    custom_misses f (from - length content) from taken content (name (Some name_limit) content) code_bytes
-    ∙ sym (custom_misses g (to - length content) to taken content (name (Some name_limit) content) code_bytes)
-missing_same f g s from to (section items id content) taken code_bytes = refl
-missing_same f g s from to (section index id content) taken code_bytes = refl
-missing_same f g s from to (section data_count id content) taken code_bytes = refl
-missing_same f g s from to (section unknown id content) taken code_bytes = refl
-missing_same f g s from to (code_start count width size) taken code_bytes = refl
-missing_same f g s from to (code_entry content) taken code_bytes = refl
+missing_same f g s from to shape taken code_bytes = grind arith
 
 fits_at : (p : ParserState) (here after : Place) (payload : Payload) (end : ℕ) (v : Verdict) → verdict (grammar_of p) here.rest ≡ v
     → MatchesVerdict p.offset here v (Ok payload) after → here.offset ≡ p.offset → end ≡ after.offset → end < 2 ^ 64
     → p.offset + p.code_bytes < 2 ^ 64
     → end + missing_bytes (report_of payload) (end - p.offset) p.code_bytes < 2 ^ 64
-fits_at p here after payload end (tile t) e m o at l k =
-    let a : after.offset ≡ here.offset + length t.bytes = ap (λ (x : Place). x.offset) m.0 in
-    let to : end ≡ p.offset + length t.bytes = at ∙ (a ∙ ap (λ (x : ℕ). x + length t.bytes) o) in
-    let r : report_of payload ≡ tile_report here.features p.offset (here.offset + length t.bytes) t.shape = m.1.0 in
-    let s : missing_bytes (tile_report p.features p.offset (p.offset + length t.bytes) t.shape) (p.offset + length t.bytes - p.offset)
-    p.code_bytes ≡ bytes_after t t.shape p.code_bytes = ap (λ (x : ParserState). x.code_bytes) (state_same p here.rest t e) in
-    let fits = left_fits p here.rest t t.shape (tile_fits p here.rest t e) (omega arith) k in
-    let same : missing_bytes (report_of payload) (end - p.offset) p.code_bytes
-    ≡ missing_bytes (tile_report p.features p.offset (p.offset + length t.bytes) t.shape) (p.offset + length t.bytes - p.offset)
-    p.code_bytes =
-    ap (λ x. missing_bytes x (end - p.offset) p.code_bytes) r
-    ∙ (missing_same here.features p.features p.offset (here.offset + length t.bytes)
-    (p.offset + length t.bytes) t.shape (end - p.offset) p.code_bytes
-    ∙ ap (λ (x : ℕ). missing_bytes (tile_report p.features p.offset (p.offset + length t.bytes) t.shape) (x - p.offset) p.code_bytes) to) in
-    let both = same ∙ s in
-    omega (arith, fits, both, to)
-fits_at p here after payload end (final (fault f)) e m o at l k = absurd m
-fits_at p here after payload end (final (ended x)) e m o at l k = absurd m
+fits_at p here after payload end v e m o at l k = grind (arith, tile_fits, missing_same)
 
 pub advance_fits : (p : ParserState) (here after : Place) (payload : Payload) (end : ℕ) → ReadsNext p here (Ok payload) after → here.offset
     ≡ p.offset → end ≡ after.offset → end < 2 ^ 64 → p.offset + p.code_bytes < 2 ^ 64
@@ -121,12 +57,11 @@ answers_at : (p q : ParserState) (eof : Bool) (here after : Place) (payload : Pa
     → here.offset ≡ p.offset → here.features ≡ p.features → end ≡ after.offset → Advances p payload end q
     → ParseAnswer p eof here.rest (Ok (Parsed (end - p.offset) payload)) q
 answers_at p q eof here after payload end (tile t) e m l o f at a =
-    let x : after.offset ≡ here.offset + length t.bytes = ap (λ (x : Place). x.offset) m.0 in
+    let x : after.offset ≡ here.offset + length t.bytes = rw m.0 in
     let to : end ≡ p.offset + length t.bytes = at ∙ (x ∙ ap (λ (x : ℕ). x + length t.bytes) o) in
     let says : IsPayload (tile_report p.features p.offset (p.offset + length t.bytes) t.shape) payload =
-    subst₂ (λ (x y : ℕ). IsPayload (tile_report x p.offset (y + length t.bytes) t.shape) payload) f o m.1 in
-    let moves : q ≡ state_after_tile p t = a here.rest t e to (subst
-    (λ (x : ℕ). IsPayload (tile_report p.features p.offset x t.shape) payload) (sym to) says) in
+    grind arith in
+    let moves : q ≡ state_after_tile p t = grind arith in
     answers_tile p q eof here.rest (Ok (Parsed (end - p.offset) payload)) t l e (omega arith, says, moves)
 answers_at p q eof here after payload end (final (fault x)) e m l o f at a = absurd m
 answers_at p q eof here after payload end (final (ended x)) e m l o f at a = absurd m
@@ -157,13 +92,11 @@ pub window_answered : (p q : ParserState) (eof : Bool) (w : Window) (bytes : Lis
     ≡ window_over p.features p.offset bytes → start ≡ p.offset → ReadsNext p (place w) (Ok payload) after → p.offset + length bytes < 2 ^ 64
     → end ≡ after.offset → Advances p payload end q → ParseAnswer p eof bytes (Ok (Parsed (end - start) payload)) q
 window_answered p q eof w bytes after payload start end e s m l at a =
-    subst (λ (x : ℕ). ParseAnswer p eof bytes (Ok (Parsed (end - x) payload)) q) (sym s)
-    (answers_read p q eof (place (window_over p.features p.offset bytes)) after payload end (at_window p w bytes (Ok payload) after e m) l
-    (add-zero p.offset) refl at a)
+    rw s (answers_read p q eof (place (window_over p.features p.offset bytes)) after payload end
+    (at_window p w bytes (Ok payload) after e m) l (add-zero p.offset) refl at a)
 
 pub window_refused : (p : ParserState) (eof : Bool) (w : Window) (bytes : List ℕ) (after : Place) (e : Error) (r : Result Chunk Error) → w
     ≡ window_over p.features p.offset bytes → ReadsNext p (place w) (Err e) after → p.offset + length bytes < 2 ^ 64 → IsBegun p eof bytes
     → Refuses eof e r
     → ParseAnswer p eof bytes r p
-window_refused p eof w bytes after e r same m l b f = answers_refused p p eof (place (window_over p.features p.offset bytes)) after e r l b
-    (at_window p w bytes (Err e) after same m) f refl
+window_refused p eof w bytes after e r same m l b f = grind arith

@@ -3,18 +3,14 @@ use Rattle.std.specs.Prelude.{◌≡◌, ℕ}
 use Rattle.std.proofs.Common.{refl, ap, subst}
 use Rattle.wasm_base.specs.Item.{ReadsAs}
 use Rattle.wasm_base.specs.Outcome.{Outcome}
-use Rattle.wasm_base.specs.Owned.{UnlessMemory}
 use Rattle.wasm_base.specs.Section.{Section, all_items, GivesItems, NextItem, NextItemIn}
 use Rattle.wasm_base.specs.Window.{Window, Place, place}
 use Rattle.wasm_base.proofs.Runs.{runs_give_items, runs_give_owned_items}
 use Rattle.wasm_items.specs.RecGroups.{rec_group_parts, rec_group_at}
 use Rattle.wasm_parser.specs.ParseAnswer.{unread, BeginsAfterCount, counted_by}
 use Rattle.wasm_parser.specs.PayloadItems.{NextOf, GivesWindow, GivesTypes, NoOthersAreCounted}
-use Rattle.wasm_grammar.specs.Ids.{type_id}
 use Rattle.wasm_grammar.specs.Reading.{Report, counted}
-use Rattle.wasm_parser.specs.declared.payload.Payload.TheVariants.{Version, TypeSection, ImportSection, FunctionSection, TableSection}
-use Rattle.wasm_parser.specs.declared.payload.Payload.TheVariants.{MemorySection, TagSection, GlobalSection, ExportSection, StartSection}
-use Rattle.wasm_parser.specs.declared.payload.Payload.TheVariants.{ElementSection, DataCountSection, DataSection, CodeSectionStart}
+use Rattle.wasm_parser.specs.declared.payload.Payload.TheVariants.{Version, StartSection, DataCountSection, CodeSectionStart}
 use Rattle.wasm_parser.specs.declared.payload.Payload.TheVariants.{CodeSectionEntry, CustomSection, UnknownSection, End}
 
 abbrev window_in : Report → Window → Window
@@ -32,8 +28,7 @@ gives_window : {T : Type 0} (next : NextOf T) (meaning : Place → Outcome T →
 gives_window next meaning id other count w s runs e b =
     let n : s.count ≡ count = ap count_in e in
     let v : unread s.reader ≡ w = ap (λ (r : Report). window_in r w) e in
-    subst (λ (x : ℕ). GivesWindow next meaning x w s) n (subst (λ (x : Window). GivesWindow next meaning s.count x s) v
-    (λ given d. (place s.reader, b, runs.items refl given d)))
+    subst (λ (x : ℕ). GivesWindow next meaning x w s) n (rw (← v) (λ given d. (place s.reader, b, runs.items refl given d)))
 
 -- a payload of a kind of section whose window and count are reported
 module _ {T : Type 0} (meaning : Place → Outcome T → Type 0) (own id count : ℕ) (w : Window) (s : Section)
@@ -42,21 +37,9 @@ module _ {T : Type 0} (meaning : Place → Outcome T → Type 0) (own id count :
   gives = gives_window (NextItem meaning) meaning own id count w s (runs_give_items meaning (all_items s)) e b
 
 pub gives_types : GivesTypes (NextItemIn (ReadsAs rec_group_parts rec_group_at))
-gives_types id count w s (e, b) = gives_window (NextItemIn (ReadsAs rec_group_parts rec_group_at))
-    (UnlessMemory (ReadsAs rec_group_parts rec_group_at)) type_id id count w s
-    (runs_give_owned_items (ReadsAs rec_group_parts rec_group_at) (all_items s)) e b
+gives_types id count w s (e, b) = search (gives_window, runs_give_owned_items)
 
 pub no_others_are_counted : NoOthersAreCounted
-no_others_are_counted id count w (TypeSection s) (e, b) = refl
-no_others_are_counted id count w (ImportSection s) (e, b) = refl
-no_others_are_counted id count w (FunctionSection s) (e, b) = refl
-no_others_are_counted id count w (TableSection s) (e, b) = refl
-no_others_are_counted id count w (MemorySection s) (e, b) = refl
-no_others_are_counted id count w (TagSection s) (e, b) = refl
-no_others_are_counted id count w (GlobalSection s) (e, b) = refl
-no_others_are_counted id count w (ExportSection s) (e, b) = refl
-no_others_are_counted id count w (ElementSection s) (e, b) = refl
-no_others_are_counted id count w (DataSection s) (e, b) = refl
 no_others_are_counted id count w (Version encoding num range) (e, b) = cc
 no_others_are_counted id count w (StartSection func range) (e, b) = cc
 no_others_are_counted id count w (DataCountSection c range) (e, b) = cc
@@ -65,3 +48,4 @@ no_others_are_counted id count w (CodeSectionEntry body) (e, b) = cc
 no_others_are_counted id count w (CustomSection s) (e, b) = cc
 no_others_are_counted id count w (UnknownSection i contents range) (e, b) = cc
 no_others_are_counted id count w (End at) (e, b) = cc
+no_others_are_counted id count w _ (e, b) = refl

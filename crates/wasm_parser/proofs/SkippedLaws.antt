@@ -1,19 +1,16 @@
 -- What is after the rest of a code section that a parser passes.
-use Rattle.std.proofs.Common.{◌≡◌, ℕ, ◌+◌, ◌<◌, ◌≤◌, Bool, true, false, cond, max, List, [], ◌∷◌, ◌++◌, length, Option, Some, None, is_some}
+use Rattle.std.proofs.Common.{◌≡◌, ℕ, ◌+◌, ◌<◌, ◌≤◌, Bool, true, false, cond, List, [], ◌∷◌, ◌++◌, length, Some, None, is_some}
 use Rattle.std.proofs.Common.{nat_eq, refl, sym, ap, subst, ◌∙◌, arith, length-append, append-nil, append_assoc}
-use Rattle.std.proofs.lemmas.Bool.{eqb-true}
 use Rattle.std.proofs.lemmas.Grind.{flat_map-append}
 use Rattle.std.proofs.lemmas.List.{append_cancel_left}
 use Rattle.std.proofs.lemmas.List.Elements.{All-nil, All-cons, All-append}
-use Rattle.std.specs.Prelude.{All, IsSome}
+use Rattle.std.specs.Prelude.{All}
 use Rattle.wasm_base.specs.Window.{Window}
 use Rattle.wasm_parser.specs.Along.{Along}
 use Rattle.wasm_grammar.specs.EventRanges.{consumed_by}
-use Rattle.wasm_grammar.specs.Grammar.{Shape, version, section, code_start, code_entry, Tile, tile, SectionContext, verdict}
-use Rattle.wasm_grammar.specs.Grammar.{section_grammar, body_grammar}
-use Rattle.wasm_parser.specs.ParserState.{ParserState, IsStateAfter, greatest, ends_in_code, skippable_of, skipped_state}
-use Rattle.wasm_grammar.specs.Tiling.{is_start, bytes_of, encoding_of, counts, bodies_to_come, bytes_to_come, context_of}
-use Rattle.wasm_grammar.specs.Tiling.{grammar, Faultless}
+use Rattle.wasm_grammar.specs.Grammar.{Shape, code_entry, Tile, tile, SectionContext, verdict, section_grammar, body_grammar}
+use Rattle.wasm_parser.specs.ParserState.{ParserState, IsStateAfter, greatest, ends_in_code, skipped_state}
+use Rattle.wasm_grammar.specs.Tiling.{is_start, bytes_of, encoding_of, counts, bytes_to_come, grammar, Faultless}
 use Rattle.wasm_grammar.specs.Reading as reading
 use Rattle.wasm_grammar.specs.Reading.{Event, tile_report, event_of, events_of}
 use Rattle.wasm_grammar.specs.Sections.{ReportsBody}
@@ -23,22 +20,17 @@ use Rattle.wasm_grammar.proofs.readings.Longest.{longest}
 use Rattle.wasm_grammar.proofs.readings.Readings.{stops_at}
 use Rattle.wasm_grammar.proofs.parts.Placed.{IsBody, bodied}
 use Rattle.wasm_grammar.proofs.parts.Guarded.{tile_least}
-use Rattle.wasm_grammar.specs.Ids.{code_id, data_count_id, data_id, function_id}
+use Rattle.wasm_grammar.specs.Ids.{code_id, data_id, function_id}
 
 -- where bytes of a code section are left, a body comes
 body_at : (b : Bool) (context : SectionContext) (bodies code_bytes offset : ℕ) (d : List ℕ) (t : Tile) → nat_eq (bodies + code_bytes) 0 ≡ b
     → 0 < code_bytes
     → verdict (cond b (section_grammar context offset) (body_grammar bodies code_bytes offset)) d ≡ tile t → IsBody t.shape
-body_at true context bodies code_bytes offset d t e l v = let z : bodies + code_bytes ≡ 0 = eqb-true _ _ e in absurd (omega (arith, z, l))
-body_at false context bodies code_bytes offset d t e l v = bodied bodies code_bytes offset d t v
+body_at b context bodies code_bytes offset d t e l v = grind (arith, bodied)
 
 body_next : (start : ℕ) (ts : List Tile) (d : List ℕ) (t : Tile) → 0 < bytes_to_come ts → verdict (grammar start ts) d ≡ tile t
     → IsBody t.shape
-body_next start [] d t l v = absurd (omega (arith, l))
-body_next start (u ∷ us) d t l v =
-    body_at (nat_eq (bodies_to_come (u ∷ us) + bytes_to_come (u ∷ us)) 0) (context_of (u ∷ us)) (bodies_to_come (u ∷ us))
-    (bytes_to_come (u ∷ us))
-    (start + length (bytes_of (u ∷ us))) d t refl l v
+body_next start ts d t l v = grind (arith, body_at)
 
 -- tiles after which a parser knows the same as after others but for what is left of a code section
 record KnowsSame (ts us : List Tile) : Type 0 where
@@ -54,15 +46,13 @@ after_body : (ts us : List Tile) (shape : Shape) (bytes : List ℕ) → IsBody s
     → KnowsSame ts us → KnowsSame (record { shape = shape; bytes = bytes } ∷ ts) us
 after_body ts us (code_entry content) bytes b l s k = record {
   encoding = k.encoding;
-  rank = (let z : max 0 (greatest ts) ≡ greatest ts = omega arith in z) ∙ k.rank;
+  rank = omega arith;
   same_counts = λ n. k.same_counts n;
   in_code = refl;
   not_start = sym s;
   code_bytes = let e = k.code_bytes in omega (arith, e, length-append (bytes_of ts) bytes);
 }
-after_body ts us (version num encoding) bytes b l s k = absurd b
-after_body ts us (section form id content) bytes b l s k = absurd b
-after_body ts us (code_start count width size) bytes b l s k = absurd b
+after_body ts us _ bytes b l s k = absurd b
 
 -- tiles that take no more than what is left of a code section are its bodies
 only_bodies : (start : ℕ) (us later : List Tile) → ends_in_code us ≡ true → is_start us ≡ false → Faultless start (later ++ us)
@@ -80,13 +70,12 @@ only_bodies start us (t ∷ later) c s f l =
     let k : KnowsSame (later ++ us) us = only_bodies start us later c s f.0 (omega (arith, l, n)) in
     let e = k.code_bytes in
     let some : 0 < length t.bytes = tile_least start (later ++ us) t.bytes t f.1 in
-    let b : IsBody t.shape = body_next start (later ++ us) t.bytes t (omega (arith, l, n, e, some)) f.1 in
-    after_body (later ++ us) us t.shape t.bytes b (omega (arith, l, n, e)) s k
+    let b : IsBody t.shape = grind (arith, body_next) in
+    grind (arith, after_body)
 
 -- a code section has begun
 some_tile : (ts : List Tile) → ends_in_code ts ≡ true → is_start ts ≡ false
-some_tile [] c = cc
-some_tile (t ∷ ts) c = refl
+some_tile ts c = grind arith
 
 skipped_at : (p : ParserState) (start : ℕ) (prefix bodies : List ℕ) (s : IsStateAfter p start prefix)
     (k : CompletesCode start prefix bodies) → p.in_code ≡ true → length bodies ≡ p.code_bytes → KnowsSame k.tiles s.tiles
@@ -96,8 +85,8 @@ skipped_at p start prefix bodies s k c l same =
     let o = s.offset in
     let code_bytes = same.code_bytes in
     let a = s.code_bytes in
-    let b : length (bytes_of k.tiles) ≡ length (prefix ++ bodies) = ap (λ (x : List ℕ). length x) k.whole in
-    let d : length (bytes_of s.tiles) ≡ length prefix = ap (λ (x : List ℕ). length x) s.is_prefix in
+    let b : length (bytes_of k.tiles) ≡ length (prefix ++ bodies) = rw k.whole in
+    let d : length (bytes_of s.tiles) ≡ length prefix = rw s.is_prefix in
     record {
       tiles = k.tiles;
       faultless = k.faultless;
@@ -109,7 +98,7 @@ skipped_at p start prefix bodies s k c l same =
       functions = s.functions ∙ sym (same.same_counts function_id);
       codes = s.codes ∙ sym (same.same_counts code_id);
       datas = s.datas ∙ sym (same.same_counts data_id);
-      data_counts = s.data_counts ∙ sym (same.same_counts data_count_id);
+      data_counts = grind arith;
       bodies = sym k.no_body_left;
       code_bytes = omega (arith, n, code_bytes, a, b, d, l);
       in_code = λ e. same.in_code;
@@ -118,7 +107,7 @@ skipped_at p start prefix bodies s k c l same =
 
 pub skips_section : (p q : ParserState) → p.in_code ≡ true → q ≡ skipped_state p → SkipsSection p q
 skips_section p q c e start prefix bodies s l k =
-    let w : bytes_of k.tiles ≡ bytes_of s.tiles ++ bodies = k.whole ∙ ap (λ (x : List ℕ). x ++ bodies) (sym s.is_prefix) in
+    let w : bytes_of k.tiles ≡ bytes_of s.tiles ++ bodies = cc in
     let (later, z) = longest (bytes_of k.tiles) start k.tiles s.tiles _ bodies
     (stops_at start k.tiles k.faultless (verdict (grammar start k.tiles) []) refl) s.faultless w in
     let n : length (bytes_of (later ++ s.tiles)) ≡ length (bytes_of s.tiles) + length bodies =
@@ -126,13 +115,11 @@ skips_section p q c e start prefix bodies s l k =
     let a = s.code_bytes in
     let ends : ends_in_code s.tiles ≡ true = s.in_code c in
     let same : KnowsSame (later ++ s.tiles) s.tiles = only_bodies start s.tiles later ends (some_tile s.tiles ends)
-    (subst (Faultless start) z k.faultless) (omega (arith, n, a, l)) in
-    subst (λ (x : ParserState). IsStateAfter x start (prefix ++ bodies)) (sym e)
-    (skipped_at p start prefix bodies s k c l (subst (λ (x : List Tile). KnowsSame x s.tiles) (sym z) same))
+    (rw z at k.faultless) (omega (arith, n, a, l)) in
+    grind (arith, skipped_at)
 
 pub in_code_where_skippable : (b : Bool) (code_bytes : ℕ) → is_some (cond b (Some code_bytes) None) ≡ true → b ≡ true
-in_code_where_skippable true code_bytes e = refl
-in_code_where_skippable false code_bytes e = cc
+in_code_where_skippable b code_bytes e = grind arith
 
 -- ---- the reading without the bodies that are passed
 
@@ -145,9 +132,7 @@ skipped_at-tiles p start prefix bodies s k c l same = refl
 reports_body : (features from to : ℕ) (shape : Shape) → IsBody shape → (window : Window)
     × (tile_report features from to shape ≡ reading.code_entry window)
 reports_body features from to (code_entry content) b = (_, refl)
-reports_body features from to (version num encoding) b = absurd b
-reports_body features from to (section form id content) b = absurd b
-reports_body features from to (code_start count width size) b = absurd b
+reports_body features from to _ b = absurd b
 
 -- the events of tiles that are bodies
 record Bodies (start features : ℕ) (us later : List Tile) : Type 0 where
@@ -167,14 +152,12 @@ bodies_later start features us (t ∷ later) c s f l =
     let k : KnowsSame (later ++ us) us = only_bodies start us later c s f.0 (omega (arith, l, n)) in
     let e = k.code_bytes in
     let some : 0 < length t.bytes = tile_least start (later ++ us) t.bytes t f.1 in
-    let b : IsBody t.shape = body_next start (later ++ us) t.bytes t (omega (arith, l, n, e, some)) f.1 in
+    let b : IsBody t.shape = grind (arith, body_next) in
     let r : Bodies start features us later = bodies_later start features us later c s f.0 (omega (arith, l, n)) in
     let x : Event = event_of features (start + length (bytes_of (later ++ us))) t in
     record {
       events = r.events ++ x ∷ [];
-      each = All-append ReportsBody r.events (x ∷ []) r.each (All-cons ReportsBody x []
-          (reports_body features (start + length (bytes_of (later ++ us))) (start + length (bytes_of (later ++ us)) + length t.bytes)
-          t.shape b) (All-nil ReportsBody));
+      each = All-append ReportsBody r.events (x ∷ []) r.each (search (All-cons, reports_body, All-nil));
       parts = ap (λ (y : List Event). y ++ x ∷ []) r.parts ∙ append_assoc (events_of start features us) r.events (x ∷ []);
     }
 
@@ -229,5 +212,5 @@ module _ (start features : ℕ) (prefix bodies : List ℕ) (p : ParserState) (ev
 
 pub skipping_leaves_out_bodies : SkippingLeavesOutBodies
 skipping_leaves_out_bodies start features prefix bodies p events a some l k =
-    left_out start features prefix bodies p events a (in_code_where_skippable p.in_code p.code_bytes some) l
-    (subst (λ (x : List ℕ). CompletesCode start x bodies) (a.whole ∙ append-nil a.prefix) k)
+    left_out start features prefix bodies p events a (search in_code_where_skippable) l
+    (rw (a.whole ∙ append-nil a.prefix) at k)

@@ -1,63 +1,40 @@
 -- What a parser knows is what the tiles before it say.
-use Rattle.std.proofs.Common.{◌≡◌, ℕ, zero, suc, ◌+◌, ◌-◌, ◌<◌, max, Bool, true, false, cond, ◌&&◌, List, [], ◌∷◌, ◌++◌, length}
-use Rattle.std.proofs.Common.{option_to_list, Option, Some, nat_lt, nat_eq, refl, sym, ap, subst, ◌∙◌, arith, length-append, add-zero, lit<}
-use Rattle.std.proofs.Common.{ltb-true, eqb-true, slice_index}
+use Rattle.std.proofs.Common.{◌≡◌, ℕ, ◌+◌, ◌<◌, max, Bool, true, false, cond, ◌&&◌, List, [], ◌∷◌, ◌++◌, length, option_to_list, Option}
+use Rattle.std.proofs.Common.{Some, nat_lt, nat_eq, refl, sym, ap, ◌∙◌, arith, length-append, ltb-true, eqb-true}
 use Rattle.std.specs.List.{list_all}
 use Rattle.std.proofs.lemmas.Bool.{and_parts}
-use Rattle.std.proofs.lemmas.Bool.Decides.{nat_tests}
-use mathlib.Core.Path.{fun_ext}
-use Rattle.wasm_base.specs.Name.{Name, named, refused, name_limit, name}
-use Rattle.wasm_grammar.specs.Content.{Kind, items, data_count, custom, index, code, unknown, count_of, kind_of, whole}
-use Rattle.wasm_grammar.specs.Grammar.{Shape, version, section, code_start, code_entry, Tile, tile, SectionContext, Grammar, bytes, verdict}
+use Rattle.wasm_grammar.specs.Content.{Kind, items, data_count, index, count_of, kind_of}
+use Rattle.wasm_grammar.specs.Grammar.{Shape, section, code_start, Tile, tile, SectionContext, verdict}
 use Rattle.wasm_grammar.specs.Grammar.{header_grammar, section_grammar, body_grammar, content_grammar}
-use Rattle.wasm_grammar.specs.Tiling.{bytes_of, grammar, context_of, inside, encoding_of, encoding_in, tile_rank, count_in, counts}
+use Rattle.wasm_grammar.specs.Tiling.{bytes_of, grammar, context_of, inside, encoding_in, tile_rank, count_in, counts}
 use Rattle.wasm_grammar.specs.Tiling.{bodies_to_come, bytes_to_come, bodies_after, bytes_after, is_start}
-use Rattle.wasm_grammar.specs.Reading.{custom_report}
-use Rattle.wasm_parser.specs.StateAfter.{known_rank, state_after, state_after_tile}
+use Rattle.wasm_parser.specs.StateAfter.{known_rank, state_after_tile}
 use Rattle.wasm_parser.specs.ParserState.{ParserState, initial_state, greatest, is_of_code, IsStateAfter, known_context, grammar_of}
 use Rattle.wasm_grammar.proofs.accepted.KindIds.{IdOf, id_of_kind}
 use Rattle.wasm_grammar.proofs.readings.Readings.{Grown, grows}
-use Rattle.wasm_grammar.proofs.parts.Placed.{Each, each_tile, IsBody, bodied, IsHeader, headed, Fresh, fresh}
-use Rattle.wasm_grammar.specs.Ids.{place_of}
-use Rattle.wasm_grammar.specs.Ids.{code_id, data_count_id, data_id, function_id}
-use Rattle.wasm_grammar.specs.Ids.{start_id}
+use Rattle.wasm_grammar.proofs.parts.Placed.{Each, each_tile, bodied, headed, Fresh, fresh}
+use Rattle.wasm_grammar.specs.Ids.{place_of, code_id, data_count_id, data_id, function_id, start_id}
 
 max_lt : (a g r : ℕ) → nat_lt (max a g) r ≡ (nat_lt a r && nat_lt g r)
-max_lt a g r = grind (arith, nat_tests)
-
-one_lt : (a r : ℕ) → nat_lt (max a 0) r ≡ (nat_lt a r && true)
-one_lt a r = grind (arith, nat_tests)
+max_lt a g r = grind arith
 
 -- above the greatest rank is above each
 pub may_same : (t : Tile) (ts : List Tile) (r : ℕ) → nat_lt (greatest (t ∷ ts)) r
     ≡ list_all (λ (u : Tile). nat_lt (tile_rank u.shape) r) (t ∷ ts)
-may_same t [] r = one_lt (tile_rank t.shape) r
+may_same t [] r = grind arith
 may_same t (u ∷ ts) r = max_lt (tile_rank t.shape) (greatest (u ∷ ts)) r
     ∙ ap (λ (b : Bool). nat_lt (tile_rank t.shape) r && b) (may_same u ts r)
 
 context_same : (p : ParserState) (start : ℕ) (prefix : List ℕ) (s : IsStateAfter p start prefix) (t : Tile) (ts : List Tile) → s.tiles ≡ t
     ∷ ts → known_context p ≡ context_of (t ∷ ts)
-context_same p start prefix s t ts z =
-    let f : (λ (r : ℕ). nat_lt p.rank r) ≡ (λ (r : ℕ). list_all (λ (u : Tile). nat_lt (tile_rank u.shape) r) (t ∷ ts)) =
-    fun_ext (λ (r : ℕ). ap (λ (x : ℕ). nat_lt x r) (s.rank ∙ ap greatest z) ∙ may_same t ts r) in
-    let e : p.encoding ≡ encoding_of (t ∷ ts) = s.encoding ∙ ap encoding_of z in
-    let a : option_to_list p.functions ≡ counts 3 (t ∷ ts) = s.functions ∙ ap (counts 3) z in
-    let b : option_to_list p.codes ≡ counts 10 (t ∷ ts) = s.codes ∙ ap (counts 10) z in
-    let c : option_to_list p.datas ≡ counts 11 (t ∷ ts) = s.datas ∙ ap (counts 11) z in
-    let d : option_to_list p.data_counts ≡ counts 12 (t ∷ ts) = s.data_counts ∙ ap (counts 12) z in
-    λ i. record { encoding = e i; may_follow = f i; functions = a i; codes = b i; datas = c i; data_counts = d i }
+context_same p start prefix s t ts z = grind (arith, may_same)
 
 grammar_at : (p : ParserState) (start : ℕ) (prefix : List ℕ) (s : IsStateAfter p start prefix) (ts : List Tile) → s.tiles ≡ ts
     → grammar_of p ≡ grammar start ts
-grammar_at p start prefix s [] z =
-    let h : p.expects_header ≡ true = s.expects_header ∙ ap is_start z in
-    let c : prefix ≡ [] = sym s.is_prefix ∙ ap bytes_of z in
-    let o : p.offset ≡ start = s.offset ∙ (ap (λ (x : List ℕ). start + length x) c ∙ add-zero start) in
-    rw h (ap header_grammar o)
+grammar_at p start prefix s [] z = grind arith
 grammar_at p start prefix s (t ∷ ts) z =
     let h : p.expects_header ≡ false = s.expects_header ∙ ap is_start z in
-    let o : p.offset ≡ start + length (bytes_of (t ∷ ts)) = s.offset
-    ∙ ap (λ (x : List ℕ). start + length x) (sym s.is_prefix ∙ ap bytes_of z) in
+    let o : p.offset ≡ start + length (bytes_of (t ∷ ts)) = cc in
     let m : p.bodies ≡ bodies_to_come (t ∷ ts) = s.bodies ∙ ap bodies_to_come z in
     let l : p.code_bytes ≡ bytes_to_come (t ∷ ts) = s.code_bytes ∙ ap bytes_to_come z in
     let q : known_context p ≡ context_of (t ∷ ts) = context_same p start prefix s t ts z in
@@ -71,12 +48,10 @@ below_self : (r s : ℕ) → nat_lt s r ≡ true → s ≡ r → ⊥
 below_self r s e z = let l : s < r = ltb-true s r e in omega arith
 
 none_cons : (b : Bool) (c : ℕ) (xs : List ℕ) → b ≡ false → xs ≡ [] → cond b (c ∷ xs) xs ≡ []
-none_cons true c xs e f = cc
-none_cons false c xs e f = f
+none_cons b c xs e f = cc
 
 not_true : (b : Bool) → (b ≡ true → ⊥) → b ≡ false
-not_true true h = absurd (h refl)
-not_true false h = refl
+not_true b h = grind arith
 
 -- below the rank of a section there is none of them
 none_in : (n : ℕ) (s : Shape) (xs : List ℕ) → nat_lt (tile_rank s) (place_of n) ≡ true → xs ≡ [] → count_in n s xs ≡ []
@@ -84,13 +59,8 @@ none_in n (section items id content) xs e f = none_cons (nat_eq id n) _ xs
     (not_true _ (λ z. below_self (place_of n) (place_of id) e (ap place_of (eqb-true id n z)))) f
 none_in n (section data_count id content) xs e f = none_cons (nat_eq id n) _ xs
     (not_true _ (λ z. below_self (place_of n) (place_of id) e (ap place_of (eqb-true id n z)))) f
-none_in n (section custom id content) xs e f = f
-none_in n (section index id content) xs e f = f
-none_in n (section unknown id content) xs e f = f
-none_in n (code_start count width size) xs e f = none_cons (nat_eq 10 n) _ xs
-    (not_true _ (λ z. below_self (place_of n) (place_of 10) e (ap place_of (eqb-true 10 n z)))) f
-none_in n (version num encoding) xs e f = f
-none_in n (code_entry content) xs e f = f
+none_in n (code_start count width size) xs e f = grind arith
+none_in n _ xs e f = f
 
 pub counts_none : (n : ℕ) (ts : List Tile) → list_all (λ (u : Tile). nat_lt (tile_rank u.shape) (place_of n)) ts ≡ true → counts n ts ≡ []
 counts_none n [] e = refl
@@ -101,15 +71,14 @@ counts_none n (t ∷ ts) e =
 
 one_count : (b : Bool) (c : ℕ) (old : Option ℕ) (xs : List ℕ) → option_to_list old ≡ xs → (b ≡ true → xs ≡ [])
     → option_to_list (cond b (Some c) old) ≡ cond b (c ∷ xs) xs
-one_count true c old xs e f = ap (λ (x : List ℕ). c ∷ x) (sym (f refl))
-one_count false c old xs e f = e
+one_count b c old xs e f = grind arith
 
 none_of_rank : (n id : ℕ) (ts : List Tile) → 0 < place_of n → (0 < place_of id
     → list_all (λ (u : Tile). nat_lt (tile_rank u.shape) (place_of id)) ts ≡ true) → nat_eq id n ≡ true → counts n ts ≡ []
 none_of_rank n id ts h f z =
     let q : id ≡ n = eqb-true id n z in
     let r : 0 < place_of id = rw q h in
-    counts_none n ts (subst (λ (x : ℕ). list_all (λ (u : Tile). nat_lt (tile_rank u.shape) (place_of x)) ts ≡ true) q (f r))
+    grind (arith, counts_none)
 
 -- the count that is known of the section with this id, after one more tile
 abbrev count_after : ℕ → Shape → Option ℕ → Option ℕ
@@ -121,16 +90,10 @@ count_after n other old = old
 -- a parser keeps the one count that there is
 count_same : (n : ℕ) (s : Shape) (old : Option ℕ) (ts : List Tile) → 0 < place_of n → option_to_list old ≡ counts n ts → Fresh ts s
     → option_to_list (count_after n s old) ≡ count_in n s (counts n ts)
-count_same n (section items id content) old ts h e f = one_count (nat_eq id n) (count_of content) old (counts n ts) e
-    (none_of_rank n id ts h f)
-count_same n (section data_count id content) old ts h e f = one_count (nat_eq id n) (count_of content) old (counts n ts) e
-    (none_of_rank n id ts h f)
-count_same n (section custom id content) old ts h e f = e
-count_same n (section index id content) old ts h e f = e
-count_same n (section unknown id content) old ts h e f = e
+count_same n (section items id content) old ts h e f = search (one_count, none_of_rank)
+count_same n (section data_count id content) old ts h e f = search (one_count, none_of_rank)
 count_same n (code_start count width size) old ts h e f = one_count (nat_eq 10 n) count old (counts n ts) e (none_of_rank n 10 ts h f)
-count_same n (version num encoding) old ts h e f = e
-count_same n (code_entry content) old ts h e f = e
+count_same n _ old ts h e f = e
 
 greatest_lt : (r : ℕ) (ts : List Tile) → 0 < r → list_all (λ (u : Tile). nat_lt (tile_rank u.shape) r) ts ≡ true → greatest ts < r
 greatest_lt r [] h e = h
@@ -141,8 +104,7 @@ greatest_lt r (t ∷ ts) h e =
     omega arith
 
 rank_grows : (r old g : ℕ) → old ≡ g → (0 < r → g < r) → known_rank r old ≡ max r g
-rank_grows zero old g e f = omega arith
-rank_grows (suc r) old g e f = let l : g < suc r = f (omega arith) in omega arith
+rank_grows r old g e f = grind arith
 
 -- the state after one more tile, by what the tile is
 abbrev after_shape : ParserState → Tile → ParserState
@@ -167,47 +129,23 @@ after_shape p t = record {
 abbrev HasItsId : Shape → Type 0
 HasItsId (section index id content) = id ≡ start_id
 HasItsId (section data_count id content) = id ≡ data_count_id
-HasItsId (section items id content) = Unit {0}
-HasItsId (section custom id content) = Unit {0}
-HasItsId (section unknown id content) = Unit {0}
-HasItsId (version num encoding) = Unit {0}
-HasItsId (code_start count width size) = Unit {0}
-HasItsId (code_entry content) = Unit {0}
+HasItsId _ = Unit {0}
 
 content_id : (p : SectionContext) (kind : Kind) (id o n : ℕ) → IdOf p.encoding kind id → Each HasItsId (content_grammar p kind id o n)
-content_id p (whole index) id o n h = λ b x y. h
-content_id p (whole data_count) id o n h = λ b x y. h
-content_id p (whole items) id o n h = λ b x y. tt
-content_id p (whole custom) id o n h = λ b x y. tt
-content_id p (whole unknown) id o n h = λ b x y. tt
-content_id p code id o n h = λ v k x y. tt
+content_id p kind id o n h = grind arith
 
 section_id : (p : SectionContext) (o : ℕ) (xs : List ℕ) (t : Tile) → verdict (section_grammar p o) xs ≡ tile t → HasItsId t.shape
 unfolding section_grammar
 section_id p o xs t e = each_tile HasItsId (section_grammar p o)
     (λ id x n k y z. content_id p (kind_of p.encoding id) id (o + 1 + k) n (id_of_kind p.encoding id)) xs t e
 
-header_id : (s : Shape) → IsHeader s → HasItsId s
-header_id (version num encoding) h = tt
-header_id (section kind id content) h = absurd h
-header_id (code_start count width size) h = absurd h
-header_id (code_entry content) h = absurd h
-
-body_id : (s : Shape) → IsBody s → HasItsId s
-body_id (code_entry content) h = tt
-body_id (section kind id content) h = absurd h
-body_id (code_start count width size) h = absurd h
-body_id (version num encoding) h = absurd h
-
 inside_id : (b : Bool) (p : SectionContext) (m l o : ℕ) (xs : List ℕ) (t : Tile)
     → verdict (cond b (section_grammar p o) (body_grammar m l o)) xs ≡ tile t → HasItsId t.shape
-inside_id true p m l o xs t e = section_id p o xs t e
-inside_id false p m l o xs t e = body_id t.shape (bodied m l o xs t e)
+inside_id b p m l o xs t e = grind (arith, section_id, bodied)
 
 tile_id : (h : Bool) (p : ParserState) (xs : List ℕ) (t : Tile)
     → verdict (cond h (header_grammar p.offset) (inside (known_context p) p.bodies p.code_bytes p.offset)) xs ≡ tile t → HasItsId t.shape
-tile_id true p xs t e = header_id t.shape (headed p.offset xs t e)
-tile_id false p xs t e = inside_id (nat_eq (p.bodies + p.code_bytes) 0) (known_context p) p.bodies p.code_bytes p.offset xs t e
+tile_id h p xs t e = grind (arith, headed, inside_id)
 
 -- ---- the state after a tile, by what is reported of it
 
@@ -215,24 +153,9 @@ tile_id false p xs t e = inside_id (nat_eq (p.bodies + p.code_bytes) 0) (known_c
 abbrev tile_of : Shape → List ℕ → Tile
 tile_of shape b = record { shape = shape; bytes = b }
 
-after_custom : (p : ParserState) (from to : ℕ) (content : List ℕ) (n : Name) → state_after p to (custom_report p.features from to content n)
-    ≡ record p { offset = to; expects_header = false; bodies = 0; code_bytes = 0; in_code = false }
-after_custom p from to content (named text used) = refl
-after_custom p from to content (refused f place) = refl
-
 after_at : (p : ParserState) (shape : Shape) (b : List ℕ) → HasItsId shape → state_after_tile p (tile_of shape b)
     ≡ after_shape p (tile_of shape b)
-after_at p (version num encoding) b h = refl
-after_at p (section items id content) b h = refl
-after_at p (section index id content) b h = ap (λ (i : ℕ). after_shape p (tile_of (section index i content) b)) (sym h)
-after_at p (section data_count id content) b h = ap (λ (i : ℕ). after_shape p (tile_of (section data_count i content) b)) (sym h)
-after_at p (section custom id content) b h = after_custom p (p.offset + length b - length content) (p.offset + length b) content
-    (name (Some name_limit) content)
-after_at p (section unknown id content) b h = refl
-after_at p (code_start count width size) b h = refl
-after_at p (code_entry content) b h =
-    let t : p.offset + length b - p.offset ≡ length b = omega arith in
-    rw t refl
+after_at p shape b h = grind arith
 
 -- the state after a tile that comes next
 pub state_same : (p : ParserState) (d : List ℕ) (t : Tile) → verdict (grammar_of p) d ≡ tile t → state_after_tile p t ≡ after_shape p t
@@ -262,16 +185,13 @@ nothing_passed start features = record {
 code_is_open : (t : Tile) (bodies code_bytes : ℕ) (shape : Shape) → 0 < bodies_after shape bodies + bytes_after t shape code_bytes
     → is_of_code shape
     ≡ true
-code_is_open t bodies code_bytes (code_start count width size) l = refl
-code_is_open t bodies code_bytes (code_entry content) l = refl
-code_is_open t bodies code_bytes (version num encoding) l = absurd (omega (arith, l))
-code_is_open t bodies code_bytes (section form id content) l = absurd (omega (arith, l))
+code_is_open t bodies code_bytes shape l = grind arith
 
 -- a parser whose state is that after the tile that comes next knows what the tiles say, with that one
 pub state_goes_on : (p : ParserState) (start : ℕ) (prefix : List ℕ) (s : IsStateAfter p start prefix) (d : List ℕ) (t : Tile)
     → verdict (grammar_of p) d ≡ tile t → IsStateAfter (state_after_tile p t) start (prefix ++ t.bytes)
 state_goes_on p start prefix s d t e =
-    let v : verdict (grammar start s.tiles) d ≡ tile t = subst (λ (g : Grammar). verdict g d ≡ tile t) (grammar_same p start prefix s) e in
+    let v : verdict (grammar start s.tiles) d ≡ tile t = rw (grammar_same p start prefix s) at e in
     let g : Grown start s.tiles d t = grows start s.tiles d t s.faultless v in
     let f : Fresh s.tiles t.shape = fresh start s.tiles d t v in
     let o : p.offset ≡ start + length prefix = s.offset in
@@ -279,20 +199,18 @@ state_goes_on p start prefix s d t e =
     record {
       tiles = t ∷ s.tiles;
       faultless = g.faultless;
-      is_prefix = ap (λ (x : List ℕ). x ++ t.bytes) s.is_prefix;
+      is_prefix = rw s.is_prefix;
       offset = omega (arith, length-append prefix t.bytes);
       expects_header = refl;
-      encoding = ap (λ (x : ParserState). x.encoding) q ∙ ap (encoding_in t.shape) s.encoding;
+      encoding = cc;
       rank = ap (λ (x : ParserState). x.rank) q ∙ rank_grows (tile_rank t.shape) p.rank (greatest s.tiles) s.rank
           (λ h. greatest_lt (tile_rank t.shape) s.tiles h (f h));
-      functions = ap (λ (x : ParserState). option_to_list x.functions) q
-          ∙ count_same function_id t.shape p.functions s.tiles (lit< tt) s.functions f;
-      codes = ap (λ (x : ParserState). option_to_list x.codes) q ∙ count_same code_id t.shape p.codes s.tiles (lit< tt) s.codes f;
-      datas = ap (λ (x : ParserState). option_to_list x.datas) q ∙ count_same data_id t.shape p.datas s.tiles (lit< tt) s.datas f;
-      data_counts = ap (λ (x : ParserState). option_to_list x.data_counts) q
-          ∙ count_same data_count_id t.shape p.data_counts s.tiles (lit< tt) s.data_counts f;
-      bodies = ap (λ (x : ParserState). x.bodies) q ∙ ap (bodies_after t.shape) s.bodies;
-      code_bytes = ap (λ (x : ParserState). x.code_bytes) q ∙ ap (bytes_after t t.shape) s.code_bytes;
+      functions = grind (arith, count_same);
+      codes = grind (arith, count_same);
+      datas = grind (arith, count_same);
+      data_counts = grind (arith, count_same);
+      bodies = cc;
+      code_bytes = cc;
       in_code = λ h. sym (ap (λ (x : ParserState). x.in_code) q) ∙ h;
       open_code = λ l. ap (λ (x : ParserState). x.in_code) q ∙ code_is_open t (bodies_to_come s.tiles) (bytes_to_come s.tiles) t.shape l;
     }

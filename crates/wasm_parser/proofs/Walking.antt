@@ -7,17 +7,17 @@ use Rattle.std.specs.declared.ops.Range.{Range}
 use Rattle.std.specs.List.{cons_option}
 use Rattle.std.specs.Prelude.{◌↔◌, map, filter_map, All}
 use Rattle.std.specs.Iterator.{Yields, Drains}
-use Rattle.wasm_base.specs.FaultAt.{FaultAt, fault_at}
+use Rattle.wasm_base.specs.FaultAt.{fault_at}
 use Rattle.wasm_base.specs.declared.error.Error.{Error}
 use Rattle.wasm_parser.specs.ParseAnswer.{report_of, is_end}
 use Rattle.wasm_grammar.specs.Content.{Ending, fault, ended}
-use Rattle.wasm_grammar.specs.Grammar.{Tile, Verdict, tile, final, Grammar, verdict}
-use Rattle.wasm_grammar.specs.Reading.{Report, stream_end, tile_report, Event, event_of, events_of, last_event, Reads, Reading, Stream}
+use Rattle.wasm_grammar.specs.Grammar.{Tile, Verdict, tile, final, verdict}
+use Rattle.wasm_grammar.specs.Reading.{Report, stream_end, Event, event_of, events_of, last_event, Reading, Stream}
 use Rattle.wasm_grammar.specs.Sections.{section_of, sections_of, TiledBySections}
 use Rattle.wasm_parser.specs.ParserState.{ParserState, IsStateAfter, initial_state, grammar_of}
 use Rattle.wasm_parser.specs.StateAfter.{state_after_tile}
-use Rattle.wasm_grammar.specs.Tiling.{bytes_of, grammar, Faultless}
-use Rattle.wasm_parser.specs.ParseAll.{HoldsItems, Walk, walk_over, consumed_between, GivesAnswer, NextPayload, sections_given}
+use Rattle.wasm_grammar.specs.Tiling.{bytes_of, grammar}
+use Rattle.wasm_parser.specs.ParseAll.{HoldsItems, Walk, walk_over, consumed_between, NextPayload, sections_given}
 use Rattle.wasm_parser.specs.ParseAll.{given_report, event_report, EndsAt, GivesReading, WalksWhole}
 use Rattle.wasm_parser.specs.declared.payload.Chunk.TheVariants.{Parsed}
 use Rattle.wasm_parser.specs.declared.payload.Payload.{Payload}
@@ -52,8 +52,7 @@ record Walked (start features : ℕ) (stream : List ℕ) (s : Walk) (tiles : Lis
 -- what comes next there
 here : (start features : ℕ) (stream : List ℕ) (s : Walk) (tiles : List Tile) → Walked start features stream s tiles
     → verdict (grammar_of s.state) s.bytes ≡ verdict (grammar start tiles) s.bytes
-here start features stream s tiles w = ap (λ (g : Grammar). verdict g s.bytes)
-    (grammar_same s.state start w.prefix w.is_after ∙ ap (grammar start) w.same)
+here start features stream s tiles w = rw (grammar_same s.state start w.prefix w.is_after ∙ ap (grammar start) w.same)
 
 within : (start features : ℕ) (stream : List ℕ) (s : Walk) (tiles : List Tile) → Walked start features stream s tiles
     → s.state.offset + length s.bytes < 2 ^ 64
@@ -62,10 +61,6 @@ within start features stream s tiles w =
     let n : length stream ≡ length w.prefix + length s.bytes = ap (λ (x : List ℕ). length x) w.whole ∙ length-append w.prefix s.bytes in
     let f : start + length stream < 2 ^ 64 = w.fits in
     omega arith
-
-is_prefix : (start features : ℕ) (stream : List ℕ) (s : Walk) (tiles : List Tile) (w : Walked start features stream s tiles)
-    → bytes_of tiles ≡ w.prefix
-is_prefix start features stream s tiles w = ap bytes_of (sym w.same) ∙ w.is_after.is_prefix
 
 -- a reading that stops here
 stops_here : (start features : ℕ) (stream : List ℕ) (s : Walk) (tiles : List Tile) (w : Walked start features stream s tiles) (end : Ending)
@@ -77,13 +72,13 @@ stops_here start features stream s tiles w end x v t = record {
     end = end;
     reads = record {
       rest = s.bytes;
-      whole = w.whole ∙ ap (λ (y : List ℕ). y ++ s.bytes) (sym (is_prefix start features stream s tiles w));
-      faultless = subst (λ (y : List Tile). Faultless start y) w.same w.is_after.faultless;
+      whole = cc;
+      faultless = grind arith;
       stops = sym (here start features stream s tiles w) ∙ v;
     };
     listed = refl;
   };
-  gives = ap (λ (y : Report). y ∷ []) t;
+  gives = rw t;
 }
 
 -- a tile more
@@ -92,8 +87,8 @@ goes_further : (start features : ℕ) (stream : List ℕ) (tiles : List Tile) (t
     → ReadsOn start features stream tiles (x ∷ others)
 goes_further start features stream tiles t x others e r = record {
   events = event_of features (start + length (bytes_of tiles)) t ∷ r.events;
-  reading = subst (Reading stream start features) (append_assoc (events_of start features tiles)
-      (event_of features (start + length (bytes_of tiles)) t ∷ []) r.events) r.reading;
+  reading = rw (append_assoc (events_of start features tiles)
+      (event_of features (start + length (bytes_of tiles)) t ∷ []) r.events) at r.reading;
   gives = (λ i. e i ∷ r.gives i);
 }
 
@@ -103,29 +98,19 @@ steps_on : (start features : ℕ) (stream : List ℕ) (s m : Walk) (tiles : List
     → m.state ≡ state_after_tile s.state t → m.bytes ≡ drop consumed s.bytes → Walked start features stream m (t ∷ tiles)
 steps_on start features stream s m tiles w t consumed v n p b =
     let v' : verdict (grammar start w.is_after.tiles) s.bytes ≡ tile t =
-    subst (λ (g : Grammar). verdict g s.bytes ≡ tile t) (grammar_same s.state start w.prefix w.is_after) v in
-    let g : Grown start w.is_after.tiles s.bytes t = grows start w.is_after.tiles s.bytes t w.is_after.faultless v' in
-    let d : m.bytes ≡ g.rest = b ∙ (ap (λ (k : ℕ). drop k s.bytes) n
-    ∙ (ap (drop (length t.bytes)) g.split ∙ drop_at t.bytes g.rest (length t.bytes) refl)) in
+    rw (grammar_same s.state start w.prefix w.is_after) at v in
+    let g : Grown start w.is_after.tiles s.bytes t = search grows in
+    let d : m.bytes ≡ g.rest = grind (arith, drop_at) in
     let on : Walked start features stream (record { state = state_after_tile s.state t; bytes = g.rest; ended = m.ended }) (t ∷ tiles) =
     record {
       prefix = w.prefix ++ t.bytes;
-      is_after = state_goes_on s.state start w.prefix w.is_after s.bytes t v;
-      same = state_goes_on-tiles s.state start w.prefix w.is_after s.bytes t v ∙ ap (λ (y : List Tile). t ∷ y) w.same;
+      is_after = search state_goes_on;
+      same = search state_goes_on-tiles;
       whole = w.whole ∙ (ap (λ (y : List ℕ). w.prefix ++ y) g.split ∙ sym (append_assoc w.prefix t.bytes g.rest));
       takes = w.takes;
       fits = w.fits;
     } in
-    subst (λ (y : Walk). Walked start features stream y (t ∷ tiles)) (λ i. record { state = sym p i; bytes = sym d i; ended = m.ended }) on
-
--- what a payload reports of a tile there
-report_there : (start features : ℕ) (stream : List ℕ) (s : Walk) (tiles : List Tile) (w : Walked start features stream s tiles) (t : Tile)
-    (x : Report) → x ≡ tile_report s.state.features s.state.offset (s.state.offset + length t.bytes) t.shape
-    → x ≡ event_report (event_of features (start + length (bytes_of tiles)) t)
-report_there start features stream s tiles w t x e =
-    let o : s.state.offset ≡ start + length (bytes_of tiles) = w.is_after.offset
-    ∙ ap (λ (y : List ℕ). start + length y) (sym (is_prefix start features stream s tiles w)) in
-    e ∙ (λ i. tile_report (w.takes i) (o i) (o i + length t.bytes) t.shape)
+    grind arith
 
 -- ---- the whole walk
 
@@ -133,8 +118,7 @@ report_there start features stream s tiles w t x e =
 walks : (start features : ℕ) (stream : List ℕ) (given : List (Result Payload Error)) (s t u : Walk) (tiles : List Tile)
     → Walked start features stream s tiles → s.ended ≡ false → Yields NextPayload s given t → NextPayload t None u
     → ReadsOn start features stream tiles (map given_report given)
-walks start features stream [] s t u tiles w going run end = absurd
-    (subst (λ (y : Walk). y.ended ≡ false → GivesAnswer y None u) (sym run) end.going going)
+walks start features stream [] s t u tiles w going run end = grind arith
 walks start features stream (Err e ∷ given) s t u tiles w going run end =
     let step = run.1.going going in
     let none : given ≡ [] = over_gives_nothing run.0 t given step.2 run.2 in
@@ -148,13 +132,12 @@ walks start features stream (Err e ∷ given) s t u tiles w going run end =
         → ReadsOn start features stream tiles (stream_end (fault (fault_at e)) ∷ [])
     refused (tile x) q a = absurd a
     refused (final (fault f)) q a = stops_here start features stream s tiles w (fault f) (stream_end (fault (fault_at e))) q
-        (ap (λ (x : FaultAt). stream_end (fault x)) a.0)
+        (rw a.0)
     refused (final (ended o)) q a = absurd a
 walks start features stream (Ok payload ∷ given) s t u tiles w going run end =
     let step = run.1.going going in
     answered (λ ts on still. walks start features stream given run.0 t u ts on still run.2 end) (verdict (grammar_of s.state) s.bytes) refl
-    ((as_table s.state run.0.state true s.bytes (Ok (Parsed (consumed_between s run.0) payload)) step.0).within
-    (within start features stream s tiles w))
+    (grind (arith, as_table, within))
   where
     answered : ((ts : List Tile) → Walked start features stream run.0 ts → run.0.ended ≡ false
         → ReadsOn start features stream ts (map given_report given)) → (v : Verdict) → verdict (grammar_of s.state) s.bytes ≡ v
@@ -162,17 +145,15 @@ walks start features stream (Ok payload ∷ given) s t u tiles w going run end =
         → ReadsOn start features stream tiles (report_of payload ∷ map given_report given)
     answered next (tile x) q a =
         let on : Walked start features stream run.0 (x ∷ tiles) =
-        steps_on start features stream s run.0 tiles w x (consumed_between s run.0) q a.0 a.2 (run.1.going going).1 in
-        let still : run.0.ended ≡ false = (run.1.going going).2
-        ∙ (ap is_end a.1.0 ∙ goes_on s.state.features s.state.offset (s.state.offset + length x.bytes) x.shape) in
+        grind (arith, steps_on) in
+        let still : run.0.ended ≡ false = grind (arith, goes_on) in
         goes_further start features stream tiles x (report_of payload) (map given_report given)
-        (report_there start features stream s tiles w x (report_of payload) a.1.0) (next (x ∷ tiles) on still)
+        (cc) (next (x ∷ tiles) on still)
     answered next (final (fault f)) q a = absurd a
     answered next (final (ended o)) q a =
         let over : run.0.ended ≡ true = (run.1.going going).2 ∙ ap is_end a.1.0 in
         let none : given ≡ [] = over_gives_nothing run.0 t given over run.2 in
-        subst (λ (y : List (Result Payload Error)). ReadsOn start features stream tiles (report_of payload ∷ map given_report y)) (sym none)
-        (stops_here start features stream s tiles w (ended o) (report_of payload) q a.1.0)
+        grind (arith, stops_here)
 
 -- a walk that has not begun
 begins : (start features : ℕ) (bytes : List ℕ) → start + length bytes < 2 ^ 64
@@ -188,15 +169,13 @@ begins start features bytes l = record {
 
 walk_reads : (start features : ℕ) (bytes : List ℕ) → start + length bytes < 2 ^ 64 → (given : List (Result Payload Error))
     → Drains NextPayload (walk_over (initial_state start features) bytes) given → ReadsOn start features bytes [] (map given_report given)
-walk_reads start features bytes l given run = walks start features bytes given (walk_over (initial_state start features) bytes) run.1.0
-    run.0 [] (begins start features bytes l) refl run.1.1 run.1.2
+walk_reads start features bytes l given run = search (walks, begins)
 
 -- ---- how it ends
 
 ends_append : (o : ℕ) (xs : List Report) (x : Report) → EndsAt o (xs ++ x ∷ []) ↔ (x ≡ stream_end (ended o))
-ends_append o [] x = (λ h. h, λ h. h)
-ends_append o (y ∷ []) x = (λ h. h, λ h. h)
 ends_append o (y ∷ (z ∷ zs)) x = ends_append o (z ∷ zs) x
+ends_append o _ x = (λ h. h, λ h. h)
 
 map_append : (xs ys : List Event) → map event_report (xs ++ ys) ≡ map event_report xs ++ map event_report ys
 map_append [] ys = refl
@@ -204,8 +183,7 @@ map_append (x ∷ xs) ys = ap (λ (l : List Report). x.report ∷ l) (map_append
 
 -- the end that was reported is that of the reading
 report_end : (o : ℕ) (e : Ending) → stream_end e ≡ stream_end (ended o) → e ≡ ended o
-report_end o (fault f) h = cc
-report_end o (ended x) h = let z : x ≡ o = cc in ap ended z
+report_end o e h = cc
 
 -- what is given of the images of a list
 mapped : {X Y Z : Type 0} (f : X → Y) (h : Y → Option Z) (xs : List X) → filter_map (λ x. h (f x)) xs ≡ filter_map h (map f xs)
@@ -220,9 +198,7 @@ same_sections given events e = mapped event_report section_of events
 
 -- each payload that a walk gives holds its items
 holds_one : (b : Bool) (s t : Walk) (x : Result Payload Error) → s.ended ≡ b → NextPayload s (Some x) t → HoldsItems x
-holds_one true s t x e n = absurd (let z = (n.over e).0 in cc)
-holds_one false s t (Ok payload) e n = (n.going e).0.items
-holds_one false s t (Err f) e n = tt
+holds_one b s t x e n = grind arith
 
 holds_all : (given : List (Result Payload Error)) (s t : Walk) → Yields NextPayload s given t → All HoldsItems given
 holds_all [] s t run = All-nil HoldsItems
@@ -232,15 +208,14 @@ gives_reading : (start features : ℕ) (bytes : List ℕ) → Stream bytes start
     → GivesReading start features bytes (walk_over (initial_state start features) bytes)
 gives_reading start features bytes stream = record {
   reading = λ given run events r.
-      let w : ReadsOn start features bytes [] (map given_report given) = walk_reads start features bytes stream.fits given run in
-      w.gives ∙ ap (map event_report) (reading_same bytes start features w.events events w.reading r);
+      let w : ReadsOn start features bytes [] (map given_report given) = search walk_reads in
+      w.gives ∙ ap (map event_report) (search reading_same);
   items = λ given run. holds_all given (walk_over (initial_state start features) bytes) run.1.0 run.1.1;
   accepted = λ given run.
-      let w : ReadsOn start features bytes [] (map given_report given) = walk_reads start features bytes stream.fits given run in
+      let w : ReadsOn start features bytes [] (map given_report given) = search walk_reads in
       let a = accepted_ends bytes start stream in
       let l : map given_report given ≡ map event_report (events_of start features w.reading.tiles) ++ stream_end w.reading.end ∷ [] =
-      w.gives ∙ (ap (map event_report) w.reading.listed ∙ map_append (events_of start features w.reading.tiles)
-      (last_event w.reading.end ∷ [])) in
+      grind (arith, map_append) in
       let told = map event_report (events_of start features w.reading.tiles) in
       let e = ends_append (start + length bytes) told (stream_end w.reading.end) in (
         λ h.
@@ -250,18 +225,16 @@ gives_reading start features bytes stream = record {
             subst (EndsAt (start + length bytes)) (sym l) (e.1 (ap stream_end same)),
         λ h.
             let same : w.reading.end ≡ ended (start + length bytes) =
-            report_end (start + length bytes) w.reading.end (e.0 (subst (EndsAt (start + length bytes)) l h)) in
-            a.1 (w.reading.tiles, subst (Reads bytes start w.reading.tiles) same w.reading.reads),
+            grind (arith, report_end) in
+            a.1 (grind arith),
       );
   sections = λ given run a.
-      let w : ReadsOn start features bytes [] (map given_report given) = walk_reads start features bytes stream.fits given run in
+      let w : ReadsOn start features bytes [] (map given_report given) = search walk_reads in
       subst (λ (y : List (ℕ × Range ℕ)). TiledBySections bytes start y a.encoding a.frames) (same_sections given w.events w.gives)
-      (sections_tile bytes start features w.events stream a w.reading);
+      (search sections_tile);
 }
 
 -- the walk of a parser that has passed nothing
 pub walks_whole : (p : ParserState) (bytes : List ℕ) (walk : Walk) → All (λ b. b < 256) bytes → walk ≡ walk_over p bytes
     → WalksWhole p bytes walk
-walks_whole p bytes walk each w start features same fits =
-    subst (GivesReading start features bytes) (sym (w ∙ ap (λ (q : ParserState). walk_over q bytes) same))
-    (gives_reading start features bytes (record { each = each; fits = fits }))
+walks_whole p bytes walk each w start features same fits = grind (arith, gives_reading)

@@ -78,7 +78,7 @@ all_counts encoding n p [] = refl
 all_counts encoding n p (f ∷ fs) =
     list_all-append p (counts_of encoding n fs) (one_count encoding n f)
     ∙ (and_comm (list_all p (counts_of encoding n fs)) (list_all p (one_count encoding n f))
-    ∙ (ap (λ (b : Bool). b && list_all p (counts_of encoding n fs)) (one_all (is_section encoding n f) p (frame_count f))
+    ∙ (ap (λ (b : Bool). b && list_all p (counts_of encoding n fs)) (search one_all)
     ∙ ap (λ (b : Bool). advances encoding n p f && b) (all_counts encoding n p fs)))
 
 -- a count passes exactly if a frame does
@@ -88,7 +88,7 @@ any_counts encoding n p [] = refl
 any_counts encoding n p (f ∷ fs) =
     list_any-append p (counts_of encoding n fs) (one_count encoding n f)
     ∙ (or_comm (list_any p (counts_of encoding n fs)) (list_any p (one_count encoding n f))
-    ∙ (ap (λ (b : Bool). b || list_any p (counts_of encoding n fs)) (one_any (is_section encoding n f) p (frame_count f))
+    ∙ (ap (λ (b : Bool). b || list_any p (counts_of encoding n fs)) (search one_any)
     ∙ ap (λ (b : Bool). offends encoding n p f || b) (any_counts encoding n p fs)))
 
 -- one more section, if it is one, is one more count
@@ -112,8 +112,7 @@ passes_to false t h = refl
 
 -- what such a test says where it is asked for
 passes_of : (b t : Bool) → (not b || t) ≡ true → b ≡ true → t ≡ true
-passes_of true t e f = e
-passes_of false t e f = cc
+passes_of b t e f = cc
 
 -- each section with this id has this count
 abbrev pub HasCount : Encoding → ℕ → ℕ → List SectionFrame → Type 0
@@ -132,5 +131,4 @@ pub same_of : (encoding : Encoding) (n c : ℕ) (fs : List SectionFrame) → lis
     → HasCount encoding n c fs
 same_of encoding n c fs e =
     all_of (advances encoding n (nat_eq c)) (λ g. IsSection encoding n g → frame_count g ≡ c)
-    (λ g h s. sym (eqb-true c (frame_count g) (passes_of (is_section encoding n g) (nat_eq c (frame_count g)) h
-    (yes_section encoding n g s)))) fs (sym (all_counts encoding n (nat_eq c) fs) ∙ e)
+    (λ g h s. sym (eqb-true c (frame_count g) (search (passes_of, yes_section)))) fs (sym (all_counts encoding n (nat_eq c) fs) ∙ e)

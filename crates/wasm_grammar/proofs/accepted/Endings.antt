@@ -1,5 +1,5 @@
 -- A reading ends at the end exactly where no section misses its other section.
-use Rattle.std.proofs.Common.{◌≡◌, ℕ, ◌<◌, inl, inr, Bool, true, false, cond, ◌&&◌, List, length, nat_lt, nat_eq, refl, sym, subst, ◌∙◌}
+use Rattle.std.proofs.Common.{◌≡◌, ℕ, ◌<◌, inl, inr, Bool, true, false, cond, ◌&&◌, List, length, nat_lt, nat_eq, refl, sym, ◌∙◌}
 use Rattle.std.proofs.Common.{ltb-true, lt-ltb}
 use Rattle.std.specs.List.{Any, list_any}
 use Rattle.std.proofs.lemmas.Bool.{and_parts, and_from, and_cases, and_right, false_from_ne_true}
@@ -28,7 +28,7 @@ matched_any encoding n other fs m z e =
     (section_yes encoding n g q.0, ltb-true 0 (frame_count g) q.1))
     fs (sym (any_counts encoding n (nat_lt 0) fs) ∙ e) in
     let h : IsSection encoding n a.1 → 0 < frame_count a.1 → Any (IsSection encoding other) fs =
-    subst (λ (g : SectionFrame). IsSection encoding n g → 0 < frame_count g → Any (IsSection encoding other) fs) a.3 (m a.0 a.1 a.2) in
+    rw a.3 at (m a.0 a.1 a.2) in
     let f : nat_eq (length (counts_of encoding other fs)) 0 ≡ false = some_to encoding other fs (h a.4.0 a.4.1) in
     cc
 
@@ -73,9 +73,8 @@ ends_to a b e f o p q = rw (p, q) refl
 
 -- where a stream may end neither fault holds
 ends_from : (a b : Bool) (e f : FaultAt) (o p : ℕ) → cond a (fault e) (cond b (fault f) (ended o)) ≡ ended p → (a ≡ false) × (b ≡ false)
-ends_from true b e f o p h = cc
-ends_from false true e f o p h = cc
 ends_from false false e f o p h = (refl, refl)
+ends_from _ _ e f o p h = cc
 
 -- how a stream ends, reported of its frames
 misses_same : (encoding : Encoding) (fs : List SectionFrame) (p : SectionContext) → Knows encoding fs p → (o : ℕ)
@@ -95,4 +94,4 @@ pub end_from : (encoding : Encoding) (fs : List SectionFrame) (p : SectionContex
 end_from encoding fs p k o e h =
     let q : ((misses encoding function_id 10 fs ≡ false) × (misses encoding data_count_id 11 fs ≡ false)) =
     ends_from _ _ _ _ o e (sym (misses_same encoding fs p k o) ∙ h) in
-    (matched_from encoding function_id 10 fs q.0, matched_from encoding data_count_id 11 fs q.1)
+    search matched_from

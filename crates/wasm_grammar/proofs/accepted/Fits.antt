@@ -1,17 +1,16 @@
 -- A section may follow other tiles exactly if it fits after their frames.
-use Rattle.std.proofs.Common.{◌≡◌, ℕ, zero, suc, ◌<◌, ◌⊎◌, inl, inr, ◌==◌, Bool, true, false, cond, not, ◌&&◌, List, length, refl, sym, ap}
-use Rattle.std.proofs.Common.{subst, ◌∙◌, arith, Some, None, nat_lt, nat_eq, eqb-true, eq-eqb, ltb-true, lt-ltb}
-use Rattle.std.proofs.lemmas.Bool.{not-false}
-use Rattle.std.specs.List.{All, Any, list_all, list_any}
+use Rattle.std.proofs.Common.{◌≡◌, ℕ, ◌<◌, ◌⊎◌, ◌==◌, Bool, true, false, not, ◌&&◌, List, length, refl, sym, ap}
+use Rattle.std.proofs.Common.{subst, ◌∙◌, arith, None, nat_lt, nat_eq, eqb-true, eq-eqb, ltb-true, lt-ltb}
+use Rattle.std.specs.List.{All, Any, list_all}
 use Rattle.wasm_base.specs.FaultAt.{FaultAt, at_offset}
-use Rattle.wasm_base.specs.declared.fault.Fault.TheVariants.{FunctionCodeDiffer, CodeWithoutFunction, DataCountDiffer}
+use Rattle.wasm_base.specs.declared.fault.Fault.TheVariants.{DataCountDiffer}
 use Rattle.wasm_grammar.proofs.accepted.Tiles.{IsWhole, same_form}
 use Rattle.wasm_grammar.specs.declared.encoding.Encoding.{Encoding}
-use Rattle.wasm_grammar.specs.declared.encoding.Encoding.TheVariants.{Module, Component}
-use Rattle.wasm_grammar.specs.Content.{custom, items, index, data_count, unknown, kind_of, when, Form, whole}
+use Rattle.wasm_grammar.specs.declared.encoding.Encoding.TheVariants.{Module}
+use Rattle.wasm_grammar.specs.Content.{items, kind_of, when, Form, whole}
 use Rattle.wasm_grammar.specs.Grammar.{SectionContext, wrong_count, wrong_data}
 use Rattle.wasm_grammar.specs.Accepted.{SectionFrame, frame_count, frame_rank, IsSection}
-use Rattle.wasm_grammar.proofs.parts.Placed.{Follows, follows_all}
+use Rattle.wasm_grammar.proofs.parts.Placed.{Follows}
 use Rattle.wasm_grammar.proofs.PlainLists.{all_of, all_to, any_of, any_to}
 use Rattle.wasm_grammar.proofs.accepted.Counts.{is_section, counts_of, Knows, section_yes, yes_section, no_counts, HasCount, same_to}
 use Rattle.wasm_grammar.proofs.accepted.Counts.{same_of}
@@ -19,8 +18,7 @@ use Rattle.wasm_grammar.specs.Ids.{data_count_id, data_id, function_id}
 
 -- a rank that is asked for only above 0
 follows_to : (r : ℕ) (b : Bool) → (0 < r → b ≡ true) → (nat_lt 0 r && not b) ≡ false
-follows_to zero b h = refl
-follows_to (suc r) b h = let e : b ≡ true = h (omega arith) in rw (e, lt-ltb 0 (suc r) (omega arith))
+follows_to r b h = grind arith
 
 -- a section that ranks above the frames may follow
 pub rank_to : (encoding : Encoding) (fs : List SectionFrame) (p : SectionContext) → Knows encoding fs p → (r : ℕ)
@@ -35,7 +33,7 @@ pub rank_from : (encoding : Encoding) (fs : List SectionFrame) (p : SectionConte
 rank_from encoding fs p k r f l =
     all_of (λ (g : SectionFrame). nat_lt (frame_rank encoding g) r) (λ g. frame_rank encoding g < r)
     (λ g. ltb-true (frame_rank encoding g) r) fs
-    (sym (k.ranks r l) ∙ follows_all r (p.may_follow r) f l)
+    (grind arith)
 
 -- there is a section with this id
 pub some_to : (encoding : Encoding) (n : ℕ) (fs : List SectionFrame) → Any (IsSection encoding n) fs
@@ -48,82 +46,34 @@ pub some_from : (encoding : Encoding) (n : ℕ) (fs : List SectionFrame) → nat
     → Any (IsSection encoding n) fs
 some_from encoding n fs e =
     any_of (is_section encoding n) (IsSection encoding n) (λ g. section_yes encoding n g) fs
-    (not-false (list_any (is_section encoding n) fs) (sym (no_counts encoding n fs) ∙ e))
+    (grind (arith, no_counts))
 
 -- what a code section with this count wants of the frames before it
 pub record CodeFits (encoding : Encoding) (fs : List SectionFrame) (c : ℕ) : Type 0 where
   pub bodies : HasCount encoding function_id c fs
   pub functions : Any (IsSection encoding function_id) fs ⊎ (c ≡ 0)
 
--- nothing is wrong with a code section's count, if the counts agree and there are functions or no bodies
-right_count : (all none : Bool) (c : ℕ) (e f : FaultAt) → all ≡ true → (none ≡ false) ⊎ (c ≡ 0)
-    → cond (not all) (Some e) (when (nat_lt 0 c && none) f) ≡ None
-right_count all none c e f a (inl b) = rw (a, b) (when_right (nat_lt 0 c))
-  where
-    when_right : (b : Bool) → when (b && false) f ≡ None
-    when_right true = refl
-    when_right false = refl
-right_count all none c e f a (inr b) = rw (a, b) refl
-
 -- a code section that fits has the right count
 pub code_to : (encoding : Encoding) (fs : List SectionFrame) (p : SectionContext) → Knows encoding fs p → (o c : ℕ) → CodeFits encoding fs c
     → wrong_count p o c ≡ None
-code_to encoding fs p k o c h =
-    right_count (list_all (nat_eq c) p.functions) (nat_eq (length p.functions) 0) c (at_offset FunctionCodeDiffer o)
-    (at_offset CodeWithoutFunction o)
-    (ap (list_all (nat_eq c)) k.functions ∙ same_to encoding function_id c fs h.bodies)
-    (elim h.functions [
-      | inl a ↦ inl (ap (λ (x : List ℕ). nat_eq (length x) 0) k.functions ∙ some_to encoding function_id fs a)
-      | inr z ↦ inr
-          z
-    ])
-
--- what it says that nothing is wrong with a code section's count
-count_right : (all none : Bool) (c : ℕ) (e f : FaultAt) → cond (not all) (Some e) (when (nat_lt 0 c && none) f) ≡ None → (all ≡ true)
-    × ((none ≡ false) ⊎ (c ≡ 0))
-count_right false none c e f h = cc
-count_right true false c e f h = (refl, inl refl)
-count_right true true zero e f h = (refl, inr refl)
-count_right true true (suc c) e f h = let z : nat_lt 0 (suc c) ≡ true = lt-ltb 0 (suc c) (omega arith) in let w : Some f
-    ≡ None = rw z at h in cc
+code_to encoding fs p k o c h = grind (arith, same_to, some_to)
 
 -- a code section with the right count fits
 pub code_from : (encoding : Encoding) (fs : List SectionFrame) (p : SectionContext) → Knows encoding fs p → (o c : ℕ) → wrong_count p o c
     ≡ None → CodeFits encoding fs c
-code_from encoding fs p k o c h =
-    let r : ((list_all (nat_eq c) p.functions ≡ true) × ((nat_eq (length p.functions) 0 ≡ false) ⊎ (c ≡ 0))) =
-    count_right (list_all (nat_eq c) p.functions) (nat_eq (length p.functions) 0) c (at_offset FunctionCodeDiffer o)
-    (at_offset CodeWithoutFunction o) h in
-    record {
-      bodies = same_of encoding function_id c fs (sym (ap (list_all (nat_eq c)) k.functions) ∙ r.0);
-      functions = elim r.1 [
-        | inl a ↦ inl (some_from encoding function_id fs
-            (sym (ap (λ (x : List ℕ). nat_eq (length x) 0) k.functions) ∙ a))
-        | inr z
-            ↦ inr z
-      ];
-    }
+code_from encoding fs p k o c h = grind (arith, same_of, some_from)
 
 -- nothing is wrong with a count that isn't asked for, or agrees
 data_right : (b all : Bool) (e : FaultAt) → (b ≡ true → all ≡ true) → when (b && not all) e ≡ None
-data_right true all e h = rw (h refl) refl
-data_right false all e h = refl
+data_right b all e h = grind arith
 
 -- a count with which nothing is wrong agrees where it is asked for
 right_data : (b all : Bool) (e : FaultAt) → when (b && not all) e ≡ None → b ≡ true → all ≡ true
-right_data true true e h z = refl
-right_data true false e h z = cc
-right_data false all e h z = cc
-
--- a component has no section of items
-pub no_items : (id : ℕ) → kind_of Component id ≡ whole items → ⊥
-no_items zero e = cc
-no_items (suc id) e = cc
+right_data b all e h z = grind arith
 
 -- sections of items are a module's
 items_in : (encoding : Encoding) (id : ℕ) → kind_of encoding id ≡ whole items → encoding ≡ Module
-items_in Module id e = refl
-items_in Component id e = absurd (no_items id e)
+items_in encoding id e = grind arith
 
 -- a section that fits has the right count of segments
 pub data_to : (encoding : Encoding) (fs : List SectionFrame) (p : SectionContext) → Knows encoding fs p → (f : SectionFrame) (o : ℕ)
@@ -133,10 +83,7 @@ data_to encoding fs p k f o h items e =
     data_right (f.id == data_id) (list_all (nat_eq (frame_count f)) p.data_counts) (at_offset DataCountDiffer o)
     (λ z. ap (list_all (nat_eq (frame_count f))) k.data_counts ∙ same_to encoding data_count_id (frame_count f) fs
     (h (items_in encoding f.id e, eqb-true f.id data_id z)))
-data_to encoding fs p k f o h custom e = refl
-data_to encoding fs p k f o h index e = refl
-data_to encoding fs p k f o h data_count e = refl
-data_to encoding fs p k f o h unknown e = refl
+data_to encoding fs p k f o h _ e = refl
 
 -- a section with the right count of segments fits
 pub data_from : (encoding : Encoding) (fs : List SectionFrame) (p : SectionContext) → Knows encoding fs p

@@ -1,5 +1,5 @@
 -- A stream whose reading ends at its end is accepted.
-use Rattle.std.proofs.Common.{◌≡◌, ℕ, ◌+◌, ◌<◌, List, [], ◌∷◌, ◌++◌, length, nat_eq, refl, sym, ap, subst, ◌∙◌, append-nil}
+use Rattle.std.proofs.Common.{◌≡◌, ℕ, ◌+◌, ◌<◌, List, [], ◌∷◌, ◌++◌, length, nat_eq, refl, sym, ap, ◌∙◌, append-nil}
 use Rattle.std.specs.List.{All}
 use Rattle.wasm_grammar.specs.declared.encoding.Encoding.{Encoding}
 use Rattle.wasm_grammar.specs.Content.{ended}
@@ -28,7 +28,7 @@ header_settled start t a h =
       sections = in_order_none e;
       closed = refl;
     } in
-    subst (λ (x : Tile). Settled (x ∷ [])) (sym p.is) r
+    rw p.is r
 
 -- whole sections, and a beginning of a code section, go on
 accepted_goes : (start : ℕ) → Goes start Settled Pending
@@ -49,7 +49,7 @@ reads_accepted stream start p (t ∷ ts) a r =
     let us : List Tile = t ∷ ts in
     let (b, d, e) = inside_end (nat_eq (bodies_to_come us + bytes_to_come us) 0) (context_of us) (bodies_to_come us) (bytes_to_come us)
     (start + length (bytes_of us)) r.rest p r.stops in
-    let f : All (λ b. b < 256) (bytes_of us) = all_prefix (λ b. b < 256) (bytes_of us) r.rest (subst (All (λ b. b < 256)) r.whole a) in
+    let f : All (λ b. b < 256) (bytes_of us) = all_prefix (λ b. b < 256) (bytes_of us) r.rest (rw r.whole at a) in
     let q : Settled us = closed_at start Settled Pending (accepted_goes start) us
     (sections_of_tiles start Settled Pending (accepted_goes start) t ts r.faultless f) b in
     let m : (IsMatched (encoding_of us) 3 10 q.frames × IsMatched (encoding_of us) 12 11 q.frames) =

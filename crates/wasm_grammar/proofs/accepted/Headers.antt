@@ -1,6 +1,6 @@
 -- The header's tile has the header's bytes.
-use Rattle.std.proofs.Common.{◌≡◌, ℕ, ◌+◌, ◌*◌, ◌/◌, ◌%◌, ◌<◌, ◌⊎◌, inl, inr, ◌==◌, Bool, true, false, cond, not, ◌&&◌, List, [], ◌∷◌, ◌++◌}
-use Rattle.std.proofs.Common.{length, Option, Some, None, nat_eq, refl, sym, ap, subst, ◌∙◌, arith, eqb-true}
+use Rattle.std.proofs.Common.{◌≡◌, ℕ, ◌+◌, ◌/◌, ◌%◌, ◌<◌, true, not, List, [], ◌∷◌, ◌++◌}
+use Rattle.std.proofs.Common.{length, Option, None, nat_eq, refl, arith, eqb-true}
 use Rattle.std.specs.List.{All}
 use Rattle.std.proofs.lemmas.Bool.{and_parts, not-false}
 use Rattle.wasm_base.specs.FaultAt.{at_offset}
@@ -14,7 +14,7 @@ use Rattle.wasm_grammar.specs.Grammar.{version, Tile, tile, check, bytes, verdic
 use Rattle.wasm_grammar.specs.Accepted.{header_bytes}
 use Rattle.wasm_grammar.proofs.parts.Placed.{none_when}
 use Rattle.wasm_grammar.proofs.accepted.Tiles.{made, header_version}
-use Rattle.wasm_grammar.proofs.accepted.Parts.{BytesParts, bytes_parts, refuse_parts, takes_parts, ends_there}
+use Rattle.wasm_grammar.proofs.accepted.Parts.{BytesParts, bytes_parts, refuse_parts, ends_there}
 
 -- the 32 bits after the magic
 abbrev pub header_bits : Encoding → ℕ
@@ -26,102 +26,36 @@ abbrev pub last_four : Encoding → List ℕ
 last_four Module = 0x01 ∷ 0x00 ∷ 0x00 ∷ 0x00 ∷ []
 last_four Component = 0x0d ∷ 0x00 ∷ 0x01 ∷ 0x00 ∷ []
 
--- which of two tests named an encoding
-named_test : (a b : Bool) (encoding : Encoding) → cond a (Some Module) (cond b (Some Component) None) ≡ Some encoding
-    → ((a ≡ true) × (encoding ≡ Module)) ⊎ ((b ≡ true) × (encoding ≡ Component))
-named_test true b encoding e = inl (refl, cc)
-named_test false true encoding e = inr (refl, cc)
-named_test false false encoding e = cc
-
--- the bits that name a module
-module_bits : (bits : ℕ) (encoding : Encoding) → ((bits % 65536) == 1 && (bits / 65536) == 0) ≡ true → encoding ≡ Module
-    → (bits ≡ header_bits encoding) × (bits % 65536 ≡ header_version encoding)
-module_bits bits encoding e z =
-    let q : ((((bits % 65536) == 1) ≡ true) × (((bits / 65536) == 0) ≡ true)) = and_parts _ _ e in
-    let v : bits % 65536 ≡ 1 = eqb-true _ _ q.0 in
-    let l : bits / 65536 ≡ 0 = eqb-true _ _ q.1 in
-    let b : bits ≡ 1 = omega arith in
-    (b ∙ ap header_bits (sym z), v ∙ ap header_version (sym z))
-
--- the bits that name a component
-component_bits : (bits : ℕ) (encoding : Encoding) → ((bits % 65536) == 13 && (bits / 65536) == 1) ≡ true → encoding ≡ Component
-    → (bits ≡ header_bits encoding) × (bits % 65536 ≡ header_version encoding)
-component_bits bits encoding e z =
-    let q : ((((bits % 65536) == 13) ≡ true) × (((bits / 65536) == 1) ≡ true)) = and_parts _ _ e in
-    let v : bits % 65536 ≡ 13 = eqb-true _ _ q.0 in
-    let l : bits / 65536 ≡ 1 = eqb-true _ _ q.1 in
-    let b : bits ≡ 65549 = omega arith in
-    (b ∙ ap header_bits (sym z), v ∙ ap header_version (sym z))
-
--- the bits that name an encoding
-named_bits : (bits : ℕ) (encoding : Encoding) → encoding_named (bits % 65536) (bits / 65536) ≡ Some encoding → (bits ≡ header_bits encoding)
-    × (bits % 65536 ≡ header_version encoding)
-named_bits bits encoding e =
-    elim (named_test ((bits % 65536) == 1 && (bits / 65536) == 0) ((bits % 65536) == 13 && (bits / 65536) == 1) encoding e) [
-      | inl a ↦ module_bits bits encoding a.0 a.1
-      | inr b ↦ component_bits bits encoding b.0 b.1
-    ]
-
 -- a header's tile after its bits
 of_header : (o bits : ℕ) (e : Option Encoding) (xs : List ℕ) (t : Tile) → encoding_named (bits % 65536) (bits / 65536) ≡ e
     → verdict (header_of o bits e) xs ≡ tile t
     → (encoding : Encoding) × (bits ≡ header_bits encoding) × (t ≡ made (version (header_version encoding) encoding) [])
 unfolding verdict
-of_header o bits (Some encoding) xs t e h =
-    let (b, v) = named_bits bits encoding e in
-    (encoding, b, takes_parts (version (bits % 65536) encoding) xs t h ∙ ap (λ (x : ℕ). made (version x encoding) []) v)
-of_header o bits None xs t e h = cc
+of_header o bits e xs t m h = grind arith
 
 -- lists of one length that agree are one
 agree_whole : (xs ys : List ℕ) → length xs ≡ length ys → agree xs ys ≡ true → xs ≡ ys
 agree_whole [] [] l e = refl
-agree_whole [] (y ∷ ys) l e = absurd (omega arith)
-agree_whole (x ∷ xs) [] l e = absurd (omega arith)
 agree_whole (x ∷ xs) (y ∷ ys) l e =
     let q : ((nat_eq x y ≡ true) × (agree xs ys ≡ true)) = and_parts _ _ e in
     let a : x ≡ y = eqb-true x y q.0 in
     let b : xs ≡ ys = agree_whole xs ys (omega arith) q.1 in
     cc
+agree_whole _ _ l e = absurd (omega arith)
 
 -- four bytes
 four_parts : (xs : List ℕ) → length xs ≡ 4 → (a : ℕ) × (b : ℕ) × (c : ℕ) × (d : ℕ) × (xs ≡ a ∷ b ∷ c ∷ d ∷ [])
-four_parts [] l = absurd (omega arith)
-four_parts (a ∷ []) l = absurd (omega arith)
-four_parts (a ∷ b ∷ []) l = absurd (omega arith)
-four_parts (a ∷ b ∷ c ∷ []) l = absurd (omega arith)
 four_parts (a ∷ b ∷ c ∷ d ∷ []) l = (a, b, c, d, refl)
-four_parts (a ∷ b ∷ c ∷ d ∷ x ∷ xs) l = absurd (omega arith)
-
--- four bytes with the bits of an encoding, one by one
-bits_bytes : (encoding : Encoding) (a b c d : ℕ) → a < 256 → b < 256 → c < 256 → d < 256 → a + 256 * b + 65536 * c + 16777216 * d
-    ≡ header_bits encoding → a ∷ b ∷ c ∷ d ∷ [] ≡ last_four encoding
-bits_bytes Module a b c d k l m n e =
-    let w : a ≡ 1 = omega arith in
-    let x : b ≡ 0 = omega arith in
-    let y : c ≡ 0 = omega arith in
-    let z : d ≡ 0 = omega arith in
-    cc
-bits_bytes Component a b c d k l m n e =
-    let z : d ≡ 0 = omega arith in
-    let y : c ≡ 1 = omega arith in
-    let x : b ≡ 0 = omega arith in
-    let w : a ≡ 13 = omega arith in
-    cc
+four_parts _ l = absurd (omega arith)
 
 -- four bytes with the bits of an encoding are its last bytes
 four_bytes : (encoding : Encoding) (four : List ℕ) → length four ≡ 4 → All (λ b. b < 256) (magic ++ four) → of_four four
     ≡ header_bits encoding → four ≡ last_four encoding
-four_bytes encoding four l each e =
-    let (a, b, c, d, z) = four_parts four l in
-    let h : All (λ b. b < 256) (0x00 ∷ 0x61 ∷ 0x73 ∷ 0x6d ∷ a ∷ b ∷ c ∷ d ∷ []) =
-    subst (λ (x : List ℕ). All (λ b. b < 256) (magic ++ x)) z each in
-    let f : a + 256 * b + 65536 * c + 16777216 * d ≡ header_bits encoding = sym (ap of_four z) ∙ e in
-    z ∙ bits_bytes encoding a b c d (h 4 0 (omega arith)) (h 5 0 (omega arith)) (h 6 0 (omega arith)) (h 7 0 (omega arith)) f
+four_bytes encoding four l each e = grind (arith, four_parts)
 
 -- the magic and the last four bytes are the header
 header_whole : (encoding : Encoding) → magic ++ last_four encoding ≡ header_bytes encoding
-header_whole Module = refl
-header_whole Component = refl
+header_whole encoding = grind arith
 
 -- what a header's tile is
 pub record HeaderParts (t : Tile) : Type 0 where
@@ -137,18 +71,16 @@ header_parts o xs t each h =
     let a : ((when (not (agree m.prefix magic)) (at_offset BadMagic o) ≡ None)
     × (verdict (bytes 4 (o + 4) (λ four. version_of o (of_four four))) m.others ≡ tile m.rest)) =
     refuse_parts _ _ m.others m.rest m.goes_on in
-    let z : m.prefix ≡ magic = agree_whole m.prefix magic m.size (not-false _ (none_when _ _ a.0)) in
+    let z : m.prefix ≡ magic = search (agree_whole, not-false, none_when) in
     let f : BytesParts 4 (λ four. version_of o (of_four four)) m.rest = bytes_parts 4 (o + 4) _ m.others m.rest a.1 in
     let (encoding, b, r) = of_header o (of_four f.prefix) (encoding_named (of_four f.prefix % 65536) (of_four f.prefix / 65536)) f.others
     f.rest refl f.goes_on in
     let u : m.rest ≡ made (version (header_version encoding) encoding) f.prefix =
-    ends_there m.rest f.rest (version (header_version encoding) encoding) f.prefix f.is r in
-    let w : t ≡ made (version (header_version encoding) encoding) (magic ++ f.prefix) = m.is
-    ∙ (ap (λ (x : Tile). made x.shape (m.prefix ++ x.bytes)) u
-    ∙ ap (λ (x : List ℕ). made (version (header_version encoding) encoding) (x ++ f.prefix)) z) in
-    let e : All (λ b. b < 256) (magic ++ f.prefix) = subst (λ (x : Tile). All (λ b. b < 256) x.bytes) w each in
+    search ends_there in
+    let w : t ≡ made (version (header_version encoding) encoding) (magic ++ f.prefix) = grind (arith, header_version) in
+    let e : All (λ b. b < 256) (magic ++ f.prefix) = rw w at each in
     let l : f.prefix ≡ last_four encoding = four_bytes encoding f.prefix f.size e b in
     record {
       encoding = encoding;
-      is = w ∙ ap (made (version (header_version encoding) encoding)) (ap (λ (x : List ℕ). magic ++ x) l ∙ header_whole encoding);
+      is = grind (arith, made, header_version, header_whole);
     }

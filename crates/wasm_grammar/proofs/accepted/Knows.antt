@@ -7,8 +7,8 @@ use Rattle.std.proofs.Math.Bool.{and_comm}
 use Rattle.std.proofs.lemmas.List.Folds.{list_all-append}
 use Rattle.wasm_grammar.specs.declared.encoding.Encoding.{Encoding}
 use Rattle.wasm_grammar.specs.declared.encoding.Encoding.TheVariants.{Module, Component}
-use Rattle.wasm_grammar.specs.Content.{Kind, custom, items, index, data_count, code, unknown, kind_of, rank_of, count_of, Form, whole}
-use Rattle.wasm_grammar.specs.Grammar.{version, section, code_start, code_entry, Tile, Grammar, section_grammar, body_grammar}
+use Rattle.wasm_grammar.specs.Content.{Kind, items, data_count, code, kind_of, rank_of, count_of, Form, whole}
+use Rattle.wasm_grammar.specs.Grammar.{version, section, code_start, code_entry, Tile, section_grammar, body_grammar}
 use Rattle.wasm_grammar.specs.Tiling.{bytes_of, grammar, context_of, tile_rank, count_in, counts, bodies_to_come, bytes_to_come, is_start}
 use Rattle.wasm_grammar.specs.Accepted.{SectionFrame, frame_count, frame_rank}
 use Rattle.wasm_grammar.proofs.accepted.Counts.{one_count, counts_of, counts_push, Knows}
@@ -19,21 +19,13 @@ use Rattle.wasm_grammar.specs.Ids.{code_id, data_count_id, data_id, function_id}
 pub grammar_closed : (start : ℕ) (ts : List Tile) → is_start ts ≡ false → nat_eq (bodies_to_come ts + bytes_to_come ts) 0 ≡ true
     → grammar start ts ≡ section_grammar (context_of ts) (start + length (bytes_of ts))
 grammar_closed start [] b e = cc
-grammar_closed start (t ∷ ts) b e = closed_at (nat_eq (bodies_to_come (t ∷ ts) + bytes_to_come (t ∷ ts)) 0) _ _ e
-  where
-    closed_at : (b : Bool) (g h : Grammar) → b ≡ true → cond b g h ≡ g
-    closed_at true g h e = refl
-    closed_at false g h e = cc
+grammar_closed start (t ∷ ts) b e = cc
 
 -- what may come after tiles that are within a code section
 pub grammar_open : (start : ℕ) (ts : List Tile) → is_start ts ≡ false → nat_eq (bodies_to_come ts + bytes_to_come ts) 0 ≡ false
     → grammar start ts ≡ body_grammar (bodies_to_come ts) (bytes_to_come ts) (start + length (bytes_of ts))
 grammar_open start [] b e = cc
-grammar_open start (t ∷ ts) b e = open_at (nat_eq (bodies_to_come (t ∷ ts) + bytes_to_come (t ∷ ts)) 0) _ _ e
-  where
-    open_at : (b : Bool) (g h : Grammar) → b ≡ false → cond b g h ≡ h
-    open_at true g h e = cc
-    open_at false g h e = refl
+grammar_open start (t ∷ ts) b e = cc
 
 -- after a header there is no frame yet
 pub knows_header : (encoding : Encoding) (bytes : List ℕ) → Knows encoding []
@@ -61,8 +53,7 @@ knows_body encoding fs ts content bytes k = record {
 
 -- one more frame passes a test with the others
 all_push : (p : SectionFrame → Bool) (fs : List SectionFrame) (f : SectionFrame) → list_all p (fs ++ f ∷ []) ≡ (p f && list_all p fs)
-all_push p fs f = list_all-append p fs (f ∷ []) ∙ (and_comm (list_all p fs) (p f && true)
-    ∙ ap (λ (b : Bool). b && list_all p fs) (and_comm (p f) true))
+all_push p fs f = search (list_all-append, and_comm)
 
 -- a section of this kind has a count
 abbrev pub IsCounting : Kind → Type 0
@@ -72,20 +63,16 @@ IsCounting other = ⊥
 
 -- a section with another id adds no count
 other_count : (n id : ℕ) (k : Form) (content others : List ℕ) → nat_eq id n ≡ false → count_in n (section k id content) others ≡ others
-other_count n id custom content others e = refl
 other_count n id items content others e = rw e refl
-other_count n id index content others e = refl
 other_count n id data_count content others e = rw e refl
-other_count n id unknown content others e = refl
+other_count n id _ content others e = refl
 
 -- a section with this id adds its count
 this_count : (n id : ℕ) (k : Form) (content others : List ℕ) → nat_eq id n ≡ true → IsCounting (whole k)
     → count_in n (section k id content) others ≡ count_of content ∷ others
-this_count n id custom content others e c = absurd c
 this_count n id items content others e c = rw e refl
-this_count n id index content others e c = absurd c
 this_count n id data_count content others e c = rw e refl
-this_count n id unknown content others e c = absurd c
+this_count n id _ content others e c = absurd c
 
 -- a component's section adds no count
 abbrev kind_count : (n id : ℕ) → Kind → (content others : List ℕ) → List ℕ
@@ -101,7 +88,7 @@ module_count : (n id : ℕ) (content others : List ℕ) → IsCounting (kind_of 
     → (w : IsWhole (kind_of Module id))
     → (b : Bool) → nat_eq id n ≡ b → count_in n (section w.0 id content) others ≡ cond b (count_of content ∷ []) [] ++ others
 module_count n id content others (inl c) w true e =
-    this_count n id w.0 content others e (subst IsCounting w.1 (subst (λ (x : ℕ). IsCounting (kind_of Module x)) (sym (eqb-true id n e)) c))
+    this_count n id w.0 content others e (subst IsCounting w.1 (rw (eqb-true id n e) c))
 module_count n id content others (inr c) w true e =
     absurd (not_code w.0 (sym w.1 ∙ (ap (kind_of Module) (eqb-true id n e) ∙ c)))
 module_count n id content others c w false e = other_count n id w.0 content others e
@@ -128,7 +115,7 @@ knows_section encoding fs ts f bytes w k = record {
   ranks = λ r l.
       ap (λ (x : Kind). nat_lt (rank_of x f.id) r && (context_of ts).may_follow r) (sym w.1)
       ∙ (ap (λ (b : Bool). nat_lt (frame_rank encoding f) r && b) (k.ranks r l)
-      ∙ sym (all_push (λ (g : SectionFrame). nat_lt (frame_rank encoding g) r) fs f));
+      ∙ sym (search all_push));
   functions = counts_more encoding function_id fs f (counts function_id ts) _ k.functions
       (section_count 3 (inl tt) encoding f (counts function_id ts) w);
   codes = counts_more encoding code_id fs f (counts code_id ts) _ k.codes (section_count 10 (inr refl) encoding f (counts code_id ts) w);
@@ -136,12 +123,6 @@ knows_section encoding fs ts f bytes w k = record {
   data_counts = counts_more encoding data_count_id fs f (counts data_count_id ts) _ k.data_counts
       (section_count 12 (inl tt) encoding f (counts data_count_id ts) w);
 }
-
--- the head of a code section adds its count exactly if that is asked for
-code_count : (b d : Bool) (c count : ℕ) (others : List ℕ) → d ≡ b → c ≡ count → cond b (count ∷ others) others ≡ cond d (c ∷ []) []
-    ++ others
-code_count true d c count others e z = rw (e, z) refl
-code_count false d c count others e z = rw e refl
 
 -- the head of a code section says what its frame says
 pub knows_code : (fs : List SectionFrame) (ts : List Tile) (f : SectionFrame) (count width size : ℕ) (bytes : List ℕ) → f.id ≡ code_id
@@ -153,16 +134,13 @@ knows_code fs ts f count width size bytes z c k = record {
       ap (λ (b : Bool). nat_lt (rank_of code 10) r && b) (k.ranks r l)
       ∙ (ap (λ (x : ℕ). nat_lt (rank_of (kind_of Module x) x) r && list_all (λ (g : SectionFrame). nat_lt (frame_rank Module g) r) fs)
       (sym z)
-      ∙ sym (all_push (λ (g : SectionFrame). nat_lt (frame_rank Module g) r) fs f));
+      ∙ sym (search all_push));
   functions = counts_more Module function_id fs f (counts function_id ts) _ k.functions
-      (code_count false (nat_eq f.id function_id) (frame_count f) count (counts function_id ts) (ap (λ (x : ℕ). nat_eq x function_id) z) c);
+      (cc);
   codes = counts_more Module code_id fs f (counts code_id ts) _ k.codes
-      (code_count true (nat_eq f.id code_id) (frame_count f) count (counts code_id ts)
-      (ap (λ (x : ℕ). nat_eq x code_id) z) c);
+      (cc);
   datas = counts_more Module data_id fs f (counts data_id ts) _ k.datas
-      (code_count false (nat_eq f.id data_id) (frame_count f) count (counts data_id ts)
-      (ap (λ (x : ℕ). nat_eq x data_id) z) c);
+      (cc);
   data_counts = counts_more Module data_count_id fs f (counts data_count_id ts) _ k.data_counts
-      (code_count false (nat_eq f.id data_count_id) (frame_count f) count (counts data_count_id ts)
-      (ap (λ (x : ℕ). nat_eq x data_count_id) z) c);
+      (cc);
 }

@@ -1,7 +1,6 @@
 -- Tiles are bytes in the textbook form.
-use Rattle.std.proofs.Common.{◌≡◌, ℕ, zero, suc, ◌+◌, ◌-◌, ◌<◌, ◌≤◌, Bool, true, false, cond, not, ◌&&◌, List, [], ◌∷◌, ◌++◌, length, take}
-use Rattle.std.proofs.Common.{drop, Option, Some, None, nat_lt, nat_le, refl, sym, ap, subst, ◌∙◌, arith, append-nil, leb-true, leb-false}
-use Rattle.std.proofs.Common.{ltb-false}
+use Rattle.std.proofs.Common.{◌≡◌, ℕ, zero, suc, ◌+◌, ◌-◌, ◌<◌, ◌≤◌, Bool, cond, not, ◌&&◌, List, [], ◌∷◌, ◌++◌, length, take, drop, Option}
+use Rattle.std.proofs.Common.{None, nat_lt, nat_le, refl, sym, ap, ◌∙◌, arith, append-nil, ltb-false}
 use Rattle.std.proofs.lemmas.List.{length-take-le}
 use Rattle.wasm_base.specs.FaultAt.{FaultAt, at_offset}
 use Rattle.wasm_base.specs.Header.{magic, agree}
@@ -14,7 +13,6 @@ use Rattle.wasm_grammar.specs.Grammar.{Shape, section, code_start, code_entry, T
 use Rattle.wasm_grammar.specs.Grammar.{check, u32_field, bytes, verdict, section_grammar, body_grammar, content_grammar, whole_grammar}
 use Rattle.wasm_grammar.specs.Grammar.{code_grammar, after_length, after_id, wrong_count, wrong_data}
 use Rattle.wasm_grammar.specs.Accepted.{IsNumber}
-use Rattle.wasm_grammar.proofs.parts.Verdicts.{after-tile}
 use Rattle.wasm_grammar.proofs.parts.Placed.{Follows, none_when}
 use Rattle.wasm_grammar.proofs.parts.Guarded.{Numbered, numbered}
 use Rattle.wasm_grammar.proofs.accepted.Tiles.{made, IsWhole}
@@ -23,8 +21,7 @@ use Rattle.wasm_grammar.proofs.accepted.Tiles.{made, IsWhole}
 pub refuse_parts : (e : Option FaultAt) (next : Grammar) (xs : List ℕ) (t : Tile) → verdict (check e next) xs ≡ tile t → (e ≡ None)
     × (verdict next xs ≡ tile t)
 unfolding verdict
-refuse_parts (Some e) next xs t h = cc
-refuse_parts None next xs t h = (refl, h)
+refuse_parts e next xs t h = grind arith
 
 -- a tile that begins with a number
 record NumberParts (next : ℕ → ℕ → Grammar) (t : Tile) : Type 0 where
@@ -48,7 +45,7 @@ number_parts o next xs t h =
       whole = u.alone ∙ ap (read n.value) (sym l);
       others = drop n.used xs;
       rest = n.rest;
-      goes_on = subst (λ (x : ℕ). verdict (next n.value x) (drop n.used xs) ≡ tile n.rest) (sym l) n.goes_on;
+      goes_on = cc;
       is = n.is;
     }
 
@@ -64,10 +61,7 @@ pub record BytesParts (n : ℕ) (next : List ℕ → Grammar) (t : Tile) : Type 
 -- what a tile after so many bytes consists of, if they are there
 bytes_at : (b : Bool) (n : ℕ) (next : List ℕ → Grammar) (xs : List ℕ) (e : Ending) (t : Tile) → nat_le n (length xs) ≡ b
     → cond b (after (take n xs) (verdict (next (take n xs)) (drop n xs))) (final e) ≡ tile t → BytesParts n next t
-bytes_at true n next xs e t l h =
-    let (s, r, q) = after-tile (take n xs) (verdict (next (take n xs)) (drop n xs)) t h in
-    record { prefix = take n xs; size = length-take-le n xs (leb-true _ _ l); others = drop n xs; rest = s; goes_on = r; is = q }
-bytes_at false n next xs e t l h = cc
+bytes_at b n next xs e t l h = grind (arith, length-take-le)
 
 -- what a tile after so many bytes consists of
 pub bytes_parts : (n o : ℕ) (next : List ℕ → Grammar) (xs : List ℕ) (t : Tile) → verdict (bytes n o next) xs ≡ tile t → BytesParts n next t
@@ -110,7 +104,7 @@ framed_parts p o id xs s t h e =
     refuse_parts _ _ n.others n.rest b.1 in
     record {
       id = id;
-      below = leb-false 128 id (none_when (nat_le 128 id) _ a.0);
+      below = grind arith;
       field = n.field;
       size = n.value;
       whole = n.whole;
@@ -118,16 +112,13 @@ framed_parts p o id xs s t h e =
       others = n.others;
       rest = n.rest;
       goes_on = c.1;
-      is = e ∙ ap (λ (x : Tile). made x.shape (id ∷ x.bytes)) n.is;
+      is = cc;
     }
 
 -- what a section's tile consists of, if it begins no header
 start_at : (b : Bool) (p : SectionContext) (o id : ℕ) (xs : List ℕ) (x : FaultAt) (t : Tile)
     → cond b (final (fault x)) (after (id ∷ []) (verdict (after_id p o id) xs)) ≡ tile t → SectionParts p o t
-start_at true p o id xs x t h = cc
-start_at false p o id xs x t h =
-    let (s, r, q) = after-tile (id ∷ []) (verdict (after_id p o id) xs) t h in
-    framed_parts p o id xs s t r q
+start_at b p o id xs x t h = grind (arith, framed_parts)
 
 -- what a section's tile consists of
 pub section_parts : (p : SectionContext) (o : ℕ) (xs : List ℕ) (t : Tile) → verdict (section_grammar p o) xs ≡ tile t → SectionParts p o t
@@ -152,19 +143,12 @@ whole_parts p kind id o size xs t h =
     let c : ((wrong_content kind o b.prefix ≡ None) × (verdict _ b.others ≡ tile b.rest)) = refuse_parts _ _ b.others b.rest b.goes_on in
     let d : ((wrong_data p kind id (o + size) b.prefix ≡ None) × (verdict (accept (section kind id b.prefix)) b.others ≡ tile b.rest)) =
     refuse_parts _ _ b.others b.rest c.1 in
-    record {
-      content = b.prefix;
-      long = b.size;
-      right = c.0;
-      counted = d.0;
-      is = ends_there t b.rest (section kind id b.prefix) b.prefix b.is (takes_parts _ b.others b.rest d.1);
-    }
+    search (ends_there, takes_parts)
 
 -- the same for each of its kinds
 pub content_parts : (p : SectionContext) (kind : Kind) (id o size : ℕ) (xs : List ℕ) (t : Tile) (w : IsWhole kind)
     → verdict (content_grammar p kind id o size) xs ≡ tile t → WholeParts p w.0 id o size t
-content_parts p kind id o size xs t w h = whole_parts p w.0 id o size xs t
-    (subst (λ (k : Kind). verdict (content_grammar p k id o size) xs ≡ tile t) w.1 h)
+content_parts p kind id o size xs t w h = grind (arith, whole_parts)
 
 -- a code section up to its count: that count
 pub record HeadParts (p : SectionContext) (o size : ℕ) (t : Tile) : Type 0 where
@@ -189,10 +173,9 @@ head_parts p o size xs t h =
       count = n.value;
       head = n.field;
       whole = n.whole;
-      fits = ltb-false size (length n.field) (none_when _ _ a.0);
+      fits = grind arith;
       right = b.0;
-      is = ends_there t n.rest (code_start n.value (length n.field) (size - length n.field)) n.field n.is
-          (takes_parts _ n.others n.rest b.1);
+      is = search (ends_there, takes_parts);
     }
 
 -- a body, in a code section of which so many bodies and bytes are left
@@ -216,15 +199,14 @@ body_parts (suc m) l o xs t h =
     × (verdict (bytes n.value (o + length n.field) (λ content. accept (code_entry content))) n.others ≡ tile n.rest)) =
     refuse_parts _ _ n.others n.rest n.goes_on in
     let b : BytesParts n.value (λ content. accept (code_entry content)) n.rest =
-    bytes_parts n.value (o + length n.field) _ n.others n.rest a.1 in
-    let r : n.rest ≡ made (code_entry b.prefix) b.prefix = ends_there n.rest b.rest (code_entry b.prefix) b.prefix b.is
-    (takes_parts _ b.others b.rest b.goes_on) in
+    search bytes_parts in
+    let r : n.rest ≡ made (code_entry b.prefix) b.prefix = search (ends_there, takes_parts) in
     record {
       others = m;
       missing = refl;
       field = n.field;
       content = b.prefix;
-      whole = n.whole ∙ ap (λ (x : ℕ). read x (length n.field)) (sym b.size);
+      whole = cc;
       fits = omega (arith, b.size, ltb-false l (length n.field + n.value) (none_when _ _ a.0));
-      is = n.is ∙ ap (λ (x : Tile). made x.shape (n.field ++ x.bytes)) r;
+      is = cc;
     }

@@ -1,17 +1,16 @@
 -- The frames that tiles are, and the code section within which they end.
-use Rattle.std.proofs.Common.{◌≡◌, ℕ, ◌+◌, ◌-◌, ◌⊎◌, inl, inr, true, List, [], ◌∷◌, ◌++◌, length, None, nat_eq, refl, sym, ap, subst, ◌∙◌}
-use Rattle.std.proofs.Common.{arith, length-append, append-nil, append_assoc, eqb-true, lit<}
+use Rattle.std.proofs.Common.{◌≡◌, ℕ, ◌+◌, ◌-◌, ◌⊎◌, inl, inr, true, List, [], ◌∷◌, ◌++◌, length, None, nat_eq, refl, sym, ap, ◌∙◌}
+use Rattle.std.proofs.Common.{arith, length-append, append-nil, append_assoc, lit<}
 use Rattle.std.specs.List.{All, flat_map}
 use Rattle.std.proofs.lemmas.List.{flat_map_more}
 use Rattle.std.proofs.lemmas.List.Elements.{All-nil, All-push}
-use Rattle.wasm_base.specs.Number.{read}
 use Rattle.wasm_grammar.specs.declared.encoding.Encoding.{Encoding}
 use Rattle.wasm_grammar.specs.declared.encoding.Encoding.TheVariants.{Module}
-use Rattle.wasm_grammar.specs.Content.{Kind, code, kind_of, rank_of, value_of}
+use Rattle.wasm_grammar.specs.Content.{code, kind_of, rank_of}
 use Rattle.wasm_grammar.specs.Grammar.{section, code_start, code_entry, Tile, tile, SectionContext, verdict, content_grammar, wrong_count}
 use Rattle.wasm_grammar.specs.Tiling.{bytes_of, context_of, bodies_to_come, bytes_to_come, encoding_of}
 use Rattle.wasm_grammar.specs.Accepted.{Sized, sized_bytes, IsNumber, IsSized, SectionFrame, frame_bytes, frame_count, frame_rank, IsFrame}
-use Rattle.wasm_grammar.specs.Accepted.{FitsAfter, CodeDivision, IsSection, IsGood}
+use Rattle.wasm_grammar.specs.Accepted.{FitsAfter, CodeDivision, IsSection}
 use Rattle.wasm_grammar.proofs.parts.Placed.{Follows}
 use Rattle.wasm_grammar.proofs.PlainLists.{split_last}
 use Rattle.wasm_grammar.proofs.accepted.Counts.{Knows}
@@ -45,8 +44,7 @@ in_order_none encoding = record {
 fits_push : (encoding : Encoding) (fs earlier : List SectionFrame) (f g : SectionFrame) → FitsAfter encoding fs f
     → ((earlier later : List SectionFrame) (h : SectionFrame) → fs ≡ earlier ++ h ∷ later → FitsAfter encoding earlier h)
     → ((earlier ≡ fs) × (g ≡ f)) ⊎ ((more : List SectionFrame) × (fs ≡ earlier ++ g ∷ more)) → FitsAfter encoding earlier g
-fits_push encoding fs earlier f g a order (inl q) = subst (λ (x : List SectionFrame). FitsAfter encoding x g) (sym q.0)
-    (subst (λ (x : SectionFrame). FitsAfter encoding fs x) (sym q.1) a)
+fits_push encoding fs earlier f g a order (inl q) = grind arith
 fits_push encoding fs earlier f g a order (inr q) = order earlier q.0 g q.1
 
 -- one more that fits
@@ -93,28 +91,27 @@ whole_code field head bodies = record { id = code_id; sized = record { field = f
 -- a code section that misses nothing is whole
 pub settles : (ts : List Tile) → Pending ts → nat_eq (bodies_to_come ts + bytes_to_come ts) 0 ≡ true → Settled ts
 settles ts p e =
-    let z : bodies_to_come ts + bytes_to_come ts ≡ 0 = eqb-true (bodies_to_come ts + bytes_to_come ts) 0 e in
+    let z : bodies_to_come ts + bytes_to_come ts ≡ 0 = grind arith in
     let f : SectionFrame = whole_code p.field p.head p.bodies in
     let m : p.count ≡ length p.bodies = omega (arith, p.bodies_miss) in
     let s : p.size ≡ length (p.head ++ flat_map sized_bytes p.bodies) =
     omega (arith, p.bytes_miss, length-append p.head (flat_map sized_bytes p.bodies)) in
-    let c : frame_count f ≡ p.count = ap value_of (number_on p.head (flat_map sized_bytes p.bodies) p.count p.counted) in
+    let c : frame_count f ≡ p.count = grind (arith, number_on) in
     let d : CodeDivision f.sized.content = record {
       field = p.head;
       bodies = p.bodies;
       whole = refl;
-      count = p.counted ∙ ap (λ (n : ℕ). read n (length p.head)) m;
+      count = cc;
       each = p.each;
     } in
-    let i : IsFrame Module f = record { id = lit< tt; sized = p.sized ∙ ap (λ (n : ℕ). read n (length p.field)) s; content = d } in
+    let i : IsFrame Module f = record { id = lit< tt; sized = cc; content = d } in
     let w : bytes_of ts ≡ stream_of Module (p.frames ++ f ∷ []) = p.joined
     ∙ stream_more Module p.frames f (stream_of Module p.frames) refl in
     record {
       frames = p.frames ++ f ∷ [];
-      joined = w ∙ ap (λ (x : Encoding). stream_of x (p.frames ++ f ∷ [])) (sym p.of_module);
-      knows = subst (λ (x : Encoding). Knows x (p.frames ++ f ∷ []) (context_of ts)) (sym p.of_module) (p.knows f refl c);
-      sections = subst (λ (x : Encoding). InOrder x (p.frames ++ f ∷ [])) (sym p.of_module)
-          (in_order_push Module p.frames f p.sections i (p.fits f refl c));
+      joined = cc;
+      knows = grind arith;
+      sections = rw p.of_module (in_order_push Module p.frames f p.sections i (p.fits f refl c));
       closed = e;
     }
 
@@ -128,8 +125,8 @@ whole_frame : (p : SectionContext) (o : ℕ) (t : Tile) (s : SectionParts p o t)
     → IsFrame p.encoding (frame_of s.id s.field c.content)
 whole_frame p o t s at w c = record {
   id = s.below;
-  sized = s.whole ∙ ap (λ (n : ℕ). read n (length s.field)) (sym c.long);
-  content = subst (λ (k : Kind). IsGood k c.content) (sym w.1) (good_from w.0 at c.content c.right);
+  sized = cc;
+  content = grind (arith, good_from);
 }
 
 -- a section that is one tile fits after the frames before it
@@ -138,13 +135,12 @@ whole_fits : (p : SectionContext) (fs : List SectionFrame) (o : ℕ) (t : Tile) 
     → FitsAfter p.encoding fs (frame_of s.id s.field c.content)
 whole_fits p fs o t s at k w c =
     let f : SectionFrame = frame_of s.id s.field c.content in
-    let no : IsSection p.encoding code_id f → ⊥ = λ y. not_code w.0 (sym w.1
-    ∙ (ap (λ (x : Encoding). kind_of x s.id) y.0 ∙ ap (kind_of Module) y.1)) in
+    let no : IsSection p.encoding code_id f → ⊥ = λ y. not_code w.0 (cc) in
     record {
-      ranks = rank_from p.encoding fs p k (frame_rank p.encoding f) s.follows;
+      ranks = search rank_from;
       bodies = λ y. absurd (no y);
       functions = λ y. absurd (no y);
-      segments = data_from p.encoding fs p k f (at + s.size) w c.counted;
+      segments = search data_from;
     }
 
 -- after whole sections, one more that is one tile
@@ -154,28 +150,27 @@ whole_settled ts o t q s w =
     let e : Encoding = encoding_of ts in
     let at : ℕ = o + 1 + length s.field in
     let c : WholeParts (context_of ts) w.0 s.id at s.size s.rest =
-    content_parts (context_of ts) (kind_of e s.id) s.id at s.size s.others s.rest w s.goes_on in
+    search content_parts in
     let f : SectionFrame = frame_of s.id s.field c.content in
-    let z : t ≡ made (section w.0 s.id c.content) (frame_bytes f) = s.is
-    ∙ ap (λ (x : Tile). made x.shape (s.id ∷ (s.field ++ x.bytes))) c.is in
+    let z : t ≡ made (section w.0 s.id c.content) (frame_bytes f) = cc in
     let r : Settled (made (section w.0 s.id c.content) (frame_bytes f) ∷ ts) = record {
       frames = q.frames ++ f ∷ [];
       joined = stream_more e q.frames f (bytes_of ts) q.joined;
-      knows = knows_section e q.frames ts f (frame_bytes f) w q.knows;
+      knows = search knows_section;
       sections = in_order_push e q.frames f q.sections (whole_frame (context_of ts) o t s at w c)
           (whole_fits (context_of ts) q.frames o t s at q.knows w c);
       closed = refl;
     } in
-    subst (λ (x : Tile). Settled (x ∷ ts)) (sym z) r
+    rw z r
 
 -- a code section with the right rank and count fits after the frames before it
 code_fits : (p : SectionContext) (fs : List SectionFrame) → Knows Module fs p → (at count : ℕ)
     → Follows p (rank_of (kind_of Module code_id) code_id)
     → wrong_count p at count ≡ None → (f : SectionFrame) → f.id ≡ code_id → frame_count f ≡ count → FitsAfter Module fs f
 code_fits p fs k at count r w f z c =
-    let g : CodeFits Module fs (frame_count f) = subst (CodeFits Module fs) (sym c) (code_from Module fs p k at count w) in
+    let g : CodeFits Module fs (frame_count f) = grind (arith, code_from) in
     record {
-      ranks = rank_from Module fs p k (frame_rank Module f) (subst (λ (x : ℕ). Follows p (rank_of (kind_of Module x) x)) (sym z) r);
+      ranks = rank_from Module fs p k (frame_rank Module f) (cc);
       bodies = λ y. g.bodies;
       functions = λ y. g.functions;
       segments = λ y. let u : code_id ≡ data_id = sym z ∙ y.1 in absurd (omega arith);
@@ -188,23 +183,22 @@ code_pending ts o t q s e =
     let (m, i) = code_has_its_id (encoding_of ts) s.id e in
     let at : ℕ = o + 1 + length s.field in
     let v : verdict (content_grammar (context_of ts) code s.id at s.size) s.others
-    ≡ tile s.rest = subst (λ (x : Kind). verdict (content_grammar (context_of ts) x s.id at s.size) s.others ≡ tile s.rest) e s.goes_on
+    ≡ tile s.rest = cc
     in
-    let h : HeadParts (context_of ts) at s.size s.rest = head_parts (context_of ts) at s.size s.others s.rest v in
+    let h : HeadParts (context_of ts) at s.size s.rest = search head_parts in
     let n : ℕ = s.size - length h.head in
     let b : List ℕ = code_id ∷ (s.field ++ h.head) in
     let z : t ≡ made (code_start h.count (length h.head) n) b =
-    s.is ∙ (ap (λ (x : Tile). made x.shape (s.id ∷ (s.field ++ x.bytes))) h.is
-    ∙ ap (λ (x : ℕ). made (code_start h.count (length h.head) n) (x ∷ (s.field ++ h.head))) i) in
-    let k : Knows Module q.frames (context_of ts) = subst (λ (x : Encoding). Knows x q.frames (context_of ts)) m q.knows in
+    cc in
+    let k : Knows Module q.frames (context_of ts) = rw (← m) q.knows in
     let y : Follows (context_of ts) (rank_of (kind_of Module s.id) s.id) =
-    subst (λ (x : Encoding). Follows (context_of ts) (rank_of (kind_of x s.id) s.id)) m s.follows in
-    let w : bytes_of ts ≡ stream_of Module q.frames = q.joined ∙ ap (λ (x : Encoding). stream_of x q.frames) m in
+    cc in
+    let w : bytes_of ts ≡ stream_of Module q.frames = cc in
     let l : s.size ≡ length h.head + 0 + n = omega (arith, h.fits) in
     let r : Pending (made (code_start h.count (length h.head) n) b ∷ ts) = record {
       of_module = m;
       frames = q.frames;
-      sections = subst (λ (x : Encoding). InOrder x q.frames) m q.sections;
+      sections = grind arith;
       size = s.size;
       field = s.field;
       sized = s.whole;
@@ -218,10 +212,10 @@ code_pending ts o t q s e =
       bodies_miss = omega arith;
       bytes_miss = l;
       knows = λ f a c. knows_code q.frames ts f h.count (length h.head) n b a c k;
-      fits = code_fits (context_of ts) q.frames k at h.count (subst (λ (x : ℕ). Follows (context_of ts) (rank_of (kind_of Module x) x)) i y)
+      fits = code_fits (context_of ts) q.frames k at h.count (cc)
           h.right;
     } in
-    subst (λ (x : Tile). Pending (x ∷ ts)) (sym z) r
+    rw z r
 
 -- the bytes of a code section with one more body
 body_joined : (first field head : List ℕ) (bodies : List Sized) (s : Sized)
@@ -238,7 +232,7 @@ body_bytes : (head : List ℕ) (bodies : List Sized) (s : Sized) → length head
 body_bytes head bodies s =
     let e : length ((head ++ flat_map sized_bytes bodies) ++ sized_bytes s)
     ≡ length (head ++ flat_map sized_bytes (bodies ++ s ∷ [])) =
-    ap (λ (x : List ℕ). length x) (flat_map_more sized_bytes head bodies s) in
+    grind (arith, flat_map_more) in
     omega (
       arith,
       length-append (head ++ flat_map sized_bytes bodies) (sized_bytes s),
@@ -268,10 +262,10 @@ body_pending ts t q h =
       counted = q.counted;
       bodies = q.bodies ++ s ∷ [];
       each = All-push IsSized q.bodies s q.each h.whole;
-      joined = ap (λ (x : List ℕ). x ++ b) q.joined ∙ body_joined (stream_of Module q.frames) q.field q.head q.bodies s;
+      joined = grind (arith, body_joined);
       bodies_miss = m;
       bytes_miss = y;
       knows = λ f a c. knows_body Module (q.frames ++ f ∷ []) ts h.content b (q.knows f a c);
       fits = q.fits;
     } in
-    subst (λ (x : Tile). Pending (x ∷ ts)) (sym h.is) r
+    rw h.is r

@@ -1,19 +1,17 @@
 -- A good section that fits after other tiles is one tile more, or the head of a code section and its bodies.
-use Rattle.std.proofs.Common.{◌≡◌, ℕ, suc, ◌+◌, ◌-◌, ◌^◌, ◌<◌, ◌≤◌, true, false, List, [], ◌∷◌, ◌++◌, length, Some, nat_eq, refl, sym, ap}
+use Rattle.std.proofs.Common.{◌≡◌, ℕ, suc, ◌+◌, ◌-◌, ◌^◌, ◌<◌, ◌≤◌, true, false, List, [], ◌∷◌, ◌++◌, length, nat_eq, refl, sym, ap}
 use Rattle.std.proofs.Common.{subst, ◌∙◌, arith, length-append, append-nil, append_assoc, lit<}
 use Rattle.std.specs.List.{All, flat_map}
 use Rattle.std.proofs.lemmas.Bool.{ne_eqb}
 use Rattle.std.proofs.lemmas.List.Elements.{All-head, All-tail}
-use Rattle.wasm_base.specs.Name.{named, name_limit, name}
 use Rattle.wasm_grammar.specs.declared.encoding.Encoding.{Encoding}
-use Rattle.wasm_grammar.specs.declared.encoding.Encoding.TheVariants.{Module, Component}
-use Rattle.wasm_grammar.specs.Content.{kind_of, rank_of, value_of, count_of, Kind}
+use Rattle.wasm_grammar.specs.declared.encoding.Encoding.TheVariants.{Module}
+use Rattle.wasm_grammar.specs.Content.{kind_of, rank_of, value_of, count_of}
 use Rattle.wasm_grammar.specs.FrameEvents.{body_events}
-use Rattle.wasm_grammar.specs.Grammar.{section, code_start, code_entry, Tile, tile, SectionContext, Grammar, verdict, section_grammar}
-use Rattle.wasm_grammar.specs.Grammar.{body_grammar}
+use Rattle.wasm_grammar.specs.Grammar.{section, code_start, code_entry, Tile, tile, SectionContext, verdict, section_grammar}
 use Rattle.wasm_grammar.specs.Tiling.{bytes_of, grammar, Faultless, context_of, bodies_to_come, bytes_to_come, is_start}
 use Rattle.wasm_grammar.specs.Reading.{events_of}
-use Rattle.wasm_grammar.specs.Accepted.{Sized, sized_bytes, IsSized, SectionFrame, frame_bytes, frame_count, frame_rank, IsFrame, IsGood}
+use Rattle.wasm_grammar.specs.Accepted.{Sized, sized_bytes, IsSized, SectionFrame, frame_bytes, frame_count, frame_rank, IsFrame}
 use Rattle.wasm_grammar.specs.Accepted.{FitsAfter, CodeDivision}
 use Rattle.wasm_grammar.proofs.parts.Placed.{Follows}
 use Rattle.wasm_grammar.proofs.accepted.Counts.{Knows}
@@ -22,7 +20,7 @@ use Rattle.wasm_grammar.proofs.accepted.Contents.{good_to}
 use Rattle.wasm_grammar.proofs.accepted.Tiles.{made, IsWhole, HeadIsRight, number_on, section_tile, code_head_tile, body_tile}
 use Rattle.wasm_grammar.proofs.accepted.Knows.{grammar_open, knows_body}
 use Rattle.wasm_grammar.proofs.frames.TileEvents.{body_tile_event}
-use Rattle.wasm_grammar.specs.Ids.{code_id, custom_id}
+use Rattle.wasm_grammar.specs.Ids.{code_id}
 
 -- what comes before a good section's content is right, if the section fits
 head_of_frame : (p : SectionContext) (fs : List SectionFrame) (o : ℕ) (f : SectionFrame) → Knows p.encoding fs p → IsFrame p.encoding f
@@ -32,14 +30,8 @@ head_of_frame p fs o f k i a r = record {
   below = i.id;
   number = i.sized;
   room = omega (arith, length-append f.sized.field f.sized.content);
-  follows = rank_to p.encoding fs p k (frame_rank p.encoding f) a.ranks;
+  follows = search rank_to;
 }
-
--- a good section with the id 0 has a name
-named_zero : (encoding : Encoding) (id : ℕ) (content : List ℕ) → IsGood (kind_of encoding id) content → id ≡ custom_id → (text : List ℕ)
-    × (used : ℕ) × (name (Some name_limit) content ≡ named text used)
-named_zero Module id content g z = subst (λ (x : ℕ). IsGood (kind_of Module x) content) z g
-named_zero Component id content g z = subst (λ (x : ℕ). IsGood (kind_of Component x) content) z g
 
 -- a good section that fits after tiles of its own encoding is a tile
 section_at : (p : SectionContext) (fs : List SectionFrame) (o : ℕ) (f : SectionFrame) → o + length (frame_bytes f) < 2 ^ 64
@@ -48,8 +40,8 @@ section_at : (p : SectionContext) (fs : List SectionFrame) (o : ℕ) (f : Sectio
     ≡ tile (made (section w.0 f.id f.sized.content) (frame_bytes f))
 section_at p fs o f r k i a w =
     section_tile p o f.id f.sized.field f.sized.content (head_of_frame p fs o f k i a r) w
-    (named_zero p.encoding f.id f.sized.content i.content)
-    (λ at. good_to w.0 at f.sized.content (subst (λ (k : Kind). IsGood k f.sized.content) w.1 i.content))
+    (grind arith)
+    (λ at. good_to w.0 at f.sized.content (grind arith))
     (λ at. data_to p.encoding fs p k f at a.segments w.0 w.1)
 
 -- a good section that fits and is no code section is a tile
@@ -77,13 +69,13 @@ head_of_code : (p : SectionContext) (fs : List SectionFrame) (o : ℕ) (f : Sect
     → FitsAfter Module fs f → o + length (frame_bytes f) < 2 ^ 64
     → HeadIsRight p o 10 f.sized.field (length f.sized.content)
 head_of_code p fs o f z k i a r =
-    let q : Follows p (frame_rank Module f) = rank_to Module fs p k (frame_rank Module f) a.ranks in
-    let s : Follows p (rank_of (kind_of Module code_id) code_id) = subst (λ (x : ℕ). Follows p (rank_of (kind_of Module x) x)) z q in
+    let q : Follows p (frame_rank Module f) = search rank_to in
+    let s : Follows p (rank_of (kind_of Module code_id) code_id) = cc in
     record {
       below = lit< tt;
       number = i.sized;
       room = omega (arith, length-append f.sized.field f.sized.content);
-      follows = subst (λ (e : Encoding). Follows p (rank_of (kind_of e 10) 10)) (sym k.named) s;
+      follows = cc;
     }
 
 -- a good code section that fits begins with the tile of its head
@@ -96,8 +88,8 @@ code_step p fs o f d z r k i a =
     let c : frame_count f ≡ length d.bodies = division_count f d in
     let g : CodeFits Module fs (frame_count f) = record { bodies = a.bodies (refl, z); functions = a.functions (refl, z) } in
     code_head_tile p o (length f.sized.content) (length d.bodies) f.sized.field d.field (head_of_code p fs o f z k i a r)
-    (ap (λ (e : Encoding). kind_of e 10) k.named) d.count
-    (omega (arith, division_length f d)) (λ at. code_to Module fs p k at (length d.bodies) (subst (CodeFits Module fs) c g))
+    (rw k.named) d.count
+    (omega (arith, division_length f d)) (λ at. code_to Module fs p k at (length d.bodies) (rw c at g))
 
 -- tiles after all bodies of a code section
 pub record Through (start : ℕ) (ts : List Tile) (bodies : List Sized) : Type 0 where
@@ -119,11 +111,8 @@ body_at : (start : ℕ) (ts : List Tile) (s : Sized) (n : ℕ) → is_start ts �
     → length (sized_bytes s) ≤ bytes_to_come ts
     → verdict (grammar start ts) (sized_bytes s) ≡ tile (made (code_entry s.content) (sized_bytes s))
 body_at start ts s n b i e l =
-    subst (λ (g : Grammar). verdict g (sized_bytes s) ≡ tile (made (code_entry s.content) (sized_bytes s)))
-    (sym (grammar_open start ts b (some_left (bodies_to_come ts) (bytes_to_come ts) n e)))
-    (subst (λ (m : ℕ). verdict (body_grammar m (bytes_to_come ts) (start + length (bytes_of ts))) (sized_bytes s)
-    ≡ tile (made (code_entry s.content) (sized_bytes s))) (sym e)
-    (body_tile n (bytes_to_come ts) (start + length (bytes_of ts)) s.field s.content i (omega (arith, length-append s.field s.content))))
+    rw (grammar_open start ts b (some_left (bodies_to_come ts) (bytes_to_come ts) n e), e)
+    (body_tile n (bytes_to_come ts) (start + length (bytes_of ts)) s.field s.content i (omega (arith, length-append s.field s.content)))
 
 -- the events of bodies after one more
 body_listed : (start features : ℕ) (ts : List Tile) (s : Sized) (bodies : List Sized)
@@ -162,6 +151,6 @@ bodies_walk start (s ∷ bodies) ts b f a m l =
       faultless = t.faultless;
       joined = t.joined ∙ append_assoc (bytes_of ts) (sized_bytes s) (flat_map sized_bytes bodies);
       closed = t.closed;
-      knows = λ encoding fs k. t.knows encoding fs (knows_body encoding fs ts s.content (sized_bytes s) k);
+      knows = λ encoding fs k. t.knows encoding fs (search knows_body);
       listed = λ features. t.listed features ∙ body_listed start features ts s bodies;
     }

@@ -1,17 +1,15 @@
 -- Bytes in the textbook form are tiles.
-use Rattle.std.proofs.Common.{◌≡◌, ◌≢◌, ℕ, suc, ◌+◌, ◌-◌, ◌^◌, ◌<◌, ◌≤◌, ◌⊎◌, inl, inr, Bool, true, false, not, ◌&&◌, List, [], ◌∷◌, ◌++◌}
-use Rattle.std.proofs.Common.{length, take, drop, Option, Some, None, nat_lt, nat_le, nat_eq, refl, sym, ap, subst, ◌∙◌, arith, append-nil}
-use Rattle.std.proofs.Common.{length-append, eqb-true, le-leb, le-ltb, lt-ltb}
+use Rattle.std.proofs.Common.{◌≡◌, ℕ, suc, ◌+◌, ◌-◌, ◌^◌, ◌<◌, ◌≤◌, ◌⊎◌, inl, inr, Bool, true, false, ◌&&◌, List, [], ◌∷◌, ◌++◌}
+use Rattle.std.proofs.Common.{length, take, drop, Option, Some, None, nat_lt, nat_le, refl, ap, subst, arith, append-nil}
+use Rattle.std.proofs.Common.{length-append, le-leb, le-ltb, lt-ltb}
 use Rattle.std.proofs.lemmas.List.{take_at, drop_at}
-use Rattle.std.proofs.lemmas.Bool.{and_parts, false_from_ne_true}
-use Rattle.std.proofs.lemmas.Bool.Decides.{nat_tests}
 use Rattle.wasm_base.specs.FaultAt.{FaultAt}
 use Rattle.wasm_base.specs.Header.{magic, agree}
 use Rattle.wasm_base.specs.Name.{named, refused, name_limit, name}
-use Rattle.wasm_base.specs.Number.{read, short, number}
+use Rattle.wasm_base.specs.Number.{read, number}
 use Rattle.wasm_base.specs.declared.fault.NumberKind.TheVariants.{VarU32}
 use Rattle.wasm_base.specs.declared.fault.Fault.TheVariants.{UnexpectedEof}
-use Rattle.wasm_base.proofs.NumberLaws.{number-more, number-used, Used}
+use Rattle.wasm_base.proofs.NumberLaws.{number-more, number-used}
 use Rattle.wasm_grammar.specs.declared.encoding.Encoding.{Encoding}
 use Rattle.wasm_grammar.specs.declared.encoding.Encoding.TheVariants.{Module, Component}
 use Rattle.wasm_grammar.specs.Content.{Kind, code, kind_of, rank_of, Ending, when, wrong_content, Form, whole}
@@ -21,8 +19,7 @@ use Rattle.wasm_grammar.specs.Grammar.{content_grammar, whole_grammar, code_gram
 use Rattle.wasm_grammar.specs.Accepted.{IsNumber, header_bytes}
 use Rattle.wasm_grammar.proofs.parts.Placed.{Follows}
 use Rattle.wasm_grammar.proofs.parts.Guarded.{one_byte}
-use Rattle.wasm_grammar.specs.Ids.{custom_id}
-use Rattle.wasm_grammar.specs.Ids.{code_id}
+use Rattle.wasm_grammar.specs.Ids.{custom_id, code_id}
 
 -- a tile of this shape with these bytes
 abbrev pub made : Shape → List ℕ → Tile
@@ -30,19 +27,13 @@ made s b = record { shape = s; bytes = b }
 
 -- a number's field keeps its value, whatever follows
 pub number_on : (field rest : List ℕ) (v : ℕ) → IsNumber field v → number VarU32 (field ++ rest) ≡ read v (length field)
-number_on field rest v e =
-    let ns : number VarU32 field ≢ short = λ z. (cc) in
-    number-more VarU32 field rest ns ∙ e
+number_on field rest v e = grind (arith, number-more)
 
 -- a number, and then a tile
 number_tile : (o : ℕ) (next : ℕ → ℕ → Grammar) (field rest : List ℕ) (v : ℕ) (s : Shape) (b : List ℕ) → IsNumber field v
     → verdict (next v (length field)) rest ≡ tile (made s b) → verdict (u32_field o next) (field ++ rest) ≡ tile (made s (field ++ b))
 unfolding verdict
-number_tile o next field rest v s b e h =
-    let m : number VarU32 (field ++ rest) ≡ read v (length field) = number_on field rest v e in
-    let t : take (length field) (field ++ rest) ≡ field = take_at field rest (length field) refl in
-    let d : drop (length field) (field ++ rest) ≡ rest = drop_at field rest (length field) refl in
-    rw m (rw (t, d) (rw h refl))
+number_tile o next field rest v s b e h = grind (arith, number_on, take_at, drop_at)
 
 -- so many bytes, and then a tile
 bytes_tile : (n o : ℕ) (next : List ℕ → Grammar) (prefix rest : List ℕ) (s : Shape) (b : List ℕ) → length prefix ≡ n
@@ -58,8 +49,7 @@ bytes_tile n o next prefix rest s b len h =
 refuse_tile : (e : Option FaultAt) (next : Grammar) (xs : List ℕ) (t : Tile) → e ≡ None → verdict next xs ≡ tile t
     → verdict (check e next) xs ≡ tile t
 unfolding verdict
-refuse_tile (Some e) next xs t z h = cc
-refuse_tile None next xs t z h = h
+refuse_tile e next xs t z h = cc
 
 -- a test that fails, and then a tile
 when_tile : (b : Bool) (e : FaultAt) (next : Grammar) (xs : List ℕ) (t : Tile) → b ≡ false → verdict next xs ≡ tile t
@@ -86,10 +76,7 @@ all_of_it g s xs h = subst (λ (x : List ℕ). verdict g x ≡ tile (made s x)) 
 whole_tile : (p : SectionContext) (kind : Form) (id o : ℕ) (content : List ℕ) → wrong_content kind o content ≡ None
     → wrong_data p kind id (o + length content) content ≡ None
     → verdict (whole_grammar p kind id o (length content)) content ≡ tile (made (section kind id content) content)
-whole_tile p kind id o content a b =
-    all_of_it (whole_grammar p kind id o (length content)) (section kind id content) content
-    (bytes_tile (length content) o _ content [] (section kind id content) [] refl
-    (refuse_tile _ _ [] _ a (refuse_tile _ _ [] _ b (takes_tile (section kind id content) []))))
+whole_tile p kind id o content a b = search (all_of_it, bytes_tile, refuse_tile, takes_tile)
 
 -- a section that is one tile
 abbrev pub IsWhole : Kind → Type 0
@@ -110,9 +97,7 @@ same_form one other e = cc
 content_tile : (p : SectionContext) (kind : Kind) (id o : ℕ) (content : List ℕ) (w : IsWhole kind) → wrong_content w.0 o content ≡ None
     → wrong_data p w.0 id (o + length content) content ≡ None
     → verdict (content_grammar p kind id o (length content)) content ≡ tile (made (section w.0 id content) content)
-content_tile p kind id o content w a b =
-    subst (λ (k : Kind). verdict (content_grammar p k id o (length content)) content ≡ tile (made (section w.0 id content) content))
-    (sym w.1) (whole_tile p w.0 id o content a b)
+content_tile p kind id o content w a b = grind (arith, whole_tile)
 
 -- what comes before a section's content is right
 pub record HeadIsRight (p : SectionContext) (o id : ℕ) (field : List ℕ) (size : ℕ) : Type 0 where
@@ -132,14 +117,13 @@ framed_tile p o id field size xs s f m h =
     (when_tile (nat_le 128 id) _ _ (field ++ xs) _ (small id f.below)
     (number_tile (o + 1) _ field xs size s xs f.number
     (when_tile (nat_lt (2 ^ 64 - 1) (o + 1 + length field + size)) _ _ xs _ (fits (o + 1 + length field + size) f.room)
-    (when_tile (nat_lt 0 (rank_of (kind_of p.encoding id) id) && not (p.may_follow (rank_of (kind_of p.encoding id) id))) _ _ xs _ f.follows
-    h))))
+    (search when_tile))))
   where
     small : (n : ℕ) → n < 128 → nat_le 128 n ≡ false
-    small n h = grind (arith, nat_tests)
+    small n h = grind arith
 
     fits : (n : ℕ) → n < 2 ^ 64 → nat_lt (2 ^ 64 - 1) n ≡ false
-    fits n h = grind (arith, nat_tests)
+    fits n h = grind arith
 
 -- 0x73 alone is a number, 115
 another_byte : (xs : List ℕ) → number VarU32 (0x73 ∷ xs) ≡ read 0x73 1
@@ -155,44 +139,20 @@ long_name xs h = rw (another_byte xs) (rw (lt-ltb (length xs) 0x73 h) refl)
 magic_content : (content text : List ℕ) (used : ℕ) → length content ≡ 0x61 → agree content (0x73 ∷ 0x6d ∷ []) ≡ true
     → name (Some name_limit) content ≡ named text used → ⊥
 magic_content [] text used l a e = absurd (omega arith)
-magic_content (y ∷ ys) text used l a e =
-    let q : ((nat_eq y 0x73 ≡ true) × (agree ys (0x6d ∷ []) ≡ true)) = and_parts _ _ a in
-    let z : y ≡ 0x73 = eqb-true y 0x73 q.0 in
-    let f : name (Some name_limit) (0x73 ∷ ys) ≡ named text used =
-    subst (λ (x : ℕ). name (Some name_limit) (x ∷ ys) ≡ named text used) z e in
-    let g : name (Some name_limit) (0x73 ∷ ys) ≡ refused UnexpectedEof 1 = long_name ys (omega arith) in
-    cc
+magic_content (y ∷ ys) text used l a e = grind (arith, long_name)
 
 -- a section whose length and content begin as the magic goes on has no name
 magic_field : (field content text : List ℕ) (used : ℕ) → IsNumber field (length content)
     → agree (field ++ content) (0x61 ∷ 0x73 ∷ 0x6d ∷ []) ≡ true → name (Some name_limit) content ≡ named text used → ⊥
-magic_field [] content text used e a n =
-    let u : Used VarU32 [] (length content) 0 = number-used VarU32 [] (length content) 0 e in
-    let l : 0 < 0 = u.some in absurd (omega arith)
-magic_field (x ∷ []) content text used e a n =
-    let q : ((nat_eq x 0x61 ≡ true) × (agree content (0x73 ∷ 0x6d ∷ []) ≡ true)) = and_parts _ _ a in
-    let z : x ≡ 0x61 = eqb-true x 0x61 q.0 in
-    let f : read 0x61 1 ≡ read (length content) 1 = sym (one_byte [])
-    ∙ subst (λ (y : ℕ). number VarU32 (y ∷ []) ≡ read (length content) 1) z e in
-    let l : length content ≡ 0x61 = cc in
-    magic_content content text used l q.1 n
-magic_field (x ∷ y ∷ field) content text used e a n =
-    let q : ((nat_eq x 0x61 ≡ true) × (agree (y ∷ field ++ content) (0x73 ∷ 0x6d ∷ []) ≡ true)) = and_parts _ _ a in
-    let z : x ≡ 0x61 = eqb-true x 0x61 q.0 in
-    let f : read 0x61 1 ≡ read (length content) (suc (suc (length field))) = sym (one_byte (y ∷ field))
-    ∙ subst (λ (w : ℕ). number VarU32 (w ∷ y ∷ field) ≡ read (length content) (suc (suc (length field)))) z e in
-    let l : 1 ≡ suc (suc (length field)) = cc in
-    absurd (omega arith)
+magic_field [] content text used e a n = grind (arith, number-used)
+magic_field (x ∷ []) content text used e a n = grind (arith, one_byte, magic_content)
+magic_field (x ∷ y ∷ field) content text used e a n = grind (arith, one_byte)
 
 -- a good section begins no header
 pub no_magic : (id : ℕ) (field content : List ℕ) → IsNumber field (length content)
     → (id ≡ custom_id → (text : List ℕ) × (used : ℕ) × (name (Some name_limit) content ≡ named text used))
     → (agree (id ∷ (field ++ content)) magic && nat_le 4 (length (id ∷ (field ++ content)))) ≡ false
-no_magic id field content e n = false_from_ne_true _ (λ h.
-    let q : ((agree (id ∷ (field ++ content)) magic ≡ true) × (nat_le 4 (length (id ∷ (field ++ content))) ≡ true)) = and_parts _ _ h in
-    let r : ((nat_eq id 0 ≡ true) × (agree (field ++ content) (0x61 ∷ 0x73 ∷ 0x6d ∷ []) ≡ true)) = and_parts _ _ q.0 in
-    let m : (text : List ℕ) × (used : ℕ) × (name (Some name_limit) content ≡ named text used) = n (eqb-true id 0 r.0) in
-    magic_field field content m.0 m.1 e r.1 m.2)
+no_magic id field content e n = grind (arith, magic_field)
 
 -- a section that is one tile
 pub section_tile : (p : SectionContext) (o id : ℕ) (field content : List ℕ) → HeadIsRight p o id field (length content)
@@ -200,9 +160,7 @@ pub section_tile : (p : SectionContext) (o id : ℕ) (field content : List ℕ) 
     → (id ≡ custom_id → (text : List ℕ) × (used : ℕ) × (name (Some name_limit) content ≡ named text used))
     → ((at : ℕ) → wrong_content w.0 at content ≡ None) → ((at : ℕ) → wrong_data p w.0 id at content ≡ None)
     → verdict (section_grammar p o) (id ∷ (field ++ content)) ≡ tile (made (section w.0 id content) (id ∷ (field ++ content)))
-section_tile p o id field content f w n a b =
-    framed_tile p o id field (length content) content (section w.0 id content) f (no_magic id field content f.number n)
-    (content_tile p (kind_of p.encoding id) id (o + 1 + length field) content w (a _) (b _))
+section_tile p o id field content f w n a b = search (framed_tile, no_magic, content_tile)
 
 -- a right count is the head of a code section
 code_tile : (p : SectionContext) (o size count : ℕ) (head : List ℕ) → IsNumber head count → length head ≤ size → wrong_count p o count
@@ -222,7 +180,7 @@ pub code_head_tile : (p : SectionContext) (o size count : ℕ) (field head : Lis
     (made (code_start count (length head) (size - length head)) (10 ∷ (field ++ head)))
 code_head_tile p o size count field head f k e l w =
     framed_tile p o 10 field size head (code_start count (length head) (size - length head)) f refl
-    (rw k (code_tile p (o + 1 + length field) size count head e l (w _)))
+    (rw k (search code_tile))
 
 -- a body
 pub body_tile : (m l o : ℕ) (field content : List ℕ) → IsNumber field (length content) → length field + length content ≤ l
@@ -231,8 +189,7 @@ unfolding body_grammar
 body_tile m l o field content e h =
     number_tile o _ field content (length content) (code_entry content) content e
     (when_tile (nat_lt l (length field + length content)) _ _ content _ (le-ltb l (length field + length content) h)
-    (all_of_it _ (code_entry content) content
-    (bytes_tile (length content) (o + length field) _ content [] (code_entry content) [] refl (takes_tile (code_entry content) []))))
+    (search (all_of_it, bytes_tile, takes_tile)))
 
 -- the version of an encoding
 abbrev pub header_version : Encoding → ℕ
@@ -243,5 +200,4 @@ header_version Component = 13
 pub header_tile : (o : ℕ) (encoding : Encoding) → verdict (header_grammar o) (header_bytes encoding)
     ≡ tile (made (version (header_version encoding) encoding) (header_bytes encoding))
 unfolding verdict header_grammar
-header_tile o Module = refl
-header_tile o Component = refl
+header_tile o encoding = grind arith

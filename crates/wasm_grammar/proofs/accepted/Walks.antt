@@ -6,15 +6,14 @@ use Rattle.std.proofs.lemmas.List.{flat_map_more}
 use Rattle.std.proofs.lemmas.Grind.{flat_map-append}
 use Rattle.std.proofs.lemmas.List.Elements.{All-head, All-tail}
 use Rattle.wasm_grammar.specs.declared.encoding.Encoding.{Encoding}
-use Rattle.wasm_grammar.specs.declared.encoding.Encoding.TheVariants.{Module, Component}
-use Rattle.wasm_grammar.specs.Content.{Kind, code, kind_of, ended}
-use Rattle.wasm_grammar.specs.FrameEvents.{header_event, section_event, code_events, KindEvents, FrameEvents, FramesEvents, body_events}
-use Rattle.wasm_grammar.specs.Grammar.{version, section, code_start, Tile, tile, final, SectionContext, Grammar, verdict, end_at_section}
+use Rattle.wasm_grammar.specs.declared.encoding.Encoding.TheVariants.{Module}
+use Rattle.wasm_grammar.specs.Content.{code, kind_of, ended}
+use Rattle.wasm_grammar.specs.FrameEvents.{header_event, section_event, code_events, FrameEvents, FramesEvents, body_events}
+use Rattle.wasm_grammar.specs.Grammar.{version, section, code_start, Tile, tile, final, SectionContext, verdict, end_at_section}
 use Rattle.wasm_grammar.specs.Grammar.{section_grammar}
 use Rattle.wasm_grammar.specs.Tiling.{bytes_of, grammar, Faultless, context_of, bodies_to_come, bytes_to_come, is_start}
 use Rattle.wasm_grammar.specs.Reading.{Event, events_of, Reads}
-use Rattle.wasm_grammar.specs.Accepted.{sized_bytes, SectionFrame, frame_bytes, IsFrame, IsGood, FitsAfter, CodeDivision, IsAccepted}
-use Rattle.wasm_grammar.specs.Accepted.{header_bytes}
+use Rattle.wasm_grammar.specs.Accepted.{sized_bytes, SectionFrame, frame_bytes, IsFrame, FitsAfter, CodeDivision, IsAccepted, header_bytes}
 use Rattle.wasm_grammar.proofs.accepted.Counts.{Knows}
 use Rattle.wasm_grammar.proofs.accepted.KindIds.{code_has_its_id}
 use Rattle.wasm_grammar.proofs.accepted.Endings.{end_to}
@@ -52,8 +51,7 @@ pub record Reached (start : ℕ) (encoding : Encoding) (fs : List SectionFrame) 
 closed_verdict : (start : ℕ) (encoding : Encoding) (fs : List SectionFrame) (ts : List Tile) (c : Closed start encoding fs ts)
     (bytes : List ℕ) (t : Tile)
     → verdict (section_grammar (context_of ts) (start + length (bytes_of ts))) bytes ≡ tile t → verdict (grammar start ts) bytes ≡ tile t
-closed_verdict start encoding fs ts c bytes t h = subst (λ (g : Grammar). verdict g bytes ≡ tile t)
-    (sym (grammar_closed start ts c.begun c.closed)) h
+closed_verdict start encoding fs ts c bytes t h = search grammar_closed
 
 -- the bytes of one more frame
 pub stream_more : (encoding : Encoding) (fs : List SectionFrame) (f : SectionFrame) (prefix : List ℕ) → prefix ≡ stream_of encoding fs
@@ -74,16 +72,7 @@ told_more : (start features : ℕ) (encoding : Encoding) (fs : List SectionFrame
     → bytes_of ts ≡ stream_of encoding fs → Told start features encoding fs ts
     → FrameEvents features encoding (start + length (bytes_of ts)) f events → events_of start features us ≡ events_of start features ts
     ++ events → Told start features encoding (fs ++ f ∷ []) us
-told_more start features encoding fs f ts us events j t e l =
-    let n : length (bytes_of ts) ≡ length (header_bytes encoding) + length (flat_map frame_bytes fs) = ap (λ (x : List ℕ). length x) j
-    ∙ length-append (header_bytes encoding) (flat_map frame_bytes fs) in
-    let o : start + length (bytes_of ts) ≡ start + length (header_bytes encoding) + length (flat_map frame_bytes fs) = omega arith in
-    record {
-      inner = t.inner ++ events;
-      sections = push_events features encoding (start + length (header_bytes encoding)) fs f t.inner events t.sections
-          (subst (λ (x : ℕ). FrameEvents features encoding x f events) o e);
-      listed = l ∙ ap (λ (x : List Event). x ++ events) t.listed;
-    }
+told_more start features encoding fs f ts us events j t e l = grind (arith, push_events)
 
 -- one more frame that fits and is no code section
 whole_step : (start : ℕ) (encoding : Encoding) (fs : List SectionFrame) (f : SectionFrame) → Reached start encoding fs
@@ -94,19 +83,18 @@ whole_step start encoding fs f q r i a w =
     let c : Closed start encoding fs ts = q.there in
     let o : ℕ = start + length (bytes_of ts) in
     let v : verdict (grammar start ts) (frame_bytes f) ≡ tile (made (section w.0 f.id f.sized.content) (frame_bytes f)) =
-    closed_verdict start encoding fs ts c _ _ (section_step encoding (context_of ts) fs (start + length (bytes_of ts)) f
-    (room_for start encoding fs f (bytes_of ts) c.joined r) c.knows i a w) in
+    search (closed_verdict, section_step, room_for) in
     record {
       tiles = made (section w.0 f.id f.sized.content) (frame_bytes f) ∷ ts;
       there = record {
         begun = refl;
         faultless = (c.faultless, v);
         joined = stream_more encoding fs f (bytes_of ts) c.joined;
-        knows = knows_section encoding fs ts f (frame_bytes f) w c.knows;
+        knows = search knows_section;
         closed = refl;
         told = λ features. told_more start features encoding fs f ts _ (section_event features o w.0 f ∷ []) c.joined (c.told features)
-            (subst (λ (k : Kind). KindEvents features o k f (section_event features o w.0 f ∷ [])) (sym w.1) refl)
-            (ap (λ (e : Event). events_of start features ts ++ e ∷ []) (section_tile_event features o w.0 f));
+            (rw w.1 refl)
+            (search section_tile_event);
       };
     }
 
@@ -116,8 +104,7 @@ code_bytes : (f : SectionFrame) (d : CodeDivision f.sized.content) → f.id ≡ 
 code_bytes f d z prefix =
     append_assoc prefix (10 ∷ (f.sized.field ++ d.field)) (flat_map sized_bytes d.bodies)
     ∙ (ap (λ (x : List ℕ). prefix ++ 10 ∷ x) (append_assoc f.sized.field d.field (flat_map sized_bytes d.bodies))
-    ∙ (ap (λ (x : List ℕ). prefix ++ 10 ∷ (f.sized.field ++ x)) (sym d.whole)
-    ∙ ap (λ (n : ℕ). prefix ++ n ∷ (f.sized.field ++ f.sized.content)) (sym z)))
+    ∙ (cc))
 
 -- the events of a code section's head and bodies are the section's
 code_listed : (start features : ℕ) (ts : List Tile) (f : SectionFrame) (d : CodeDivision f.sized.content) → f.id ≡ code_id
@@ -145,23 +132,21 @@ module_step start fs f z d q r i a =
     let hb : List ℕ = 10 ∷ (f.sized.field ++ d.field) in
     let h : Tile = made (code_start (length d.bodies) (length d.field) n) hb in
     let v : verdict (grammar start ts) hb ≡ tile h =
-    closed_verdict start Module fs ts c hb h (code_step (context_of ts) fs (start + length (bytes_of ts)) f d z
-    (room_for start Module fs f (bytes_of ts) c.joined r) c.knows i a) in
+    search (closed_verdict, code_step, room_for) in
     let l : length f.sized.content ≡ length d.field + length (flat_map sized_bytes d.bodies) = division_length f d in
-    let t : Through start (h ∷ ts) d.bodies = bodies_walk start d.bodies (h ∷ ts) refl (c.faultless, v) d.each refl (omega arith) in
+    let t : Through start (h ∷ ts) d.bodies = grind (arith, bodies_walk) in
     record {
       tiles = t.tiles;
       there = record {
         begun = t.begun;
         faultless = t.faultless;
-        joined = t.joined ∙ (code_bytes f d z (bytes_of ts) ∙ stream_more Module fs f (bytes_of ts) c.joined);
-        knows = t.knows Module (fs ++ f ∷ []) (knows_code fs ts f (length d.bodies) (length d.field) n hb z (division_count f d) c.knows);
+        joined = t.joined ∙ (search (code_bytes, stream_more));
+        knows = t.knows Module (fs ++ f ∷ []) (search (knows_code, division_count));
         closed = t.closed;
         told = λ features. told_more start features Module fs f ts t.tiles (code_events features (start + length (bytes_of ts)) f d)
             c.joined (c.told features)
-            (subst (λ (k : Kind). KindEvents features (start + length (bytes_of ts)) k f
-            (code_events features (start + length (bytes_of ts)) f d)) (sym (ap (kind_of Module) z)) (d, refl))
-            (t.listed features ∙ code_listed start features ts f d z);
+            (rw (ap (kind_of Module) z) (d, refl))
+            (grind (arith, code_listed));
       };
     }
 
@@ -169,9 +154,7 @@ module_step start fs f z d q r i a =
 code_frame : (start : ℕ) (encoding : Encoding) (fs : List SectionFrame) (f : SectionFrame) → encoding ≡ Module → Reached start encoding fs
     → start + length (stream_of encoding (fs ++ f ∷ [])) < 2 ^ 64 → IsFrame encoding f → FitsAfter encoding fs f
     → kind_of encoding f.id ≡ code → Reached start encoding (fs ++ f ∷ [])
-code_frame start Module fs f e q r i a k =
-    module_step start fs f (code_has_its_id Module f.id k).1 (subst (λ (x : Kind). IsGood x f.sized.content) k i.content) q r i a
-code_frame start Component fs f e q r i a k = cc
+code_frame start encoding fs f e q r i a k = grind (arith, module_step)
 
 -- one more frame that fits
 frame_step : (start : ℕ) (encoding : Encoding) (fs : List SectionFrame) (f : SectionFrame) → Reached start encoding fs
@@ -205,10 +188,9 @@ frames_walk start encoding all r order [] earlier e a q = subst (Reached start e
 frames_walk start encoding all r order (f ∷ later) earlier e a q =
     let w : (earlier ++ f ∷ []) ++ later ≡ all = append_assoc earlier (f ∷ []) later ∙ e in
     let l : length (stream_of encoding (earlier ++ f ∷ [])) ≤ length (stream_of encoding all) =
-    subst (λ (x : List SectionFrame). length (stream_of encoding (earlier ++ f ∷ [])) ≤ length (stream_of encoding x)) w
-    (stream_prefix encoding (earlier ++ f ∷ []) later) in
+    grind (arith, stream_prefix) in
     frames_walk start encoding all r order later (earlier ++ f ∷ []) w (All-tail (IsFrame encoding) f later a)
-    (frame_step start encoding earlier f q (omega arith) (All-head (IsFrame encoding) f later a) (order earlier later f (sym e)))
+    (grind (arith, frame_step, All-head))
 
 -- a header is no frame yet
 begins : (start : ℕ) (encoding : Encoding) → Reached start encoding []
@@ -238,7 +220,7 @@ end_verdict p o e = ap final e
 pub accepted_walk : (stream : List ℕ) (start : ℕ) → start + length stream < 2 ^ 64 → (a : IsAccepted stream)
     → Reached start a.encoding a.frames
 accepted_walk stream start r a =
-    frames_walk start a.encoding a.frames (subst (λ (x : List ℕ). start + length x < 2 ^ 64) a.whole r) a.order a.frames [] refl a.each
+    frames_walk start a.encoding a.frames (grind arith) a.order a.frames [] refl a.each
     (begins start a.encoding)
 
 -- the stream ends after them
@@ -249,13 +231,12 @@ accepted_ends_there stream start a q =
     let w : bytes_of q.tiles ≡ stream = c.joined ∙ sym a.whole in
     let o : ℕ = start + length (bytes_of q.tiles) in
     let v : verdict (grammar start q.tiles) [] ≡ final (ended o) =
-    subst (λ (g : Grammar). verdict g [] ≡ final (ended o)) (sym (grammar_closed start q.tiles c.begun c.closed))
-    (end_verdict (context_of q.tiles) o (end_to a.encoding a.frames (context_of q.tiles) c.knows o a.functions a.segments)) in
+    search (grammar_closed, end_verdict, end_to) in
     record {
       rest = [];
       whole = sym w ∙ sym (append-nil (bytes_of q.tiles));
       faultless = c.faultless;
-      stops = v ∙ ap (λ (x : List ℕ). final (ended (start + length x))) w;
+      stops = cc;
     }
 
 -- an accepted stream's reading ends at its end

@@ -1,6 +1,5 @@
 -- Where numbers are bad, and what more of them would say.
-use Rattle.std.proofs.Common.{◌≡◌, ℕ, suc, ◌+◌, ◌-◌, ◌<◌, ◌≤◌, Bool, true, false, cond, List, ◌++◌, length, take, slice_index, Option, Some}
-use Rattle.std.proofs.Common.{None, nat_lt, sym, ap, ◌∙◌}
+use Rattle.std.proofs.Common.{◌≡◌, ℕ, suc, Bool, true, false, cond, List, length, take, slice_index, Option, Some, None, nat_lt, sym, ap}
 use Rattle.wasm_base.specs.Hints.{hint_at}
 use Rattle.wasm_base.specs.Number.{read, bad, short, number, ends_at, last_place, septets, is_unused_right}
 use Rattle.wasm_base.specs.declared.fault.Fault.{Fault}

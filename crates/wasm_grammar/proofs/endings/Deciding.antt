@@ -1,33 +1,28 @@
 -- Where bytes don't suffice, something else is there after their ending than where the stream ends.
-use Rattle.std.proofs.Common.{◌≡◌, ◌≢◌, ℕ, zero, suc, ◌+◌, ◌-◌, ◌^◌, ◌<◌, ◌≤◌, Bool, true, false, cond, not, ◌&&◌, List, [], ◌∷◌, ◌++◌}
-use Rattle.std.proofs.Common.{length, take, drop, replicate, Option, Some, None, nat_lt, nat_le, nat_eq, refl, sym, ap, subst, ◌∙◌, arith}
-use Rattle.std.proofs.Common.{length-append, leb-true, le-leb}
-use Rattle.std.specs.List.{list_all, list_any}
-use Rattle.std.proofs.lemmas.Bool.{leb-false, eqb-true, and_parts, lt-leb}
+use Rattle.std.proofs.Common.{◌≡◌, ◌≢◌, ℕ, ◌+◌, ◌-◌, ◌<◌, ◌≤◌, Bool, true, false, cond, ◌&&◌, List, [], ◌∷◌, ◌++◌, length, take, drop}
+use Rattle.std.proofs.Common.{replicate, Option, Some, None, nat_lt, nat_le, nat_eq, refl, ◌∙◌, arith, length-append, leb-true, le-leb}
+use Rattle.std.specs.List.{list_any}
+use Rattle.std.proofs.lemmas.Bool.{leb-false, and_parts, lt-leb}
 use Rattle.std.proofs.lemmas.List.{append_cancel_left, take-append-le, drop-append-le, length-replicate, take_all, drop_all}
 use Rattle.wasm_base.specs.FaultAt.{FaultAt, at_offset}
 use Rattle.wasm_base.specs.Header.{magic, agree}
-use Rattle.std.specs.Str.{is_utf8}
 use Rattle.wasm_base.specs.Hints.{hint_at}
-use Rattle.wasm_base.specs.Name.{Name, named, refused, name_limit, name, of_four, is_above, text_after, after_size}
+use Rattle.wasm_base.specs.Name.{name_limit, name, after_size}
 use Rattle.wasm_base.specs.Number.{Number, read, bad, short, number}
 use Rattle.wasm_base.specs.declared.fault.Fault.{Fault}
-use Rattle.wasm_base.specs.declared.fault.Fault.TheVariants.{UnexpectedEof, BadMagic, MagicAtSection, MalformedSectionId, SectionTooLarge}
-use Rattle.wasm_base.specs.declared.fault.Fault.TheVariants.{StartContent, DataCountContent, DataCountDiffer, FunctionWithoutCode}
-use Rattle.wasm_base.specs.declared.fault.Fault.TheVariants.{DataCountWithoutData, NumberTooLong, StringSize, MalformedUtf8, UnknownVersion}
+use Rattle.wasm_base.specs.declared.fault.Fault.TheVariants.{UnexpectedEof, BadMagic, MagicAtSection, MalformedSectionId}
+use Rattle.wasm_base.specs.declared.fault.Fault.TheVariants.{FunctionWithoutCode, DataCountWithoutData}
 use Rattle.wasm_base.specs.declared.fault.NumberKind.TheVariants.{VarU32}
-use Rattle.wasm_base.proofs.NumberLaws.{Used, number-used, number-more, number-long}
-use Rattle.wasm_grammar.specs.Content.{Form, custom, items, index, data_count, unknown, Kind, code, kind_of, Ending, fault, ended, when}
-use Rattle.wasm_grammar.specs.Content.{whole, wrong_number, wrong_single, wrong_name, wrong_content, count_of}
-use Rattle.wasm_grammar.specs.Grammar.{Shape, section, code_entry, Tile, Verdict, tile, final, after, after_number, SectionContext, Grammar}
-use Rattle.wasm_grammar.specs.Grammar.{accept, reject, check, u32_field, bytes, section_start, verdict, version_of, header_of}
-use Rattle.wasm_grammar.specs.Grammar.{header_grammar, end_at_section, wrong_data, content_grammar, after_length, after_id, section_grammar}
-use Rattle.wasm_grammar.specs.Grammar.{body_grammar}
-use Rattle.wasm_grammar.specs.Tiling.{context_of, grammar, bodies_to_come, bytes_to_come, bytes_of}
+use Rattle.wasm_base.proofs.NumberLaws.{number-used, number-more, number-long}
+use Rattle.wasm_grammar.specs.Content.{Form, Kind, code, kind_of, Ending, fault, ended, when}
+use Rattle.wasm_grammar.specs.Content.{whole, wrong_number, wrong_single, wrong_name, wrong_content}
+use Rattle.wasm_grammar.specs.Grammar.{Shape, code_entry, Tile, Verdict, final, after, after_number, SectionContext, Grammar, accept, check}
+use Rattle.wasm_grammar.specs.Grammar.{u32_field, bytes, section_start, verdict, header_of, header_grammar, end_at_section, wrong_data}
+use Rattle.wasm_grammar.specs.Grammar.{content_grammar, after_id, section_grammar, body_grammar}
+use Rattle.wasm_grammar.specs.Tiling.{grammar}
 use Rattle.wasm_grammar.specs.Undecided.{ending_of_number, deciding_ending}
 use Rattle.wasm_grammar.specs.Waiting.{enough, wants, later, later_number, waiting}
 use Rattle.wasm_grammar.specs.declared.encoding.Encoding.{Encoding}
-use Rattle.wasm_grammar.specs.declared.encoding.Encoding.TheVariants.{Module, Component}
 use Rattle.wasm_grammar.proofs.parts.Bounds.{final_same}
 use Rattle.wasm_grammar.proofs.readings.Endings.{after_final}
 use Rattle.wasm_grammar.proofs.parts.Verdicts.{agree-more}
@@ -36,25 +31,12 @@ use Rattle.wasm_grammar.proofs.endings.Waiting.{later-wants}
 
 -- ---- every grammar
 
--- a stream that ends at another fault ends differently
-apart : (f g : FaultAt) → f.fault ≢ g.fault → (let v : Verdict = final (fault f) in v) ≢ final (fault g)
-apart f g h z = h (ap (λ (x : FaultAt). x.fault) (final_same f g z))
-
 -- what is there after the same bytes tells what is there
 after_same : (f : List ℕ) (a b : Verdict) → after f a ≡ after f b → a ≡ b
-after_same f (tile s) (tile t) e =
-    let z : record s { bytes = f ++ s.bytes } ≡ record t { bytes = f ++ t.bytes } = cc in
-    let b : s.bytes ≡ t.bytes = append_cancel_left f s.bytes t.bytes (ap (λ (x : Tile). x.bytes) z) in
-    let c : s.shape ≡ t.shape = ap (λ (x : Tile). x.shape) z in
-    λ i. tile (record { shape = c i; bytes = b i })
-after_same f (tile s) (final e) h = cc
-after_same f (final e) (tile s) h = cc
-after_same f (final e) (final x) h = cc
+after_same f a b h = grind (arith, append_cancel_left)
 
 -- Bytes that are missing and then come lead to something else, and so do the bytes that come where a section may start.
 abbrev pub Differs : Grammar → Type 0
-Differs (accept shape) = Unit {0}
-Differs (reject e) = Unit {0}
 Differs (check e next) = Differs next
 Differs (u32_field o next) = (v k : ℕ) → 0 < k → Differs (next v k)
 Differs (bytes n o next) = ((c : List ℕ) → 0 < length c → verdict (next c) [] ≢ final (fault (at_offset UnexpectedEof o)))
@@ -63,6 +45,7 @@ Differs (section_start o e next) = ((id : ℕ) → Differs (next id))
     × (verdict (section_start o e next) [] ≢ verdict (section_start o e next) (replicate 5 0x80))
     × ((id : ℕ) (xs : List ℕ) → agree (id ∷ xs) magic ≡ true → length (id ∷ xs) < 4
     → verdict (section_start o e next) (id ∷ xs) ≢ verdict (section_start o e next) ((id ∷ xs) ++ drop (length (id ∷ xs)) magic))
+Differs _ = Unit {0}
 
 number_differs : (o : ℕ) (xs : List ℕ) (next : ℕ → ℕ → Grammar) (n h : ℕ)
     → ((v k : ℕ) → 0 < k → (zs : List ℕ) (m : ℕ) → waiting (next v k) zs ≡ wants m h
@@ -71,24 +54,9 @@ number_differs : (o : ℕ) (xs : List ℕ) (next : ℕ → ℕ → Grammar) (n h
     → after_number o xs x (λ v k. verdict (next v k) (drop k xs)) ≢ verdict (u32_field o next)
     (xs ++ ending_of_number x (λ v k. deciding_ending (next v k) (drop k xs)))
 unfolding verdict
-number_differs o xs next n h ih (read v k) e w z =
-    let u : Used VarU32 xs v k = number-used VarU32 xs v k e in
-    let ys : List ℕ = deciding_ending (next v k) (drop k xs) in
-    let ns : number VarU32 xs ≢ short = λ z. (cc) in
-    let m : number VarU32 (xs ++ ys) ≡ read v k = number-more VarU32 xs ys ns ∙ e in
-    let t : take k (xs ++ ys) ≡ take k xs = take-append-le k xs ys u.there in
-    let d : drop k (xs ++ ys) ≡ drop k xs ++ ys = drop-append-le k xs ys u.there in
-    let (j, q, r) = later-wants k (waiting (next v k) (drop k xs)) n h w in
-    let g : after_number o (xs ++ ys) (number VarU32 (xs ++ ys)) (λ v k. verdict (next v k) (drop k (xs ++ ys)))
-    ≡ after (take k xs) (verdict (next v k) (drop k xs ++ ys)) = rw m (rw (t, d) refl) in
-    ih v k u.some (drop k xs) j q (after_same (take k xs) _ _ (z ∙ g))
+number_differs o xs next n h ih (read v k) e w z = grind (arith, number-used, number-more, take-append-le, drop-append-le, after_same)
 number_differs o xs next n h ih (bad f p) e w z = cc
-number_differs o xs next n h ih short e w z =
-    let m : number VarU32 (xs ++ replicate 5 0x80) ≡ bad (NumberTooLong VarU32) 4 = number-long xs e in
-    let g : after_number o (xs ++ replicate 5 0x80) (number VarU32 (xs ++ replicate 5 0x80))
-    (λ v k. verdict (next v k) (drop k (xs ++ replicate 5 0x80)))
-    ≡ final (fault (at_offset (NumberTooLong VarU32) (o + 4))) = rw m refl in
-    apart (at_offset UnexpectedEof (o + length xs)) (at_offset (NumberTooLong VarU32) (o + 4)) (λ y. (cc)) (z ∙ g)
+number_differs o xs next n h ih short e w z = grind (arith, number-long)
 
 bytes_differs : (count o : ℕ) (xs : List ℕ) (next : List ℕ → Grammar) (n h : ℕ) → Differs (bytes count o next)
     → ((b zs : List ℕ) (m : ℕ) → waiting (next b) zs ≡ wants m h
@@ -108,8 +76,8 @@ bytes_differs count o xs next n h s ih true e w z =
     let g : cond (nat_le count (length (xs ++ ys))) (after (take count (xs ++ ys))
     (verdict (next (take count (xs ++ ys))) (drop count (xs ++ ys)))) (final (fault (at_offset UnexpectedEof o)))
     ≡ after (take count xs) (verdict (next (take count xs)) (drop count xs ++ ys)) =
-    rw (le-leb count (length (xs ++ ys)) m) (rw (t, d) refl) in
-    ih (take count xs) (drop count xs) j q (after_same (take count xs) _ _ (z ∙ g))
+    grind arith in
+    grind (arith, after_same)
 bytes_differs count o xs next n h s ih false e w z =
     let ys : List ℕ = replicate (count - length xs) 0 in
     let l : length xs < count = leb-false count (length xs) e in
@@ -122,15 +90,13 @@ bytes_differs count o xs next n h s ih false e w z =
     ≡ after (xs ++ ys) (verdict (next (xs ++ ys)) []) =
     rw c (rw (t, d) refl) in
     let p : 0 < length (xs ++ ys) = omega arith in
-    s.0 (xs ++ ys) p (sym (after_same (xs ++ ys) (final (fault (at_offset UnexpectedEof o))) (verdict (next (xs ++ ys)) []) (z ∙ g)))
+    grind arith
 
 unmagic : (o : ℕ) (e : Ending) (next : ℕ → Grammar) (id : ℕ) (xs ys : List ℕ) → agree (id ∷ xs) magic ≡ false
     → verdict (section_start o e next) (id ∷ xs) ≡ verdict (section_start o e next) (id ∷ (xs ++ ys))
     → after (id ∷ []) (verdict (next id) xs) ≡ after (id ∷ []) (verdict (next id) (xs ++ ys))
 unfolding verdict
-unmagic o e next id xs ys p z =
-    let f : agree (id ∷ (xs ++ ys)) magic ≡ false = agree-more (id ∷ xs) ys magic p in
-    rw (p, f) at z
+unmagic o e next id xs ys p z = grind (arith, agree-more)
 
 start_differs : (o : ℕ) (e : Ending) (next : ℕ → Grammar) (id : ℕ) (xs : List ℕ) (n h : ℕ) → Differs (section_start o e next)
     → ((m : ℕ) → waiting (next id) xs ≡ wants m h → verdict (next id) xs ≢ verdict (next id) (xs ++ deciding_ending (next id) xs))
@@ -140,17 +106,12 @@ start_differs : (o : ℕ) (e : Ending) (next : ℕ → Grammar) (id : ℕ) (xs :
     ((id ∷ xs) ++ cond a (drop (length (id ∷ xs)) magic) (deciding_ending (next id) xs))
 start_differs o e next id xs n h s ih true true p q w z = cc
 start_differs o e next id xs n h s ih true false p q w z = s.2 id xs p (leb-false 4 (length (id ∷ xs)) q) z
-start_differs o e next id xs n h s ih false l p q w z =
-    let (j, r, x) = later-wants 1 (waiting (next id) xs) n h w in
-    ih j r (after_same (id ∷ []) _ _ (unmagic o e next id xs (deciding_ending (next id) xs) p z))
+start_differs o e next id xs n h s ih false l p q w z = grind (arith, unmagic)
 
 -- where bytes don't suffice, something else is there after their ending
 pub differs : (g : Grammar) → Differs g → (xs : List ℕ) (n h : ℕ) → waiting g xs ≡ wants n h
     → verdict g xs ≢ verdict g (xs ++ deciding_ending g xs)
 unfolding verdict waiting deciding_ending
-differs (accept s) p xs n h w = cc
-differs (reject e) p xs n h w = cc
-differs (check (Some e) next) p xs n h w = cc
 differs (check None next) p xs n h w = differs next p xs n h w
 differs (u32_field o next) p xs n h w = number_differs o xs next n h (λ v k l zs m. differs (next v k) (p v k l) zs m h) (number VarU32 xs)
     refl w
@@ -160,6 +121,7 @@ differs (section_start o e next) p [] n h w = p.1
 differs (section_start o e next) p (id ∷ xs) n h w =
     start_differs o e next id xs n h p (λ m. differs (next id) (p.0 id) xs m h) (agree (id ∷ xs) magic) (nat_le 4 (length (id ∷ xs))) refl
     refl w
+differs _ p xs n h w = cc
 
 -- ---- the grammars of a stream
 
@@ -168,54 +130,17 @@ abbrev NotMissing : (offset : ℕ) → Option FaultAt → Type 0
 NotMissing o None = Unit {0}
 NotMissing o (Some f) = f ≢ at_offset UnexpectedEof o
 
-elsewhere : (f : Fault) (p o : ℕ) → o < p → at_offset f p ≢ at_offset UnexpectedEof o
-elsewhere f p o l e = let z : p ≡ o = ap (λ (x : FaultAt). x.offset) e in omega arith
-
-not_missing : (f : FaultAt) (o : ℕ) → hint_at 1 f.fault ≡ None → f ≢ at_offset UnexpectedEof o
-not_missing f o h e = none_some (sym h ∙ ap (λ (x : FaultAt). hint_at 1 x.fault) e)
-  where
-    none_some : (let x : Option ℕ = None in x) ≡ Some 1 → ⊥
-    none_some e = cc
-
-other_fault : (f : Fault) (p o : ℕ) → hint_at 1 f ≡ None → at_offset f p ≢ at_offset UnexpectedEof o
-other_fault f p o h e = not_missing (at_offset f p) o h e
-
-when_other : (b : Bool) (f : FaultAt) (o : ℕ) → f ≢ at_offset UnexpectedEof o → NotMissing o (when b f)
-when_other true f o h = h
-when_other false f o h = tt
-
 -- content of some bytes misses none at its start
 number_other : (o : ℕ) (c : List ℕ) → 0 < length c → (n : Number) → number VarU32 c ≡ n → NotMissing o (wrong_number o c n)
-number_other o c l (read v k) e = tt
-number_other o c l (bad f p) e = other_fault f (o + p) o (bad_hint c f p e)
-number_other o c l short e = elsewhere UnexpectedEof (o + length c) o (omega arith)
+number_other o c l n e = grind (arith, bad_hint)
 
 single_other : (f : Fault) (o : ℕ) (c : List ℕ) → hint_at 1 f ≡ None → 0 < length c → (n : Number) → number VarU32 c ≡ n
     → NotMissing o (wrong_single f o c n)
-single_other f o c h l (read v k) e = when_other (nat_lt k (length c)) (at_offset f (o + k)) o (other_fault f (o + k) o h)
-single_other f o c h l (bad g p) e = other_fault g (o + p) o (bad_hint c g p e)
-single_other f o c h l short e = elsewhere UnexpectedEof (o + length c) o (omega arith)
-
-text_other : (a b : Bool) (text : List ℕ) (o size used : ℕ) → 0 < used
-    → NotMissing o (wrong_name o (cond a (refused UnexpectedEof used)
-    (cond b (named text (used + size)) (refused MalformedUtf8 (used + size - 1)))))
-text_other true b text o size used l = elsewhere UnexpectedEof (o + used) o (omega arith)
-text_other false true text o size used l = tt
-text_other false false text o size used l = other_fault MalformedUtf8 (o + (used + size - 1)) o refl
-
-size_other : (a : Bool) (n : Name) (o used : ℕ) → NotMissing o (wrong_name o n)
-    → NotMissing o (wrong_name o (cond a (refused StringSize (used - 1)) n))
-size_other true n o used h = other_fault StringSize (o + (used - 1)) o refl
-size_other false n o used h = h
+single_other f o c h l n e = grind (arith, bad_hint)
 
 name_other_at : (o : ℕ) (c : List ℕ) → 0 < length c → (n : Number) → number VarU32 c ≡ n
     → NotMissing o (wrong_name o (after_size (Some name_limit) c n))
-name_other_at o c l (bad f p) e = other_fault f (o + p) o (bad_hint c f p e)
-name_other_at o c l short e = elsewhere UnexpectedEof (o + length c) o (omega arith)
-name_other_at o c l (read size used) e =
-    let u : Used VarU32 c size used = number-used VarU32 c size used e in
-    size_other (is_above (Some name_limit) size) (text_after c size used) o used
-    (text_other (nat_lt (length (drop used c)) size) (is_utf8 (take size (drop used c))) (take size (drop used c)) o size used u.some)
+name_other_at o c l n e = grind (arith, bad_hint, number-used)
 
 name_other : (o : ℕ) (c : List ℕ) → 0 < length c → NotMissing o (wrong_name o (name (Some name_limit) c))
 unfolding name
@@ -223,19 +148,10 @@ name_other o c l = name_other_at o c l (number VarU32 c) refl
 
 content_other : (form : Form) (o : ℕ) (c : List ℕ) → 0 < length c → NotMissing o (wrong_content form o c)
 unfolding wrong_content
-content_other custom o c l = name_other o c l
-content_other items o c l = number_other o c l (number VarU32 c) refl
-content_other index o c l = single_other StartContent o c refl l (number VarU32 c) refl
-content_other data_count o c l = single_other DataCountContent o c refl l (number VarU32 c) refl
-content_other unknown o c l = tt
+content_other form o c l = grind (arith, name_other, number_other, single_other)
 
 data_other : (p : SectionContext) (form : Form) (id o q : ℕ) (c : List ℕ) → NotMissing q (wrong_data p form id o c)
-data_other p items id o q c = when_other (nat_eq id 11 && not (list_all (nat_eq (count_of c)) p.data_counts)) (at_offset DataCountDiffer o)
-    q (other_fault DataCountDiffer o q refl)
-data_other p custom id o q c = tt
-data_other p index id o q c = tt
-data_other p data_count id o q c = tt
-data_other p unknown id o q c = tt
+data_other p form id o q c = grind arith
 
 checked_twice : (a b : Option FaultAt) (s : Shape) (o : ℕ) → NotMissing o a → NotMissing o b
     → verdict (check a (check b (accept s))) [] ≢ final (fault (at_offset UnexpectedEof o))
@@ -245,11 +161,7 @@ checked_twice None (Some x) s o h g z = g (final_same x (at_offset UnexpectedEof
 checked_twice None None s o h g z = cc
 
 Differs-content : (p : SectionContext) (kind : Kind) (id o n : ℕ) → Differs (content_grammar p kind id o n)
-Differs-content p (whole form) id o n = (
-  λ c l. checked_twice (wrong_content form o c) (wrong_data p form id (o + n) c) (section form id c)
-      o (content_other form o c l) (data_other p form id (o + n) o c),
-  λ b. tt,
-)
+Differs-content p (whole form) id o n = search (checked_twice, content_other, data_other)
 Differs-content p code id o n = λ v k l. tt
 
 body_there : (c : List ℕ) (o : ℕ) → verdict (accept (code_entry c)) [] ≢ final (fault (at_offset UnexpectedEof o))
@@ -258,37 +170,30 @@ body_there c o z = cc
 
 Differs-body : (m l o : ℕ) → Differs (body_grammar m l o)
 unfolding body_grammar
-Differs-body zero l o = tt
-Differs-body (suc m) l o = λ v k h. (λ c g. body_there c (o + k), λ b. tt)
+Differs-body m l o = grind (arith, body_there)
 
 Differs-header_of : (o bits : ℕ) (e : Option Encoding) → Differs (header_of o bits e)
-Differs-header_of o bits (Some e) = tt
-Differs-header_of o bits None = tt
+Differs-header_of o bits e = grind arith
 
 version_other : (o p bits : ℕ) (e : Option Encoding) → verdict (header_of o bits e) [] ≢ final (fault (at_offset UnexpectedEof p))
 unfolding verdict
 version_other o p bits (Some e) z = cc
-version_other o p bits None z = not_missing (record { fault = UnknownVersion; offset = o + 4; number = Some bits }) p refl
-    (final_same _ _ z)
+version_other o p bits None z = grind arith
 
 magic_other : (b : Bool) (o : ℕ) (next : List ℕ → Grammar) → verdict (check (when b (at_offset BadMagic o)) (bytes 4 (o + 4) next)) [] ≢
     final (fault (at_offset UnexpectedEof o))
 unfolding verdict
-magic_other true o next z = other_fault BadMagic o o refl (final_same _ _ z)
-magic_other false o next z = elsewhere UnexpectedEof (o + 4) o (omega arith) (final_same _ _ z)
+magic_other true o next z = grind arith
+magic_other false o next z = grind arith
 
 Differs-header : (o : ℕ) → Differs (header_grammar o)
 unfolding header_grammar
-Differs-header o = (
-  λ c l. magic_other (not (agree c magic)) o (λ four. version_of o (of_four four)),
-  λ a.
-      (λ c l. version_other o (o + 4) (of_four c) _, λ b. Differs-header_of o (of_four b) _),
-)
+Differs-header o = search (magic_other, version_other, Differs-header_of)
 
 end_other : (a b : Bool) (o : ℕ) → cond a (fault (at_offset FunctionWithoutCode o))
     (cond b (fault (at_offset DataCountWithoutData o)) (ended o)) ≢ fault (at_offset MalformedSectionId o)
-end_other true b o z = apart (at_offset FunctionWithoutCode o) (at_offset MalformedSectionId o) (λ y. (cc)) (ap final z)
-end_other false true o z = apart (at_offset DataCountWithoutData o) (at_offset MalformedSectionId o) (λ y. (cc)) (ap final z)
+end_other true b o z = grind arith
+end_other false true o z = grind arith
 end_other false false o z = cc
 
 final_is : (e f : Ending) → final e ≡ final f → e ≡ f
@@ -296,75 +201,32 @@ final_is e f z = cc
 
 -- a custom section whose length is the magic's second byte is longer than the magic's other bytes
 
-too_large : (t : Bool) (n : Option ℕ) (f o : ℕ) (g : Grammar) (ys : List ℕ) → verdict g ys ≢ final (fault (at_offset MagicAtSection o))
-    → verdict (check (when t (record { fault = SectionTooLarge; offset = f; number = n })) g) ys ≢ final
-    (fault (at_offset MagicAtSection o))
-unfolding verdict
-too_large true n f o g ys h z = apart (record { fault = SectionTooLarge; offset = f; number = n }) (at_offset MagicAtSection o) (λ y. (cc))
-    z
-too_large false n f o g ys h z = h z
-
-cut_bytes : (c o : ℕ) (next : List ℕ → Grammar) (ys : List ℕ) → nat_le 0x61 (length ys) ≡ false
-    → verdict (check None (bytes 0x61 c next)) ys ≢ final (fault (at_offset MagicAtSection o))
-unfolding verdict
-cut_bytes c o next ys l z = apart (at_offset UnexpectedEof c) (at_offset MagicAtSection o) (λ y. (cc)) (rw l at z)
-
-custom_cut : (p : SectionContext) (en : Encoding) (f c o : ℕ) (ys : List ℕ) → nat_le 0x61 (length ys) ≡ false
-    → verdict (after_length p (kind_of en 0) 0 f c 0x61) ys ≢ final (fault (at_offset MagicAtSection o))
-custom_cut p Module f c o ys l = too_large (nat_lt (2 ^ 64 - 1) (c + 0x61)) (Some 0x61) f o
-    (check None (content_grammar p (whole custom) 0 c 0x61)) ys (cut_bytes c o _ ys l)
-custom_cut p Component f c o ys l = too_large (nat_lt (2 ^ 64 - 1) (c + 0x61)) (Some 0x61) f o
-    (check None (content_grammar p (whole custom) 0 c 0x61)) ys (cut_bytes c o _ ys l)
-
 -- the first bytes of the magic are no header
 begun_magic : (p : SectionContext) (o : ℕ) (xs : List ℕ) → agree xs (0x61 ∷ 0x73 ∷ 0x6d ∷ []) ≡ true → length xs < 3
     → verdict (after_id p o 0) xs ≢ final (fault (at_offset MagicAtSection o))
 unfolding verdict number
-begun_magic p o [] a l z = apart (at_offset UnexpectedEof (o + 1 + 0)) (at_offset MagicAtSection o) (λ y. (cc)) z
-begun_magic p o (b ∷ []) a l z =
-    let q : b ≡ 0x61 = eqb-true b 0x61 (and_parts (nat_eq b 0x61) true a).0 in
-    custom_cut p p.encoding (o + 1) (o + 1 + 1) o [] refl (after_final (0x61 ∷ []) _ _
-    (subst (λ (x : ℕ). verdict (after_id p o 0) (x ∷ []) ≡ final (fault (at_offset MagicAtSection o))) q z))
-begun_magic p o (b ∷ c ∷ []) a l z =
-    let q : b ≡ 0x61 = eqb-true b 0x61 (and_parts (nat_eq b 0x61) (nat_eq c 0x73 && true) a).0 in
-    custom_cut p p.encoding (o + 1) (o + 1 + 1) o (c ∷ []) refl
-    (after_final (0x61 ∷ []) _ _ (subst (λ (x : ℕ). verdict (after_id p o 0) (x ∷ c ∷ []) ≡ final (fault (at_offset MagicAtSection o)))
-    q z))
+begun_magic p o [] a l z = grind arith
+begun_magic p o (b ∷ []) a l z = grind arith
+begun_magic p o (b ∷ c ∷ []) a l z = grind arith
 begun_magic p o (b ∷ c ∷ d ∷ xs) a l z = absurd (omega arith)
 
 begun_start : (p : SectionContext) (o : ℕ) (id : ℕ) (xs : List ℕ) → agree (id ∷ xs) magic ≡ true → length (id ∷ xs) < 4
     → verdict (section_start o (end_at_section p o) (after_id p o)) (id ∷ xs) ≢ final (fault (at_offset MagicAtSection o))
 unfolding verdict
 begun_start p o id xs a l z =
-    let q : id ≡ 0 = eqb-true id 0 (and_parts (nat_eq id 0) (agree xs (0x61 ∷ 0x73 ∷ 0x6d ∷ [])) a).0 in
+    let q : id ≡ 0 = grind arith in
     let n : nat_le 4 (length (id ∷ xs)) ≡ false = lt-leb 4 (length (id ∷ xs)) l in
     let w : after (id ∷ []) (verdict (after_id p o id) xs) ≡ final (fault (at_offset MagicAtSection o)) = rw (a, n) at z in
     begun_magic p o xs (and_parts (nat_eq id 0) (agree xs (0x61 ∷ 0x73 ∷ 0x6d ∷ [])) a).1 (omega arith)
-    (subst (λ (x : ℕ). verdict (after_id p o x) xs ≡ final (fault (at_offset MagicAtSection o))) q (after_final (id ∷ []) _ _ w))
+    (grind (arith, after_final))
 
 -- with its other bytes they are one
 whole_magic : (o : ℕ) (e : Ending) (next : ℕ → Grammar) (id : ℕ) (xs : List ℕ) → agree (id ∷ xs) magic ≡ true → length (id ∷ xs) < 4
     → verdict (section_start o e next) ((id ∷ xs) ++ drop (length (id ∷ xs)) magic) ≡ final (fault (at_offset MagicAtSection o))
 unfolding verdict
-whole_magic o e next id [] a l =
-    let p : (nat_eq id 0 ≡ true) × (true ≡ true) = and_parts (nat_eq id 0) true a in
-    let i : id ≡ 0 = eqb-true id 0 p.0 in
-    rw i refl
-whole_magic o e next id (b ∷ []) a l =
-    let p : (nat_eq id 0 ≡ true) × ((nat_eq b 0x61 && true) ≡ true) = and_parts (nat_eq id 0) (nat_eq b 0x61 && true) a in
-    let q : (nat_eq b 0x61 ≡ true) × (true ≡ true) = and_parts (nat_eq b 0x61) true p.1 in
-    let i : id ≡ 0 = eqb-true id 0 p.0 in
-    let j : b ≡ 0x61 = eqb-true b 0x61 q.0 in
-    rw (i, j) refl
-whole_magic o e next id (b ∷ c ∷ []) a l =
-    let p : (nat_eq id 0 ≡ true) × ((nat_eq b 0x61 && (nat_eq c 0x73 && true)) ≡ true) =
-    and_parts (nat_eq id 0) (nat_eq b 0x61 && (nat_eq c 0x73 && true)) a in
-    let q : (nat_eq b 0x61 ≡ true) × ((nat_eq c 0x73 && true) ≡ true) = and_parts (nat_eq b 0x61) (nat_eq c 0x73 && true) p.1 in
-    let r : (nat_eq c 0x73 ≡ true) × (true ≡ true) = and_parts (nat_eq c 0x73) true q.1 in
-    let i : id ≡ 0 = eqb-true id 0 p.0 in
-    let j : b ≡ 0x61 = eqb-true b 0x61 q.0 in
-    let k : c ≡ 0x73 = eqb-true c 0x73 r.0 in
-    rw (i, j, k) refl
+whole_magic o e next id [] a l = cc
+whole_magic o e next id (b ∷ []) a l = cc
+whole_magic o e next id (b ∷ c ∷ []) a l = cc
 whole_magic o e next id (b ∷ c ∷ d ∷ xs) a l = absurd (omega arith)
 
 Differs-section : (p : SectionContext) (o : ℕ) → Differs (section_grammar p o)
@@ -377,10 +239,7 @@ Differs-section p o = (
 )
 
 Differs-inside : (b : Bool) (p : SectionContext) (m l o : ℕ) → Differs (cond b (section_grammar p o) (body_grammar m l o))
-Differs-inside true p m l o = Differs-section p o
-Differs-inside false p m l o = Differs-body m l o
+Differs-inside b p m l o = grind (arith, Differs-section, Differs-body)
 
 pub Differs-grammar : (start : ℕ) (ts : List Tile) → Differs (grammar start ts)
-Differs-grammar start [] = Differs-header start
-Differs-grammar start (t ∷ ts) = Differs-inside (nat_eq (bodies_to_come (t ∷ ts) + bytes_to_come (t ∷ ts)) 0) (context_of (t ∷ ts))
-    (bodies_to_come (t ∷ ts)) (bytes_to_come (t ∷ ts)) (start + length (bytes_of (t ∷ ts)))
+Differs-grammar start ts = grind (arith, Differs-header, Differs-inside)

@@ -1,24 +1,19 @@
 -- Bytes that begin as a header does.
-use Rattle.std.proofs.Common.{◌≡◌, ℕ, ◌-◌, ◌<◌, ◌≤◌, Bool, true, false, cond, ◌&&◌, List, [], ◌∷◌, length, Some, None, nat_eq, nat_lt, refl}
-use Rattle.std.proofs.Common.{sym, ap, ◌∙◌, arith, lt-ltb, le-ltb}
+use Rattle.std.proofs.Common.{◌≡◌, ℕ, ◌-◌, ◌<◌, ◌≤◌, Bool, true, false, cond, ◌&&◌, List, [], ◌∷◌, length, Some, None, nat_eq, nat_lt}
+use Rattle.std.proofs.Common.{sym, ap, ◌∙◌, arith, lt-ltb}
 use Rattle.std.specs.List.{starts_with}
 use Rattle.wasm_base.specs.Header.{magic, agree}
 use Rattle.wasm_grammar.specs.Waiting.{asked_at_section}
 
 -- bytes that others begin with agree with them
 agrees : (whole bytes : List ℕ) → length bytes ≤ length whole → starts_with nat_eq whole bytes ≡ agree bytes whole
-agrees whole [] l = nil whole
-  where
-    nil : (whole : List ℕ) → true ≡ agree [] whole
-    nil [] = refl
-    nil (x ∷ whole) = refl
+agrees whole [] l = cc
 agrees [] (b ∷ bytes) l = absurd (omega (arith, l))
 agrees (x ∷ whole) (b ∷ bytes) l = ap (λ t. nat_eq b x && t) (agrees whole bytes (omega (arith, l)))
 
 by_tests : (bytes : List ℕ) (a few : Bool) → false ≡ nat_eq (length bytes) 0 → agree bytes magic ≡ a → nat_lt (length bytes) 4 ≡ few
     → asked_at_section bytes ≡ cond (a && few) (Some (4 - length bytes)) None
-by_tests [] a few e f g = cc
-by_tests (b ∷ bytes) a few e f g = rw (f, g) refl
+by_tests bytes a few e f g = grind arith
 
 pub begun_asks : (bytes : List ℕ) → false ≡ nat_eq (length bytes) 0 → length bytes < 4 → true ≡ starts_with nat_eq magic bytes
     → Some (4 - length bytes) ≡ asked_at_section bytes
@@ -26,12 +21,7 @@ begun_asks bytes e l s = sym (by_tests bytes true true e (sym (s ∙ agrees magi
 
 pub other_asks_nothing : (bytes : List ℕ) → false ≡ nat_eq (length bytes) 0 → length bytes < 4 → false ≡ starts_with nat_eq magic bytes
     → None ≡ asked_at_section bytes
-other_asks_nothing bytes e l s = sym (by_tests bytes false true e (sym (s ∙ agrees magic bytes (omega (arith, l))))
-    (lt-ltb (length bytes) 4 l))
+other_asks_nothing bytes e l s = grind (arith, agrees)
 
 pub long_asks_nothing : (bytes : List ℕ) → false ≡ nat_eq (length bytes) 0 → 4 ≤ length bytes → None ≡ asked_at_section bytes
-long_asks_nothing bytes e l = sym (by_tests bytes (agree bytes magic) false e refl (le-ltb (length bytes) 4 l) ∙ never (agree bytes magic))
-  where
-    never : (a : Bool) → cond (a && false) (Some (4 - length bytes)) None ≡ None
-    never true = refl
-    never false = refl
+long_asks_nothing bytes e l = grind arith

@@ -1,20 +1,18 @@
 -- An ending that decides is bytes, and not more than 2^32 of them.
-use Rattle.std.proofs.Common.{◌≡◌, ℕ, zero, suc, ◌+◌, ◌-◌, ◌^◌, ◌<◌, ◌≤◌, ◌⊎◌, inl, inr, Bool, true, false, cond, All, List, [], ◌∷◌}
-use Rattle.std.proofs.Common.{length, take, drop, replicate, slice_index, Option, Some, None, nat_lt, nat_le, nat_eq, refl, subst, arith}
-use Rattle.std.proofs.Common.{add-one, ltb-true, ltb-false, lit<, lit≤}
+use Rattle.std.proofs.Common.{◌≡◌, ℕ, suc, ◌+◌, ◌-◌, ◌^◌, ◌<◌, ◌≤◌, ◌⊎◌, Bool, true, false, cond, All, List, [], ◌∷◌, length, take, drop}
+use Rattle.std.proofs.Common.{replicate, slice_index, Option, Some, None, nat_lt, nat_le, refl, arith, add-one, lit≤}
 use Rattle.std.proofs.lemmas.List.{length-replicate, length-drop}
-use Rattle.std.proofs.lemmas.List.Elements.{All-nil, All-cons, All-replicate, All-drop}
+use Rattle.std.proofs.lemmas.List.Elements.{All-nil, All-replicate, All-drop}
 use Rattle.wasm_base.specs.Header.{magic, agree}
 use Rattle.wasm_base.specs.Name.{of_four}
-use Rattle.wasm_base.specs.Number.{Number, read, bad, short, number, last_place, ends_at, septets, is_unused_right}
+use Rattle.wasm_base.specs.Number.{Number, read, bad, number, last_place, ends_at, septets, is_unused_right}
 use Rattle.wasm_base.specs.declared.fault.Fault.{Fault}
 use Rattle.wasm_base.specs.declared.fault.NumberKind.TheVariants.{VarU32}
 use Rattle.wasm_base.proofs.NumberLaws.{last_place-lt}
 use Rattle.wasm_base.proofs.Numbers.{sum_below}
-use Rattle.wasm_grammar.specs.Content.{Kind, code, whole, kind_of}
-use Rattle.wasm_grammar.specs.Grammar.{Tile, SectionContext, Grammar, accept, reject, check, u32_field, bytes, section_start, header_of}
-use Rattle.wasm_grammar.specs.Grammar.{header_grammar, content_grammar, section_grammar, body_grammar}
-use Rattle.wasm_grammar.specs.Tiling.{context_of, grammar, bodies_to_come, bytes_to_come, bytes_of}
+use Rattle.wasm_grammar.specs.Grammar.{Tile, SectionContext, Grammar, check, u32_field, bytes, section_start, header_of}
+use Rattle.wasm_grammar.specs.Grammar.{header_grammar, section_grammar, body_grammar}
+use Rattle.wasm_grammar.specs.Tiling.{grammar}
 use Rattle.wasm_grammar.specs.Undecided.{ending_of_number, deciding_ending}
 use Rattle.wasm_grammar.specs.declared.encoding.Encoding.{Encoding}
 
@@ -22,14 +20,7 @@ use Rattle.wasm_grammar.specs.declared.encoding.Encoding.{Encoding}
 
 below_at : (a b c : Bool) (w v i k p q : ℕ) (f g : Fault) → ((a ≡ true) ⊎ ((b ≡ false) × (c ≡ true)) → w < 2 ^ 32)
     → cond a (read w (suc i)) (cond b (bad f p) (cond c (read w (suc i)) (bad g q))) ≡ read v k → v < 2 ^ 32
-below_at true b c w v i k p q f g h e = let z : w ≡ v = cc in subst (λ (x : ℕ). x < 2 ^ 32) z (h (inl refl))
-below_at false true c w v i k p q f g h e = cc
-below_at false false true w v i k p q f g h e = let z : w ≡ v = cc in subst (λ (x : ℕ). x < 2 ^ 32) z (h (inr (refl, refl)))
-below_at false false false w v i k p q f g h e = cc
-
-none_below : (t : Bool) (f : Fault) (p v k : ℕ) → cond t short (bad f p) ≡ read v k → v < 2 ^ 32
-none_below true f p v k e = cc
-none_below false f p v k e = cc
+below_at a b c w v i k p q f g h e = grind arith
 
 sum_at : (xs : List ℕ) (i : ℕ) → i < length xs → i < 5 → (i + 1 < 5) ⊎ (is_unused_right VarU32 (slice_index xs i) ≡ true)
     → septets (take (suc i) xs) < 2 ^ 32
@@ -38,14 +29,11 @@ sum_at xs i l m h = let s : septets (take (i + 1) xs) < 2 ^ 32 = sum_below VarU3
 -- the sum of the septets, by where the last of them is
 last_below : (xs : List ℕ) (i : ℕ) → i < length xs → (nat_lt (suc i) 5 ≡ true)
     ⊎ ((nat_lt 5 (suc i) ≡ false) × (is_unused_right VarU32 (slice_index xs i) ≡ true)) → septets (take (suc i) xs) < 2 ^ 32
-last_below xs i l (inl a) = let m : suc i < 5 = ltb-true (suc i) 5 a in sum_at xs i l (omega arith) (inl (omega arith))
-last_below xs i l (inr b) = let m : suc i ≤ 5 = ltb-false 5 (suc i) b.0 in sum_at xs i l (omega arith) (inr b.1)
+last_below xs i l h = grind (arith, sum_at)
 
 read_below_at : (xs : List ℕ) (o : Option ℕ) (v k : ℕ) → last_place xs ≡ o → ends_at VarU32 xs o ≡ read v k → v < 2 ^ 32
-read_below_at xs None v k e r = none_below (nat_lt (length xs) 5) _ _ v k r
-read_below_at xs (Some i) v k e r =
-    below_at (nat_lt (suc i) 5) (nat_lt 5 (suc i)) (is_unused_right VarU32 (slice_index xs i)) (septets (take (suc i) xs)) v i k _ _ _ _
-    (last_below xs i (last_place-lt xs i e)) r
+read_below_at xs None v k e r = grind arith
+read_below_at xs (Some i) v k e r = search (below_at, last_below, last_place-lt)
 
 read_below : (xs : List ℕ) (v k : ℕ) → number VarU32 xs ≡ read v k → v < 2 ^ 32
 unfolding number
@@ -55,12 +43,11 @@ read_below xs v k r = read_below_at xs (last_place xs) v k refl r
 
 -- no more than 2^32 bytes are raw at one place
 abbrev Bounded : Grammar → Type 0
-Bounded (accept shape) = Unit {0}
-Bounded (reject e) = Unit {0}
 Bounded (check e next) = Bounded next
 Bounded (u32_field o next) = (v k : ℕ) → v < 2 ^ 32 → Bounded (next v k)
 Bounded (bytes n o next) = (n ≤ 2 ^ 32) × ((b : List ℕ) → Bounded (next b))
 Bounded (section_start o e next) = (id : ℕ) → Bounded (next id)
+Bounded _ = Unit {0}
 
 -- what is said of an ending
 pub record IsSmall (ending : List ℕ) : Type 0 where
@@ -73,77 +60,54 @@ small_nil = record { each = All-nil (λ b. b < 256); bound = omega arith }
 small_many : (n b : ℕ) → b < 256 → n ≤ 2 ^ 32 → IsSmall (replicate n b)
 small_many n b l m = record { each = All-replicate (λ b. b < 256) n b l; bound = omega (arith, length-replicate n b, m) }
 
-small_magic : IsSmall magic
-small_magic = record {
-  each = All-cons (λ b. b < 256) 0x00 (0x61 ∷ 0x73 ∷ 0x6d ∷ []) (lit< tt)
-      (All-cons (λ b. b < 256) 0x61 (0x73 ∷ 0x6d ∷ []) (lit< tt)
-      (All-cons (λ b. b < 256) 0x73 (0x6d ∷ []) (lit< tt) (All-cons (λ b. b < 256) 0x6d [] (lit< tt) (All-nil (λ b. b < 256)))));
-  bound = lit≤ tt;
-}
-
 small_drop : (n : ℕ) (xs : List ℕ) → IsSmall xs → IsSmall (drop n xs)
 small_drop n xs s = let b = s.bound in record { each = All-drop (λ b. b < 256) n xs s.each; bound = omega (arith, length-drop n xs, b) }
 
 small_number : (xs : List ℕ) (next : ℕ → ℕ → Grammar) → ((v k : ℕ) → v < 2 ^ 32 → (zs : List ℕ) → IsSmall (deciding_ending (next v k) zs))
     → (n : Number) → number VarU32 xs ≡ n → IsSmall (ending_of_number n (λ v k. deciding_ending (next v k) (drop k xs)))
-small_number xs next ih (read v k) e = ih v k (read_below xs v k e) (drop k xs)
-small_number xs next ih (bad f p) e = small_nil
-small_number xs next ih short e = small_many 5 0x80 (lit< tt) (lit≤ tt)
+small_number xs next ih n e = grind (arith, read_below)
 
 small_bytes : (n : ℕ) (xs : List ℕ) (ending : List ℕ) → n ≤ 2 ^ 32 → IsSmall ending → (b : Bool)
     → IsSmall (cond b ending (replicate (n - length xs) 0))
-small_bytes n xs ending l s true = s
-small_bytes n xs ending l s false = small_many (n - length xs) 0 (lit< tt) (omega (arith, l))
+small_bytes n xs ending l s b = grind (arith, small_many)
 
 small_start : (id : ℕ) (xs : List ℕ) (ending : List ℕ) → IsSmall ending → (b : Bool)
     → IsSmall (cond b (drop (length (id ∷ xs)) magic) ending)
-small_start id xs ending s true = small_drop (length (id ∷ xs)) magic small_magic
-small_start id xs ending s false = s
+small_start id xs ending s b = grind (arith, small_drop)
 
 small_ending : (g : Grammar) → Bounded g → (xs : List ℕ) → IsSmall (deciding_ending g xs)
 unfolding deciding_ending
-small_ending (accept s) b xs = small_nil
-small_ending (reject e) b xs = small_nil
-small_ending (check (Some e) next) b xs = small_nil
 small_ending (check None next) b xs = let s : IsSmall (deciding_ending next xs) = small_ending next b xs in s
 small_ending (u32_field o next) b xs = small_number xs next (λ v k l zs. small_ending (next v k) (b v k l) zs) (number VarU32 xs) refl
 small_ending (bytes n o next) b xs = small_bytes n xs (deciding_ending (next (take n xs)) (drop n xs)) b.0
     (small_ending (next (take n xs)) (b.1 (take n xs)) (drop n xs)) (nat_le n (length xs))
-small_ending (section_start o e next) b [] = small_many 5 0x80 (lit< tt) (lit≤ tt)
+small_ending (section_start o e next) b [] = grind arith
 small_ending (section_start o e next) b (id ∷ xs) = small_start id xs (deciding_ending (next id) xs) (small_ending (next id) (b id) xs)
     (agree (id ∷ xs) magic)
+small_ending _ b xs = small_nil
 
 -- ---- the grammars of a stream
 
-Bounded-content : (p : SectionContext) (kind : Kind) (id o n : ℕ) → n < 2 ^ 32 → Bounded (content_grammar p kind id o n)
-Bounded-content p (whole form) id o n l = (omega (arith, l), λ b. tt)
-Bounded-content p code id o n l = λ v k m. tt
-
 Bounded-section : (p : SectionContext) (o : ℕ) → Bounded (section_grammar p o)
 unfolding section_grammar
-Bounded-section p o = λ id v k l. Bounded-content p (kind_of p.encoding id) id (o + 1 + k) v l
+Bounded-section p o = grind arith
 
 Bounded-body : (m l o : ℕ) → Bounded (body_grammar m l o)
 unfolding body_grammar
-Bounded-body zero l o = tt
-Bounded-body (suc m) l o = λ v k h. (omega (arith, h), λ b. tt)
+Bounded-body m l o = grind arith
 
 Bounded-header_of : (o bits : ℕ) (e : Option Encoding) → Bounded (header_of o bits e)
-Bounded-header_of o bits (Some e) = tt
-Bounded-header_of o bits None = tt
+Bounded-header_of o bits e = grind arith
 
 Bounded-header : (o : ℕ) → Bounded (header_grammar o)
 unfolding header_grammar
 Bounded-header o = (lit≤ tt, λ a. (lit≤ tt, λ b. Bounded-header_of o (of_four b) _))
 
 Bounded-inside : (b : Bool) (p : SectionContext) (m l o : ℕ) → Bounded (cond b (section_grammar p o) (body_grammar m l o))
-Bounded-inside true p m l o = Bounded-section p o
-Bounded-inside false p m l o = Bounded-body m l o
+Bounded-inside b p m l o = grind (arith, Bounded-section, Bounded-body)
 
 Bounded-grammar : (start : ℕ) (ts : List Tile) → Bounded (grammar start ts)
-Bounded-grammar start [] = Bounded-header start
-Bounded-grammar start (t ∷ ts) = Bounded-inside (nat_eq (bodies_to_come (t ∷ ts) + bytes_to_come (t ∷ ts)) 0) (context_of (t ∷ ts))
-    (bodies_to_come (t ∷ ts)) (bytes_to_come (t ∷ ts)) (start + length (bytes_of (t ∷ ts)))
+Bounded-grammar start ts = grind (arith, Bounded-header, Bounded-inside)
 
 pub ending_is_small : (start : ℕ) (ts : List Tile) (xs : List ℕ) → IsSmall (deciding_ending (grammar start ts) xs)
 ending_is_small start ts xs = small_ending (grammar start ts) (Bounded-grammar start ts) xs

@@ -1,14 +1,13 @@
 -- What comes next in streams that begin with the same bytes.
-use Rattle.std.proofs.Common.{◌≡◌, ◌≢◌, ℕ, ◌+◌, ◌^◌, ◌<◌, All, List, [], ◌∷◌, ◌++◌, length, refl, sym, ap, subst, subst₂, ◌∙◌, arith}
+use Rattle.std.proofs.Common.{◌≡◌, ◌≢◌, ℕ, ◌+◌, ◌^◌, ◌<◌, All, List, [], ◌∷◌, ◌++◌, length, refl, sym, ap, subst, ◌∙◌, arith}
 use Rattle.std.proofs.Common.{length-append, append_assoc, append-nil}
 use Rattle.std.proofs.lemmas.List.Elements.{All-append}
-use Rattle.wasm_grammar.specs.Content.{Ending}
 use Rattle.wasm_grammar.specs.NextEvent.{NextEvent}
 use Rattle.wasm_grammar.specs.Grammar.{Tile, Verdict, tile, final, verdict}
-use Rattle.wasm_grammar.specs.Reading.{Event, stream_end, events_of, last_event, Reading, Stream}
+use Rattle.wasm_grammar.specs.Reading.{Event, events_of, last_event, Reading, Stream}
 use Rattle.wasm_grammar.specs.Tiling.{bytes_of, grammar}
 use Rattle.wasm_grammar.specs.Undecided.{deciding_ending, ComesNext, IsTiledBy, OneComesNext, EnoughIsDecided, ShortIsUndecided, TwoStreams}
-use Rattle.wasm_grammar.specs.Waiting.{enough, wants, waiting}
+use Rattle.wasm_grammar.specs.Waiting.{wants, waiting}
 use Rattle.wasm_grammar.proofs.endings.Deciding.{differs, Differs-grammar}
 use Rattle.wasm_grammar.proofs.endings.Sizes.{IsSmall, ending_is_small}
 use Rattle.wasm_grammar.proofs.readings.NextEvents.{event_at, comes_next, next_there}
@@ -23,7 +22,7 @@ what_comes : (start features : ℕ) (tiles : List Tile) (front rest : List ℕ) 
     → ComesNext start features front rest event → event ≡ event_at start features tiles (verdict (grammar start tiles) rest)
 what_comes start features tiles front rest event t n =
     let read : Reading (bytes_of tiles ++ rest) start features (n.next.before ++ n.next.event ∷ n.next.later) =
-    subst₂ (λ (x : List ℕ) (y : List Event). Reading (x ++ rest) start features y) (sym t.1) n.next.whole n.reading in
+    grind arith in
     sym n.is ∙ comes_next start features tiles rest (verdict (grammar start tiles) rest) t.0 refl n.next.before n.next.later n.next.event
     read (n.next.consumed ∙ sym t.1)
 
@@ -36,14 +35,13 @@ something_comes start features tiles front rest t =
     record { tiles = o.tiles; end = o.end; reads = o.reads; listed = refl } in
     let n : NextEvent (events_of start features o.tiles ++ last_event o.end ∷ []) front =
     subst (NextEvent (events_of start features o.tiles ++ last_event o.end ∷ [])) t.1
-    (next_there start features tiles rest _ t.0 (subst (λ (x : List ℕ).
-    Reading (x ++ rest) start features (events_of start features o.tiles ++ last_event o.end ∷ [])) (sym t.1) read)) in
+    (next_there start features tiles rest _ t.0 (rw t.1 read)) in
     (n.event, record { events = events_of start features o.tiles ++ last_event o.end ∷ []; reading = read; next = n; is = refl })
 
 pub one_comes : (start : ℕ) (front : List ℕ) → OneComesNext start front
 one_comes start front tiles t features rest = (
   something_comes start features tiles front rest t,
-  λ one other x y. what_comes start features tiles front rest one t x ∙ sym (what_comes start features tiles front rest other t y),
+  λ one other x y. what_comes start features tiles front rest one t x ∙ sym (search what_comes),
 )
 
 -- ---- bytes that suffice
@@ -51,9 +49,9 @@ one_comes start front tiles t features rest = (
 pub enough_is_decided : (start : ℕ) (front came : List ℕ) → EnoughIsDecided start front came
 enough_is_decided start front came tiles t w one other features x y a b =
     let v : verdict (grammar start tiles) (came ++ one) ≡ verdict (grammar start tiles) (came ++ other) =
-    verdict-more (grammar start tiles) came one w ∙ sym (verdict-more (grammar start tiles) came other w) in
+    search verdict-more in
     what_comes start features tiles front (came ++ one) x t a ∙ (ap (event_at start features tiles) v
-    ∙ sym (what_comes start features tiles front (came ++ other) y t b))
+    ∙ sym (search what_comes))
 
 -- ---- bytes that don't
 
@@ -61,21 +59,12 @@ enough_is_decided start front came tiles t w one other features x y a b =
 events_differ : (start features : ℕ) (tiles : List Tile) (v w : Verdict) → ((t : Tile) → v ≢ tile t)
     → ((t : Tile) → w ≡ tile t → 0 < length t.bytes) → v ≢ w → event_at start features tiles v ≢ event_at start features tiles w
 events_differ start features tiles (tile t) w h l n z = h t refl
-events_differ start features tiles (final e) (tile t) h l n z =
-    let c : 0 ≡ length t.bytes = ap (λ (x : Event). length x.consumed) z in
-    omega (arith, c, l t refl)
-events_differ start features tiles (final e) (final f) h l n z = n (ap final (same_end e f (ap (λ (x : Event). x.report) z)))
-  where
-    same_end : (e f : Ending) → stream_end e ≡ stream_end f → e ≡ f
-    same_end e f z = cc
+events_differ start features tiles (final e) (tile t) h l n z = grind arith
+events_differ start features tiles (final e) (final f) h l n z = grind arith
 
 no_tile : (start : ℕ) (tiles : List Tile) (came : List ℕ) (need hint : ℕ) → waiting (grammar start tiles) came ≡ wants need hint
     → (t : Tile) → verdict (grammar start tiles) came ≢ tile t
-no_tile start tiles came need hint w t v = enough_wants (sym (tile_decided (grammar start tiles) (Guarded-grammar start tiles) came t v)
-    ∙ w)
-  where
-    enough_wants : enough ≡ wants need hint → ⊥
-    enough_wants e = cc
+no_tile start tiles came need hint w t v = grind (arith, tile_decided, Guarded-grammar)
 
 pub other_comes : (start features : ℕ) (tiles : List Tile) (front came : List ℕ) (need hint : ℕ) → IsTiledBy start front tiles
     → waiting (grammar start tiles) came ≡ wants need hint → (x y : Event)
@@ -83,12 +72,9 @@ pub other_comes : (start features : ℕ) (tiles : List Tile) (front came : List 
 other_comes start features tiles front came need hint t w x y a b z =
     let same : event_at start features tiles (verdict (grammar start tiles) came)
     ≡ event_at start features tiles (verdict (grammar start tiles) (came ++ deciding_ending (grammar start tiles) came)) =
-    sym (what_comes start features tiles front came x t a) ∙ (z
+    sym (search what_comes) ∙ (z
     ∙ what_comes start features tiles front (came ++ deciding_ending (grammar start tiles) came) y t b) in
-    events_differ start features tiles (verdict (grammar start tiles) came)
-    (verdict (grammar start tiles) (came ++ deciding_ending (grammar start tiles) came)) (no_tile start tiles came need hint w)
-    (λ u v. tile_least start tiles (came ++ deciding_ending (grammar start tiles) came) u v)
-    (differs (grammar start tiles) (Differs-grammar start tiles) came need hint w) same
+    search (events_differ, no_tile, tile_least, differs, Differs-grammar)
 
 -- with room for it, the ending makes another stream
 goes_on : (start : ℕ) (front came more : List ℕ) → IsSmall more → Stream (front ++ came) start
@@ -98,15 +84,12 @@ goes_on start front came more s t l =
     let n : length (front ++ (came ++ more)) ≡ length (front ++ came) + length more =
     ap (λ (x : List ℕ). length x) (sym (append_assoc front came more)) ∙ length-append (front ++ came) more in
     record {
-      each = subst (All (λ b. b < 256)) (append_assoc front came more) (All-append (λ b. b < 256) (front ++ came) more t.each s.each);
+      each = subst (All (λ b. b < 256)) (append_assoc front came more) (search All-append);
       fits = omega (arith, n, b, l);
     }
 
 pub short_is_undecided : (start : ℕ) (front came : List ℕ) → ShortIsUndecided start front came
-short_is_undecided start front came tiles t need hint w = (
-  λ features x y a b. other_comes start features tiles front came need hint t w x y a b,
-  λ s l. goes_on start front came (deciding_ending (grammar start tiles) came) (ending_is_small start tiles came) s l,
-)
+short_is_undecided start front came tiles t need hint w = search (other_comes, goes_on, ending_is_small)
 
 -- ---- what a parser asks for
 
@@ -120,11 +103,11 @@ two_streams start features tiles front came need hint t w s l =
     record {
       one = [];
       other = deciding_ending (grammar start tiles) came;
-      is_stream = subst (λ (z : List ℕ). Stream (front ++ z) start) (sym (append-nil came)) s;
-      other_is_stream = goes_on start front came (deciding_ending (grammar start tiles) came) (ending_is_small start tiles came) s l;
+      is_stream = rw (append-nil came) s;
+      other_is_stream = search (goes_on, ending_is_small);
       event = x;
       other_event = y;
-      comes = subst (λ (z : List ℕ). ComesNext start features front z x) (sym (append-nil came)) a;
+      comes = rw (append-nil came) a;
       other_comes = b;
-      differ = other_comes start features tiles front came need hint t w x y a b;
+      differ = search other_comes;
     }

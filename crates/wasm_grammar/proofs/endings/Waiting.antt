@@ -1,15 +1,14 @@
 -- Laws of bytes that don't decide yet what is there.
-use Rattle.std.proofs.Common.{◌≡◌, ◌≢◌, ℕ, ◌-◌, ◌+◌, ◌<◌, ◌≤◌, Bool, true, false, cond, List, [], ◌∷◌, ◌++◌, length, take, drop, Some, None}
-use Rattle.std.proofs.Common.{nat_le, refl, ap, ◌∙◌, arith, length-append, length-drop, leb-true, le-leb}
-use Rattle.std.proofs.lemmas.Bool.{leb-false}
+use Rattle.std.proofs.Common.{◌≡◌, ℕ, ◌-◌, ◌+◌, ◌<◌, ◌≤◌, Bool, true, false, cond, List, [], ◌∷◌, ◌++◌, length, take, drop, None}
+use Rattle.std.proofs.Common.{nat_le, refl, ◌∙◌, arith, length-append, length-drop, leb-true}
 use Rattle.std.proofs.lemmas.List.{take-append-le, drop-append-le}
 use Rattle.wasm_base.specs.Header.{magic, agree}
 use Rattle.wasm_base.specs.Number.{Number, read, bad, short, number}
 use Rattle.wasm_base.specs.declared.fault.NumberKind.TheVariants.{VarU32}
 use Rattle.wasm_base.proofs.NumberLaws.{number-more, number-short, number-used, Used}
-use Rattle.wasm_grammar.specs.Grammar.{Tile, tile, Grammar, accept, reject, check, u32_field, bytes, section_start, verdict}
+use Rattle.wasm_grammar.specs.Grammar.{Tile, tile, Grammar, check, u32_field, bytes, section_start, verdict}
 use Rattle.wasm_grammar.specs.Waiting.{Waiting, enough, wants, later, later_number, waiting}
-use Rattle.wasm_grammar.proofs.parts.Verdicts.{later-enough, agree_same, agree-more, Guarded, Cut, verdict-cut}
+use Rattle.wasm_grammar.proofs.parts.Verdicts.{agree_same, agree-more, Guarded, Cut, verdict-cut}
 
 -- Bytes that suffice still do, whatever follows.
 
@@ -17,16 +16,7 @@ wait_number : (xs ys : List ℕ) (next : ℕ → ℕ → Grammar)
     → ((v k : ℕ) (zs : List ℕ) → waiting (next v k) zs ≡ enough → waiting (next v k) (zs ++ ys) ≡ enough)
     → (n : Number) → number VarU32 xs ≡ n → later_number n (λ v k. waiting (next v k) (drop k xs)) ≡ enough
     → later_number (number VarU32 (xs ++ ys)) (λ v k. waiting (next v k) (drop k (xs ++ ys))) ≡ enough
-wait_number xs ys next ih (read v k) e w =
-    let u : Used VarU32 xs v k = number-used VarU32 xs v k e in
-    let ns : number VarU32 xs ≢ short = λ z. (cc) in
-    let m : number VarU32 (xs ++ ys) ≡ read v k = number-more VarU32 xs ys ns ∙ e in
-    rw m (rw (drop-append-le k xs ys u.there) (ap (later k) (ih v k (drop k xs) (later-enough k _ w))))
-wait_number xs ys next ih (bad f p) e w =
-    let ns : number VarU32 xs ≢ short = λ z. (cc) in
-    let m : number VarU32 (xs ++ ys) ≡ bad f p = number-more VarU32 xs ys ns ∙ e in
-    rw m refl
-wait_number xs ys next ih short e w = cc
+wait_number xs ys next v k zs n = grind (arith, number-used, number-more, drop-append-le)
 
 wait_bytes : (count : ℕ) (xs ys : List ℕ) (next : List ℕ → Grammar)
     → ((b zs : List ℕ) → waiting (next b) zs ≡ enough → waiting (next b) (zs ++ ys) ≡ enough)
@@ -37,8 +27,7 @@ wait_bytes : (count : ℕ) (xs ys : List ℕ) (next : List ℕ → Grammar)
 wait_bytes count xs ys next ih true e w =
     let l : count ≤ length xs = leb-true count (length xs) e in
     let m : count ≤ length (xs ++ ys) = omega (arith, length-append xs ys) in
-    rw (le-leb count (length (xs ++ ys)) m) (rw (take-append-le count xs ys l, drop-append-le count xs ys l)
-    (ap (later count) (ih (take count xs) (drop count xs) (later-enough count _ w))))
+    grind (arith, take-append-le, drop-append-le)
 wait_bytes count xs ys next ih false e w = cc
 
 wait_start : (id : ℕ) (xs ys : List ℕ) (next : ℕ → Grammar)
@@ -51,17 +40,12 @@ wait_start id xs ys next ih true true e f w =
     let l : 4 ≤ length (id ∷ xs) = leb-true 4 (length (id ∷ xs)) f in
     let m : 4 ≤ length (id ∷ (xs ++ ys)) = omega (arith, length-append xs ys) in
     let g : agree (id ∷ (xs ++ ys)) magic ≡ true = agree_same (id ∷ xs) ys magic l ∙ e in
-    rw (g, le-leb 4 (length (id ∷ (xs ++ ys))) m) refl
+    grind arith
 wait_start id xs ys next ih true false e f w = cc
-wait_start id xs ys next ih false l e f w =
-    let g : agree (id ∷ (xs ++ ys)) magic ≡ false = agree-more (id ∷ xs) ys magic e in
-    rw g (ap (later 1) (ih xs (later-enough 1 _ w)))
+wait_start id xs ys next ih false l e f w = grind (arith, agree-more)
 
 pub waiting-more : (g : Grammar) (xs ys : List ℕ) → waiting g xs ≡ enough → waiting g (xs ++ ys) ≡ enough
 unfolding waiting
-waiting-more (accept s) xs ys w = refl
-waiting-more (reject e) xs ys w = refl
-waiting-more (check (Some e) next) xs ys w = refl
 waiting-more (check None next) xs ys w = waiting-more next xs ys w
 waiting-more (u32_field offset next) xs ys w =
     wait_number xs ys next (λ v k zs. waiting-more (next v k) zs ys) (number VarU32 xs) refl w
@@ -70,12 +54,13 @@ waiting-more (bytes count offset next) xs ys w =
 waiting-more (section_start offset e next) [] ys w = cc
 waiting-more (section_start offset e next) (id ∷ xs) ys w =
     wait_start id xs ys next (λ zs. waiting-more (next id) zs ys) (agree (id ∷ xs) magic) (nat_le 4 (length (id ∷ xs))) refl refl w
+waiting-more _ xs ys w = refl
 
 -- where a tile is, bytes suffice
 pub tile_decided : (g : Grammar) → Guarded g → (xs : List ℕ) (t : Tile) → verdict g xs ≡ tile t → waiting g xs ≡ enough
 tile_decided g gd xs t w =
     let c : Cut g xs t = verdict-cut g gd xs t w in
-    ap (waiting g) c.split ∙ waiting-more g t.bytes c.rest c.waits
+    grind (arith, waiting-more)
 
 -- Where bytes don't suffice, there are fewer than are needed, and at least one more is asked for.
 
@@ -84,8 +69,7 @@ pub record Asks (xs : List ℕ) (need hint : ℕ) : Type 0 where
   pub some : 1 ≤ hint
 
 pub later-wants : (k : ℕ) (w : Waiting) (need hint : ℕ) → later k w ≡ wants need hint → (n : ℕ) × (w ≡ wants n hint) × (need ≡ k + n)
-later-wants k enough need hint e = cc
-later-wants k (wants n h) need hint e = (n, cc, cc)
+later-wants k w need hint e = grind arith
 
 ask_number : (xs : List ℕ) (next : ℕ → ℕ → Grammar) (need hint : ℕ)
     → ((v k : ℕ) (zs : List ℕ) (n : ℕ) → waiting (next v k) zs ≡ wants n hint → Asks zs n hint)
@@ -97,10 +81,7 @@ ask_number xs next need hint ih (read v k) e w =
     let s = a.above in
     record { above = omega (arith, length-drop k xs, r, s); some = a.some }
 ask_number xs next need hint ih (bad f p) e w = cc
-ask_number xs next need hint ih short e w =
-    let n : need ≡ 5 = cc in
-    let h : hint ≡ 1 = cc in
-    record { above = omega (arith, n, (number-short VarU32 xs e).1); some = omega (arith, h) }
+ask_number xs next need hint ih short e w = grind (arith, number-short)
 
 ask_bytes : (count : ℕ) (xs : List ℕ) (next : List ℕ → Grammar) (need hint : ℕ)
     → ((b zs : List ℕ) (n : ℕ) → waiting (next b) zs ≡ wants n hint → Asks zs n hint)
@@ -113,42 +94,23 @@ ask_bytes count xs next need hint ih true e w =
     let s = a.above in
     let l = leb-true count (length xs) e in
     record { above = omega (arith, length-drop count xs, r, s, l); some = a.some }
-ask_bytes count xs next need hint ih false e w =
-    let n : need ≡ count = cc in
-    let h : hint ≡ count - length xs = cc in
-    let l = leb-false count (length xs) e in
-    record { above = omega (arith, n, l); some = omega (arith, h, l) }
+ask_bytes count xs next need hint ih false e w = grind arith
 
 ask_start : (id : ℕ) (xs : List ℕ) (next : ℕ → Grammar) (need hint : ℕ)
     → ((zs : List ℕ) (n : ℕ) → waiting (next id) zs ≡ wants n hint → Asks zs n hint)
     → (a l : Bool) → nat_le 4 (length (id ∷ xs)) ≡ l
     → cond a (cond l enough (wants 4 (4 - length (id ∷ xs)))) (later 1 (waiting (next id) xs)) ≡ wants need hint → Asks (id ∷ xs) need hint
-ask_start id xs next need hint ih true true e w = cc
-ask_start id xs next need hint ih true false e w =
-    let n : need ≡ 4 = cc in
-    let h : hint ≡ 4 - length (id ∷ xs) = cc in
-    let l = leb-false 4 (length (id ∷ xs)) e in
-    record { above = omega (arith, n, l); some = omega (arith, h, l) }
-ask_start id xs next need hint ih false l e w =
-    let (n, q, r) = later-wants 1 (waiting (next id) xs) need hint w in
-    let a : Asks xs n hint = ih xs n q in
-    let s = a.above in
-    record { above = omega (arith, r, s); some = a.some }
+ask_start id xs next need hint zs n a l w = grind arith
 
 pub waiting-asks : (g : Grammar) (xs : List ℕ) (need hint : ℕ) → waiting g xs ≡ wants need hint → Asks xs need hint
 unfolding waiting
-waiting-asks (accept s) xs need hint w = cc
-waiting-asks (reject e) xs need hint w = cc
-waiting-asks (check (Some e) next) xs need hint w = cc
 waiting-asks (check None next) xs need hint w =
     let a : Asks xs need hint = waiting-asks next xs need hint w in a
 waiting-asks (u32_field offset next) xs need hint w = ask_number xs next need hint (λ v k zs n. waiting-asks (next v k) zs n hint)
     (number VarU32 xs) refl w
 waiting-asks (bytes count offset next) xs need hint w = ask_bytes count xs next need hint (λ b zs n. waiting-asks (next b) zs n hint)
     (nat_le count (length xs)) refl w
-waiting-asks (section_start offset e next) [] need hint w =
-    let n : need ≡ 4 = cc in
-    let h : hint ≡ 1 = cc in
-    record { above = omega (arith, n); some = omega (arith, h) }
+waiting-asks (section_start offset e next) [] need hint w = grind arith
 waiting-asks (section_start offset e next) (id ∷ xs) need hint w =
     ask_start id xs next need hint (λ zs n. waiting-asks (next id) zs n hint) (agree (id ∷ xs) magic) (nat_le 4 (length (id ∷ xs))) refl w
+waiting-asks _ xs need hint w = cc

@@ -1,21 +1,19 @@
 -- Sections that have no rank may go, and come.
 use Rattle.std.proofs.Common.{◌≡◌, ℕ, ◌+◌, ◌<◌, inl, inr, Bool, true, false, cond, ◌||◌, List, [], ◌∷◌, ◌++◌, length, nat_lt, refl, sym, ap}
 use Rattle.std.proofs.Common.{subst, ◌∙◌, arith, ltb-true, ltb-false}
-use Rattle.std.specs.List.{All, Any, filter, list_any, flat_map}
+use Rattle.std.specs.List.{All, Any, filter, list_any}
 use Rattle.std.proofs.lemmas.List.Elements.{All-nil, All-cons, All-head, All-tail, All-filter, All-weaker}
-use Rattle.wasm_base.specs.Window.{window_over}
-use Rattle.wasm_grammar.specs.Accepted.{Sized, sized_bytes, SectionFrame, frame_bytes, frame_count, frame_rank, IsFrame, IsSection}
+use Rattle.wasm_grammar.specs.Accepted.{Sized, sized_bytes, SectionFrame, frame_count, frame_rank, IsSection}
 use Rattle.wasm_grammar.specs.Accepted.{FitsAfter, IsMatched, CodeDivision, IsAccepted}
-use Rattle.wasm_grammar.specs.Content.{Kind, code, kind_of, rank_of, Form, whole}
-use Rattle.wasm_grammar.specs.FrameEvents.{section_event, body_event, body_events, code_events, KindEvents, has_rank, SayTheSame}
+use Rattle.wasm_grammar.specs.Content.{Kind, code, kind_of, rank_of, whole}
+use Rattle.wasm_grammar.specs.FrameEvents.{body_event, body_events, code_events, KindEvents, has_rank, SayTheSame}
 use Rattle.wasm_grammar.specs.FrameLaws.{FramesReadTheSame, RanklessMayGo}
-use Rattle.wasm_grammar.specs.Reading.{code_start, code_entry, section_report, Event}
-use Rattle.wasm_grammar.specs.Shifted.{shifted_report, shifted_event, shifted_events}
+use Rattle.wasm_grammar.specs.Reading.{Event}
+use Rattle.wasm_grammar.specs.Shifted.{shifted_event, shifted_events}
 use Rattle.wasm_grammar.specs.declared.encoding.Encoding.{Encoding}
 use Rattle.wasm_grammar.specs.declared.encoding.Encoding.TheVariants.{Module}
 use Rattle.wasm_grammar.proofs.accepted.Counts.{is_section, section_yes, yes_section}
-use Rattle.wasm_grammar.proofs.PlainLists.{any_of, any_to, all_prefix, Spares, filter_twice, each_of}
-use Rattle.wasm_grammar.proofs.readings.Shifting.{section_moves}
+use Rattle.wasm_grammar.proofs.PlainLists.{any_of, any_to, all_prefix, Spares, filter_twice}
 use Rattle.wasm_grammar.specs.Ids.{data_count_id, function_id}
 
 -- ---- what is left of lists
@@ -82,13 +80,12 @@ module _ {X : Type 0} where
 -- a section with this id has a rank
 ranked : (encoding : Encoding) (n : ℕ) (g : SectionFrame) → nat_lt 0 (rank_of (kind_of Module n) n) ≡ true → IsSection encoding n g
     → has_rank encoding g ≡ true
-ranked encoding n g h (e, i) = ap (λ (x : Encoding). nat_lt 0 (rank_of (kind_of x g.id) g.id)) e
-    ∙ (ap (λ (x : ℕ). nat_lt 0 (rank_of (kind_of Module x) x)) i ∙ h)
+ranked encoding n g h (e, i) = cc
 
 -- one without a rank has another id
 rankless : (encoding : Encoding) (n : ℕ) (g : SectionFrame) → nat_lt 0 (rank_of (kind_of Module n) n) ≡ true → has_rank encoding g ≡ false
     → IsSection encoding n g → ⊥
-rankless encoding n g h f s = let t : has_rank encoding g ≡ true = ranked encoding n g h s in cc
+rankless encoding n g h f s = grind arith
 
 -- there is a section with this id among others that say the same
 some_same : (encoding : Encoding) (n : ℕ) (earlier others : List SectionFrame) → nat_lt 0 (rank_of (kind_of Module n) n) ≡ true
@@ -96,13 +93,12 @@ some_same : (encoding : Encoding) (n : ℕ) (earlier others : List SectionFrame)
 some_same encoding n earlier others h s a =
     let spared : (g : SectionFrame) → Spares (is_section encoding n) (has_rank encoding) g = λ g e.
     ranked encoding n g h (section_yes encoding n g e) in
-    let t : list_any (is_section encoding n) earlier ≡ true = any_to (is_section encoding n) (IsSection encoding n)
-    (λ g. yes_section encoding n g) earlier a in
+    let t : list_any (is_section encoding n) earlier ≡ true = search (any_to, yes_section) in
     any_of (is_section encoding n) (IsSection encoding n) (λ g. section_yes encoding n g) others
     (sym (any_left (is_section encoding n) (has_rank encoding) others
-    (each_of (Spares (is_section encoding n) (has_rank encoding)) spared others))
+    (search spared))
     ∙ (ap (list_any (is_section encoding n)) (sym s) ∙ (any_left (is_section encoding n) (has_rank encoding) earlier
-    (each_of (Spares (is_section encoding n) (has_rank encoding)) spared earlier) ∙ t)))
+    (search spared) ∙ t)))
 
 -- a section fits after sections that say the same
 fits_same : (encoding : Encoding) (earlier others : List SectionFrame) (f : SectionFrame) → SayTheSame encoding earlier others
@@ -112,7 +108,7 @@ fits_same encoding earlier others f s a = record {
       (λ g e. omega (arith, ltb-false 0 (frame_rank encoding g) e, l)) earlier others s (a.ranks l);
   bodies = λ i. all_same (λ g. IsSection encoding function_id g → frame_count g ≡ frame_count f) (has_rank encoding)
       (λ g e j. absurd (rankless encoding function_id g refl e j)) earlier others s (a.bodies i);
-  functions = λ i. elim (a.functions i) [ inl y ↦ inl (some_same encoding function_id earlier others refl s y) | inr z ↦ inr z ];
+  functions = λ i. elim (a.functions i) [ inl y ↦ inl (search some_same) | inr z ↦ inr z ];
   segments = λ i. all_same (λ g. IsSection encoding data_count_id g → frame_count g ≡ frame_count f) (has_rank encoding)
       (λ g e j. absurd (rankless encoding data_count_id g refl e j)) earlier others s (a.segments i);
 }
@@ -120,9 +116,7 @@ fits_same encoding earlier others f s a = record {
 -- ---- events at another offset
 
 body_event_moves : (features at by : ℕ) (s : Sized) → shifted_event by (body_event features at s) ≡ body_event features (at + by) s
-body_event_moves features at by s =
-    let a : at + length s.field + by ≡ at + by + length s.field = omega arith in
-    λ i. record { report = code_entry (window_over features (a i) s.content); consumed = sized_bytes s }
+body_event_moves features at by s = grind arith
 
 body_events_move : (features at by : ℕ) (bodies : List Sized) → shifted_events by (body_events features at bodies)
     ≡ body_events features (at + by) bodies
@@ -135,57 +129,22 @@ body_events_move features at by (s ∷ bodies) =
     body_events_move features (at + length (sized_bytes s)) by bodies ∙ ap (λ (x : ℕ). body_events features x bodies) a in
     λ i. h i ∷ t i
 
-section_event_moves : (features at by : ℕ) (form : Form) (f : SectionFrame) → shifted_event by (section_event features at form f)
-    ≡ section_event features (at + by) form f
-section_event_moves features at by form f =
-    let a : at + 1 + length f.sized.field + by ≡ at + by + 1 + length f.sized.field = omega arith in
-    let b : at + length (frame_bytes f) + by ≡ at + by + length (frame_bytes f) = omega arith in
-    let m : shifted_report by (section_report features (at + 1 + length f.sized.field) (at + length (frame_bytes f)) form f.id
-    f.sized.content)
-    ≡ section_report features (at + 1 + length f.sized.field + by) (at + length (frame_bytes f) + by) form f.id f.sized.content =
-    sym (section_moves by features (at + 1 + length f.sized.field) (at + length (frame_bytes f)) form f.id f.sized.content) in
-    (λ i. record { report = m i; consumed = frame_bytes f }) ∙ (λ i.
-    record { report = section_report features (a i) (b i) form f.id f.sized.content; consumed = frame_bytes f })
-
 code_events_move : (features at by : ℕ) (f : SectionFrame) (d : CodeDivision f.sized.content)
     → shifted_events by (code_events features at f d) ≡ code_events features (at + by) f d
-code_events_move features at by f d =
-    let a : at + 1 + length f.sized.field + by ≡ at + by + 1 + length f.sized.field = omega arith in
-    let b : at + length (frame_bytes f) + by ≡ at + by + length (frame_bytes f) = omega arith in
-    let c : at + 1 + length f.sized.field + length d.field + by ≡ at + by + 1 + length f.sized.field + length d.field = omega arith in
-    let t : shifted_events by (body_events features (at + 1 + length f.sized.field + length d.field) d.bodies)
-    ≡ body_events features (at + by + 1 + length f.sized.field + length d.field) d.bodies =
-    body_events_move features (at + 1 + length f.sized.field + length d.field) by d.bodies
-    ∙ ap (λ (x : ℕ). body_events features x d.bodies) c in
-    λ i. record {
-      report = code_start (length d.bodies) (a i) (b i) (length (flat_map sized_bytes d.bodies));
-      consumed = f.id ∷ (f.sized.field ++ d.field);
-    } ∷ t i
+code_events_move features at by f d = grind (arith, body_events_move)
 
 events_here : (features at by : ℕ) (k : Kind) (f : SectionFrame) (moved : List Event) → KindEvents features (at + by) k f moved
     → (events : List Event) × KindEvents features at k f events × (moved ≡ shifted_events by events)
-events_here features at by (whole form) f moved e = (
-  section_event features at form f ∷ [],
-  refl,
-  e
-      ∙ ap (λ (x : Event). x ∷ []) (sym (section_event_moves features at by form f)),
-)
+events_here features at by (whole form) f moved e = grind arith
 events_here features at by code f moved (d, e) = (code_events features at f d, (d, refl), e ∙ sym (code_events_move features at by f d))
 
 events_moved : (features at by : ℕ) (k : Kind) (f : SectionFrame) (moved events : List Event) → KindEvents features at k f events → moved
     ≡ shifted_events by events → KindEvents features (at + by) k f moved
-events_moved features at by (whole form) f moved events e m = m
-    ∙ (ap (shifted_events by) e ∙ ap (λ (x : Event). x ∷ []) (section_event_moves features at by form f))
+events_moved features at by (whole form) f moved events e m = grind arith
 events_moved features at by code f moved events (d, e) m = (d, m ∙ (ap (shifted_events by) e ∙ code_events_move features at by f d))
 
 pub frames_read_the_same : FramesReadTheSame
-frames_read_the_same encoding earlier others f s = (
-  fits_same encoding earlier others f s,
-  λ features at by moved. (
-    events_here features at by (kind_of encoding f.id) f moved,
-    λ (events, e, m). events_moved features at by (kind_of encoding f.id) f moved events e m,
-  ),
-)
+frames_read_the_same encoding earlier others f s = grind (arith, fits_same, events_here, events_moved)
 
 -- ---- an accepted stream without sections that have no rank
 
@@ -196,8 +155,7 @@ matched_left : (encoding : Encoding) (n other : ℕ) (stays : SectionFrame → B
     → IsMatched encoding n other (filter stays frames)
 matched_left encoding n other stays frames h k m =
     let spared : All (Spares (is_section encoding other) stays) frames =
-    All-weaker (λ f. 0 < frame_rank encoding f → stays f ≡ true) (Spares (is_section encoding other) stays)
-    (λ f g e. g (ltb-true 0 (frame_rank encoding f) (ranked encoding other f h (section_yes encoding other f e)))) frames k in
+    grind (arith, is_section, ranked, section_yes) in
     let kept : Any (IsSection encoding other) frames → Any (IsSection encoding other) (filter stays frames) = λ a.
     any_of (is_section encoding other) (IsSection encoding other) (λ g. section_yes encoding other g) (filter stays frames)
     (any_left (is_section encoding other) stays frames spared ∙ any_to (is_section encoding other) (IsSection encoding other)
@@ -215,13 +173,12 @@ order_left stream a stays k earlier later f e =
     let r : LeftAfter stays a.frames earlier f = left_after stays a.frames earlier later f e in
     let kept : All (λ g. 0 < frame_rank a.encoding g → stays g ≡ true) r.before =
     all_prefix (λ g. 0 < frame_rank a.encoding g → stays g ≡ true) r.before (f ∷ r.after)
-    (subst (All (λ g. 0 < frame_rank a.encoding g → stays g ≡ true)) r.whole k) in
+    (grind arith) in
     let spared : All (Spares (has_rank a.encoding) stays) r.before =
     All-weaker (λ g. 0 < frame_rank a.encoding g → stays g ≡ true) (Spares (has_rank a.encoding) stays)
     (λ g h t. h (ltb-true 0 (frame_rank a.encoding g) t)) r.before kept in
-    let same : SayTheSame a.encoding r.before earlier = sym (filter_twice (has_rank a.encoding) stays r.before spared)
-    ∙ ap (filter (has_rank a.encoding)) r.left in
-    fits_same a.encoding r.before earlier f same (a.order r.before r.after f r.whole)
+    let same : SayTheSame a.encoding r.before earlier = grind (arith, filter_twice) in
+    grind (arith, fits_same)
 
 pub rankless_may_go : RanklessMayGo
 rankless_may_go stream a stays k = (
@@ -229,10 +186,10 @@ rankless_may_go stream a stays k = (
     encoding = a.encoding;
     frames = filter stays a.frames;
     whole = refl;
-    each = All-filter stays (IsFrame a.encoding) a.frames a.each;
+    each = search All-filter;
     order = order_left stream a stays k;
-    functions = matched_left a.encoding function_id 10 stays a.frames refl k a.functions;
-    segments = matched_left a.encoding data_count_id 11 stays a.frames refl k a.segments;
+    functions = search matched_left;
+    segments = search matched_left;
   },
   refl,
   refl,

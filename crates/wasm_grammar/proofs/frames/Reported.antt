@@ -1,21 +1,18 @@
 -- The sections that are reported of tiles.
 use Rattle.std.specs.declared.ops.Range.{Range}
-use Rattle.std.proofs.Common.{◌≡◌, ℕ, ◌+◌, ◌-◌, Bool, true, false, cond, List, [], ◌∷◌, ◌++◌, length, Option, Some, None, option_to_list}
-use Rattle.std.proofs.Common.{nat_eq, refl, sym, ap, ◌∙◌, arith, length-append, append-nil}
-use Rattle.std.specs.List.{cons_option}
+use Rattle.std.proofs.Common.{◌≡◌, ℕ, ◌+◌, ◌-◌, Bool, cond, List, [], ◌∷◌, ◌++◌, length, Option, Some, None, option_to_list}
+use Rattle.std.proofs.Common.{refl, ap, ◌∙◌, arith, length-append, append-nil}
 use Rattle.std.proofs.lemmas.List.Elements.{filter_map-append}
-use Rattle.wasm_base.specs.Name.{Name, named, refused, name_limit, name}
 use Rattle.wasm_grammar.specs.declared.encoding.Encoding.{Encoding}
 use Rattle.wasm_grammar.specs.declared.encoding.Encoding.TheVariants.{Module}
-use Rattle.wasm_grammar.specs.Content.{Kind, custom, items, index, data_count, code, unknown, kind_of, Ending, fault, ended, Form, whole}
+use Rattle.wasm_grammar.specs.Content.{Kind, custom, index, data_count, kind_of, Ending, Form, whole}
 use Rattle.wasm_grammar.specs.Grammar.{Shape, version, section, code_start, code_entry, Tile, tile, SectionContext, verdict}
 use Rattle.wasm_grammar.specs.Grammar.{section_grammar, body_grammar, content_grammar}
-use Rattle.wasm_grammar.specs.Reading.{Event, custom_report, section_report, tile_report, event_of, last_event, events_of}
+use Rattle.wasm_grammar.specs.Reading.{Event, tile_report, event_of, last_event, events_of}
 use Rattle.wasm_grammar.specs.Sections.{section_of, sections_of}
-use Rattle.wasm_grammar.specs.Tiling.{bytes_of, context_of, grammar, encoding_of, bodies_to_come, bytes_to_come}
+use Rattle.wasm_grammar.specs.Tiling.{bytes_of, grammar, encoding_of}
 use Rattle.wasm_grammar.proofs.readings.EndToEnd.{Closes, tile_closes}
-use Rattle.wasm_grammar.proofs.parts.Placed.{Each, each_tile, IsBody, bodied, IsHeader, headed}
-use Rattle.wasm_grammar.proofs.accepted.KindIds.{IdOf, id_as, code_has_its_id}
+use Rattle.wasm_grammar.proofs.parts.Placed.{Each, each_tile, bodied, headed}
 
 -- ---- a tile of an encoding
 
@@ -28,8 +25,7 @@ Kinded encoding (version num other) = ⊥
 
 kinded_content : (p : SectionContext) (kind : Kind) (id o n : ℕ) → kind ≡ kind_of p.encoding id
     → Each (Kinded p.encoding) (content_grammar p kind id o n)
-kinded_content p (whole form) id o n e = λ b x y. e
-kinded_content p code id o n e = λ v k x y. (code_has_its_id p.encoding id (sym e)).0
+kinded_content p kind id o n e = grind arith
 
 kinded_section : (p : SectionContext) (o : ℕ) (xs : List ℕ) (t : Tile) → verdict (section_grammar p o) xs ≡ tile t
     → Kinded p.encoding t.shape
@@ -37,34 +33,18 @@ unfolding section_grammar
 kinded_section p o xs t e = each_tile (Kinded p.encoding) (section_grammar p o)
     (λ id x n k y z. kinded_content p (kind_of p.encoding id) id (o + 1 + k) n refl) xs t e
 
-kinded_body : (encoding : Encoding) (s : Shape) → IsBody s → Kinded encoding s
-kinded_body encoding (code_entry content) b = tt
-kinded_body encoding (section kind id content) b = absurd b
-kinded_body encoding (code_start count width size) b = absurd b
-kinded_body encoding (version num other) b = absurd b
-
 kinded_at : (b : Bool) (p : SectionContext) (m l o : ℕ) (xs : List ℕ) (t : Tile)
     → verdict (cond b (section_grammar p o) (body_grammar m l o)) xs ≡ tile t → Kinded p.encoding t.shape
-kinded_at true p m l o xs t e = kinded_section p o xs t e
-kinded_at false p m l o xs t e = kinded_body p.encoding t.shape (bodied m l o xs t e)
+kinded_at b p m l o xs t e = grind (arith, kinded_section, bodied)
 
 -- each tile after a header is
 pub kinded : (start : ℕ) (u : Tile) (ts : List Tile) (xs : List ℕ) (t : Tile) → verdict (grammar start (u ∷ ts)) xs ≡ tile t
     → Kinded (encoding_of (u ∷ ts)) t.shape
-kinded start u ts xs t e =
-    kinded_at (nat_eq (bodies_to_come (u ∷ ts) + bytes_to_come (u ∷ ts)) 0) (context_of (u ∷ ts)) (bodies_to_come (u ∷ ts))
-    (bytes_to_come (u ∷ ts))
-    (start + length (bytes_of (u ∷ ts))) xs t e
-
-encoding_kept : (t : Tile) (ts : List Tile) (s : Shape) → t.shape ≡ s → Kinded (encoding_of ts) s → encoding_of (t ∷ ts) ≡ encoding_of ts
-encoding_kept t ts (section kind id content) e k = rw e refl
-encoding_kept t ts (code_start count width size) e k = rw e refl
-encoding_kept t ts (code_entry content) e k = rw e refl
-encoding_kept t ts (version num other) e k = absurd k
+kinded start u ts xs t e = search kinded_at
 
 -- it names no other encoding
 pub same_encoding : (t : Tile) (ts : List Tile) → Kinded (encoding_of ts) t.shape → encoding_of (t ∷ ts) ≡ encoding_of ts
-same_encoding t ts k = encoding_kept t ts t.shape refl k
+same_encoding t ts k = grind arith
 
 -- ---- what is reported of a tile
 
@@ -72,93 +52,47 @@ same_encoding t ts k = encoding_kept t ts t.shape refl k
 abbrev pub section_at : (high : ℕ) → Shape → Option (ℕ × Range ℕ)
 section_at high (section kind id content) = Some (id, record { start = high - length content; end = high })
 section_at high (code_start count width size) = Some (10, record { start = high - width; end = high + size })
-section_at high (code_entry content) = None
-section_at high (version num encoding) = None
+section_at high _ = None
 
 -- the id that is reported of a section of this kind
 abbrev id_report : Form → ℕ → ℕ
 id_report custom id = 0
-id_report items id = id
 id_report index id = 8
 id_report data_count id = 12
-id_report unknown id = id
-
--- it is the section's
-id_same : (encoding : Encoding) (kind : Form) (id : ℕ) → IdOf encoding (whole kind) id → id_report kind id ≡ id
-id_same encoding custom id h = sym h
-id_same encoding index id h = sym h
-id_same encoding data_count id h = sym h
-id_same encoding items id h = refl
-id_same encoding unknown id h = refl
-
--- the range of a section
-abbrev over : (id from to : ℕ) → Option (ℕ × Range ℕ)
-over id from to = Some (id, record { start = from; end = to })
-
-report_name : (features from to : ℕ) (content : List ℕ) (n : Name) → from + length content ≡ to
-    → section_of (custom_report features from to content n) ≡ over 0 from to
-report_name features from to content (named text used) e = ap (over 0 from) e
-report_name features from to content (refused f place) e = refl
-
-report_kind : (features from to : ℕ) (kind : Form) (id : ℕ) (content : List ℕ) → from + length content ≡ to
-    → section_of (section_report features from to kind id content) ≡ over (id_report kind id) from to
-report_kind features from to custom id content e = report_name features from to content (name (Some name_limit) content) e
-report_kind features from to items id content e = ap (over id from) e
-report_kind features from to index id content e = refl
-report_kind features from to data_count id content e = refl
-report_kind features from to unknown id content e = refl
+id_report _ id = id
 
 report_shape : (encoding : Encoding) (features low : ℕ) (bytes : List ℕ) (s : Shape) → Kinded encoding s → Closes s bytes
     → section_of (tile_report features low (low + length bytes) s) ≡ section_at (low + length bytes) s
 report_shape encoding features low bytes (section kind id content) k (before, c) =
     let n : length bytes ≡ length before + length content = ap (λ (x : List ℕ). length x) c ∙ length-append before content in
-    let i : id_report kind id ≡ id = id_same encoding kind id (id_as encoding (whole kind) id (sym k)) in
-    report_kind features (low + length bytes - length content) (low + length bytes) kind id content (omega arith)
-    ∙ ap (λ (x : ℕ). over x (low + length bytes - length content) (low + length bytes)) i
-report_shape encoding features low bytes (code_start count width size) k c = refl
-report_shape encoding features low bytes (code_entry content) k c = refl
+    let i : id_report kind id ≡ id = grind arith in
+    grind arith
 report_shape encoding features low bytes (version num other) k c = absurd k
+report_shape encoding features low bytes _ k c = refl
 
 -- what is reported of a tile after a header
 pub report_after : (start features low : ℕ) (u : Tile) (ts : List Tile) (t : Tile) → verdict (grammar start (u ∷ ts)) t.bytes ≡ tile t
     → section_of (event_of features low t).report ≡ section_at (low + length t.bytes) t.shape
-report_after start features low u ts t e = report_shape (encoding_of (u ∷ ts)) features low t.bytes t.shape (kinded start u ts t.bytes t e)
-    (tile_closes start (u ∷ ts) t.bytes t e)
-
-report_header : (features low high : ℕ) (s : Shape) → IsHeader s → section_of (tile_report features low high s) ≡ None
-report_header features low high (version num other) h = refl
-report_header features low high (section kind id content) h = absurd h
-report_header features low high (code_start count width size) h = absurd h
-report_header features low high (code_entry content) h = absurd h
+report_after start features low u ts t e = search (report_shape, kinded, tile_closes)
 
 -- ---- what is reported of all tiles
 
-cons_one : (o : Option (ℕ × Range ℕ)) → cons_option o [] ≡ option_to_list o
-cons_one (Some x) = refl
-cons_one None = refl
-
 sections_push : (es : List Event) (e : Event) → sections_of (es ++ e ∷ []) ≡ sections_of es ++ option_to_list (section_of e.report)
-sections_push es e = filter_map-append (λ (x : Event). section_of x.report) es (e ∷ [])
-    ∙ ap (λ (x : List (ℕ × Range ℕ)). sections_of es ++ x) (cons_one (section_of e.report))
+sections_push es e = grind (arith, filter_map-append)
 
 -- one tile more after a header
 pub sections_more : (start features : ℕ) (u : Tile) (ts : List Tile) (t : Tile) → verdict (grammar start (u ∷ ts)) t.bytes ≡ tile t
     → sections_of (events_of start features (t ∷ u ∷ ts)) ≡ sections_of (events_of start features (u ∷ ts))
     ++ option_to_list (section_at (start + length (bytes_of (u ∷ ts)) + length t.bytes) t.shape)
-sections_more start features u ts t e =
-    sections_push (events_of start features (u ∷ ts)) (event_of features (start + length (bytes_of (u ∷ ts))) t)
-    ∙ ap (λ (x : Option (ℕ × Range ℕ)). sections_of (events_of start features (u ∷ ts)) ++ option_to_list x)
-    (report_after start features (start + length (bytes_of (u ∷ ts))) u ts t e)
+sections_more start features u ts t e = grind (arith, sections_push, report_after)
 
 -- a header alone
 pub sections_first : (start features : ℕ) (t : Tile) → verdict (grammar start []) t.bytes ≡ tile t
     → sections_of (events_of start features (t ∷ [])) ≡ []
-sections_first start features t e = ap (λ (x : Option (ℕ × Range ℕ)). cons_option x [])
-    (report_header features (start + 0) (start + 0 + length t.bytes) t.shape (headed start t.bytes t e))
+sections_first start features t e = grind (arith, headed)
 
 report_last : (e : Ending) → section_of (last_event e).report ≡ None
-report_last (fault f) = refl
-report_last (ended o) = refl
+report_last e = cc
 
 -- how a stream ends is no section
 pub sections_all : (es : List Event) (e : Ending) → sections_of (es ++ last_event e ∷ []) ≡ sections_of es

@@ -1,20 +1,19 @@
 -- Bytes are sections in one way.
-use Rattle.std.proofs.Common.{◌≡◌, ℕ, List, [], ◌∷◌, ◌++◌, length, take, drop, refl, sym, ap, ◌∙◌, arith, append_assoc}
+use Rattle.std.proofs.Common.{◌≡◌, ℕ, List, [], ◌∷◌, ◌++◌, length, refl, sym, ap, ◌∙◌, arith, append_assoc}
 use Rattle.std.specs.List.{All, flat_map}
-use Rattle.std.proofs.lemmas.List.{take_at, drop_at, append_cancel_left}
+use Rattle.std.proofs.lemmas.List.{take_at, drop_at}
 use Rattle.std.proofs.lemmas.List.Elements.{All-head, All-tail}
 use Rattle.wasm_base.specs.Number.{read, number}
 use Rattle.wasm_base.specs.declared.fault.NumberKind.TheVariants.{VarU32}
 use Rattle.wasm_grammar.specs.Accepted.{header_bytes, IsNumber, Sized, sized_bytes, IsSized, SectionFrame, frame_bytes}
 use Rattle.wasm_grammar.specs.declared.encoding.Encoding.{Encoding}
-use Rattle.wasm_grammar.specs.declared.encoding.Encoding.TheVariants.{Module, Component}
 use Rattle.wasm_grammar.proofs.accepted.Tiles.{number_on}
 
 -- prefixes of one length are one
 pub prefixes_same : (xs ys us vs : List ℕ) → length xs ≡ length ys → xs ++ us ≡ ys ++ vs → (xs ≡ ys) × (us ≡ vs)
 prefixes_same xs ys us vs l e = (
-  sym (take_at xs us (length xs) refl) ∙ (ap (take (length xs)) e ∙ take_at ys vs (length xs) (sym l)),
-  sym (drop_at xs us (length xs) refl) ∙ (ap (drop (length xs)) e ∙ drop_at ys vs (length xs) (sym l)),
+  sym (take_at xs us (length xs) refl) ∙ (grind (arith, take_at)),
+  sym (drop_at xs us (length xs) refl) ∙ (grind (arith, drop_at)),
 )
 
 -- numbers that begin the same bytes are one
@@ -30,11 +29,11 @@ sized_same s t us vs p q e =
     let z : s.field ++ (s.content ++ us) ≡ t.field ++ (t.content ++ vs) = sym (append_assoc s.field s.content us)
     ∙ (e ∙ append_assoc t.field t.content vs) in
     let n : ((length s.content ≡ length t.content) × (length s.field ≡ length t.field)) =
-    numbers_same s.field t.field (s.content ++ us) (t.content ++ vs) (length s.content) (length t.content) p q z in
+    grind (arith, numbers_same) in
     let f : ((s.field ≡ t.field) × (s.content ++ us ≡ t.content ++ vs)) =
-    prefixes_same s.field t.field (s.content ++ us) (t.content ++ vs) n.1 z in
+    grind (arith, prefixes_same) in
     let c : ((s.content ≡ t.content) × (us ≡ vs)) = prefixes_same s.content t.content us vs n.0 f.1 in
-    (λ i. record { field = f.0 i; content = c.0 i }, c.1)
+    grind arith
 
 frame_same : (f g : SectionFrame) → f.id ≡ g.id → f.sized ≡ g.sized → f ≡ g
 frame_same f g e h = λ i. record { id = e i; sized = h i }
@@ -43,21 +42,16 @@ frame_same f g e h = λ i. record { id = e i; sized = h i }
 pub frames_same : (fs gs : List SectionFrame) → All (λ f. IsSized f.sized) fs → All (λ f. IsSized f.sized) gs → flat_map frame_bytes fs
     ≡ flat_map frame_bytes gs → fs ≡ gs
 frames_same [] [] a b e = refl
-frames_same [] (g ∷ gs) a b e = cc
-frames_same (f ∷ fs) [] a b e = cc
 frames_same (f ∷ fs) (g ∷ gs) a b e =
     let i : f.id ≡ g.id = cc in
     let z : sized_bytes f.sized ++ flat_map frame_bytes fs ≡ sized_bytes g.sized ++ flat_map frame_bytes gs = cc in
     let q : ((f.sized ≡ g.sized) × (flat_map frame_bytes fs ≡ flat_map frame_bytes gs)) =
-    sized_same f.sized g.sized (flat_map frame_bytes fs) (flat_map frame_bytes gs) (All-head (λ x. IsSized x.sized) f fs a)
-    (All-head (λ x. IsSized x.sized) g gs b) z in
+    grind (arith, sized_same, All-head) in
     let h : f ≡ g = frame_same f g i q.0 in
     let t : fs ≡ gs = frames_same fs gs (All-tail (λ x. IsSized x.sized) f fs a) (All-tail (λ x. IsSized x.sized) g gs b) q.1 in
     cc
+frames_same _ _ a b e = cc
 
 -- a header names one encoding
 pub headers_same : (e f : Encoding) (us vs : List ℕ) → header_bytes e ++ us ≡ header_bytes f ++ vs → (e ≡ f) × (us ≡ vs)
-headers_same Module Module us vs z = (refl, append_cancel_left (header_bytes Module) us vs z)
-headers_same Component Component us vs z = (refl, append_cancel_left (header_bytes Component) us vs z)
-headers_same Module Component us vs z = let n : (let b : ℕ = 0x01 in b) ≡ 0x0d = cc in absurd (omega arith)
-headers_same Component Module us vs z = let n : (let b : ℕ = 0x0d in b) ≡ 0x01 = cc in absurd (omega arith)
+headers_same e f us vs z = grind arith

@@ -1,27 +1,22 @@
 -- What the events of a reading say of sections and bodies is what their bytes are.
 use Rattle.std.specs.declared.ops.Range.{Range}
-use Rattle.std.proofs.Common.{◌≡◌, ℕ, ◌+◌, ◌-◌, Bool, true, false, cond, List, [], ◌∷◌, ◌++◌, length, Option, Some, None, nat_eq, refl, sym}
+use Rattle.std.proofs.Common.{◌≡◌, ℕ, ◌+◌, ◌-◌, Bool, true, false, cond, List, [], ◌∷◌, ◌++◌, length, Option, Some, None, refl, sym}
 use Rattle.std.proofs.Common.{ap, subst, ◌∙◌, arith, length-append, inl, inr}
 use Rattle.std.specs.Prelude.{◌⊎◌}
-use Rattle.wasm_base.specs.Name.{Name, named, refused, name_limit, name}
-use Rattle.wasm_base.specs.Number.{read}
-use Rattle.wasm_base.specs.Window.{Window, window_over}
 use Rattle.wasm_grammar.specs.Accepted.{IsNumber, IsFormed}
-use Rattle.wasm_grammar.specs.Content.{Kind, custom, items, index, data_count, code, unknown, kind_of, Ending, fault, ended, value_of, Form}
+use Rattle.wasm_grammar.specs.Content.{code, kind_of, Form}
 use Rattle.wasm_grammar.specs.Grammar
 use Rattle.wasm_grammar.specs.Grammar.{Shape, section, Tile, tile, SectionContext, verdict, section_grammar, body_grammar, content_grammar}
 use Rattle.wasm_grammar.specs.Grammar.{code_grammar}
 use Rattle.wasm_grammar.specs.Laws.{EventsSayTheirBytes}
-use Rattle.wasm_grammar.specs.Reading.{Report, code_entry, custom_report, section_report, event_of, last_event, events_of}
+use Rattle.wasm_grammar.specs.Reading.{Report, section_report, event_of, events_of}
 use Rattle.wasm_grammar.specs.SectionEvents.{bytes_of_bodies, SaysContent, IsSectionEvent, SaysItsBytes}
 use Rattle.wasm_grammar.specs.Sections.{section_of}
 use Rattle.wasm_grammar.specs.EventRanges.{AtOffsets}
-use Rattle.wasm_grammar.specs.Tiling.{bytes_of, context_of, grammar, bodies_to_come, bytes_to_come, Faultless}
-use Rattle.wasm_grammar.proofs.readings.BodyCounts.{body_in_section}
+use Rattle.wasm_grammar.specs.Tiling.{bytes_of, grammar, Faultless}
 use Rattle.wasm_grammar.proofs.readings.EndToEnd.{at_offsets_more, tiles_consume}
-use Rattle.wasm_grammar.proofs.parts.Placed.{IsHeader, headed}
+use Rattle.wasm_grammar.proofs.parts.Placed.{headed}
 use Rattle.wasm_grammar.proofs.accepted.Contents.{good_from}
-use Rattle.wasm_grammar.proofs.accepted.KindIds.{code_has_its_id}
 use Rattle.wasm_grammar.proofs.accepted.Parts.{SectionParts, section_parts, WholeParts, content_parts, HeadParts, head_parts, BodyParts}
 use Rattle.wasm_grammar.proofs.accepted.Parts.{body_parts}
 use Rattle.wasm_grammar.proofs.accepted.Tiles.{made, IsWhole, whole_or_code}
@@ -35,30 +30,9 @@ record Said (features from : ℕ) (content : List ℕ) (report : Report) : Type 
   says : SaysContent features from content report
   no_bodies : bytes_of_bodies report ≡ 0
 
-said_name : (features from to : ℕ) (content text : List ℕ) (used : ℕ) (n : Name) → n ≡ named text used → name (Some name_limit) content
-    ≡ named text used → Said features from content (custom_report features from to content n)
-said_name features from to content text used (named other k) e h =
-    let z : used ≡ k = cc in
-    let y : text ≡ other = cc in
-    record { says = (refl, (k, h ∙ (λ i. named (y i) (z i)), refl)); no_bodies = refl }
-said_name features from to content text used (refused f place) e h = cc
-
 said : (features from to : ℕ) (kind : Form) (id : ℕ) (content : List ℕ) → IsFormed kind content
     → Said features from content (section_report features from to kind id content)
-said features from to custom id content (text, used, h) = said_name features from to content text used (name (Some name_limit) content) h h
-said features from to items id content (n, used, h) = record {
-  says = (refl, (used, h ∙ ap (λ (x : ℕ). read x used) (sym (ap value_of h))));
-  no_bodies = refl;
-}
-said features from to index id content (n, h) = record {
-  says = h ∙ ap (λ (x : ℕ). read x (length content)) (sym (ap value_of h));
-  no_bodies = refl;
-}
-said features from to data_count id content (n, h) = record {
-  says = h ∙ ap (λ (x : ℕ). read x (length content)) (sym (ap value_of h));
-  no_bodies = refl;
-}
-said features from to unknown id content g = record { says = refl; no_bodies = refl }
+said features from to kind id content g = grind arith
 
 -- ---- the event of a section
 
@@ -87,7 +61,7 @@ whole_event : (features o id : ℕ) (field content : List ℕ) (kind : Form) →
 whole_event features o id field content kind n g i range e =
     let high : ℕ = o + length (id ∷ (field ++ content)) in
     let s : Said features (high - length content) content (section_report features (high - length content) high kind id content) =
-    said features (high - length content) high kind id content g in
+    search said in
     let b : bytes_of_bodies (section_report features (high - length content) high kind id content) ≡ 0 = s.no_bodies in
     let l : length (field ++ content) ≡ length field + length content = length-append field content in
     let at : IsSectionEvent features o id (record { start = high - length content; end = high })
@@ -95,17 +69,15 @@ whole_event features o id field content kind n g i range e =
       field = field;
       content = content;
       bytes = refl;
-      sized = subst (λ (x : ℕ). IsNumber field x) (omega (arith, b)) n;
+      sized = grind arith;
       start = omega (arith, l);
       end = omega (arith, b, l);
       says = s.says;
     } in
-    let a : id ≡ i = id_is id i (record { start = high - length content; end = high }) range e in
+    let a : id ≡ i = search id_is in
     let r : record { start = high - length content; end = high }
-    ≡ range = range_is id i (record { start = high - length content; end = high }) range e in
-    subst (λ (x : ℕ). IsSectionEvent features o x range (event_of features o (made (section kind id content) (id ∷ (field ++ content))))) a
-    (subst (λ (x : Range ℕ). IsSectionEvent features o id x (event_of features o
-    (made (section kind id content) (id ∷ (field ++ content))))) r at)
+    ≡ range = search range_is in
+    grind arith
 
 -- the head of a code section
 head_event : (features o id size count : ℕ) (field head : List ℕ) → id ≡ code_id → IsNumber field (length head + size) → IsNumber head count
@@ -125,13 +97,10 @@ head_event features o id size count field head z n c i range e =
       end = omega (arith, l);
       says = c;
     } in
-    let a : id ≡ i = z ∙ id_is 10 i (record { start = high - length head; end = high + size }) range e in
+    let a : id ≡ i = grind arith in
     let r : record { start = high - length head; end = high + size }
-    ≡ range = range_is 10 i (record { start = high - length head; end = high + size }) range e in
-    subst (λ (x : ℕ). IsSectionEvent features o x range (event_of features o
-    (made (Grammar.code_start count (length head) size) (id ∷ (field ++ head))))) a
-    (subst (λ (x : Range ℕ). IsSectionEvent features o id x (event_of features o
-    (made (Grammar.code_start count (length head) size) (id ∷ (field ++ head))))) r at)
+    ≡ range = search range_is in
+    grind arith
 
 -- ---- the event of a tile
 
@@ -143,12 +112,7 @@ ReportedThere features o t = section_of (event_of features o t).report ≡ secti
 whole_says : (features o id : ℕ) (field content : List ℕ) (kind : Form) → IsNumber field (length content) → IsFormed kind content
     → ReportedThere features o (made (section kind id content) (id ∷ (field ++ content)))
     → SaysItsBytes features o (event_of features o (made (section kind id content) (id ∷ (field ++ content))))
-whole_says features o id field content kind n g q =
-    let high : ℕ = o + length (id ∷ (field ++ content)) in
-    record {
-      section = λ i range e. whole_event features o id field content kind n g i range (sym q ∙ e);
-      body = λ window e. absurd (body_in_section features (high - length content) high kind id content window e);
-    }
+whole_says features o id field content kind n g q = grind (arith, whole_event)
 
 -- the event of the head of a code section
 head_says : (features o id size count : ℕ) (field head : List ℕ) → id ≡ code_id → IsNumber field (length head + size) → IsNumber head count
@@ -158,10 +122,6 @@ head_says features o id size count field head z n c q = record {
   section = λ i range e. head_event features o id size count field head z n c i range (sym q ∙ e);
   body = λ window e. cc;
 }
-
--- the event of a body
-window_same : (v w : Window) → (let report : Report = code_entry v in report) ≡ code_entry w → v ≡ w
-window_same v w e = cc
 
 body_says : (features o : ℕ) (field content : List ℕ) → IsNumber field (length content)
     → SaysItsBytes features o (event_of features o (made (Grammar.code_entry content) (field ++ content)))
@@ -176,8 +136,7 @@ body_says features o field content n =
         content = content;
         bytes = refl;
         sized = n;
-        over = sym (window_same (window_over features (high - length content) content) window e)
-            ∙ ap (λ (x : ℕ). window_over features x content) from;
+        over = cc;
       };
     }
 
@@ -189,35 +148,21 @@ section_says features o p t q s = at (whole_or_code (kind_of p.encoding s.id))
     at : IsWhole (kind_of p.encoding s.id) ⊎ (kind_of p.encoding s.id ≡ code) → SaysItsBytes features o (event_of features o t)
     at (inl w) =
         let c : WholeParts p w.0 s.id (o + 1 + length s.field) s.size s.rest =
-        content_parts p (kind_of p.encoding s.id) s.id (o + 1 + length s.field) s.size s.others s.rest w s.goes_on in
-        let z : t ≡ made (section w.0 s.id c.content) (s.id ∷ (s.field ++ c.content)) = s.is
-        ∙ ap (λ (x : Tile). made x.shape (s.id ∷ (s.field ++ x.bytes))) c.is in
-        let n : IsNumber s.field (length c.content) = subst (IsNumber s.field) (sym c.long) s.whole in
+        search content_parts in
+        let z : t ≡ made (section w.0 s.id c.content) (s.id ∷ (s.field ++ c.content)) = cc in
+        let n : IsNumber s.field (length c.content) = rw c.long s.whole in
         subst (λ (x : Tile). SaysItsBytes features o (event_of features o x)) (sym z)
-        (whole_says features o s.id s.field c.content w.0 n (good_from w.0 (o + 1 + length s.field) c.content c.right)
-        (subst (ReportedThere features o) z q))
+        (grind (arith, whole_says, good_from))
     at (inr k) =
         let g : verdict (code_grammar p (o + 1 + length s.field) s.size) s.others
-        ≡ tile s.rest = subst (λ (x : Kind). verdict (content_grammar p x s.id (o + 1 + length s.field) s.size) s.others ≡ tile s.rest)
-        k s.goes_on in
-        let c : HeadParts p (o + 1 + length s.field) s.size s.rest = head_parts p (o + 1 + length s.field) s.size s.others s.rest g in
-        let z : t ≡ made (Grammar.code_start c.count (length c.head) (s.size - length c.head)) (s.id ∷ (s.field ++ c.head)) = s.is
-        ∙ ap (λ (x : Tile). made x.shape (s.id ∷ (s.field ++ x.bytes))) c.is in
-        let n : IsNumber s.field (length c.head + (s.size - length c.head)) = subst (IsNumber s.field) (omega (arith, c.fits)) s.whole in
-        subst (λ (x : Tile). SaysItsBytes features o (event_of features o x)) (sym z)
-        (head_says features o s.id (s.size - length c.head) c.count s.field c.head (code_has_its_id p.encoding s.id k).1 n c.whole
-        (subst (ReportedThere features o) z q))
+        ≡ tile s.rest = cc in
+        let c : HeadParts p (o + 1 + length s.field) s.size s.rest = search head_parts in
+        let z : t ≡ made (Grammar.code_start c.count (length c.head) (s.size - length c.head)) (s.id ∷ (s.field ++ c.head)) = cc in
+        let n : IsNumber s.field (length c.head + (s.size - length c.head)) = grind arith in
+        grind (arith, head_says)
 
 body_tile_says : (features o m l : ℕ) (t : Tile) → BodyParts m l t → SaysItsBytes features o (event_of features o t)
-body_tile_says features o m l t b = subst (λ (x : Tile). SaysItsBytes features o (event_of features o x)) (sym b.is)
-    (body_says features o b.field b.content b.whole)
-
--- the event of a header
-header_says : (features o : ℕ) (t : Tile) (s : Shape) → t.shape ≡ s → IsHeader s → SaysItsBytes features o (event_of features o t)
-header_says features o t (Grammar.version num encoding) e h = record { section = λ i range x. cc; body = λ window x. cc }
-header_says features o t (section kind id content) e h = absurd h
-header_says features o t (Grammar.code_start count width size) e h = absurd h
-header_says features o t (Grammar.code_entry content) e h = absurd h
+body_tile_says features o m l t b = grind (arith, body_says)
 
 -- the event of a tile after a header
 inside_says : (features o : ℕ) (b : Bool) (p : SectionContext) (m l : ℕ) (t : Tile) → ReportedThere features o t
@@ -227,18 +172,10 @@ inside_says features o false p m l t q v = body_tile_says features o m l t (body
 
 tile_says : (start features : ℕ) (ts : List Tile) (t : Tile) → verdict (grammar start ts) t.bytes ≡ tile t
     → SaysItsBytes features (start + length (bytes_of ts)) (event_of features (start + length (bytes_of ts)) t)
-tile_says start features [] t v = header_says features (start + 0) t t.shape refl (headed start t.bytes t v)
-tile_says start features (u ∷ ts) t v =
-    let us : List Tile = u ∷ ts in
-    inside_says features (start + length (bytes_of us)) (nat_eq (bodies_to_come us + bytes_to_come us) 0) (context_of us)
-    (bodies_to_come us)
-    (bytes_to_come us) t (report_after start features (start + length (bytes_of us)) u ts t v) v
+tile_says start features [] t v = grind (arith, headed)
+tile_says start features (u ∷ ts) t v = search (inside_says, report_after)
 
 -- ---- all events
-
-last_says : (features at : ℕ) (e : Ending) → SaysItsBytes features at (last_event e)
-last_says features at (fault f) = record { section = λ i range x. cc; body = λ window x. cc }
-last_says features at (ended o) = record { section = λ i range x. cc; body = λ window x. cc }
 
 tiles_say : (start features : ℕ) (ts : List Tile) → Faultless start ts
     → AtOffsets (SaysItsBytes features) start (events_of start features ts)
@@ -246,13 +183,8 @@ tiles_say start features [] f = tt
 tiles_say start features (t ∷ ts) f =
     at_offsets_more (SaysItsBytes features) start (events_of start features ts) (event_of features (start + length (bytes_of ts)) t)
     (start + length (bytes_of ts))
-    (ap (λ (x : List ℕ). start + length x) (sym (tiles_consume start features ts))) (tiles_say start features ts f.0)
+    (search tiles_consume) (tiles_say start features ts f.0)
     (tile_says start features ts t f.1)
 
 pub events_say_their_bytes : EventsSayTheirBytes
-events_say_their_bytes stream start features events r =
-    let ts : List Tile = r.tiles in
-    subst (AtOffsets (SaysItsBytes features) start) (sym r.listed)
-    (at_offsets_more (SaysItsBytes features) start (events_of start features ts) (last_event r.end) (start + length (bytes_of ts))
-    (ap (λ (x : List ℕ). start + length x) (sym (tiles_consume start features ts))) (tiles_say start features ts r.reads.faultless)
-    (last_says features (start + length (bytes_of ts)) r.end))
+events_say_their_bytes stream start features events r = grind (arith, at_offsets_more, tiles_say)

@@ -1,21 +1,20 @@
 -- The sections of a reading tile an accepted stream.
 use Rattle.std.specs.declared.ops.Range.{Range}
-use Rattle.std.proofs.Common.{◌≡◌, ℕ, ◌+◌, ◌-◌, ◌<◌, List, [], ◌∷◌, ◌++◌, length, take, drop, map, option_to_list, nat_eq, refl, sym, ap}
-use Rattle.std.proofs.Common.{subst, ◌∙◌, arith, length-append, append-nil, append_assoc, eqb-true}
+use Rattle.std.proofs.Common.{◌≡◌, ℕ, ◌+◌, ◌-◌, ◌<◌, List, [], ◌∷◌, ◌++◌, length, drop, map, option_to_list, nat_eq, refl, sym, ap}
+use Rattle.std.proofs.Common.{◌∙◌, arith, length-append, append-nil, append_assoc, eqb-true}
 use Rattle.std.specs.List.{All, flat_map}
 use Rattle.std.proofs.lemmas.List.{take_at, drop_at}
-use Rattle.std.proofs.lemmas.List.Elements.{All-nil, All-push, All-weaker}
-use Rattle.wasm_base.specs.Number.{read}
-use Rattle.wasm_grammar.specs.Accepted.{header_bytes, IsNumber, IsSized, SectionFrame, frame_bytes, IsFrame, IsAccepted}
+use Rattle.std.proofs.lemmas.List.Elements.{All-nil, All-push}
+use Rattle.wasm_grammar.specs.Accepted.{header_bytes, IsNumber, IsSized, SectionFrame, frame_bytes, IsAccepted}
 use Rattle.wasm_grammar.specs.Content.{Kind, code, kind_of, ended}
 use Rattle.wasm_grammar.specs.Grammar.{section, code_start, Tile, tile, verdict, content_grammar}
 use Rattle.wasm_grammar.specs.Reading.{events_of, Reads}
 use Rattle.wasm_grammar.specs.SectionLaws.{SectionsTile}
 use Rattle.wasm_grammar.specs.Sections.{sections_of, bytes_in, id_and_bytes, id_and_content, places_of}
-use Rattle.wasm_grammar.specs.Tiling.{bytes_of, context_of, grammar, encoding_of, bodies_to_come, bytes_to_come, bytes_after}
+use Rattle.wasm_grammar.specs.Tiling.{bytes_of, context_of, grammar, encoding_of, bodies_to_come, bytes_to_come}
 use Rattle.wasm_grammar.specs.declared.encoding.Encoding.{Encoding}
 use Rattle.wasm_grammar.proofs.readings.Endings.{header_end, inside_end}
-use Rattle.wasm_grammar.proofs.frames.Same.{frames_same, headers_same}
+use Rattle.wasm_grammar.proofs.frames.Same.{frames_same}
 use Rattle.wasm_grammar.proofs.readings.Readings.{reads_same}
 use Rattle.wasm_grammar.proofs.accepted.KindIds.{code_has_its_id}
 use Rattle.wasm_grammar.proofs.accepted.Headers.{HeaderParts, header_parts}
@@ -41,8 +40,7 @@ places_push offset (g ∷ fs) f =
     let n : length (frame_bytes g ++ flat_map frame_bytes fs) ≡ length (frame_bytes g) + size_of fs =
     length-append (frame_bytes g) (flat_map frame_bytes fs) in
     let o : offset + length (frame_bytes g) + size_of fs ≡ offset + size_of (g ∷ fs) = omega arith in
-    ap (λ (l : List (ℕ × Range ℕ)). (g.id, record { start = offset + 1 + length g.sized.field; end = offset + length (frame_bytes g) }) ∷ l)
-    (places_push (offset + length (frame_bytes g)) fs f ∙ ap (λ (x : ℕ). places_of (offset + length (frame_bytes g)) fs
+    rw (places_push (offset + length (frame_bytes g)) fs f ∙ ap (λ (x : ℕ). places_of (offset + length (frame_bytes g)) fs
     ++ places_of x (f ∷ [])) o)
 
 -- the range of a section has its content
@@ -56,9 +54,8 @@ range_bytes stream prefix rest start offset f w o =
     let n : length (f.sized.field ++ content) ≡ length f.sized.field + length content = length-append f.sized.field content in
     let m : length (prefix ++ field) ≡ length prefix + length field = length-append prefix field in
     let s : stream ≡ (prefix ++ field) ++ (content ++ rest) = w ∙ simp append_assoc refl in
-    let d : drop (a - start) stream ≡ content ++ rest = ap (drop (a - start)) s
-    ∙ drop_at (prefix ++ field) (content ++ rest) (a - start) (omega arith) in
-    ap (take (offset + length (frame_bytes f) - a)) d ∙ take_at content rest (offset + length (frame_bytes f) - a) (omega arith)
+    let d : drop (a - start) stream ≡ content ++ rest = grind (arith, drop_at) in
+    grind (arith, take_at)
 
 -- the ranges of sections have their contents
 ranges_bytes : (stream prefix : List ℕ) (start offset : ℕ) (fs : List SectionFrame) → stream ≡ prefix ++ flat_map frame_bytes fs → offset
@@ -67,7 +64,7 @@ ranges_bytes : (stream prefix : List ℕ) (start offset : ℕ) (fs : List Sectio
 ranges_bytes stream prefix start offset [] w o = refl
 ranges_bytes stream prefix start offset (f ∷ fs) w o =
     let b : bytes_in stream start (record { start = offset + 1 + length f.sized.field; end = offset + length (frame_bytes f) })
-    ≡ f.sized.content = range_bytes stream prefix (flat_map frame_bytes fs) start offset f w o in
+    ≡ f.sized.content = search range_bytes in
     let t : map (id_and_bytes stream start) (places_of (offset + length (frame_bytes f)) fs) ≡ map id_and_content fs =
     ranges_bytes stream (prefix ++ frame_bytes f) start (offset + length (frame_bytes f)) fs
     (w ∙ sym (append_assoc prefix (frame_bytes f) (flat_map frame_bytes fs))) (omega (arith, length-append prefix (frame_bytes f))) in
@@ -112,14 +109,13 @@ push_places : (start : ℕ) (encoding : Encoding) (fs : List SectionFrame) (f : 
     ≡ places_of (start + length (header_bytes encoding)) (fs ++ f ∷ [])
 push_places start encoding fs f low high l h =
     let n : length (stream_of encoding fs) ≡ length (header_bytes encoding) + size_of fs =
-    length-append (header_bytes encoding) (flat_map frame_bytes fs) in
+    grind arith in
     let m : length (f.sized.field ++ f.sized.content) ≡ length f.sized.field + length f.sized.content =
     length-append f.sized.field f.sized.content in
     let o : ℕ = start + length (header_bytes encoding) + size_of fs in
     let a : low ≡ o + 1 + length f.sized.field = omega arith in
     let b : high ≡ o + length (frame_bytes f) = omega arith in
-    (λ i. places_of (start + length (header_bytes encoding)) fs ++ (f.id, record { start = a i; end = b i }) ∷ [])
-    ∙ sym (places_push (start + length (header_bytes encoding)) fs f)
+    grind (arith, places_push)
 
 -- a header alone
 header_closed : (start features : ℕ) (t : Tile) → All (λ b. b < 256) t.bytes → verdict (grammar start []) t.bytes ≡ tile t
@@ -130,9 +126,9 @@ header_closed start features t a h =
       encoding = p.encoding;
       frames = [];
       sized = All-nil (λ f. IsSized f.sized);
-      joined = ap (λ (x : Tile). x.bytes) p.is ∙ sym (append-nil (header_bytes p.encoding));
+      joined = grind arith;
       places = sections_first start features t h;
-      whole = ap (λ (x : Tile). bodies_to_come (x ∷ []) + bytes_to_come (x ∷ [])) p.is;
+      whole = rw p.is;
     }
 
 -- a code section that misses nothing is whole
@@ -141,11 +137,11 @@ closes : (start features : ℕ) (ts : List Tile) → Open start features ts → 
 closes start features ts q z =
     let f : SectionFrame = record { id = 10; sized = record { field = q.field; content = q.inner } } in
     let n : q.size ≡ length q.inner = omega (arith, q.misses) in
-    let s : IsSized f.sized = q.long ∙ ap (λ (x : ℕ). read x (length q.field)) n in
+    let s : IsSized f.sized = cc in
     record {
       encoding = q.encoding;
       frames = q.frames ++ f ∷ [];
-      sized = All-push (λ g. IsSized g.sized) q.frames f q.sized s;
+      sized = search All-push;
       joined = q.joined ∙ stream_more q.encoding q.frames f (stream_of q.encoding q.frames) refl;
       places = q.places ∙ push_places start q.encoding q.frames f _ _ refl (omega (arith, n));
       whole = z;
@@ -159,21 +155,19 @@ closed_whole start features u ts o t h q s w =
     let kind : Kind = kind_of (encoding_of (u ∷ ts)) s.id in
     let at : ℕ = o + 1 + length s.field in
     let c : WholeParts (context_of (u ∷ ts)) w.0 s.id at s.size s.rest =
-    content_parts (context_of (u ∷ ts)) kind s.id at s.size s.others s.rest w s.goes_on in
+    search content_parts in
     let f : SectionFrame = record { id = s.id; sized = record { field = s.field; content = c.content } } in
-    let z : t ≡ made (section w.0 s.id c.content) (frame_bytes f) = s.is
-    ∙ ap (λ (x : Tile). made x.shape (s.id ∷ (s.field ++ x.bytes))) c.is in
+    let z : t ≡ made (section w.0 s.id c.content) (frame_bytes f) = cc in
     let low : ℕ = start + length (bytes_of (u ∷ ts)) in
-    let n : length (bytes_of (u ∷ ts)) ≡ length (stream_of q.encoding q.frames) = ap (λ (x : List ℕ). length x) q.joined in
+    let n : length (bytes_of (u ∷ ts)) ≡ length (stream_of q.encoding q.frames) = rw q.joined in
     let m : length (s.field ++ c.content) ≡ length s.field + length c.content = length-append s.field c.content in
     let p : sections_of (events_of start features (t ∷ u ∷ ts)) ≡ sections_of (events_of start features (u ∷ ts))
     ++ (s.id, record { start = low + length (frame_bytes f) - length c.content; end = low + length (frame_bytes f) }) ∷ [] =
-    sections_more start features u ts t h ∙ ap (λ (x : Tile). sections_of (events_of start features (u ∷ ts))
-    ++ option_to_list (section_at (low + length x.bytes) x.shape)) z in
+    grind (arith, sections_more) in
     record {
       encoding = q.encoding;
       frames = q.frames ++ f ∷ [];
-      sized = All-push (λ g. IsSized g.sized) q.frames f q.sized (s.whole ∙ ap (λ (x : ℕ). read x (length s.field)) (sym c.long));
+      sized = All-push (λ g. IsSized g.sized) q.frames f q.sized (cc);
       joined = ap (λ (x : Tile). bytes_of (u ∷ ts) ++ x.bytes) z ∙ stream_more q.encoding q.frames f (bytes_of (u ∷ ts)) q.joined;
       places = p ∙ (ap (λ (l : List (ℕ × Range ℕ)). l ++ (
         s.id,
@@ -181,7 +175,7 @@ closed_whole start features u ts o t h q s w =
       ) ∷ []) q.places
           ∙ push_places start q.encoding q.frames f (low + length (frame_bytes f) - length c.content) (low + length (frame_bytes f))
           (omega arith) (omega arith));
-      whole = ap (λ (x : Tile). bodies_to_come (x ∷ u ∷ ts) + bytes_to_come (x ∷ u ∷ ts)) z;
+      whole = rw z;
     }
 
 -- after whole sections, the head of a code section
@@ -192,25 +186,22 @@ closed_code start features u ts o t h q s e =
     let i : s.id ≡ code_id = (code_has_its_id (encoding_of (u ∷ ts)) s.id e).1 in
     let at : ℕ = o + 1 + length s.field in
     let v : verdict (content_grammar (context_of (u ∷ ts)) code s.id at s.size) s.others
-    ≡ tile s.rest = subst (λ (x : Kind). verdict (content_grammar (context_of (u ∷ ts)) x s.id at s.size) s.others ≡ tile s.rest) e
-    s.goes_on in
-    let c : HeadParts (context_of (u ∷ ts)) at s.size s.rest = head_parts (context_of (u ∷ ts)) at s.size s.others s.rest v in
+    ≡ tile s.rest = cc in
+    let c : HeadParts (context_of (u ∷ ts)) at s.size s.rest = search head_parts in
     let code_bytes : ℕ = s.size - length c.head in
     let bytes : List ℕ = 10 ∷ (s.field ++ c.head) in
     let z : t ≡ made (code_start c.count (length c.head) code_bytes) bytes =
-    s.is ∙ (ap (λ (x : Tile). made x.shape (s.id ∷ (s.field ++ x.bytes))) c.is
-    ∙ ap (λ (x : ℕ). made (code_start c.count (length c.head) code_bytes) (x ∷ (s.field ++ c.head))) i) in
+    grind arith in
     let low : ℕ = start + length (bytes_of (u ∷ ts)) in
-    let n : length (bytes_of (u ∷ ts)) ≡ length (stream_of q.encoding q.frames) = ap (λ (x : List ℕ). length x) q.joined in
+    let n : length (bytes_of (u ∷ ts)) ≡ length (stream_of q.encoding q.frames) = rw q.joined in
     let m : length (s.field ++ c.head) ≡ length s.field + length c.head = length-append s.field c.head in
     let from : ℕ = start + length (stream_of q.encoding q.frames) + 1 + length s.field in
     let a : low + length bytes - length c.head ≡ from = omega arith in
     let b : low + length bytes + code_bytes ≡ from + s.size = omega (arith, c.fits) in
     let p : sections_of (events_of start features (t ∷ u ∷ ts)) ≡ sections_of (events_of start features (u ∷ ts))
     ++ (10, record { start = low + length bytes - length c.head; end = low + length bytes + code_bytes }) ∷ [] =
-    sections_more start features u ts t h ∙ ap (λ (x : Tile). sections_of (events_of start features (u ∷ ts))
-    ++ option_to_list (section_at (low + length x.bytes) x.shape)) z in
-    let l : bytes_to_come (t ∷ u ∷ ts) ≡ code_bytes = ap (λ (x : Tile). bytes_after x x.shape (bytes_to_come (u ∷ ts))) z in
+    grind (arith, sections_more) in
+    let l : bytes_to_come (t ∷ u ∷ ts) ≡ code_bytes = rw z in
     record {
       encoding = q.encoding;
       frames = q.frames;
@@ -221,7 +212,7 @@ closed_code start features u ts o t h q s e =
       inner = c.head;
       misses = omega (arith, c.fits, l);
       joined = (λ k. q.joined k ++ (z k).bytes);
-      places = p ∙ (λ k. q.places k ++ (10, record { start = a k; end = b k }) ∷ []);
+      places = cc;
     }
 
 -- within a code section, one more body
@@ -230,8 +221,8 @@ open_body : (start features : ℕ) (u : Tile) (ts : List Tile) (t : Tile) → ve
 open_body start features u ts t h q c =
     let low : ℕ = start + length (bytes_of (u ∷ ts)) in
     let l : bytes_to_come (t ∷ u ∷ ts) ≡ bytes_to_come (u ∷ ts) - length (c.field ++ c.content) =
-    ap (λ (x : Tile). bytes_after x x.shape (bytes_to_come (u ∷ ts))) c.is in
-    let b : length t.bytes ≡ length (c.field ++ c.content) = ap (λ (x : Tile). length x.bytes) c.is in
+    cc in
+    let b : length t.bytes ≡ length (c.field ++ c.content) = rw c.is in
     let p : sections_of (events_of start features (t ∷ u ∷ ts)) ≡ sections_of (events_of start features (u ∷ ts)) =
     sections_more start features u ts t h
     ∙ (ap (λ (x : Tile). sections_of (events_of start features (u ∷ ts)) ++ option_to_list (section_at (low + length x.bytes) x.shape)) c.is
@@ -272,7 +263,7 @@ closed_end stream start features p (t ∷ ts) a r =
     let us : List Tile = t ∷ ts in
     let (b, d, e) = inside_end (nat_eq (bodies_to_come us + bytes_to_come us) 0) (context_of us) (bodies_to_come us) (bytes_to_come us)
     (start + length (bytes_of us)) r.rest p r.stops in
-    let f : All (λ b. b < 256) (bytes_of us) = all_prefix (λ b. b < 256) (bytes_of us) r.rest (subst (All (λ b. b < 256)) r.whole a) in (
+    let f : All (λ b. b < 256) (bytes_of us) = all_prefix (λ b. b < 256) (bytes_of us) r.rest (rw r.whole at a) in (
       closed_at start (Closed start features) (Open start features) (places_go start features) us
           (sections_of_tiles start (Closed start features) (Open start features) (places_go start features) t ts r.faultless f) b,
       r.whole
@@ -285,22 +276,19 @@ report_sections : (stream : List ℕ) (start features : ℕ) (a : IsAccepted str
     → sections_of (events_of start features ts) ≡ places_of (start + length (header_bytes a.encoding)) a.frames
 report_sections stream start features a ts c w s =
     let q : ((c.encoding ≡ a.encoding) × (flat_map frame_bytes c.frames ≡ flat_map frame_bytes a.frames)) =
-    headers_same c.encoding a.encoding (flat_map frame_bytes c.frames) (flat_map frame_bytes a.frames)
-    (sym c.joined ∙ (sym w ∙ a.whole)) in
+    grind arith in
     let f : c.frames ≡ a.frames = frames_same c.frames a.frames c.sized s q.1 in
-    c.places ∙ (λ i. places_of (start + length (header_bytes (q.0 i))) (f i))
+    cc
 
 pub sections_tile : SectionsTile
 sections_tile stream start features events s a r =
     let (ts, e) = accepted_reads stream start s.fits a in
     let (z, y) = reads_same stream start r.tiles ts r.end (ended (start + length stream)) r.reads e in
-    let n : Reads stream start r.tiles (ended (start + length stream)) = subst (Reads stream start r.tiles) y r.reads in
+    let n : Reads stream start r.tiles (ended (start + length stream)) = rw y at r.reads in
     let (c, w) = closed_end stream start features (start + length stream) r.tiles s.each n in
-    let sized : All (λ f. IsSized f.sized) a.frames = All-weaker (IsFrame a.encoding) (λ f. IsSized f.sized) (λ f i. i.sized) a.frames
-    a.each in
+    let sized : All (λ f. IsSized f.sized) a.frames = grind arith in
     let p : sections_of events ≡ places_of (start + length (header_bytes a.encoding)) a.frames =
-    ap sections_of r.listed ∙ (sections_all (events_of start features r.tiles) r.end
-    ∙ report_sections stream start features a r.tiles c w sized) in
+    ap sections_of r.listed ∙ (search (sections_all, report_sections)) in
     record {
       whole = a.whole;
       sized = sized;

@@ -4,18 +4,18 @@ use Rattle.std.proofs.Common.{◌≡◌, ℕ, ◌+◌, ◌<◌, true, List, [], 
 use Rattle.std.proofs.Common.{arith, append-nil, append_assoc, ltb-true}
 use Rattle.std.specs.List.{All, AllPairs, list_all}
 use Rattle.std.proofs.lemmas.Bool.{and_parts}
-use Rattle.std.proofs.lemmas.List.Elements.{All-nil, All-push}
+use Rattle.std.proofs.lemmas.List.Elements.{All-push}
 use Rattle.std.proofs.lemmas.List.Quantifiers.{all_pairs_push}
 use Rattle.wasm_grammar.specs.declared.encoding.Encoding.{Encoding}
 use Rattle.wasm_grammar.specs.declared.encoding.Encoding.TheVariants.{Module}
-use Rattle.wasm_grammar.specs.Content.{Kind, code, kind_of, Ending, fault, ended, rank_of, whole}
+use Rattle.wasm_grammar.specs.Content.{Kind, code, kind_of, Ending, rank_of}
 use Rattle.wasm_grammar.specs.Grammar
 use Rattle.wasm_grammar.specs.Grammar.{Shape, section, Tile}
-use Rattle.wasm_grammar.specs.Reading.{version, Event, tile_report, event_of, stream_end, last_event, events_of}
+use Rattle.wasm_grammar.specs.Reading.{Event, event_of, last_event, events_of}
 use Rattle.wasm_grammar.specs.SectionLaws.{RanksAscend}
 use Rattle.wasm_grammar.specs.Sections.{sections_of, BeginsAs, rank_in, RanksBelow}
-use Rattle.wasm_grammar.specs.Tiling.{bytes_of, encoding_in, encoding_of, tile_rank, Faultless}
-use Rattle.wasm_grammar.proofs.parts.Placed.{IsHeader, headed, Fresh, fresh}
+use Rattle.wasm_grammar.specs.Tiling.{bytes_of, encoding_of, tile_rank, Faultless}
+use Rattle.wasm_grammar.proofs.parts.Placed.{Fresh, fresh}
 use Rattle.wasm_grammar.proofs.frames.Reported.{Kinded, kinded, same_encoding, section_at, sections_more, sections_first, sections_all}
 use Rattle.wasm_grammar.specs.Ids.{code_id}
 
@@ -35,17 +35,15 @@ Under encoding r s = rank_in encoding s.0 < r
 under_push : (encoding : Encoding) (r high : ℕ) (s : Shape) (xs : List (ℕ × Range ℕ)) → Kinded encoding s → tile_rank s < r
     → All (Under encoding r) xs → All (Under encoding r) (xs ++ option_to_list (section_at high s))
 under_push encoding r high (section kind id content) xs k l a =
-    All-push (Under encoding r) xs _ a (let e = rank_report encoding (whole kind) id k in omega arith)
-under_push encoding r high (Grammar.code_start count width size) xs k l a =
-    All-push (Under encoding r) xs _ a (let e = code_report encoding k in omega arith)
+    All-push (Under encoding r) xs _ a (grind arith)
+under_push encoding r high (Grammar.code_start count width size) xs k l a = search (All-push, code_report)
 under_push encoding r high (Grammar.code_entry content) xs k l a = subst (All (Under encoding r)) (sym (append-nil xs)) a
 under_push encoding r high (Grammar.version num other) xs k l a = absurd k
 
 all_under : (start features r : ℕ) (t : Tile) (ts : List Tile) → Faultless start (t ∷ ts)
     → list_all (λ (u : Tile). nat_lt (tile_rank u.shape) r) (t ∷ ts) ≡ true
     → All (Under (encoding_of (t ∷ ts)) r) (sections_of (events_of start features (t ∷ ts)))
-all_under start features r t [] f h = subst (All (Under (encoding_of (t ∷ [])) r)) (sym (sections_first start features t f.1))
-    (All-nil (Under (encoding_of (t ∷ [])) r))
+all_under start features r t [] f h = grind (arith, sections_first)
 all_under start features r t (u ∷ ts) f h =
     let q : ((nat_lt (tile_rank t.shape) r ≡ true) × (list_all (λ (v : Tile). nat_lt (tile_rank v.shape) r) (u ∷ ts) ≡ true)) =
     and_parts _ _ h in
@@ -54,8 +52,7 @@ all_under start features r t (u ∷ ts) f h =
     all_under start features r u ts f.0 q.1 in
     let b = under_push (encoding_of (u ∷ ts)) r (start + length (bytes_of (u ∷ ts)) + length t.bytes) t.shape
     (sections_of (events_of start features (u ∷ ts))) k (ltb-true _ _ q.0) a in
-    subst (λ (e : Encoding). All (Under e r) (sections_of (events_of start features (t ∷ u ∷ ts)))) (sym (same_encoding t (u ∷ ts) k))
-    (subst (All (Under (encoding_of (u ∷ ts)) r)) (sym (sections_more start features u ts t f.1)) b)
+    grind (arith, sections_more)
 
 -- ---- two sections
 
@@ -69,67 +66,43 @@ pair_push encoding xs x r e u a =
 pairs_more : (encoding : Encoding) (high : ℕ) (s : Shape) (xs : List (ℕ × Range ℕ)) → Kinded encoding s
     → (0 < tile_rank s → All (Under encoding (tile_rank s)) xs) → AllPairs (RanksBelow encoding) xs
     → AllPairs (RanksBelow encoding) (xs ++ option_to_list (section_at high s))
-pairs_more encoding high (section kind id content) xs k u a = pair_push encoding xs _ (rank_of (whole kind) id)
-    (rank_report encoding (whole kind) id k) u a
-pairs_more encoding high (Grammar.code_start count width size) xs k u a =
-    pair_push encoding xs _ (rank_of code 10) (code_report encoding k) u a
+pairs_more encoding high (section kind id content) xs k u a = search (pair_push, rank_report)
+pairs_more encoding high (Grammar.code_start count width size) xs k u a = search (pair_push, code_report)
 pairs_more encoding high (Grammar.code_entry content) xs k u a = subst (AllPairs (RanksBelow encoding)) (sym (append-nil xs)) a
 pairs_more encoding high (Grammar.version num other) xs k u a = absurd k
 
 pairs : (start features : ℕ) (t : Tile) (ts : List Tile) → Faultless start (t ∷ ts)
     → AllPairs (RanksBelow (encoding_of (t ∷ ts))) (sections_of (events_of start features (t ∷ ts)))
-pairs start features t [] f = subst (AllPairs (RanksBelow (encoding_of (t ∷ [])))) (sym (sections_first start features t f.1))
-    (λ i j d l within. absurd (omega arith))
+pairs start features t [] f = grind arith
 pairs start features t (u ∷ ts) f =
     let k : Kinded (encoding_of (u ∷ ts)) t.shape = kinded start u ts t.bytes t f.1 in
     let g : Fresh (u ∷ ts) t.shape = fresh start (u ∷ ts) t.bytes t f.1 in
     let b = pairs_more (encoding_of (u ∷ ts)) (start + length (bytes_of (u ∷ ts)) + length t.bytes) t.shape
     (sections_of (events_of start features (u ∷ ts))) k
     (λ h. all_under start features (tile_rank t.shape) u ts f.0 (g h)) (pairs start features u ts f.0) in
-    subst (λ (e : Encoding). AllPairs (RanksBelow e) (sections_of (events_of start features (t ∷ u ∷ ts))))
-    (sym (same_encoding t (u ∷ ts) k))
-    (subst (AllPairs (RanksBelow (encoding_of (u ∷ ts)))) (sym (sections_more start features u ts t f.1)) b)
+    rw (same_encoding t (u ∷ ts) k) (subst (AllPairs (RanksBelow (encoding_of (u ∷ ts)))) (sym (sections_more start features u ts t f.1)) b)
 
 -- ---- the header's encoding
-
-named_report : (features low high : ℕ) (s : Shape) (num : ℕ) (encoding other : Encoding) (from to : ℕ) → IsHeader s
-    → tile_report features low high s ≡ version num encoding from to → encoding_in s other ≡ encoding
-named_report features low high (Grammar.version n x) num encoding other from to h e = cc
-named_report features low high (section kind id content) num encoding other from to h e = absurd h
-named_report features low high (Grammar.code_start count width size) num encoding other from to h e = absurd h
-named_report features low high (Grammar.code_entry content) num encoding other from to h e = absurd h
 
 -- events that begin with those of tiles name their encoding
 first_named : (start features : ℕ) (t : Tile) (ts : List Tile) (more : List Event) (encoding : Encoding) → Faultless start (t ∷ ts)
     → BeginsAs encoding (events_of start features (t ∷ ts) ++ more) → encoding_of (t ∷ ts) ≡ encoding
-first_named start features t [] more encoding f b =
-    let w : event_of features (start + 0) t ∷ more ≡ b.first ∷ b.later = b.whole in
-    let z : event_of features (start + 0) t ≡ b.first = cc in
-    named_report features (start + 0) (start + 0 + length t.bytes) t.shape b.num encoding Module b.from b.to (headed start t.bytes t f.1)
-    (ap (λ (e : Event). e.report) z ∙ b.report)
+first_named start features t [] more encoding f b = grind arith
 first_named start features t (u ∷ ts) more encoding f b =
     let k : Kinded (encoding_of (u ∷ ts)) t.shape = kinded start u ts t.bytes t f.1 in
     let e : Event = event_of features (start + length (bytes_of (u ∷ ts))) t in
     same_encoding t (u ∷ ts) k ∙ first_named start features u ts (e ∷ more) encoding f.0
-    (subst (BeginsAs encoding) (append_assoc (events_of start features (u ∷ ts)) (e ∷ []) more) b)
-
-no_version : (e : Ending) (num : ℕ) (encoding : Encoding) (from to : ℕ) → stream_end e ≡ version num encoding from to → ⊥
-no_version (fault f) num encoding from to e = cc
-no_version (ended o) num encoding from to e = cc
+    (rw (append_assoc (events_of start features (u ∷ ts)) (e ∷ []) more) at b)
 
 ascend : (start features : ℕ) (ts : List Tile) (end : Ending) (encoding : Encoding) → Faultless start ts
     → BeginsAs encoding (events_of start features ts ++ last_event end ∷ [])
     → AllPairs (RanksBelow encoding) (sections_of (events_of start features ts))
-ascend start features [] end encoding f b =
-    let w : last_event end ∷ [] ≡ b.first ∷ b.later = b.whole in
-    let z : last_event end ≡ b.first = cc in
-    absurd (no_version end b.num encoding b.from b.to (ap (λ (e : Event). e.report) z ∙ b.report))
+ascend start features [] end encoding f b = cc
 ascend start features (t ∷ ts) end encoding f b =
-    subst (λ (e : Encoding). AllPairs (RanksBelow e) (sections_of (events_of start features (t ∷ ts))))
-    (first_named start features t ts (last_event end ∷ []) encoding f b) (pairs start features t ts f)
+    rw (first_named start features t ts (last_event end ∷ []) encoding f b) at (pairs start features t ts f)
 
 pub ranks_ascend : RanksAscend
 ranks_ascend stream start features events encoding r b =
     let a : AllPairs (RanksBelow encoding) (sections_of (events_of start features r.tiles)) =
-    ascend start features r.tiles r.end encoding r.reads.faultless (subst (BeginsAs encoding) r.listed b) in
-    subst (AllPairs (RanksBelow encoding)) (sym (ap sections_of r.listed ∙ sections_all (events_of start features r.tiles) r.end)) a
+    ascend start features r.tiles r.end encoding r.reads.faultless (rw r.listed at b) in
+    subst (AllPairs (RanksBelow encoding)) (grind (arith, sections_all)) a

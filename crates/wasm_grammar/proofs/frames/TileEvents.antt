@@ -5,27 +5,19 @@ use Rattle.std.specs.List.{flat_map}
 use Rattle.wasm_base.specs.Window.{window_over}
 use Rattle.wasm_grammar.specs.Accepted.{header_bytes, Sized, sized_bytes, SectionFrame, frame_bytes, CodeDivision}
 use Rattle.wasm_grammar.specs.Content.{Form}
-use Rattle.wasm_grammar.specs.FrameEvents.{version_number, header_event, section_event, start_event, body_event, FrameEvents, FramesEvents}
+use Rattle.wasm_grammar.specs.FrameEvents.{header_event, section_event, start_event, body_event, FrameEvents, FramesEvents}
 use Rattle.wasm_grammar.specs.Grammar
 use Rattle.wasm_grammar.specs.Grammar.{section}
-use Rattle.wasm_grammar.specs.Reading.{Event, version, code_start, code_entry, section_report, event_of}
+use Rattle.wasm_grammar.specs.Reading.{Event, code_start, code_entry, section_report, event_of}
 use Rattle.wasm_grammar.specs.declared.encoding.Encoding.{Encoding}
-use Rattle.wasm_grammar.specs.declared.encoding.Encoding.TheVariants.{Module, Component}
 use Rattle.wasm_grammar.proofs.accepted.Tiles.{made, header_version}
 use Rattle.wasm_grammar.specs.Ids.{code_id}
-
-version_same : (encoding : Encoding) → header_version encoding ≡ version_number encoding
-version_same Module = refl
-version_same Component = refl
 
 -- a header's
 pub header_tile_event : (start features : ℕ) (encoding : Encoding)
     → event_of features (start + 0) (made (Grammar.version (header_version encoding) encoding) (header_bytes encoding))
     ≡ header_event start encoding
-header_tile_event start features encoding =
-    let a : start + 0 ≡ start = omega arith in
-    let v : header_version encoding ≡ version_number encoding = version_same encoding in
-    λ i. record { report = version (v i) encoding (a i) (a i + length (header_bytes encoding)); consumed = header_bytes encoding }
+header_tile_event start features encoding = grind arith
 
 -- a section's that is one tile
 pub section_tile_event : (features o : ℕ) (form : Form) (f : SectionFrame)
@@ -80,5 +72,5 @@ push_events features encoding at (g ∷ frames) f inner events (first, more, w, 
       ap (λ (x : List Event). x ++ events) w ∙ append_assoc first more events,
       h,
       push_events features encoding (at + length (frame_bytes g)) frames f more events t
-          (subst (λ (x : ℕ). FrameEvents features encoding x f events) z e),
+          (rw z at e),
     )

@@ -1,53 +1,43 @@
 -- The reading of an accepted stream is told by its sections, which it is divided into in one way.
 use Rattle.std.proofs.Common.{◌≡◌, ℕ, ◌+◌, List, [], ◌∷◌, ◌++◌, length, refl, sym, ◌∙◌, arith}
 use Rattle.std.specs.List.{All, flat_map}
-use Rattle.std.proofs.lemmas.List.Elements.{All-head, All-tail, All-weaker}
-use Rattle.wasm_grammar.specs.Accepted.{header_bytes, Sized, sized_bytes, IsSized, SectionFrame, frame_bytes, IsFrame, CodeDivision}
-use Rattle.wasm_grammar.specs.Accepted.{IsAccepted}
-use Rattle.wasm_grammar.specs.Content.{Kind, code, kind_of, ended, whole}
-use Rattle.wasm_grammar.specs.FrameEvents.{header_event, body_events, code_events, KindEvents, FramesEvents}
+use Rattle.std.proofs.lemmas.List.Elements.{All-head, All-tail}
+use Rattle.wasm_grammar.specs.Accepted.{Sized, sized_bytes, IsSized, SectionFrame, frame_bytes, CodeDivision}
+use Rattle.wasm_grammar.specs.Content.{Kind, ended}
+use Rattle.wasm_grammar.specs.FrameEvents.{code_events, KindEvents, FramesEvents}
 use Rattle.wasm_grammar.specs.FrameLaws.{OneDivision, FramesGiveEvents}
-use Rattle.wasm_grammar.specs.Grammar.{Tile}
-use Rattle.wasm_grammar.specs.Reading.{code_start, Event, events_of, last_event, Reads}
+use Rattle.wasm_grammar.specs.Reading.{Event, Reads}
 use Rattle.wasm_grammar.specs.declared.encoding.Encoding.{Encoding}
 use Rattle.wasm_grammar.proofs.accepted.Walks.{Told, Reached, accepted_walk, accepted_ends_there}
-use Rattle.wasm_grammar.proofs.frames.Same.{prefixes_same, numbers_same, sized_same, frames_same, headers_same}
+use Rattle.wasm_grammar.proofs.frames.Same.{prefixes_same, numbers_same, sized_same, frames_same}
 use Rattle.wasm_grammar.proofs.readings.Readings.{reads_same}
 
 -- ---- divided in one way
 
 pub one_division : OneDivision
-one_division stream a b =
-    let q : ((a.encoding ≡ b.encoding) × (flat_map frame_bytes a.frames ≡ flat_map frame_bytes b.frames)) =
-    headers_same a.encoding b.encoding (flat_map frame_bytes a.frames) (flat_map frame_bytes b.frames) (sym a.whole ∙ b.whole) in (
-      q.0,
-      frames_same a.frames b.frames (All-weaker (IsFrame a.encoding) (λ f. IsSized f.sized) (λ f i. i.sized) a.frames a.each)
-          (All-weaker (IsFrame b.encoding) (λ f. IsSized f.sized) (λ f i. i.sized) b.frames b.each) q.1,
-    )
+one_division stream a b = grind (arith, frames_same)
 
 -- as many bodies, with the same bytes
 bodies_same : (ss ts : List Sized) → All IsSized ss → All IsSized ts → length ss ≡ length ts → flat_map sized_bytes ss
     ≡ flat_map sized_bytes ts → ss ≡ ts
 bodies_same [] [] a b n e = refl
-bodies_same [] (t ∷ ts) a b n e = absurd (omega arith)
-bodies_same (s ∷ ss) [] a b n e = absurd (omega arith)
 bodies_same (s ∷ ss) (t ∷ ts) a b n e =
     let q : ((s ≡ t) × (flat_map sized_bytes ss ≡ flat_map sized_bytes ts)) =
-    sized_same s t (flat_map sized_bytes ss) (flat_map sized_bytes ts) (All-head IsSized s ss a) (All-head IsSized t ts b) e in
+    grind (arith, sized_same, All-head) in
     let h : s ≡ t = q.0 in
     let l : ss ≡ ts = bodies_same ss ts (All-tail IsSized s ss a) (All-tail IsSized t ts b) (omega arith) q.1 in
     λ i. h i ∷ l i
+bodies_same _ _ a b n e = absurd (omega arith)
 
 -- a code section has one division
 division_same : (content : List ℕ) (d e : CodeDivision content) → (d.field ≡ e.field) × (d.bodies ≡ e.bodies)
 division_same content d e =
     let z : d.field ++ flat_map sized_bytes d.bodies ≡ e.field ++ flat_map sized_bytes e.bodies = sym d.whole ∙ e.whole in
     let n : ((length d.bodies ≡ length e.bodies) × (length d.field ≡ length e.field)) =
-    numbers_same d.field e.field (flat_map sized_bytes d.bodies) (flat_map sized_bytes e.bodies) (length d.bodies) (length e.bodies) d.count
-    e.count z in
+    grind (arith, numbers_same) in
     let p : ((d.field ≡ e.field) × (flat_map sized_bytes d.bodies ≡ flat_map sized_bytes e.bodies)) =
-    prefixes_same d.field e.field (flat_map sized_bytes d.bodies) (flat_map sized_bytes e.bodies) n.1 z in
-    (p.0, bodies_same d.bodies e.bodies d.each e.each n.0 p.1)
+    grind (arith, prefixes_same) in
+    search bodies_same
 
 code_events_same : (features at : ℕ) (f : SectionFrame) (d e : CodeDivision f.sized.content) → code_events features at f d
     ≡ code_events features at f e
@@ -55,40 +45,23 @@ code_events_same features at f d e =
     let q : ((d.field ≡ e.field) × (d.bodies ≡ e.bodies)) = division_same f.sized.content d e in
     let x : d.field ≡ e.field = q.0 in
     let y : d.bodies ≡ e.bodies = q.1 in
-    λ i. record {
-      report = code_start (length (y i)) (at + 1 + length f.sized.field) (at + length (frame_bytes f))
-          (length (flat_map sized_bytes (y i)));
-      consumed = f.id ∷ (f.sized.field ++ x i);
-    } ∷ body_events features (at + 1 + length f.sized.field + length (x i)) (y i)
+    cc
 
 -- a section has one list of events
 kind_events_same : (features at : ℕ) (k : Kind) (f : SectionFrame) (xs ys : List Event) → KindEvents features at k f xs
     → KindEvents features at k f ys → xs ≡ ys
-kind_events_same features at (whole form) f xs ys x y = x ∙ sym y
-kind_events_same features at code f xs ys (d, x) (e, y) = x ∙ (code_events_same features at f d e ∙ sym y)
+kind_events_same features at k f xs ys x y = grind (arith, code_events_same)
 
 -- and so have sections
 frames_events_same : (features : ℕ) (encoding : Encoding) (at : ℕ) (frames : List SectionFrame) (xs ys : List Event)
     → FramesEvents features encoding at frames xs → FramesEvents features encoding at frames ys → xs ≡ ys
 frames_events_same features encoding at [] xs ys x y = x ∙ sym y
 frames_events_same features encoding at (f ∷ frames) xs ys (a, b, w, h, t) (c, d, v, i, u) =
-    let p : a ≡ c = kind_events_same features at (kind_of encoding f.id) f a c h i in
+    let p : a ≡ c = grind (arith, kind_events_same) in
     let q : b ≡ d = frames_events_same features encoding (at + length (frame_bytes f)) frames b d t u in
     w ∙ ((λ j. p j ++ q j) ∙ sym v)
 
 -- ---- told by sections
-
--- the events of a stream that its sections tell
-told_events : (stream : List ℕ) (start features : ℕ) (a : IsAccepted stream) (ts : List Tile)
-    (t : Told start features a.encoding a.frames ts) (inner : List Event) → t.inner ≡ inner
-    → events_of start features ts ++ last_event (ended (start + length stream)) ∷ []
-    ≡ header_event start a.encoding ∷ (inner ++ last_event (ended
-    (start + length (header_bytes a.encoding ++ flat_map frame_bytes a.frames))) ∷ [])
-told_events stream start features a ts t inner e =
-    let w : stream ≡ header_bytes a.encoding ++ flat_map frame_bytes a.frames = a.whole in
-    (λ i. t.listed i ++ last_event (ended (start + length (w i))) ∷ [])
-    ∙ (λ i. header_event start a.encoding ∷ (e i ++ last_event (ended
-    (start + length (header_bytes a.encoding ++ flat_map frame_bytes a.frames))) ∷ []))
 
 pub frames_give_events : FramesGiveEvents
 frames_give_events stream start features events s a =
@@ -102,15 +75,12 @@ frames_give_events stream start features events s a =
           record {
             inner = t.inner;
             sections = t.sections;
-            whole = r.listed ∙ ((λ i. events_of start features (z' i) ++ last_event (y' i) ∷ [])
-                ∙ told_events stream start features a q.tiles t t.inner refl);
+            whole = cc;
           },
       λ h. record {
         tiles = q.tiles;
         end = ended (start + length stream);
         reads = reads;
-        listed = h.whole ∙ sym (told_events stream start features a q.tiles t h.inner
-            (frames_events_same features a.encoding (start + length (header_bytes a.encoding)) a.frames t.inner h.inner t.sections
-            h.sections));
+        listed = grind (arith, frames_events_same);
       },
     )

@@ -1,26 +1,22 @@
 -- Where the faults of a grammar lie.
-use Rattle.std.proofs.Common.{◌≡◌, ℕ, zero, suc, ◌+◌, ◌<◌, ◌≤◌, Bool, true, false, cond, ◌&&◌, not, List, [], ◌∷◌, length, take, drop}
-use Rattle.std.proofs.Common.{Option, Some, None, nat_lt, nat_le, nat_eq, refl, ap, subst, ◌∙◌, arith, le_refl, length-append, leb-true}
-use Rattle.std.specs.List.{list_all, list_any}
+use Rattle.std.proofs.Common.{◌≡◌, ℕ, ◌+◌, ◌≤◌, Bool, cond, ◌&&◌, List, [], ◌∷◌, length, take, drop}
+use Rattle.std.proofs.Common.{Option, Some, None, nat_le, refl, ap, ◌∙◌, arith, le_refl, length-append}
 use Rattle.std.proofs.lemmas.List.{length-take-le, length-drop}
 use Rattle.wasm_base.specs.FaultAt.{FaultAt, at_offset}
 use Rattle.wasm_base.specs.Header.{magic, agree}
-use Rattle.wasm_base.specs.Name.{Name, named, refused, name_limit, name, of_four}
-use Rattle.wasm_base.specs.Number.{Number, read, bad, short, number}
+use Rattle.wasm_base.specs.Name.{Name, name_limit, name}
+use Rattle.wasm_base.specs.Number.{Number, number}
 use Rattle.wasm_base.specs.declared.fault.Fault.{Fault}
-use Rattle.wasm_base.specs.declared.fault.Fault.TheVariants.{UnexpectedEof, MagicAtSection, StartContent, DataCountContent}
+use Rattle.wasm_base.specs.declared.fault.Fault.TheVariants.{UnexpectedEof, MagicAtSection}
 use Rattle.wasm_base.specs.declared.fault.NumberKind.TheVariants.{VarU32}
-use Rattle.wasm_base.proofs.NumberLaws.{Used, number-used}
-use Rattle.wasm_grammar.specs.Content.{Kind, custom, items, index, data_count, code, unknown, kind_of, Ending, fault, ended, when}
+use Rattle.wasm_base.proofs.NumberLaws.{number-used}
+use Rattle.wasm_grammar.specs.Content.{Kind, code, kind_of, Ending, fault, ended, when}
 use Rattle.wasm_grammar.specs.Content.{wrong_number, wrong_single, wrong_name, wrong_content, Form, whole}
 use Rattle.wasm_grammar.specs.Grammar.{Tile, Verdict, final, Grammar, accept, reject, check, u32_field, bytes, section_start, after}
-use Rattle.wasm_grammar.specs.Grammar.{after_number, verdict, SectionContext, header_of, header_grammar, end_at_section, wrong_count}
-use Rattle.wasm_grammar.specs.Grammar.{code_grammar, wrong_data, whole_grammar, content_grammar, after_length, section_grammar}
-use Rattle.wasm_grammar.specs.Grammar.{body_grammar}
+use Rattle.wasm_grammar.specs.Grammar.{after_number, verdict, SectionContext, header_grammar, end_at_section, wrong_data, whole_grammar}
+use Rattle.wasm_grammar.specs.Grammar.{content_grammar, after_length, section_grammar, body_grammar}
 use Rattle.wasm_grammar.specs.Laws.{FaultLiesWithin}
-use Rattle.wasm_grammar.specs.Tiling.{context_of, grammar, bodies_to_come, bytes_to_come, bytes_of}
-use Rattle.wasm_grammar.specs.declared.encoding.Encoding.{Encoding}
-use Rattle.wasm_grammar.proofs.readings.Endings.{after_final}
+use Rattle.wasm_grammar.specs.Tiling.{grammar, bytes_of}
 use Rattle.wasm_grammar.proofs.parts.Places.{number_place, name_place}
 
 -- an offset between these
@@ -47,79 +43,39 @@ Within low here (section_start o e next) = Between low here o × EndsIn low here
 pub final_same : (f g : FaultAt) → (let v : Verdict = final (fault f) in v) ≡ final (fault g) → f ≡ g
 final_same f g e = cc
 
-ending_lies : (low here more : ℕ) (e : Ending) (f : FaultAt) → EndsIn low here e → final e ≡ final (fault f)
-    → Between low (here + more) f.offset
-ending_lies low here more (fault g) f w h =
-    let z : g.offset ≡ f.offset = ap (λ (x : FaultAt). x.offset) (final_same g f h) in
-    let (a, b) = w in
-    (omega arith, omega arith)
-ending_lies low here more (ended o) f w h = cc
-
 number_lies : (low here o : ℕ) (xs : List ℕ) (next : ℕ → ℕ → Grammar) (f : FaultAt) → Between low here o
     → ((v k : ℕ) (zs : List ℕ) → verdict (next v k) zs ≡ final (fault f) → Between low (here + k + length zs) f.offset)
     → (n : Number) → number VarU32 xs ≡ n → after_number o xs n (λ v k. verdict (next v k) (drop k xs)) ≡ final (fault f)
     → Between low (here + length xs) f.offset
-number_lies low here o xs next f w ih (read v k) e h =
-    let u : Used VarU32 xs v k = number-used VarU32 xs v k e in
-    let (a, b) = ih v k (drop k xs) (after_final (take k xs) _ _ h) in
-    let l : k ≤ length xs = u.there in
-    (a, omega (arith, length-drop k xs))
-number_lies low here o xs next f w ih (bad g p) e h =
-    let l : p < length xs = number_place VarU32 xs g p e in
-    let z : o + p ≡ f.offset = ap (λ (x : FaultAt). x.offset) (final_same (at_offset g (o + p)) f h) in
-    let (a, b) = w in
-    (omega arith, omega arith)
-number_lies low here o xs next f w ih short e h =
-    let z : o + length xs ≡ f.offset = ap (λ (x : FaultAt). x.offset) (final_same (at_offset UnexpectedEof (o + length xs)) f h) in
-    let (a, b) = w in
-    (omega arith, omega arith)
+number_lies low here o xs next f w v k zs n = grind (arith, number-used, length-drop, number_place)
 
 bytes_lie : (low here count o : ℕ) (xs : List ℕ) (next : List ℕ → Grammar) (f : FaultAt) → Between low here o
     → ((b zs : List ℕ) → length b ≡ count → verdict (next b) zs ≡ final (fault f) → Between low (here + count + length zs) f.offset)
     → (t : Bool) → nat_le count (length xs) ≡ t → cond t (after (take count xs) (verdict (next (take count xs)) (drop count xs)))
     (final (fault (at_offset UnexpectedEof o))) ≡ final (fault f)
     → Between low (here + length xs) f.offset
-bytes_lie low here count o xs next f w ih true e h =
-    let l : count ≤ length xs = leb-true count (length xs) e in
-    let (a, b) = ih (take count xs) (drop count xs) (length-take-le count xs l) (after_final (take count xs) _ _ h) in
-    (a, omega (arith, length-drop count xs))
-bytes_lie low here count o xs next f w ih false e h =
-    let z : o ≡ f.offset = ap (λ (x : FaultAt). x.offset) (final_same (at_offset UnexpectedEof o) f h) in
-    let (a, b) = w in
-    (omega arith, omega arith)
+bytes_lie low here count o xs next f w b zs t h = grind (arith, length-take-le, length-drop)
 
 start_lies : (low here o id : ℕ) (xs : List ℕ) (v : Verdict) (f : FaultAt) → Between low here o
     → (v ≡ final (fault f) → Between low (here + 1 + length xs) f.offset)
     → (t : Bool) → cond t (final (fault (at_offset MagicAtSection o))) (after (id ∷ []) v) ≡ final (fault f)
     → Between low (here + length (id ∷ xs)) f.offset
-start_lies low here o id xs v f w ih true h =
-    let z : o ≡ f.offset = ap (λ (x : FaultAt). x.offset) (final_same (at_offset MagicAtSection o) f h) in
-    let (a, b) = w in
-    (omega arith, omega arith)
-start_lies low here o id xs v f w ih false h =
-    let (a, b) = ih (after_final (id ∷ []) v _ h) in
-    (a, omega arith)
+start_lies low here o id xs v f w ih t h = grind arith
 
 -- a fault lies among the bytes, or at their end
 pub verdict_lies : (low here : ℕ) (g : Grammar) (xs : List ℕ) (f : FaultAt) → Within low here g → verdict g xs ≡ final (fault f)
     → Between low (here + length xs) f.offset
 unfolding verdict
 verdict_lies low here (accept shape) xs f w h = cc
-verdict_lies low here (reject e) xs f w h =
-    let z : e.offset ≡ f.offset = ap (λ (x : FaultAt). x.offset) (final_same e f h) in
-    let (a, b) = w in
-    (omega arith, omega arith)
+verdict_lies low here (reject e) xs f w h = grind arith
 verdict_lies low here (check None next) xs f w h = verdict_lies low here next xs f w.1 h
-verdict_lies low here (check (Some e) next) xs f w h =
-    let z : e.offset ≡ f.offset = ap (λ (x : FaultAt). x.offset) (final_same e f h) in
-    let (a, b) = w.0 in
-    (omega arith, omega arith)
+verdict_lies low here (check (Some e) next) xs f w h = grind arith
 verdict_lies low here (u32_field o next) xs f w h =
     number_lies low here o xs next f w.0 (λ v k zs. verdict_lies low (here + k) (next v k) zs f (w.1 v k)) (number VarU32 xs) refl h
 verdict_lies low here (bytes count o next) xs f w h =
     bytes_lie low here count o xs next f w.0 (λ b zs l. verdict_lies low (here + count) (next b) zs f (w.1 b l)) (nat_le count (length xs))
     refl h
-verdict_lies low here (section_start o e next) [] f w h = ending_lies low here 0 e f w.1 h
+verdict_lies low here (section_start o e next) [] f w h = grind arith
 verdict_lies low here (section_start o e next) (id ∷ xs) f w h =
     start_lies low here o id xs (verdict (next id) xs) f w.0 (verdict_lies low (here + 1) (next id) xs f (w.2 id))
     (agree (id ∷ xs) magic && nat_le 4 (length (id ∷ xs))) h
@@ -127,115 +83,46 @@ verdict_lies low here (section_start o e next) (id ∷ xs) f w h =
 -- ---- the grammars of a stream
 
 when_lies : (low high : ℕ) (t : Bool) (e : FaultAt) → Between low high e.offset → MayLie low high (when t e)
-when_lies low high true e w = w
-when_lies low high false e w = tt
+when_lies low high t e w = grind arith
 
 lies : (low high a : ℕ) → low ≤ a → a ≤ high → Between low high a
 lies low high a l m = (l, m)
 
 number_wrong : (offset : ℕ) (content : List ℕ) (n : Number) → number VarU32 content ≡ n
     → MayLie offset (offset + length content) (wrong_number offset content n)
-number_wrong offset content (read v k) e = tt
-number_wrong offset content (bad g p) e =
-    let l : p < length content = number_place VarU32 content g p e in
-    (omega arith, omega arith)
-number_wrong offset content short e = (omega arith, omega arith)
+number_wrong offset content n e = grind (arith, number_place)
 
 single_wrong : (code_bytes : Fault) (offset : ℕ) (content : List ℕ) (n : Number) → number VarU32 content ≡ n
     → MayLie offset (offset + length content) (wrong_single code_bytes offset content n)
-single_wrong code_bytes offset content (read v k) e =
-    let u : Used VarU32 content v k = number-used VarU32 content v k e in
-    let l : k ≤ length content = u.there in
-    when_lies offset (offset + length content) (nat_lt k (length content)) (at_offset code_bytes (offset + k)) (omega arith, omega arith)
-single_wrong code_bytes offset content (bad g p) e =
-    let l : p < length content = number_place VarU32 content g p e in
-    (omega arith, omega arith)
-single_wrong code_bytes offset content short e = (omega arith, omega arith)
+single_wrong code_bytes offset content n e = grind (arith, number_place)
 
 name_wrong : (offset : ℕ) (content : List ℕ) (n : Name) → name (Some name_limit) content ≡ n
     → MayLie offset (offset + length content) (wrong_name offset n)
-name_wrong offset content (named text used) e = tt
-name_wrong offset content (refused g p) e =
-    let l : p ≤ length content = name_place (Some name_limit) content g p e in
-    (omega arith, omega arith)
+name_wrong offset content n e = grind (arith, name_place)
 
 content_wrong : (kind : Form) (offset : ℕ) (content : List ℕ) → MayLie offset (offset + length content) (wrong_content kind offset content)
 unfolding wrong_content
-content_wrong custom offset content = name_wrong offset content (name (Some name_limit) content) refl
-content_wrong items offset content = number_wrong offset content (number VarU32 content) refl
-content_wrong index offset content = single_wrong StartContent offset content (number VarU32 content) refl
-content_wrong data_count offset content = single_wrong DataCountContent offset content (number VarU32 content) refl
-content_wrong unknown offset content = tt
-
-wider : (low low' high high' : ℕ) (e : Option FaultAt) → low' ≤ low → high ≤ high' → MayLie low high e → MayLie low' high' e
-wider low low' high high' None l h w = tt
-wider low low' high high' (Some e) l h w = let (a, b) = w in (omega arith, omega arith)
+content_wrong kind offset content = grind (arith, name_wrong, number_wrong, single_wrong)
 
 data_wrong : (p : SectionContext) (kind : Form) (id offset : ℕ) (content : List ℕ)
     → MayLie offset offset (wrong_data p kind id offset content)
-data_wrong p items id offset content = when_lies offset offset _ _ (le_refl offset, le_refl offset)
-data_wrong p custom id offset content = tt
-data_wrong p index id offset content = tt
-data_wrong p data_count id offset content = tt
-data_wrong p unknown id offset content = tt
-
-count_wrong_at : (a b : Bool) (offset : ℕ) (e f : FaultAt) → e.offset ≡ offset → f.offset ≡ offset
-    → MayLie offset offset (cond a (Some e) (when b f))
-count_wrong_at true b offset e f z w = (omega arith, omega arith)
-count_wrong_at false true offset e f z w = (omega arith, omega arith)
-count_wrong_at false false offset e f z w = tt
-
-count_wrong : (p : SectionContext) (offset count : ℕ) → MayLie offset offset (wrong_count p offset count)
-count_wrong p offset count = count_wrong_at (not (list_all (nat_eq count) p.functions)) (nat_lt 0 count && nat_eq (length p.functions) 0)
-    offset _ _ refl refl
+data_wrong p kind id offset content = grind arith
 
 Within-whole : (low here : ℕ) (p : SectionContext) (kind : Form) (id offset size : ℕ) → low ≤ offset → offset ≡ here
     → Within low here (whole_grammar p kind id offset size)
-Within-whole low here p kind id offset size l z = (
-  lies low here offset l (omega arith),
-  λ content n. (
-    wider offset low (offset + length content) (here + size) _ l (omega arith) (content_wrong kind offset content),
-    (
-      wider (offset + size) low (offset + size) (here + size) _ (omega arith) (omega arith) (data_wrong p kind id (offset + size) content),
-      tt,
-    ),
-  ),
-)
-
-Within-code : (low here : ℕ) (p : SectionContext) (offset size : ℕ) → low ≤ offset → offset ≡ here
-    → Within low here (code_grammar p offset size)
-Within-code low here p offset size l z = (
-  lies low here offset l (omega arith),
-  λ count width. (
-    when_lies low (here + width) _ _ (omega arith, omega arith),
-    (wider offset low offset (here + width) _ l (omega arith) (count_wrong p offset count), tt),
-  ),
-)
+Within-whole low here p kind id offset size l z = grind (arith, content_wrong, data_wrong)
 
 Within-content : (low here : ℕ) (p : SectionContext) (kind : Kind) (id offset size : ℕ) → low ≤ offset → offset ≡ here
     → Within low here (content_grammar p kind id offset size)
-Within-content low here p code id offset size l z = Within-code low here p offset size l z
+Within-content low here p code id offset size l z = grind arith
 Within-content low here p (whole form) id offset size l z = Within-whole low here p form id offset size l z
 
-end_lies_at : (a b : Bool) (offset : ℕ) (e f : FaultAt) → e.offset ≡ offset → f.offset ≡ offset
-    → EndsIn offset offset (cond a (fault e) (cond b (fault f) (ended offset)))
-end_lies_at true b offset e f z w = (omega arith, omega arith)
-end_lies_at false true offset e f z w = (omega arith, omega arith)
-end_lies_at false false offset e f z w = tt
-
 end_lies : (p : SectionContext) (offset : ℕ) → EndsIn offset offset (end_at_section p offset)
-end_lies p offset = end_lies_at (list_any (nat_lt 0) p.functions && nat_eq (length p.codes) 0)
-    (list_any (nat_lt 0) p.data_counts && nat_eq (length p.datas) 0) offset _ _ refl refl
+end_lies p offset = grind arith
 
 Within-sized : (o : ℕ) (p : SectionContext) (kind : Kind) (id size width : ℕ)
     → Within o (o + 1 + width) (after_length p kind id (o + 1) (o + 1 + width) size)
-Within-sized o p kind id size width = (
-  when_lies o (o + 1 + width) _ _ (omega arith, omega arith),
-  (
-    when_lies o (o + 1 + width) _ _ (omega arith, omega arith),
-    Within-content o (o + 1 + width) p kind id (o + 1 + width) size (omega arith) refl,
-  ),
-)
+Within-sized o p kind id size width = grind (arith, Within-content)
 
 Within-section : (p : SectionContext) (o : ℕ) → Within o o (section_grammar p o)
 unfolding section_grammar
@@ -254,38 +141,18 @@ Within-section p o = (
 
 Within-body : (bodies code_bytes o : ℕ) → Within o o (body_grammar bodies code_bytes o)
 unfolding body_grammar
-Within-body zero code_bytes o = (le_refl o, le_refl o)
-Within-body (suc bodies) code_bytes o = (
-  (le_refl o, le_refl o),
-  λ size width. (
-    when_lies o (o + width) _ _ (omega arith, omega arith),
-    ((omega arith, omega arith), λ content n. tt),
-  ),
-)
-
-Within-header_of : (o bits : ℕ) (e : Option Encoding) → Within o (o + 4 + 4) (header_of o bits e)
-Within-header_of o bits (Some e) = tt
-Within-header_of o bits None = (omega arith, omega arith)
+Within-body bodies code_bytes o = grind arith
 
 Within-header : (o : ℕ) → Within o o (header_grammar o)
 unfolding header_grammar
-Within-header o = (
-  (le_refl o, le_refl o),
-  λ a n. (
-    when_lies o (o + 4) _ _ (omega arith, omega arith),
-    ((omega arith, omega arith), λ b m. Within-header_of o (of_four b) _),
-  ),
-)
+Within-header o = grind arith
 
 Within-inside : (b : Bool) (p : SectionContext) (bodies code_bytes o : ℕ)
     → Within o o (cond b (section_grammar p o) (body_grammar bodies code_bytes o))
-Within-inside true p bodies code_bytes o = Within-section p o
-Within-inside false p bodies code_bytes o = Within-body bodies code_bytes o
+Within-inside b p bodies code_bytes o = grind (arith, Within-section, Within-body)
 
 pub Within-grammar : (start : ℕ) (ts : List Tile) → Within (start + length (bytes_of ts)) (start + length (bytes_of ts)) (grammar start ts)
-Within-grammar start [] = subst (λ (o : ℕ). Within o o (header_grammar start)) (omega arith) (Within-header start)
-Within-grammar start (t ∷ ts) = Within-inside (nat_eq (bodies_to_come (t ∷ ts) + bytes_to_come (t ∷ ts)) 0) (context_of (t ∷ ts))
-    (bodies_to_come (t ∷ ts)) (bytes_to_come (t ∷ ts)) (start + length (bytes_of (t ∷ ts)))
+Within-grammar start ts = grind (arith, Within-header, Within-inside)
 
 pub fault_lies_within : FaultLiesWithin
 fault_lies_within stream start tiles f r =
@@ -296,5 +163,4 @@ fault_lies_within stream start tiles f r =
 
 pub Within-any : (h b : Bool) (p : SectionContext) (bodies code_bytes o : ℕ)
     → Within o o (cond h (header_grammar o) (cond b (section_grammar p o) (body_grammar bodies code_bytes o)))
-Within-any true b p bodies code_bytes o = Within-header o
-Within-any false b p bodies code_bytes o = Within-inside b p bodies code_bytes o
+Within-any h b p bodies code_bytes o = grind (arith, Within-header, Within-inside)

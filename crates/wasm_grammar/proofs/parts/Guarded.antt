@@ -1,33 +1,28 @@
 -- What each grammar of the stream keeps: its tiles are guarded, and take at least one byte.
-use Rattle.std.proofs.Common.{◌≡◌, ℕ, zero, suc, ◌+◌, ◌<◌, ◌≤◌, Bool, true, false, cond, ◌&&◌, List, [], ◌∷◌, ◌++◌, length, take, drop}
-use Rattle.std.proofs.Common.{Option, Some, None, nat_le, nat_eq, refl, sym, ap, ◌∙◌, arith, length-append, leb-true, eqb-true, subst₂}
+use Rattle.std.proofs.Common.{◌≡◌, ℕ, zero, suc, ◌+◌, ◌<◌, ◌≤◌, Bool, true, false, cond, List, [], ◌∷◌, ◌++◌, length, take, drop}
+use Rattle.std.proofs.Common.{Option, nat_le, nat_eq, refl, sym, ap, ◌∙◌, arith, length-append, leb-true, eqb-true}
 use Rattle.std.proofs.lemmas.List.{length-take-le}
 use Rattle.std.proofs.lemmas.Bool.{and_parts}
-use Rattle.wasm_base.specs.FaultAt.{FaultAt, at_offset}
-use Rattle.wasm_base.specs.Name.{of_four}
-use Rattle.wasm_base.specs.Number.{Number, read, bad, short, number}
-use Rattle.wasm_grammar.specs.Content.{Kind, code, kind_of, Ending, fault, whole}
+use Rattle.wasm_base.specs.FaultAt.{FaultAt}
+use Rattle.wasm_base.specs.Number.{read, number}
+use Rattle.wasm_grammar.specs.Content.{Kind, kind_of, Ending}
 use Rattle.wasm_base.specs.Header.{magic, agree}
-use Rattle.wasm_grammar.specs.Grammar.{Tile, Verdict, tile, final, after, after_number, Grammar, check, u32_field, bytes, section_start}
-use Rattle.wasm_grammar.specs.Grammar.{verdict, SectionContext, header_of, header_grammar, content_grammar, after_length, after_id}
+use Rattle.wasm_grammar.specs.Grammar.{Tile, Verdict, tile, final, after, Grammar, check, u32_field, bytes, section_start}
+use Rattle.wasm_grammar.specs.Grammar.{verdict, SectionContext, header_grammar, content_grammar, after_length, after_id}
 use Rattle.wasm_grammar.specs.Grammar.{section_grammar, body_of, body_grammar}
-use Rattle.wasm_grammar.specs.Tiling.{context_of, grammar, bodies_to_come, bytes_to_come, bytes_of}
+use Rattle.wasm_grammar.specs.Tiling.{grammar}
 use Rattle.wasm_base.specs.declared.fault.NumberKind.TheVariants.{VarU32}
-use Rattle.wasm_base.specs.declared.fault.Fault.TheVariants.{MagicAtSection}
 use Rattle.wasm_grammar.specs.declared.encoding.Encoding.{Encoding}
-use Rattle.wasm_grammar.specs.declared.encoding.Encoding.TheVariants.{Module, Component}
 use Rattle.wasm_base.proofs.NumberLaws.{number-used, Used}
 use Rattle.wasm_grammar.proofs.parts.Verdicts.{Guarded, after-tile}
 
 Guarded-content : (p : SectionContext) (k : Kind) (id o n : ℕ) → Guarded (content_grammar p k id o n)
-Guarded-content p (whole form) id o n = λ b. tt
-Guarded-content p code id o n = λ v k. tt
+Guarded-content p k id o n = grind arith
 
 -- a tile after a test that fails
 pub refused : (e : Option FaultAt) (g : Grammar) (xs : List ℕ) (t : Tile) → verdict (check e g) xs ≡ tile t → verdict g xs ≡ tile t
 unfolding verdict
-refused (Some e) g xs t h = cc
-refused None g xs t h = h
+refused e g xs t h = grind arith
 
 bytes_least_at : (b : Bool) (count : ℕ) (xs : List ℕ) (v : Verdict) (e : Ending) (t : Tile) → nat_le count (length xs) ≡ b
     → cond b (after (take count xs) v) (final e) ≡ tile t → count ≤ length t.bytes
@@ -41,8 +36,7 @@ bytes_least_at false count xs v e t h w = cc
 pub bytes_least : (count o : ℕ) (next : List ℕ → Grammar) (xs : List ℕ) (t : Tile) → verdict (bytes count o next) xs ≡ tile t
     → count ≤ length t.bytes
 unfolding verdict
-bytes_least count o next xs t w = bytes_least_at (nat_le count (length xs)) count xs (verdict (next (take count xs)) (drop count xs)) _ t
-    refl w
+bytes_least count o next xs t w = search bytes_least_at
 
 -- what a tile that begins with a number is
 pub record Numbered (next : ℕ → ℕ → Grammar) (xs : List ℕ) (t : Tile) : Type 0 where
@@ -53,17 +47,9 @@ pub record Numbered (next : ℕ → ℕ → Grammar) (xs : List ℕ) (t : Tile) 
   pub goes_on : verdict (next value used) (drop used xs) ≡ tile rest
   pub is : t ≡ record rest { bytes = take used xs ++ rest.bytes }
 
-numbered_at : (o : ℕ) (next : ℕ → ℕ → Grammar) (xs : List ℕ) (t : Tile) (n : Number) → number VarU32 xs ≡ n
-    → after_number o xs n (λ v k. verdict (next v k) (drop k xs)) ≡ tile t → Numbered next xs t
-numbered_at o next xs t (read v k) e w =
-    let (s, r, q) = after-tile (take k xs) (verdict (next v k) (drop k xs)) t w in
-    record { value = v; used = k; reads = e; rest = s; goes_on = r; is = q }
-numbered_at o next xs t (bad f p) e w = cc
-numbered_at o next xs t short e w = cc
-
 pub numbered : (o : ℕ) (next : ℕ → ℕ → Grammar) (xs : List ℕ) (t : Tile) → verdict (u32_field o next) xs ≡ tile t → Numbered next xs t
 unfolding verdict
-numbered o next xs t w = numbered_at o next xs t (number VarU32 xs) refl w
+numbered o next xs t w = grind arith
 
 pub number_least : (o : ℕ) (next : ℕ → ℕ → Grammar) (xs : List ℕ) (t : Tile) → verdict (u32_field o next) xs ≡ tile t → 0 < length t.bytes
 number_least o next xs t w =
@@ -72,7 +58,7 @@ number_least o next xs t w =
     let z : t.bytes ≡ take n.used xs ++ n.rest.bytes = ap (λ (x : Tile). x.bytes) n.is in
     let l : length (take n.used xs) ≡ n.used = length-take-le n.used xs u.there in
     let a : 0 < n.used = u.some in
-    rw z (omega (arith, length-append (take n.used xs) n.rest.bytes))
+    grind arith
 
 -- 0x61 alone is a number, 97
 pub one_byte : (xs : List ℕ) → number VarU32 (0x61 ∷ xs) ≡ read 0x61 1
@@ -81,20 +67,11 @@ one_byte xs = refl
 
 first_is : (k : ℕ) (xs ys : List ℕ) → 0 < k → 0 < length xs → agree (take k xs ++ ys) (0x61 ∷ 0x73 ∷ 0x6d ∷ []) ≡ true → (zs : List ℕ)
     × (xs ≡ 0x61 ∷ zs)
-first_is zero xs ys h l e = absurd (omega arith)
-first_is (suc k) [] ys h l e = absurd (omega arith)
-first_is (suc k) (x ∷ xs) ys h l e =
-    let z : x ≡ 0x61 = eqb-true x 0x61 (code_bytes (nat_eq x 0x61) _ e) in
-    (xs, ap (λ (y : ℕ). y ∷ xs) z)
-  where
-    code_bytes : (a b : Bool) → (a && b) ≡ true → a ≡ true
-    code_bytes true b e = refl
-    code_bytes false b e = e
+first_is k xs ys h l e = grind arith
 
 custom_long : (p : SectionContext) (en : Encoding) (f o : ℕ) (xs : List ℕ) (t : Tile)
     → verdict (after_length p (kind_of en 0) 0 f o 0x61) xs ≡ tile t → 0x61 ≤ length t.bytes
-custom_long p Module f o xs t w = bytes_least 0x61 o _ xs t (refused _ _ xs t (refused _ _ xs t w))
-custom_long p Component f o xs t w = bytes_least 0x61 o _ xs t (refused _ _ xs t (refused _ _ xs t w))
+custom_long p en f o xs t w = grind (arith, bytes_least, refused)
 
 longer : (p : SectionContext) (o id : ℕ) (xs : List ℕ) (s : Tile) → verdict (after_id p o id) xs ≡ tile s → agree (id ∷ s.bytes) magic
     ≡ true → 4 ≤ length (id ∷ s.bytes)
@@ -104,17 +81,15 @@ longer p o id xs s w e =
     let u : Used VarU32 xs n.value n.used = number-used VarU32 xs n.value n.used n.reads in
     let b : s.bytes ≡ take n.used xs ++ n.rest.bytes = ap (λ (x : Tile). x.bytes) n.is in
     let parts : ((nat_eq id 0 ≡ true) × (agree s.bytes (0x61 ∷ 0x73 ∷ 0x6d ∷ []) ≡ true)) =
-    and_parts (nat_eq id 0) (agree s.bytes (0x61 ∷ 0x73 ∷ 0x6d ∷ [])) e in
+    search and_parts in
     let z : id ≡ 0 = eqb-true id 0 parts.0 in
     let (zs, q) = first_is n.used xs n.rest.bytes u.some (omega (arith, u.some, u.there)) (rw b at parts.1) in
     let m : number VarU32 xs ≡ read 0x61 1 = ap (number VarU32) q ∙ one_byte zs in
     let v : n.value ≡ 0x61 = value_is n.value n.used 0x61 1 (sym n.reads ∙ m) in
     let g : verdict (after_length p (kind_of p.encoding 0) 0 (o + 1) (o + 1 + n.used) 0x61) (drop n.used xs) ≡ tile n.rest =
-    subst₂ (λ (i x : ℕ). verdict (after_length p (kind_of p.encoding i) i (o + 1) (o + 1 + n.used) x) (drop n.used xs) ≡ tile n.rest) z v
-    n.goes_on in
-    let l : 0x61 ≤ length n.rest.bytes = custom_long p p.encoding (o + 1) (o + 1 + n.used) (drop n.used xs) n.rest g in
-    let r : length s.bytes ≡ length (take n.used xs) + length n.rest.bytes = ap (λ (x : List ℕ). length x) b
-    ∙ length-append (take n.used xs) n.rest.bytes in
+    cc in
+    let l : 0x61 ≤ length n.rest.bytes = search custom_long in
+    let r : length s.bytes ≡ length (take n.used xs) + length n.rest.bytes = grind arith in
     omega arith
   where
     value_is : (a b c d : ℕ) → read a b ≡ read c d → a ≡ c
@@ -124,41 +99,24 @@ pub Guarded-section : (p : SectionContext) (o : ℕ) → Guarded (section_gramma
 unfolding section_grammar
 Guarded-section p o = λ id. (λ size width. Guarded-content p (kind_of p.encoding id) id (o + 1 + width) size, longer p o id)
 
-Guarded-header_of : (o bits : ℕ) (e : Option Encoding) → Guarded (header_of o bits e)
-Guarded-header_of o bits (Some e) = tt
-Guarded-header_of o bits None = tt
-
 pub Guarded-header : (o : ℕ) → Guarded (header_grammar o)
 unfolding header_grammar
-Guarded-header o = λ a b. Guarded-header_of o (of_four b) _
+Guarded-header o = grind arith
 
 pub Guarded-body : (m l o : ℕ) → Guarded (body_grammar m l o)
 unfolding body_grammar
-Guarded-body zero l o = tt
-Guarded-body (suc m) l o = λ v k b. tt
+Guarded-body m l o = grind arith
 
 pub Guarded-inside_at : (b : Bool) (p : SectionContext) (m l o : ℕ) → Guarded (cond b (section_grammar p o) (body_grammar m l o))
-Guarded-inside_at true p m l o = Guarded-section p o
-Guarded-inside_at false p m l o = Guarded-body m l o
+Guarded-inside_at b p m l o = grind (arith, Guarded-section, Guarded-body)
 
 pub Guarded-grammar : (start : ℕ) (ts : List Tile) → Guarded (grammar start ts)
-Guarded-grammar start [] = Guarded-header start
-Guarded-grammar start (t ∷ ts) = Guarded-inside_at (nat_eq (bodies_to_come (t ∷ ts) + bytes_to_come (t ∷ ts)) 0) (context_of (t ∷ ts))
-    (bodies_to_come (t ∷ ts)) (bytes_to_come (t ∷ ts)) (start + length (bytes_of (t ∷ ts)))
-
-least_start_at : (b : Bool) (o id : ℕ) (v : Verdict) (t : Tile) → cond b (final (fault (at_offset MagicAtSection o))) (after (id ∷ []) v)
-    ≡ tile t → 0 < length t.bytes
-least_start_at true o id v t e = cc
-least_start_at false o id v t e =
-    let (s, r, q) = after-tile (id ∷ []) v t e in
-    let z : t.bytes ≡ id ∷ s.bytes = ap (λ (x : Tile). x.bytes) q in
-    rw z (omega arith)
+Guarded-grammar start ts = grind (arith, Guarded-header, Guarded-inside_at)
 
 least_start : (o : ℕ) (z : Ending) (next : ℕ → Grammar) (xs : List ℕ) (t : Tile) → verdict (section_start o z next) xs ≡ tile t
     → 0 < length t.bytes
 unfolding verdict
-least_start o z next [] t e = cc
-least_start o z next (id ∷ xs) t e = least_start_at (agree (id ∷ xs) magic && nat_le 4 (length (id ∷ xs))) o id (verdict (next id) xs) t e
+least_start o z next xs t e = grind arith
 
 least_body : (m l o : ℕ) (xs : List ℕ) (t : Tile) → verdict (body_grammar m l o) xs ≡ tile t → 0 < length t.bytes
 unfolding body_grammar verdict
@@ -175,11 +133,8 @@ least_header o xs t e = let l : 4 ≤ length t.bytes = bytes_least 4 o _ xs t e 
 
 pub least_inside : (b : Bool) (p : SectionContext) (m l o : ℕ) (xs : List ℕ) (t : Tile)
     → verdict (cond b (section_grammar p o) (body_grammar m l o)) xs ≡ tile t → 0 < length t.bytes
-least_inside true p m l o xs t e = least_section p o xs t e
-least_inside false p m l o xs t e = least_body m l o xs t e
+least_inside b p m l o xs t e = grind (arith, least_section, least_body)
 
 -- each tile has a byte
 pub tile_least : (start : ℕ) (ts : List Tile) (xs : List ℕ) (t : Tile) → verdict (grammar start ts) xs ≡ tile t → 0 < length t.bytes
-tile_least start [] xs t e = least_header start xs t e
-tile_least start (u ∷ ts) xs t e = least_inside (nat_eq (bodies_to_come (u ∷ ts) + bytes_to_come (u ∷ ts)) 0) (context_of (u ∷ ts))
-    (bodies_to_come (u ∷ ts)) (bytes_to_come (u ∷ ts)) (start + length (bytes_of (u ∷ ts))) xs t e
+tile_least start ts xs t e = grind (arith, least_header, least_inside)

@@ -1,15 +1,15 @@
 -- What is at a place is what may come there.
-use Rattle.std.proofs.Common.{◌≡◌, ℕ, zero, suc, ◌+◌, ◌-◌, ◌<◌, Bool, true, false, cond, not, ◌&&◌, List, [], ◌∷◌, ◌++◌, length, Option}
-use Rattle.std.proofs.Common.{Some, None, nat_lt, nat_eq, refl, sym, ap, subst, ◌∙◌, arith, nat_le, take, drop, lt-ltb}
+use Rattle.std.proofs.Common.{◌≡◌, ℕ, zero, suc, ◌+◌, ◌<◌, Bool, true, false, cond, not, ◌&&◌, List, [], ◌∷◌, length, Option}
+use Rattle.std.proofs.Common.{None, nat_lt, refl, sym, subst, arith, nat_le, take, drop}
 use Rattle.std.specs.List.{list_all}
 use Rattle.wasm_grammar.specs.declared.encoding.Encoding.{Encoding}
 use Rattle.wasm_base.specs.FaultAt.{FaultAt}
-use Rattle.wasm_base.specs.Number.{Number, read, bad, short, number}
-use Rattle.wasm_grammar.specs.Content.{Kind, items, data_count, custom, index, code, unknown, rank_of, kind_of, Ending, when, whole}
+use Rattle.wasm_base.specs.Number.{Number, number}
+use Rattle.wasm_grammar.specs.Content.{Kind, code, rank_of, kind_of, Ending, when, whole}
 use Rattle.wasm_grammar.specs.Grammar.{Shape, version, section, code_start, code_entry, Tile, Verdict, tile, final, after, after_number}
 use Rattle.wasm_grammar.specs.Grammar.{SectionContext, Grammar, accept, reject, check, u32_field, bytes, section_start, verdict}
 use Rattle.wasm_grammar.specs.Grammar.{header_grammar, section_grammar, body_grammar, content_grammar, header_of}
-use Rattle.wasm_grammar.specs.Tiling.{bytes_of, grammar, context_of, tile_rank, bodies_to_come, bytes_to_come}
+use Rattle.wasm_grammar.specs.Tiling.{grammar, context_of, tile_rank}
 use Rattle.wasm_base.specs.declared.fault.NumberKind.TheVariants.{VarU32}
 use Rattle.wasm_grammar.proofs.parts.Verdicts.{after-tile}
 
@@ -28,36 +28,27 @@ each_after P f v t h e = let (s, r, q) = after-tile f v t e in subst (λ (x : Ti
 
 each_number : (P : Shape → Type 0) (o : ℕ) (xs : List ℕ) (n : Number) (next : ℕ → ℕ → Verdict) (t : Tile)
     → ((v k : ℕ) (s : Tile) → next v k ≡ tile s → P s.shape) → after_number o xs n next ≡ tile t → P t.shape
-each_number P o xs (read v k) next t h e = each_after P _ (next v k) t (h v k) e
-each_number P o xs (bad f p) next t h e = cc
-each_number P o xs short next t h e = cc
+each_number P o xs n next t v k = grind arith
 
 each_test : (P : Shape → Type 0) (b : Bool) (v : Verdict) (e : Ending) (t : Tile) → (v ≡ tile t → P t.shape) → cond b v (final e) ≡ tile t
     → P t.shape
-each_test P true v e t h w = h w
-each_test P false v e t h w = cc
+each_test P b v e t h w = grind arith
 
 each_test' : (P : Shape → Type 0) (b : Bool) (v : Verdict) (e : Ending) (t : Tile) → (v ≡ tile t → P t.shape) → cond b (final e) v ≡ tile t
     → P t.shape
-each_test' P true v e t h w = cc
-each_test' P false v e t h w = h w
+each_test' P b v e t h w = grind arith
 
 pub each_tile : (P : Shape → Type 0) (g : Grammar) → Each P g → (xs : List ℕ) (t : Tile) → verdict g xs ≡ tile t → P t.shape
 unfolding verdict
-each_tile P (accept s) h xs t e = let z : s ≡ t.shape = shape_is s t e in subst P z h
-  where
-    shape_is : (s : Shape) (t : Tile) → tile (record { shape = s; bytes = [] }) ≡ tile t → s ≡ t.shape
-    shape_is s t e = let z : record { shape = s; bytes = [] } ≡ t = cc in ap (λ (x : Tile). x.shape) z
-each_tile P (reject e) h xs t w = cc
-each_tile P (check (Some e) next) h xs t w = cc
+each_tile P (accept s) h xs t e = grind arith
 each_tile P (check None next) h xs t w = each_tile P next (h refl) xs t w
 each_tile P (u32_field o next) h xs t w = each_number P o xs (number VarU32 xs) (λ v k. verdict (next v k) (drop k xs)) t
     (λ v k. each_tile P (next v k) (h v k) (drop k xs)) w
 each_tile P (bytes n o next) h xs t w = each_test P (nat_le n (length xs)) _ _ t
     (each_after P (take n xs) (verdict (next (take n xs)) (drop n xs)) t (each_tile P (next (take n xs)) (h (take n xs)) (drop n xs))) w
-each_tile P (section_start o z next) h [] t w = cc
 each_tile P (section_start o z next) h (id ∷ xs) t w = each_test' P _ _ _ t
     (each_after P (id ∷ []) (verdict (next id) xs) t (each_tile P (next id) (h id) xs)) w
+each_tile P _ h _ t w = cc
 
 -- a section of this rank may follow
 abbrev pub Follows : SectionContext → ℕ → Type 0
@@ -67,22 +58,15 @@ Follows p r = (nat_lt 0 r && not (p.may_follow r)) ≡ false
 abbrev pub Placed : SectionContext → Shape → Type 0
 Placed p (section kind id content) = Follows p (rank_of (whole kind) id)
 Placed p (code_start count width size) = Follows p (rank_of code 10)
-Placed p (version num encoding) = ⊥
-Placed p (code_entry content) = ⊥
+Placed p _ = ⊥
 
 -- a test that finds nothing wrong fails
 pub none_when : (b : Bool) (e : FaultAt) → when b e ≡ None → b ≡ false
-none_when true e h = cc
-none_when false e h = refl
+none_when b e h = grind arith
 
 placed_content : (p : SectionContext) (kind : Kind) (id o n : ℕ) → Follows p (rank_of kind id)
     → Each (Placed p) (content_grammar p kind id o n)
-placed_content p (whole custom) id o n f = λ b x y. f
-placed_content p (whole items) id o n f = λ b x y. f
-placed_content p (whole index) id o n f = λ b x y. f
-placed_content p (whole data_count) id o n f = λ b x y. f
-placed_content p (whole unknown) id o n f = λ b x y. f
-placed_content p code id o n f = λ v k x y. f
+placed_content p kind id o n f = grind arith
 
 pub placed : (p : SectionContext) (o : ℕ) (xs : List ℕ) (t : Tile) → verdict (section_grammar p o) xs ≡ tile t → Placed p t.shape
 unfolding section_grammar
@@ -92,9 +76,7 @@ placed p o xs t e = each_tile (Placed p) (section_grammar p o)
 -- the tile is a body
 abbrev pub IsBody : Shape → Type 0
 IsBody (code_entry content) = Unit {0}
-IsBody (section kind id content) = ⊥
-IsBody (code_start count width size) = ⊥
-IsBody (version num encoding) = ⊥
+IsBody _ = ⊥
 
 pub bodied : (m l o : ℕ) (xs : List ℕ) (t : Tile) → verdict (body_grammar m l o) xs ≡ tile t → IsBody t.shape
 unfolding body_grammar
@@ -104,13 +86,10 @@ bodied (suc m) l o xs t e = each_tile IsBody (body_grammar (suc m) l o) (λ v k 
 -- the tile is a header
 abbrev pub IsHeader : Shape → Type 0
 IsHeader (version num encoding) = Unit {0}
-IsHeader (section kind id content) = ⊥
-IsHeader (code_start count width size) = ⊥
-IsHeader (code_entry content) = ⊥
+IsHeader _ = ⊥
 
 header_each : (o bits : ℕ) (e : Option Encoding) → Each IsHeader (header_of o bits e)
-header_each o bits (Some e) = tt
-header_each o bits None = tt
+header_each o bits e = grind arith
 
 pub headed : (o : ℕ) (xs : List ℕ) (t : Tile) → verdict (header_grammar o) xs ≡ tile t → IsHeader t.shape
 unfolding header_grammar
@@ -122,23 +101,16 @@ Fresh ts s = 0 < tile_rank s → list_all (λ (u : Tile). nat_lt (tile_rank u.sh
 
 -- where a section of a rank may follow, each tile ranks below it
 pub follows_all : (r : ℕ) (b : Bool) → (nat_lt 0 r && not b) ≡ false → 0 < r → b ≡ true
-follows_all r true e h = refl
-follows_all r false e h = let z : nat_lt 0 r ≡ true = lt-ltb 0 r h in absurd (true_false (rw z at e))
-  where
-    true_false : (true && not false) ≡ false → ⊥
-    true_false e = cc
+follows_all r b e h = grind arith
 
 fresh_placed : (ts : List Tile) (s : Shape) → Placed (context_of ts) s → Fresh ts s
-fresh_placed ts (section kind id content) f h = follows_all (rank_of (whole kind) id) _ f h
-fresh_placed ts (code_start count width size) f h = follows_all (rank_of code 10) _ f h
-fresh_placed ts (version num encoding) f h = absurd f
-fresh_placed ts (code_entry content) f h = absurd f
+fresh_placed ts (section kind id content) f h = grind arith
+fresh_placed ts (code_start count width size) f h = grind arith
+fresh_placed ts _ f h = absurd f
 
 fresh_body : (ts : List Tile) (s : Shape) → IsBody s → Fresh ts s
 fresh_body ts (code_entry content) f h = absurd (omega arith)
-fresh_body ts (section kind id content) f h = absurd f
-fresh_body ts (code_start count width size) f h = absurd f
-fresh_body ts (version num encoding) f h = absurd f
+fresh_body ts _ f h = absurd f
 
 fresh_at : (b : Bool) (ts : List Tile) (m l o : ℕ) (d : List ℕ) (t : Tile)
     → verdict (cond b (section_grammar (context_of ts) o) (body_grammar m l o)) d ≡ tile t → Fresh ts t.shape
@@ -147,5 +119,4 @@ fresh_at false ts m l o d t e = fresh_body ts t.shape (bodied m l o d t e)
 
 pub fresh : (start : ℕ) (ts : List Tile) (d : List ℕ) (t : Tile) → verdict (grammar start ts) d ≡ tile t → Fresh ts t.shape
 fresh start [] d t e = λ h. refl
-fresh start (u ∷ ts) d t e = fresh_at (nat_eq (bodies_to_come (u ∷ ts) + bytes_to_come (u ∷ ts)) 0) (u ∷ ts) (bodies_to_come (u ∷ ts))
-    (bytes_to_come (u ∷ ts)) (start + length (bytes_of (u ∷ ts))) d t e
+fresh start (u ∷ ts) d t e = search fresh_at

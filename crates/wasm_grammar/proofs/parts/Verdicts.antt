@@ -1,32 +1,26 @@
 -- Laws of every grammar.
-use Rattle.std.proofs.Common.{◌≡◌, ◌≢◌, ℕ, ◌-◌, ◌≤◌, Bool, true, false, cond, ◌&&◌, List, [], ◌∷◌, ◌++◌, length, take, drop, Some, None}
-use Rattle.std.proofs.Common.{nat_le, nat_eq, refl, sym, ap, subst, subst₂, true≢false, ◌∙◌, arith, length-append, leb-true, le-leb}
-use Rattle.std.proofs.Common.{append_assoc}
+use Rattle.std.proofs.Common.{◌≡◌, ◌≢◌, ℕ, ◌-◌, ◌≤◌, Bool, true, false, cond, ◌&&◌, List, [], ◌∷◌, ◌++◌, length, take, drop, None, nat_le}
+use Rattle.std.proofs.Common.{nat_eq, refl, sym, ap, true≢false, ◌∙◌, arith, length-append, leb-true, le-leb, append_assoc}
 use Rattle.std.proofs.lemmas.List.{take-append-le, drop-append-le, take-append-drop, take_at, drop_at, length-take-le}
 use Rattle.wasm_base.specs.FaultAt.{at_offset}
-use Rattle.wasm_base.specs.Number.{Number, read, bad, short, number}
+use Rattle.wasm_base.specs.Number.{Number, read, short, number}
 use Rattle.wasm_base.specs.Header.{magic, agree}
-use Rattle.wasm_grammar.specs.Grammar.{Tile, Verdict, tile, final, after, after_number, Grammar, accept, reject, check, u32_field, bytes}
+use Rattle.wasm_grammar.specs.Grammar.{Tile, Verdict, tile, final, after, after_number, Grammar, accept, check, u32_field, bytes}
 use Rattle.wasm_grammar.specs.Grammar.{section_start, verdict}
 use Rattle.wasm_grammar.specs.Content.{Ending, fault}
-use Rattle.wasm_grammar.specs.Waiting.{Waiting, enough, wants, later, later_number, waiting}
+use Rattle.wasm_grammar.specs.Waiting.{enough, wants, later, later_number, waiting}
 use Rattle.wasm_base.specs.declared.fault.NumberKind.TheVariants.{VarU32}
 use Rattle.wasm_base.specs.declared.fault.Fault.TheVariants.{UnexpectedEof, MagicAtSection}
 use Rattle.wasm_base.proofs.NumberLaws.{number-more, number-used, Used}
 
-pub later-enough : (k : ℕ) (w : Waiting) → later k w ≡ enough → w ≡ enough
-later-enough k enough e = refl
-later-enough k (wants n h) e = cc
-
 -- lists that don't agree still don't, whatever follows
 pub agree-more : (xs ys zs : List ℕ) → agree xs zs ≡ false → agree (xs ++ ys) zs ≡ false
-agree-more [] ys zs e = cc
-agree-more (x ∷ xs) ys [] e = cc
 agree-more (x ∷ xs) ys (z ∷ zs) e = and_false (nat_eq x z) (agree xs zs) (agree (xs ++ ys) zs) (agree-more xs ys zs) e
   where
     and_false : (t a b : Bool) → (a ≡ false → b ≡ false) → (t && a) ≡ false → (t && b) ≡ false
     and_false true a b f e = f e
     and_false false a b f e = refl
+agree-more _ ys _ e = cc
 
 number_more : (offset : ℕ) (xs ys : List ℕ) (next : ℕ → ℕ → Grammar)
     → ((v k : ℕ) (zs : List ℕ) → waiting (next v k) zs ≡ enough → verdict (next v k) (zs ++ ys) ≡ verdict (next v k) zs)
@@ -34,18 +28,7 @@ number_more : (offset : ℕ) (xs ys : List ℕ) (next : ℕ → ℕ → Grammar)
     → later_number n (λ v k. waiting (next v k) (drop k xs)) ≡ enough
     → after_number offset (xs ++ ys) (number VarU32 (xs ++ ys)) (λ v k. verdict (next v k) (drop k (xs ++ ys)))
     ≡ after_number offset xs n (λ v k. verdict (next v k) (drop k xs))
-number_more offset xs ys next ih (read v k) e w =
-    let u : Used VarU32 xs v k = number-used VarU32 xs v k e in
-    let ns : number VarU32 xs ≢ short = λ z. (cc) in
-    let m : number VarU32 (xs ++ ys) ≡ read v k = number-more VarU32 xs ys ns ∙ e in
-    let t : take k (xs ++ ys) ≡ take k xs = take-append-le k xs ys u.there in
-    let d : drop k (xs ++ ys) ≡ drop k xs ++ ys = drop-append-le k xs ys u.there in
-    rw m (rw (t, d) (ap (λ (x : Verdict). after (take k xs) x) (ih v k (drop k xs) (later-enough k _ w))))
-number_more offset xs ys next ih (bad f p) e w =
-    let ns : number VarU32 xs ≢ short = λ z. (cc) in
-    let m : number VarU32 (xs ++ ys) ≡ bad f p = number-more VarU32 xs ys ns ∙ e in
-    rw m
-number_more offset xs ys next ih short e w = cc
+number_more offset xs ys next v k zs n = grind (arith, number-used, number-more, take-append-le, drop-append-le)
 
 bytes_more : (count offset : ℕ) (xs ys : List ℕ) (next : List ℕ → Grammar)
     → ((b zs : List ℕ) → waiting (next b) zs ≡ enough → verdict (next b) (zs ++ ys) ≡ verdict (next b) zs)
@@ -59,8 +42,7 @@ bytes_more count offset xs ys next ih true e w =
     let m : count ≤ length (xs ++ ys) = omega (arith, length-append xs ys) in
     let t : take count (xs ++ ys) ≡ take count xs = take-append-le count xs ys l in
     let d : drop count (xs ++ ys) ≡ drop count xs ++ ys = drop-append-le count xs ys l in
-    rw (le-leb count (length (xs ++ ys)) m) (rw (t, d) (ap (λ (x : Verdict). after (take count xs) x)
-    (ih (take count xs) (drop count xs) (later-enough count _ w))))
+    grind arith
 bytes_more count offset xs ys next ih false e w = cc
 
 pub agree_same : (xs ys zs : List ℕ) → length zs ≤ length xs → agree (xs ++ ys) zs ≡ agree xs zs
@@ -86,16 +68,11 @@ start_more offset id xs ys next ih true true e f w =
     let g : agree (id ∷ (xs ++ ys)) magic ≡ true = agree_same (id ∷ xs) ys magic l ∙ e in
     rw (g, le-leb 4 (length (id ∷ (xs ++ ys))) m)
 start_more offset id xs ys next ih true false e f w = cc
-start_more offset id xs ys next ih false l e f w =
-    let g : agree (id ∷ (xs ++ ys)) magic ≡ false = agree-more (id ∷ xs) ys magic e in
-    rw g (ap (λ (x : Verdict). after (id ∷ []) x) (ih xs (later-enough 1 _ w)))
+start_more offset id xs ys next ih false l e f w = grind (arith, agree-more)
 
 -- what bytes that suffice decide stays so, whatever follows
 pub verdict-more : (g : Grammar) (xs ys : List ℕ) → waiting g xs ≡ enough → verdict g (xs ++ ys) ≡ verdict g xs
 unfolding verdict waiting
-verdict-more (accept s) xs ys w = refl
-verdict-more (reject e) xs ys w = refl
-verdict-more (check (Some e) next) xs ys w = refl
 verdict-more (check None next) xs ys w = verdict-more next xs ys w
 verdict-more (u32_field offset next) xs ys w =
     number_more offset xs ys next (λ v k zs. verdict-more (next v k) zs ys) (number VarU32 xs) refl w
@@ -104,13 +81,13 @@ verdict-more (bytes count offset next) xs ys w =
 verdict-more (section_start offset e next) [] ys w = cc
 verdict-more (section_start offset e next) (id ∷ xs) ys w =
     start_more offset id xs ys next (λ zs. verdict-more (next id) zs ys) (agree (id ∷ xs) magic) (nat_le 4 (length (id ∷ xs))) refl refl w
+verdict-more _ xs ys w = refl
 
 -- What a tile is does not wait, and depends on its bytes alone.
 
 pub after-tile : (prefix : List ℕ) (v : Verdict) (t : Tile) → after prefix v ≡ tile t → (s : Tile) × (v ≡ tile s)
     × (t ≡ record s { bytes = prefix ++ s.bytes })
-after-tile prefix (tile s) t e = (s, refl, cc)
-after-tile prefix (final f) t e = cc
+after-tile prefix v t e = grind arith
 
 -- what the verdict `tile t` on bytes says: t has the first of them, and no other byte mattered
 pub record Cut (g : Grammar) (xs : List ℕ) (t : Tile) : Type 0 where
@@ -142,10 +119,9 @@ number_cut offset xs next ih (read v k) e t w =
     let u : Used VarU32 xs v k = number-used VarU32 xs v k e in
     let (s, r, q) = after-tile (take k xs) (verdict (next v k) (drop k xs)) t w in
     let j : Cut (u32_field offset next) (take k xs ++ drop k xs) (record s { bytes = take k xs ++ s.bytes }) =
-    number_join offset next v k (take k xs) (drop k xs) s (length-take-le k xs u.there) u.alone (ih v k (drop k xs) s r) in
-    subst₂ (λ (x : List ℕ) (y : Tile). Cut (u32_field offset next) x y) (take-append-drop k xs) (sym q) j
-number_cut offset xs next ih (bad f p) e t w = cc
-number_cut offset xs next ih short e t w = cc
+    search (number_join, length-take-le) in
+    grind (arith, take-append-drop)
+number_cut offset xs next ih _ e t w = cc
 
 bytes_join : (count offset : ℕ) (next : List ℕ → Grammar) (f zs : List ℕ) (s : Tile) → length f ≡ count
     → Cut (next f) zs s → Cut (bytes count offset next) (f ++ zs) (record s { bytes = f ++ s.bytes })
@@ -169,29 +145,18 @@ bytes_cut : (count offset : ℕ) (xs : List ℕ) (next : List ℕ → Grammar)
 bytes_cut count offset xs next ih true e t w =
     let (s, r, q) = after-tile (take count xs) (verdict (next (take count xs)) (drop count xs)) t w in
     let j : Cut (bytes count offset next) (take count xs ++ drop count xs) (record s { bytes = take count xs ++ s.bytes }) =
-    bytes_join count offset next (take count xs) (drop count xs) s (length-take-le count xs (leb-true _ _ e))
-    (ih (take count xs) (drop count xs) s r) in
-    subst₂ (λ (x : List ℕ) (y : Tile). Cut (bytes count offset next) x y) (take-append-drop count xs) (sym q) j
+    grind (arith, bytes_join, length-take-le) in
+    grind (arith, take-append-drop)
 bytes_cut count offset xs next ih false e t w = cc
 
 -- a tile whose bytes begin as a header does is longer than the magic
 abbrev pub Guarded : Grammar → Type 0
-Guarded (accept s) = Unit {0}
-Guarded (reject e) = Unit {0}
 Guarded (check e next) = Guarded next
 Guarded (u32_field offset next) = (v k : ℕ) → Guarded (next v k)
 Guarded (bytes count offset next) = (b : List ℕ) → Guarded (next b)
 Guarded (section_start offset e next) = (id : ℕ) → Guarded (next id)
     × ((xs : List ℕ) (s : Tile) → verdict (next id) xs ≡ tile s → agree (id ∷ s.bytes) magic ≡ true → 4 ≤ length (id ∷ s.bytes))
-
-agree_prefix : (xs ys zs : List ℕ) → agree (xs ++ ys) zs ≡ true → agree xs zs ≡ true
-agree_prefix [] ys zs e = refl
-agree_prefix (x ∷ xs) ys [] e = refl
-agree_prefix (x ∷ xs) ys (z ∷ zs) e = both (nat_eq x z) (agree (xs ++ ys) zs) (agree xs zs) (agree_prefix xs ys zs) e
-  where
-    both : (t a b : Bool) → (a ≡ true → b ≡ true) → (t && a) ≡ true → (t && b) ≡ true
-    both true a b f e = f e
-    both false a b f e = e
+Guarded _ = Unit {0}
 
 start_join : (offset : ℕ) (z : Ending) (next : ℕ → Grammar) (id : ℕ) (zs : List ℕ) (s : Tile) (b : Bool) → agree (id ∷ s.bytes) magic ≡ b
     → (b ≡ true → 4 ≤ length (id ∷ s.bytes)) → ((agree (id ∷ zs) magic && nat_le 4 (length (id ∷ zs))) ≡ false)
@@ -202,12 +167,12 @@ start_join offset z next id zs s true e g m c =
     let n : 4 ≤ length (id ∷ (s.bytes ++ c.rest)) = omega (arith, length-append s.bytes c.rest) in
     let a : agree (id ∷ (s.bytes ++ c.rest)) magic ≡ true = agree_same (id ∷ s.bytes) c.rest magic l ∙ e in
     let m' : (agree (id ∷ (s.bytes ++ c.rest)) magic && nat_le 4 (length (id ∷ (s.bytes ++ c.rest))))
-    ≡ false = subst (λ (x : List ℕ). (agree (id ∷ x) magic && nat_le 4 (length (id ∷ x))) ≡ false) c.split m in
-    let k : true ≡ false = rw (a, le-leb 4 (length (id ∷ (s.bytes ++ c.rest))) n) at m' in
+    ≡ false = cc in
+    let k : true ≡ false = grind arith in
     absurd (true≢false k)
 start_join offset z next id zs s false e g m c = record {
   rest = c.rest;
-  split = ap (λ (x : List ℕ). id ∷ x) c.split;
+  split = rw c.split;
   waits = rw e (rw c.waits refl);
   alone = rw e (rw c.alone refl);
 }
@@ -219,11 +184,7 @@ start_cut : (offset : ℕ) (z : Ending) (next : ℕ → Grammar) (id : ℕ) (xs 
     → cond b (final (fault (at_offset MagicAtSection offset))) (after (id ∷ []) (verdict (next id) xs)) ≡ tile t
     → Cut (section_start offset z next) (id ∷ xs) t
 start_cut offset z next id xs ih g true e t w = cc
-start_cut offset z next id xs ih g false e t w =
-    let (s, r, q) = after-tile (id ∷ []) (verdict (next id) xs) t w in
-    let j : Cut (section_start offset z next) (id ∷ xs) (record s { bytes = id ∷ s.bytes }) =
-    start_join offset z next id xs s (agree (id ∷ s.bytes) magic) refl (g s r) e (ih s r) in
-    subst (λ (y : Tile). Cut (section_start offset z next) (id ∷ xs) y) (sym q) j
+start_cut offset z next id xs ih g false e t w = grind (arith, start_join)
 
 -- a tile has the first of the bytes, and no other byte matters to it
 pub verdict-cut : (g : Grammar) → Guarded g → (xs : List ℕ) (t : Tile) → verdict g xs ≡ tile t → Cut g xs t
@@ -231,9 +192,7 @@ unfolding verdict waiting
 verdict-cut (accept s) gd xs t w =
     let c : Cut (accept s) xs (record { shape = s; bytes = [] }) = record { rest = xs; split = refl; waits = refl; alone = refl } in
     let e : record { shape = s; bytes = [] } ≡ t = cc in
-    subst (λ (y : Tile). Cut (accept s) xs y) e c
-verdict-cut (reject e) gd xs t w = cc
-verdict-cut (check (Some e) next) gd xs t w = cc
+    rw e at c
 verdict-cut (check None next) gd xs t w =
     let c : Cut next xs t = verdict-cut next gd xs t w in
     record { rest = c.rest; split = c.split; waits = c.waits; alone = c.alone }
@@ -241,7 +200,7 @@ verdict-cut (u32_field offset next) gd xs t w = number_cut offset xs next (λ v 
     w
 verdict-cut (bytes count offset next) gd xs t w = bytes_cut count offset xs next (λ b. verdict-cut (next b) (gd b))
     (nat_le count (length xs)) refl t w
-verdict-cut (section_start offset z next) gd [] t w = cc
 verdict-cut (section_start offset z next) gd (id ∷ xs) t w =
     start_cut offset z next id xs (verdict-cut (next id) ((gd id).0) xs) ((gd id).1 xs)
     (agree (id ∷ xs) magic && nat_le 4 (length (id ∷ xs))) refl t w
+verdict-cut _ gd _ t w = cc

@@ -1,21 +1,19 @@
 -- As many bodies follow the start of a code section as it counts, or a fault comes first.
-use Rattle.std.proofs.Common.{◌≡◌, ℕ, zero, suc, ◌+◌, ◌-◌, ◌<◌, ◌⊎◌, inl, inr, Bool, true, false, cond, List, [], ◌∷◌, ◌++◌, length, Some}
+use Rattle.std.proofs.Common.{◌≡◌, ℕ, zero, suc, ◌+◌, ◌-◌, ◌<◌, ◌⊎◌, inl, inr, Bool, true, false, cond, List, [], ◌∷◌, ◌++◌, length}
 use Rattle.std.proofs.Common.{nat_eq, refl, sym, ap, subst, ◌∙◌, arith, length-append, append_assoc, eqb-true}
 use Rattle.std.specs.List.{All}
 use Rattle.std.proofs.lemmas.List.{append_cancel_left}
 use Rattle.std.proofs.lemmas.List.Elements.{All-nil, All-push}
-use Rattle.wasm_base.specs.Name.{Name, named, refused, name_limit, name}
 use Rattle.wasm_base.specs.Window.{Window}
-use Rattle.wasm_grammar.specs.Content.{custom, items, index, data_count, unknown, Ending, fault, ended, Form}
+use Rattle.wasm_grammar.specs.Content.{Ending, fault, ended}
 use Rattle.wasm_grammar.specs.Grammar
 use Rattle.wasm_grammar.specs.Grammar.{Shape, section, Tile, tile, final, SectionContext, verdict, section_grammar, body_grammar}
-use Rattle.wasm_grammar.specs.Reading.{code_start, code_entry, Event, custom_report, section_report, tile_report, event_of, stream_end}
-use Rattle.wasm_grammar.specs.Reading.{last_event, events_of}
+use Rattle.wasm_grammar.specs.Reading.{code_start, code_entry, Event, tile_report, event_of, stream_end, last_event, events_of}
 use Rattle.wasm_grammar.specs.SectionLaws.{BodiesFollowTheirCount}
 use Rattle.wasm_grammar.specs.Sections.{ReportsBody, ReportsFault, BodiesFollow}
-use Rattle.wasm_grammar.specs.Tiling.{bytes_of, context_of, grammar, bodies_to_come, bytes_to_come, bodies_after, Faultless}
+use Rattle.wasm_grammar.specs.Tiling.{bytes_of, context_of, grammar, bodies_to_come, bytes_to_come, Faultless}
 use Rattle.wasm_grammar.proofs.readings.Endings.{inside_end}
-use Rattle.wasm_grammar.proofs.parts.Placed.{Placed, placed, IsBody, IsHeader, headed}
+use Rattle.wasm_grammar.proofs.parts.Placed.{placed, IsBody, IsHeader, headed}
 use Rattle.wasm_grammar.proofs.PlainLists.{split_last}
 use Rattle.wasm_grammar.proofs.accepted.Parts.{BodyParts, body_parts}
 
@@ -31,8 +29,7 @@ split_end {X} xs earlier later x y e = elim (split_last xs earlier later x y e) 
     tail_same a b xs ys e = cc
 
     at_end : earlier ≡ xs → y ≡ x → later ≡ []
-    at_end p q = sym (tail_same x y [] later (append_cancel_left earlier (x ∷ []) (y ∷ later)
-        (subst (λ (l : List X). l ++ x ∷ [] ≡ earlier ++ y ∷ later) (sym p) e)))
+    at_end p q = sym (grind (arith, append_cancel_left))
 
     before_end : (more : List X) → xs ≡ earlier ++ y ∷ more → later ≡ more ++ x ∷ []
     before_end more p = sym (tail_same y y (more ++ x ∷ []) later (append_cancel_left earlier (y ∷ (more ++ x ∷ [])) (y ∷ later)
@@ -40,69 +37,11 @@ split_end {X} xs earlier later x y e = elim (split_last xs earlier later x y e) 
 
 -- ---- which reports are a start or a body
 
-start_in_custom : (features from to : ℕ) (content : List ℕ) (n : Name) (count a b size : ℕ) → custom_report features from to content n
-    ≡ code_start count a b size → ⊥
-start_in_custom features from to content (named text used) count a b size e = cc
-start_in_custom features from to content (refused f place) count a b size e = cc
-
-start_in_section : (features from to : ℕ) (kind : Form) (id : ℕ) (content : List ℕ) (count a b size : ℕ)
-    → section_report features from to kind id content ≡ code_start count a b size → ⊥
-start_in_section features from to custom id content count a b size e =
-    start_in_custom features from to content (name (Some name_limit) content) count a b size e
-start_in_section features from to items id content count a b size e = cc
-start_in_section features from to index id content count a b size e = cc
-start_in_section features from to data_count id content count a b size e = cc
-start_in_section features from to unknown id content count a b size e = cc
-
--- the tile of a start misses the bodies that are reported
-start_misses : (features low high old : ℕ) (s : Shape) (count from to size : ℕ) → tile_report features low high s
-    ≡ code_start count from to size → bodies_after s old ≡ count
-start_misses features low high old (Grammar.version num encoding) count from to size e = cc
-start_misses features low high old (section kind id content) count from to size e =
-    absurd (start_in_section features _ _ kind id content count from to size e)
-start_misses features low high old (Grammar.code_start n width code_bytes) count from to size e = cc
-start_misses features low high old (Grammar.code_entry content) count from to size e = cc
-
-no_start : (end : Ending) (count from to size : ℕ) → stream_end end ≡ code_start count from to size → ⊥
-no_start (fault f) count from to size e = cc
-no_start (ended o) count from to size e = cc
-
-body_in_custom : (features from to : ℕ) (content : List ℕ) (n : Name) (w : Window) → custom_report features from to content n ≡ code_entry w
-    → ⊥
-body_in_custom features from to content (named text used) w e = cc
-body_in_custom features from to content (refused f place) w e = cc
-
--- what is reported of a section is no body
-pub body_in_section : (features from to : ℕ) (kind : Form) (id : ℕ) (content : List ℕ) (w : Window)
-    → section_report features from to kind id content ≡ code_entry w → ⊥
-body_in_section features from to custom id content w e = body_in_custom features from to content (name (Some name_limit) content) w e
-body_in_section features from to items id content w e = cc
-body_in_section features from to index id content w e = cc
-body_in_section features from to data_count id content w e = cc
-body_in_section features from to unknown id content w e = cc
-
--- only a body's tile is reported as a body
-report_body : (features low high : ℕ) (s : Shape) (w : Window) → tile_report features low high s ≡ code_entry w → IsBody s
-report_body features low high (section kind id content) w e = absurd (body_in_section features _ _ kind id content w e)
-report_body features low high (Grammar.code_start n width code_bytes) w e = cc
-report_body features low high (Grammar.version num encoding) w e = cc
-report_body features low high (Grammar.code_entry content) w e = tt
-
-placed_apart : (p : SectionContext) (s : Shape) → Placed p s → IsBody s → ⊥
-placed_apart p (section kind id content) q b = b
-placed_apart p (Grammar.code_start n width code_bytes) q b = b
-placed_apart p (Grammar.version num encoding) q b = b
-placed_apart p (Grammar.code_entry content) q b = q
-
 header_apart : (s : Shape) → IsHeader s → IsBody s → ⊥
-header_apart (section kind id content) q b = b
-header_apart (Grammar.code_start n width code_bytes) q b = b
-header_apart (Grammar.version num encoding) q b = b
-header_apart (Grammar.code_entry content) q b = q
+header_apart s q b = grind arith
 
 no_last : (end : Ending) (w : Window) → stream_end end ≡ code_entry w → ⊥
-no_last (fault f) w e = cc
-no_last (ended o) w e = cc
+no_last end w e = cc
 
 -- ---- after a start
 
@@ -133,34 +72,18 @@ shut_more count after e s = record {
   many = s.many;
 }
 
--- a tile that is no body after all bodies
-shuts : (features low count : ℕ) (t : Tile) (ts : List Tile) (after : List Event) → (IsBody t.shape → ⊥) → bodies_to_come ts ≡ 0
-    → Open ts count after → Shut count (after ++ event_of features low t ∷ [])
-shuts features low count t ts after n z s = record {
-  bodies = after;
-  next = event_of features low t;
-  later = [];
-  whole = refl;
-  each = s.each;
-  other = λ q. n (report_body features low (low + length t.bytes) t.shape q.0 q.1);
-  many = omega (arith, s.misses);
-}
-
 -- a tile more after the bodies so far
 open_more : (start features : ℕ) (u : Tile) (ts : List Tile) (t : Tile) (count : ℕ) (after : List Event) (b : Bool)
     → nat_eq (bodies_to_come (u ∷ ts) + bytes_to_come (u ∷ ts)) 0 ≡ b → (o : ℕ)
     → verdict (cond b (section_grammar (context_of (u ∷ ts)) o) (body_grammar (bodies_to_come (u ∷ ts)) (bytes_to_come (u ∷ ts)) o)) t.bytes
     ≡ tile t → Open (u ∷ ts) count after
     → (Open (t ∷ u ∷ ts) count (after ++ event_of features o t ∷ [])) ⊎ Shut count (after ++ event_of features o t ∷ [])
-open_more start features u ts t count after true z o e s =
-    let p : Placed (context_of (u ∷ ts)) t.shape = placed (context_of (u ∷ ts)) o t.bytes t e in
-    let n : bodies_to_come (u ∷ ts) + bytes_to_come (u ∷ ts) ≡ 0 = eqb-true _ _ z in
-    inr (shuts features o count t (u ∷ ts) after (placed_apart (context_of (u ∷ ts)) t.shape p) (omega arith) s)
+open_more start features u ts t count after true z o e s = grind (arith, placed)
 open_more start features u ts t count after false z o e s =
     let p : BodyParts (bodies_to_come (u ∷ ts)) (bytes_to_come (u ∷ ts)) t =
-    body_parts (bodies_to_come (u ∷ ts)) (bytes_to_come (u ∷ ts)) o t.bytes t e in
+    search body_parts in
     let h : t.shape ≡ Grammar.code_entry p.content = ap (λ (x : Tile). x.shape) p.is in
-    let l : bodies_to_come (t ∷ u ∷ ts) ≡ bodies_to_come (u ∷ ts) - 1 = ap (λ (x : Shape). bodies_after x (bodies_to_come (u ∷ ts))) h in
+    let l : bodies_to_come (t ∷ u ∷ ts) ≡ bodies_to_come (u ∷ ts) - 1 = rw h in
     inl (record {
       each = All-push ReportsBody after (event_of features o t) s.each (_, ap (tile_report features o (o + length t.bytes)) h);
       misses = omega (arith, s.misses, p.missing, length-append after (event_of features o t ∷ []));
@@ -176,7 +99,7 @@ follows start features [] f before after e count from to size z c = absurd (no_s
     no_split (x ∷ before) z = cc
 follows start features (t ∷ ts) f before after e count from to size z c =
     elim (split_end (events_of start features ts) before after (event_of features (start + length (bytes_of ts)) t) e z) [
-      | inl q ↦ inl (started t ts (start + length (bytes_of ts)) q.0 q.1)
+      | inl q ↦ inl (grind arith)
       | inr q ↦ subst (λ (l : List Event). Open (t ∷ ts) count l ⊎ Shut count l) (sym q.2)
           (more t ts f q.0 (follows start features ts f.0 before q.0 e count from to size q.1 c))
     ]
@@ -184,15 +107,14 @@ follows start features (t ∷ ts) f before after e count from to size z c =
     started : (t : Tile) (ts : List Tile) (o : ℕ) → e ≡ event_of features o t → after ≡ [] → Open (t ∷ ts) count after
     started t ts o q n =
         let m : bodies_to_come (t ∷ ts)
-        ≡ count = start_misses features o (o + length t.bytes) (bodies_to_come ts) t.shape count from to size
-        (ap (λ (x : Event). x.report) (sym q) ∙ c) in
+        ≡ count = grind arith in
         subst (Open (t ∷ ts) count) (sym n) (record { each = All-nil ReportsBody; misses = omega arith })
 
     more : (t : Tile) (ts : List Tile) → Faultless start (t ∷ ts) → (l : List Event) → Open ts count l ⊎ Shut count l
         → Open (t ∷ ts) count (l ++ event_of features (start + length (bytes_of ts)) t ∷ [])
         ⊎ Shut count (l ++ event_of features (start + length (bytes_of ts)) t ∷ [])
     more t ts f l (inr s) = inr (shut_more count l _ s)
-    more t [] f l (inl s) = inr (shuts features (start + 0) count t [] l (header_apart t.shape (headed start t.bytes t f.1)) refl s)
+    more t [] f l (inl s) = inr (grind (arith, header_apart, headed))
     more t (u ∷ ts) f l (inl s) = open_more start features u ts t count l (nat_eq (bodies_to_come (u ∷ ts) + bytes_to_come (u ∷ ts)) 0) refl
         (start + length (bytes_of (u ∷ ts))) f.1 s
 
@@ -239,9 +161,9 @@ shut_follow count after s = record {
 pub bodies_follow : BodiesFollowTheirCount
 bodies_follow stream start features events before after e count from to size r z c =
     elim (split_end (events_of start features r.tiles) before after (last_event r.end) e (sym r.listed ∙ z)) [
-      | inl q ↦ absurd (no_start r.end count from to size (ap (λ (x : Event). x.report) (sym q.0) ∙ c))
+      | inl q ↦ absurd (cc)
       | inr q ↦ subst (BodiesFollow count) (sym q.2) (all_of q.0
-          (follows start features r.tiles r.reads.faultless before q.0 e count from to size q.1 c))
+          (search follows))
     ]
   where
     all_of : (l : List Event) → Open r.tiles count l ⊎ Shut count l → BodiesFollow count (l ++ last_event r.end ∷ [])

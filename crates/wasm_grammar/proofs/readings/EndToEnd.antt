@@ -1,28 +1,24 @@
 -- Events lie end to end.
-use Rattle.std.proofs.Common.{◌≡◌, ℕ, zero, suc, ◌+◌, ◌-◌, ◌≤◌, Bool, true, false, cond, ◌&&◌, List, [], ◌∷◌, ◌++◌, length, take, drop}
-use Rattle.std.proofs.Common.{Option, Some, None, nat_lt, nat_le, nat_eq, refl, sym, ap, subst, ◌∙◌, arith, le_refl, length-append}
-use Rattle.std.proofs.Common.{append-nil, append_assoc}
-use Rattle.std.specs.List.{list_any}
+use Rattle.std.proofs.Common.{◌≡◌, ℕ, ◌+◌, ◌-◌, ◌≤◌, Bool, cond, ◌&&◌, List, [], ◌∷◌, ◌++◌, length, take, drop, Some, None, nat_le, refl}
+use Rattle.std.proofs.Common.{sym, ap, subst, ◌∙◌, arith, length-append, append-nil, append_assoc}
 use Rattle.std.proofs.lemmas.List.{length-take-le, take_at, drop_at}
 use Rattle.std.proofs.lemmas.Grind.{flat_map-append}
-use Rattle.wasm_base.specs.FaultAt.{FaultAt, at_offset}
+use Rattle.wasm_base.specs.FaultAt.{at_offset}
 use Rattle.wasm_base.specs.Header.{magic, agree}
-use Rattle.wasm_base.specs.Name.{Name, named, refused, name_limit, name, of_four}
-use Rattle.wasm_base.specs.Number.{Number, read, bad, short, number}
+use Rattle.wasm_base.specs.Name.{Name, name_limit, name}
+use Rattle.wasm_base.specs.Number.{Number, number}
 use Rattle.wasm_base.specs.declared.fault.Fault.TheVariants.{UnexpectedEof, MagicAtSection}
 use Rattle.wasm_base.specs.declared.fault.NumberKind.TheVariants.{VarU32}
-use Rattle.wasm_base.proofs.NumberLaws.{Used, number-used}
-use Rattle.wasm_base.specs.Window.{window_over}
-use Rattle.wasm_grammar.specs.Content.{Kind, custom, items, index, data_count, code, unknown, kind_of, Ending, fault, ended, Form, whole}
+use Rattle.wasm_base.proofs.NumberLaws.{number-used}
+use Rattle.wasm_grammar.specs.Content.{Kind, custom, items, unknown, kind_of, Ending, fault, ended, Form}
 use Rattle.wasm_grammar.specs.Grammar.{Shape, version, section, code_start, code_entry, Tile, Verdict, tile, final, Grammar, accept, reject}
-use Rattle.wasm_grammar.specs.Grammar.{check, u32_field, bytes, section_start, after, after_number, verdict, SectionContext, header_of}
-use Rattle.wasm_grammar.specs.Grammar.{header_grammar, end_at_section, content_grammar, section_grammar, body_grammar}
+use Rattle.wasm_grammar.specs.Grammar.{check, u32_field, bytes, section_start, after, after_number, verdict, SectionContext}
+use Rattle.wasm_grammar.specs.Grammar.{header_grammar, content_grammar, section_grammar, body_grammar}
 use Rattle.wasm_grammar.specs.Laws.{EventsLieEndToEnd}
 use Rattle.wasm_grammar.specs.Reading.{Event, custom_report, section_report, tile_report, event_of, stream_end, last_event, events_of}
 use Rattle.wasm_grammar.specs.Reading.{Reads}
-use Rattle.wasm_grammar.specs.EventRanges.{consumed_by, IsPart, LiesIn, LiesBetween, AtOffsets, EndToEnd}
-use Rattle.wasm_grammar.specs.Tiling.{context_of, grammar, bodies_to_come, bytes_to_come, bytes_of, Faultless}
-use Rattle.wasm_grammar.specs.declared.encoding.Encoding.{Encoding}
+use Rattle.wasm_grammar.specs.EventRanges.{consumed_by, LiesIn, LiesBetween, AtOffsets, EndToEnd}
+use Rattle.wasm_grammar.specs.Tiling.{grammar, bytes_of, Faultless}
 use Rattle.wasm_grammar.proofs.readings.Endings.{header_end, inside_end}
 use Rattle.wasm_grammar.proofs.parts.Verdicts.{after-tile}
 use Rattle.wasm_grammar.proofs.parts.Places.{name_used}
@@ -50,85 +46,66 @@ closes_after : (passed prefix : List ℕ) (v : Verdict) (t : Tile)
     → Closes t.shape (passed ++ t.bytes)
 closes_after passed prefix v t ih h =
     let (s, r, q) = after-tile prefix v t h in
-    let c : Closes s.shape (passed ++ (prefix ++ s.bytes)) = subst (Closes s.shape) (append_assoc passed prefix s.bytes) (ih s r) in
-    subst (λ (x : Tile). Closes x.shape (passed ++ x.bytes)) (sym q) c
+    let c : Closes s.shape (passed ++ (prefix ++ s.bytes)) = rw (append_assoc passed prefix s.bytes) at (ih s r) in
+    rw q c
 
 closes_number : (passed : List ℕ) (o : ℕ) (xs : List ℕ) (next : ℕ → ℕ → Grammar) (t : Tile)
     → ((v k : ℕ) (b zs : List ℕ) (s : Tile) → length b ≡ k → verdict (next v k) zs ≡ tile s → Closes s.shape ((passed ++ b) ++ s.bytes))
     → (n : Number) → number VarU32 xs ≡ n → after_number o xs n (λ v k. verdict (next v k) (drop k xs)) ≡ tile t
     → Closes t.shape (passed ++ t.bytes)
-closes_number passed o xs next t ih (read v k) e h =
-    let u : Used VarU32 xs v k = number-used VarU32 xs v k e in
-    closes_after passed (take k xs) (verdict (next v k) (drop k xs)) t
-    (λ s r. ih v k (take k xs) (drop k xs) s (length-take-le k xs u.there) r) h
-closes_number passed o xs next t ih (bad g p) e h = cc
-closes_number passed o xs next t ih short e h = cc
+closes_number passed o xs next t ih n e h = grind (arith, number-used, closes_after, length-take-le)
 
 closes_bytes : (passed : List ℕ) (count : ℕ) (xs : List ℕ) (next : List ℕ → Grammar) (t : Tile) (e : Ending)
     → ((b zs : List ℕ) (s : Tile) → verdict (next b) zs ≡ tile s → Closes s.shape ((passed ++ b) ++ s.bytes))
     → (b : Bool) → cond b (after (take count xs) (verdict (next (take count xs)) (drop count xs))) (final e) ≡ tile t
     → Closes t.shape (passed ++ t.bytes)
-closes_bytes passed count xs next t e ih true h = closes_after passed (take count xs) (verdict (next (take count xs)) (drop count xs)) t
-    (ih (take count xs) (drop count xs)) h
-closes_bytes passed count xs next t e ih false h = cc
+closes_bytes passed count xs next t e ih b h = grind (arith, closes_after)
 
 closes_start : (passed : List ℕ) (id : ℕ) (v : Verdict) (t : Tile) (e : Ending)
     → ((s : Tile) → v ≡ tile s → Closes s.shape ((passed ++ id ∷ []) ++ s.bytes))
     → (b : Bool) → cond b (final e) (after (id ∷ []) v) ≡ tile t → Closes t.shape (passed ++ t.bytes)
-closes_start passed id v t e ih true h = cc
-closes_start passed id v t e ih false h = closes_after passed (id ∷ []) v t ih h
+closes_start passed id v t e ih b h = grind (arith, closes_after)
 
 closes : (passed : List ℕ) (g : Grammar) (xs : List ℕ) (t : Tile) → Closing passed g → verdict g xs ≡ tile t
     → Closes t.shape (passed ++ t.bytes)
 unfolding verdict
 closes passed (accept shape) xs t c h =
     let z : record { shape = shape; bytes = [] } ≡ t = cc in
-    subst (λ (x : Tile). Closes x.shape (passed ++ x.bytes)) z (subst (Closes shape) (sym (append-nil passed)) c)
-closes passed (reject e) xs t c h = cc
-closes passed (check (Some e) next) xs t c h = cc
+    rw (← z) (subst (Closes shape) (sym (append-nil passed)) c)
 closes passed (check None next) xs t c h = closes passed next xs t c h
 closes passed (u32_field o next) xs t c h =
     closes_number passed o xs next t (λ v k b zs s l. closes (passed ++ b) (next v k) zs s (c v k b l)) (number VarU32 xs) refl h
 closes passed (bytes count o next) xs t c h =
     closes_bytes passed count xs next t (fault (at_offset UnexpectedEof o)) (λ b zs s. closes (passed ++ b) (next b) zs s (c b))
     (nat_le count (length xs)) h
-closes passed (section_start o e next) [] t c h = cc
 closes passed (section_start o e next) (id ∷ xs) t c h =
     closes_start passed id (verdict (next id) xs) t (fault (at_offset MagicAtSection o))
     (λ s. closes (passed ++ id ∷ []) (next id) xs s (c id)) (agree (id ∷ xs) magic && nat_le 4 (length (id ∷ xs))) h
+closes passed _ _ t c h = cc
 
 Closing-code : (passed : List ℕ) (k : ℕ) (b : List ℕ) → length b ≡ k → k ≤ length (passed ++ b)
 Closing-code passed k b e = omega (arith, length-append passed b)
 
 Closing-content : (passed : List ℕ) (p : SectionContext) (kind : Kind) (id o n : ℕ) → Closing passed (content_grammar p kind id o n)
-Closing-content passed p (whole form) id o n = λ b. (passed, refl)
-Closing-content passed p code id o n = λ v k b e. Closing-code passed k b e
+Closing-content passed p kind id o n = grind (arith, Closing-code)
 
 Closing-section : (p : SectionContext) (o : ℕ) → Closing [] (section_grammar p o)
 unfolding section_grammar
 Closing-section p o = λ id size width b e. Closing-content (id ∷ b) p (kind_of p.encoding id) id (o + 1 + width) size
 
-Closing-header_of : (passed : List ℕ) (o bits : ℕ) (e : Option Encoding) → Closing passed (header_of o bits e)
-Closing-header_of passed o bits (Some e) = tt
-Closing-header_of passed o bits None = tt
-
 Closing-header : (o : ℕ) → Closing [] (header_grammar o)
 unfolding header_grammar
-Closing-header o = λ a b. Closing-header_of (a ++ b) o (of_four b) _
+Closing-header o = grind arith
 
 Closing-body : (m l o : ℕ) → Closing [] (body_grammar m l o)
 unfolding body_grammar
-Closing-body zero l o = tt
-Closing-body (suc m) l o = λ v k b e content. (b, refl)
+Closing-body m l o = grind arith
 
 Closing-inside : (b : Bool) (p : SectionContext) (m l o : ℕ) → Closing [] (cond b (section_grammar p o) (body_grammar m l o))
-Closing-inside true p m l o = Closing-section p o
-Closing-inside false p m l o = Closing-body m l o
+Closing-inside b p m l o = grind (arith, Closing-section, Closing-body)
 
 Closing-grammar : (start : ℕ) (ts : List Tile) → Closing [] (grammar start ts)
-Closing-grammar start [] = Closing-header start
-Closing-grammar start (t ∷ ts) = Closing-inside (nat_eq (bodies_to_come (t ∷ ts) + bytes_to_come (t ∷ ts)) 0) (context_of (t ∷ ts))
-    (bodies_to_come (t ∷ ts)) (bytes_to_come (t ∷ ts)) (start + length (bytes_of (t ∷ ts)))
+Closing-grammar start ts = grind (arith, Closing-header, Closing-inside)
 
 -- a tile's bytes end with its content
 pub tile_closes : (start : ℕ) (ts : List Tile) (xs : List ℕ) (t : Tile) → verdict (grammar start ts) xs ≡ tile t → Closes t.shape t.bytes
@@ -140,25 +117,9 @@ tile_closes start ts xs t h = closes [] (grammar start ts) xs t (Closing-grammar
 abbrev pub IsEndAt : (o : ℕ) (rest : List ℕ) (x : ℕ) → Type 0
 IsEndAt o rest x = (rest ≡ []) × (x ≡ o)
 
-ended_same : (x y : ℕ) → (let e : Ending = ended x in e) ≡ ended y → y ≡ x
-ended_same x y e = cc
-
-end_is : (a b : Bool) (o x : ℕ) (e f : FaultAt) → cond a (fault e) (cond b (fault f) (ended o)) ≡ ended x → x ≡ o
-end_is true b o x e f h = cc
-end_is false true o x e f h = cc
-end_is false false o x e f h = ended_same o x h
-
-end_report : (p : SectionContext) (o x : ℕ) → end_at_section p o ≡ ended x → x ≡ o
-end_report p o x h = end_is (list_any (nat_lt 0) p.functions && nat_eq (length p.codes) 0)
-    (list_any (nat_lt 0) p.data_counts && nat_eq (length p.datas) 0) o x _ _ h
-
 end_at : (start : ℕ) (ts : List Tile) (xs : List ℕ) (x : ℕ) → verdict (grammar start ts) xs ≡ final (ended x)
     → IsEndAt (start + length (bytes_of ts)) xs x
-end_at start [] xs x h = absurd (header_end start xs x h)
-end_at start (t ∷ ts) xs x h =
-    let e = inside_end (nat_eq (bodies_to_come (t ∷ ts) + bytes_to_come (t ∷ ts)) 0) (context_of (t ∷ ts)) (bodies_to_come (t ∷ ts))
-    (bytes_to_come (t ∷ ts)) (start + length (bytes_of (t ∷ ts))) xs x h in
-    (e.1, end_report (context_of (t ∷ ts)) (start + length (bytes_of (t ∷ ts))) x e.2)
+end_at start ts xs x h = grind (arith, header_end, inside_end)
 
 -- a reading that doesn't stop at a fault ends after the whole stream
 pub ends_after_all : (stream : List ℕ) (start : ℕ) (ts : List Tile) (x : ℕ) → Reads stream start ts (ended x) → (x ≡ start + length stream)
@@ -166,7 +127,7 @@ pub ends_after_all : (stream : List ℕ) (start : ℕ) (ts : List Tile) (x : ℕ
 ends_after_all stream start ts x r =
     let (none, z) = end_at start ts r.rest x r.stops in
     let w : stream ≡ bytes_of ts = r.whole ∙ (ap (λ (y : List ℕ). bytes_of ts ++ y) none ∙ append-nil (bytes_of ts)) in
-    (z ∙ ap (λ (y : List ℕ). start + length y) (sym w), z)
+    grind arith
 
 -- ---- one event
 
@@ -184,53 +145,34 @@ placed stream earlier prefix content rest start low high w l h =
     let m : length (earlier ++ prefix) ≡ length earlier + length prefix = length-append earlier prefix in
     let z : length (earlier ++ prefix) ≡ high - length content - start = omega arith in
     let s : stream ≡ (earlier ++ prefix) ++ (content ++ rest) = w ∙ simp append_assoc refl in
-    let d : drop (high - length content - start) stream ≡ content ++ rest = ap (drop (high - length content - start)) s
-    ∙ drop_at (earlier ++ prefix) (content ++ rest) (high - length content - start) z in
+    let d : drop (high - length content - start) stream ≡ content ++ rest = grind (arith, drop_at) in
     record {
       after_start = omega arith;
       above = omega arith;
       ends = omega arith;
-      part = ap (take (length content)) d ∙ take_at content rest (length content) refl;
+      part = grind (arith, take_at);
     }
-
--- a window over content
-part_is : (stream : List ℕ) (start low high : ℕ) (content : List ℕ) (features : ℕ) → Placed stream start low high content
-    → IsPart stream start features (window_over features (high - length content) content)
-part_is stream start low high content features p = record { has = refl; after = p.after_start; bytes = p.part; unread = refl }
 
 range_is : (stream : List ℕ) (start low high : ℕ) (content : List ℕ) → Placed stream start low high content
     → LiesIn (high - length content) ((high - length content) + length content) low high
-range_is stream start low high content p = let z : (high - length content) + length content
-    ≡ high = p.ends in record { above = p.above; order = omega arith; below = omega arith }
+range_is stream start low high content p = grind arith
 
 whole_range : (stream : List ℕ) (start low high : ℕ) (content : List ℕ) → Placed stream start low high content
     → LiesIn (high - length content) high low high
-whole_range stream start low high content p = let z : (high - length content) + length content
-    ≡ high = p.ends in record { above = p.above; order = omega arith; below = le_refl high }
+whole_range stream start low high content p = grind arith
 
 custom_lies : (stream : List ℕ) (start low high features : ℕ) (content : List ℕ) (n : Name) → name (Some name_limit) content ≡ n
     → Placed stream start low high content → LiesBetween stream start features low high
     (custom_report features (high - length content) high content n)
-custom_lies stream start low high features content (named text used) e p =
-    let u : used ≤ length content = name_used (Some name_limit) content text used e in
-    let z : (high - length content) + length content ≡ high = p.ends in (
-      part_is stream start low high content features p,
-      range_is stream start low high content p,
-      p.ends,
-      record { above = omega arith; order = omega arith; below = le_refl high },
-    )
-custom_lies stream start low high features content (refused g i) e p = (whole_range stream start low high content p, refl, p.part, p.ends)
+custom_lies stream start low high features content n e p = grind (arith, name_used)
 
 section_lies : (stream : List ℕ) (start low high features : ℕ) (kind : Form) (id : ℕ) (content : List ℕ)
     → Placed stream start low high content → LiesBetween stream start features low high
     (section_report features (high - length content) high kind id content)
-section_lies stream start low high features custom id content p =
-    custom_lies stream start low high features content (name (Some name_limit) content) refl p
-section_lies stream start low high features items id content p =
-    (part_is stream start low high content features p, range_is stream start low high content p, p.ends)
-section_lies stream start low high features index id content p = (whole_range stream start low high content p, refl)
-section_lies stream start low high features data_count id content p = (whole_range stream start low high content p, refl)
+section_lies stream start low high features custom id content p = search custom_lies
+section_lies stream start low high features items id content p = grind arith
 section_lies stream start low high features unknown id content p = (whole_range stream start low high content p, refl, p.part, p.ends)
+section_lies stream start low high features _ id content p = (whole_range stream start low high content p, refl)
 
 lies_between : (stream earlier passed rest : List ℕ) (start low high features : ℕ) (shape : Shape) → stream ≡ earlier ++ (passed ++ rest)
     → low ≡ start + length earlier → high ≡ low + length passed → Closes shape passed
@@ -238,14 +180,14 @@ lies_between : (stream earlier passed rest : List ℕ) (start low high features 
 lies_between stream earlier passed rest start low high features (version num encoding) w l h c = (refl, refl)
 lies_between stream earlier passed rest start low high features (section kind id content) w l h (before, c) =
     section_lies stream start low high features kind id content
-    (placed stream earlier before content rest start low high (w ∙ ap (λ (x : List ℕ). earlier ++ (x ++ rest)) c) l
+    (placed stream earlier before content rest start low high (cc) l
     (h ∙ ap (λ (x : List ℕ). low + length x) c))
 lies_between stream earlier passed rest start low high features (code_start count width size) w l h c =
-    (record { above = omega arith; order = omega arith; below = le_refl high }, refl)
+    omega arith
 lies_between stream earlier passed rest start low high features (code_entry content) w l h (before, c) =
     let p : Placed stream start low high content = placed stream earlier before content rest start low high
-    (w ∙ ap (λ (x : List ℕ). earlier ++ (x ++ rest)) c) l (h ∙ ap (λ (x : List ℕ). low + length x) c) in
-    (part_is stream start low high content features p, range_is stream start low high content p, p.ends)
+    (cc) l (h ∙ ap (λ (x : List ℕ). low + length x) c) in
+    search range_is
 
 -- ---- all events
 
@@ -272,10 +214,9 @@ tiles_lie stream start features (t ∷ ts) rest f w =
     let z : stream ≡ bytes_of ts ++ (t.bytes ++ rest) = w ∙ append_assoc (bytes_of ts) t.bytes rest in
     at_offsets_more (λ low e. LiesBetween stream start features low (low + length e.consumed) e.report) start (events_of start features ts)
     (event_of features (start + length (bytes_of ts)) t) (start + length (bytes_of ts))
-    (ap (λ (l : List ℕ). start + length l) (sym (tiles_consume start features ts)))
+    (search tiles_consume)
     (tiles_lie stream start features ts (t.bytes ++ rest) f.0 z)
-    (lies_between stream (bytes_of ts) t.bytes rest start (start + length (bytes_of ts)) (start + length (bytes_of ts) + length t.bytes)
-    features t.shape z refl refl (tile_closes start ts t.bytes t f.1))
+    (search (lies_between, tile_closes))
 
 last_lies : (stream : List ℕ) (start features : ℕ) (ts : List Tile) (end : Ending) → Reads stream start ts end
     → LiesBetween stream start features (start + length (bytes_of ts)) (start + length (bytes_of ts) + 0) (stream_end end)
@@ -287,8 +228,8 @@ pub events_lie_end_to_end : EventsLieEndToEnd
 events_lie_end_to_end stream start features ts end r =
     let n : consumed_by (events_of start features ts) ≡ bytes_of ts = tiles_consume start features ts in (
       at_offsets_more (λ low e. LiesBetween stream start features low (low + length e.consumed) e.report) start
-          (events_of start features ts) (last_event end) (start + length (bytes_of ts)) (ap (λ (l : List ℕ). start + length l) (sym n))
-          (tiles_lie stream start features ts r.rest r.faultless r.whole)
+          (events_of start features ts) (last_event end) (start + length (bytes_of ts)) (rw (sym n))
+          (grind (arith, tiles_lie))
           (last_lies stream start features ts end r),
       consumed_more (events_of start features ts) (last_event end) ∙ (append-nil (consumed_by (events_of start features ts)) ∙ n),
     )

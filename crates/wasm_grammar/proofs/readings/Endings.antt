@@ -3,23 +3,22 @@ use Rattle.std.proofs.Common.{◌≡◌, ℕ, zero, suc, ◌+◌, Bool, true, fa
 use Rattle.std.proofs.Common.{nat_le, refl}
 use Rattle.wasm_base.specs.FaultAt.{FaultAt, at_offset}
 use Rattle.wasm_base.specs.Header.{magic, agree}
-use Rattle.wasm_base.specs.Number.{Number, read, bad, short, number}
+use Rattle.wasm_base.specs.Number.{Number, read, number}
 use Rattle.wasm_base.specs.declared.fault.Fault.TheVariants.{MagicAtSection, UnexpectedEof}
 use Rattle.wasm_base.specs.declared.fault.NumberKind.TheVariants.{VarU32}
 use Rattle.wasm_grammar.specs.declared.encoding.Encoding.{Encoding}
 use Rattle.wasm_grammar.specs.Content.{Kind, code, kind_of, Ending, fault, ended, whole}
-use Rattle.wasm_grammar.specs.Grammar.{Verdict, tile, final, after, after_number, SectionContext, Grammar, accept, reject, check, u32_field}
+use Rattle.wasm_grammar.specs.Grammar.{Verdict, tile, final, after, after_number, SectionContext, Grammar, check, u32_field}
 use Rattle.wasm_grammar.specs.Grammar.{bytes, section_start, verdict, header_of, header_grammar, end_at_section, section_grammar}
 use Rattle.wasm_grammar.specs.Grammar.{body_grammar, content_grammar, after_id}
 
 -- the stream doesn't end within this
 abbrev pub NoEnd : Grammar → Type 0
-NoEnd (accept s) = Unit {0}
-NoEnd (reject e) = Unit {0}
 NoEnd (check e next) = NoEnd next
 NoEnd (u32_field o next) = (v k : ℕ) → NoEnd (next v k)
 NoEnd (bytes n o next) = (b : List ℕ) → NoEnd (next b)
 NoEnd (section_start o e next) = ⊥
+NoEnd _ = Unit {0}
 
 -- how a stream ends after bytes of a tile is how it ends there
 pub after_final : (prefix : List ℕ) (v : Verdict) (e : Ending) → after prefix v ≡ final e → v ≡ final e
@@ -30,8 +29,7 @@ after_final prefix (final x) e h = h
 end_number : (o : ℕ) (xs : List ℕ) (n : Number) (next : ℕ → ℕ → Verdict) (p : ℕ) → ((v k : ℕ) → next v k ≡ final (ended p) → ⊥)
     → after_number o xs n next ≡ final (ended p) → ⊥
 end_number o xs (read v k) next p h e = h v k (after_final _ (next v k) (ended p) e)
-end_number o xs (bad f q) next p h e = cc
-end_number o xs short next p h e = cc
+end_number o xs _ next p h e = cc
 
 -- no end after so many bytes, if there is none in what follows
 end_test : (b : Bool) (f : List ℕ) (v : Verdict) (x : FaultAt) (p : ℕ) → (v ≡ final (ended p) → ⊥) → cond b (after f v) (final (fault x))
@@ -42,15 +40,13 @@ end_test false f v x p h e = cc
 -- what has no end within doesn't end
 no_end : (g : Grammar) → NoEnd g → (d : List ℕ) (p : ℕ) → verdict g d ≡ final (ended p) → ⊥
 unfolding verdict
-no_end (accept s) h d p e = cc
-no_end (reject x) h d p e = cc
-no_end (check (Some x) next) h d p e = cc
 no_end (check None next) h d p e = no_end next h d p e
 no_end (u32_field o next) h d p e = end_number o d (number VarU32 d) (λ v k. verdict (next v k) (drop k d)) p
     (λ v k. no_end (next v k) (h v k) (drop k d) p) e
 no_end (bytes n o next) h d p e = end_test (nat_le n (length d)) (take n d) (verdict (next (take n d)) (drop n d))
     (at_offset UnexpectedEof o) p (no_end (next (take n d)) (h (take n d)) (drop n d) p) e
 no_end (section_start o e next) h d p z = h
+no_end _ h d p e = cc
 
 -- no end within a section's content
 no_end_content : (p : SectionContext) (k : Kind) (id o n : ℕ) → NoEnd (content_grammar p k id o n)

@@ -1,5 +1,5 @@
 -- The event that comes next in a reading.
-use Rattle.std.proofs.Common.{◌≡◌, ℕ, ◌+◌, ◌<◌, ◌≤◌, List, [], ◌∷◌, ◌++◌, length, refl, sym, ap, ◌∙◌, arith, length-append, append_assoc}
+use Rattle.std.proofs.Common.{◌≡◌, ℕ, ◌+◌, ◌<◌, List, [], ◌∷◌, ◌++◌, length, refl, sym, ap, ◌∙◌, arith, length-append, append_assoc}
 use Rattle.std.proofs.Common.{append-nil, inl, inr}
 use Rattle.std.proofs.lemmas.List.{append_cancel_left}
 use Rattle.std.specs.Prelude.{◌⊎◌}
@@ -40,12 +40,12 @@ same_place : (xs before : List Event) (x e : Event) (after later : List Event) �
 same_place [] [] x e after later h l w c = (same_head e x later after w).0
 same_place [] (b ∷ before) x e after later h (inl l) w c =
     let s = same_head b x (before ++ e ∷ later) after w in
-    let n : length (b.consumed ++ consumed_by before) ≡ 0 = ap (λ (y : List ℕ). length y) c in
-    let z : length b.consumed ≡ length x.consumed = ap (λ (y : Event). length y.consumed) s.0 in
+    let n : length (b.consumed ++ consumed_by before) ≡ 0 = rw c in
+    let z : length b.consumed ≡ length x.consumed = rw s.0 in
     absurd (omega (arith, length-append b.consumed (consumed_by before)))
 same_place [] (b ∷ before) x e after later h (inr l) w c =
     let s = same_head b x (before ++ e ∷ later) after w in
-    let n : length (before ++ e ∷ later) ≡ 0 = ap (λ (y : List Event). length y) (s.1 ∙ l) in
+    let n : length (before ++ e ∷ later) ≡ 0 = rw (s.1 ∙ l) in
     absurd (omega (arith, length-append before (e ∷ later)))
 same_place (y ∷ xs) [] x e after later h l w c =
     let n : 0 ≡ length (y.consumed ++ consumed_by xs) = ap (λ (z : List ℕ). length z) c in
@@ -53,9 +53,8 @@ same_place (y ∷ xs) [] x e after later h l w c =
     absurd (omega (arith, length-append y.consumed (consumed_by xs)))
 same_place (y ∷ xs) (b ∷ before) x e after later h l w c =
     let s = same_head b y (before ++ e ∷ later) (xs ++ x ∷ after) w in
-    let z : b.consumed ≡ y.consumed = ap (λ (v : Event). v.consumed) s.0 in
-    let d : consumed_by before ≡ consumed_by xs = append_cancel_left y.consumed (consumed_by before) (consumed_by xs)
-    (ap (λ (v : List ℕ). v ++ consumed_by before) (sym z) ∙ c) in
+    let z : b.consumed ≡ y.consumed = rw s.0 in
+    let d : consumed_by before ≡ consumed_by xs = grind (arith, append_cancel_left) in
     same_place xs before x e after later h.1 l s.1 d
 
 -- ---- the events of longer tilings
@@ -111,8 +110,7 @@ end_comes : (start features : ℕ) (ts : List Tile) (rest : List ℕ) (end : End
 end_comes start features ts rest end f v before later e r c =
     let here : Reads (bytes_of ts ++ rest) start ts end = record { rest = rest; whole = refl; faultless = f; stops = v } in
     let z = reads_same (bytes_of ts ++ rest) start r.tiles ts r.end end r.reads here in
-    let all : before ++ e ∷ later ≡ events_of start features ts ++ last_event end ∷ [] = r.listed
-    ∙ (λ i. events_of start features (z.0 i) ++ last_event (z.1 i) ∷ []) in
+    let all : before ++ e ∷ later ≡ events_of start features ts ++ last_event end ∷ [] = cc in
     same_place (events_of start features ts) before (last_event end) e [] later (tiles_each start features ts f) (inr refl) all
     (c ∙ sym (tiles_consume start features ts))
 

@@ -1,11 +1,11 @@
 -- Laws of tilings and readings.
-use Rattle.std.proofs.Common.{◌≡◌, ℕ, zero, suc, ◌+◌, ◌<◌, ◌≤◌, List, [], ◌∷◌, ◌++◌, length, refl, sym, ap, subst, subst₂, ◌∙◌, arith}
+use Rattle.std.proofs.Common.{◌≡◌, ℕ, zero, suc, ◌+◌, ◌<◌, ◌≤◌, List, [], ◌∷◌, ◌++◌, length, refl, sym, ap, subst, ◌∙◌, arith}
 use Rattle.std.proofs.Common.{length-append, append-nil, append_assoc, le_refl}
 use Rattle.std.proofs.lemmas.List.{append_cancel_left}
 use Rattle.wasm_grammar.specs.Content.{Ending, ended}
 use Rattle.wasm_grammar.specs.Grammar.{Tile, Verdict, tile, final, verdict}
 use Rattle.wasm_grammar.specs.Tiling.{bytes_of, grammar, Faultless}
-use Rattle.wasm_grammar.specs.Reading.{Reads, Reading, Event, events_of, last_event}
+use Rattle.wasm_grammar.specs.Reading.{Reads, Reading, Event}
 use Rattle.wasm_grammar.proofs.parts.Verdicts.{Cut, verdict-more, verdict-cut}
 use Rattle.wasm_grammar.proofs.parts.Guarded.{Guarded-grammar, tile_least}
 
@@ -22,14 +22,8 @@ pub record Grown (start : ℕ) (ts : List Tile) (d : List ℕ) (t : Tile) : Type
 pub grows : (start : ℕ) (ts : List Tile) (d : List ℕ) (t : Tile) → Faultless start ts → verdict (grammar start ts) d ≡ tile t
     → Grown start ts d t
 grows start ts d t f e =
-    let c : Cut (grammar start ts) d t = verdict-cut (grammar start ts) (Guarded-grammar start ts) d t e in
-    record {
-      faultless = (f, c.alone);
-      rest = c.rest;
-      split = c.split;
-      some = tile_least start ts d t e;
-      stays = λ more. verdict-more (grammar start ts) t.bytes more c.waits ∙ c.alone;
-    }
+    let c : Cut (grammar start ts) d t = search (verdict-cut, Guarded-grammar) in
+    search (tile_least, verdict-more)
 
 -- the tiles from one place on, in the order of the stream, and the ending
 abbrev pub Runs : (start : ℕ) → List Tile → List ℕ → List Tile → Ending → Type 0
@@ -61,18 +55,15 @@ runs_from start (t ∷ ts) stream rest later e f w r =
 
 runs_same : (start : ℕ) (ts : List Tile) (d : List ℕ) (xs ys : List Tile) (e f : Ending) → Runs start ts d xs e → Runs start ts d ys f
     → (xs ≡ ys) × (e ≡ f)
-runs_same start ts d [] [] e f p q = (refl, ending_same e f (sym p ∙ q))
-  where
-    ending_same : (e f : Ending) → final e ≡ final f → e ≡ f
-    ending_same e f h = cc
+runs_same start ts d [] [] e f p q = grind arith
 runs_same start ts d [] (y ∷ ys) e f p q = let h : final e ≡ tile y = sym p ∙ q.0 in cc
 runs_same start ts d (x ∷ xs) [] e f p q = let h : tile x ≡ final f = sym p.0 ∙ q in cc
 runs_same start ts d (x ∷ xs) (y ∷ ys) e f p q =
     let h : tile x ≡ tile y = sym p.0 ∙ q.0 in
     let z : x ≡ y = cc in
-    let b : x.bytes ++ p.1 ≡ x.bytes ++ q.1 = sym p.2 ∙ (q.2 ∙ ap (λ (t : Tile). t.bytes ++ q.1) (sym z)) in
+    let b : x.bytes ++ p.1 ≡ x.bytes ++ q.1 = cc in
     let r : q.1 ≡ p.1 = sym (append_cancel_left x.bytes p.1 q.1 b) in
-    let q' : Runs start (x ∷ ts) p.1 ys f = subst₂ (λ (t : Tile) (m : List ℕ). Runs start (t ∷ ts) m ys f) (sym z) r q.3 in
+    let q' : Runs start (x ∷ ts) p.1 ys f = grind arith in
     let (s, k) = runs_same start (x ∷ ts) p.1 xs ys e f p.3 q' in
     (cc, k)
 
@@ -80,22 +71,17 @@ runs_same start ts d (x ∷ xs) (y ∷ ys) e f p q =
 pub reads_same : (stream : List ℕ) (start : ℕ) (ts us : List Tile) (e f : Ending) → Reads stream start ts e → Reads stream start us f
     → (ts ≡ us) × (e ≡ f)
 reads_same stream start ts us e f p q =
-    let a : Runs start [] stream (onto ts []) e = runs_from start ts stream p.rest [] e p.faultless p.whole p.stops in
-    let b : Runs start [] stream (onto us []) f = runs_from start us stream q.rest [] f q.faultless q.whole q.stops in
+    let a : Runs start [] stream (onto ts []) e = search runs_from in
+    let b : Runs start [] stream (onto us []) f = search runs_from in
     let (s, k) = runs_same start [] stream (onto ts []) (onto us []) e f a b in
-    (sym (onto-onto ts []) ∙ (ap (λ (x : List Tile). onto x []) s ∙ onto-onto us []), k)
+    (sym (onto-onto ts []) ∙ (grind (arith, onto-onto)), k)
 
 -- a reading is determined
 pub reading_same : (stream : List ℕ) (start features : ℕ) (xs ys : List Event) → Reading stream start features xs
     → Reading stream start features ys → xs ≡ ys
 reading_same stream start features xs ys p q =
     let (s, k) = reads_same stream start p.tiles q.tiles p.end q.end p.reads q.reads in
-    p.listed ∙ (ap₂' p.tiles q.tiles p.end q.end s k ∙ sym q.listed)
-  where
-    ap₂' : (ts us : List Tile) (e f : Ending) → ts ≡ us → e ≡ f → events_of start features ts ++ last_event e ∷ []
-        ≡ events_of start features us ++ last_event f ∷ []
-    ap₂' ts us e f s k = subst₂ (λ (x : List Tile) (y : Ending). events_of start features ts ++ last_event e ∷ []
-        ≡ events_of start features x ++ last_event y ∷ []) s k refl
+    cc
 
 -- a reading whose tiles begin with these
 pub record Onward (stream : List ℕ) (start : ℕ) (first : List Tile) : Type 0 where

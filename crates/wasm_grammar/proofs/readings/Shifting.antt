@@ -1,23 +1,14 @@
 -- The start offset only moves offsets.
-use Rattle.std.proofs.Common.{◌≡◌, ℕ, zero, suc, ◌+◌, ◌-◌, ◌^◌, Bool, true, false, cond, ◌&&◌, not, List, [], ◌∷◌, ◌++◌, length, take, drop}
-use Rattle.std.proofs.Common.{Option, Some, None, option_map, nat_lt, nat_le, nat_eq, ◌⊎◌, inl, inr, refl, sym, ap, subst, subst₂, ◌∙◌}
-use Rattle.std.proofs.Common.{arith, length-append, ltb-true, ltb-false}
-use Rattle.std.specs.List.{list_all, list_any}
+use Rattle.std.proofs.Common.{◌≡◌, ℕ, zero, suc, ◌+◌, ◌-◌, Bool, cond, ◌&&◌, not, List, [], ◌∷◌, ◌++◌, length, take, drop, Option, Some}
+use Rattle.std.proofs.Common.{None, option_map, nat_lt, nat_le, nat_eq, ◌⊎◌, inl, refl, ap, subst, subst₂, ◌∙◌, arith, length-append}
 use Rattle.std.proofs.lemmas.List.{map-append}
-use Rattle.std.proofs.lemmas.Option.{same_Some}
 use Rattle.wasm_base.specs.FaultAt.{FaultAt, at_offset}
 use Rattle.wasm_base.specs.Header.{magic, agree}
-use Rattle.wasm_base.specs.Name.{Name, named, refused, name_limit, name, of_four}
-use Rattle.wasm_base.specs.Number.{Number, read, bad, short, number}
-use Rattle.wasm_base.specs.declared.fault.Fault.{Fault}
-use Rattle.wasm_base.specs.declared.fault.Fault.TheVariants.{UnexpectedEof, MagicAtSection, SectionTooLarge, StartContent, DataCountContent}
-use Rattle.wasm_base.specs.declared.fault.Fault.TheVariants.{UnknownVersion, OutOfOrder, MalformedSectionId, BadMagic, FunctionCodeDiffer}
-use Rattle.wasm_base.specs.declared.fault.Fault.TheVariants.{CodeWithoutFunction, FunctionWithoutCode, DataCountWithoutData}
-use Rattle.wasm_base.specs.declared.fault.Fault.TheVariants.{DataCountDiffer}
+use Rattle.wasm_base.specs.Name.{of_four}
+use Rattle.wasm_base.specs.Number.{Number, number}
+use Rattle.wasm_base.specs.declared.fault.Fault.TheVariants.{UnexpectedEof, MagicAtSection, SectionTooLarge, MalformedSectionId, BadMagic}
 use Rattle.wasm_base.specs.declared.fault.NumberKind.TheVariants.{VarU32}
-use Rattle.wasm_base.specs.Window.{window_over}
-use Rattle.wasm_grammar.specs.Content.{Kind, custom, items, index, data_count, code, unknown, kind_of, rank_of, Ending, fault, ended, when}
-use Rattle.wasm_grammar.specs.Content.{wrong_number, wrong_single, wrong_name, wrong_content, Form, whole}
+use Rattle.wasm_grammar.specs.Content.{Kind, code, kind_of, Ending, fault, when, wrong_content, Form, whole}
 use Rattle.wasm_grammar.specs.Grammar
 use Rattle.wasm_grammar.specs.Grammar.{Shape, section, Tile, Verdict, tile, final, Grammar, accept, reject, check, u32_field, bytes}
 use Rattle.wasm_grammar.specs.Grammar.{section_start, after, after_number, verdict, SectionContext, header_of, version_of, header_grammar}
@@ -25,8 +16,7 @@ use Rattle.wasm_grammar.specs.Grammar.{end_at_section, wrong_count, code_grammar
 use Rattle.wasm_grammar.specs.Grammar.{after_id, section_grammar, body_of, body_grammar}
 use Rattle.wasm_grammar.specs.Laws.{StartOnlyMoves}
 use Rattle.wasm_grammar.specs.Shifted.{shifted_fault, shifted_ending, shifted_report, shifted_event, shifted_events, PassesTheTop}
-use Rattle.wasm_grammar.specs.Reading.{code_start, code_entry, custom_section, custom_report, section_report, tile_report, event_of}
-use Rattle.wasm_grammar.specs.Reading.{last_event, events_of, Reads}
+use Rattle.wasm_grammar.specs.Reading.{section_report, tile_report, event_of, last_event, events_of, Reads}
 use Rattle.wasm_grammar.specs.Tiling.{inside, context_of, grammar, bodies_to_come, bytes_to_come, bytes_of, Faultless}
 use Rattle.wasm_grammar.specs.declared.encoding.Encoding.{Encoding}
 use Rattle.wasm_grammar.proofs.readings.EndToEnd.{Closes, tile_closes}
@@ -64,182 +54,64 @@ StopsAtTheTop (final e) = PassesTheTop e
 abbrev Moves : ℕ → Verdict → Verdict → Type 0
 Moves by v w = (w ≡ moved_verdict by v) ⊎ StopsAtTheTop w
 
-after_moved : (prefix : List ℕ) (by : ℕ) (v : Verdict) → after prefix (moved_verdict by v) ≡ moved_verdict by (after prefix v)
-after_moved prefix by (tile t) = refl
-after_moved prefix by (final e) = refl
-
-after_top : (prefix : List ℕ) (w : Verdict) → StopsAtTheTop w → StopsAtTheTop (after prefix w)
-after_top prefix (tile t) s = s
-after_top prefix (final e) s = s
-
-after_moves : (prefix : List ℕ) (by : ℕ) (v w : Verdict) → Moves by v w → Moves by (after prefix v) (after prefix w)
-after_moves prefix by v w (inl p) = inl (ap (after prefix) p ∙ after_moved prefix by v)
-after_moves prefix by v w (inr s) = inr (after_top prefix w s)
-
-moved_same : (kind : Fault) (o p by : ℕ) → at_offset kind (o + by + p) ≡ shifted_fault by (at_offset kind (o + p))
-moved_same kind o p by = ap (at_offset kind) (omega arith)
-
 refuse_moves : (by : ℕ) (e f : Option FaultAt) (next then : Grammar) (xs : List ℕ) → MovesFault by e f
     → Moves by (verdict next xs) (verdict then xs) → Moves by (verdict (check e next) xs) (verdict (check f then) xs)
 unfolding verdict
-refuse_moves by (Some e) (Some f) next then xs (inl z) ih = inl (ap (λ (x : FaultAt). final (fault x)) (same_Some f (shifted_fault by e) z))
-refuse_moves by (Some e) (Some f) next then xs (inr s) ih = inr s
-refuse_moves by (Some e) None next then xs (inl z) ih = cc
-refuse_moves by (Some e) None next then xs (inr s) ih = absurd s
-refuse_moves by None (Some f) next then xs (inl z) ih = cc
-refuse_moves by None (Some f) next then xs (inr s) ih = inr s
-refuse_moves by None None next then xs m ih = ih
+refuse_moves by e f next then xs m ih = grind arith
 
 number_moves : (by o : ℕ) (next then : ℕ → ℕ → Grammar) (xs : List ℕ)
     → ((v k : ℕ) (zs : List ℕ) → Moves by (verdict (next v k) zs) (verdict (then v k) zs))
     → (n : Number) → Moves by (after_number o xs n (λ v k. verdict (next v k) (drop k xs)))
     (after_number (o + by) xs n (λ v k. verdict (then v k) (drop k xs)))
-number_moves by o next then xs ih (read v k) = after_moves (take k xs) by
-    (verdict (next v k) (drop k xs)) (verdict (then v k) (drop k xs)) (ih v k (drop k xs))
-number_moves by o next then xs ih (bad kind p) = inl (ap (λ (x : FaultAt). final (fault x)) (moved_same kind o p by))
-number_moves by o next then xs ih short = inl (ap (λ (x : FaultAt). final (fault x)) (moved_same UnexpectedEof o (length xs) by))
+number_moves by o next then xs ih n = grind arith
 
 bytes_move : (by o : ℕ) (prefix : List ℕ) (v w : Verdict) → Moves by v w → (b : Bool)
     → Moves by (cond b (after prefix v) (final (fault (at_offset UnexpectedEof o))))
     (cond b (after prefix w) (final (fault (at_offset UnexpectedEof (o + by)))))
-bytes_move by o prefix v w m true = after_moves prefix by v w m
-bytes_move by o prefix v w m false = inl refl
+bytes_move by o prefix v w m b = grind arith
 
 start_moves : (by o id : ℕ) (v w : Verdict) → Moves by v w → (b : Bool)
     → Moves by (cond b (final (fault (at_offset MagicAtSection o))) (after (id ∷ []) v))
     (cond b (final (fault (at_offset MagicAtSection (o + by)))) (after (id ∷ []) w))
-start_moves by o id v w m true = inl refl
-start_moves by o id v w m false = after_moves (id ∷ []) by v w m
+start_moves by o id v w m b = grind arith
 
 verdict_moves : (by : ℕ) (g h : Grammar) (xs : List ℕ) → Like by g h → Moves by (verdict g xs) (verdict h xs)
 unfolding verdict
-verdict_moves by (accept shape) h xs l = inl (ap (λ (x : Grammar). verdict x xs) l)
-verdict_moves by (reject e) h xs l = inl (ap (λ (x : Grammar). verdict x xs) l)
 verdict_moves by (check e next) h xs (f, then, z, m, l) =
-    subst (λ (x : Grammar). Moves by (verdict (check e next) xs) (verdict x xs)) (sym z)
-    (refuse_moves by e f next then xs m (verdict_moves by next then xs l))
+    rw z (refuse_moves by e f next then xs m (verdict_moves by next then xs l))
 verdict_moves by (u32_field o next) h xs (then, z, l) =
-    subst (λ (x : Grammar). Moves by (verdict (u32_field o next) xs) (verdict x xs)) (sym z)
-    (number_moves by o next then xs (λ v k zs. verdict_moves by (next v k) (then v k) zs (l v k)) (number VarU32 xs))
+    rw z (number_moves by o next then xs (λ v k zs. verdict_moves by (next v k) (then v k) zs (l v k)) (number VarU32 xs))
 verdict_moves by (bytes count o next) h xs (then, z, l) =
-    subst (λ (x : Grammar). Moves by (verdict (bytes count o next) xs) (verdict x xs)) (sym z)
-    (bytes_move by o (take count xs) (verdict (next (take count xs)) (drop count xs)) (verdict (then (take count xs)) (drop count xs))
+    rw z (bytes_move by o (take count xs) (verdict (next (take count xs)) (drop count xs)) (verdict (then (take count xs)) (drop count xs))
     (verdict_moves by (next (take count xs)) (then (take count xs)) (drop count xs) (l (take count xs))) (nat_le count (length xs)))
-verdict_moves by (section_start o e next) h [] (then, z, l) =
-    subst (λ (x : Grammar). Moves by (verdict (section_start o e next) []) (verdict x [])) (sym z) (inl refl)
+verdict_moves by (section_start o e next) h [] (then, z, l) = grind arith
 verdict_moves by (section_start o e next) h (id ∷ xs) (then, z, l) =
-    subst (λ (x : Grammar). Moves by (verdict (section_start o e next) (id ∷ xs)) (verdict x (id ∷ xs))) (sym z)
-    (start_moves by o id (verdict (next id) xs) (verdict (then id) xs) (verdict_moves by (next id) (then id) xs (l id))
+    rw z (start_moves by o id (verdict (next id) xs) (verdict (then id) xs) (verdict_moves by (next id) (then id) xs (l id))
     (agree (id ∷ xs) magic && nat_le 4 (length (id ∷ xs))))
+verdict_moves by _ h xs l = inl (ap (λ (x : Grammar). verdict x xs) l)
 
 -- ---- the grammars of a stream
 
 when_moves : (by : ℕ) (t : Bool) (e f : FaultAt) → f ≡ shifted_fault by e → MovesFault by (when t e) (when t f)
-when_moves by true e f z = inl (ap Some z)
-when_moves by false e f z = inl refl
-
-some_moves : (by : ℕ) (kind : Fault) (o p : ℕ) → MovesFault by (Some (at_offset kind (o + p))) (Some (at_offset kind (o + by + p)))
-some_moves by kind o p = inl (ap Some (moved_same kind o p by))
-
-number_wrong : (by o : ℕ) (content : List ℕ) (n : Number) → MovesFault by (wrong_number o content n) (wrong_number (o + by) content n)
-number_wrong by o content (read v k) = inl refl
-number_wrong by o content (bad kind p) = some_moves by kind o p
-number_wrong by o content short = some_moves by UnexpectedEof o (length content)
-
-single_wrong : (by : ℕ) (code_bytes : Fault) (o : ℕ) (content : List ℕ) (n : Number)
-    → MovesFault by (wrong_single code_bytes o content n) (wrong_single code_bytes (o + by) content n)
-single_wrong by code_bytes o content (read v k) = when_moves by (nat_lt k (length content)) _ _ (moved_same code_bytes o k by)
-single_wrong by code_bytes o content (bad kind p) = some_moves by kind o p
-single_wrong by code_bytes o content short = some_moves by UnexpectedEof o (length content)
-
-name_wrong : (by o : ℕ) (n : Name) → MovesFault by (wrong_name o n) (wrong_name (o + by) n)
-name_wrong by o (named text used) = inl refl
-name_wrong by o (refused kind p) = some_moves by kind o p
+when_moves by t e f z = grind arith
 
 content_wrong : (by : ℕ) (kind : Form) (o : ℕ) (content : List ℕ)
     → MovesFault by (wrong_content kind o content) (wrong_content kind (o + by) content)
 unfolding wrong_content
-content_wrong by custom o content = name_wrong by o (name (Some name_limit) content)
-content_wrong by items o content = number_wrong by o content (number VarU32 content)
-content_wrong by index o content = single_wrong by StartContent o content (number VarU32 content)
-content_wrong by data_count o content = single_wrong by DataCountContent o content (number VarU32 content)
-content_wrong by unknown o content = inl refl
-
-data_wrong : (by : ℕ) (p : SectionContext) (kind : Form) (id o n : ℕ) (content : List ℕ)
-    → MovesFault by (wrong_data p kind id (o + n) content) (wrong_data p kind id (o + by + n) content)
-data_wrong by p items id o n content = when_moves by _ _ _ (moved_same DataCountDiffer o n by)
-data_wrong by p custom id o n content = inl refl
-data_wrong by p index id o n content = inl refl
-data_wrong by p data_count id o n content = inl refl
-data_wrong by p unknown id o n content = inl refl
-
-count_wrong_at : (by : ℕ) (a b : Bool) (e f : FaultAt) → MovesFault by
-    (cond a (Some e) (when b f)) (cond a (Some (shifted_fault by e)) (when b (shifted_fault by f)))
-count_wrong_at by true b e f = inl refl
-count_wrong_at by false true e f = inl refl
-count_wrong_at by false false e f = inl refl
-
-count_wrong : (by : ℕ) (p : SectionContext) (o count : ℕ) → MovesFault by (wrong_count p o count) (wrong_count p (o + by) count)
-count_wrong by p o count = count_wrong_at by (not (list_all (nat_eq count) p.functions)) (nat_lt 0 count && nat_eq (length p.functions) 0)
-    (at_offset FunctionCodeDiffer o) (at_offset CodeWithoutFunction o)
+content_wrong by kind o content = grind arith
 
 Like-whole : (by : ℕ) (p : SectionContext) (kind : Form) (id o n : ℕ)
     → Like by (whole_grammar p kind id o n) (whole_grammar p kind id (o + by) n)
-Like-whole by p kind id o n = (
-  _,
-  refl,
-  λ content. (
-    _,
-    _,
-    refl,
-    content_wrong by kind o content,
-    (_, _, refl, data_wrong by p kind id o n content, refl),
-  ),
-)
-
-Like-code : (by : ℕ) (p : SectionContext) (o n : ℕ) → Like by (code_grammar p o n) (code_grammar p (o + by) n)
-Like-code by p o n = (
-  _,
-  refl,
-  λ count width. (
-    _,
-    _,
-    refl,
-    when_moves by
-        (nat_lt n width) (at_offset UnexpectedEof o) (at_offset UnexpectedEof (o + by)) refl,
-    (_, _, refl, count_wrong by p o count, refl),
-  ),
-)
+Like-whole by p kind id o n = grind (arith, content_wrong)
 
 Like-content : (by : ℕ) (p : SectionContext) (kind : Kind) (id o n : ℕ)
     → Like by (content_grammar p kind id o n) (content_grammar p kind id (o + by) n)
-Like-content by p code id o n = Like-code by p o n
+Like-content by p code id o n = grind arith
 Like-content by p (whole form) id o n = Like-whole by p form id o n
-
-top_moves : (by top field o n : ℕ) (a b : Bool) → nat_lt top (o + n) ≡ a → nat_lt top (o + by + n) ≡ b
-    → MovesFault by (when a (record { fault = SectionTooLarge; offset = field; number = Some n }))
-    (when b (record { fault = SectionTooLarge; offset = field + by; number = Some n }))
-top_moves by top field o n true true x y = inl refl
-top_moves by top field o n false true x y = inr refl
-top_moves by top field o n false false x y = inl refl
-top_moves by top field o n true false x y = absurd (omega (arith, ltb-true top (o + n) x, ltb-false top (o + by + n) y))
 
 Like-sized : (by : ℕ) (p : SectionContext) (kind : Kind) (id field o n : ℕ)
     → Like by (after_length p kind id field o n) (after_length p kind id (field + by) (o + by) n)
-Like-sized by p kind id field o n = (
-  _,
-  _,
-  refl,
-  top_moves by (2 ^ 64 - 1) field o n _ _ refl refl,
-  (
-    _,
-    _,
-    refl,
-    when_moves by (nat_lt 0 (rank_of kind id) && not (p.may_follow (rank_of kind id))) (at_offset OutOfOrder o)
-        (at_offset OutOfOrder (o + by)) refl,
-    Like-content by p kind id o n,
-  ),
-)
+Like-sized by p kind id field o n = grind (arith, Like-content)
 
 Like-framed : (by : ℕ) (p : SectionContext) (o id : ℕ) → Like by (after_id p o id) (after_id p (o + by) id)
 Like-framed by p o id = (
@@ -257,17 +129,8 @@ Like-framed by p o id = (
   ),
 )
 
-end_moves_at : (by : ℕ) (a b : Bool) (o : ℕ) (e f : FaultAt) → cond a (fault (shifted_fault by e))
-    (cond b (fault (shifted_fault by f)) (ended (o + by))) ≡ shifted_ending by (cond a (fault e) (cond b (fault f) (ended o)))
-end_moves_at by true b o e f = refl
-end_moves_at by false true o e f = refl
-end_moves_at by false false o e f = refl
-
 end_moves : (by : ℕ) (p : SectionContext) (o : ℕ) → end_at_section p (o + by) ≡ shifted_ending by (end_at_section p o)
-end_moves by p o =
-    end_moves_at by (list_any (nat_lt 0) p.functions && nat_eq (length p.codes) 0)
-    (list_any (nat_lt 0) p.data_counts && nat_eq (length p.datas) 0) o (at_offset FunctionWithoutCode o)
-    (at_offset DataCountWithoutData o)
+end_moves by p o = grind arith
 
 Like-section : (by : ℕ) (p : SectionContext) (o : ℕ) → Like by (section_grammar p o) (section_grammar p (o + by))
 unfolding section_grammar
@@ -293,8 +156,7 @@ Like-body by zero code_bytes o = refl
 Like-body by (suc bodies) code_bytes o = (_, refl, λ n width. Like-body_of by o code_bytes n width)
 
 Like-header_of : (by o bits : ℕ) (e : Option Encoding) → Like by (header_of o bits e) (header_of (o + by) bits e)
-Like-header_of by o bits (Some e) = refl
-Like-header_of by o bits None = ap (λ (x : ℕ). reject (record { fault = UnknownVersion; offset = x; number = Some bits })) (omega arith)
+Like-header_of by o bits e = grind arith
 
 Like-header : (by o : ℕ) → Like by (header_grammar o) (header_grammar (o + by))
 unfolding header_grammar
@@ -317,8 +179,7 @@ Like-header by o = (
 Like-inside : (by : ℕ) (b : Bool) (p : SectionContext) (bodies code_bytes o : ℕ)
     → Like by (cond b (section_grammar p o) (body_grammar bodies code_bytes o))
     (cond b (section_grammar p (o + by)) (body_grammar bodies code_bytes (o + by)))
-Like-inside by true p bodies code_bytes o = Like-section by p o
-Like-inside by false p bodies code_bytes o = Like-body by bodies code_bytes o
+Like-inside by b p bodies code_bytes o = grind (arith, Like-section, Like-body)
 
 Like-grammar : (by start : ℕ) (ts : List Tile) → Like by (grammar start ts) (grammar (start + by) ts)
 Like-grammar by start [] = Like-header by start
@@ -331,46 +192,29 @@ Like-grammar by start (t ∷ ts) =
 -- ---- readings
 
 tile_back : (by : ℕ) (v w : Verdict) (t : Tile) → Moves by v w → w ≡ tile t → v ≡ tile t
-tile_back by (tile s) w t (inl p) e = sym p ∙ e
-tile_back by (final x) w t (inl p) e = let z : final (shifted_ending by x) ≡ tile t = sym p ∙ e in cc
-tile_back by v w t (inr s) e = absurd (subst StopsAtTheTop e s)
+tile_back by v w t h e = grind arith
 
 record Back (by : ℕ) (v : Verdict) (y : Ending) : Type 0 where
   end : Ending
   stops : v ≡ final end
   is : y ≡ shifted_ending by end
 
-final_same : (x y : Ending) → final x ≡ final y → x ≡ y
-final_same x y e = cc
-
 final_back : (by : ℕ) (v w : Verdict) (y : Ending) → ¬ PassesTheTop y → Moves by v w → w ≡ final y → Back by v y
-final_back by (tile s) w y n (inl p) e = let z : tile s ≡ final y = sym p ∙ e in cc
-final_back by (final x) w y n (inl p) e = record { end = x; stops = refl; is = final_same y (shifted_ending by x) (sym e ∙ p) }
-final_back by v w y n (inr s) e = absurd (n (subst StopsAtTheTop e s))
+final_back by v w y n h e = grind arith
 
 faultless_back : (by start : ℕ) (ts : List Tile) → Faultless (start + by) ts → Faultless start ts
 faultless_back by start [] f = tt
 faultless_back by start (t ∷ ts) f = (
   faultless_back by start ts f.0,
   tile_back by (verdict (grammar start ts) t.bytes) (verdict (grammar (start + by) ts) t.bytes) t
-      (verdict_moves by (grammar start ts) (grammar (start + by) ts) t.bytes (Like-grammar by start ts)) f.1,
+      (search (verdict_moves, Like-grammar)) f.1,
 )
 
 -- ---- what is reported
 
-custom_moves : (by features from to : ℕ) (content : List ℕ) (n : Name) → custom_report features (from + by) (to + by) content n
-    ≡ shifted_report by (custom_report features from to content n)
-custom_moves by features from to content (named text used) = ap
-    (λ (x : ℕ). custom_section text x (window_over features (from + by) content)) (omega arith)
-custom_moves by features from to content (refused f p) = refl
-
 pub section_moves : (by features from to : ℕ) (kind : Form) (id : ℕ) (content : List ℕ)
     → section_report features (from + by) (to + by) kind id content ≡ shifted_report by (section_report features from to kind id content)
-section_moves by features from to custom id content = custom_moves by features from to content (name (Some name_limit) content)
-section_moves by features from to items id content = refl
-section_moves by features from to index id content = refl
-section_moves by features from to data_count id content = refl
-section_moves by features from to unknown id content = refl
+section_moves by features from to kind id content = grind arith
 
 content_place : (by low high : ℕ) (passed before content : List ℕ) → high ≡ low + length passed → passed ≡ before ++ content
     → high + by - length content ≡ (high - length content) + by
@@ -382,14 +226,11 @@ report_moves : (by features low high : ℕ) (shape : Shape) (passed : List ℕ) 
     → tile_report features (low + by) (high + by) shape ≡ shifted_report by (tile_report features low high shape)
 report_moves by features low high (Grammar.version num encoding) passed h c = refl
 report_moves by features low high (section kind id content) passed h (before, c) =
-    ap (λ (x : ℕ). section_report features x (high + by) kind id content) (content_place by low high passed before content h c)
+    ap (λ (x : ℕ). section_report features x (high + by) kind id content) (search content_place)
     ∙ section_moves by features (high - length content) high kind id content
-report_moves by features low high (Grammar.code_start count width size) passed h c =
-    let a : high + by - width ≡ (high - width) + by = omega arith in
-    let b : high + by + size ≡ high + size + by = omega arith in
-    (λ i. code_start count (a i) (b i) size)
+report_moves by features low high (Grammar.code_start count width size) passed h c = grind arith
 report_moves by features low high (Grammar.code_entry content) passed h (before, c) =
-    ap (λ (x : ℕ). code_entry (window_over features x content)) (content_place by low high passed before content h c)
+    rw (content_place by low high passed before content h c)
 
 event_moves : (by features o : ℕ) (t : Tile) → Closes t.shape t.bytes → event_of features (o + by) t
     ≡ shifted_event by (event_of features o t)
@@ -397,8 +238,8 @@ event_moves by features o t c =
     let z : o + by + length t.bytes ≡ o + length t.bytes + by = omega arith in
     let report : tile_report features (o + by) (o + by + length t.bytes) t.shape
     ≡ shifted_report by (tile_report features o (o + length t.bytes) t.shape) =
-    ap (λ (x : ℕ). tile_report features (o + by) x t.shape) z ∙ report_moves by features o (o + length t.bytes) t.shape t.bytes refl c in
-    (λ i. record { report = report i; consumed = t.bytes })
+    grind (arith, report_moves) in
+    cc
 
 events_move : (by start features : ℕ) (ts : List Tile) → Faultless start ts → events_of (start + by) features ts
     ≡ shifted_events by (events_of start features ts)
@@ -407,21 +248,15 @@ events_move by start features (t ∷ ts) f =
     let o : start + by + length (bytes_of ts) ≡ start + length (bytes_of ts) + by = omega arith in
     let e : event_of features (start + by + length (bytes_of ts)) t
     ≡ shifted_event by (event_of features (start + length (bytes_of ts)) t) =
-    ap (λ (x : ℕ). event_of features x t) o ∙ event_moves by features (start + length (bytes_of ts)) t (tile_closes start ts t.bytes t f.1)
+    grind (arith, event_moves, tile_closes)
     in
     let all : events_of (start + by) features ts ≡ shifted_events by (events_of start features ts) = events_move by start features ts f.0 in
-    (λ i. all i ++ e i ∷ []) ∙ sym (map-append (shifted_event by) (events_of start features ts)
-    (event_of features (start + length (bytes_of ts)) t ∷ []))
-
-last_moves : (by : ℕ) (e : Ending) → last_event (shifted_ending by e) ≡ shifted_event by (last_event e)
-last_moves by (fault f) = refl
-last_moves by (ended o) = refl
+    grind (arith, map-append)
 
 pub start_only_moves : StartOnlyMoves
 start_only_moves stream start by features xs ys x y n =
     let b : Back by (verdict (grammar start y.tiles) y.reads.rest) y.end =
-    final_back by (verdict (grammar start y.tiles) y.reads.rest) (verdict (grammar (start + by) y.tiles) y.reads.rest) y.end n
-    (verdict_moves by (grammar start y.tiles) (grammar (start + by) y.tiles) y.reads.rest (Like-grammar by start y.tiles)) y.reads.stops
+    search (final_back, verdict_moves, Like-grammar)
     in
     let r : Reads stream start y.tiles b.end = record {
       rest = y.reads.rest;
@@ -431,8 +266,6 @@ start_only_moves stream start by features xs ys x y n =
     } in
     let (tiles, end) = reads_same stream start y.tiles x.tiles b.end x.end r x.reads in
     let events : events_of (start + by) features y.tiles ≡ shifted_events by (events_of start features x.tiles) =
-    events_move by start features y.tiles r.faultless ∙ ap (λ (ts : List Tile). shifted_events by (events_of start features ts)) tiles in
-    let last : last_event y.end ≡ shifted_event by (last_event x.end) = ap last_event b.is
-    ∙ (last_moves by b.end ∙ ap (λ (e : Ending). shifted_event by (last_event e)) end) in
-    y.listed ∙ ((λ i. events i ++ last i ∷ []) ∙ (sym (map-append (shifted_event by) (events_of start features x.tiles)
-    (last_event x.end ∷ [])) ∙ ap (shifted_events by) (sym x.listed)))
+    grind (arith, events_move) in
+    let last : last_event y.end ≡ shifted_event by (last_event x.end) = grind arith in
+    grind (arith, map-append)

@@ -8,7 +8,7 @@ use Rattle.wasm_base.specs.Number.{number}
 use Rattle.wasm_grammar.specs.Content.{custom, items, index, data_count, unknown, ended, wrong_content, Form}
 use Rattle.wasm_grammar.specs.Grammar.{section, code_start, code_entry, Tile, verdict, header_grammar, section_grammar, body_grammar}
 use Rattle.wasm_grammar.specs.WorkedFields.{WholeReadings, LongFields, TwoFaults}
-use Rattle.wasm_grammar.proofs.worked.Streams.{head, component_head, small_tile, empty_name}
+use Rattle.wasm_grammar.proofs.worked.Streams.{head, component_head, small_tile, empty_name, stopped}
 
 -- a section with this length field
 abbrev framed_tile : Form → ℕ → (field content : List ℕ) → Tile
@@ -31,7 +31,7 @@ whole_readings = record {
   name_and_data = record {
     tiles = framed_tile custom 0 (3 ∷ []) (1 ∷ 97 ∷ 7 ∷ []) ∷ head ∷ [];
     end = ended 13;
-    reads = record { rest = []; whole = refl; faultless = ((tt, refl), rw name_a refl); stops = refl };
+    reads = stopped [] refl ((tt, refl), rw name_a refl) refl;
     listed = rw name_a refl;
   };
   all_ids_of_a_component = record {
@@ -39,36 +39,7 @@ whole_readings = record {
         ∷ small_tile unknown 8 ∷ small_tile unknown 7 ∷ small_tile unknown 6 ∷ small_tile unknown 5 ∷ small_tile unknown 4
         ∷ small_tile unknown 3 ∷ small_tile unknown 2 ∷ small_tile unknown 1 ∷ small_tile custom 0 ∷ component_head ∷ [];
     end = ended 50;
-    reads = record {
-      rest = [];
-      whole = refl;
-      faultless = (
-        (
-          (
-            (
-              (
-                (
-                  (
-                    (
-                      (((((((tt, refl), rw empty_name refl), refl), refl), refl), refl), refl),
-                      refl,
-                    ),
-                    refl,
-                  ),
-                  refl,
-                ),
-                refl,
-              ),
-              refl,
-            ),
-            refl,
-          ),
-          refl,
-        ),
-        refl,
-      );
-      stops = refl;
-    };
+    reads = stopped [] refl (rw empty_name (assumption refl)) refl;
     listed = rw empty_name refl;
   };
   elsewhere = record {
@@ -76,12 +47,7 @@ whole_readings = record {
         ∷ head_tile (0x87 ∷ 0 ∷ []) 1 (0x81 ∷ 0 ∷ []) 5 ∷ framed_tile index 8 (0x82 ∷ 0 ∷ []) (0x81 ∷ 1 ∷ [])
         ∷ framed_tile items 3 (0x83 ∷ 0 ∷ []) (0x81 ∷ 0 ∷ 7 ∷ []) ∷ framed_tile items 1 (0x83 ∷ 0 ∷ []) (0x80 ∷ 1 ∷ 9 ∷ []) ∷ head ∷ [];
     end = ended 1042;
-    reads = record {
-      rest = [];
-      whole = refl;
-      faultless = (((((((tt, refl), refl), refl), refl), refl), refl), rw name_a refl);
-      stops = refl;
-    };
+    reads = stopped [] refl (((((((tt, refl), refl), refl), refl), refl), refl), rw name_a refl) refl;
     listed = rw name_a refl;
   };
 }
@@ -91,106 +57,76 @@ unfolding verdict header_grammar section_grammar body_grammar number wrong_conte
 long_fields = record {
   out_of_order = (
     framed_tile items 3 (1 ∷ []) (0 ∷ []) ∷ head ∷ [],
-    record { rest = 1 ∷ 0x81 ∷ 0 ∷ 0 ∷ []; whole = refl; faultless = ((tt, refl), refl); stops = refl },
+    stopped (1 ∷ 0x81 ∷ 0 ∷ 0 ∷ []) refl ((tt, refl), refl) refl,
   );
   order_of_one_rank = (
     framed_tile items 1 (0x81 ∷ 0x80 ∷ 0 ∷ []) (0 ∷ []) ∷ head
         ∷ [],
-    record { rest = 1 ∷ 0x81 ∷ 0x80 ∷ 0x80 ∷ 0 ∷ 0 ∷ []; whole = refl; faultless = ((tt, refl), refl); stops = refl },
+    stopped (1 ∷ 0x81 ∷ 0x80 ∷ 0x80 ∷ 0 ∷ 0 ∷ []) refl ((tt, refl), refl) refl,
   );
-  section_cut = (head ∷ [], record { rest = 1 ∷ 0x83 ∷ 0 ∷ 0 ∷ []; whole = refl; faultless = (tt, refl); stops = refl });
+  section_cut = (head ∷ [], stopped (1 ∷ 0x83 ∷ 0 ∷ 0 ∷ []) refl (tt, refl) refl);
   length_too_large = (
     head ∷ [],
-    record {
-      rest = 1 ∷ 0xff ∷ 0xff ∷ 0xff ∷ 0xff ∷ 31 ∷ [];
-      whole = refl;
-      faultless = (tt, refl);
-      stops = refl;
-    },
+    stopped (1 ∷ 0xff ∷ 0xff ∷ 0xff ∷ 0xff ∷ 31 ∷ []) refl (tt, refl) refl,
   );
   count_in_two_bytes_cut = (
     head ∷ [],
-    record {
-      rest = 1 ∷ 0x82 ∷ 0 ∷ 0x80 ∷ 0x80 ∷ [];
-      whole = refl;
-      faultless = (tt, refl);
-      stops = refl;
-    },
+    stopped (1 ∷ 0x82 ∷ 0 ∷ 0x80 ∷ 0x80 ∷ []) refl (tt, refl) refl,
   );
   count_too_long = (
     head ∷ [],
-    record {
-      rest = 2 ∷ 0x86 ∷ 0 ∷ 0x80 ∷ 0x80 ∷ 0x80 ∷ 0x80 ∷ 0x80 ∷ 0 ∷ [];
-      whole = refl;
-      faultless = (tt, refl);
-      stops = refl;
-    },
+    stopped (2 ∷ 0x86 ∷ 0 ∷ 0x80 ∷ 0x80 ∷ 0x80 ∷ 0x80 ∷ 0x80 ∷ 0 ∷ []) refl (tt, refl) refl,
   );
-  name_cut = (head ∷ [], record { rest = 0 ∷ 0x82 ∷ 0 ∷ 0x85 ∷ 0 ∷ []; whole = refl; faultless = (tt, refl); stops = refl });
+  name_cut = (head ∷ [], stopped (0 ∷ 0x82 ∷ 0 ∷ 0x85 ∷ 0 ∷ []) refl (tt, refl) refl);
   name_too_long = (
     head ∷ [],
-    record {
-      rest = 0 ∷ 0x84 ∷ 0 ∷ 0xa1 ∷ 0x8d ∷ 0x86 ∷ 0 ∷ [];
-      whole = refl;
-      faultless = (tt, refl);
-      stops = refl;
-    },
+    stopped (0 ∷ 0x84 ∷ 0 ∷ 0xa1 ∷ 0x8d ∷ 0x86 ∷ 0 ∷ []) refl (tt, refl) refl,
   );
-  start_with_more = (head ∷ [], record { rest = 8 ∷ 0x83 ∷ 0 ∷ 0x81 ∷ 0 ∷ 0 ∷ []; whole = refl; faultless = (tt, refl); stops = refl });
+  start_with_more = (head ∷ [], stopped (8 ∷ 0x83 ∷ 0 ∷ 0x81 ∷ 0 ∷ 0 ∷ []) refl (tt, refl) refl);
   data_count_with_more = (
     head ∷ [],
-    record {
-      rest = 12 ∷ 0x83 ∷ 0 ∷ 0x81 ∷ 0 ∷ 0 ∷ [];
-      whole = refl;
-      faultless = (tt, refl);
-      stops = refl;
-    },
+    stopped (12 ∷ 0x83 ∷ 0 ∷ 0x81 ∷ 0 ∷ 0 ∷ []) refl (tt, refl) refl,
   );
   code_differs = (
     framed_tile items 3 (0x81 ∷ 0 ∷ []) (0 ∷ []) ∷ head
         ∷ [],
-    record { rest = 10 ∷ 0x83 ∷ 0 ∷ 0x81 ∷ 0 ∷ 0 ∷ []; whole = refl; faultless = ((tt, refl), refl); stops = refl },
+    stopped (10 ∷ 0x83 ∷ 0 ∷ 0x81 ∷ 0 ∷ 0 ∷ []) refl ((tt, refl), refl) refl,
   );
-  code_alone = (head ∷ [], record { rest = 10 ∷ 0x83 ∷ 0 ∷ 0x81 ∷ 0 ∷ 0 ∷ []; whole = refl; faultless = (tt, refl); stops = refl });
+  code_alone = (head ∷ [], stopped (10 ∷ 0x83 ∷ 0 ∷ 0x81 ∷ 0 ∷ 0 ∷ []) refl (tt, refl) refl);
   count_past_the_section = (
     framed_tile items 3 (2 ∷ []) (1 ∷ 0 ∷ []) ∷ head
         ∷ [],
-    record { rest = 10 ∷ 0x81 ∷ 0 ∷ 0x81 ∷ 0 ∷ []; whole = refl; faultless = ((tt, refl), refl); stops = refl },
+    stopped (10 ∷ 0x81 ∷ 0 ∷ 0x81 ∷ 0 ∷ []) refl ((tt, refl), refl) refl,
   );
   data_differ = (
     framed_tile data_count 12 (0x82 ∷ 0 ∷ []) (0x81 ∷ 0 ∷ []) ∷ head
         ∷ [],
-    record { rest = 11 ∷ 0x83 ∷ 0 ∷ 0x82 ∷ 0 ∷ 0 ∷ []; whole = refl; faultless = ((tt, refl), refl); stops = refl },
+    stopped (11 ∷ 0x83 ∷ 0 ∷ 0x82 ∷ 0 ∷ 0 ∷ []) refl ((tt, refl), refl) refl,
   );
   body_missed = (
     head_tile (0x8a ∷ 0 ∷ []) 1 (0x81 ∷ 0 ∷ []) 8 ∷ framed_tile items 3 (2 ∷ []) (1 ∷ 0 ∷ []) ∷ head
         ∷ [],
-    record { rest = 0x85 ∷ 0x80 ∷ 0 ∷ 0 ∷ []; whole = refl; faultless = (((tt, refl), refl), refl); stops = refl },
+    stopped (0x85 ∷ 0x80 ∷ 0 ∷ 0 ∷ []) refl (((tt, refl), refl), refl) refl,
   );
   body_past_the_section = (
     head_tile (0x84 ∷ 0 ∷ []) 1 (0x81 ∷ 0 ∷ []) 2 ∷ framed_tile items 3 (2 ∷ []) (1 ∷ 0 ∷ []) ∷ head
         ∷ [],
-    record { rest = 0x81 ∷ 0 ∷ 11 ∷ []; whole = refl; faultless = (((tt, refl), refl), refl); stops = refl },
+    stopped (0x81 ∷ 0 ∷ 11 ∷ []) refl (((tt, refl), refl), refl) refl,
   );
   body_size_cut = (
     head_tile (0x89 ∷ 0 ∷ []) 1 (0x81 ∷ 0 ∷ []) 7 ∷ framed_tile items 3 (2 ∷ []) (1 ∷ 0 ∷ []) ∷ head
         ∷ [],
-    record { rest = 0x80 ∷ 0x80 ∷ []; whole = refl; faultless = (((tt, refl), refl), refl); stops = refl },
+    stopped (0x80 ∷ 0x80 ∷ []) refl (((tt, refl), refl), refl) refl,
   );
   trailing = (
     sized_tile (0x80 ∷ 0 ∷ []) ([]) ∷ head_tile (0x85 ∷ 0 ∷ []) 1 (0x81 ∷ 0 ∷ []) 3 ∷ framed_tile items 3 (2 ∷ []) (1 ∷ 0 ∷ [])
         ∷ head ∷ [],
-    record { rest = 0 ∷ []; whole = refl; faultless = ((((tt, refl), refl), refl), refl); stops = refl },
+    stopped (0 ∷ []) refl ((((tt, refl), refl), refl), refl) refl,
   );
   trailing_after_a_body = (
     sized_tile (0x82 ∷ 0 ∷ []) (0 ∷ 11 ∷ []) ∷ head_tile (0x87 ∷ 0 ∷ []) 1 (0x81 ∷ 0 ∷ []) 5
         ∷ framed_tile items 3 (2 ∷ []) (1 ∷ 0 ∷ []) ∷ head ∷ [],
-    record {
-      rest = 0xff ∷ [];
-      whole = refl;
-      faultless = ((((tt, refl), refl), refl), refl);
-      stops = refl;
-    },
+    stopped (0xff ∷ []) refl ((((tt, refl), refl), refl), refl) refl,
   );
 }
 
@@ -200,78 +136,73 @@ two_faults = record {
   too_large_and_out_of_order = (
     framed_tile items 1 (1 ∷ []) (0 ∷ []) ∷ head
         ∷ [],
-    record { rest = 1 ∷ 6 ∷ []; whole = refl; faultless = ((tt, refl), refl); stops = refl },
+    stopped (1 ∷ 6 ∷ []) refl ((tt, refl), refl) refl,
   );
-  magic_and_name_cut = (head ∷ [], record { rest = 0 ∷ 97 ∷ 115 ∷ 109 ∷ []; whole = refl; faultless = (tt, refl); stops = refl });
-  no_id_and_length_cut = (head ∷ [], record { rest = 0x80 ∷ 0x80 ∷ []; whole = refl; faultless = (tt, refl); stops = refl });
+  magic_and_name_cut = (head ∷ [], stopped (0 ∷ 97 ∷ 115 ∷ 109 ∷ []) refl (tt, refl) refl);
+  no_id_and_length_cut = (head ∷ [], stopped (0x80 ∷ 0x80 ∷ []) refl (tt, refl) refl);
   length_bad_and_out_of_order = (
     framed_tile items 3 (1 ∷ []) (0 ∷ []) ∷ head
         ∷ [],
-    record { rest = 1 ∷ 0x80 ∷ 0x80 ∷ 0x80 ∷ 0x80 ∷ 16 ∷ []; whole = refl; faultless = ((tt, refl), refl); stops = refl },
+    stopped (1 ∷ 0x80 ∷ 0x80 ∷ 0x80 ∷ 0x80 ∷ 16 ∷ []) refl ((tt, refl), refl) refl,
   );
   length_cut_and_out_of_order = (
     framed_tile items 3 (1 ∷ []) (0 ∷ []) ∷ head
         ∷ [],
-    record { rest = 1 ∷ 0x80 ∷ []; whole = refl; faultless = ((tt, refl), refl); stops = refl },
+    stopped (1 ∷ 0x80 ∷ []) refl ((tt, refl), refl) refl,
   );
   out_of_order_and_cut = (
     framed_tile items 3 (1 ∷ []) (0 ∷ []) ∷ head
         ∷ [],
-    record { rest = 1 ∷ 0x85 ∷ 0 ∷ []; whole = refl; faultless = ((tt, refl), refl); stops = refl },
+    stopped (1 ∷ 0x85 ∷ 0 ∷ []) refl ((tt, refl), refl) refl,
   );
   out_of_order_and_content_wrong = (
     framed_tile items 9 (1 ∷ []) (0 ∷ []) ∷ head
         ∷ [],
-    record { rest = 8 ∷ 0x82 ∷ 0 ∷ 0 ∷ 0 ∷ []; whole = refl; faultless = ((tt, refl), refl); stops = refl },
+    stopped (8 ∷ 0x82 ∷ 0 ∷ 0 ∷ 0 ∷ []) refl ((tt, refl), refl) refl,
   );
-  cut_and_content_wrong = (head ∷ [], record { rest = 8 ∷ 0x83 ∷ 0 ∷ 0 ∷ 0 ∷ []; whole = refl; faultless = (tt, refl); stops = refl });
+  cut_and_content_wrong = (head ∷ [], stopped (8 ∷ 0x83 ∷ 0 ∷ 0 ∷ 0 ∷ []) refl (tt, refl) refl);
   count_wrong_and_data_differ = (
     framed_tile data_count 12 (1 ∷ []) (1 ∷ []) ∷ head
         ∷ [],
-    record { rest = 11 ∷ 0x82 ∷ 0 ∷ 0x80 ∷ 0x80 ∷ []; whole = refl; faultless = ((tt, refl), refl); stops = refl },
+    stopped (11 ∷ 0x82 ∷ 0 ∷ 0x80 ∷ 0x80 ∷ []) refl ((tt, refl), refl) refl,
   );
   code_out_of_order_and_cut = (
     framed_tile items 11 (1 ∷ []) (0 ∷ []) ∷ head
         ∷ [],
-    record { rest = 10 ∷ 0x81 ∷ 0 ∷ []; whole = refl; faultless = ((tt, refl), refl); stops = refl },
+    stopped (10 ∷ 0x81 ∷ 0 ∷ []) refl ((tt, refl), refl) refl,
   );
   code_out_of_order_and_differs = (
     framed_tile items 11 (1 ∷ []) (0 ∷ []) ∷ framed_tile items 3 (1 ∷ []) (0 ∷ []) ∷ head
         ∷ [],
-    record { rest = 10 ∷ 0x82 ∷ 0 ∷ 1 ∷ 0 ∷ []; whole = refl; faultless = (((tt, refl), refl), refl); stops = refl },
+    stopped (10 ∷ 0x82 ∷ 0 ∷ 1 ∷ 0 ∷ []) refl (((tt, refl), refl), refl) refl,
   );
   count_bad_past_the_section = (
     head ∷ [],
-    record {
-      rest = 10 ∷ 1 ∷ 0x80 ∷ 0x80 ∷ 0x80 ∷ 0x80 ∷ 16 ∷ [];
-      whole = refl;
-      faultless = (tt, refl);
-      stops = refl;
-    },
+    stopped (10 ∷ 1 ∷ 0x80 ∷ 0x80 ∷ 0x80 ∷ 0x80 ∷ 16 ∷ []) refl (tt, refl) refl,
   );
   count_past_the_section_and_differs = (
     framed_tile items 3 (2 ∷ []) (1 ∷ 0 ∷ []) ∷ head
         ∷ [],
-    record { rest = 10 ∷ 1 ∷ 0x82 ∷ 0 ∷ []; whole = refl; faultless = ((tt, refl), refl); stops = refl },
+    stopped (10 ∷ 1 ∷ 0x82 ∷ 0 ∷ []) refl ((tt, refl), refl) refl,
   );
-  count_past_the_section_alone = (head ∷ [], record { rest = 10 ∷ 1 ∷ 0x82 ∷ 0 ∷ []; whole = refl; faultless = (tt, refl); stops = refl });
+  count_past_the_section_alone = (head ∷ [], stopped (10 ∷ 1 ∷ 0x82 ∷ 0 ∷ []) refl (tt, refl) refl);
   body_size_bad_past_the_section = (
     head_tile (2 ∷ []) 1 (1 ∷ []) 1 ∷ framed_tile items 3 (2 ∷ []) (1 ∷ 0 ∷ []) ∷ head
         ∷ [],
-    record { rest = 0x80 ∷ 0x80 ∷ 0x80 ∷ 0x80 ∷ 16 ∷ []; whole = refl; faultless = (((tt, refl), refl), refl); stops = refl },
+    stopped (0x80 ∷ 0x80 ∷ 0x80 ∷ 0x80 ∷ 16 ∷ []) refl (((tt, refl), refl), refl) refl,
   );
   body_missed_past_the_section = (
     head_tile (3 ∷ []) 1 (1 ∷ []) 2 ∷ framed_tile items 3 (2 ∷ []) (1 ∷ 0 ∷ []) ∷ head
         ∷ [],
-    record { rest = 0x85 ∷ 0 ∷ 0 ∷ []; whole = refl; faultless = (((tt, refl), refl), refl); stops = refl },
+    stopped (0x85 ∷ 0 ∷ 0 ∷ []) refl (((tt, refl), refl), refl) refl,
   );
   functions_and_data_count_unmatched = (
     framed_tile data_count 12 (1 ∷ []) (1 ∷ []) ∷ framed_tile items 3 (2 ∷ []) (1 ∷ 0 ∷ []) ∷ head
         ∷ [],
-    record { rest = []; whole = refl; faultless = (((tt, refl), refl), refl); stops = refl },
+    stopped [] refl (((tt, refl), refl), refl) refl,
   );
-  name_missed_and_not_utf8 = (head ∷ [], record { rest = 0 ∷ 2 ∷ 2 ∷ 0xff ∷ []; whole = refl; faultless = (tt, refl); stops = refl });
-  other_magic_cut = ([], record { rest = 0 ∷ 97 ∷ 115 ∷ 110 ∷ []; whole = refl; faultless = tt; stops = refl });
-  other_magic_other_version = ([], record { rest = 0 ∷ 97 ∷ 115 ∷ 110 ∷ 2 ∷ 0 ∷ 0 ∷ 0 ∷ []; whole = refl; faultless = tt; stops = refl });
-  header_cut_other_version = ([], record { rest = 0 ∷ 97 ∷ 115 ∷ 109 ∷ 2 ∷ 0 ∷ 0 ∷ []; whole = refl; faultless = tt; stops = refl });
+  name_missed_and_not_utf8 = (head ∷ [], stopped (0 ∷ 2 ∷ 2 ∷ 0xff ∷ []) refl (tt, refl) refl);
+  other_magic_cut = ([], stopped (0 ∷ 97 ∷ 115 ∷ 110 ∷ []) refl tt refl);
+  other_magic_other_version = ([], stopped (0 ∷ 97 ∷ 115 ∷ 110 ∷ 2 ∷ 0 ∷ 0 ∷ 0 ∷ []) refl tt refl);
+  header_cut_other_version = ([], stopped (0 ∷ 97 ∷ 115 ∷ 109 ∷ 2 ∷ 0 ∷ 0 ∷ []) refl tt refl);
 }

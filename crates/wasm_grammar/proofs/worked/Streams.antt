@@ -1,12 +1,14 @@
 -- The readings of the worked streams, by computation.
-use Rattle.std.proofs.Common.{◌≡◌, ℕ, ◌-◌, true, List, [], ◌∷◌, length, refl}
+use Rattle.std.proofs.Common.{◌≡◌, ℕ, ◌-◌, true, List, [], ◌∷◌, ◌++◌, length, refl}
 use Rattle.std.specs.Str.{is_utf8}
 use Rattle.std.proofs.lemmas.Str.{IsUtf8-nil, is_utf8-from_IsUtf8}
 use Rattle.wasm_base.specs.Name.{name}
 use Rattle.wasm_base.specs.Number.{number}
-use Rattle.wasm_grammar.specs.Content.{custom, items, index, data_count, unknown, ended, wrong_content, Form}
+use Rattle.wasm_grammar.specs.Content.{custom, items, index, data_count, unknown, Ending, ended, wrong_content, Form}
 use Rattle.wasm_grammar.specs.Grammar.{version, section, code_start, code_entry, Tile, verdict, header_grammar, section_grammar}
-use Rattle.wasm_grammar.specs.Grammar.{body_grammar}
+use Rattle.wasm_grammar.specs.Grammar.{body_grammar, final}
+use Rattle.wasm_grammar.specs.Reading.{Reads}
+use Rattle.wasm_grammar.specs.Tiling.{Faultless, bytes_of, grammar}
 use Rattle.wasm_grammar.specs.Worked.{m, component, EdgesOfRules, WorkedStreams}
 use Rattle.wasm_grammar.specs.declared.encoding.Encoding.TheVariants.{Module, Component}
 
@@ -35,41 +37,46 @@ small_tile kind id = section_tile kind id (0 ∷ [])
 pub empty_name : is_utf8 [] ≡ true
 empty_name = is_utf8-from_IsUtf8 [] IsUtf8-nil
 
+-- the reading of a stream that is these tiles and then this rest, by computation
+pub stopped : {stream : List ℕ} {start : ℕ} {tiles : List Tile} {end : Ending} (rest : List ℕ) → stream ≡ bytes_of tiles ++ rest
+    → Faultless start tiles → verdict (grammar start tiles) rest ≡ final end → Reads stream start tiles end
+stopped rest w f s = record { rest = rest; whole = w; faultless = f; stops = s }
+
 pub worked_streams : WorkedStreams
 unfolding verdict header_grammar section_grammar body_grammar number wrong_content name
 worked_streams = record {
   a_body = record {
     tiles = body_tile (0 ∷ 0x0b ∷ []) ∷ code 4 1 ∷ functions 1 ∷ head ∷ [];
     end = ended 18;
-    reads = record { rest = []; whole = refl; faultless = ((((tt, refl), refl), refl), refl); stops = refl };
+    reads = stopped [] refl ((((tt, refl), refl), refl), refl) refl;
     listed = refl;
   };
   a_component = record {
     tiles = section_tile unknown 1 (0 ∷ []) ∷ component_head ∷ [];
     end = ended 11;
-    reads = record { rest = []; whole = refl; faultless = ((tt, refl), refl); stops = refl };
+    reads = stopped [] refl ((tt, refl), refl) refl;
     listed = refl;
   };
-  header_alone = (head ∷ [], record { rest = []; whole = refl; faultless = (tt, refl); stops = refl });
-  unknown_version = ([], record { rest = 0x00 ∷ 0x61 ∷ 0x73 ∷ 0x6d ∷ 1 ∷ 1 ∷ 1 ∷ 1 ∷ []; whole = refl; faultless = tt; stops = refl });
-  types_twice = (small_tile items 1 ∷ head ∷ [], record { rest = 1 ∷ 1 ∷ []; whole = refl; faultless = ((tt, refl), refl); stops = refl });
-  magic_again = (head ∷ [], record { rest = 0x00 ∷ 0x61 ∷ 0x73 ∷ 0x6d ∷ []; whole = refl; faultless = (tt, refl); stops = refl });
-  no_code = (functions 1 ∷ head ∷ [], record { rest = []; whole = refl; faultless = ((tt, refl), refl); stops = refl });
+  header_alone = (head ∷ [], stopped [] refl (tt, refl) refl);
+  unknown_version = ([], stopped (0x00 ∷ 0x61 ∷ 0x73 ∷ 0x6d ∷ 1 ∷ 1 ∷ 1 ∷ 1 ∷ []) refl tt refl);
+  types_twice = (small_tile items 1 ∷ head ∷ [], stopped (1 ∷ 1 ∷ []) refl ((tt, refl), refl) refl);
+  magic_again = (head ∷ [], stopped (0x00 ∷ 0x61 ∷ 0x73 ∷ 0x6d ∷ []) refl (tt, refl) refl);
+  no_code = (functions 1 ∷ head ∷ [], stopped [] refl ((tt, refl), refl) refl);
   data_differ = (
     section_tile data_count 12 (1 ∷ []) ∷ head ∷ [],
-    record { rest = 11 ∷ 2 ∷ 2 ∷ 0 ∷ []; whole = refl; faultless = ((tt, refl), refl); stops = refl },
+    stopped (11 ∷ 2 ∷ 2 ∷ 0 ∷ []) refl ((tt, refl), refl) refl,
   );
-  code_of_none = (code 1 0 ∷ head ∷ [], record { rest = []; whole = refl; faultless = ((tt, refl), refl); stops = refl });
+  code_of_none = (code 1 0 ∷ head ∷ [], stopped [] refl ((tt, refl), refl) refl);
   trailing = (
     body_tile [] ∷ code 3 1 ∷ functions 1 ∷ head ∷ [],
-    record { rest = 0 ∷ []; whole = refl; faultless = ((((tt, refl), refl), refl), refl); stops = refl },
+    stopped (0 ∷ []) refl ((((tt, refl), refl), refl), refl) refl,
   );
   past_the_section = (
     body_tile [] ∷ code 2 2 ∷ functions 2 ∷ head
         ∷ [],
-    record { rest = 0 ∷ []; whole = refl; faultless = ((((tt, refl), refl), refl), refl); stops = refl },
+    stopped (0 ∷ []) refl ((((tt, refl), refl), refl), refl) refl,
   );
-  too_large = (head ∷ [], record { rest = 0 ∷ 6 ∷ []; whole = refl; faultless = (tt, refl); stops = refl });
+  too_large = (head ∷ [], stopped (0 ∷ 6 ∷ []) refl (tt, refl) refl);
 }
 
 pub edges_of_rules : EdgesOfRules
@@ -80,157 +87,84 @@ edges_of_rules = record {
         ∷ small_tile items 7 ∷ small_tile items 6 ∷ small_tile items 13 ∷ small_tile items 5
         ∷ small_tile items 4 ∷ small_tile items 3 ∷ small_tile items 2 ∷ small_tile items 1 ∷ head ∷ [];
     end = ended 50;
-    reads = record {
-      rest = [];
-      whole = refl;
-      faultless = (
-        (
-          (
-            (
-              (
-                (
-                  (((((((((tt, refl), refl), refl), refl), refl), refl), refl), refl), refl),
-                  refl,
-                ),
-                refl,
-              ),
-              refl,
-            ),
-            refl,
-          ),
-          refl,
-        ),
-        rw empty_name refl,
-      );
-      stops = refl;
-    };
+    reads = stopped [] refl (rw empty_name (assumption refl)) refl;
     listed = rw empty_name refl;
   };
-  nothing = ([], record { rest = []; whole = refl; faultless = tt; stops = refl });
-  half_a_header = ([], record { rest = 0x00 ∷ 0x61 ∷ 0x73 ∷ 0x6d ∷ 1 ∷ []; whole = refl; faultless = tt; stops = refl });
-  no_magic = ([], record { rest = 0x00 ∷ 0x61 ∷ 0x73 ∷ 0x6e ∷ 1 ∷ 0 ∷ 0 ∷ 0 ∷ []; whole = refl; faultless = tt; stops = refl });
+  nothing = ([], stopped [] refl tt refl);
+  half_a_header = ([], stopped (0x00 ∷ 0x61 ∷ 0x73 ∷ 0x6d ∷ 1 ∷ []) refl tt refl);
+  no_magic = ([], stopped (0x00 ∷ 0x61 ∷ 0x73 ∷ 0x6e ∷ 1 ∷ 0 ∷ 0 ∷ 0 ∷ []) refl tt refl);
   component_of_no_layer = (
     [],
-    record {
-      rest = 0x00 ∷ 0x61 ∷ 0x73 ∷ 0x6d ∷ 0x0d ∷ 0 ∷ 0 ∷ 0 ∷ [];
-      whole = refl;
-      faultless = tt;
-      stops = refl;
-    },
+    stopped (0x00 ∷ 0x61 ∷ 0x73 ∷ 0x6d ∷ 0x0d ∷ 0 ∷ 0 ∷ 0 ∷ []) refl tt refl,
   );
-  module_of_a_layer = ([], record { rest = 0x00 ∷ 0x61 ∷ 0x73 ∷ 0x6d ∷ 1 ∷ 0 ∷ 1 ∷ 0 ∷ []; whole = refl; faultless = tt; stops = refl });
-  magic_cut = (head ∷ [], record { rest = 0x00 ∷ 0x61 ∷ 0x73 ∷ []; whole = refl; faultless = (tt, refl); stops = refl });
-  id_of_128 = (head ∷ [], record { rest = 128 ∷ 0 ∷ []; whole = refl; faultless = (tt, refl); stops = refl });
+  module_of_a_layer = ([], stopped (0x00 ∷ 0x61 ∷ 0x73 ∷ 0x6d ∷ 1 ∷ 0 ∷ 1 ∷ 0 ∷ []) refl tt refl);
+  magic_cut = (head ∷ [], stopped (0x00 ∷ 0x61 ∷ 0x73 ∷ []) refl (tt, refl) refl);
+  id_of_128 = (head ∷ [], stopped (128 ∷ 0 ∷ []) refl (tt, refl) refl);
   id_of_127 = record {
     tiles = small_tile unknown 127 ∷ head ∷ [];
     end = ended 11;
-    reads = record { rest = []; whole = refl; faultless = ((tt, refl), refl); stops = refl };
+    reads = stopped [] refl ((tt, refl), refl) refl;
     listed = refl;
   };
-  unknown_id = (section_tile unknown 14 [] ∷ head ∷ [], record { rest = []; whole = refl; faultless = ((tt, refl), refl); stops = refl });
-  length_cut = (head ∷ [], record { rest = 1 ∷ 0x80 ∷ []; whole = refl; faultless = (tt, refl); stops = refl });
+  unknown_id = (section_tile unknown 14 [] ∷ head ∷ [], stopped [] refl ((tt, refl), refl) refl);
+  length_cut = (head ∷ [], stopped (1 ∷ 0x80 ∷ []) refl (tt, refl) refl);
   length_too_long = (
     head ∷ [],
-    record {
-      rest = 1 ∷ 0x80 ∷ 0x80 ∷ 0x80 ∷ 0x80 ∷ 0x80 ∷ [];
-      whole = refl;
-      faultless = (tt, refl);
-      stops = refl;
-    },
+    stopped (1 ∷ 0x80 ∷ 0x80 ∷ 0x80 ∷ 0x80 ∷ 0x80 ∷ []) refl (tt, refl) refl,
   );
-  section_cut = (head ∷ [], record { rest = 1 ∷ 2 ∷ 0 ∷ []; whole = refl; faultless = (tt, refl); stops = refl });
+  section_cut = (head ∷ [], stopped (1 ∷ 2 ∷ 0 ∷ []) refl (tt, refl) refl);
   at_the_top = (
     small_tile custom 0 ∷ head ∷ [],
-    record {
-      rest = [];
-      whole = refl;
-      faultless = ((tt, refl), rw empty_name refl);
-      stops = refl;
-    },
+    stopped [] refl ((tt, refl), rw empty_name refl) refl,
   );
   count_too_large = (
     head ∷ [],
-    record {
-      rest = 1 ∷ 5 ∷ 0xff ∷ 0xff ∷ 0xff ∷ 0xff ∷ 0x1f ∷ [];
-      whole = refl;
-      faultless = (tt, refl);
-      stops = refl;
-    },
+    stopped (1 ∷ 5 ∷ 0xff ∷ 0xff ∷ 0xff ∷ 0xff ∷ 0x1f ∷ []) refl (tt, refl) refl,
   );
-  count_cut = (head ∷ [], record { rest = 1 ∷ 1 ∷ 0x80 ∷ []; whole = refl; faultless = (tt, refl); stops = refl });
+  count_cut = (head ∷ [], stopped (1 ∷ 1 ∷ 0x80 ∷ []) refl (tt, refl) refl);
   types_after_custom = (
     small_tile custom 0 ∷ small_tile items 1 ∷ head
         ∷ [],
-    record { rest = 1 ∷ 1 ∷ 0 ∷ []; whole = refl; faultless = (((tt, refl), refl), rw empty_name refl); stops = refl },
+    stopped (1 ∷ 1 ∷ 0 ∷ []) refl (((tt, refl), refl), rw empty_name refl) refl,
   );
   components_have_no_order = (
     small_tile unknown 1 ∷ small_tile unknown 1 ∷ small_tile unknown 2 ∷ component_head
         ∷ [],
-    record { rest = []; whole = refl; faultless = ((((tt, refl), refl), refl), refl); stops = refl },
+    stopped [] refl ((((tt, refl), refl), refl), refl) refl,
   );
-  name_cut = (head ∷ [], record { rest = 0 ∷ 1 ∷ 5 ∷ []; whole = refl; faultless = (tt, refl); stops = refl });
-  name_too_long = (head ∷ [], record { rest = 0 ∷ 3 ∷ 0xa1 ∷ 0x8d ∷ 6 ∷ []; whole = refl; faultless = (tt, refl); stops = refl });
-  start_cut = (head ∷ [], record { rest = 8 ∷ 0 ∷ []; whole = refl; faultless = (tt, refl); stops = refl });
-  start_with_more = (head ∷ [], record { rest = 8 ∷ 2 ∷ 0 ∷ 0 ∷ []; whole = refl; faultless = (tt, refl); stops = refl });
-  count_with_more = (head ∷ [], record { rest = 12 ∷ 2 ∷ 0 ∷ 0 ∷ []; whole = refl; faultless = (tt, refl); stops = refl });
-  no_functions = (small_tile items 3 ∷ head ∷ [], record { rest = []; whole = refl; faultless = ((tt, refl), refl); stops = refl });
-  code_alone = (head ∷ [], record { rest = 10 ∷ 2 ∷ 1 ∷ 0 ∷ []; whole = refl; faultless = (tt, refl); stops = refl });
+  name_cut = (head ∷ [], stopped (0 ∷ 1 ∷ 5 ∷ []) refl (tt, refl) refl);
+  name_too_long = (head ∷ [], stopped (0 ∷ 3 ∷ 0xa1 ∷ 0x8d ∷ 6 ∷ []) refl (tt, refl) refl);
+  start_cut = (head ∷ [], stopped (8 ∷ 0 ∷ []) refl (tt, refl) refl);
+  start_with_more = (head ∷ [], stopped (8 ∷ 2 ∷ 0 ∷ 0 ∷ []) refl (tt, refl) refl);
+  count_with_more = (head ∷ [], stopped (12 ∷ 2 ∷ 0 ∷ 0 ∷ []) refl (tt, refl) refl);
+  no_functions = (small_tile items 3 ∷ head ∷ [], stopped [] refl ((tt, refl), refl) refl);
+  code_alone = (head ∷ [], stopped (10 ∷ 2 ∷ 1 ∷ 0 ∷ []) refl (tt, refl) refl);
   code_differs = (
     small_tile items 3 ∷ head ∷ [],
-    record {
-      rest = 10 ∷ 2 ∷ 1 ∷ 0 ∷ [];
-      whole = refl;
-      faultless = ((tt, refl), refl);
-      stops = refl;
-    },
+    stopped (10 ∷ 2 ∷ 1 ∷ 0 ∷ []) refl ((tt, refl), refl) refl,
   );
   no_data = (
     section_tile data_count 12 (1 ∷ []) ∷ head ∷ [],
-    record {
-      rest = [];
-      whole = refl;
-      faultless = ((tt, refl), refl);
-      stops = refl;
-    },
+    stopped [] refl ((tt, refl), refl) refl,
   );
-  no_segments = (small_tile data_count 12 ∷ head ∷ [], record { rest = []; whole = refl; faultless = ((tt, refl), refl); stops = refl });
+  no_segments = (small_tile data_count 12 ∷ head ∷ [], stopped [] refl ((tt, refl), refl) refl);
   data_of_more = (
     small_tile data_count 12 ∷ head ∷ [],
-    record {
-      rest = 11 ∷ 2 ∷ 1 ∷ 0 ∷ [];
-      whole = refl;
-      faultless = ((tt, refl), refl);
-      stops = refl;
-    },
+    stopped (11 ∷ 2 ∷ 1 ∷ 0 ∷ []) refl ((tt, refl), refl) refl,
   );
-  code_without_count = (head ∷ [], record { rest = 10 ∷ 0 ∷ []; whole = refl; faultless = (tt, refl); stops = refl });
-  count_past_the_section = (head ∷ [], record { rest = 10 ∷ 0 ∷ 0 ∷ []; whole = refl; faultless = (tt, refl); stops = refl });
-  no_body = (code 1 1 ∷ functions 1 ∷ head ∷ [], record { rest = []; whole = refl; faultless = (((tt, refl), refl), refl); stops = refl });
+  code_without_count = (head ∷ [], stopped (10 ∷ 0 ∷ []) refl (tt, refl) refl);
+  count_past_the_section = (head ∷ [], stopped (10 ∷ 0 ∷ 0 ∷ []) refl (tt, refl) refl);
+  no_body = (code 1 1 ∷ functions 1 ∷ head ∷ [], stopped [] refl (((tt, refl), refl), refl) refl);
   body_size_cut = (
     code 2 1 ∷ functions 1 ∷ head ∷ [],
-    record {
-      rest = 0x80 ∷ [];
-      whole = refl;
-      faultless = (((tt, refl), refl), refl);
-      stops = refl;
-    },
+    stopped (0x80 ∷ []) refl (((tt, refl), refl), refl) refl,
   );
   body_cut = (
     code 7 1 ∷ functions 1 ∷ head ∷ [],
-    record {
-      rest = 5 ∷ 0 ∷ [];
-      whole = refl;
-      faultless = (((tt, refl), refl), refl);
-      stops = refl;
-    },
+    stopped (5 ∷ 0 ∷ []) refl (((tt, refl), refl), refl) refl,
   );
   body_past_the_section = (
     code 2 1 ∷ functions 1 ∷ head ∷ [],
-    record {
-      rest = 5 ∷ [];
-      whole = refl;
-      faultless = (((tt, refl), refl), refl);
-      stops = refl;
-    },
+    stopped (5 ∷ []) refl (((tt, refl), refl), refl) refl,
   );
 }
