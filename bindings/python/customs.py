@@ -77,7 +77,7 @@ def shown(library, stream):
         if event.kind != wasm.CUSTOM:
             continue
         name = stream[event.data_offset - event.name_size : event.data_offset]
-        kind = library.pulleynavy_custom_kind(ctypes.create_string_buffer(name, max(1, len(name))), len(name))
+        kind = library.pulleynavy_classify_custom(ctypes.create_string_buffer(name, max(1, len(name))), len(name))
         cursor = Cursor(library, stream, event.data_offset, event.end)
         if kind in (LINKING, RELOCATIONS):
             yield "x%s %s" % (name.hex(), linking(cursor) if kind == LINKING else relocations(cursor))

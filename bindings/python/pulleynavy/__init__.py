@@ -36,7 +36,7 @@ class Fault(ValueError):
 
     def __init__(self, library, fault):
         room = ctypes.create_string_buffer(80)
-        size = library.pulleynavy_fault_message(fault.kind, room, 80)
+        size = library.pulleynavy_format_message(fault.kind, room, 80)
         self.kind, self.offset = fault.kind, fault.offset
         self.text = room.raw[:size].decode()
         self.number = fault.number if fault.has_number else None
@@ -48,18 +48,18 @@ class Reader:
 
     def __init__(self, file, size=65536, features=ALL_FEATURES, library=None):
         self.file, self.size, self.library = file, size, library or load()
-        self.feed = self.library.pulleynavy_feed(0, features)
+        self.feed = self.library.pulleynavy_feed_init(0, features)
         self.storage = ctypes.create_string_buffer(2 * size)
 
     def push(self, piece):
-        while not self.library.pulleynavy_push(self.feed, self.storage, len(self.storage), piece, len(piece)):
+        while not self.library.pulleynavy_feed_push(self.feed, self.storage, len(self.storage), piece, len(piece)):
             grown = ctypes.create_string_buffer(2 * len(self.storage))
             ctypes.memmove(grown, self.storage, len(self.storage))
             self.storage = grown
 
     def __iter__(self):
         while True:
-            event = self.library.pulleynavy_step(self.feed, self.storage, len(self.storage))
+            event = self.library.pulleynavy_feed_step(self.feed, self.storage, len(self.storage))
             if event.kind == FAULT:
                 raise Fault(self.library, event.fault)
             if event.kind != NEED_MORE:
@@ -71,7 +71,7 @@ class Reader:
             if piece:
                 self.push(piece)
             else:
-                self.library.pulleynavy_finish(self.feed)
+                self.library.pulleynavy_feed_finish(self.feed)
 
 
 def events(file, size=65536, features=ALL_FEATURES, library=None):

@@ -16,7 +16,7 @@ impl<'a> CoreDumpSection<'a> {
     /// # Errors
     /// The fault of the name, or of bytes after it.
     pub fn new(mut reader: BinaryReader<'a>) -> Result<Self> {
-        let (window, plain) = call!(pulleynavy_core_process, reader);
+        let (window, plain) = call!(pulleynavy_read_core_process, reader);
         reader.expect_end(CUSTOM_TRAILING)?;
         Ok(CoreDumpSection { name: window.text(plain.name) })
     }
@@ -46,7 +46,7 @@ impl<'a> CoreDumpModulesSection<'a> {
 
 /// The name of a module of the section whose data begins at this offset.
 fn module<'a>(reader: &mut BinaryReader<'a>, data_offset: u64) -> Result<&'a str> {
-    let (window, plain) = call!(pulleynavy_core_module, reader, data_offset);
+    let (window, plain) = call!(pulleynavy_read_core_module, reader, data_offset);
     Ok(window.text(plain.name))
 }
 
@@ -82,7 +82,7 @@ pub struct CoreDumpInstance<'a> {
 
 impl<'a> FromReader<'a> for CoreDumpInstance<'a> {
     fn from_reader(reader: &mut BinaryReader<'a>) -> Result<Self> {
-        let (_, plain) = call!(pulleynavy_core_instance, reader);
+        let (_, plain) = call!(pulleynavy_read_core_instance, reader);
         Ok(CoreDumpInstance { module_index: plain.module_index, memories: reader.read()?, globals: reader.read()? })
     }
 }
@@ -102,7 +102,7 @@ impl<'a> CoreDumpStackSection<'a> {
     /// # Errors
     /// The fault of the name or of a frame, or of bytes after the last one.
     pub fn new(mut reader: BinaryReader<'a>) -> Result<Self> {
-        let (window, plain) = call!(pulleynavy_core_thread, reader);
+        let (window, plain) = call!(pulleynavy_read_core_thread, reader);
         let frames = reader.read()?;
         reader.expect_end(CUSTOM_TRAILING)?;
         Ok(CoreDumpStackSection { name: window.text(plain.name), frames })
@@ -126,7 +126,7 @@ pub struct CoreDumpStackFrame<'a> {
 
 impl<'a> FromReader<'a> for CoreDumpStackFrame<'a> {
     fn from_reader(reader: &mut BinaryReader<'a>) -> Result<Self> {
-        let (_, plain) = call!(pulleynavy_core_frame, reader);
+        let (_, plain) = call!(pulleynavy_read_core_frame, reader);
         let (instanceidx, funcidx, codeoffset) = (plain.instance, plain.func, plain.code_offset);
         Ok(CoreDumpStackFrame { instanceidx, funcidx, codeoffset, locals: reader.read()?, stack: reader.read()? })
     }
@@ -149,7 +149,7 @@ pub enum CoreDumpValue {
 
 impl<'a> FromReader<'a> for CoreDumpValue {
     fn from_reader(reader: &mut BinaryReader<'a>) -> Result<Self> {
-        let (_, plain) = call!(pulleynavy_core_value, reader);
+        let (_, plain) = call!(pulleynavy_read_core_value, reader);
         Ok(match plain.kind {
             1 => CoreDumpValue::I32(plain.integer as i32),
             2 => CoreDumpValue::I64(plain.integer),

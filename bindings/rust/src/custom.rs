@@ -122,7 +122,7 @@ impl<'a, T> Subsections<'a, T> {
 
     /// The id and the bytes of the next one.
     fn read(&mut self) -> Result<(u8, BinaryReader<'a>)> {
-        let (window, plain) = call!(pulleynavy_subsection, self);
+        let (window, plain) = call!(pulleynavy_read_subsection, self);
         Ok((plain.id as u8, BinaryReader::of(window.part(plain.contents))))
     }
 }

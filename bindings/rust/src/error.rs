@@ -43,7 +43,7 @@ impl BinaryReaderError {
     pub(crate) fn new(fault: ffi::Fault) -> Self {
         let mut text = [0; 80];
         // SAFETY: the declaration is made from the sources; pointer and length are those of an array of our own.
-        let size = unsafe { ffi::pulleynavy_fault_message(fault.kind, text.as_mut_ptr(), text.len()) };
+        let size = unsafe { ffi::pulleynavy_format_message(fault.kind, text.as_mut_ptr(), text.len()) };
         BinaryReaderError { fault, text, size: size.min(80) }
     }
 

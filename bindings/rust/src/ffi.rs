@@ -482,266 +482,282 @@ pub struct CoreValue {
 
 #[repr(C)]
 #[derive(Clone, Copy, Debug)]
-pub struct Strip {
+pub struct Stripped {
     pub fault: Fault,
     pub size: usize,
 }
 
 unsafe extern "C" {
-    pub fn pulleynavy_fault_message(kind: u32, out: *mut u8, out_size: usize) -> usize;
-    pub fn pulleynavy_parser(offset: u64, features: u32) -> Parser;
+    pub fn pulleynavy_version() -> u32;
+    pub fn pulleynavy_format_message(kind: u32, out: *mut u8, out_size: usize) -> usize;
+    pub fn pulleynavy_parser_init(offset: u64, features: u32) -> Parser;
     pub fn pulleynavy_parse(
-        stored: &mut Parser,
+        parser: &mut Parser,
         bytes: *const u8,
         bytes_size: usize,
         is_all: bool,
     ) -> Event;
-    pub fn pulleynavy_skip_section(stored: &mut Parser) -> u32;
-    pub fn pulleynavy_fault_text(
-        stored: &Parser,
+    pub fn pulleynavy_skip_section(parser: &mut Parser) -> u32;
+    pub fn pulleynavy_format_fault(
+        parser: &Parser,
         bytes: *const u8,
         bytes_size: usize,
         is_all: bool,
         out: *mut u8,
         out_size: usize,
     ) -> usize;
-    pub fn pulleynavy_feed(offset: u64, features: u32) -> Feed;
-    pub fn pulleynavy_step(feed: &mut Feed, storage: *const u8, storage_size: usize) -> Event;
-    pub fn pulleynavy_finish(feed: &mut Feed);
-    pub fn pulleynavy_push(
+    pub fn pulleynavy_feed_init(offset: u64, features: u32) -> Feed;
+    pub fn pulleynavy_feed_step(feed: &mut Feed, storage: *const u8, storage_size: usize) -> Event;
+    pub fn pulleynavy_feed_finish(feed: &mut Feed);
+    pub fn pulleynavy_feed_push(
         feed: &mut Feed,
         storage: *mut u8,
         storage_size: usize,
         piece: *const u8,
         piece_size: usize,
     ) -> bool;
-    pub fn pulleynavy_number(
+    pub fn pulleynavy_read_number(
         bytes: *const u8,
         bytes_size: usize,
         offset: u64,
         features: u32,
     ) -> Number;
-    pub fn pulleynavy_value_type(
+    pub fn pulleynavy_read_value_type(
         bytes: *const u8,
         bytes_size: usize,
         offset: u64,
         features: u32,
     ) -> Value;
-    pub fn pulleynavy_field_type(
+    pub fn pulleynavy_read_field_type(
         bytes: *const u8,
         bytes_size: usize,
         offset: u64,
         features: u32,
     ) -> Field;
-    pub fn pulleynavy_type_group(
+    pub fn pulleynavy_read_type_group(
         bytes: *const u8,
         bytes_size: usize,
         offset: u64,
         features: u32,
     ) -> TypeGroup;
-    pub fn pulleynavy_subtype(
+    pub fn pulleynavy_read_subtype(
         bytes: *const u8,
         bytes_size: usize,
         offset: u64,
         features: u32,
     ) -> Subtype;
-    pub fn pulleynavy_table(
+    pub fn pulleynavy_read_table(
         bytes: *const u8,
         bytes_size: usize,
         offset: u64,
         features: u32,
     ) -> Table;
-    pub fn pulleynavy_memory(
+    pub fn pulleynavy_read_memory(
         bytes: *const u8,
         bytes_size: usize,
         offset: u64,
         features: u32,
     ) -> Memory;
-    pub fn pulleynavy_tag(bytes: *const u8, bytes_size: usize, offset: u64, features: u32) -> Tag;
-    pub fn pulleynavy_global(
+    pub fn pulleynavy_read_tag(
+        bytes: *const u8,
+        bytes_size: usize,
+        offset: u64,
+        features: u32,
+    ) -> Tag;
+    pub fn pulleynavy_read_global(
         bytes: *const u8,
         bytes_size: usize,
         offset: u64,
         features: u32,
     ) -> Global;
-    pub fn pulleynavy_import(
+    pub fn pulleynavy_read_import(
         bytes: *const u8,
         bytes_size: usize,
         offset: u64,
         features: u32,
     ) -> Import;
-    pub fn pulleynavy_import_item(
+    pub fn pulleynavy_read_import_item(
         bytes: *const u8,
         bytes_size: usize,
         offset: u64,
         features: u32,
     ) -> ImportItem;
-    pub fn pulleynavy_name(bytes: *const u8, bytes_size: usize, offset: u64, features: u32) -> Name;
-    pub fn pulleynavy_bundled_import(
+    pub fn pulleynavy_read_name(
+        bytes: *const u8,
+        bytes_size: usize,
+        offset: u64,
+        features: u32,
+    ) -> Name;
+    pub fn pulleynavy_read_bundled_import(
         bundle: &Import,
         bytes: *const u8,
         bytes_size: usize,
         offset: u64,
         features: u32,
     ) -> ImportItem;
-    pub fn pulleynavy_export(
+    pub fn pulleynavy_read_export(
         bytes: *const u8,
         bytes_size: usize,
         offset: u64,
         features: u32,
     ) -> Export;
-    pub fn pulleynavy_expression(
+    pub fn pulleynavy_read_expression(
         bytes: *const u8,
         bytes_size: usize,
         offset: u64,
         features: u32,
     ) -> Expression;
-    pub fn pulleynavy_element(
+    pub fn pulleynavy_read_element(
         bytes: *const u8,
         bytes_size: usize,
         offset: u64,
         features: u32,
     ) -> Element;
-    pub fn pulleynavy_data(bytes: *const u8, bytes_size: usize, offset: u64, features: u32) -> Data;
-    pub fn pulleynavy_subsection(
+    pub fn pulleynavy_read_data(
+        bytes: *const u8,
+        bytes_size: usize,
+        offset: u64,
+        features: u32,
+    ) -> Data;
+    pub fn pulleynavy_read_subsection(
         bytes: *const u8,
         bytes_size: usize,
         offset: u64,
         features: u32,
     ) -> Subsection;
-    pub fn pulleynavy_naming(
+    pub fn pulleynavy_read_naming(
         bytes: *const u8,
         bytes_size: usize,
         offset: u64,
         features: u32,
     ) -> Naming;
-    pub fn pulleynavy_indirect_naming(
+    pub fn pulleynavy_read_indirect_naming(
         bytes: *const u8,
         bytes_size: usize,
         offset: u64,
         features: u32,
     ) -> IndirectNaming;
-    pub fn pulleynavy_producers_field(
+    pub fn pulleynavy_read_producers_field(
         bytes: *const u8,
         bytes_size: usize,
         offset: u64,
         features: u32,
     ) -> ProducersField;
-    pub fn pulleynavy_producers_value(
+    pub fn pulleynavy_read_producers_value(
         bytes: *const u8,
         bytes_size: usize,
         offset: u64,
         features: u32,
     ) -> ProducersValue;
-    pub fn pulleynavy_hinted_function(
+    pub fn pulleynavy_read_hinted_function(
         bytes: *const u8,
         bytes_size: usize,
         offset: u64,
         features: u32,
     ) -> HintedFunction;
-    pub fn pulleynavy_branch_hint(
+    pub fn pulleynavy_read_branch_hint(
         bytes: *const u8,
         bytes_size: usize,
         offset: u64,
         features: u32,
     ) -> BranchHint;
-    pub fn pulleynavy_dylink_memory(
+    pub fn pulleynavy_read_dylink_memory(
         bytes: *const u8,
         bytes_size: usize,
         offset: u64,
         features: u32,
     ) -> DylinkMemory;
-    pub fn pulleynavy_dylink_export(
+    pub fn pulleynavy_read_dylink_export(
         bytes: *const u8,
         bytes_size: usize,
         offset: u64,
         features: u32,
     ) -> DylinkExport;
-    pub fn pulleynavy_dylink_import(
+    pub fn pulleynavy_read_dylink_import(
         bytes: *const u8,
         bytes_size: usize,
         offset: u64,
         features: u32,
     ) -> DylinkImport;
-    pub fn pulleynavy_linking_segment(
+    pub fn pulleynavy_read_linking_segment(
         bytes: *const u8,
         bytes_size: usize,
         offset: u64,
         features: u32,
     ) -> LinkingSegment;
-    pub fn pulleynavy_init_function(
+    pub fn pulleynavy_read_init_function(
         bytes: *const u8,
         bytes_size: usize,
         offset: u64,
         features: u32,
     ) -> InitFunction;
-    pub fn pulleynavy_comdat(
+    pub fn pulleynavy_read_comdat(
         bytes: *const u8,
         bytes_size: usize,
         offset: u64,
         features: u32,
     ) -> Comdat;
-    pub fn pulleynavy_comdat_symbol(
+    pub fn pulleynavy_read_comdat_symbol(
         bytes: *const u8,
         bytes_size: usize,
         offset: u64,
         features: u32,
     ) -> ComdatSymbol;
-    pub fn pulleynavy_linking_version(
+    pub fn pulleynavy_read_linking_version(
         bytes: *const u8,
         bytes_size: usize,
         offset: u64,
         features: u32,
     ) -> Number;
-    pub fn pulleynavy_symbol(
+    pub fn pulleynavy_read_symbol(
         bytes: *const u8,
         bytes_size: usize,
         offset: u64,
         features: u32,
     ) -> Symbol;
-    pub fn pulleynavy_relocation(
+    pub fn pulleynavy_read_relocation(
         bytes: *const u8,
         bytes_size: usize,
         offset: u64,
         features: u32,
     ) -> Relocation;
-    pub fn pulleynavy_core_process(
+    pub fn pulleynavy_read_core_process(
         bytes: *const u8,
         bytes_size: usize,
         offset: u64,
         features: u32,
     ) -> CoreProcess;
-    pub fn pulleynavy_core_module(
+    pub fn pulleynavy_read_core_module(
         bytes: *const u8,
         bytes_size: usize,
         offset: u64,
         features: u32,
         data_offset: u64,
     ) -> CoreModule;
-    pub fn pulleynavy_core_instance(
+    pub fn pulleynavy_read_core_instance(
         bytes: *const u8,
         bytes_size: usize,
         offset: u64,
         features: u32,
     ) -> CoreInstance;
-    pub fn pulleynavy_core_thread(
+    pub fn pulleynavy_read_core_thread(
         bytes: *const u8,
         bytes_size: usize,
         offset: u64,
         features: u32,
     ) -> CoreThread;
-    pub fn pulleynavy_core_frame(
+    pub fn pulleynavy_read_core_frame(
         bytes: *const u8,
         bytes_size: usize,
         offset: u64,
         features: u32,
     ) -> CoreFrame;
-    pub fn pulleynavy_core_value(
+    pub fn pulleynavy_read_core_value(
         bytes: *const u8,
         bytes_size: usize,
         offset: u64,
         features: u32,
     ) -> CoreValue;
-    pub fn pulleynavy_custom_kind(name: *const u8, name_size: usize) -> u32;
-    pub fn pulleynavy_strip(bytes: *mut u8, bytes_size: usize, keep_names: bool) -> Strip;
+    pub fn pulleynavy_classify_custom(name: *const u8, name_size: usize) -> u32;
+    pub fn pulleynavy_strip(bytes: *mut u8, bytes_size: usize, keep_names: bool) -> Stripped;
 }

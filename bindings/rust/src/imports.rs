@@ -97,7 +97,7 @@ impl<'a> FromReader<'a> for Import<'a> {
 
 impl<'a> FromReader<'a> for Imports<'a> {
     fn from_reader(reader: &mut BinaryReader<'a>) -> Result<Self> {
-        let (window, plain) = call!(pulleynavy_import, reader);
+        let (window, plain) = call!(pulleynavy_read_import, reader);
         let (module, ty) = (window.text(plain.module_name), type_ref(&plain.ty));
         let group = match plain.kind {
             0 => Imports::Single(window.offset, Import { module, name: window.text(plain.name), ty }),
@@ -110,7 +110,7 @@ impl<'a> FromReader<'a> for Imports<'a> {
 
 impl<'a> FromReader<'a> for ImportItemCompact<'a> {
     fn from_reader(reader: &mut BinaryReader<'a>) -> Result<Self> {
-        let (window, plain) = call!(pulleynavy_import_item, reader);
+        let (window, plain) = call!(pulleynavy_read_import_item, reader);
         Ok(ImportItemCompact { name: window.text(plain.name), ty: type_ref(&plain.ty) })
     }
 }

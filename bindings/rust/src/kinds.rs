@@ -110,14 +110,14 @@ impl<'a> FromReader<'a> for GlobalType {
 
 impl<'a> FromReader<'a> for MemoryType {
     fn from_reader(reader: &mut BinaryReader<'a>) -> Result<Self> {
-        let (_, plain) = call!(pulleynavy_memory, reader);
+        let (_, plain) = call!(pulleynavy_read_memory, reader);
         Ok(memory_type(plain.ty))
     }
 }
 
 impl<'a> FromReader<'a> for TagType {
     fn from_reader(reader: &mut BinaryReader<'a>) -> Result<Self> {
-        let (_, plain) = call!(pulleynavy_tag, reader);
+        let (_, plain) = call!(pulleynavy_read_tag, reader);
         Ok(exception_tag(plain.func_type_index))
     }
 }

@@ -15,7 +15,7 @@ pub struct Naming<'a> {
 
 impl<'a> FromReader<'a> for Naming<'a> {
     fn from_reader(reader: &mut BinaryReader<'a>) -> Result<Self> {
-        let (window, plain) = call!(pulleynavy_naming, reader);
+        let (window, plain) = call!(pulleynavy_read_naming, reader);
         Ok(Naming { index: plain.index, name: window.text(plain.name) })
     }
 }
@@ -31,7 +31,7 @@ pub struct IndirectNaming<'a> {
 
 impl<'a> FromReader<'a> for IndirectNaming<'a> {
     fn from_reader(reader: &mut BinaryReader<'a>) -> Result<Self> {
-        let (window, plain) = call!(pulleynavy_indirect_naming, reader);
+        let (window, plain) = call!(pulleynavy_read_indirect_naming, reader);
         Ok(IndirectNaming { index: plain.index, names: NameMap::of(SectionLimited::list(window, plain.names, plain.count)) })
     }
 }

@@ -51,7 +51,7 @@ impl Parser {
     /// A parser of a stream that begins at this offset, with all features.
     pub fn new(offset: u64) -> Self {
         // SAFETY: the declaration is made from the sources, and any numbers may be given.
-        Parser(unsafe { ffi::pulleynavy_parser(offset, WasmFeatures::all().bits()) })
+        Parser(unsafe { ffi::pulleynavy_parser_init(offset, WasmFeatures::all().bits()) })
     }
 
     /// Whether bytes begin with the header of a module.

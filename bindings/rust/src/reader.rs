@@ -156,7 +156,7 @@ impl<'a> BinaryReader<'a> {
     /// # Errors
     /// The fault of a number that is cut, too long or too large.
     pub fn read_var_u32(&mut self) -> Result<u32> {
-        let (_, plain) = call!(pulleynavy_number, self);
+        let (_, plain) = call!(pulleynavy_read_number, self);
         Ok(plain.value as u32)
     }
 
@@ -174,7 +174,7 @@ impl<'a> BinaryReader<'a> {
     /// # Errors
     /// The fault of the size, that the bytes aren't all there, or that they aren't UTF-8.
     pub fn read_string(&mut self) -> Result<&'a str> {
-        let (window, plain) = call!(pulleynavy_name, self);
+        let (window, plain) = call!(pulleynavy_read_name, self);
         Ok(window.text(plain.name))
     }
 

@@ -156,7 +156,7 @@ impl RelocationEntry {
 
 impl<'a> FromReader<'a> for RelocationEntry {
     fn from_reader(reader: &mut BinaryReader<'a>) -> Result<Self> {
-        let (_, plain) = call!(pulleynavy_relocation, reader);
+        let (_, plain) = call!(pulleynavy_read_relocation, reader);
         let ffi::Relocation { kind, offset, index, addend, .. } = plain;
         let ty = RelocationType::try_from(kind as u8).expect("the library refuses other types");
         Ok(RelocationEntry { ty, offset, index, addend })

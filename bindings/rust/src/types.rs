@@ -128,7 +128,7 @@ pub(crate) fn val_type(ty: ffi::Type) -> ValType {
 
 impl<'a> FromReader<'a> for ValType {
     fn from_reader(reader: &mut BinaryReader<'a>) -> Result<Self> {
-        let (_, plain) = call!(pulleynavy_value_type, reader);
+        let (_, plain) = call!(pulleynavy_read_value_type, reader);
         Ok(val_type(plain.ty))
     }
 }
@@ -159,7 +159,7 @@ impl<'a> FromReader<'a> for HeapType {
 
 impl<'a> FromReader<'a> for FieldType {
     fn from_reader(reader: &mut BinaryReader<'a>) -> Result<Self> {
-        let (_, plain) = call!(pulleynavy_field_type, reader);
+        let (_, plain) = call!(pulleynavy_read_field_type, reader);
         let element_type = match plain.ty.kind {
             6 => StorageType::I8,
             7 => StorageType::I16,
@@ -212,7 +212,7 @@ pub struct SubType<'a> {
 
 impl<'a> FromReader<'a> for SubType<'a> {
     fn from_reader(reader: &mut BinaryReader<'a>) -> Result<Self> {
-        let (_, head) = call!(pulleynavy_subtype, reader);
+        let (_, head) = call!(pulleynavy_read_subtype, reader);
         let composite_type = match head.kind {
             0 => {
                 let params = List::pass(reader, head.count, ValType::from_reader)?;
@@ -252,7 +252,7 @@ impl<'a> RecGroup<'a> {
 
 impl<'a> FromReader<'a> for RecGroup<'a> {
     fn from_reader(reader: &mut BinaryReader<'a>) -> Result<Self> {
-        let (_, head) = call!(pulleynavy_type_group, reader);
+        let (_, head) = call!(pulleynavy_read_type_group, reader);
         Ok(RecGroup { explicit: head.is_explicit != 0, types: List::pass(reader, head.count, SubType::from_reader)? })
     }
 }

@@ -17,28 +17,28 @@ static uint64_t now(void) {
 
 /* Both readers stay functions of their own, so that a profile shows what a round takes. */
 __attribute__((noinline)) static size_t whole(const uint8_t *bytes, size_t size) {
-    struct pulleynavy_parser parser = pulleynavy_parser(0, PULLEYNAVY_ALL_FEATURES);
+    pulleynavy_parser parser = pulleynavy_parser_init(0, PULLEYNAVY_ALL_FEATURES);
     for (size_t at = 0, count = 1;; count++) {
-        struct pulleynavy_event event = pulleynavy_parse(&parser, bytes + at, size - at, true);
+        pulleynavy_event event = pulleynavy_parse(&parser, bytes + at, size - at, true);
         seen += event.start ^ event.end;
-        if (event.kind >= PULLEYNAVY_END) return count;
+        if (event.kind >= PULLEYNAVY_EVENT_END) return count;
         at += event.consumed;
     }
 }
 
 __attribute__((noinline)) static size_t in_pieces(const uint8_t *bytes, size_t size, size_t piece, uint8_t *storage, size_t room) {
-    struct pulleynavy_feed feed = pulleynavy_feed(0, PULLEYNAVY_ALL_FEATURES);
+    pulleynavy_feed feed = pulleynavy_feed_init(0, PULLEYNAVY_ALL_FEATURES);
     for (size_t at = 0, count = 0;;) {
-        struct pulleynavy_event event = pulleynavy_step(&feed, storage, room);
-        if (event.kind != PULLEYNAVY_NEED_MORE) {
+        pulleynavy_event event = pulleynavy_feed_step(&feed, storage, room);
+        if (event.kind != PULLEYNAVY_EVENT_NEED_MORE) {
             seen += event.start ^ event.end;
             count++;
-            if (event.kind >= PULLEYNAVY_END) return count;
+            if (event.kind >= PULLEYNAVY_EVENT_END) return count;
             continue;
         }
         size_t some = size - at < piece ? size - at : piece;
-        if (!some) pulleynavy_finish(&feed);
-        else if (!pulleynavy_push(&feed, storage, room, bytes + at, some)) abort();
+        if (!some) pulleynavy_feed_finish(&feed);
+        else if (!pulleynavy_feed_push(&feed, storage, room, bytes + at, some)) abort();
         at += some;
     }
 }

@@ -12,18 +12,18 @@ typedef bool entry_reader(struct window *w, uint32_t *index);
 /* The same for a subsection with this id, whose bytes are the window. */
 typedef bool part_reader(uint32_t id, struct window *w);
 
-static struct window window_of(uint64_t from, struct pulleynavy_span span) {
+static struct window window_of(uint64_t from, pulleynavy_span span) {
     return (struct window){from + span.at, from + span.at + span.size};
 }
 
 static bool read_number(struct window *w, uint64_t *value) {
-    struct pulleynavy_number n = READ(pulleynavy_number, w);
+    pulleynavy_number n = READ(pulleynavy_read_number, w);
     *value = n.value;
     return passed(w, n.fault, n.consumed);
 }
 
 static bool text(struct window *w) {
-    struct pulleynavy_name n = READ(pulleynavy_name, w);
+    pulleynavy_name n = READ(pulleynavy_read_name, w);
     uint64_t from = w->at;
     if (!passed(w, n.fault, n.consumed)) return false;
     put_bytes(from, n.name);
@@ -110,7 +110,7 @@ static void parts(struct window w, part_reader *part, uint32_t order) {
     put("<");
     while (w.at < w.end) {
         size_t before = used;
-        struct pulleynavy_subsection s = READ(pulleynavy_subsection, &w);
+        pulleynavy_subsection s = READ(pulleynavy_read_subsection, &w);
         uint64_t at = w.at;
         if (!passed(&w, s.fault, s.consumed)) {
             put_fault();
@@ -132,7 +132,7 @@ static void parts(struct window w, part_reader *part, uint32_t order) {
 
 static bool unknown_part(uint32_t id, const struct window *w) {
     put("unknown %" PRIu32 " ", id);
-    put_bytes(w->at, (struct pulleynavy_span){0, w->end - w->at});
+    put_bytes(w->at, (pulleynavy_span){0, w->end - w->at});
     put(" %" PRIu64 "..%" PRIu64, w->at, w->end);
     return true;
 }
@@ -140,7 +140,7 @@ static bool unknown_part(uint32_t id, const struct window *w) {
 /* ---- names */
 
 static bool naming(struct window *w, uint32_t *index) {
-    struct pulleynavy_naming n = READ(pulleynavy_naming, w);
+    pulleynavy_naming n = READ(pulleynavy_read_naming, w);
     uint64_t from = w->at;
     if (!passed(w, n.fault, n.consumed)) return false;
     *index = n.index;
@@ -151,7 +151,7 @@ static bool naming(struct window *w, uint32_t *index) {
 }
 
 static bool indirect_naming(struct window *w, uint32_t *index) {
-    struct pulleynavy_indirect_naming n = READ(pulleynavy_indirect_naming, w);
+    pulleynavy_indirect_naming n = READ(pulleynavy_read_indirect_naming, w);
     struct window names = *w;
     uint64_t func;
     if (!passed(w, n.fault, n.consumed)) return false;
@@ -189,7 +189,7 @@ static bool name_part(uint32_t id, struct window *w) {
 /* ---- producers and branch hints */
 
 static bool producers_value(struct window *w) {
-    struct pulleynavy_producers_value v = READ(pulleynavy_producers_value, w);
+    pulleynavy_producers_value v = READ(pulleynavy_read_producers_value, w);
     uint64_t from = w->at;
     if (!passed(w, v.fault, v.consumed)) return false;
     put("value(");
@@ -201,7 +201,7 @@ static bool producers_value(struct window *w) {
 }
 
 static bool producers_field(struct window *w) {
-    struct pulleynavy_producers_field f = READ(pulleynavy_producers_field, w);
+    pulleynavy_producers_field f = READ(pulleynavy_read_producers_field, w);
     uint64_t from = w->at;
     if (!passed(w, f.fault, f.consumed)) return false;
     put("field(");
@@ -213,13 +213,13 @@ static bool producers_field(struct window *w) {
 }
 
 static bool branch_hint(struct window *w) {
-    struct pulleynavy_branch_hint h = READ(pulleynavy_branch_hint, w);
+    pulleynavy_branch_hint h = READ(pulleynavy_read_branch_hint, w);
     put("hint(%" PRIu32 " %s )", h.func_offset, yes(h.taken));
     return passed(w, h.fault, h.consumed);
 }
 
 static bool hinted_function(struct window *w) {
-    struct pulleynavy_hinted_function f = READ(pulleynavy_hinted_function, w);
+    pulleynavy_hinted_function f = READ(pulleynavy_read_hinted_function, w);
     struct window hints = *w;
     uint64_t func;
     if (!passed(w, f.fault, f.consumed)) return false;
@@ -234,13 +234,13 @@ static bool hinted_function(struct window *w) {
 /* ---- dynamic linking */
 
 static bool dylink_memory(struct window *w) {
-    struct pulleynavy_dylink_memory m = READ(pulleynavy_dylink_memory, w);
+    pulleynavy_dylink_memory m = READ(pulleynavy_read_dylink_memory, w);
     put("meminfo(%" PRIu32 " %" PRIu32 " %" PRIu32 " %" PRIu32 " )", m.memory_size, m.memory_alignment, m.table_size, m.table_alignment);
     return passed(w, m.fault, m.consumed);
 }
 
 static bool dylink_export(struct window *w) {
-    struct pulleynavy_dylink_export e = READ(pulleynavy_dylink_export, w);
+    pulleynavy_dylink_export e = READ(pulleynavy_read_dylink_export, w);
     put("export(");
     put_bytes(w->at, e.name);
     put(" %" PRIu32 " )", e.flags);
@@ -248,7 +248,7 @@ static bool dylink_export(struct window *w) {
 }
 
 static bool dylink_import(struct window *w) {
-    struct pulleynavy_dylink_import i = READ(pulleynavy_dylink_import, w);
+    pulleynavy_dylink_import i = READ(pulleynavy_read_dylink_import, w);
     put("import(");
     put_bytes(w->at, i.module_name);
     put(" ");
@@ -272,7 +272,7 @@ static bool dylink_part(uint32_t id, struct window *w) {
 /* ---- linking and relocations */
 
 static bool linking_segment(struct window *w) {
-    struct pulleynavy_linking_segment s = READ(pulleynavy_linking_segment, w);
+    pulleynavy_linking_segment s = READ(pulleynavy_read_linking_segment, w);
     put("segment(");
     put_bytes(w->at, s.name);
     put(" %" PRIu32 " %" PRIu32 " )", s.alignment, s.flags);
@@ -280,20 +280,20 @@ static bool linking_segment(struct window *w) {
 }
 
 static bool init_function(struct window *w) {
-    struct pulleynavy_init_function i = READ(pulleynavy_init_function, w);
+    pulleynavy_init_function i = READ(pulleynavy_read_init_function, w);
     put("init(%" PRIu32 " %" PRIu32 " )", i.priority, i.symbol);
     return passed(w, i.fault, i.consumed);
 }
 
 static bool comdat_symbol(struct window *w) {
     static const char *kinds[] = {"data", "func", "global", "event", "table", "section"};
-    struct pulleynavy_comdat_symbol s = READ(pulleynavy_comdat_symbol, w);
+    pulleynavy_comdat_symbol s = READ(pulleynavy_read_comdat_symbol, w);
     put("symbol(%s %" PRIu32 " )", kinds[s.kind], s.index);
     return passed(w, s.fault, s.consumed);
 }
 
 static bool comdat(struct window *w) {
-    struct pulleynavy_comdat c = READ(pulleynavy_comdat, w);
+    pulleynavy_comdat c = READ(pulleynavy_read_comdat, w);
     uint64_t from = w->at, flags;
     if (!passed(w, c.fault, c.consumed)) return false;
     struct window symbols = {from + c.name.at + c.name.size, w->at};
@@ -306,7 +306,7 @@ static bool comdat(struct window *w) {
     return true;
 }
 
-static void put_symbol(uint64_t from, const struct pulleynavy_symbol *s) {
+static void put_symbol(uint64_t from, const pulleynavy_symbol *s) {
     static const char *kinds[] = {"func", "data", "global", "section", "event", "table"};
     put("%s %" PRIu32, kinds[s->kind], s->flags);
     if (s->kind != 1) put(" %" PRIu32, s->index);
@@ -320,7 +320,7 @@ static void put_symbol(uint64_t from, const struct pulleynavy_symbol *s) {
 }
 
 static bool symbol(struct window *w) {
-    struct pulleynavy_symbol s = READ(pulleynavy_symbol, w);
+    pulleynavy_symbol s = READ(pulleynavy_read_symbol, w);
     put_symbol(w->at, &s);
     return passed(w, s.fault, s.consumed);
 }
@@ -334,7 +334,7 @@ static bool linking_part(uint32_t id, struct window *w) {
 
 static bool linking(struct window w) {
     uint64_t from = w.at;
-    struct pulleynavy_number version = READ(pulleynavy_linking_version, &w);
+    pulleynavy_number version = READ(pulleynavy_read_linking_version, &w);
     if (!passed(&w, version.fault, version.consumed)) return false;
     put("version %" PRIu64 " at %" PRIu64 " %" PRIu64 "..%" PRIu64 " ", version.value, w.at, from, w.end);
     parts(w, linking_part, 0);
@@ -342,7 +342,7 @@ static bool linking(struct window w) {
 }
 
 static bool relocation(struct window *w) {
-    struct pulleynavy_relocation r = READ(pulleynavy_relocation, w);
+    pulleynavy_relocation r = READ(pulleynavy_read_relocation, w);
     put("reloc(%" PRIu32 " %" PRIu32 " %" PRIu32 " %" PRId64 " )", r.kind, r.offset, r.index, r.addend);
     return passed(w, r.fault, r.consumed);
 }
@@ -357,7 +357,7 @@ static bool relocations(struct window w) {
 /* ---- core dumps */
 
 static bool process(struct window *w) {
-    struct pulleynavy_core_process p = READ(pulleynavy_core_process, w);
+    pulleynavy_core_process p = READ(pulleynavy_read_core_process, w);
     put_bytes(w->at, p.name);
     return passed(w, p.fault, p.consumed);
 }
@@ -368,8 +368,8 @@ static bool modules(struct window *w) {
     put("[");
     for (uint64_t i = 0; i < count; i++) {
         uint64_t at = w->at;
-        struct pulleynavy_core_module m =
-            pulleynavy_core_module(stream + at, (size_t)(w->end - at), at, PULLEYNAVY_ALL_FEATURES, data_offset);
+        pulleynavy_core_module m =
+            pulleynavy_read_core_module(stream + at, (size_t)(w->end - at), at, PULLEYNAVY_ALL_FEATURES, data_offset);
         if (!passed(w, m.fault, m.consumed)) return false;
         put_bytes(at, m.name);
         put(" ");
@@ -379,7 +379,7 @@ static bool modules(struct window *w) {
 }
 
 static bool instance(struct window *w) {
-    struct pulleynavy_core_instance i = READ(pulleynavy_core_instance, w);
+    pulleynavy_core_instance i = READ(pulleynavy_read_core_instance, w);
     put("instance(%" PRIu32 " ", i.module_index);
     if (!passed(w, i.fault, i.consumed) || !owned(w, number)) return false;
     put(" ");
@@ -390,7 +390,7 @@ static bool instance(struct window *w) {
 
 static bool core_value(struct window *w) {
     static const char *kinds[] = {"missing", "i32:", "i64:", "f32:", "f64:"};
-    struct pulleynavy_core_value v = READ(pulleynavy_core_value, w);
+    pulleynavy_core_value v = READ(pulleynavy_read_core_value, w);
     put("%s", kinds[v.kind]);
     if (v.kind > 2) put("%" PRIu64, v.bits);
     else if (v.kind > 0) put("%" PRId64, v.integer);
@@ -398,7 +398,7 @@ static bool core_value(struct window *w) {
 }
 
 static bool frame(struct window *w) {
-    struct pulleynavy_core_frame f = READ(pulleynavy_core_frame, w);
+    pulleynavy_core_frame f = READ(pulleynavy_read_core_frame, w);
     put("frame(%" PRIu32 " %" PRIu32 " %" PRIu32 " ", f.instance, f.func, f.code_offset);
     if (!passed(w, f.fault, f.consumed) || !owned(w, core_value)) return false;
     put(" ");
@@ -408,7 +408,7 @@ static bool frame(struct window *w) {
 }
 
 static bool stack(struct window *w) {
-    struct pulleynavy_core_thread t = READ(pulleynavy_core_thread, w);
+    pulleynavy_core_thread t = READ(pulleynavy_read_core_thread, w);
     put_bytes(w->at, t.name);
     put(" ");
     return passed(w, t.fault, t.consumed) && owned(w, frame);
@@ -418,7 +418,7 @@ static bool instances(struct window *w) { return owned(w, instance); }
 
 /* ---- all of them */
 
-/* Puts the data of a section of this kind, as `pulleynavy_custom_kind` has it; returns false where it isn't such data. */
+/* Puts the data of a section of this kind, as `pulleynavy_classify_custom` has it; returns false where it isn't such data. */
 static bool put_custom(uint32_t kind, struct window w) {
     static reader *const dumped[] = {process, modules, instances, stack};
     switch (kind) {

@@ -8,7 +8,7 @@
 
 static uint8_t bytes[1 << 20], storage[1 << 21];
 
-static bool is_same(const struct pulleynavy_event *one, const struct pulleynavy_event *other) {
+static bool is_same(const pulleynavy_event *one, const pulleynavy_event *other) {
     return one->kind == other->kind && one->id == other->id && one->count == other->count && one->size == other->size &&
            one->start == other->start && one->end == other->end && one->consumed == other->consumed &&
            one->data_offset == other->data_offset && one->name_size == other->name_size && one->fault.kind == other->fault.kind &&
@@ -16,25 +16,25 @@ static bool is_same(const struct pulleynavy_event *one, const struct pulleynavy_
 }
 
 /* The next event of a feeder, which is given pieces of so many bytes for as long as it asks. */
-static struct pulleynavy_event next(struct pulleynavy_feed *feed, size_t size, size_t *given, size_t piece) {
+static pulleynavy_event next(pulleynavy_feed *feed, size_t size, size_t *given, size_t piece) {
     for (;;) {
-        struct pulleynavy_event event = pulleynavy_step(feed, storage, sizeof storage);
-        if (event.kind != PULLEYNAVY_NEED_MORE) return event;
+        pulleynavy_event event = pulleynavy_feed_step(feed, storage, sizeof storage);
+        if (event.kind != PULLEYNAVY_EVENT_NEED_MORE) return event;
         size_t some = size - *given < piece ? size - *given : piece;
-        if (!some) pulleynavy_finish(feed);
-        else if (!pulleynavy_push(feed, storage, sizeof storage, bytes + *given, some)) abort();
+        if (!some) pulleynavy_feed_finish(feed);
+        else if (!pulleynavy_feed_push(feed, storage, sizeof storage, bytes + *given, some)) abort();
         *given += some;
     }
 }
 
 static void compare(size_t size, size_t piece) {
-    struct pulleynavy_parser parser = pulleynavy_parser(0, PULLEYNAVY_ALL_FEATURES);
-    struct pulleynavy_feed feed = pulleynavy_feed(0, PULLEYNAVY_ALL_FEATURES);
+    pulleynavy_parser parser = pulleynavy_parser_init(0, PULLEYNAVY_ALL_FEATURES);
+    pulleynavy_feed feed = pulleynavy_feed_init(0, PULLEYNAVY_ALL_FEATURES);
     for (size_t at = 0, given = 0;;) {
-        struct pulleynavy_event whole = pulleynavy_parse(&parser, bytes + at, size - at, true);
-        struct pulleynavy_event pieces = next(&feed, size, &given, piece);
+        pulleynavy_event whole = pulleynavy_parse(&parser, bytes + at, size - at, true);
+        pulleynavy_event pieces = next(&feed, size, &given, piece);
         if (!is_same(&whole, &pieces)) abort();
-        if (whole.kind >= PULLEYNAVY_END) return;
+        if (whole.kind >= PULLEYNAVY_EVENT_END) return;
         at += whole.consumed;
     }
 }

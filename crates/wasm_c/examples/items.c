@@ -2,7 +2,7 @@
 #include "customs.h"
 #include "show.h"
 
-static void put_type(struct pulleynavy_type ty) {
+static void put_type(pulleynavy_type ty) {
     static const char *kinds[] = {"i32", "i64", "f32", "f64", "v128", "", "i8", "i16"};
     static const char *heaps[] = {"func", "extern", "any", "eq", "i31", "struct", "array", "exn", "none", "noextern", "nofunc", "noexn"};
     if (ty.kind != 5) put("%s", kinds[ty.kind]);
@@ -15,7 +15,7 @@ static void put_limit(uint32_t is_there, uint64_t limit) {
     else put("- ");
 }
 
-static void put_table(struct pulleynavy_table_type ty) {
+static void put_table(pulleynavy_table_type ty) {
     put("table(");
     put_type(ty.element);
     put(" %s %" PRIu64 " ", yes(ty.table64), ty.initial);
@@ -23,21 +23,21 @@ static void put_table(struct pulleynavy_table_type ty) {
     put("%s )", yes(ty.shared));
 }
 
-static void put_memory(struct pulleynavy_memory_type ty) {
+static void put_memory(pulleynavy_memory_type ty) {
     put("memory(%s %s %" PRIu64 " ", yes(ty.memory64), yes(ty.shared), ty.initial);
     put_limit(ty.has_maximum, ty.maximum);
     put_limit(ty.has_page_size, ty.page_size_log2);
     put(")");
 }
 
-static void put_global(struct pulleynavy_global_type ty) {
+static void put_global(pulleynavy_global_type ty) {
     put("global(");
     put_type(ty.content);
     put(" %s %s )", yes(ty.is_mutable), yes(ty.shared));
 }
 
 static bool field(struct window *w) {
-    struct pulleynavy_field f = READ(pulleynavy_field_type, w);
+    pulleynavy_field f = READ(pulleynavy_read_field_type, w);
     if (!passed(w, f.fault, f.consumed)) return false;
     put("field(");
     put_type(f.ty);
@@ -48,7 +48,7 @@ static bool field(struct window *w) {
 static bool value_types(struct window *w, uint64_t count) {
     put("[");
     for (uint64_t i = 0; i < count; i++) {
-        struct pulleynavy_value v = READ(pulleynavy_value_type, w);
+        pulleynavy_value v = READ(pulleynavy_read_value_type, w);
         if (!passed(w, v.fault, v.consumed)) return false;
         put_type(v.ty);
         put(" ");
@@ -60,7 +60,7 @@ static bool value_types(struct window *w, uint64_t count) {
 static bool function_type(struct window *w, uint32_t params) {
     put("func(");
     if (!value_types(w, params)) return false;
-    struct pulleynavy_number results = READ(pulleynavy_number, w);
+    pulleynavy_number results = READ(pulleynavy_read_number, w);
     if (!passed(w, results.fault, results.consumed) || !value_types(w, results.value)) return false;
     put(") ");
     return true;
@@ -75,7 +75,7 @@ static bool fields(struct window *w, uint32_t kind, uint32_t count) {
 }
 
 static bool subtype(struct window *w) {
-    struct pulleynavy_subtype s = READ(pulleynavy_subtype, w);
+    pulleynavy_subtype s = READ(pulleynavy_read_subtype, w);
     if (!passed(w, s.fault, s.consumed)) return false;
     put("sub(%s ", yes(s.is_final));
     put_limit(s.has_supertype, s.supertype);
@@ -85,7 +85,7 @@ static bool subtype(struct window *w) {
 }
 
 static bool type_group(struct window *w) {
-    struct pulleynavy_type_group g = READ(pulleynavy_type_group, w);
+    pulleynavy_type_group g = READ(pulleynavy_read_type_group, w);
     if (!passed(w, g.fault, g.consumed)) return false;
     put("rec(%s [", yes(g.is_explicit));
     for (uint32_t i = 0; i < g.count; i++)
@@ -95,7 +95,7 @@ static bool type_group(struct window *w) {
 }
 
 static bool table(struct window *w) {
-    struct pulleynavy_table t = READ(pulleynavy_table, w);
+    pulleynavy_table t = READ(pulleynavy_read_table, w);
     uint64_t from = w->at;
     if (!passed(w, t.fault, t.consumed)) return false;
     put("table(");
@@ -108,19 +108,19 @@ static bool table(struct window *w) {
 }
 
 static bool memory(struct window *w) {
-    struct pulleynavy_memory m = READ(pulleynavy_memory, w);
+    pulleynavy_memory m = READ(pulleynavy_read_memory, w);
     put_memory(m.ty);
     return passed(w, m.fault, m.consumed);
 }
 
 static bool tag(struct window *w) {
-    struct pulleynavy_tag t = READ(pulleynavy_tag, w);
+    pulleynavy_tag t = READ(pulleynavy_read_tag, w);
     put("tag(exception %" PRIu32 " )", t.func_type_index);
     return passed(w, t.fault, t.consumed);
 }
 
 static bool global(struct window *w) {
-    struct pulleynavy_global g = READ(pulleynavy_global, w);
+    pulleynavy_global g = READ(pulleynavy_read_global, w);
     put("global(");
     put_global(g.ty);
     put(" ");
@@ -131,7 +131,7 @@ static bool global(struct window *w) {
 
 static bool export(struct window *w) {
     static const char *kinds[] = {"func", "table", "memory", "global", "tag"};
-    struct pulleynavy_export e = READ(pulleynavy_export, w);
+    pulleynavy_export e = READ(pulleynavy_read_export, w);
     put("export(");
     put_bytes(w->at, e.name);
     put(" %s %" PRIu32 " )", kinds[e.kind], e.index);
@@ -139,17 +139,17 @@ static bool export(struct window *w) {
 }
 
 /* The elements of a segment, which have no fault. */
-static void put_elements(uint64_t from, const struct pulleynavy_element *e) {
+static void put_elements(uint64_t from, const pulleynavy_element *e) {
     struct window w = {from + e->items.at, from + e->items.at + e->items.size};
     put("#%" PRIu32 "[", e->count);
     for (uint32_t i = 0; i < e->count; i++) {
         uint64_t at = w.at;
         if (e->has_expressions) {
-            struct pulleynavy_expression x = READ(pulleynavy_expression, &w);
+            pulleynavy_expression x = READ(pulleynavy_read_expression, &w);
             passed(&w, x.fault, x.consumed);
             put("%" PRIu64 ":%" PRIu64 "..%" PRIu64 " ", at, at, w.at);
         } else {
-            struct pulleynavy_number n = READ(pulleynavy_number, &w);
+            pulleynavy_number n = READ(pulleynavy_read_number, &w);
             passed(&w, n.fault, n.consumed);
             put("%" PRIu64 ":%" PRIu64 " ", at, n.value);
         }
@@ -159,7 +159,7 @@ static void put_elements(uint64_t from, const struct pulleynavy_element *e) {
 
 static bool element(struct window *w) {
     static const char *kinds[] = {"passive ", "active ", "declared "};
-    struct pulleynavy_element e = READ(pulleynavy_element, w);
+    pulleynavy_element e = READ(pulleynavy_read_element, w);
     uint64_t from = w->at;
     if (!passed(w, e.fault, e.consumed)) return false;
     put("element(%s", kinds[e.kind]);
@@ -178,7 +178,7 @@ static bool element(struct window *w) {
 }
 
 static bool data(struct window *w) {
-    struct pulleynavy_data d = READ(pulleynavy_data, w);
+    pulleynavy_data d = READ(pulleynavy_read_data, w);
     uint64_t from = w->at;
     if (!passed(w, d.fault, d.consumed)) return false;
     put(d.kind ? "data(active %" PRIu32 " " : "data(passive ", d.memory);
@@ -191,8 +191,8 @@ static bool data(struct window *w) {
     return true;
 }
 
-static void put_import(uint64_t from, struct pulleynavy_span module_name, uint64_t name_from, struct pulleynavy_span name,
-                       const struct pulleynavy_import_type *ty) {
+static void put_import(uint64_t from, pulleynavy_span module_name, uint64_t name_from, pulleynavy_span name,
+                       const pulleynavy_import_type *ty) {
     put("import(");
     put_bytes(from, module_name);
     put(" ");
@@ -213,12 +213,12 @@ static void tell(uint64_t at, bool is_read) {
 }
 
 /* The imports of a group, up to the first fault. */
-static void group(uint64_t from, const struct pulleynavy_import *g) {
+static void group(uint64_t from, const pulleynavy_import *g) {
     struct window w = {from + g->items.at, from + g->items.at + g->items.size};
     for (uint32_t i = 0; i < g->count; i++) {
         uint64_t at = w.at;
-        struct pulleynavy_import_item one =
-            pulleynavy_bundled_import(g, stream + at, (size_t)(w.end - at), at, PULLEYNAVY_ALL_FEATURES);
+        pulleynavy_import_item one =
+            pulleynavy_read_bundled_import(g, stream + at, (size_t)(w.end - at), at, PULLEYNAVY_ALL_FEATURES);
         bool is_read = passed(&w, one.fault, one.consumed);
         if (is_read) put_import(from, g->module_name, at, one.name, &one.ty);
         tell(at, is_read);
@@ -227,7 +227,7 @@ static void group(uint64_t from, const struct pulleynavy_import *g) {
 }
 
 static bool import(struct window *w) {
-    struct pulleynavy_import i = READ(pulleynavy_import, w);
+    pulleynavy_import i = READ(pulleynavy_read_import, w);
     uint64_t from = w->at;
     if (!passed(w, i.fault, i.consumed)) return false;
     if (i.kind) {
@@ -240,10 +240,10 @@ static bool import(struct window *w) {
 }
 
 /* The items of a section, up to the first fault; bytes after them are one. */
-static void items(const struct pulleynavy_event *e) {
+static void items(const pulleynavy_event *e) {
     static bool (*const readers[])(struct window *) = {0, type_group, import, number, table, memory, global, export, 0, element, 0, data, 0, tag};
     struct window w = {e->start, e->end};
-    struct pulleynavy_number count = READ(pulleynavy_number, &w);
+    pulleynavy_number count = READ(pulleynavy_read_number, &w);
     if (!passed(&w, count.fault, count.consumed)) return;
     for (uint64_t i = 0; i < count.value; i++) {
         uint64_t at = w.at;
@@ -258,13 +258,13 @@ static void items(const struct pulleynavy_event *e) {
 }
 
 /* The name and the items of a custom section on one line. */
-static void custom(const struct pulleynavy_event *e) {
+static void custom(const pulleynavy_event *e) {
     struct window data = {e->data_offset, e->end};
     uint8_t *name = stream + e->data_offset - e->name_size;
-    put_bytes(e->data_offset - e->name_size, (struct pulleynavy_span){0, e->name_size});
+    put_bytes(e->data_offset - e->name_size, (pulleynavy_span){0, e->name_size});
     put(" ");
     size_t before = used;
-    if (!put_custom(pulleynavy_custom_kind(name, (size_t)e->name_size), data)) {
+    if (!put_custom(pulleynavy_classify_custom(name, (size_t)e->name_size), data)) {
         used = before;
         put("unknown");
     }
@@ -287,15 +287,15 @@ static size_t read_all(void) {
 
 int main(void) {
     size_t size = read_all();
-    struct pulleynavy_parser parser = pulleynavy_parser(0, PULLEYNAVY_ALL_FEATURES);
+    pulleynavy_parser parser = pulleynavy_parser_init(0, PULLEYNAVY_ALL_FEATURES);
     for (size_t at = 0;;) {
-        struct pulleynavy_event event = pulleynavy_parse(&parser, stream + at, size - at, true);
+        pulleynavy_event event = pulleynavy_parse(&parser, stream + at, size - at, true);
         show_event(&event);
-        if (event.kind == PULLEYNAVY_SECTION) items(&event);
-        if (event.kind == PULLEYNAVY_CUSTOM) custom(&event);
-        if (event.kind >= PULLEYNAVY_END) {
+        if (event.kind == PULLEYNAVY_EVENT_SECTION) items(&event);
+        if (event.kind == PULLEYNAVY_EVENT_CUSTOM) custom(&event);
+        if (event.kind >= PULLEYNAVY_EVENT_END) {
             free(stream), free(line);
-            return event.kind == PULLEYNAVY_FAULT;
+            return event.kind == PULLEYNAVY_EVENT_FAULT;
         }
         at += event.consumed;
     }

@@ -4,8 +4,8 @@
 #include <string.h>
 
 /* Hands a piece to the feeder, whose storage grows where there is no room. */
-static uint8_t *push(struct pulleynavy_feed *feed, uint8_t *storage, size_t *room, const uint8_t *piece, size_t size) {
-    while (!pulleynavy_push(feed, storage, *room, piece, size)) {
+static uint8_t *push(pulleynavy_feed *feed, uint8_t *storage, size_t *room, const uint8_t *piece, size_t size) {
+    while (!pulleynavy_feed_push(feed, storage, *room, piece, size)) {
         uint8_t *grown = realloc(storage, *room *= 2);
         if (!grown) exit(3);
         storage = grown;
@@ -16,18 +16,18 @@ static uint8_t *push(struct pulleynavy_feed *feed, uint8_t *storage, size_t *roo
 int main(int argc, char **argv) {
     size_t size = argc > 1 ? strtoul(argv[1], 0, 10) : 65536, room = size < 2048 ? 4096 : 2 * size;
     uint8_t *storage = malloc(room), *piece = malloc(size);
-    struct pulleynavy_feed feed = pulleynavy_feed(0, PULLEYNAVY_ALL_FEATURES);
+    pulleynavy_feed feed = pulleynavy_feed_init(0, PULLEYNAVY_ALL_FEATURES);
     if (!storage || !piece) return 3;
     for (;;) {
-        struct pulleynavy_event event = pulleynavy_step(&feed, storage, room);
+        pulleynavy_event event = pulleynavy_feed_step(&feed, storage, room);
         show_event(&event);
-        if (event.kind >= PULLEYNAVY_END) {
+        if (event.kind >= PULLEYNAVY_EVENT_END) {
             free(storage), free(piece);
-            return event.kind == PULLEYNAVY_FAULT;
+            return event.kind == PULLEYNAVY_EVENT_FAULT;
         }
-        if (event.kind != PULLEYNAVY_NEED_MORE) continue;
+        if (event.kind != PULLEYNAVY_EVENT_NEED_MORE) continue;
         size_t got = fread(piece, 1, size, stdin);
         if (got) storage = push(&feed, storage, &room, piece, got);
-        else pulleynavy_finish(&feed);
+        else pulleynavy_feed_finish(&feed);
     }
 }

@@ -11,23 +11,23 @@ static int stop(int byte, const char *why) {
     return 1;
 }
 
-static bool is_same(const struct pulleynavy_parser *one, const struct pulleynavy_parser *other) {
+static bool is_same(const pulleynavy_parser *one, const pulleynavy_parser *other) {
     return one->offset == other->offset && one->bodies == other->bodies && one->rank == other->rank;
 }
 
 static int parse(int byte, size_t size, bool is_all) {
-    struct pulleynavy_parser parser, before;
+    pulleynavy_parser parser, before;
     memset(&parser, byte, sizeof parser);
     for (size_t at = 0, i = 0; i < 100; i++) {
         before = parser;
-        struct pulleynavy_event e = pulleynavy_parse(&parser, bytes + at, size - at, is_all);
-        if (e.kind > PULLEYNAVY_FAULT) return stop(byte, "no event has this kind");
+        pulleynavy_event e = pulleynavy_parse(&parser, bytes + at, size - at, is_all);
+        if (e.kind > PULLEYNAVY_EVENT_FAULT) return stop(byte, "no event has this kind");
         if (e.consumed > size - at) return stop(byte, "more was consumed than was there");
-        if (is_all && e.kind == PULLEYNAVY_NEED_MORE) return stop(byte, "more is wanted of all the bytes");
-        if (e.kind == PULLEYNAVY_NEED_MORE && !e.hint) return stop(byte, "nothing is wanted");
-        if ((e.kind == PULLEYNAVY_FAULT) != (e.fault.kind != 0)) return stop(byte, "a fault without a kind");
-        if (e.kind == PULLEYNAVY_FAULT && e.fault.offset - before.offset > size - at) return stop(byte, "a fault outside of the bytes");
-        if (!e.consumed && e.kind != PULLEYNAVY_END && !is_same(&parser, &before)) return stop(byte, "the parser moved");
+        if (is_all && e.kind == PULLEYNAVY_EVENT_NEED_MORE) return stop(byte, "more is wanted of all the bytes");
+        if (e.kind == PULLEYNAVY_EVENT_NEED_MORE && !e.hint) return stop(byte, "nothing is wanted");
+        if ((e.kind == PULLEYNAVY_EVENT_FAULT) != (e.fault.kind != 0)) return stop(byte, "a fault without a kind");
+        if (e.kind == PULLEYNAVY_EVENT_FAULT && e.fault.offset - before.offset > size - at) return stop(byte, "a fault outside of the bytes");
+        if (!e.consumed && e.kind != PULLEYNAVY_EVENT_END && !is_same(&parser, &before)) return stop(byte, "the parser moved");
         if (!e.consumed) break;
         at += e.consumed;
     }
@@ -38,15 +38,15 @@ static int parse(int byte, size_t size, bool is_all) {
 }
 
 static int feed(int byte, size_t size) {
-    struct pulleynavy_feed feed;
+    pulleynavy_feed feed;
     uint8_t storage[4096];
     memset(&feed, byte, sizeof feed);
     memset(storage, byte, sizeof storage);
-    bool is_pushed = pulleynavy_push(&feed, storage, sizeof storage, bytes, size < 100 ? size : 100);
-    struct pulleynavy_event e = pulleynavy_step(&feed, storage, sizeof storage);
-    pulleynavy_finish(&feed);
+    bool is_pushed = pulleynavy_feed_push(&feed, storage, sizeof storage, bytes, size < 100 ? size : 100);
+    pulleynavy_event e = pulleynavy_feed_step(&feed, storage, sizeof storage);
+    pulleynavy_feed_finish(&feed);
     if (!is_pushed && byte != 0) return stop(byte, "there was no room");
-    return e.kind > PULLEYNAVY_FAULT ? stop(byte, "no event has this kind") : 0;
+    return e.kind > PULLEYNAVY_EVENT_FAULT ? stop(byte, "no event has this kind") : 0;
 }
 
 int main(void) {

@@ -13,7 +13,7 @@ struct window {
 };
 
 static uint8_t *stream;
-static struct pulleynavy_fault fault;
+static pulleynavy_fault fault;
 static char *line;
 static size_t used, room;
 
@@ -36,19 +36,19 @@ static void put(const char *format, ...) {
 }
 
 /* Moves past an item, or keeps its fault. */
-static bool passed(struct window *w, struct pulleynavy_fault found, uint64_t consumed) {
+static bool passed(struct window *w, pulleynavy_fault found, uint64_t consumed) {
     fault = found;
     w->at += consumed;
     return !found.kind;
 }
 
 /* Keeps a fault that the library leaves to the caller. */
-static void set_fault(uint32_t kind, uint64_t at) { fault = (struct pulleynavy_fault){kind, 0, 0, at}; }
+static void set_fault(uint32_t kind, uint64_t at) { fault = (pulleynavy_fault){kind, 0, 0, at}; }
 
 /* Puts the fault, and a space after it. */
 static void put_fault(void) {
     uint8_t text[80];
-    size_t size = pulleynavy_fault_message(fault.kind, text, sizeof text);
+    size_t size = pulleynavy_format_message(fault.kind, text, sizeof text);
     put("fault %" PRIu64 " %.*s", fault.offset, (int)size, (const char *)text);
     if (fault.has_number) put(": %" PRIu64, fault.number);
     put(" ");
@@ -56,17 +56,17 @@ static void put_fault(void) {
 
 static const char *yes(uint32_t flag) { return flag ? "true" : "false"; }
 
-static void put_bytes(uint64_t from, struct pulleynavy_span span) {
+static void put_bytes(uint64_t from, pulleynavy_span span) {
     put("x");
     for (uint64_t i = 0; i < span.size; i++) put("%02x", stream[from + span.at + i]);
 }
 
-static void put_range(uint64_t from, struct pulleynavy_span span) {
+static void put_range(uint64_t from, pulleynavy_span span) {
     put("%" PRIu64 "..%" PRIu64, from + span.at, from + span.at + span.size);
 }
 
 static bool number(struct window *w) {
-    struct pulleynavy_number n = READ(pulleynavy_number, w);
+    pulleynavy_number n = READ(pulleynavy_read_number, w);
     put("%" PRIu64, n.value);
     return passed(w, n.fault, n.consumed);
 }

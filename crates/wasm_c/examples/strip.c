@@ -16,7 +16,7 @@ int main(int count, char **words) {
     }
     (void)words;
     if (!bytes) return 3;
-    struct pulleynavy_strip strip = pulleynavy_strip(bytes, size, count > 1);
+    pulleynavy_stripped strip = pulleynavy_strip(bytes, size, count > 1);
     int failed = fwrite(bytes, 1, strip.size, stdout) != strip.size;
     free(bytes);
     return failed ? 3 : strip.fault.kind != 0;

@@ -15,13 +15,13 @@ int main() {
     std::vector<uint8_t> bytes(chars.begin(), chars.end());
     bytes.push_back(0); // so that there is a byte to point to
     const size_t size = bytes.size() - 1;
-    struct pulleynavy_parser parser = pulleynavy_parser(0, PULLEYNAVY_ALL_FEATURES);
+    pulleynavy_parser parser = pulleynavy_parser_init(0, PULLEYNAVY_ALL_FEATURES);
     for (size_t at = 0;;) {
-        struct pulleynavy_parser copy = parser;
-        struct pulleynavy_event event = pulleynavy_parse(&parser, bytes.data() + at, size - at, true);
+        pulleynavy_parser copy = parser;
+        pulleynavy_event event = pulleynavy_parse(&parser, bytes.data() + at, size - at, true);
         if (!same(event, pulleynavy_parse(&copy, bytes.data() + at, size - at, true))) return 4;
         show_event(&event);
-        if (event.kind >= PULLEYNAVY_END) return event.kind == PULLEYNAVY_FAULT;
+        if (event.kind >= PULLEYNAVY_EVENT_END) return event.kind == PULLEYNAVY_EVENT_FAULT;
         at += event.consumed;
     }
 }

@@ -4,15 +4,15 @@ use Rattle.wasm_base.specs.FaultAt.{fault_at}
 use Rattle.wasm_base.specs.declared.error.Error.{Error}
 use Rattle.wasm_feed.specs.Stripped.{StripsToFront}
 use Rattle.wasm_c.specs.Faults.{no_fault, plain_fault}
-use Rattle.wasm_c.specs.declared.strip.PlainStrip.{PlainStrip}
+use Rattle.wasm_c.specs.declared.strip.PlainStripped.{PlainStripped}
 
 -- how many bytes are left, or the fault
-abbrev pub plain_strip : Result ℕ Error → PlainStrip
+abbrev pub plain_strip : Result ℕ Error → PlainStripped
 plain_strip (Ok size) = record { fault = no_fault; size = size }
 plain_strip (Err e) = record { fault = plain_fault (fault_at e); size = 0 }
 
 -- A stream was stripped in its own bytes, or refused.
-pub record StripsPlain (keep : Bool) (stream : List ℕ) (answer : PlainStrip) (after : List ℕ) : Type 0 where
+pub record StripsPlain (keep : Bool) (stream : List ℕ) (answer : PlainStripped) (after : List ℕ) : Type 0 where
   pub result : Result ℕ Error
   pub strips : StripsToFront keep stream result after
   pub answers : answer ≡ plain_strip result

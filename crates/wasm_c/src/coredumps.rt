@@ -234,7 +234,7 @@ fn next_core_process(mut reader: BinaryReader<'_>) -> PlainCoreProcess
 /// Reads the name of the process of a core dump, after a byte 0 (tool conventions, Coredump, Process Information). The bytes are
 /// the remaining bytes of its section, at `offset` of the stream. After a fault all other fields are 0.
 #[unsafe(no_mangle)]
-pub extern "C" fn pulleynavy_core_process(
+pub extern "C" fn pulleynavy_read_core_process(
     bytes: &[u8],
     offset: u64,
     features: u32,
@@ -276,7 +276,7 @@ fn next_core_module(mut reader: BinaryReader<'_>, data_offset: u64) -> PlainCore
 /// a fault at `data_offset`, the offset of the section's data, for a later module too. The bytes are the remaining bytes of its
 /// section, at `offset` of the stream. After a fault all other fields are 0.
 #[unsafe(no_mangle)]
-pub extern "C" fn pulleynavy_core_module(
+pub extern "C" fn pulleynavy_read_core_module(
     bytes: &[u8],
     offset: u64,
     features: u32,
@@ -316,10 +316,10 @@ fn next_core_instance(mut reader: BinaryReader<'_>) -> PlainCoreInstance
 }
 
 /// Reads the start of an instance of a core dump (tool conventions, Coredump, Modules and Instances). A count of memories and as
-/// many indices follow, each read by `pulleynavy_number`, then the same of globals. The bytes are the remaining bytes of its
+/// many indices follow, each read by `pulleynavy_read_number`, then the same of globals. The bytes are the remaining bytes of its
 /// section, at `offset` of the stream. After a fault all other fields are 0.
 #[unsafe(no_mangle)]
-pub extern "C" fn pulleynavy_core_instance(
+pub extern "C" fn pulleynavy_read_core_instance(
     bytes: &[u8],
     offset: u64,
     features: u32,
@@ -360,7 +360,7 @@ fn next_core_thread(mut reader: BinaryReader<'_>) -> PlainCoreThread
 /// Reads the name of a thread of a core dump, after a byte 0 (tool conventions, Coredump, Thread(s) and Stack Frames). The bytes
 /// are the remaining bytes of its section, at `offset` of the stream. After a fault all other fields are 0.
 #[unsafe(no_mangle)]
-pub extern "C" fn pulleynavy_core_thread(
+pub extern "C" fn pulleynavy_read_core_thread(
     bytes: &[u8],
     offset: u64,
     features: u32,
@@ -403,10 +403,14 @@ fn next_core_frame(mut reader: BinaryReader<'_>) -> PlainCoreFrame
 }
 
 /// Reads the start of a frame of a core dump (tool conventions, Coredump, Thread(s) and Stack Frames). A count of locals follows,
-/// read by `pulleynavy_number`, and as many values, each read by `pulleynavy_core_value`, then the same of the stack. The bytes
+/// read by `pulleynavy_read_number`, and as many values, each read by `pulleynavy_read_core_value`, then the same of the stack. The bytes
 /// are the remaining bytes of its section, at `offset` of the stream. After a fault all other fields are 0.
 #[unsafe(no_mangle)]
-pub extern "C" fn pulleynavy_core_frame(bytes: &[u8], offset: u64, features: u32) -> PlainCoreFrame
+pub extern "C" fn pulleynavy_read_core_frame(
+    bytes: &[u8],
+    offset: u64,
+    features: u32,
+) -> PlainCoreFrame
     ensures { result ≡ plain_core_frame (place_over features offset bytes.now)
         (read_over frame_head_at features offset bytes.now) }
 {
@@ -447,7 +451,11 @@ fn next_core_value(mut reader: BinaryReader<'_>) -> PlainCoreValue
 /// Reads a value of a core dump, of a frame's locals or its stack (tool conventions, Coredump, Thread(s) and Stack Frames). The
 /// bytes are the remaining bytes of its section, at `offset` of the stream. After a fault all other fields are 0.
 #[unsafe(no_mangle)]
-pub extern "C" fn pulleynavy_core_value(bytes: &[u8], offset: u64, features: u32) -> PlainCoreValue
+pub extern "C" fn pulleynavy_read_core_value(
+    bytes: &[u8],
+    offset: u64,
+    features: u32,
+) -> PlainCoreValue
     ensures { result ≡ plain_core_value (place_over features offset bytes.now)
         (read_over value_at features offset bytes.now) }
 {

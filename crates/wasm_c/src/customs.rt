@@ -12,7 +12,7 @@ fn is_text(name: &[u8], text: &[u8]) -> bool
 /// `name`, 2 `metadata.code.branch_hint`, 3 `producers`, 4 `dylink.0`, 5 `linking`, 6 a name that begins with `reloc.`, 7 `core`,
 /// 8 `coremodules`, 9 `coreinstances`, 10 `corestack`.
 #[unsafe(no_mangle)]
-pub extern "C" fn pulleynavy_custom_kind(name: &[u8]) -> u32
+pub extern "C" fn pulleynavy_classify_custom(name: &[u8]) -> u32
     ensures { result ≡ custom_kind name.now }
 {
     if is_text(name, b"name") {

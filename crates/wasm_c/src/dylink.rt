@@ -94,7 +94,7 @@ fn next_dylink_memory(mut reader: BinaryReader<'_>) -> PlainDylinkMemory
 /// Reads subsection 1 of the section `dylink.0` (tool conventions, Dynamic Linking, The "dylink.0" Section). The bytes are the
 /// remaining bytes of its section, at `offset` of the stream. After a fault all other fields are 0.
 #[unsafe(no_mangle)]
-pub extern "C" fn pulleynavy_dylink_memory(
+pub extern "C" fn pulleynavy_read_dylink_memory(
     bytes: &[u8],
     offset: u64,
     features: u32,
@@ -138,7 +138,7 @@ fn next_dylink_export(mut reader: BinaryReader<'_>) -> PlainDylinkExport
 /// Reads an export of subsection 3 of the section `dylink.0`, after the count (tool conventions, Dynamic Linking, The "dylink.0"
 /// Section). The bytes are the remaining bytes of its section, at `offset` of the stream. After a fault all other fields are 0.
 #[unsafe(no_mangle)]
-pub extern "C" fn pulleynavy_dylink_export(
+pub extern "C" fn pulleynavy_read_dylink_export(
     bytes: &[u8],
     offset: u64,
     features: u32,
@@ -184,7 +184,7 @@ fn next_dylink_import(mut reader: BinaryReader<'_>) -> PlainDylinkImport
 /// Reads an import of subsection 4 of the section `dylink.0`, after the count (tool conventions, Dynamic Linking, The "dylink.0"
 /// Section). The bytes are the remaining bytes of its section, at `offset` of the stream. After a fault all other fields are 0.
 #[unsafe(no_mangle)]
-pub extern "C" fn pulleynavy_dylink_import(
+pub extern "C" fn pulleynavy_read_dylink_import(
     bytes: &[u8],
     offset: u64,
     features: u32,

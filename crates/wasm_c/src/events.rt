@@ -13,7 +13,7 @@ use wasm_parser::{Encoding, Error, Payload};
 #[repr(C)]
 #[derive(Clone, Copy, Debug, PartialEq, Eq)]
 pub struct PlainEvent {
-    /// What it is, as in `pulleynavy_kind`: 0 a request for more bytes, 1 a header, 2 a section that begins with a count of
+    /// What it is, as in `pulleynavy_event_kind`: 0 a request for more bytes, 1 a header, 2 a section that begins with a count of
     /// items, 3 the start section, 4 the data count section, 5 the start of a code section, 6 a body, 7 a custom section, 8 a
     /// section with an unknown id, 9 the end of the stream, 10 a fault.
     pub kind: u32,

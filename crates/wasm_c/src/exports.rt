@@ -71,7 +71,7 @@ fn next_export(mut reader: BinaryReader<'_>) -> PlainExport
 /// Reads the export at the start of `bytes` (core specification, Binary format, Modules, Export Section). The bytes are the
 /// remaining bytes of its section, at `offset` of the stream. After a fault all other fields are 0.
 #[unsafe(no_mangle)]
-pub extern "C" fn pulleynavy_export(bytes: &[u8], offset: u64, features: u32) -> PlainExport
+pub extern "C" fn pulleynavy_read_export(bytes: &[u8], offset: u64, features: u32) -> PlainExport
     ensures { result ≡ plain_export (place_over features offset bytes.now)
         (read_over export_at features offset bytes.now) }
 {

@@ -4,7 +4,7 @@ ghost use Rattle.wasm_parser.specs.ParserState.{initial_state};
 ghost use Rattle.wasm_c.specs.Feeds.{IsFinished, IsNewFeed, PushesPlain, StepsPlain};
 
 use crate::events::PlainEvent;
-use crate::parsing::{parse_stored, pulleynavy_parser};
+use crate::parsing::{parse_stored, pulleynavy_parser_init};
 use crate::stored::StoredParser;
 
 /// A feeder: its parser, and where in the caller's storage the bytes are that were pushed and not consumed. Any bytes are a
@@ -26,11 +26,11 @@ pub struct StoredFeed {
 /// Returns a feeder of a stream that begins at this offset. Its windows have these features. It holds no bytes, so any storage
 /// will do.
 #[unsafe(no_mangle)]
-pub extern "C" fn pulleynavy_feed(offset: u64, features: u32) -> StoredFeed
+pub extern "C" fn pulleynavy_feed_init(offset: u64, features: u32) -> StoredFeed
     ensures { IsNewFeed result (initial_state offset features) }
 {
     StoredFeed {
-        parser: pulleynavy_parser(offset, features),
+        parser: pulleynavy_parser_init(offset, features),
         mark: 0,
         end: 0,
         is_finished: 0,
@@ -60,10 +60,10 @@ fn after(bytes: &[u8], mark: usize) -> &[u8]
 }
 
 /// Reads the next part of the stream from the bytes that the storage holds. A fault or a request for more bytes leaves the feeder
-/// unchanged. After a request, call `pulleynavy_push` or `pulleynavy_finish`, then step again. After `pulleynavy_finish` it never
+/// unchanged. After a request, call `pulleynavy_feed_push` or `pulleynavy_feed_finish`, then step again. After `pulleynavy_feed_finish` it never
 /// requests more. After a fault, the next step returns the same fault.
 #[unsafe(no_mangle)]
-pub extern "C" fn pulleynavy_step(feed: &mut StoredFeed, storage: &[u8]) -> PlainEvent
+pub extern "C" fn pulleynavy_feed_step(feed: &mut StoredFeed, storage: &[u8]) -> PlainEvent
     ensures { StepsPlain feed.old storage.now result feed.new }
 {
     let held = after(front(storage, feed.end), feed.mark);
@@ -74,7 +74,7 @@ pub extern "C" fn pulleynavy_step(feed: &mut StoredFeed, storage: &[u8]) -> Plai
 
 /// Marks the end of the input: no bytes come after those that were pushed.
 #[unsafe(no_mangle)]
-pub extern "C" fn pulleynavy_finish(feed: &mut StoredFeed)
+pub extern "C" fn pulleynavy_feed_finish(feed: &mut StoredFeed)
     ensures { IsFinished feed.old feed.new }
 {
     feed.is_finished = 1;
@@ -84,7 +84,11 @@ pub extern "C" fn pulleynavy_finish(feed: &mut StoredFeed)
 /// them. Returns false if there is no room for both, and leaves feeder and storage unchanged: call it again with more storage
 /// that begins with the same bytes.
 #[unsafe(no_mangle)]
-pub extern "C" fn pulleynavy_push(feed: &mut StoredFeed, storage: &mut [u8], piece: &[u8]) -> bool
+pub extern "C" fn pulleynavy_feed_push(
+    feed: &mut StoredFeed,
+    storage: &mut [u8],
+    piece: &[u8],
+) -> bool
     ensures { PushesPlain feed.old storage.old piece.now result feed.new storage.new }
 {
     if feed.mark <= feed.end && has_room(storage, feed.end, piece) {

@@ -69,10 +69,10 @@ fn next_hinted_function(mut reader: BinaryReader<'_>) -> PlainHintedFunction
 }
 
 /// Reads the function with branch hints at the start of `bytes` (tool conventions, Code Metadata, Branch Hints). Its hints are
-/// read by `pulleynavy_branch_hint`, and have no fault. The bytes are the remaining bytes of its section, at `offset` of the
+/// read by `pulleynavy_read_branch_hint`, and have no fault. The bytes are the remaining bytes of its section, at `offset` of the
 /// stream. After a fault all other fields are 0.
 #[unsafe(no_mangle)]
-pub extern "C" fn pulleynavy_hinted_function(
+pub extern "C" fn pulleynavy_read_hinted_function(
     bytes: &[u8],
     offset: u64,
     features: u32,
@@ -115,7 +115,7 @@ fn next_branch_hint(mut reader: BinaryReader<'_>) -> PlainBranchHint
 /// Reads the branch hint at the start of `bytes` (tool conventions, Code Metadata, Branch Hints). The bytes are the remaining
 /// bytes of its section, at `offset` of the stream. After a fault all other fields are 0.
 #[unsafe(no_mangle)]
-pub extern "C" fn pulleynavy_branch_hint(
+pub extern "C" fn pulleynavy_read_branch_hint(
     bytes: &[u8],
     offset: u64,
     features: u32,

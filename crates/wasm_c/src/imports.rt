@@ -192,10 +192,10 @@ fn next_import(mut reader: BinaryReader<'_>) -> PlainImport
 
 /// Reads the import, or the bundle of imports, at the start of `bytes` (core specification, Binary format, Modules, Import
 /// Section; the bundles are of the proposal for compact imports). The imports of a bundle are read by
-/// `pulleynavy_bundled_import`. The bytes are the remaining bytes of its section, at `offset` of the stream. After a fault all
+/// `pulleynavy_read_bundled_import`. The bytes are the remaining bytes of its section, at `offset` of the stream. After a fault all
 /// other fields are 0.
 #[unsafe(no_mangle)]
-pub extern "C" fn pulleynavy_import(bytes: &[u8], offset: u64, features: u32) -> PlainImport
+pub extern "C" fn pulleynavy_read_import(bytes: &[u8], offset: u64, features: u32) -> PlainImport
     ensures { result ≡ plain_import (place_over features offset bytes.now)
         (read_over bundle_at features offset bytes.now) }
 {
@@ -235,7 +235,7 @@ fn next_import_item(mut reader: BinaryReader<'_>) -> PlainImportItem
 /// Reads the import of a bundle of one module at the start of `bytes` (the proposal for compact imports). The bytes are the
 /// remaining bytes of its section, at `offset` of the stream. After a fault all other fields are 0.
 #[unsafe(no_mangle)]
-pub extern "C" fn pulleynavy_import_item(
+pub extern "C" fn pulleynavy_read_import_item(
     bytes: &[u8],
     offset: u64,
     features: u32,
@@ -278,7 +278,7 @@ fn next_name(mut reader: BinaryReader<'_>) -> PlainName
 /// Reads the name at the start of `bytes`, of at most 100,000 bytes (core specification, Binary format, Values, Names). The bytes
 /// are the remaining bytes of its section, at `offset` of the stream. After a fault all other fields are 0.
 #[unsafe(no_mangle)]
-pub extern "C" fn pulleynavy_name(bytes: &[u8], offset: u64, features: u32) -> PlainName
+pub extern "C" fn pulleynavy_read_name(bytes: &[u8], offset: u64, features: u32) -> PlainName
     ensures { result ≡ plain_name (place_over features offset bytes.now)
         (read_over (text_at (Some name_limit)) features offset bytes.now) }
 {
@@ -310,7 +310,7 @@ fn next_named(ty: PlainImportType, mut reader: BinaryReader<'_>) -> PlainImportI
 /// Where the bundle has one type its imports are names, and the type is the bundle's. The bytes are the remaining bytes of its
 /// section, at `offset` of the stream. After a fault all other fields are 0.
 #[unsafe(no_mangle)]
-pub extern "C" fn pulleynavy_bundled_import(
+pub extern "C" fn pulleynavy_read_bundled_import(
     bundle: &PlainImport,
     bytes: &[u8],
     offset: u64,
@@ -319,7 +319,7 @@ pub extern "C" fn pulleynavy_bundled_import(
     ensures { result ≡ bundled_over bundle.now features offset bytes.now }
 {
     if bundle.kind != OF_TYPE {
-        return pulleynavy_import_item(bytes, offset, features);
+        return pulleynavy_read_import_item(bytes, offset, features);
     }
     if !fits(offset, bytes.len()) {
         return refused_import_item(out_of_range(offset));

@@ -262,7 +262,7 @@ fn next_table(mut reader: BinaryReader<'_>) -> PlainTable
 /// Reads the table at the start of `bytes` (core specification, Binary format, Modules, Table Section). The bytes are the
 /// remaining bytes of its section, at `offset` of the stream. After a fault all other fields are 0.
 #[unsafe(no_mangle)]
-pub extern "C" fn pulleynavy_table(bytes: &[u8], offset: u64, features: u32) -> PlainTable
+pub extern "C" fn pulleynavy_read_table(bytes: &[u8], offset: u64, features: u32) -> PlainTable
     ensures { result ≡ plain_table (place_over features offset bytes.now)
         (read_over table_at features offset bytes.now) }
 {
@@ -299,7 +299,7 @@ fn next_memory(mut reader: BinaryReader<'_>) -> PlainMemory
 /// Reads the memory at the start of `bytes` (core specification, Binary format, Modules, Memory Section). The bytes are the
 /// remaining bytes of its section, at `offset` of the stream. After a fault all other fields are 0.
 #[unsafe(no_mangle)]
-pub extern "C" fn pulleynavy_memory(bytes: &[u8], offset: u64, features: u32) -> PlainMemory
+pub extern "C" fn pulleynavy_read_memory(bytes: &[u8], offset: u64, features: u32) -> PlainMemory
     ensures { result ≡ plain_memory (place_over features offset bytes.now)
         (read_over memory_type_at features offset bytes.now) }
 {
@@ -336,7 +336,7 @@ fn next_tag(mut reader: BinaryReader<'_>) -> PlainTag
 /// Reads the tag at the start of `bytes` (core specification, Binary format, Modules, Tag Section). The bytes are the remaining
 /// bytes of its section, at `offset` of the stream. After a fault all other fields are 0.
 #[unsafe(no_mangle)]
-pub extern "C" fn pulleynavy_tag(bytes: &[u8], offset: u64, features: u32) -> PlainTag
+pub extern "C" fn pulleynavy_read_tag(bytes: &[u8], offset: u64, features: u32) -> PlainTag
     ensures { result ≡ plain_tag (place_over features offset bytes.now)
         (read_over tag_type_at features offset bytes.now) }
 {
@@ -375,7 +375,7 @@ fn next_global(mut reader: BinaryReader<'_>) -> PlainGlobal
 /// Reads the global at the start of `bytes` (core specification, Binary format, Modules, Global Section). The bytes are the
 /// remaining bytes of its section, at `offset` of the stream. After a fault all other fields are 0.
 #[unsafe(no_mangle)]
-pub extern "C" fn pulleynavy_global(bytes: &[u8], offset: u64, features: u32) -> PlainGlobal
+pub extern "C" fn pulleynavy_read_global(bytes: &[u8], offset: u64, features: u32) -> PlainGlobal
     ensures { result ≡ plain_global (place_over features offset bytes.now)
         (read_over global_at features offset bytes.now) }
 {

@@ -26,61 +26,106 @@ mod symbols;
 mod text;
 mod types;
 mod values;
+mod version;
 
-pub use coredumps::{
-    PlainCoreFrame, PlainCoreInstance, PlainCoreModule, PlainCoreProcess, PlainCoreThread,
-    PlainCoreValue, pulleynavy_core_frame, pulleynavy_core_instance, pulleynavy_core_module,
-    pulleynavy_core_process, pulleynavy_core_thread, pulleynavy_core_value,
-};
-pub use customs::pulleynavy_custom_kind;
-pub use dylink::{
-    PlainDylinkExport, PlainDylinkImport, PlainDylinkMemory, pulleynavy_dylink_export,
-    pulleynavy_dylink_import, pulleynavy_dylink_memory,
-};
+pub use coredumps::PlainCoreFrame;
+pub use coredumps::PlainCoreInstance;
+pub use coredumps::PlainCoreModule;
+pub use coredumps::PlainCoreProcess;
+pub use coredumps::PlainCoreThread;
+pub use coredumps::PlainCoreValue;
+pub use coredumps::pulleynavy_read_core_frame;
+pub use coredumps::pulleynavy_read_core_instance;
+pub use coredumps::pulleynavy_read_core_module;
+pub use coredumps::pulleynavy_read_core_process;
+pub use coredumps::pulleynavy_read_core_thread;
+pub use coredumps::pulleynavy_read_core_value;
+pub use customs::pulleynavy_classify_custom;
+pub use dylink::PlainDylinkExport;
+pub use dylink::PlainDylinkImport;
+pub use dylink::PlainDylinkMemory;
+pub use dylink::pulleynavy_read_dylink_export;
+pub use dylink::pulleynavy_read_dylink_import;
+pub use dylink::pulleynavy_read_dylink_memory;
 pub use events::PlainEvent;
-pub use exports::{PlainExport, pulleynavy_export};
+pub use exports::PlainExport;
+pub use exports::pulleynavy_read_export;
 pub use faults::PlainFault;
-pub use feeding::{
-    StoredFeed, pulleynavy_feed, pulleynavy_finish, pulleynavy_push, pulleynavy_step,
-};
-pub use hints::{
-    PlainBranchHint, PlainHintedFunction, pulleynavy_branch_hint, pulleynavy_hinted_function,
-};
-pub use imports::{
-    PlainImport, PlainImportItem, PlainImportType, PlainName, pulleynavy_bundled_import,
-    pulleynavy_import, pulleynavy_import_item, pulleynavy_name,
-};
-pub use kinds::{
-    PlainGlobal, PlainGlobalType, PlainMemory, PlainMemoryType, PlainTable, PlainTableType,
-    PlainTag, pulleynavy_global, pulleynavy_memory, pulleynavy_table, pulleynavy_tag,
-};
-pub use linking::{
-    PlainComdat, PlainComdatSymbol, PlainInitFunction, PlainLinkingSegment, pulleynavy_comdat,
-    pulleynavy_comdat_symbol, pulleynavy_init_function, pulleynavy_linking_segment,
-};
-pub use messages::pulleynavy_fault_message;
-pub use names::{
-    PlainIndirectNaming, PlainNaming, PlainSubsection, pulleynavy_indirect_naming,
-    pulleynavy_naming, pulleynavy_subsection,
-};
-pub use parsing::{
-    pulleynavy_fault_text, pulleynavy_parse, pulleynavy_parser, pulleynavy_skip_section,
-};
-pub use producers::{
-    PlainProducersField, PlainProducersValue, pulleynavy_producers_field,
-    pulleynavy_producers_value,
-};
-pub use relocations::{PlainRelocation, pulleynavy_relocation};
-pub use segments::{
-    PlainData, PlainElement, PlainExpression, pulleynavy_data, pulleynavy_element,
-    pulleynavy_expression,
-};
+pub use feeding::StoredFeed;
+pub use feeding::pulleynavy_feed_finish;
+pub use feeding::pulleynavy_feed_init;
+pub use feeding::pulleynavy_feed_push;
+pub use feeding::pulleynavy_feed_step;
+pub use hints::PlainBranchHint;
+pub use hints::PlainHintedFunction;
+pub use hints::pulleynavy_read_branch_hint;
+pub use hints::pulleynavy_read_hinted_function;
+pub use imports::PlainImport;
+pub use imports::PlainImportItem;
+pub use imports::PlainImportType;
+pub use imports::PlainName;
+pub use imports::pulleynavy_read_bundled_import;
+pub use imports::pulleynavy_read_import;
+pub use imports::pulleynavy_read_import_item;
+pub use imports::pulleynavy_read_name;
+pub use kinds::PlainGlobal;
+pub use kinds::PlainGlobalType;
+pub use kinds::PlainMemory;
+pub use kinds::PlainMemoryType;
+pub use kinds::PlainTable;
+pub use kinds::PlainTableType;
+pub use kinds::PlainTag;
+pub use kinds::pulleynavy_read_global;
+pub use kinds::pulleynavy_read_memory;
+pub use kinds::pulleynavy_read_table;
+pub use kinds::pulleynavy_read_tag;
+pub use linking::PlainComdat;
+pub use linking::PlainComdatSymbol;
+pub use linking::PlainInitFunction;
+pub use linking::PlainLinkingSegment;
+pub use linking::pulleynavy_read_comdat;
+pub use linking::pulleynavy_read_comdat_symbol;
+pub use linking::pulleynavy_read_init_function;
+pub use linking::pulleynavy_read_linking_segment;
+pub use messages::pulleynavy_format_message;
+pub use names::PlainIndirectNaming;
+pub use names::PlainNaming;
+pub use names::PlainSubsection;
+pub use names::pulleynavy_read_indirect_naming;
+pub use names::pulleynavy_read_naming;
+pub use names::pulleynavy_read_subsection;
+pub use parsing::pulleynavy_format_fault;
+pub use parsing::pulleynavy_parse;
+pub use parsing::pulleynavy_parser_init;
+pub use parsing::pulleynavy_skip_section;
+pub use producers::PlainProducersField;
+pub use producers::PlainProducersValue;
+pub use producers::pulleynavy_read_producers_field;
+pub use producers::pulleynavy_read_producers_value;
+pub use relocations::PlainRelocation;
+pub use relocations::pulleynavy_read_relocation;
+pub use segments::PlainData;
+pub use segments::PlainElement;
+pub use segments::PlainExpression;
+pub use segments::pulleynavy_read_data;
+pub use segments::pulleynavy_read_element;
+pub use segments::pulleynavy_read_expression;
 pub use spans::PlainSpan;
 pub use stored::StoredParser;
-pub use strip::{PlainStrip, pulleynavy_strip};
-pub use symbols::{PlainSymbol, pulleynavy_linking_version, pulleynavy_symbol};
-pub use types::{PlainSubtype, PlainTypeGroup, pulleynavy_subtype, pulleynavy_type_group};
-pub use values::{
-    PlainField, PlainNumber, PlainType, PlainValue, pulleynavy_field_type, pulleynavy_number,
-    pulleynavy_value_type,
-};
+pub use strip::PlainStripped;
+pub use strip::pulleynavy_strip;
+pub use symbols::PlainSymbol;
+pub use symbols::pulleynavy_read_linking_version;
+pub use symbols::pulleynavy_read_symbol;
+pub use types::PlainSubtype;
+pub use types::PlainTypeGroup;
+pub use types::pulleynavy_read_subtype;
+pub use types::pulleynavy_read_type_group;
+pub use values::PlainField;
+pub use values::PlainNumber;
+pub use values::PlainType;
+pub use values::PlainValue;
+pub use values::pulleynavy_read_field_type;
+pub use values::pulleynavy_read_number;
+pub use values::pulleynavy_read_value_type;
+pub use version::pulleynavy_version;

@@ -124,7 +124,7 @@ fn next_linking_segment(mut reader: BinaryReader<'_>) -> PlainLinkingSegment
 /// Subsection). The bytes are the remaining bytes of its section, at `offset` of the stream. After a fault all other fields are
 /// 0.
 #[unsafe(no_mangle)]
-pub extern "C" fn pulleynavy_linking_segment(
+pub extern "C" fn pulleynavy_read_linking_segment(
     bytes: &[u8],
     offset: u64,
     features: u32,
@@ -168,7 +168,7 @@ fn next_init_function(mut reader: BinaryReader<'_>) -> PlainInitFunction
 /// (tool conventions, Linking, Init Functions Subsection). The bytes are the remaining bytes of its section, at `offset` of the
 /// stream. After a fault all other fields are 0.
 #[unsafe(no_mangle)]
-pub extern "C" fn pulleynavy_init_function(
+pub extern "C" fn pulleynavy_read_init_function(
     bytes: &[u8],
     offset: u64,
     features: u32,
@@ -214,10 +214,10 @@ fn next_comdat(mut reader: BinaryReader<'_>) -> PlainComdat
 }
 
 /// Reads the comdat at the start of `bytes`, in subsection 7 of the section `linking` after its count (tool conventions, Linking,
-/// COMDAT Subsection). Its symbols are read by `pulleynavy_comdat_symbol`, and have no fault. The bytes are the remaining bytes
+/// COMDAT Subsection). Its symbols are read by `pulleynavy_read_comdat_symbol`, and have no fault. The bytes are the remaining bytes
 /// of its section, at `offset` of the stream. After a fault all other fields are 0.
 #[unsafe(no_mangle)]
-pub extern "C" fn pulleynavy_comdat(bytes: &[u8], offset: u64, features: u32) -> PlainComdat
+pub extern "C" fn pulleynavy_read_comdat(bytes: &[u8], offset: u64, features: u32) -> PlainComdat
     ensures { result ≡ plain_comdat (place_over features offset bytes.now)
         (read_over comdat_at features offset bytes.now) }
 {
@@ -256,7 +256,7 @@ fn next_comdat_symbol(mut reader: BinaryReader<'_>) -> PlainComdatSymbol
 /// Reads the symbol of a comdat at the start of `bytes` (tool conventions, Linking, COMDAT Subsection). The bytes are the
 /// remaining bytes of its section, at `offset` of the stream. After a fault all other fields are 0.
 #[unsafe(no_mangle)]
-pub extern "C" fn pulleynavy_comdat_symbol(
+pub extern "C" fn pulleynavy_read_comdat_symbol(
     bytes: &[u8],
     offset: u64,
     features: u32,

@@ -102,7 +102,7 @@ fn write_message(fault: Fault, out: &mut [u8]) -> usize
 /// Writes the text of the fault with this number, without a zero byte and as far as `out` has room. Returns the length of the
 /// whole text, at most 80 bytes, or 0 if no fault has this number.
 #[unsafe(no_mangle)]
-pub extern "C" fn pulleynavy_fault_message(kind: u32, out: &mut [u8]) -> usize
+pub extern "C" fn pulleynavy_format_message(kind: u32, out: &mut [u8]) -> usize
     ensures { SaysMessage kind out.old result out.new }
 {
     match fault_numbered(kind) {

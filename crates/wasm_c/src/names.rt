@@ -104,7 +104,11 @@ fn next_subsection(mut reader: BinaryReader<'_>) -> PlainSubsection
 /// Sections, Name Section, Subsections; tool conventions, Linking). The bytes are the remaining bytes of its section, at `offset`
 /// of the stream. After a fault all other fields are 0.
 #[unsafe(no_mangle)]
-pub extern "C" fn pulleynavy_subsection(bytes: &[u8], offset: u64, features: u32) -> PlainSubsection
+pub extern "C" fn pulleynavy_read_subsection(
+    bytes: &[u8],
+    offset: u64,
+    features: u32,
+) -> PlainSubsection
     ensures { result ≡ plain_subsection (place_over features offset bytes.now)
         (read_over subsection_at features offset bytes.now) }
 {
@@ -145,7 +149,7 @@ fn next_naming(mut reader: BinaryReader<'_>) -> PlainNaming
 /// That indices ascend isn't looked at. The bytes are the remaining bytes of its section, at `offset` of the stream. After a
 /// fault all other fields are 0.
 #[unsafe(no_mangle)]
-pub extern "C" fn pulleynavy_naming(bytes: &[u8], offset: u64, features: u32) -> PlainNaming
+pub extern "C" fn pulleynavy_read_naming(bytes: &[u8], offset: u64, features: u32) -> PlainNaming
     ensures { result ≡ plain_naming (place_over features offset bytes.now)
         (read_over naming_at features offset bytes.now) }
 {
@@ -199,10 +203,10 @@ fn next_indirect(mut reader: BinaryReader<'_>) -> PlainIndirectNaming
 }
 
 /// Reads the index at the start of `bytes`, and the names of what it has (core specification, Appendix, Custom Sections, Name
-/// Section, Indirect Name Maps), which are read by `pulleynavy_naming`. That indices ascend isn't looked at. The bytes are the
+/// Section, Indirect Name Maps), which are read by `pulleynavy_read_naming`. That indices ascend isn't looked at. The bytes are the
 /// remaining bytes of its section, at `offset` of the stream. After a fault all other fields are 0.
 #[unsafe(no_mangle)]
-pub extern "C" fn pulleynavy_indirect_naming(
+pub extern "C" fn pulleynavy_read_indirect_naming(
     bytes: &[u8],
     offset: u64,
     features: u32,

@@ -13,7 +13,7 @@ use wasm_parser::{Chunk, Parser, Result, WasmFeatures};
 
 /// Returns a parser of a stream that begins at this offset. Its windows have these features.
 #[unsafe(no_mangle)]
-pub extern "C" fn pulleynavy_parser(offset: u64, features: u32) -> StoredParser
+pub extern "C" fn pulleynavy_parser_init(offset: u64, features: u32) -> StoredParser
     ensures { parser_of result ≡ initial_state offset features }
 {
     let mut parser = Parser::new(offset);
@@ -44,26 +44,26 @@ pub(crate) fn parse_stored(stored: &mut StoredParser, bytes: &[u8], is_all: bool
 /// more. After a fault, the same call returns the same fault.
 #[unsafe(no_mangle)]
 pub extern "C" fn pulleynavy_parse(
-    stored: &mut StoredParser,
+    parser: &mut StoredParser,
     bytes: &[u8],
     is_all: bool,
 ) -> PlainEvent
-    ensures { ParsesPlain (parser_of stored.old) is_all bytes.now result (parser_of stored.new) }
+    ensures { ParsesPlain (parser_of parser.old) is_all bytes.now result (parser_of parser.new) }
 {
-    parse_stored(stored, bytes, is_all)
+    parse_stored(parser, bytes, is_all)
 }
 
 /// Skips the remaining bytes of a code section and returns how many these are: call `pulleynavy_parse` next with the bytes after
 /// them. Outside a code section it returns 0 and leaves the parser unchanged.
 #[unsafe(no_mangle)]
-pub extern "C" fn pulleynavy_skip_section(stored: &mut StoredParser) -> u32
-    ensures { skipped_of (parser_of stored.old) ≡ (result, parser_of stored.new) }
+pub extern "C" fn pulleynavy_skip_section(parser: &mut StoredParser) -> u32
+    ensures { skipped_of (parser_of parser.old) ≡ (result, parser_of parser.new) }
 {
-    let mut parser = stored.parser();
-    match parser.skippable() {
+    let mut current = parser.parser();
+    match current.skippable() {
         Some(left) => {
-            parser.skip_section();
-            *stored = StoredParser::of(&parser);
+            current.skip_section();
+            *parser = StoredParser::of(&current);
             left
         }
         None => 0,
@@ -73,16 +73,16 @@ pub extern "C" fn pulleynavy_skip_section(stored: &mut StoredParser) -> u32
 /// Writes the text of the fault that `pulleynavy_parse` returns for the same arguments, without a zero byte and as far as `out`
 /// has room. Returns the length of the whole text, at most 80 bytes, or 0 if there is no fault. The parser stays as it is.
 #[unsafe(no_mangle)]
-pub extern "C" fn pulleynavy_fault_text(
-    stored: &StoredParser,
+pub extern "C" fn pulleynavy_format_fault(
+    parser: &StoredParser,
     bytes: &[u8],
     is_all: bool,
     out: &mut [u8],
 ) -> usize
-    ensures { SaysFault (parser_of stored.now) is_all bytes.now out.old result out.new }
+    ensures { SaysFault (parser_of parser.now) is_all bytes.now out.old result out.new }
 {
-    let mut parser = stored.parser();
-    write_fault(parser.parse(bytes, is_all), out)
+    let mut current = parser.parser();
+    write_fault(current.parse(bytes, is_all), out)
 }
 
 fn write_fault(answer: Result<Chunk<'_>>, out: &mut [u8]) -> usize

@@ -72,10 +72,10 @@ fn next_producers_field(mut reader: BinaryReader<'_>) -> PlainProducersField
 }
 
 /// Reads the field of a producers section at the start of `bytes` (tool conventions, Producers Section). Its values are read by
-/// `pulleynavy_producers_value`. The bytes are the remaining bytes of its section, at `offset` of the stream. After a fault all
+/// `pulleynavy_read_producers_value`. The bytes are the remaining bytes of its section, at `offset` of the stream. After a fault all
 /// other fields are 0.
 #[unsafe(no_mangle)]
-pub extern "C" fn pulleynavy_producers_field(
+pub extern "C" fn pulleynavy_read_producers_field(
     bytes: &[u8],
     offset: u64,
     features: u32,
@@ -119,7 +119,7 @@ fn next_producers_value(mut reader: BinaryReader<'_>) -> PlainProducersValue
 /// Reads the value of a field of a producers section at the start of `bytes` (tool conventions, Producers Section). The bytes are
 /// the remaining bytes of its section, at `offset` of the stream. After a fault all other fields are 0.
 #[unsafe(no_mangle)]
-pub extern "C" fn pulleynavy_producers_value(
+pub extern "C" fn pulleynavy_read_producers_value(
     bytes: &[u8],
     offset: u64,
     features: u32,

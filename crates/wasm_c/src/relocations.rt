@@ -105,10 +105,14 @@ fn next_relocation(mut reader: BinaryReader<'_>) -> PlainRelocation
 }
 
 /// Reads the relocation at the start of `bytes` (tool conventions, Linking, Relocation Sections). A section of relocations begins
-/// with the index of the section that they are of and their count, which `pulleynavy_number` reads. The bytes are the remaining
+/// with the index of the section that they are of and their count, which `pulleynavy_read_number` reads. The bytes are the remaining
 /// bytes of its section, at `offset` of the stream. After a fault all other fields are 0.
 #[unsafe(no_mangle)]
-pub extern "C" fn pulleynavy_relocation(bytes: &[u8], offset: u64, features: u32) -> PlainRelocation
+pub extern "C" fn pulleynavy_read_relocation(
+    bytes: &[u8],
+    offset: u64,
+    features: u32,
+) -> PlainRelocation
     ensures { result ≡ plain_relocation (place_over features offset bytes.now)
         (read_over relocation_at features offset bytes.now) }
 {

@@ -97,7 +97,11 @@ fn next_expression(mut reader: BinaryReader<'_>) -> PlainExpression
 /// element of a segment, for one. The bytes are the remaining bytes of its section, at `offset` of the stream. After a fault all
 /// other fields are 0.
 #[unsafe(no_mangle)]
-pub extern "C" fn pulleynavy_expression(bytes: &[u8], offset: u64, features: u32) -> PlainExpression
+pub extern "C" fn pulleynavy_read_expression(
+    bytes: &[u8],
+    offset: u64,
+    features: u32,
+) -> PlainExpression
     ensures { result ≡ plain_expression (place_over features offset bytes.now)
         (read_over expression_at features offset bytes.now) }
 {
@@ -222,10 +226,10 @@ fn next_element(mut reader: BinaryReader<'_>) -> PlainElement
 }
 
 /// Reads the element segment at the start of `bytes` (core specification, Binary format, Modules, Element Section). Its elements
-/// are read by `pulleynavy_number` or `pulleynavy_expression`, and have no fault. The bytes are the remaining bytes of its
+/// are read by `pulleynavy_read_number` or `pulleynavy_read_expression`, and have no fault. The bytes are the remaining bytes of its
 /// section, at `offset` of the stream. After a fault all other fields are 0.
 #[unsafe(no_mangle)]
-pub extern "C" fn pulleynavy_element(bytes: &[u8], offset: u64, features: u32) -> PlainElement
+pub extern "C" fn pulleynavy_read_element(bytes: &[u8], offset: u64, features: u32) -> PlainElement
     ensures { result ≡ plain_element (place_over features offset bytes.now)
         (read_over element_at features offset bytes.now) }
 {
@@ -310,7 +314,7 @@ fn next_data(mut reader: BinaryReader<'_>) -> PlainData
 /// Reads the data segment at the start of `bytes` (core specification, Binary format, Modules, Data Section). The bytes are the
 /// remaining bytes of its section, at `offset` of the stream. After a fault all other fields are 0.
 #[unsafe(no_mangle)]
-pub extern "C" fn pulleynavy_data(bytes: &[u8], offset: u64, features: u32) -> PlainData
+pub extern "C" fn pulleynavy_read_data(bytes: &[u8], offset: u64, features: u32) -> PlainData
     ensures { result ≡ plain_data (place_over features offset bytes.now)
         (read_over data_at features offset bytes.now) }
 {

@@ -7,7 +7,7 @@ use wasm_feed::strip_to_front;
 /// The result of stripping a stream.
 #[repr(C)]
 #[derive(Clone, Copy, Debug)]
-pub struct PlainStrip {
+pub struct PlainStripped {
     /// The fault of a stream that isn't accepted, or none.
     pub fault: PlainFault,
     /// How many bytes the stripped stream has, 0 after a fault.
@@ -18,15 +18,15 @@ pub struct PlainStrip {
 /// the remaining stream, and the bytes after them mean nothing. With `keep_names` the sections named `name` stay. A stream that
 /// isn't accepted is left unchanged, and its fault is returned with a size of 0.
 #[unsafe(no_mangle)]
-pub extern "C" fn pulleynavy_strip(bytes: &mut [u8], keep_names: bool) -> PlainStrip
+pub extern "C" fn pulleynavy_strip(bytes: &mut [u8], keep_names: bool) -> PlainStripped
     ensures { StripsPlain keep_names bytes.old result bytes.new }
 {
     match strip_to_front(bytes, keep_names) {
-        Ok(size) => PlainStrip {
+        Ok(size) => PlainStripped {
             fault: NO_FAULT,
             size,
         },
-        Err(error) => PlainStrip {
+        Err(error) => PlainStripped {
             fault: plain_fault(error),
             size: 0,
         },

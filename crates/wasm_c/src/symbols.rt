@@ -92,10 +92,10 @@ fn next_version(mut reader: BinaryReader<'_>) -> PlainNumber
 }
 
 /// Reads the version at the start of the data of a section `linking`, which is 2 (tool conventions, Linking, Linking Metadata
-/// Section). Its subsections follow, each read by `pulleynavy_subsection`. The bytes are the remaining bytes of its section, at
+/// Section). Its subsections follow, each read by `pulleynavy_read_subsection`. The bytes are the remaining bytes of its section, at
 /// `offset` of the stream. After a fault all other fields are 0.
 #[unsafe(no_mangle)]
-pub extern "C" fn pulleynavy_linking_version(
+pub extern "C" fn pulleynavy_read_linking_version(
     bytes: &[u8],
     offset: u64,
     features: u32,
@@ -241,7 +241,7 @@ fn next_symbol(mut reader: BinaryReader<'_>) -> PlainSymbol
 /// Symbol Table Subsection). The bytes are the remaining bytes of its section, at `offset` of the stream. After a fault all other
 /// fields are 0.
 #[unsafe(no_mangle)]
-pub extern "C" fn pulleynavy_symbol(bytes: &[u8], offset: u64, features: u32) -> PlainSymbol
+pub extern "C" fn pulleynavy_read_symbol(bytes: &[u8], offset: u64, features: u32) -> PlainSymbol
     ensures { result ≡ plain_symbol (place_over features offset bytes.now)
         (read_over symbol_at features offset bytes.now) }
 {

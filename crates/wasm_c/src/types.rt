@@ -189,10 +189,14 @@ fn next_type_group(mut reader: BinaryReader<'_>) -> PlainTypeGroup
 }
 
 /// Reads the beginning of the group of types at the start of `bytes` (core specification, Binary format, Types, Recursive Types;
-/// Modules, Type Section). After it come its subtypes, each by `pulleynavy_subtype`. The bytes are the remaining bytes of its
+/// Modules, Type Section). After it come its subtypes, each by `pulleynavy_read_subtype`. The bytes are the remaining bytes of its
 /// section, at `offset` of the stream. After a fault all other fields are 0.
 #[unsafe(no_mangle)]
-pub extern "C" fn pulleynavy_type_group(bytes: &[u8], offset: u64, features: u32) -> PlainTypeGroup
+pub extern "C" fn pulleynavy_read_type_group(
+    bytes: &[u8],
+    offset: u64,
+    features: u32,
+) -> PlainTypeGroup
     ensures { result ≡ plain_type_group (place_over features offset bytes.now)
         (read_over group_head_at features offset bytes.now) }
 {
@@ -235,11 +239,11 @@ fn next_subtype(mut reader: BinaryReader<'_>) -> PlainSubtype
 }
 
 /// Reads the beginning of the subtype at the start of `bytes` (core specification, Binary format, Types, Recursive Types and
-/// Composite Types). After it come so many parameters, each by `pulleynavy_value_type`, then a count of results, by
-/// `pulleynavy_number`, and so many results; or so many fields, each by `pulleynavy_field_type`. The bytes are the remaining
+/// Composite Types). After it come so many parameters, each by `pulleynavy_read_value_type`, then a count of results, by
+/// `pulleynavy_read_number`, and so many results; or so many fields, each by `pulleynavy_read_field_type`. The bytes are the remaining
 /// bytes of its section, at `offset` of the stream. After a fault all other fields are 0.
 #[unsafe(no_mangle)]
-pub extern "C" fn pulleynavy_subtype(bytes: &[u8], offset: u64, features: u32) -> PlainSubtype
+pub extern "C" fn pulleynavy_read_subtype(bytes: &[u8], offset: u64, features: u32) -> PlainSubtype
     ensures { result ≡ plain_subtype (place_over features offset bytes.now)
         (read_over subtype_head_at features offset bytes.now) }
 {

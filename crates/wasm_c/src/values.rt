@@ -177,7 +177,7 @@ fn next_number(mut reader: BinaryReader<'_>) -> PlainNumber
 /// function in a list of elements (core specification, Binary format, Values, Integers). The bytes are the remaining bytes of its
 /// section, at `offset` of the stream. After a fault all other fields are 0.
 #[unsafe(no_mangle)]
-pub extern "C" fn pulleynavy_number(bytes: &[u8], offset: u64, features: u32) -> PlainNumber
+pub extern "C" fn pulleynavy_read_number(bytes: &[u8], offset: u64, features: u32) -> PlainNumber
     ensures { result ≡ plain_number (place_over features offset bytes.now)
         (read_over (unsigned_at VarU32) features offset bytes.now) }
 {
@@ -215,7 +215,7 @@ fn next_value(mut reader: BinaryReader<'_>) -> PlainValue
 /// of a function's type. The bytes are the remaining bytes of its section, at `offset` of the stream. After a fault all other
 /// fields are 0.
 #[unsafe(no_mangle)]
-pub extern "C" fn pulleynavy_value_type(bytes: &[u8], offset: u64, features: u32) -> PlainValue
+pub extern "C" fn pulleynavy_read_value_type(bytes: &[u8], offset: u64, features: u32) -> PlainValue
     ensures { result ≡ plain_value (place_over features offset bytes.now)
         (read_over val_type_at features offset bytes.now) }
 {
@@ -254,7 +254,7 @@ fn next_field(mut reader: BinaryReader<'_>) -> PlainField
 /// Reads the field at the start of `bytes`, of a structure or an array (core specification, Binary format, Types, Composite
 /// Types). The bytes are the remaining bytes of its section, at `offset` of the stream. After a fault all other fields are 0.
 #[unsafe(no_mangle)]
-pub extern "C" fn pulleynavy_field_type(bytes: &[u8], offset: u64, features: u32) -> PlainField
+pub extern "C" fn pulleynavy_read_field_type(bytes: &[u8], offset: u64, features: u32) -> PlainField
     ensures { result ≡ plain_field (place_over features offset bytes.now)
         (read_over field_type_at features offset bytes.now) }
 {

@@ -1,6 +1,6 @@
 use Rattle.std.proofs.Common.{◌≡◌, ◌++◌, ◌∙◌, List, ℕ, length, take, drop, refl, ap}
 use Rattle.wasm_c.proofs.Held.{held_whole}
-use Rattle.wasm_c.proofs.feeding.pulleynavy_push.Goals as goal
+use Rattle.wasm_c.proofs.feeding.pulleynavy_feed_push.Goals as goal
 
 pub returns : goal.returns
 returns c =

@@ -5,7 +5,7 @@ use Rattle.wasm_c.specs.Faults.{fault_code}
 use Rattle.wasm_c.specs.Texts.{SaysText}
 use Rattle.wasm_c.specs.declared.messages.TheConstants.{FAULTS}
 use Rattle.wasm_c.proofs.AllFaults.{found, numbered, passes, some_is}
-use Rattle.wasm_c.proofs.messages.pulleynavy_fault_message.Goals as goal
+use Rattle.wasm_c.proofs.messages.pulleynavy_format_message.Goals as goal
 
 -- a fault is found by its number
 of_number : (f : Fault) (kind : ℕ) → fault_code f ≡ kind → numbered kind ≡ Some f
