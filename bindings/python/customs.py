@@ -23,7 +23,7 @@ class Cursor:
 
     def read(self, call):
         address = ctypes.addressof(self.held) + self.at
-        one = getattr(self.library, "pulleynavy_" + call)(address, self.end - self.at, self.at, wasm.ALL_FEATURES)
+        one = getattr(self.library, "pulleynavy_read_" + call)(address, self.end - self.at, self.at, wasm.ALL_FEATURES)
         if one.fault.kind:
             raise wasm.Fault(self.library, one.fault)
         self.start, self.at = self.at, self.at + one.consumed
