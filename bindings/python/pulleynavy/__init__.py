@@ -85,7 +85,7 @@ def items(call, stream, event, features=ALL_FEATURES, library=None):
     held = ctypes.create_string_buffer(stream, max(1, len(stream)))
 
     def read(name, at):
-        one = getattr(library, "pulleynavy_" + name)(ctypes.addressof(held) + at, event.end - at, at, features)
+        one = getattr(library, "pulleynavy_read_" + name)(ctypes.addressof(held) + at, event.end - at, at, features)
         if one.fault.kind:
             raise Fault(library, one.fault)
         return one
