@@ -7,7 +7,7 @@ use std::ops::Range;
 use wasm_base::{BinaryReader, Error, WasmFeatures};
 use wasm_feed::{Event, EventKind, Feeder, ListError, Sink, Step, fits_pieces, read_pieces};
 use wasm_parser::{Encoding, Payload};
-use wasm_tree::{Lines, Tree};
+use wasm_tree::Lines;
 
 // Writes the text of a fault.
 fn show_fault(e: &Error, out: &mut String) -> Result<(), AllocError> {

@@ -4,7 +4,7 @@ use std::alloc::{AllocError, Global};
 use std::io::{self, ErrorKind};
 use wasm_base::{Error, Fault, WasmFeatures};
 use wasm_feed::{ListError, Sink};
-use wasm_tree::{Lines, Tree};
+use wasm_tree::Lines;
 
 /// How many bytes are written at once at most.
 const PART: usize = 65_536;

@@ -6,7 +6,7 @@ use crate::rows::{Failed, write_bytes};
 use std::alloc::Global;
 use wasm_feed::Sink;
 use wasm_parser::Parser;
-use wasm_tree::{Lines, Tree};
+use wasm_tree::Lines;
 
 /// The sizes of the chunks in which a stream is read.
 const SIZES: [usize; 5] = [1, 2, 3, 7, 65_536];
