@@ -24,6 +24,13 @@ HandsOn (Ok ended) had_failed has_failed handed_on result =
     ⊎ ((result ≡ Err Output) × (has_failed ≡ true))
 HandsOn (Err why) had_failed has_failed handed_on result = (result ≡ Err why) × (has_failed ≡ had_failed)
 
+-- The input was dumped to the output as these options say.
+pub record DumpsAs (options : Options) (only : List Only) (input output : Device) (how : Result Ended ListError)
+    : Type 0 where
+  pub dumps : Dumps (style_of options) only options.has_bytes (bytes_of input) (bytes_of output) how
+  pub source : input.has_failed ≡ input_failed how input.had_failed
+  pub sink : output.has_failed ≡ output_failed how output.had_failed
+
 -- The input was dumped as these options say, and what was written handed on.
 pub record RunsDump (options : Options) (only : List Only) (input output : Device) (handed_on : Bool)
     (result : Result Ended ListError) : Type 0 where

@@ -120,10 +120,6 @@ module _ {T : Type 0} (meaning : Place → Outcome T → Type 0) (space : Space)
         joined o shown [] new (b (with_numbers o shown) wrote),
       )
 
-  pub so_far_next : (index : ℕ) (s : Items) (new : Writing) → AddsSoFar meaning space from index section s old new
-      → AddsNext space from old new
-  so_far_next index s new a o i = let (shown, held, wrote) = a o i in (shown, (held.0, held.1), wrote)
-
   pub so_far_all : (index : ℕ) (s t : Items) (new : Writing) → AddsSoFar meaning space from index section s old new
       → NextItem {T = ℕ × T} (AtItsOffset meaning) s None t → AddsItems meaning one_number space from section old new
   so_far_all index s t new a h reading agrees o i =

@@ -5,11 +5,11 @@ use Rattle.std.proofs.Common.{◌∷◌, ◌^◌, ap, subst, subst₂, ◌∙◌
 use Rattle.std.proofs.Common.{nat_eq}
 use Rattle.std.specs.Io.KnownBytes.{Appends, Consumes}
 use Rattle.std.proofs.KnownBytes.{Appends-nil, Consumes-nil, Consumes-trans, Consumes-kept}
-use Rattle.wasm_lines.specs.Calls.{Change, Device, from_to, input_failed}
+use Rattle.wasm_lines.specs.Calls.{Change, Device, bytes_of, from_to, input_failed, output_failed}
 use Rattle.wasm_feed.specs.Feed.{Feed, new_feed}
 use Rattle.wasm_feed.specs.Beside.{beside, lending, seen, FillsAlike, IsAlike, ReadsEnough}
 use Rattle.wasm_feed.specs.Cursors.{feed_of}
-use Rattle.wasm_feed.specs.Lists.{IsBeginning, Refills}
+use Rattle.wasm_feed.specs.Lists.{IsBeginning, ListsBy, Refills}
 use Rattle.wasm_feed.specs.declared.feeder.Cursor.{Cursor}
 use Rattle.wasm_feed.specs.FeedersLaws.{IsAlong}
 use Rattle.wasm_parser.specs.Along.{Came}
@@ -43,18 +43,26 @@ use Rattle.std.specs.Prelude.{flat_map}
 use Rattle.std.proofs.lemmas.Grind.{flat_map-append}
 use Rattle.std.proofs.lemmas.Bool.Decides.{nat_tests}
 use Rattle.wasm_dumper.specs.Dump.{WritesWhole, WritesSome, AreOfAnswer, ShowsAnswer, after_answer, origin, DumpsFrom, DumpsInto}
-use Rattle.wasm_dumper.specs.Dump.{DumpsByTree}
+use Rattle.wasm_dumper.specs.Dump.{DumpsByTree, Writes, stopped_by}
 use Rattle.wasm_tree.specs.Tree as Tree
 use Rattle.wasm_tree.specs.Tree.{IsOutlined, Part, Writing, Origin, begun, begun_numbers, IsGoingIn, IsCutShort, IsWritten, Adds, IsOut}
 use Rattle.wasm_tree.specs.Tree.{IsShaped}
 use Rattle.wasm_tree.specs.Json.{IsAt}
 use Rattle.wasm_tree.specs.Json as json
-use Rattle.wasm_tree.specs.declared.tree.Spot.{Spot}
+use Rattle.wasm_tree.specs.declared.objects.Spot.{Spot}
 use Rattle.wasm_tree.specs.declared.tree.Style.{Style}
 use Rattle.wasm_tree.specs.declared.tree.Style.TheVariants.{Lines, Objects}
 use Rattle.wasm_dumper.specs.declared.events.Only.{Only}
 use Rattle.wasm_tree.proofs.ForCallers.{as_going, as_short}
 use Rattle.wasm_base.specs.Features.{all_features}
+
+-- a writer that has written nothing since this was taken
+abbrev pub IsFresh : Writing → (taken : Option (List ℕ)) (failed : Bool) → Type 0
+IsFresh w taken failed = IsWritten (origin w.style taken failed [] [] []) w
+
+-- a source before and after, and whether it had failed and has
+abbrev pub source : (full rest : Option (List ℕ)) (had has : Bool) → Device
+source full rest had has = record { before = full; after = rest; had_failed = had; has_failed = has }
 
 -- what was written with these events, and their numbers, where the tree has not stopped
 abbrev pub WrittenWith : (why : Option ListError) → List Only → (has_bytes : Bool) → List Event → Style
@@ -84,7 +92,7 @@ pub record Dumping (only : List Only) (has_bytes : Bool) (full rest : Option (Li
   pub outline : List ℕ
   pub listing : Progress (chosen_line only) (from_to full rest) (from_to (Some []) (Some outline)) f []
   pub counting : Counting full rest f c
-  pub writing : (taken : Option (List ℕ)) (failed : Bool) → IsWritten (origin before.style taken failed [] [] []) before
+  pub writing : (taken : Option (List ℕ)) (failed : Bool) → IsFresh before taken failed
       → WrittenWith None only has_bytes counting.events before.style taken failed outline now
 
 -- the same where the feeder is asked for more
@@ -93,7 +101,7 @@ pub record Wanting (only : List Only) (has_bytes : Bool) (full rest : Option (Li
   pub outline : List ℕ
   pub listing : Wants (chosen_line only) (from_to full rest) (from_to (Some []) (Some outline)) f []
   pub counting : Counting full rest f c
-  pub writing : (taken : Option (List ℕ)) (failed : Bool) → IsWritten (origin before.style taken failed [] [] []) before
+  pub writing : (taken : Option (List ℕ)) (failed : Bool) → IsFresh before taken failed
       → WrittenWith None only has_bytes counting.events before.style taken failed outline now
 
 -- nothing came
@@ -417,6 +425,19 @@ events_are : (why : Option ListError) (only : List Only) (c : Counts) (events : 
 events_are None only c events numbers a = a
 events_are (Some why) only c events numbers a = events_begin None why only c events numbers a
 
+-- a dump, by what it lists, counts and writes
+dumped : {style : Style} {only : List Only} {has_bytes : Bool} {input : Device} {taken : Option (List ℕ)} {failed : Bool}
+    {how : Result Ended ListError} {w : Writing} (outline : List ℕ) (numbers : List Number) (bytes : List ℕ)
+    → ListsBy (chosen_line only) (bytes_of input) (from_to (Some []) (Some outline)) how
+    → AreOfSource (stopped_by how) (is_whole how) only has_bytes (bytes_of input) numbers bytes
+    → Writes style how taken w.taken outline numbers bytes → input.has_failed ≡ input_failed how input.had_failed
+    → w.has_failed ≡ output_failed how failed → DumpsFrom style only has_bytes input taken failed how w
+dumped outline numbers bytes lists counts writes source sink = record {
+  dumps = record { outline = outline; numbers = numbers; bytes = bytes; lists = lists; counts = counts; writes = writes };
+  source = source;
+  sink = sink;
+}
+
 -- a dump that was cut short, or whose input failed
 cut_off : (style : Style) (only : List Only) (has_bytes : Bool) (full rest : Option (List ℕ)) (had has : Bool) → has ≡ had
     → (taken : Option (List ℕ)) (failed : Bool) (outline : List ℕ) (numbers : List Number) (bytes : List ℕ) (why : ListError)
@@ -424,31 +445,11 @@ cut_off : (style : Style) (only : List Only) (has_bytes : Bool) (full rest : Opt
     → IsBeginning (chosen_line only) (from_to full rest) (from_to (Some []) (Some outline))
     → AreOfSource (Some why) false only has_bytes (from_to full rest) numbers bytes
     → IsCutShort (origin style taken failed outline numbers bytes) why w → DumpsFrom style only has_bytes
-    (record { before = full; after = rest; had_failed = had; has_failed = has }) taken failed (Err why) w
-cut_off style only has_bytes full rest had has h taken failed outline numbers bytes Output w b n c = record {
-  dumps = record {
-    outline = outline;
-    numbers = numbers;
-    bytes = bytes;
-    lists = b;
-    counts = n;
-    writes = record { text = c.written; unwritten = c.unwritten; shaped = c.shaped; wrote = c.took };
-  };
-  source = h;
-  sink = c.failed;
-}
-cut_off style only has_bytes full rest had has h taken failed outline numbers bytes Memory w b n c = record {
-  dumps = record {
-    outline = outline;
-    numbers = numbers;
-    bytes = bytes;
-    lists = b;
-    counts = n;
-    writes = record { text = c.written; unwritten = c.unwritten; shaped = c.shaped; wrote = c.took };
-  };
-  source = h;
-  sink = c.failed;
-}
+    (source full rest had has) taken failed (Err why) w
+cut_off style only has_bytes full rest had has h taken failed outline numbers bytes Output w b n c = dumped outline numbers bytes b n
+    (record { text = c.written; unwritten = c.unwritten; shaped = c.shaped; wrote = c.took }) h c.failed
+cut_off style only has_bytes full rest had has h taken failed outline numbers bytes Memory w b n c = dumped outline numbers bytes b n
+    (record { text = c.written; unwritten = c.unwritten; shaped = c.shaped; wrote = c.took }) h c.failed
 cut_off style only has_bytes full rest had has h taken failed outline numbers bytes Input w b n c = absurd (c.no_input refl)
 
 -- what was listed is a beginning
@@ -458,10 +459,7 @@ nothing_cut outline = record { moved = []; unwritten = []; parts = refl; wrote =
 -- the tree has stopped before a step
 pub stopped_before : (only : List Only) (has_bytes : Bool) (full rest : Option (List ℕ)) (before : Writing) (f : Feed) (c : Counts)
     (now : Writing) → Dumping only has_bytes full rest before f c now → (had has : Bool) → has ≡ had → (last : Writing)
-    (why : ListError) → Adds now last → last.why ≡ Some why → (taken : Option (List ℕ)) (failed : Bool)
-    → IsWritten (origin before.style taken failed [] [] []) before
-    → DumpsFrom before.style only has_bytes (record { before = full; after = rest; had_failed = had; has_failed = has }) taken failed
-    (Err why) last
+    (why : ListError) → Adds now last → last.why ≡ Some why → DumpsInto only has_bytes (source full rest had has) before (Err why) last
 stopped_before only has_bytes full rest before f c now d had has h last why a w taken failed i =
     let (numbers, are, going) = d.writing taken failed i in
     let bytes = bytes_of_events has_bytes only d.counting.events in
@@ -511,35 +509,33 @@ shows_step only has_bytes c c' f stored piece items rest bytes old new x now rea
 module _ (only : List Only) (has_bytes : Bool) (full rest : Option (List ℕ)) (before : Writing) (f : Feed) (c : Counts) (now : Writing)
     (d : Dumping only has_bytes full rest before f c now) (g : Feed) (c' : Counts) (new : Writing) (next : Turn)
     (s : ShowsStep only has_bytes c c' f g now new next) where
-  line : List ℕ
-  line = text_after (chosen_line only) s.answer
+  -- the outline with the lines of the answer
+  abbrev outline : List ℕ
+  outline = d.outline ++ text_after (chosen_line only) s.answer
 
   -- what was written, with the numbers of events that go on as these by what is shown
   written : (events : List Event) → Continues only has_bytes c s.answer d.counting.events events
-      → (taken : Option (List ℕ)) (failed : Bool) → IsWritten (origin before.style taken failed [] [] []) before
-      → WrittenWith new.why only has_bytes events before.style taken failed (d.outline ++ text_after (chosen_line only) s.answer) new
+      → (taken : Option (List ℕ)) (failed : Bool) → IsFresh before taken failed
+      → WrittenWith new.why only has_bytes events before.style taken failed outline new
   written events more taken failed i =
       let (numbers, are, going) = d.writing taken failed i in
       let was = bytes_of_events has_bytes only d.counting.events in
       let (shown, of, after) = s.shows (origin before.style taken failed d.outline numbers was) going in (
         numbers ++ shown,
         more.0 new.why numbers shown (events_are new.why only no_counts d.counting.events numbers are) of,
-        subst (λ (x : List ℕ). IsWritten (origin before.style taken failed (d.outline ++ text_after (chosen_line only) s.answer)
-            (numbers ++ shown) x) new) (sym more.1) after,
+        subst (λ (x : List ℕ). IsWritten (origin before.style taken failed outline (numbers ++ shown) x) new) (sym more.1) after,
       )
 
-  put : PutsBytes (Some d.outline) (Some (d.outline ++ text_after (chosen_line only) s.answer)) []
-      (text_after (chosen_line only) s.answer)
-      []
+  put : PutsBytes (Some d.outline) (Some outline) [] (text_after (chosen_line only) s.answer) []
   put = puts d.outline (text_after (chosen_line only) s.answer)
 
   -- the same, where the tree goes on
   going_on : new.why ≡ None → (events : List Event) → Continues only has_bytes c s.answer d.counting.events events
-      → (taken : Option (List ℕ)) (failed : Bool) → IsWritten (origin before.style taken failed [] [] []) before
-      → WrittenWith None only has_bytes events before.style taken failed (d.outline ++ text_after (chosen_line only) s.answer) new
+      → (taken : Option (List ℕ)) (failed : Bool) → IsFresh before taken failed
+      → WrittenWith None only has_bytes events before.style taken failed outline new
   going_on going events more taken failed i =
-      subst (λ (why : Option ListError). WrittenWith why only has_bytes events before.style taken failed
-      (d.outline ++ text_after (chosen_line only) s.answer) new) going (written events more taken failed i)
+      subst (λ (why : Option ListError). WrittenWith why only has_bytes events before.style taken failed outline new) going
+      (written events more taken failed i)
 
   pub advanced : new.why ≡ None → next ≡ turn.Advance → Dumping only has_bytes full rest before g c' new × (weight g < weight f)
   advanced going t =
@@ -548,7 +544,7 @@ module _ (only : List Only) (has_bytes : Bool) (full rest : Option (List ℕ)) (
       put (sym t ∙ s.turns) in
       let (k, more) = counted_on only has_bytes full rest f c d.counting g s.answer (sym t ∙ s.turns) s.steps in (
         record {
-          outline = d.outline ++ text_after (chosen_line only) s.answer;
+          outline = outline;
           listing = listing;
           counting = as_counted full rest g (after_answer c s.answer) c' (sym s.counted) k;
           writing = going_on going k.events more;
@@ -563,7 +559,7 @@ module _ (only : List Only) (has_bytes : Bool) (full rest : Option (List ℕ)) (
       (sym t ∙ s.turns) in
       let (k, more) = counted_still only has_bytes full rest f c d.counting g s.answer (sym t ∙ s.turns) s.steps in (
         record {
-          outline = d.outline ++ text_after (chosen_line only) s.answer;
+          outline = outline;
           listing = listing;
           counting = as_counted full rest g (after_answer c s.answer) c' (sym s.counted) k;
           writing = going_on going k.events more;
@@ -571,24 +567,19 @@ module _ (only : List Only) (has_bytes : Bool) (full rest : Option (List ℕ)) (
         same,
       )
 
-  begins : (t : Turn) → next ≡ t → IsBeginning (chosen_line only) (from_to full rest)
-      (from_to (Some []) (Some (d.outline ++ text_after (chosen_line only) s.answer)))
+  begins : (t : Turn) → next ≡ t → IsBeginning (chosen_line only) (from_to full rest) (from_to (Some []) (Some outline))
   begins turn.Advance t =
       let (listing, less) =
       progress.advanced (chosen_line only) full rest (Some []) (Some d.outline) f [] d.listing g s.answer s.steps _ _
       put (sym t ∙ s.turns) in
-      progress.cut (chosen_line only) full rest (Some []) (Some (d.outline ++ text_after (chosen_line only) s.answer)) g [] listing
-      (Some (d.outline ++ text_after (chosen_line only) s.answer)) Output
-      (nothing_cut (Some (d.outline ++ text_after (chosen_line only) s.answer)))
+      progress.cut (chosen_line only) full rest (Some []) (Some outline) g [] listing (Some outline) Output (nothing_cut (Some outline))
   begins turn.Read t =
       let (wants, same) = progress.asked (chosen_line only) full rest (Some []) (Some d.outline) f [] d.listing g s.answer s.steps _ _ put
       (sym t ∙ s.turns) in
-      progress.cut (chosen_line only) full rest (Some []) (Some (d.outline ++ text_after (chosen_line only) s.answer)) g [] wants.progress
-      (Some (d.outline ++ text_after (chosen_line only) s.answer)) Output
-      (nothing_cut (Some (d.outline ++ text_after (chosen_line only) s.answer)))
+      progress.cut (chosen_line only) full rest (Some []) (Some outline) g [] wants.progress (Some outline) Output
+      (nothing_cut (Some outline))
   begins (turn.End how) t = progress.end_cut (chosen_line only) full rest (Some []) (Some d.outline) f [] d.listing g s.answer s.steps _ _
-      put how (sym t ∙ s.turns) (Some (d.outline ++ text_after (chosen_line only) s.answer)) Output
-      (nothing_cut (Some (d.outline ++ text_after (chosen_line only) s.answer)))
+      put how (sym t ∙ s.turns) (Some outline) Output (nothing_cut (Some outline))
 
   -- whether all of the stream was read, by what is done next
   abbrev ends_whole : Turn → Bool
@@ -600,26 +591,29 @@ module _ (only : List Only) (has_bytes : Bool) (full rest : Option (List ℕ)) (
   none_held (Fault e) t w = cc
 
   -- what was written, with the numbers of what the source gave
-  all_written : (t : Turn) → next ≡ t → (taken : Option (List ℕ)) (failed : Bool)
-      → IsWritten (origin before.style taken failed [] [] []) before
-      → (numbers : List Number) × (bytes : List ℕ) × AreOfSource new.why (ends_whole t) only has_bytes (from_to full rest) numbers bytes
-      × IsWritten (origin before.style taken failed (d.outline ++ text_after (chosen_line only) s.answer) numbers bytes) new
+  abbrev AllWritten : (whole : Bool) (taken : Option (List ℕ)) (failed : Bool) → Type 0
+  AllWritten whole taken failed = (numbers : List Number) × (bytes : List ℕ)
+      × AreOfSource new.why whole only has_bytes (from_to full rest) numbers bytes
+      × IsWritten (origin before.style taken failed outline numbers bytes) new
+
+  written_on : (k : Counting full rest g (after_answer c s.answer)) → Continues only has_bytes c s.answer d.counting.events k.events
+      → (taken : Option (List ℕ)) (failed : Bool) → IsFresh before taken failed → AllWritten false taken failed
+  written_on k more taken failed i =
+      let (numbers, are, going) = written k.events more taken failed i in (
+        numbers,
+        bytes_of_events has_bytes only k.events,
+        numbers_at new.why false only has_bytes full rest g (after_answer c s.answer) k numbers (not_whole g.held) are,
+        going,
+      )
+
+  all_written : (t : Turn) → next ≡ t → (taken : Option (List ℕ)) (failed : Bool) → IsFresh before taken failed
+      → AllWritten (ends_whole t) taken failed
   all_written turn.Advance t taken failed i =
       let (k, more) = counted_on only has_bytes full rest f c d.counting g s.answer (sym t ∙ s.turns) s.steps in
-      let (numbers, are, going) = written k.events more taken failed i in (
-        numbers,
-        bytes_of_events has_bytes only k.events,
-        numbers_at new.why false only has_bytes full rest g (after_answer c s.answer) k numbers (not_whole g.held) are,
-        going,
-      )
+      written_on k more taken failed i
   all_written turn.Read t taken failed i =
       let (k, more) = counted_still only has_bytes full rest f c d.counting g s.answer (sym t ∙ s.turns) s.steps in
-      let (numbers, are, going) = written k.events more taken failed i in (
-        numbers,
-        bytes_of_events has_bytes only k.events,
-        numbers_at new.why false only has_bytes full rest g (after_answer c s.answer) k numbers (not_whole g.held) are,
-        going,
-      )
+      written_on k more taken failed i
   all_written (turn.End how) t taken failed i =
       let last = counted_last only has_bytes full rest f c d.counting g s.answer how (sym t ∙ s.turns) s.steps in
       let (numbers, are, going) = written d.counting.events last taken failed i in (
@@ -630,10 +624,8 @@ module _ (only : List Only) (has_bytes : Bool) (full rest : Option (List ℕ)) (
       )
 
   -- the tree has stopped
-  pub stopped : (had has : Bool) → has ≡ had → (why : ListError) → new.why ≡ Some why → (taken : Option (List ℕ)) (failed : Bool)
-      → IsWritten (origin before.style taken failed [] [] []) before
-      → DumpsFrom before.style only has_bytes (record { before = full; after = rest; had_failed = had; has_failed = has }) taken failed
-      (Err why) new
+  pub stopped : (had has : Bool) → has ≡ had → (why : ListError) → new.why ≡ Some why
+      → DumpsInto only has_bytes (source full rest had has) before (Err why) new
   stopped had has h why w taken failed i =
       let (numbers, bytes, are, going) = all_written next refl taken failed i in
       cut_off before.style only has_bytes full rest had has h taken failed _ numbers bytes why new (begins next refl)
@@ -641,9 +633,7 @@ module _ (only : List Only) (has_bytes : Bool) (full rest : Option (List ℕ)) (
 
   -- it has after all was to be written
   pub stopped_at_last : (had has : Bool) → has ≡ had → (last : Writing) (why : ListError) → Adds new last → last.why ≡ Some why
-      → (taken : Option (List ℕ)) (failed : Bool) → IsWritten (origin before.style taken failed [] [] []) before
-      → DumpsFrom before.style only has_bytes (record { before = full; after = rest; had_failed = had; has_failed = has }) taken failed
-      (Err why) last
+      → DumpsInto only has_bytes (source full rest had has) before (Err why) last
   stopped_at_last had has h last why a w taken failed i =
       let (numbers, bytes, are, going) = all_written next refl taken failed i in
       cut_off before.style only has_bytes full rest had has h taken failed _ numbers bytes why last (begins next refl)
@@ -651,30 +641,16 @@ module _ (only : List Only) (has_bytes : Bool) (full rest : Option (List ℕ)) (
 
   -- all is written
   pub ended : (had has : Bool) → has ≡ had → new.why ≡ None → (how : Ended) (last : Writing) → next ≡ turn.End how → Adds new last
-      → IsOut last → last.why
-      ≡ None → (taken : Option (List ℕ)) (failed : Bool) → IsWritten (origin before.style taken failed [] [] []) before
-      → DumpsFrom before.style only has_bytes (record { before = full; after = rest; had_failed = had; has_failed = has }) taken failed
-      (Ok how) last
+      → IsOut last → last.why ≡ None → DumpsInto only has_bytes (source full rest had has) before (Ok how) last
   ended had has h went how last t a out going taken failed i =
       let (numbers, bytes, are, wrote) = all_written (turn.End how) t taken failed i in
-      let o = origin before.style taken failed (d.outline ++ text_after (chosen_line only) s.answer) numbers bytes in
+      let o = origin before.style taken failed outline numbers bytes in
       let all = a o wrote in
-      record {
-        dumps = record {
-          outline = d.outline ++ text_after (chosen_line only) s.answer;
-          numbers = numbers;
-          bytes = bytes;
-          lists =
-              progress.listed_all (chosen_line only) full rest (Some []) (Some d.outline) f [] d.listing g s.answer s.steps _ _ put how
-              (sym t ∙ s.turns) (Some (d.outline ++ text_after (chosen_line only) s.answer))
-              (Appends-nil (Some (d.outline ++ text_after (chosen_line only) s.answer)));
-          counts = subst (λ (why : Option ListError). AreOfSource why (is_whole (Ok how)) only has_bytes
-              (from_to full rest) numbers bytes) went are;
-          writes = whole o last going out all;
-        };
-        source = h;
-        sink = has_failed o last going all;
-      }
+      dumped outline numbers bytes
+      (progress.listed_all (chosen_line only) full rest (Some []) (Some d.outline) f [] d.listing g s.answer s.steps _ _ put how
+      (sym t ∙ s.turns) (Some outline) (Appends-nil (Some outline)))
+      (subst (λ (why : Option ListError). AreOfSource why (is_whole (Ok how)) only has_bytes (from_to full rest) numbers bytes) went are)
+      (whole o last going out all) h (has_failed o last going all)
 
 -- where the feeder is afterwards
 pub same_going : (only : List Only) (has_bytes : Bool) (full rest : Option (List ℕ)) (before : Writing) (e f g : Feed) (c : Counts)
@@ -712,7 +688,7 @@ module _ (full rest : Option (List ℕ)) (f : Feed) (c : Counts) (k : Counting f
 module _ (only : List Only) (has_bytes : Bool) (full rest : Option (List ℕ)) (before : Writing) (f : Feed) (c : Counts) (now last : Writing)
     (d : Wanting only has_bytes full rest before f c now) (a : Adds now last) (out : IsOut last) (going : last.why ≡ None) where
   all : (events : List Event) → events ≡ d.counting.events → (taken : Option (List ℕ)) (failed : Bool)
-      → IsWritten (origin before.style taken failed [] [] []) before
+      → IsFresh before taken failed
       → WrittenWith None only has_bytes events before.style taken failed d.outline last
   all events same taken failed i =
       let (numbers, are, wrote) = d.writing taken failed i in (
@@ -731,51 +707,30 @@ module _ (only : List Only) (has_bytes : Bool) (full rest : Option (List ℕ)) (
 
   pub not_filled : (had mid has : Bool) → mid ≡ had → (rest' : Option (List ℕ)) (g : Feed) (e : ListError)
       → Refills rest rest' f g (Err e)
-      → has ≡ input_failed {A = Unit {0}} (Err e) mid → (taken : Option (List ℕ)) (failed : Bool)
-      → IsWritten (origin before.style taken failed [] [] []) before
-      → DumpsFrom before.style only has_bytes (record { before = full; after = rest'; had_failed = had; has_failed = has }) taken failed
-      (Err e) last
+      → has ≡ input_failed {A = Unit {0}} (Err e) mid → DumpsInto only has_bytes (source full rest' had has) before (Err e) last
   not_filled had mid has m rest' g Input r h taken failed i =
       let (numbers, are, wrote) = all d.counting.events refl taken failed i in
       let bytes = bytes_of_events has_bytes only d.counting.events in
       let o = origin before.style taken failed d.outline numbers bytes in
-      record {
-        dumps = record {
-          outline = d.outline;
-          numbers = numbers;
-          bytes = bytes;
-          lists = progress.not_filled (chosen_line only) full rest (Some []) (Some d.outline) f d.listing
-              rest' g Input r;
-          counts = numbers_at None false only has_bytes full rest' f c (record {
-            given = d.counting.given;
-            events = d.counting.events;
-            gave = Consumes-kept full rest rest' d.counting.given d.counting.gave r;
-            along = d.counting.along;
-            counted = d.counting.counted;
-          }) numbers (not_whole f.held) are;
-          writes = whole o last going out wrote;
-        };
-        source = h;
-        sink = has_failed o last going wrote;
-      }
+      let k = d.counting in
+      dumped d.outline numbers bytes
+      (progress.not_filled (chosen_line only) full rest (Some []) (Some d.outline) f d.listing rest' g Input r)
+      (numbers_at None false only has_bytes full rest' f c (record {
+        given = k.given;
+        events = k.events;
+        gave = Consumes-kept full rest rest' k.given k.gave r;
+        along = k.along;
+        counted = k.counted;
+      }) numbers (not_whole f.held) are) (whole o last going out wrote) h (has_failed o last going wrote)
   not_filled had mid has m rest' g Memory r h taken failed i =
       let (numbers, are, wrote) = all d.counting.events refl taken failed i in
       let bytes = bytes_of_events has_bytes only d.counting.events in
       let o = origin before.style taken failed d.outline numbers bytes in
-      record {
-        dumps = record {
-          outline = d.outline;
-          numbers = numbers;
-          bytes = bytes;
-          lists = progress.not_filled (chosen_line only) full rest (Some []) (Some d.outline) f d.listing
-              rest' g Memory r;
-          counts = numbers_after (Some Memory) only has_bytes full rest rest' f c d.counting r.0 r.1 numbers
-              (events_begin None Memory only no_counts d.counting.events numbers are);
-          writes = some_of o last (whole o last going out wrote);
-        };
-        source = h ∙ m;
-        sink = has_failed o last going wrote;
-      }
+      dumped d.outline numbers bytes
+      (progress.not_filled (chosen_line only) full rest (Some []) (Some d.outline) f d.listing rest' g Memory r)
+      (numbers_after (Some Memory) only has_bytes full rest rest' f c d.counting r.0 r.1 numbers
+      (events_begin None Memory only no_counts d.counting.events numbers are))
+      (some_of o last (whole o last going out wrote)) (h ∙ m) (has_failed o last going wrote)
   not_filled had mid has m rest' g Output r h taken failed i = absurd r
 
 -- ---- the whole
@@ -821,22 +776,13 @@ nothing_shaped Objects = refl
 pub no_room : (style : Style) (only : List Only) (has_bytes : Bool) (full : Option (List ℕ)) (had : Bool) (taken : Option (List ℕ))
     (failed : Bool)
     (w : Writing) → w ≡ Tree.starts_in style taken failed
-    → DumpsFrom style only has_bytes (record { before = full; after = full; had_failed = had; has_failed = had }) taken failed
+    → DumpsFrom style only has_bytes (source full full had had) taken failed
     (Err Memory) w
 no_room style only has_bytes full had taken failed w e =
-    subst (DumpsFrom style only has_bytes (record { before = full; after = full; had_failed = had; has_failed = had })
-    taken failed (Err Memory)) (sym e) (record {
-      dumps = record {
-        outline = [];
-        numbers = [];
-        bytes = [];
-        lists = progress.no_memory (chosen_line only) full full (Some []) (Some []) (new_feed 0 all_features) []
-            (progress.begun (chosen_line only) full (Some [])) full [] (Consumes-nil full);
-        counts = subst (AreOfSource (Some Memory) false only has_bytes (from_to full full) []) (sym (none_of_events has_bytes only))
-            (numbers_at (Some Memory) false only has_bytes full full (new_feed 0 all_features) no_counts (counts_nothing full) []
-            (not_whole []) refl);
-        writes = record { text = []; unwritten = []; shaped = nothing_shaped style; wrote = Appends-nil taken };
-      };
-      source = refl;
-      sink = refl;
-    })
+    subst (DumpsFrom style only has_bytes (source full full had had) taken failed (Err Memory)) (sym e) (dumped [] [] []
+    (progress.no_memory (chosen_line only) full full (Some []) (Some []) (new_feed 0 all_features) []
+    (progress.begun (chosen_line only) full (Some [])) full [] (Consumes-nil full))
+    (subst (AreOfSource (Some Memory) false only has_bytes (from_to full full) []) (sym (none_of_events has_bytes only))
+    (numbers_at (Some Memory) false only has_bytes full full (new_feed 0 all_features) no_counts (counts_nothing full) []
+    (not_whole []) refl))
+    (record { text = []; unwritten = []; shaped = nothing_shaped style; wrote = Appends-nil taken }) refl refl)

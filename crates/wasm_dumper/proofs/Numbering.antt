@@ -48,19 +48,6 @@ use Rattle.wasm_base.specs.declared.fault.NumberKind.TheVariants.{VarU32}
 use Rattle.wasm_tree.specs.Numbers.{after_number, count_of, item_at, numbers_in, numbers_read, one_at, one_number}
 use Rattle.wasm_tree.specs.declared.numbers.Counts.{Counts}
 
--- ---- imports, one by one
-
-pub import_came : (c : Counts) (s t : List Found) (x : ℕ × Import) → NextImport {X = ℕ × Import} found_at s (Some (Ok x)) t
-    → with_imports c s ≡ with_imports (with_one c (space_of x.1.ty)) t
-import_came c s t x h = ap (with_imports c) h.0
-
-pub fault_came : (c : Counts) (s t : List Found) (e : Error) → NextImport {X = ℕ × Import} found_at s (Some (Err e)) t → with_imports c s
-    ≡ with_imports c t
-fault_came c s t e h = ap (with_imports c) h.0
-
-pub imports_over : (c : Counts) (s t : List Found) → NextImport {X = ℕ × Import} found_at s None t → with_imports c s ≡ c
-imports_over c s t h = ap (with_imports c) h.0.0
-
 -- ---- numbers that are shown one after the other
 
 pub no_numbers : (o : Origin) (w : Writing) → IsWritten o w → IsWritten (with_numbers o []) w
@@ -130,9 +117,6 @@ module _ (space : Space) (from : ℕ) (old : Writing) where
   pub up_to_here : (new : Writing) → from < 2 ^ 64 → Adds old new → AddsUpTo space from from old new
   up_to_here new h a o i = ([], (0, refl, more_none from h), no_numbers o new (a o i))
 
-  pub up_to_next : (index : ℕ) (new : Writing) → AddsUpTo space from index old new → AddsNext space from old new
-  up_to_next index new a o i = let (shown, held, going) = a o i in (shown, (held.0, held.1), going)
-
 -- where the writer has stopped, some of them may be missing
 all_begin : (why : Option ListError) (stop : ListError) (shown all : List Number) → AreShown why shown all
     → AreShown (Some stop) shown all
@@ -190,13 +174,7 @@ next_begins : (why : Option ListError) (stop : ListError) (c : Counts) (space : 
     → AreNext why c space count shown → AreNext (Some stop) c space count shown
 next_begins why stop c None count shown a = a
 next_begins why stop c (Some Types) count shown a = a
-next_begins why stop c (Some Functions) count shown a = all_begin why stop shown (numbers_from Functions c.functions count) a
-next_begins why stop c (Some Tables) count shown a = all_begin why stop shown (numbers_from Tables c.tables count) a
-next_begins why stop c (Some Memories) count shown a = all_begin why stop shown (numbers_from Memories c.memories count) a
-next_begins why stop c (Some Tags) count shown a = all_begin why stop shown (numbers_from Tags c.tags count) a
-next_begins why stop c (Some Globals) count shown a = all_begin why stop shown (numbers_from Globals c.globals count) a
-next_begins why stop c (Some Elements) count shown a = all_begin why stop shown (numbers_from Elements 0 count) a
-next_begins why stop c (Some DataSegments) count shown a = all_begin why stop shown (numbers_from DataSegments 0 count) a
+next_begins why stop c (Some space) count shown a = all_begin why stop shown (numbers_from space (count_of c space) count) a
 
 section_begins : (why : Option ListError) (stop : ListError) (imports : Bool) (c : Counts) (id count : ℕ) (w : Window)
     (shown : List Number)
@@ -207,14 +185,7 @@ section_begins why stop false c id count w shown a = next_begins why stop c (spa
 items_begin : (why : Option ListError) (stop : ListError) (c : Counts) (r : Report) (shown : List Number) → AreOfItems why c r shown
     → AreOfItems (Some stop) c r shown
 items_begin why stop c (counted id count window) shown a = section_begins why stop (nat_eq id import_id) c id count window shown a
-items_begin why stop c (version num encoding from to) shown a = a
-items_begin why stop c (start_section func from to) shown a = a
-items_begin why stop c (data_count_section count from to) shown a = a
-items_begin why stop c (code_start count from to size) shown a = a
-items_begin why stop c (code_entry window) shown a = a
-items_begin why stop c (custom_section name data_offset window) shown a = a
-items_begin why stop c (unknown_section id contents from to) shown a = a
-items_begin why stop c (stream_end end) shown a = a
+items_begin why stop c other shown a = a
 
 shown_begin : (why : Option ListError) (stop : ListError) (chosen : Bool) (c : Counts) (r : Report) (shown : List Number)
     → AreOfShown why chosen c r shown → AreOfShown (Some stop) chosen c r shown
@@ -256,14 +227,7 @@ has_numbers other = false
 -- none of them may be shown
 none_are : (why : Option ListError) (c : Counts) (r : Report) → has_numbers r ≡ false → AreOfItems why c r []
 none_are why c (counted id count window) isnt = section_none why (nat_eq id import_id) c id count window isnt
-none_are why c (version num encoding from to) isnt = refl
-none_are why c (start_section func from to) isnt = refl
-none_are why c (data_count_section count from to) isnt = refl
-none_are why c (code_start count from to size) isnt = refl
-none_are why c (code_entry window) isnt = refl
-none_are why c (custom_section name data_offset window) isnt = refl
-none_are why c (unknown_section id contents from to) isnt = refl
-none_are why c (stream_end end) isnt = refl
+none_are why c other isnt = refl
 
 -- what is reported of a payload whose items have no numbers, or that has none
 pub none_numbered : (p : Payload)
@@ -271,7 +235,6 @@ pub none_numbered : (p : Payload)
     → ((s : _) → p ≡ TableSection s → ⊥) → ((s : _) → p ≡ MemorySection s → ⊥) → ((s : _) → p ≡ TagSection s → ⊥)
     → ((s : _) → p ≡ GlobalSection s → ⊥) → ((s : _) → p ≡ ElementSection s → ⊥) → ((s : _) → p ≡ DataSection s → ⊥)
     → has_numbers (report_of p) ≡ false
-none_numbered (Version encoding num range) n0 n1 n2 n3 n4 n5 n6 n7 n8 = refl
 none_numbered (TypeSection s) n0 n1 n2 n3 n4 n5 n6 n7 n8 = absurd (n0 s refl)
 none_numbered (ImportSection s) n0 n1 n2 n3 n4 n5 n6 n7 n8 = absurd (n1 s refl)
 none_numbered (FunctionSection s) n0 n1 n2 n3 n4 n5 n6 n7 n8 = absurd (n2 s refl)
@@ -279,16 +242,9 @@ none_numbered (TableSection s) n0 n1 n2 n3 n4 n5 n6 n7 n8 = absurd (n3 s refl)
 none_numbered (MemorySection s) n0 n1 n2 n3 n4 n5 n6 n7 n8 = absurd (n4 s refl)
 none_numbered (TagSection s) n0 n1 n2 n3 n4 n5 n6 n7 n8 = absurd (n5 s refl)
 none_numbered (GlobalSection s) n0 n1 n2 n3 n4 n5 n6 n7 n8 = absurd (n6 s refl)
-none_numbered (ExportSection s) n0 n1 n2 n3 n4 n5 n6 n7 n8 = refl
-none_numbered (StartSection func range) n0 n1 n2 n3 n4 n5 n6 n7 n8 = refl
 none_numbered (ElementSection s) n0 n1 n2 n3 n4 n5 n6 n7 n8 = absurd (n7 s refl)
-none_numbered (DataCountSection count range) n0 n1 n2 n3 n4 n5 n6 n7 n8 = refl
 none_numbered (DataSection s) n0 n1 n2 n3 n4 n5 n6 n7 n8 = absurd (n8 s refl)
-none_numbered (CodeSectionStart count size range) n0 n1 n2 n3 n4 n5 n6 n7 n8 = refl
-none_numbered (CodeSectionEntry body) n0 n1 n2 n3 n4 n5 n6 n7 n8 = refl
-none_numbered (CustomSection s) n0 n1 n2 n3 n4 n5 n6 n7 n8 = refl
-none_numbered (UnknownSection id contents range) n0 n1 n2 n3 n4 n5 n6 n7 n8 = refl
-none_numbered (payloads.End at) n0 n1 n2 n3 n4 n5 n6 n7 n8 = refl
+none_numbered other n0 n1 n2 n3 n4 n5 n6 n7 n8 = refl
 
 pub shows_no_items : (c : Counts) (r : Report) (old new : Writing) → has_numbers r ≡ false → Adds old new → ShowsItems c r old new
 shows_no_items c r old new isnt a = shows_none (AreOfItems new.why c r) old new (none_are new.why c r isnt) a
@@ -412,12 +368,4 @@ events_more why only c (x ∷ events) numbers e shown (one, later, of, parts, re
 pub end_none : (why : Option ListError) (only : List Only) (c : Counts) (r : Report) (shown : List Number) → is_end r ≡ true
     → AreOf why only c r shown → shown ≡ []
 end_none why only c (stream_end (ended offset)) shown e (items, parts, none) = parts ∙ none
-end_none why only c (stream_end (fault f)) shown e a = cc
-end_none why only c (version num encoding from to) shown e a = cc
-end_none why only c (counted id count window) shown e a = cc
-end_none why only c (start_section func from to) shown e a = cc
-end_none why only c (data_count_section count from to) shown e a = cc
-end_none why only c (code_start count from to size) shown e a = cc
-end_none why only c (code_entry window) shown e a = cc
-end_none why only c (custom_section name data_offset window) shown e a = cc
-end_none why only c (unknown_section id contents from to) shown e a = cc
+end_none why only c other shown e a = cc

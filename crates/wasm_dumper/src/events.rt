@@ -14,9 +14,9 @@ use std::ops::Range;
 use wasm_base::Error;
 use wasm_grammar::{CODE_SECTION, section_name};
 use wasm_items::FunctionBody;
-use wasm_lines::{ShortText, Sink, encoding_name, write_payload, write_word};
+use wasm_lines::{ShortText, encoding_name, write_payload, write_word};
 use wasm_parser::{Encoding, Payload};
-use wasm_tree::{Counts, Space, Tree, write_item};
+use wasm_tree::{Counts, Space, Style, Tree, write_item};
 
 /// Which events a dump shows. It shows those that any of several choices chooses, and always the last one.
 #[derive(Clone, Copy)]
@@ -162,17 +162,17 @@ impl ShortText for Heading<'_, '_> {
 }
 
 // Begins the object of an event.
-fn begin_event<W: Sink>(word: &str, out: &mut Tree<W>)
+fn begin_event<O: Tree>(word: &str, out: &mut O)
     requires one_line { has_line_feed word.now ≡ false }
-    ensures { Adds out.old out.new }
+    ensures { Adds (O.writing out.old) (O.writing out.new) }
 {
     out.end();
     out.word_field("event", word);
 }
 
 // That of a header.
-fn version_event<W: Sink>(num: u16, encoding: Encoding, range: &Range<u64>, out: &mut Tree<W>)
-    ensures { Adds out.old out.new }
+fn version_event<O: Tree>(num: u16, encoding: Encoding, range: &Range<u64>, out: &mut O)
+    ensures { Adds (O.writing out.old) (O.writing out.new) }
 {
     begin_event("version", out);
     out.range("range", range.start, range.end);
@@ -181,13 +181,15 @@ fn version_event<W: Sink>(num: u16, encoding: Encoding, range: &Range<u64>, out:
 }
 
 // That of a body, with the number of its function.
-fn body_event<W: Sink>(counts: &Counts, body: &FunctionBody<'_>, out: &mut Tree<W>)
-    ensures { Adds out.old out.new }
+fn body_event<O: Tree>(counts: &Counts, body: &FunctionBody<'_>, out: &mut O)
+    ensures { Adds (O.writing out.old) (O.writing out.new) }
 {
     let range = body.range();
     begin_event("body", out);
     out.range("range", range.start, range.end);
-    out.event_number(Space::Functions, counts.bodies);
+    out.word_field("space", "func");
+    out.number("number", counts.bodies);
+    out.item_name(Space::Functions, counts.bodies);
 }
 
 // The name of the sections with this id, where the section is one of them.
@@ -199,8 +201,8 @@ fn standard_name(id: u8, payload: &Payload<'_>) -> Option<&'static str> {
 }
 
 // Writes what is said of a section besides its id, its range and its count.
-fn section_fields<W: Sink>(payload: &Payload<'_>, out: &mut Tree<W>)
-    ensures { Adds out.old out.new }
+fn section_fields<O: Tree>(payload: &Payload<'_>, out: &mut O)
+    ensures { Adds (O.writing out.old) (O.writing out.new) }
 {
     match payload {
         Payload::StartSection { func, .. } => out.number("func", u64::from(*func)),
@@ -214,8 +216,8 @@ fn section_fields<W: Sink>(payload: &Payload<'_>, out: &mut Tree<W>)
 }
 
 // The object of a section, or of the start of one.
-fn section_event<W: Sink>(payload: &Payload<'_>, out: &mut Tree<W>)
-    ensures { Adds out.old out.new }
+fn section_event<O: Tree>(payload: &Payload<'_>, out: &mut O)
+    ensures { Adds (O.writing out.old) (O.writing out.new) }
 {
     let Some((id, range, count)) = payload.section_parts() else {
         return;
@@ -234,8 +236,8 @@ fn section_event<W: Sink>(payload: &Payload<'_>, out: &mut Tree<W>)
 }
 
 // The object of an event.
-fn event_object<W: Sink>(counts: &Counts, payload: &Payload<'_>, out: &mut Tree<W>)
-    ensures { Adds out.old out.new }
+fn event_object<O: Tree>(counts: &Counts, payload: &Payload<'_>, out: &mut O)
+    ensures { Adds (O.writing out.old) (O.writing out.new) }
 {
     match payload {
         Payload::Version {
@@ -253,8 +255,8 @@ fn event_object<W: Sink>(counts: &Counts, payload: &Payload<'_>, out: &mut Tree<
 }
 
 // The object of a fault.
-fn fault_object<W: Sink>(error: &Error, out: &mut Tree<W>)
-    ensures { Adds out.old out.new }
+fn fault_object<O: Tree>(error: &Error, out: &mut O)
+    ensures { Adds (O.writing out.old) (O.writing out.new) }
 {
     begin_event("fault", out);
     out.fault_fields(error);
@@ -269,24 +271,26 @@ fn function_of(counts: &Counts, payload: &Payload<'_>) -> Option<u64> {
 }
 
 /// Writes the line of an event, with the number of the function and its name where it is a body; or its object.
-pub(crate) fn show_event<W: Sink>(counts: &Counts, payload: &Payload<'_>, out: &mut Tree<W>)
-    ensures { AddsFirst (numbered_line counts.now (report_of payload.now)) out.old out.new }
+pub(crate) fn show_event<O: Tree>(counts: &Counts, payload: &Payload<'_>, out: &mut O)
+    ensures { AddsFirst (numbered_line counts.now (report_of payload.now))
+        (O.writing out.old) (O.writing out.new) }
 {
-    if out.writes_objects() {
-        event_object(counts, payload, out);
-    } else {
-        let heading = Heading { counts, payload };
-        out.first_of_function(&heading, function_of(counts, payload));
+    match out.style() {
+        Style::Lines => {
+            let heading = Heading { counts, payload };
+            out.first_of_function(&heading, function_of(counts, payload));
+        }
+        Style::Objects => event_object(counts, payload, out),
     }
 }
 
 /// Writes the line of the fault at which the stream ends, or its object.
-pub(crate) fn show_last_fault<W: Sink>(error: &Error, out: &mut Tree<W>)
-    ensures { AddsFirst (line_of (stream_end (fault (fault_at error.now)))) out.old out.new }
+pub(crate) fn show_last_fault<O: Tree>(error: &Error, out: &mut O)
+    ensures { AddsFirst (line_of (stream_end (fault (fault_at error.now))))
+        (O.writing out.old) (O.writing out.new) }
 {
-    if out.writes_objects() {
-        fault_object(error, out);
-    } else {
-        out.first_of_function(error, None);
+    match out.style() {
+        Style::Lines => out.first_of_function(error, None),
+        Style::Objects => fault_object(error, out),
     }
 }

@@ -11,13 +11,12 @@ use wasm_base::{FromReader, Result, SectionLimited};
 use wasm_items::{
     Import, ImportSection, ImportSectionReader, RecGroup, SubType, TypeSectionReader,
 };
-use wasm_lines::Sink;
 use wasm_show::{Show, Text, show_fault};
-use wasm_tree::{Counts, Space, Tree, import_space};
+use wasm_tree::{Counts, Space, Start, Tree, import_space};
 
 // Begins the line of an item with this number.
-fn begin_item<W: Sink>(offset: u64, space: Space, index: u64, out: &mut Tree<W>)
-    ensures { AddsNumber space index out.old out.new }
+fn begin_item<O: Tree>(offset: u64, space: Space, index: u64, out: &mut O)
+    ensures { AddsNumber space index (O.writing out.old) (O.writing out.new) }
 {
     out.item(1, offset);
     out.text(" ");
@@ -25,13 +24,9 @@ fn begin_item<W: Sink>(offset: u64, space: Space, index: u64, out: &mut Tree<W>)
 }
 
 // Writes an item with its number, or the fault in its place, and answers the number of what comes next.
-fn show_one<T: Show, W: Sink>(
-    space: Space,
-    index: u64,
-    item: &Result<(u64, T)>,
-    out: &mut Tree<W>,
-) -> u64
-    ensures shows { AddsThese (number_found space index item.now) out.old out.new }
+fn show_one<T: Show, O: Tree>(space: Space, index: u64, item: &Result<(u64, T)>, out: &mut O) -> u64
+    ensures shows { AddsThese (number_found space index item.now)
+        (O.writing out.old) (O.writing out.new) }
     ensures next { result ≡ after_found index item.now }
 {
     match item {
@@ -48,15 +43,16 @@ fn show_one<T: Show, W: Sink>(
 }
 
 /// Writes the items of a section, each with its number, which is that after what came before in this index space.
-pub(crate) fn show_numbered<'a, T: FromReader<'a> + Show, W: Sink>(
+pub(crate) fn show_numbered<'a, T: FromReader<'a> + Show, O: Tree>(
     space: Space,
     counts: &Counts,
     section: &SectionLimited<'a, T>,
-    out: &mut Tree<W>,
+    out: &mut O,
 )
-    ensures next { AddsNext space (count_of counts.now space) out.old out.new }
+    ensures next { AddsNext space (count_of counts.now space)
+        (O.writing out.old) (O.writing out.new) }
     ensures all { AddsItems T.meaning one_number space (count_of counts.now space) section.now
-        out.old out.new }
+        (O.writing out.old) (O.writing out.new) }
 {
     let mut index = counts.of(space);
     for item in section.clone().unwrap().into_iter_with_offsets() {
@@ -68,8 +64,9 @@ pub(crate) fn show_numbered<'a, T: FromReader<'a> + Show, W: Sink>(
 }
 
 // Writes an import with its number, or the fault in its place, and counts it.
-fn show_import<W: Sink>(counts: &mut Counts, import: &Result<(u64, Import<'_>)>, out: &mut Tree<W>)
-    ensures shows { AddsThese (import_number counts.old (found_at import.now)) out.old out.new }
+fn show_import<O: Tree>(counts: &mut Counts, import: &Result<(u64, Import<'_>)>, out: &mut O)
+    ensures shows { AddsThese (import_number counts.old (found_at import.now))
+        (O.writing out.old) (O.writing out.new) }
     ensures counted { counts.new ≡ with_import counts.old (found_at import.now) }
 {
     match import {
@@ -84,14 +81,10 @@ fn show_import<W: Sink>(counts: &mut Counts, import: &Result<(u64, Import<'_>)>,
 }
 
 /// Writes the imports of a section, each with its number in its index space.
-pub(crate) fn show_imports<W: Sink>(
-    counts: &Counts,
-    section: &ImportSectionReader<'_>,
-    out: &mut Tree<W>,
-)
+pub(crate) fn show_imports<O: Tree>(counts: &Counts, section: &ImportSectionReader<'_>, out: &mut O)
     ensures { AddsAll
         (import_numbers counts.now (flattened section.now.count (place section.now.reader)))
-        out.old out.new }
+        (O.writing out.old) (O.writing out.new) }
 {
     let mut before = *counts;
     for import in section.clone().unwrap().into_imports_with_offsets() {
@@ -103,18 +96,18 @@ pub(crate) fn show_imports<W: Sink>(
 }
 
 // Writes a type of a group on a line of its own, with its number.
-fn show_type<W: Sink>(index: u64, ty: &SubType, out: &mut Tree<W>)
-    ensures { AddsNumber Types index out.old out.new }
+fn show_type<O: Tree>(index: u64, ty: &SubType, out: &mut O)
+    ensures { AddsNumber Types index (O.writing out.old) (O.writing out.new) }
 {
-    out.begin_line(2);
+    out.begin_line(2, Start::Empty);
     out.item_number(Space::Types, index);
-    out.field("type");
+    out.begin_field("type");
     ty.text(out);
 }
 
 // Writes the types of a group, each with its number, and answers the number of what comes next.
-fn show_types<W: Sink>(first: u64, types: &[SubType], out: &mut Tree<W>) -> u64
-    ensures { AddsUpTo Types first result out.old out.new }
+fn show_types<O: Tree>(first: u64, types: &[SubType], out: &mut O) -> u64
+    ensures { AddsUpTo Types first result (O.writing out.old) (O.writing out.new) }
 {
     let mut index = first;
     for ty in types {
@@ -125,8 +118,8 @@ fn show_types<W: Sink>(first: u64, types: &[SubType], out: &mut Tree<W>) -> u64
 }
 
 // Writes a group. One that isn't explicit is one type, on the same line; of one that is, each type has a line under it.
-fn show_group<W: Sink>(first: u64, offset: u64, group: &RecGroup, out: &mut Tree<W>) -> u64
-    ensures { AddsUpTo Types first result out.old out.new }
+fn show_group<O: Tree>(first: u64, offset: u64, group: &RecGroup, out: &mut O) -> u64
+    ensures { AddsUpTo Types first result (O.writing out.old) (O.writing out.new) }
 {
     if !group.explicit {
         begin_item(offset, Space::Types, first, out);
@@ -139,8 +132,8 @@ fn show_group<W: Sink>(first: u64, offset: u64, group: &RecGroup, out: &mut Tree
 }
 
 // Writes a group or the fault in its place, and answers the number of the type that comes next.
-fn show_found<W: Sink>(index: u64, offset: u64, group: &Result<RecGroup>, out: &mut Tree<W>) -> u64
-    ensures { AddsUpTo Types index result out.old out.new }
+fn show_found<O: Tree>(index: u64, offset: u64, group: &Result<RecGroup>, out: &mut O) -> u64
+    ensures { AddsUpTo Types index result (O.writing out.old) (O.writing out.new) }
 {
     match group {
         Ok(group) => show_group(index, offset, group, out),
@@ -152,12 +145,8 @@ fn show_found<W: Sink>(index: u64, offset: u64, group: &Result<RecGroup>, out: &
 }
 
 /// Writes the groups of a type section, with the number of each type.
-pub(crate) fn show_groups<W: Sink>(
-    alloc: Global,
-    section: &TypeSectionReader<'_>,
-    out: &mut Tree<W>,
-)
-    ensures { AddsNext Types 0 out.old out.new }
+pub(crate) fn show_groups<O: Tree>(alloc: Global, section: &TypeSectionReader<'_>, out: &mut O)
+    ensures { AddsNext Types 0 (O.writing out.old) (O.writing out.new) }
 {
     let mut groups = section.clone().unwrap().into_iter_in(alloc);
     let mut index = 0;

@@ -4,20 +4,14 @@ ghost use Rattle.wasm_dumper.specs.Dump.{ShowsItems};
 
 use crate::numbered::{show_groups, show_imports, show_numbered};
 use std::alloc::Global;
-use wasm_lines::Sink;
 use wasm_parser::Payload;
 use wasm_show::{show_custom, show_section};
-use wasm_tree::{Counts, Space, Tree};
+use wasm_tree::{Counts, Offsets, Space, Tree};
 
 /// Writes what a payload holds, under its line, each item with its number after what came before.
-pub fn show_payload<W: Sink>(
-    alloc: Global,
-    counts: &Counts,
-    payload: &Payload<'_>,
-    out: &mut Tree<W>,
-)
+pub fn show_payload<O: Tree>(alloc: Global, counts: &Counts, payload: &Payload<'_>, out: &mut O)
     ensures { ItemsBegin payload.now
-        → ShowsItems counts.now (report_of payload.now) out.old out.new }
+        → ShowsItems counts.now (report_of payload.now) (O.writing out.old) (O.writing out.new) }
 {
     match payload {
         Payload::TypeSection(section) => show_groups(alloc, section, out),
@@ -41,9 +35,7 @@ pub(crate) fn offsets_of_items(
     counts: &Counts,
     payload: &Payload<'_>,
 ) -> Option<Vec<u64>> {
-    let mut tree = Tree::noting(alloc);
-    show_payload(alloc, counts, payload, &mut tree);
-    let has_stopped = tree.has_stopped();
-    let noted = tree.into_noted(alloc);
-    if has_stopped { None } else { Some(noted) }
+    let mut offsets = Offsets::new(alloc);
+    show_payload(alloc, counts, payload, &mut offsets);
+    offsets.into_noted()
 }

@@ -13,7 +13,7 @@ use crate::events::{Shown, chooses, show_event, show_last_fault};
 use crate::payload::{offsets_of_items, show_payload};
 use std::alloc::Global;
 use wasm_feed::{Ahead, Cursor, Ended, Step, Turn, parse_next, seen};
-use wasm_lines::{ListError, Sink, Source};
+use wasm_lines::{ListError, Source};
 use wasm_parser::{Parser, Payload, Result as ParserResult};
 use wasm_tree::{Counts, Tree};
 
@@ -25,15 +25,16 @@ struct Part<'b> {
 }
 
 // Has bytes shown with what is read from them, if bytes are shown.
-fn show_bytes<W: Sink>(
+fn show_bytes<O: Tree>(
     alloc: Global,
     has_bytes: bool,
     counts: &Counts,
     part: Part<'_>,
     payload: &Payload<'_>,
-    out: &mut Tree<W>,
+    out: &mut O,
 )
-    ensures { AddsBytes (if has_bytes then part.entry.bytes.now else []) out.old out.new }
+    ensures { AddsBytes (if has_bytes then part.entry.bytes.now else [])
+        (O.writing out.old) (O.writing out.new) }
 {
     if has_bytes {
         match offsets_of_items(alloc, counts, payload) {
@@ -47,16 +48,17 @@ fn show_bytes<W: Sink>(
 }
 
 // Writes the line of a payload and what it holds, if it is shown.
-fn show_chosen<W: Sink>(
+fn show_chosen<O: Tree>(
     alloc: Global,
     shown: Shown<'_>,
     counts: &Counts,
     part: Part<'_>,
     payload: &Payload<'_>,
-    out: &mut Tree<W>,
+    out: &mut O,
 )
     ensures { ItemsBegin payload.now → ShowsReport shown.entry.only.now shown.entry.has_bytes
-        counts.now (report_of payload.now) part.entry.bytes.now out.old out.new }
+        counts.now (report_of payload.now) part.entry.bytes.now
+        (O.writing out.old) (O.writing out.new) }
 {
     if chooses(shown.only, payload) {
         show_bytes(alloc, shown.has_bytes, counts, part, payload, out);
@@ -66,17 +68,17 @@ fn show_chosen<W: Sink>(
 }
 
 // Writes what a step answered, and says what is to be done next.
-fn show_answer<W: Sink>(
+fn show_answer<O: Tree>(
     alloc: Global,
     shown: Shown<'_>,
     counts: &mut Counts,
     offset: &mut u64,
     answer: &ParserResult<Step<'_>>,
-    out: &mut Tree<W>,
+    out: &mut O,
 ) -> Turn
     ensures turns { result ≡ turn_after answer.now }
     ensures shows { AnswerBegins (answer_of answer.now) → ShowsAnswer shown.entry.only.now
-        shown.entry.has_bytes counts.old answer.now out.old out.new }
+        shown.entry.has_bytes counts.old answer.now (O.writing out.old) (O.writing out.new) }
     ensures counts { AnswerBegins (answer_of answer.now)
         → counts.new ≡ after_answer counts.old answer.now }
 {
@@ -103,9 +105,9 @@ fn show_answer<W: Sink>(
 }
 
 // Whether the tree goes on, or why it has stopped.
-fn go_on<W: Sink>(out: &Tree<W>) -> Result<(), ListError>
-    ensures ok { OnOk result (out.now.why ≡ None) }
-    ensures err { IfErr result (λ why. out.now.why ≡ Some why) }
+fn go_on<O: Tree>(out: &O) -> Result<(), ListError>
+    ensures ok { OnOk result ((O.writing out.now).why ≡ None) }
+    ensures err { IfErr result (λ why. (O.writing out.now).why ≡ Some why) }
 {
     match out.stopped() {
         None => Ok(()),
@@ -114,19 +116,19 @@ fn go_on<W: Sink>(out: &Tree<W>) -> Result<(), ListError>
 }
 
 // Stores what the next step has to read after the bytes that are held; the tree stops where an allocation fails.
-fn make_ready<W: Sink>(
+fn make_ready<O: Tree>(
     ahead: &mut Ahead<Global>,
     cursor: &mut Cursor,
     stored: &mut Vec<u8>,
-    out: &mut Tree<W>,
+    out: &mut O,
 ) -> Result<(), ListError>
     ensures same { OnOk result (lending stored.new.items ahead.new cursor.new
         ≡ beside (feed_of stored.old.items cursor.old) ahead.old) }
     ensures enough { OnOk result (ReadsEnough stored.new.items ahead.new cursor.new) }
     ensures room { OnOk result (vec_len stored.new + length ahead.new ≤ vec_capacity stored.new) }
-    ensures keeps { OnOk result (out.new ≡ out.old) }
-    ensures adds { Adds out.old out.new }
-    ensures stops { IfErr result (λ why. out.new.why ≡ Some why) }
+    ensures keeps { OnOk result (O.writing out.new ≡ O.writing out.old) }
+    ensures adds { Adds (O.writing out.old) (O.writing out.new) }
+    ensures stops { IfErr result (λ why. (O.writing out.new).why ≡ Some why) }
 {
     match ahead.make_ready(cursor, stored) {
         Ok(()) => Ok(()),
@@ -138,16 +140,17 @@ fn make_ready<W: Sink>(
 }
 
 // The same as `dump`, by a tree over the output that has written nothing yet, and with a buffer to read into.
-fn dump_into<R: Source, W: Sink>(
+fn dump_into<R: Source, O: Tree>(
     alloc: Global,
     shown: Shown<'_>,
     input: &mut R,
-    out: &mut Tree<W>,
+    out: &mut O,
     buffer: Vec<u8>,
 ) -> Result<Ended, ListError>
     requires { 0 < vec_len buffer }
     ensures { DumpsInto shown.entry.only.now shown.entry.has_bytes
-        (device_of R.remaining R.has_failed input.old input.new) out.old result out.new }
+        (device_of R.remaining R.has_failed input.old input.new)
+        (O.writing out.old) result (O.writing out.new) }
 {
     let mut counts = Counts::new();
     let mut offset = 0;
@@ -188,16 +191,17 @@ fn dump_into<R: Source, W: Sink>(
 /// A fault of the stream ends it; a fault of an item is a line at its place. An error leaves a beginning of the dump written:
 /// `Input` where the source failed, all of what it gave but the last event; `Output` where the sink did; `Memory` where a growth was
 /// refused. A device that had failed before the call is still known to have failed.
-pub fn dump<R: Source, W: Sink>(
+pub fn dump<R: Source, O: Tree>(
     alloc: Global,
     shown: Shown<'_>,
     input: &mut R,
-    out: &mut Tree<W>,
+    out: &mut O,
     piece: usize,
 ) -> Result<Ended, ListError>
     requires { 1 ≤ piece }
     ensures { DumpsByTree shown.entry.only.now shown.entry.has_bytes
-        (device_of R.remaining R.has_failed input.old input.new) out.old result out.new }
+        (device_of R.remaining R.has_failed input.old input.new)
+        (O.writing out.old) result (O.writing out.new) }
 {
     let buffer = vec![in alloc; 0u8; piece]?;
     dump_into(alloc, shown, input, out, buffer)

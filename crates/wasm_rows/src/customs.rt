@@ -10,14 +10,14 @@ use wasm_custom::{
 use wasm_feed::Sink;
 use wasm_items::RecGroup;
 use wasm_show::{Items, Show, show_list};
-use wasm_tree::Tree;
+use wasm_tree::{Lines, Tree};
 
 /// Writes the section or the list that this reader reads, or its fault. Returns whether there is such a reader.
 pub(crate) fn show_custom<W: Sink>(
     alloc: Global,
     name: &str,
     reader: BinaryReader<'_>,
-    out: &mut Tree<W>,
+    out: &mut Lines<W>,
 ) -> bool {
     match name {
         "types" => show_counted_in::<RecGroup, W>(alloc, reader, out),
@@ -42,7 +42,7 @@ pub(crate) fn show_custom<W: Sink>(
 }
 
 // Writes what was read, or its fault.
-fn show_section<T: Show, W: Sink>(read: Result<T>, out: &mut Tree<W>) {
+fn show_section<T: Show, W: Sink>(read: Result<T>, out: &mut Lines<W>) {
     match read {
         Ok(section) => {
             out.line(1, "section");
@@ -55,7 +55,7 @@ fn show_section<T: Show, W: Sink>(read: Result<T>, out: &mut Tree<W>) {
 // Writes the items of a section, or the fault of its count.
 fn show_counted<'a, T: FromReader<'a> + Show, W: Sink>(
     reader: BinaryReader<'a>,
-    out: &mut Tree<W>,
+    out: &mut Lines<W>,
 ) {
     match SectionLimited::<T>::new(reader) {
         Ok(section) => {
@@ -70,7 +70,7 @@ fn show_counted<'a, T: FromReader<'a> + Show, W: Sink>(
 fn show_counted_in<'a, T: FromReaderIn<'a> + Show, W: Sink>(
     alloc: Global,
     reader: BinaryReader<'a>,
-    out: &mut Tree<W>,
+    out: &mut Lines<W>,
 ) {
     match SectionLimited::<T>::new(reader) {
         Ok(section) => show_all(section.into_iter_in(alloc), out),
@@ -79,7 +79,7 @@ fn show_counted_in<'a, T: FromReaderIn<'a> + Show, W: Sink>(
 }
 
 // Writes all that an iterator returns, each on a line. Unlike `show_items`, it writes `OutOfMemory` too, and continues after it.
-fn show_all<I: Items, W: Sink>(mut items: I, out: &mut Tree<W>) {
+fn show_all<I: Items, W: Sink>(mut items: I, out: &mut Lines<W>) {
     out.line(1, "section");
     for _ in 0..u64::MAX {
         match items.next_item() {
@@ -90,7 +90,7 @@ fn show_all<I: Items, W: Sink>(mut items: I, out: &mut Tree<W>) {
 }
 
 // Writes an item, or its fault.
-fn show_one<T: Show, W: Sink>(item: &Result<(u64, T)>, out: &mut Tree<W>) {
+fn show_one<T: Show, W: Sink>(item: &Result<(u64, T)>, out: &mut Lines<W>) {
     match item {
         Ok((offset, item)) => {
             out.item(2, *offset);
@@ -101,7 +101,7 @@ fn show_one<T: Show, W: Sink>(item: &Result<(u64, T)>, out: &mut Tree<W>) {
 }
 
 // Writes what a custom section is known as, or its fault.
-fn show_named<W: Sink>(alloc: Global, reader: BinaryReader<'_>, out: &mut Tree<W>) {
+fn show_named<W: Sink>(alloc: Global, reader: BinaryReader<'_>, out: &mut Lines<W>) {
     match CustomSectionReader::new(reader) {
         Ok(section) => match section.as_known(alloc) {
             Ok(known) => show_known(section.name(), &known, out),
@@ -112,7 +112,7 @@ fn show_named<W: Sink>(alloc: Global, reader: BinaryReader<'_>, out: &mut Tree<W
 }
 
 // Writes the name of a custom section, and under it, if its data is known, what that says.
-fn show_known<W: Sink>(name: &str, known: &KnownCustom<'_>, out: &mut Tree<W>) {
+fn show_known<W: Sink>(name: &str, known: &KnownCustom<'_>, out: &mut Lines<W>) {
     out.line(1, "section");
     out.quoted("name", name);
     match known {

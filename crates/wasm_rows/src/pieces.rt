@@ -7,7 +7,7 @@ use std::ops::Range;
 use wasm_base::{BinaryReader, Error, WasmFeatures};
 use wasm_feed::{Event, EventKind, Feeder, ListError, Sink, Step, fits_pieces, read_pieces};
 use wasm_parser::{Encoding, Payload};
-use wasm_tree::Tree;
+use wasm_tree::Lines;
 
 // Writes the text of a fault.
 fn show_fault(e: &Error, out: &mut String) -> Result<(), AllocError> {
@@ -47,7 +47,7 @@ fn pieces_of<'a>(alloc: Global, reader: &mut BinaryReader<'a>) -> Result<Vec<&'a
 }
 
 // Writes a text as a line, which a tree takes if it is no longer than what may wait.
-fn write_line<W: Sink>(mut text: String, out: &mut Tree<W>) -> Result<(), Failed> {
+fn write_line<W: Sink>(mut text: String, out: &mut Lines<W>) -> Result<(), Failed> {
     writeln!(text, "")?;
     if text.len() > 65_536 {
         return Err(Failed::Row("the result is longer than a line may be"));
@@ -72,7 +72,7 @@ pub(crate) fn show_pieces<W: Sink>(
     shown: Shown,
     reader: BinaryReader<'_>,
     offset: u64,
-    out: &mut Tree<W>,
+    out: &mut Lines<W>,
 ) -> Result<(), Failed> {
     let mut text = String::from_str(alloc, "  ")?;
     match shown {

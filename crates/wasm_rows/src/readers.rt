@@ -20,7 +20,7 @@ use wasm_items::{
     Table, TagType, TypeRef, ValType,
 };
 use wasm_show::{Show, show_items};
-use wasm_tree::Tree;
+use wasm_tree::{Lines, Tree};
 
 /// Reads tables from standard input, and writes their lines, with the result of each row in lines under it. A fault is a line in
 /// the place of its item; so is `OutOfMemory`.
@@ -33,7 +33,7 @@ pub(crate) fn run(rt: &HostRuntime) -> Result<(), (u64, Failed)> {
     if let Err(error) = rt.stdin().read_to_string(&mut text) {
         return Err((0, Failed::from(error)));
     }
-    let mut out = Tree::new(rt.alloc(), WriteSink::new(rt.stdout()));
+    let mut out = Lines::new(rt.alloc(), WriteSink::new(rt.stdout()));
     let shown = show_lines(rt.alloc(), text.as_str(), &mut out);
     out.write_out();
     let stopped = out.stopped();
@@ -45,7 +45,7 @@ pub(crate) fn run(rt: &HostRuntime) -> Result<(), (u64, Failed)> {
 }
 
 // Writes lines, and the result of each row among them.
-fn show_lines<W: Sink>(alloc: Global, text: &str, out: &mut Tree<W>) -> Result<(), (u64, Failed)> {
+fn show_lines<W: Sink>(alloc: Global, text: &str, out: &mut Lines<W>) -> Result<(), (u64, Failed)> {
     let mut number = 0_u64;
     for line in text.lines() {
         number = number.wrapping_add(1);
@@ -58,20 +58,20 @@ fn show_lines<W: Sink>(alloc: Global, text: &str, out: &mut Tree<W>) -> Result<(
 }
 
 // Writes a line of the input.
-fn echo<W: Sink>(line: &str, out: &mut Tree<W>) {
+fn echo<W: Sink>(line: &str, out: &mut Lines<W>) {
     write_bytes(line.as_bytes(), out);
     out.first(b"\n");
 }
 
 // Writes the result of a line, if it is a row.
-fn show_result<W: Sink>(alloc: Global, line: &str, out: &mut Tree<W>) -> Result<(), Failed> {
+fn show_result<W: Sink>(alloc: Global, line: &str, out: &mut Lines<W>) -> Result<(), Failed> {
     if is_prose(line) {
         return Ok(());
     }
     show_row(alloc, parse_row(alloc, line)?, out)
 }
 
-fn show_row<W: Sink>(alloc: Global, row: Row<'_>, out: &mut Tree<W>) -> Result<(), Failed> {
+fn show_row<W: Sink>(alloc: Global, row: Row<'_>, out: &mut Lines<W>) -> Result<(), Failed> {
     let Row {
         reader: name,
         features,
@@ -97,7 +97,7 @@ fn show_window<W: Sink>(
     features: WasmFeatures,
     offset: u64,
     bytes: &[u8],
-    out: &mut Tree<W>,
+    out: &mut Lines<W>,
 ) -> Result<(), Failed> {
     if !fits(offset, bytes.len()) {
         return Err(Failed::Row("the bytes overrun the largest offset"));
@@ -115,7 +115,7 @@ fn show_read_by<W: Sink>(
     name: &str,
     mut reader: BinaryReader<'_>,
     offset: u64,
-    out: &mut Tree<W>,
+    out: &mut Lines<W>,
 ) -> Result<(), Failed> {
     match name {
         "kind" => show_read::<ExternalKind, W>(&mut reader, out),
@@ -160,7 +160,7 @@ fn show_outcome<T: Show, W: Sink>(
     offset: u64,
     item: &wasm_base::Result<T>,
     used: usize,
-    out: &mut Tree<W>,
+    out: &mut Lines<W>,
 ) {
     match item {
         Ok(item) => {
@@ -175,7 +175,7 @@ fn show_outcome<T: Show, W: Sink>(
 
 fn show_read<'a, T: FromReader<'a> + Show, W: Sink>(
     reader: &mut BinaryReader<'a>,
-    out: &mut Tree<W>,
+    out: &mut Lines<W>,
 ) {
     let offset = reader.original_position();
     let item = T::from_reader(reader);
@@ -185,7 +185,7 @@ fn show_read<'a, T: FromReader<'a> + Show, W: Sink>(
 fn show_read_in<'a, T: FromReaderIn<'a> + Show, W: Sink>(
     alloc: Global,
     reader: &mut BinaryReader<'a>,
-    out: &mut Tree<W>,
+    out: &mut Lines<W>,
 ) {
     let offset = reader.original_position();
     let item = T::from_reader(alloc, reader);
@@ -193,7 +193,7 @@ fn show_read_in<'a, T: FromReaderIn<'a> + Show, W: Sink>(
 }
 
 // Writes the imports of a section, each with its offset, or the fault of its count.
-fn show_flattened<W: Sink>(reader: BinaryReader<'_>, out: &mut Tree<W>) {
+fn show_flattened<W: Sink>(reader: BinaryReader<'_>, out: &mut Lines<W>) {
     match ImportSectionReader::new(reader) {
         Ok(section) => show_items(1, section.into_imports_with_offsets(), out),
         Err(e) => out.fault(1, &e),

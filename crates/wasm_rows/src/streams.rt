@@ -6,7 +6,7 @@ use crate::rows::{Failed, write_bytes};
 use std::alloc::Global;
 use wasm_feed::Sink;
 use wasm_parser::Parser;
-use wasm_tree::Tree;
+use wasm_tree::Lines;
 
 /// The sizes of the chunks in which a stream is read.
 const SIZES: [usize; 5] = [1, 2, 3, 7, 65_536];
@@ -16,7 +16,7 @@ const SIZES: [usize; 5] = [1, 2, 3, 7, 65_536];
 pub(crate) fn show_stream<W: Sink>(
     alloc: Global,
     stream: &Stream<'_>,
-    out: &mut Tree<W>,
+    out: &mut Lines<W>,
 ) -> Result<(), Failed> {
     let mut whole = Vec::new(alloc);
     add_walk(stream, true, &mut whole)?;
@@ -38,7 +38,7 @@ fn show_chunked<W: Sink>(
     stream: &Stream<'_>,
     size: usize,
     plain: &[u8],
-    out: &mut Tree<W>,
+    out: &mut Lines<W>,
 ) -> Result<(), Failed> {
     let mut lines = Vec::new(alloc);
     add_fed(alloc, stream, size, &mut lines)?;
@@ -53,7 +53,7 @@ fn show_chunked<W: Sink>(
 }
 
 // Writes lines under a heading, where they are not these.
-fn show_other<W: Sink>(heading: &str, wanted: &[u8], lines: &[u8], out: &mut Tree<W>) {
+fn show_other<W: Sink>(heading: &str, wanted: &[u8], lines: &[u8], out: &mut Lines<W>) {
     if wanted != lines {
         out.first(b"  differs: ");
         write_bytes(heading.as_bytes(), out);
@@ -67,7 +67,7 @@ fn show_other<W: Sink>(heading: &str, wanted: &[u8], lines: &[u8], out: &mut Tre
 pub(crate) fn show_prefix<W: Sink>(
     alloc: Global,
     stream: &Stream<'_>,
-    out: &mut Tree<W>,
+    out: &mut Lines<W>,
 ) -> Result<(), Failed> {
     let mut parser = stream.parser();
     let mut lines = Vec::new(alloc);

@@ -4,7 +4,7 @@ ghost use Rattle.std.specs.Prelude.{⊤};
 use std::alloc::Global;
 use wasm_base::{BinaryReader, NeverAllocates, Result, Subsection, Subsections};
 use wasm_feed::Sink;
-use wasm_tree::Tree;
+use wasm_tree::{Lines, Tree};
 
 /// An id, the number that the subsection begins with, and the offset after it.
 #[derive(Drop)]
@@ -33,7 +33,7 @@ impl<'a> Subsection<'a> for Numbered {
 pub(crate) fn show_subsections<W: Sink>(
     alloc: Global,
     window: BinaryReader<'_>,
-    out: &mut Tree<W>,
+    out: &mut Lines<W>,
 ) {
     let mut subsections = Subsections::<Numbered>::new(alloc, window);
     for _ in 0..u64::MAX {
@@ -45,7 +45,7 @@ pub(crate) fn show_subsections<W: Sink>(
     }
 }
 
-fn show_one<W: Sink>(subsection: &Result<Numbered>, out: &mut Tree<W>) {
+fn show_one<W: Sink>(subsection: &Result<Numbered>, out: &mut Lines<W>) {
     match subsection {
         Ok(Numbered { id, number, after }) => {
             out.line(1, "subsection");

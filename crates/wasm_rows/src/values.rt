@@ -4,74 +4,74 @@ use wasm_base::{
     SectionLimitedIntoIterWithOffsets,
 };
 use wasm_feed::Sink;
-use wasm_tree::Tree;
+use wasm_tree::{Lines, Tree};
 
 /// What a call returns, as fields of a line.
 trait Value: Drop {
     /// Writes the fields.
-    fn write<W: Sink>(&self, out: &mut Tree<W>);
+    fn write<W: Sink>(&self, out: &mut Lines<W>);
 }
 
 impl Value for () {
-    fn write<W: Sink>(&self, _out: &mut Tree<W>) {}
+    fn write<W: Sink>(&self, _out: &mut Lines<W>) {}
 }
 
 impl Value for bool {
-    fn write<W: Sink>(&self, out: &mut Tree<W>) {
+    fn write<W: Sink>(&self, out: &mut Lines<W>) {
         out.flag("bool", *self);
     }
 }
 
 impl Value for u8 {
-    fn write<W: Sink>(&self, out: &mut Tree<W>) {
+    fn write<W: Sink>(&self, out: &mut Lines<W>) {
         out.number("number", u64::from(*self));
     }
 }
 
 impl Value for u32 {
-    fn write<W: Sink>(&self, out: &mut Tree<W>) {
+    fn write<W: Sink>(&self, out: &mut Lines<W>) {
         out.number("number", u64::from(*self));
     }
 }
 
 impl Value for u64 {
-    fn write<W: Sink>(&self, out: &mut Tree<W>) {
+    fn write<W: Sink>(&self, out: &mut Lines<W>) {
         out.number("number", *self);
     }
 }
 
 impl Value for i32 {
-    fn write<W: Sink>(&self, out: &mut Tree<W>) {
+    fn write<W: Sink>(&self, out: &mut Lines<W>) {
         out.signed("number", i64::from(*self));
     }
 }
 
 impl Value for i64 {
-    fn write<W: Sink>(&self, out: &mut Tree<W>) {
+    fn write<W: Sink>(&self, out: &mut Lines<W>) {
         out.signed("number", *self);
     }
 }
 
 impl Value for Ieee32 {
-    fn write<W: Sink>(&self, out: &mut Tree<W>) {
+    fn write<W: Sink>(&self, out: &mut Lines<W>) {
         out.number("bits", u64::from((*self).bits()));
     }
 }
 
 impl Value for Ieee64 {
-    fn write<W: Sink>(&self, out: &mut Tree<W>) {
+    fn write<W: Sink>(&self, out: &mut Lines<W>) {
         out.number("bits", (*self).bits());
     }
 }
 
 impl Value for &str {
-    fn write<W: Sink>(&self, out: &mut Tree<W>) {
+    fn write<W: Sink>(&self, out: &mut Lines<W>) {
         out.quoted("text", self);
     }
 }
 
 impl Value for BinaryReader<'_> {
-    fn write<W: Sink>(&self, out: &mut Tree<W>) {
+    fn write<W: Sink>(&self, out: &mut Lines<W>) {
         let range = self.range();
         out.range("range", range.start, range.end);
         out.raw("bytes", self.remaining_buffer());
@@ -79,14 +79,14 @@ impl Value for BinaryReader<'_> {
 }
 
 impl Value for (u32, bool) {
-    fn write<W: Sink>(&self, out: &mut Tree<W>) {
+    fn write<W: Sink>(&self, out: &mut Lines<W>) {
         self.0.write(out);
         self.1.write(out);
     }
 }
 
 impl Value for (&str, &str) {
-    fn write<W: Sink>(&self, out: &mut Tree<W>) {
+    fn write<W: Sink>(&self, out: &mut Lines<W>) {
         self.0.write(out);
         self.1.write(out);
     }
@@ -96,7 +96,7 @@ impl Value for (&str, &str) {
 pub(crate) fn show_value<W: Sink>(
     name: &str,
     reader: &mut BinaryReader<'_>,
-    out: &mut Tree<W>,
+    out: &mut Lines<W>,
 ) -> bool {
     match name {
         "u8" => show_call(reader.read_u8(), reader, out),
@@ -115,7 +115,7 @@ pub(crate) fn show_value<W: Sink>(
 }
 
 // The same for what is longer than a number.
-fn show_text<W: Sink>(name: &str, reader: &mut BinaryReader<'_>, out: &mut Tree<W>) -> bool {
+fn show_text<W: Sink>(name: &str, reader: &mut BinaryReader<'_>, out: &mut Lines<W>) -> bool {
     match name {
         "bool" => show_call(reader.read::<bool>(), reader, out),
         "string" => show_call(reader.read_string(), reader, out),
@@ -132,7 +132,7 @@ fn show_text<W: Sink>(name: &str, reader: &mut BinaryReader<'_>, out: &mut Tree<
 }
 
 // The same for sections.
-fn show_section<W: Sink>(name: &str, reader: &mut BinaryReader<'_>, out: &mut Tree<W>) -> bool {
+fn show_section<W: Sink>(name: &str, reader: &mut BinaryReader<'_>, out: &mut Lines<W>) -> bool {
     let window = reader.shrink();
     match name {
         "bools" => show_items::<bool, W>(window, out),
@@ -151,7 +151,11 @@ fn skip_counted(reader: &mut BinaryReader<'_>) -> Result<()> {
 }
 
 // Writes what a call returned, and how many bytes the reader has consumed after it.
-fn show_call<T: Value, W: Sink>(returned: Result<T>, reader: &BinaryReader<'_>, out: &mut Tree<W>) {
+fn show_call<T: Value, W: Sink>(
+    returned: Result<T>,
+    reader: &BinaryReader<'_>,
+    out: &mut Lines<W>,
+) {
     match returned {
         Ok(value) => {
             out.line(1, "read");
@@ -163,7 +167,7 @@ fn show_call<T: Value, W: Sink>(returned: Result<T>, reader: &BinaryReader<'_>, 
 }
 
 // Writes a fault and, if it has a hint, how many bytes are missing.
-fn show_fault<W: Sink>(level: usize, error: &Error, out: &mut Tree<W>) {
+fn show_fault<W: Sink>(level: usize, error: &Error, out: &mut Lines<W>) {
     out.fault(level, error);
     if let Some(missing) = error.needed_hint() {
         out.number("missing", missing as u64);
@@ -171,7 +175,10 @@ fn show_fault<W: Sink>(level: usize, error: &Error, out: &mut Tree<W>) {
 }
 
 // Writes the items of a section with their offsets, or the fault of its count.
-fn show_items<'a, T: FromReader<'a> + Value, W: Sink>(window: BinaryReader<'a>, out: &mut Tree<W>) {
+fn show_items<'a, T: FromReader<'a> + Value, W: Sink>(
+    window: BinaryReader<'a>,
+    out: &mut Lines<W>,
+) {
     match SectionLimited::<T>::new(window) {
         Ok(section) => {
             let range = section.range();
@@ -186,7 +193,7 @@ fn show_items<'a, T: FromReader<'a> + Value, W: Sink>(window: BinaryReader<'a>, 
 
 fn show_each<'a, T: FromReader<'a> + Value, W: Sink>(
     mut items: SectionLimitedIntoIterWithOffsets<'a, T>,
-    out: &mut Tree<W>,
+    out: &mut Lines<W>,
 ) {
     for _ in 0..u64::MAX {
         match items.next() {

@@ -5,18 +5,17 @@ use wasm_custom::{
     CoreDumpInstance, CoreDumpInstancesSection, CoreDumpModulesSection, CoreDumpSection,
     CoreDumpStackFrame, CoreDumpStackSection, CoreDumpValue,
 };
-use wasm_lines::Sink;
 use wasm_tree::Tree;
 
 impl Show for CoreDumpSection<'_> {
-    fn show<W: Sink>(&self, _level: usize, out: &mut Tree<W>) {
+    fn show<O: Tree>(&self, _level: usize, out: &mut O) {
         out.quoted("process", self.name);
     }
 }
 
 /// The modules are under the line.
 impl Show for CoreDumpModulesSection<'_> {
-    fn show<W: Sink>(&self, level: usize, out: &mut Tree<W>) {
+    fn show<O: Tree>(&self, level: usize, out: &mut O) {
         out.number("modules", self.modules.len() as u64);
         show_lines(under(level), "module", &self.modules, out);
     }
@@ -24,7 +23,7 @@ impl Show for CoreDumpModulesSection<'_> {
 
 /// The indices of memories and globals are under its line.
 impl Show for CoreDumpInstance {
-    fn show<W: Sink>(&self, level: usize, out: &mut Tree<W>) {
+    fn show<O: Tree>(&self, level: usize, out: &mut O) {
         out.number("module_index", u64::from(self.module_index));
         write_lines(under(level), "memory", &self.memories, out);
         write_lines(under(level), "global", &self.globals, out);
@@ -33,14 +32,14 @@ impl Show for CoreDumpInstance {
 
 /// The instances are under the line.
 impl Show for CoreDumpInstancesSection {
-    fn show<W: Sink>(&self, level: usize, out: &mut Tree<W>) {
+    fn show<O: Tree>(&self, level: usize, out: &mut O) {
         out.number("instances", self.instances.len() as u64);
         show_lines(under(level), "instance", &self.instances, out);
     }
 }
 
 impl Show for CoreDumpValue {
-    fn show<W: Sink>(&self, _level: usize, out: &mut Tree<W>) {
+    fn show<O: Tree>(&self, _level: usize, out: &mut O) {
         match self {
             CoreDumpValue::Missing => out.label("value", "missing"),
             CoreDumpValue::I32(number) => out.signed("i32", i64::from(*number)),
@@ -53,7 +52,7 @@ impl Show for CoreDumpValue {
 
 /// The values are under its line.
 impl Show for CoreDumpStackFrame {
-    fn show<W: Sink>(&self, level: usize, out: &mut Tree<W>) {
+    fn show<O: Tree>(&self, level: usize, out: &mut O) {
         out.number("instanceidx", u64::from(self.instanceidx));
         out.number("funcidx", u64::from(self.funcidx));
         out.number("codeoffset", u64::from(self.codeoffset));
@@ -64,7 +63,7 @@ impl Show for CoreDumpStackFrame {
 
 /// The frames are under the line.
 impl Show for CoreDumpStackSection<'_> {
-    fn show<W: Sink>(&self, level: usize, out: &mut Tree<W>) {
+    fn show<O: Tree>(&self, level: usize, out: &mut O) {
         out.quoted("thread", self.name);
         out.number("frames", self.frames.len() as u64);
         show_lines(under(level), "frame", &self.frames, out);

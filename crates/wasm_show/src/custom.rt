@@ -8,11 +8,10 @@ use wasm_custom::{
     BranchHint, BranchHintFunction, CustomSectionReader, KnownCustom, NameSectionReader,
     ProducersField, ProducersFieldValue,
 };
-use wasm_lines::Sink;
 use wasm_tree::Tree;
 
 impl Show for BranchHint {
-    fn show<W: Sink>(&self, _level: usize, out: &mut Tree<W>) {
+    fn show<O: Tree>(&self, _level: usize, out: &mut O) {
         out.number("func_offset", u64::from(self.func_offset));
         out.flag("taken", self.taken);
     }
@@ -20,14 +19,14 @@ impl Show for BranchHint {
 
 /// The hints are under its line.
 impl Show for BranchHintFunction<'_> {
-    fn show<W: Sink>(&self, level: usize, out: &mut Tree<W>) {
+    fn show<O: Tree>(&self, level: usize, out: &mut O) {
         out.number("func", u64::from(self.func));
         show_list("hints", level, &self.hints, out);
     }
 }
 
 impl Show for ProducersFieldValue<'_> {
-    fn show<W: Sink>(&self, _level: usize, out: &mut Tree<W>) {
+    fn show<O: Tree>(&self, _level: usize, out: &mut O) {
         out.quoted("name", self.name);
         out.quoted("version", self.version);
     }
@@ -35,7 +34,7 @@ impl Show for ProducersFieldValue<'_> {
 
 /// The values are under its line.
 impl Show for ProducersField<'_> {
-    fn show<W: Sink>(&self, level: usize, out: &mut Tree<W>) {
+    fn show<O: Tree>(&self, level: usize, out: &mut O) {
         out.quoted("name", self.name);
         show_list("values", level, &self.values, out);
     }
@@ -43,14 +42,14 @@ impl Show for ProducersField<'_> {
 
 /// The subsections are under the line.
 impl Show for NameSectionReader<'_> {
-    fn show<W: Sink>(&self, level: usize, out: &mut Tree<W>) {
+    fn show<O: Tree>(&self, level: usize, out: &mut O) {
         show_items(under(level), self.clone().unwrap(), out);
     }
 }
 
 /// Writes the name of a custom section, and under it, if its data is known, what that says.
-pub fn show_custom<W: Sink>(alloc: Global, section: &CustomSectionReader<'_>, out: &mut Tree<W>)
-    ensures { Adds out.old out.new }
+pub fn show_custom<O: Tree>(alloc: Global, section: &CustomSectionReader<'_>, out: &mut O)
+    ensures { Adds (O.writing out.old) (O.writing out.new) }
 {
     out.line(1, "section");
     out.quoted("name", section.name());
@@ -61,8 +60,8 @@ pub fn show_custom<W: Sink>(alloc: Global, section: &CustomSectionReader<'_>, ou
 }
 
 // Writes what the data of a custom section says on the line that is begun, which is at this level, and its items under it.
-fn show_known<W: Sink>(level: usize, known: &KnownCustom<'_>, out: &mut Tree<W>)
-    ensures { Adds out.old out.new }
+fn show_known<O: Tree>(level: usize, known: &KnownCustom<'_>, out: &mut O)
+    ensures { Adds (O.writing out.old) (O.writing out.new) }
 {
     match known {
         KnownCustom::Name(section) => section.show(level, out),

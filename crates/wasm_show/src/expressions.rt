@@ -7,7 +7,6 @@ ghost use Rattle.wasm_tree.specs.Tree.{Adds, has_line_feed};
 use crate::lists::write_word;
 use crate::show::Show;
 use wasm_items::{ConstExpr, ConstInstruction, ConstOperator};
-use wasm_lines::Sink;
 use wasm_parser::Result;
 use wasm_tree::Tree;
 
@@ -43,27 +42,27 @@ fn operator_word(operator: &ConstOperator) -> &'static str
 }
 
 // Writes a blank and a number.
-fn write_integer<W: Sink>(number: i64, out: &mut Tree<W>)
-    ensures adds { Adds out.old out.new }
-    ensures some { SaysSome out.old out.new }
+fn write_integer<O: Tree>(number: i64, out: &mut O)
+    ensures adds { Adds (O.writing out.old) (O.writing out.new) }
+    ensures some { SaysSome (O.writing out.old) (O.writing out.new) }
 {
     out.text(" ");
     out.integer(number);
 }
 
 // Writes the bits of a float, as a number.
-fn write_bits<W: Sink>(bits: u64, out: &mut Tree<W>)
-    ensures adds { Adds out.old out.new }
-    ensures some { SaysSome out.old out.new }
+fn write_bits<O: Tree>(bits: u64, out: &mut O)
+    ensures adds { Adds (O.writing out.old) (O.writing out.new) }
+    ensures some { SaysSome (O.writing out.old) (O.writing out.new) }
 {
     out.text(" bits=");
     out.digits(bits);
 }
 
 // Writes the operands of an operator, each after a blank.
-fn write_operands<W: Sink>(operator: &ConstOperator, out: &mut Tree<W>)
-    ensures adds { Adds out.old out.new }
-    ensures some { SaysSome out.old out.new }
+fn write_operands<O: Tree>(operator: &ConstOperator, out: &mut O)
+    ensures adds { Adds (O.writing out.old) (O.writing out.new) }
+    ensures some { SaysSome (O.writing out.old) (O.writing out.new) }
 {
     match operator {
         ConstOperator::GlobalGet { global_index } => write_word(global_index, out),
@@ -97,9 +96,9 @@ fn write_operands<W: Sink>(operator: &ConstOperator, out: &mut Tree<W>)
 }
 
 // Writes an instruction, or the fault in its place, in parentheses, and before it a blank, unless it is the first one.
-fn write_instruction<W: Sink>(is_first: bool, read: &Result<ConstInstruction>, out: &mut Tree<W>)
-    ensures adds { Adds out.old out.new }
-    ensures some { SaysSome out.old out.new }
+fn write_instruction<O: Tree>(is_first: bool, read: &Result<ConstInstruction>, out: &mut O)
+    ensures adds { Adds (O.writing out.old) (O.writing out.new) }
+    ensures some { SaysSome (O.writing out.old) (O.writing out.new) }
 {
     out.text(if is_first { "(" } else { " (" });
     match read {
@@ -122,9 +121,9 @@ fn is_end(read: &Result<ConstInstruction>) -> bool {
 
 // Writes the instructions of an expression without the end, each in parentheses, with a blank between two. One that has no other
 // is `()`.
-fn write_instructions<W: Sink>(expr: &ConstExpr<'_>, out: &mut Tree<W>)
-    ensures adds { Adds out.old out.new }
-    ensures some { SaysSome out.old out.new }
+fn write_instructions<O: Tree>(expr: &ConstExpr<'_>, out: &mut O)
+    ensures adds { Adds (O.writing out.old) (O.writing out.new) }
+    ensures some { SaysSome (O.writing out.old) (O.writing out.new) }
 {
     let mut instructions = expr.instructions();
     let mut is_first = true;
@@ -144,17 +143,17 @@ fn write_instructions<W: Sink>(expr: &ConstExpr<'_>, out: &mut Tree<W>)
 }
 
 /// Writes an expression as a field.
-pub(crate) fn show_expr<W: Sink>(name: &str, expr: &ConstExpr<'_>, out: &mut Tree<W>)
+pub(crate) fn show_expr<O: Tree>(name: &str, expr: &ConstExpr<'_>, out: &mut O)
     requires one_line { has_line_feed name.now ≡ false }
-    ensures adds { Adds out.old out.new }
-    ensures says { SaysWith (expression_field name.now) out.old out.new }
+    ensures adds { Adds (O.writing out.old) (O.writing out.new) }
+    ensures says { SaysWith (expression_field name.now) (O.writing out.old) (O.writing out.new) }
 {
-    out.field(name);
+    out.begin_field(name);
     write_instructions(expr, out);
 }
 
 impl Show for ConstExpr<'_> {
-    fn show<W: Sink>(&self, _level: usize, out: &mut Tree<W>) {
+    fn show<O: Tree>(&self, _level: usize, out: &mut O) {
         show_expr("expr", self, out);
     }
 }

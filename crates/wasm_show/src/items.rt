@@ -17,7 +17,6 @@ use wasm_items::{
     Data, DataKind, Element, ElementItems, ElementKind, Export, ExternalKind, Global as GlobalItem,
     Import, ImportItemCompact, Imports, Table, TableInit, TypeRef,
 };
-use wasm_lines::Sink;
 use wasm_tree::Tree;
 
 // The word of what is imported or exported.
@@ -36,23 +35,24 @@ fn kind_word(kind: &ExternalKind) -> &'static str
 }
 
 // Writes what kind is imported or exported.
-fn show_kind<W: Sink>(kind: &ExternalKind, out: &mut Tree<W>)
-    ensures adds { Adds out.old out.new }
-    ensures says { Says (field_text (kind_field kind.now)) out.old out.new }
+fn show_kind<O: Tree>(kind: &ExternalKind, out: &mut O)
+    ensures adds { Adds (O.writing out.old) (O.writing out.new) }
+    ensures says { Says (field_text (kind_field kind.now)) (O.writing out.old) (O.writing out.new) }
 {
     out.word_field("kind", kind_word(kind));
 }
 
 impl Show for ExternalKind {
-    fn show<W: Sink>(&self, _level: usize, out: &mut Tree<W>) {
+    fn show<O: Tree>(&self, _level: usize, out: &mut O) {
         show_kind(self, out);
     }
 }
 
 impl Show for TypeRef {
-    fn show<W: Sink>(&self, level: usize, out: &mut Tree<W>)
-        ensures adds { Adds out.old out.new }
-        ensures says { SaysFields (type_ref_fields self.now) out.old out.new }
+    fn show<O: Tree>(&self, level: usize, out: &mut O)
+        ensures adds { Adds (O.writing out.old) (O.writing out.new) }
+        ensures says { SaysFields (type_ref_fields self.now)
+            (O.writing out.old) (O.writing out.new) }
     {
         match self {
             TypeRef::Func(index) => {
@@ -84,9 +84,10 @@ impl Show for TypeRef {
 }
 
 impl Show for Import<'_> {
-    fn show<W: Sink>(&self, level: usize, out: &mut Tree<W>)
-        ensures adds { Adds out.old out.new }
-        ensures says { SaysFields (import_fields (import_parts self.now)) out.old out.new }
+    fn show<O: Tree>(&self, level: usize, out: &mut O)
+        ensures adds { Adds (O.writing out.old) (O.writing out.new) }
+        ensures says { SaysFields (import_fields (import_parts self.now))
+            (O.writing out.old) (O.writing out.new) }
     {
         out.quoted("module", self.module);
         out.quoted("name", self.name);
@@ -95,7 +96,7 @@ impl Show for Import<'_> {
 }
 
 impl Show for ImportItemCompact<'_> {
-    fn show<W: Sink>(&self, level: usize, out: &mut Tree<W>) {
+    fn show<O: Tree>(&self, level: usize, out: &mut O) {
         out.quoted("name", self.name);
         self.ty.show(level, out);
     }
@@ -103,7 +104,7 @@ impl Show for ImportItemCompact<'_> {
 
 /// A bundle's imports are under its line.
 impl Show for Imports<'_> {
-    fn show<W: Sink>(&self, level: usize, out: &mut Tree<W>) {
+    fn show<O: Tree>(&self, level: usize, out: &mut O) {
         match self {
             Imports::Single(offset, import) => {
                 out.number("offset", *offset);
@@ -123,9 +124,10 @@ impl Show for Imports<'_> {
 }
 
 impl Show for Table<'_> {
-    fn show<W: Sink>(&self, level: usize, out: &mut Tree<W>)
-        ensures adds { Adds out.old out.new }
-        ensures says { SaysWith (table_item_fields self.now) out.old out.new }
+    fn show<O: Tree>(&self, level: usize, out: &mut O)
+        ensures adds { Adds (O.writing out.old) (O.writing out.new) }
+        ensures says { SaysWith (table_item_fields self.now)
+            (O.writing out.old) (O.writing out.new) }
     {
         self.ty.show(level, out);
         match &self.init {
@@ -136,9 +138,9 @@ impl Show for Table<'_> {
 }
 
 impl Show for GlobalItem<'_> {
-    fn show<W: Sink>(&self, level: usize, out: &mut Tree<W>)
-        ensures adds { Adds out.old out.new }
-        ensures says { SaysWith (global_fields self.now) out.old out.new }
+    fn show<O: Tree>(&self, level: usize, out: &mut O)
+        ensures adds { Adds (O.writing out.old) (O.writing out.new) }
+        ensures says { SaysWith (global_fields self.now) (O.writing out.old) (O.writing out.new) }
     {
         self.ty.show(level, out);
         show_expr("init_expr", &self.init_expr, out);
@@ -146,9 +148,10 @@ impl Show for GlobalItem<'_> {
 }
 
 impl Show for Export<'_> {
-    fn show<W: Sink>(&self, _level: usize, out: &mut Tree<W>)
-        ensures adds { Adds out.old out.new }
-        ensures says { SaysFields (export_fields (export_parts self.now)) out.old out.new }
+    fn show<O: Tree>(&self, _level: usize, out: &mut O)
+        ensures adds { Adds (O.writing out.old) (O.writing out.new) }
+        ensures says { SaysFields (export_fields (export_parts self.now))
+            (O.writing out.old) (O.writing out.new) }
     {
         out.quoted("name", self.name);
         show_kind(&self.kind, out);
@@ -157,8 +160,8 @@ impl Show for Export<'_> {
 }
 
 // Writes what becomes of an element segment.
-fn show_element_kind<W: Sink>(kind: &ElementKind<'_>, out: &mut Tree<W>)
-    ensures { Adds out.old out.new }
+fn show_element_kind<O: Tree>(kind: &ElementKind<'_>, out: &mut O)
+    ensures { Adds (O.writing out.old) (O.writing out.new) }
 {
     match kind {
         ElementKind::Passive => out.word_field("kind", "passive"),
@@ -175,8 +178,8 @@ fn show_element_kind<W: Sink>(kind: &ElementKind<'_>, out: &mut Tree<W>)
 }
 
 // Writes the offsets and the count of the items of an element segment.
-fn show_elements_extent<W: Sink>(items: &ElementItems<'_>, out: &mut Tree<W>)
-    ensures { Adds out.old out.new }
+fn show_elements_extent<O: Tree>(items: &ElementItems<'_>, out: &mut O)
+    ensures { Adds (O.writing out.old) (O.writing out.new) }
 {
     match items {
         ElementItems::Functions(indices) => show_extent("functions", indices, out),
@@ -188,8 +191,8 @@ fn show_elements_extent<W: Sink>(items: &ElementItems<'_>, out: &mut Tree<W>)
 }
 
 // Writes the items of an element segment.
-fn show_elements<W: Sink>(level: usize, items: &ElementItems<'_>, out: &mut Tree<W>)
-    ensures { Adds out.old out.new }
+fn show_elements<O: Tree>(level: usize, items: &ElementItems<'_>, out: &mut O)
+    ensures { Adds (O.writing out.old) (O.writing out.new) }
 {
     match items {
         ElementItems::Functions(indices) => show_section(level, indices, out),
@@ -198,7 +201,7 @@ fn show_elements<W: Sink>(level: usize, items: &ElementItems<'_>, out: &mut Tree
 }
 
 impl Show for Element<'_> {
-    fn show<W: Sink>(&self, level: usize, out: &mut Tree<W>) {
+    fn show<O: Tree>(&self, level: usize, out: &mut O) {
         show_element_kind(&self.kind, out);
         show_elements_extent(&self.items, out);
         out.range("range", self.range.start, self.range.end);
@@ -207,9 +210,9 @@ impl Show for Element<'_> {
 }
 
 // Writes what becomes of a data segment.
-fn show_data_kind<W: Sink>(kind: &DataKind<'_>, out: &mut Tree<W>)
-    ensures adds { Adds out.old out.new }
-    ensures says { SaysWith (data_kind_fields kind.now) out.old out.new }
+fn show_data_kind<O: Tree>(kind: &DataKind<'_>, out: &mut O)
+    ensures adds { Adds (O.writing out.old) (O.writing out.new) }
+    ensures says { SaysWith (data_kind_fields kind.now) (O.writing out.old) (O.writing out.new) }
 {
     match kind {
         DataKind::Passive => out.word_field("kind", "passive"),
@@ -225,9 +228,10 @@ fn show_data_kind<W: Sink>(kind: &DataKind<'_>, out: &mut Tree<W>)
 }
 
 impl Show for Data<'_> {
-    fn show<W: Sink>(&self, _level: usize, out: &mut Tree<W>)
-        ensures adds { Adds out.old out.new }
-        ensures says { SaysWith (data_fields (data_parts self.now)) out.old out.new }
+    fn show<O: Tree>(&self, _level: usize, out: &mut O)
+        ensures adds { Adds (O.writing out.old) (O.writing out.new) }
+        ensures says { SaysWith (data_fields (data_parts self.now))
+            (O.writing out.old) (O.writing out.new) }
     {
         show_data_kind(&self.kind, out);
         out.raw("data", self.bytes);

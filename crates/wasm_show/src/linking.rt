@@ -14,11 +14,10 @@ use wasm_custom::{
     Dylink0Subsection, ExportInfo, ImportInfo, InitFunc, Linking, LinkingSectionReader, MemInfo,
     RelocSectionReader, RelocationEntry, RelocationType, Segment, SymbolInfo,
 };
-use wasm_lines::Sink;
 use wasm_tree::Tree;
 
 impl Show for Segment<'_> {
-    fn show<W: Sink>(&self, _level: usize, out: &mut Tree<W>) {
+    fn show<O: Tree>(&self, _level: usize, out: &mut O) {
         out.quoted("name", self.name);
         out.number("alignment", u64::from(self.alignment));
         out.number("flags", u64::from(self.flags.bits()));
@@ -26,7 +25,7 @@ impl Show for Segment<'_> {
 }
 
 impl Show for InitFunc {
-    fn show<W: Sink>(&self, _level: usize, out: &mut Tree<W>) {
+    fn show<O: Tree>(&self, _level: usize, out: &mut O) {
         out.number("priority", u64::from(self.priority));
         out.number("symbol_index", u64::from(self.symbol_index));
     }
@@ -47,8 +46,8 @@ fn comdat_word(kind: &ComdatSymbolKind) -> &'static str
 }
 
 impl Show for ComdatSymbol {
-    fn show<W: Sink>(&self, _level: usize, out: &mut Tree<W>) {
-        out.field("kind");
+    fn show<O: Tree>(&self, _level: usize, out: &mut O) {
+        out.begin_field("kind");
         out.text(comdat_word(&self.kind));
         out.number("index", u64::from(self.index));
     }
@@ -56,7 +55,7 @@ impl Show for ComdatSymbol {
 
 /// The symbols are under its line.
 impl Show for Comdat<'_> {
-    fn show<W: Sink>(&self, level: usize, out: &mut Tree<W>) {
+    fn show<O: Tree>(&self, level: usize, out: &mut O) {
         out.quoted("name", self.name);
         out.number("flags", u64::from(self.flags));
         show_list("symbols", level, &self.symbols, out);
@@ -64,11 +63,11 @@ impl Show for Comdat<'_> {
 }
 
 // Writes a symbol that has an index and perhaps a name.
-fn show_indexed<W: Sink>(kind: &str, flags: u32, index: u32, name: &Option<&str>, out: &mut Tree<W>)
+fn show_indexed<O: Tree>(kind: &str, flags: u32, index: u32, name: &Option<&str>, out: &mut O)
     requires one_line { has_line_feed kind.now ≡ false }
-    ensures adds { Adds out.old out.new }
+    ensures adds { Adds (O.writing out.old) (O.writing out.new) }
     ensures says { SaysFields (indexed_fields kind.now flags index (text_if_any name.now (λ text. text.now)))
-        out.old out.new }
+        (O.writing out.old) (O.writing out.new) }
 {
     out.label("kind", kind);
     out.number("flags", u64::from(flags));
@@ -80,9 +79,9 @@ fn show_indexed<W: Sink>(kind: &str, flags: u32, index: u32, name: &Option<&str>
 }
 
 // Writes where the data of a symbol is, if it is here.
-fn show_defined<W: Sink>(symbol: &Option<DefinedDataSymbol>, out: &mut Tree<W>)
-    ensures adds { Adds out.old out.new }
-    ensures says { SaysFields (defined_fields symbol.now) out.old out.new }
+fn show_defined<O: Tree>(symbol: &Option<DefinedDataSymbol>, out: &mut O)
+    ensures adds { Adds (O.writing out.old) (O.writing out.new) }
+    ensures says { SaysFields (defined_fields symbol.now) (O.writing out.old) (O.writing out.new) }
 {
     match symbol {
         Some(symbol) => {
@@ -95,9 +94,10 @@ fn show_defined<W: Sink>(symbol: &Option<DefinedDataSymbol>, out: &mut Tree<W>)
 }
 
 // Writes a symbol that is data.
-fn show_data<W: Sink>(flags: u32, name: &str, symbol: &Option<DefinedDataSymbol>, out: &mut Tree<W>)
-    ensures adds { Adds out.old out.new }
-    ensures says { SaysFields (data_symbol_fields flags name.now symbol.now) out.old out.new }
+fn show_data<O: Tree>(flags: u32, name: &str, symbol: &Option<DefinedDataSymbol>, out: &mut O)
+    ensures adds { Adds (O.writing out.old) (O.writing out.new) }
+    ensures says { SaysFields (data_symbol_fields flags name.now symbol.now)
+        (O.writing out.old) (O.writing out.new) }
 {
     out.label("kind", "data");
     out.number("flags", u64::from(flags));
@@ -106,9 +106,10 @@ fn show_data<W: Sink>(flags: u32, name: &str, symbol: &Option<DefinedDataSymbol>
 }
 
 // Writes a symbol that is a section.
-fn show_section_symbol<W: Sink>(flags: u32, section: u32, out: &mut Tree<W>)
-    ensures adds { Adds out.old out.new }
-    ensures says { SaysFields (section_symbol_fields flags section) out.old out.new }
+fn show_section_symbol<O: Tree>(flags: u32, section: u32, out: &mut O)
+    ensures adds { Adds (O.writing out.old) (O.writing out.new) }
+    ensures says { SaysFields (section_symbol_fields flags section)
+        (O.writing out.old) (O.writing out.new) }
 {
     out.label("kind", "section");
     out.number("flags", u64::from(flags));
@@ -116,9 +117,9 @@ fn show_section_symbol<W: Sink>(flags: u32, section: u32, out: &mut Tree<W>)
 }
 
 impl Show for SymbolInfo<'_> {
-    fn show<W: Sink>(&self, _level: usize, out: &mut Tree<W>)
-        ensures adds { Adds out.old out.new }
-        ensures says { SaysFields (symbol_fields self.now) out.old out.new }
+    fn show<O: Tree>(&self, _level: usize, out: &mut O)
+        ensures adds { Adds (O.writing out.old) (O.writing out.new) }
+        ensures says { SaysFields (symbol_fields self.now) (O.writing out.old) (O.writing out.new) }
     {
         match self {
             SymbolInfo::Func { flags, index, name } => {
@@ -147,7 +148,7 @@ impl Show for SymbolInfo<'_> {
 
 /// The items of a list are under its line.
 impl Show for Linking<'_> {
-    fn show<W: Sink>(&self, level: usize, out: &mut Tree<W>) {
+    fn show<O: Tree>(&self, level: usize, out: &mut O) {
         match self {
             Linking::SegmentInfo(segments) => show_list("segment_info", level, segments, out),
             Linking::InitFuncs(functions) => show_list("init_funcs", level, functions, out),
@@ -165,7 +166,7 @@ impl Show for Linking<'_> {
 
 /// The subsections are under the line.
 impl Show for LinkingSectionReader<'_> {
-    fn show<W: Sink>(&self, level: usize, out: &mut Tree<W>) {
+    fn show<O: Tree>(&self, level: usize, out: &mut O) {
         let range = self.range();
         out.number("version", u64::from(self.version()));
         out.range("range", range.start, range.end);
@@ -176,13 +177,13 @@ impl Show for LinkingSectionReader<'_> {
 
 /// The subsections are under the line.
 impl Show for Dylink0SectionReader<'_> {
-    fn show<W: Sink>(&self, level: usize, out: &mut Tree<W>) {
+    fn show<O: Tree>(&self, level: usize, out: &mut O) {
         show_items(under(level), self.clone().unwrap(), out);
     }
 }
 
 impl Show for MemInfo {
-    fn show<W: Sink>(&self, _level: usize, out: &mut Tree<W>) {
+    fn show<O: Tree>(&self, _level: usize, out: &mut O) {
         out.label("kind", "mem_info");
         out.number("memory_size", u64::from(self.memory_size));
         out.number("memory_alignment", u64::from(self.memory_alignment));
@@ -192,14 +193,14 @@ impl Show for MemInfo {
 }
 
 impl Show for ExportInfo<'_> {
-    fn show<W: Sink>(&self, _level: usize, out: &mut Tree<W>) {
+    fn show<O: Tree>(&self, _level: usize, out: &mut O) {
         out.quoted("name", self.name);
         out.number("flags", u64::from(self.flags.bits()));
     }
 }
 
 impl Show for ImportInfo<'_> {
-    fn show<W: Sink>(&self, _level: usize, out: &mut Tree<W>) {
+    fn show<O: Tree>(&self, _level: usize, out: &mut O) {
         out.quoted("module", self.module);
         out.quoted("field", self.field);
         out.number("flags", u64::from(self.flags.bits()));
@@ -207,16 +208,10 @@ impl Show for ImportInfo<'_> {
 }
 
 // Writes what a list is, and its items under the line.
-fn show_words<T: Show, W: Sink>(
-    list: &str,
-    item: &str,
-    level: usize,
-    items: &[T],
-    out: &mut Tree<W>,
-)
+fn show_words<T: Show, O: Tree>(list: &str, item: &str, level: usize, items: &[T], out: &mut O)
     requires list_line { has_line_feed list.now ≡ false }
     requires item_line { has_line_feed item.now ≡ false }
-    ensures { Adds out.old out.new }
+    ensures { Adds (O.writing out.old) (O.writing out.new) }
 {
     out.label("kind", list);
     show_lines(under(level), item, items, out);
@@ -224,7 +219,7 @@ fn show_words<T: Show, W: Sink>(
 
 /// The items of a list are under its line.
 impl Show for Dylink0Subsection<'_> {
-    fn show<W: Sink>(&self, level: usize, out: &mut Tree<W>) {
+    fn show<O: Tree>(&self, level: usize, out: &mut O) {
         match self {
             Dylink0Subsection::MemInfo(info) => info.show(level, out),
             Dylink0Subsection::Needed(names) => {
@@ -285,8 +280,8 @@ fn relocation_word(ty: &RelocationType) -> &'static str
 }
 
 impl Show for RelocationEntry {
-    fn show<W: Sink>(&self, _level: usize, out: &mut Tree<W>) {
-        out.field("type");
+    fn show<O: Tree>(&self, _level: usize, out: &mut O) {
+        out.begin_field("type");
         out.text(relocation_word(&self.ty));
         out.number("offset", u64::from(self.offset));
         out.number("index", u64::from(self.index));
@@ -296,7 +291,7 @@ impl Show for RelocationEntry {
 
 /// The relocations are under the line.
 impl Show for RelocSectionReader<'_> {
-    fn show<W: Sink>(&self, level: usize, out: &mut Tree<W>) {
+    fn show<O: Tree>(&self, level: usize, out: &mut O) {
         let range = self.range();
         out.number("section", u64::from(self.section_index()));
         out.range("range", range.start, range.end);

@@ -12,7 +12,6 @@ use wasm_base::{
 };
 use wasm_custom::{IndirectNameMap, IndirectNaming, Name, NameMap, NameSectionReader, Naming};
 use wasm_items::{Import, IntoImportsWithOffsets};
-use wasm_lines::Sink;
 use wasm_tree::Tree;
 
 /// Items that come one after the other, fewer than 2^64 of them.
@@ -25,8 +24,8 @@ pub trait Items: Drop {
 }
 
 /// Writes the items of a list, each on a line at this level, with its offset. A fault is a line in the place of its item.
-pub fn show_items<I: Items, W: Sink>(level: usize, mut items: I, out: &mut Tree<W>)
-    ensures { Adds out.old out.new }
+pub fn show_items<I: Items, O: Tree>(level: usize, mut items: I, out: &mut O)
+    ensures { Adds (O.writing out.old) (O.writing out.new) }
 {
     for _ in 0..u64::MAX {
         if out.has_stopped() {
@@ -40,8 +39,8 @@ pub fn show_items<I: Items, W: Sink>(level: usize, mut items: I, out: &mut Tree<
 }
 
 // Writes an item, or its fault.
-fn show_item<T: Show, W: Sink>(level: usize, item: &Result<(u64, T)>, out: &mut Tree<W>)
-    ensures { Adds out.old out.new }
+fn show_item<T: Show, O: Tree>(level: usize, item: &Result<(u64, T)>, out: &mut O)
+    ensures { Adds (O.writing out.old) (O.writing out.new) }
 {
     match item {
         Ok((offset, item)) => {
@@ -53,8 +52,8 @@ fn show_item<T: Show, W: Sink>(level: usize, item: &Result<(u64, T)>, out: &mut 
 }
 
 /// Writes a fault. That there is no memory is no fault of a stream: the tree stops.
-pub fn show_fault<W: Sink>(level: usize, error: &Error, out: &mut Tree<W>)
-    ensures { Adds out.old out.new }
+pub fn show_fault<O: Tree>(level: usize, error: &Error, out: &mut O)
+    ensures { Adds (O.writing out.old) (O.writing out.new) }
 {
     match error.fault() {
         Fault::OutOfMemory => out.out_of_memory(),
@@ -68,13 +67,9 @@ pub(crate) fn under(level: usize) -> usize {
 }
 
 /// Writes the offsets of a section and its count on the line that is begun.
-pub(crate) fn show_extent<T, W: Sink>(
-    name: &str,
-    section: &SectionLimited<'_, T>,
-    out: &mut Tree<W>,
-)
+pub(crate) fn show_extent<T, O: Tree>(name: &str, section: &SectionLimited<'_, T>, out: &mut O)
     requires one_line { has_line_feed name.now ≡ false }
-    ensures { Adds out.old out.new }
+    ensures { Adds (O.writing out.old) (O.writing out.new) }
 {
     let range = section.range();
     out.range(name, range.start, range.end);
@@ -82,12 +77,12 @@ pub(crate) fn show_extent<T, W: Sink>(
 }
 
 /// Writes the items of a section, each on a line at this level, with its offset.
-pub fn show_section<'a, T: FromReader<'a> + Show, W: Sink>(
+pub fn show_section<'a, T: FromReader<'a> + Show, O: Tree>(
     level: usize,
     section: &SectionLimited<'a, T>,
-    out: &mut Tree<W>,
+    out: &mut O,
 )
-    ensures { Adds out.old out.new }
+    ensures { Adds (O.writing out.old) (O.writing out.new) }
 {
     show_items(
         level,
@@ -97,23 +92,23 @@ pub fn show_section<'a, T: FromReader<'a> + Show, W: Sink>(
 }
 
 /// Writes the offsets of a section and its count on the line that is begun, which is at this level, and the items under it.
-pub fn show_list<'a, T: FromReader<'a> + Show, W: Sink>(
+pub fn show_list<'a, T: FromReader<'a> + Show, O: Tree>(
     name: &str,
     level: usize,
     section: &SectionLimited<'a, T>,
-    out: &mut Tree<W>,
+    out: &mut O,
 )
     requires one_line { has_line_feed name.now ≡ false }
-    ensures { Adds out.old out.new }
+    ensures { Adds (O.writing out.old) (O.writing out.new) }
 {
     show_extent(name, section, out);
     show_section(under(level), section, out);
 }
 
 /// Writes items without offsets, each on a line at this level that begins with this word.
-pub(crate) fn show_lines<T: Show, W: Sink>(level: usize, word: &str, items: &[T], out: &mut Tree<W>)
+pub(crate) fn show_lines<T: Show, O: Tree>(level: usize, word: &str, items: &[T], out: &mut O)
     requires one_line { has_line_feed word.now ≡ false }
-    ensures { Adds out.old out.new }
+    ensures { Adds (O.writing out.old) (O.writing out.new) }
 {
     for item in items {
         out.line(level, word);
@@ -122,14 +117,9 @@ pub(crate) fn show_lines<T: Show, W: Sink>(level: usize, word: &str, items: &[T]
 }
 
 /// Writes texts, each on a line at this level that begins with a field of this name.
-pub(crate) fn write_lines<T: Text, W: Sink>(
-    level: usize,
-    name: &str,
-    items: &[T],
-    out: &mut Tree<W>,
-)
+pub(crate) fn write_lines<T: Text, O: Tree>(level: usize, name: &str, items: &[T], out: &mut O)
     requires one_line { has_line_feed name.now ≡ false }
-    ensures { Adds out.old out.new }
+    ensures { Adds (O.writing out.old) (O.writing out.new) }
 {
     for item in items {
         out.line_field(level, name);
@@ -138,19 +128,20 @@ pub(crate) fn write_lines<T: Text, W: Sink>(
 }
 
 /// Writes a text on the line that is begun, after a blank.
-pub(crate) fn write_word<T: Text, W: Sink>(item: &T, out: &mut Tree<W>)
-    ensures adds { Adds out.old out.new }
-    ensures says { Says (after_blank (T.words item.now)) out.old out.new }
-    ensures some { SaysSome out.old out.new }
+pub(crate) fn write_word<T: Text, O: Tree>(item: &T, out: &mut O)
+    ensures adds { Adds (O.writing out.old) (O.writing out.new) }
+    ensures says { Says (after_blank (T.words item.now)) (O.writing out.old) (O.writing out.new) }
+    ensures some { SaysSome (O.writing out.old) (O.writing out.new) }
 {
     out.text(" ");
     item.text(out);
 }
 
 /// Writes texts on the line that is begun, each after a blank.
-pub(crate) fn write_words<T: Text, W: Sink>(items: &[T], out: &mut Tree<W>)
-    ensures adds { Adds out.old out.new }
-    ensures says { Says (flat_map (λ x. after_blank (T.words x)) items.now) out.old out.new }
+pub(crate) fn write_words<T: Text, O: Tree>(items: &[T], out: &mut O)
+    ensures adds { Adds (O.writing out.old) (O.writing out.new) }
+    ensures says { Says (flat_map (λ x. after_blank (T.words x)) items.now)
+        (O.writing out.old) (O.writing out.new) }
 {
     for item in items {
         write_word(item, out);

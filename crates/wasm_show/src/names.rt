@@ -6,11 +6,10 @@ use crate::lists::{show_items, under};
 use crate::show::Show;
 use std::ops::Range;
 use wasm_custom::{IndirectNameMap, IndirectNaming, Name, NameMap, Naming};
-use wasm_lines::Sink;
 use wasm_tree::Tree;
 
 impl Show for Naming<'_> {
-    fn show<W: Sink>(&self, _level: usize, out: &mut Tree<W>) {
+    fn show<O: Tree>(&self, _level: usize, out: &mut O) {
         out.number("index", u64::from(self.index));
         out.quoted("name", self.name);
     }
@@ -18,7 +17,7 @@ impl Show for Naming<'_> {
 
 /// The names are under its line.
 impl Show for IndirectNaming<'_> {
-    fn show<W: Sink>(&self, level: usize, out: &mut Tree<W>) {
+    fn show<O: Tree>(&self, level: usize, out: &mut O) {
         out.number("index", u64::from(self.index));
         self.names.show(level, out);
     }
@@ -26,30 +25,30 @@ impl Show for IndirectNaming<'_> {
 
 /// The names are under the line.
 impl Show for NameMap<'_> {
-    fn show<W: Sink>(&self, level: usize, out: &mut Tree<W>) {
+    fn show<O: Tree>(&self, level: usize, out: &mut O) {
         show_items(under(level), self.clone().unwrap(), out);
     }
 }
 
 /// What has names is under the line.
 impl Show for IndirectNameMap<'_> {
-    fn show<W: Sink>(&self, level: usize, out: &mut Tree<W>) {
+    fn show<O: Tree>(&self, level: usize, out: &mut O) {
         show_items(under(level), self.clone().unwrap(), out);
     }
 }
 
 // Writes what names are of, and the names.
-fn show_map<T: Show, W: Sink>(word: &str, level: usize, names: &T, out: &mut Tree<W>)
+fn show_map<T: Show, O: Tree>(word: &str, level: usize, names: &T, out: &mut O)
     requires one_line { has_line_feed word.now ≡ false }
-    ensures { Adds out.old out.new }
+    ensures { Adds (O.writing out.old) (O.writing out.new) }
 {
     out.label("kind", word);
     names.show(level, out);
 }
 
 /// Writes a subsection that isn't known.
-pub(crate) fn show_unknown<W: Sink>(ty: u8, contents: &[u8], range: &Range<u64>, out: &mut Tree<W>)
-    ensures { Adds out.old out.new }
+pub(crate) fn show_unknown<O: Tree>(ty: u8, contents: &[u8], range: &Range<u64>, out: &mut O)
+    ensures { Adds (O.writing out.old) (O.writing out.new) }
 {
     out.label("kind", "unknown");
     out.number("ty", u64::from(ty));
@@ -58,8 +57,8 @@ pub(crate) fn show_unknown<W: Sink>(ty: u8, contents: &[u8], range: &Range<u64>,
 }
 
 // Writes the name of the module.
-fn show_module_name<W: Sink>(name: &str, range: &Range<u64>, out: &mut Tree<W>)
-    ensures { Adds out.old out.new }
+fn show_module_name<O: Tree>(name: &str, range: &Range<u64>, out: &mut O)
+    ensures { Adds (O.writing out.old) (O.writing out.new) }
 {
     out.label("kind", "module");
     out.quoted("name", name);
@@ -68,7 +67,7 @@ fn show_module_name<W: Sink>(name: &str, range: &Range<u64>, out: &mut Tree<W>)
 
 /// The names are under its line.
 impl Show for Name<'_> {
-    fn show<W: Sink>(&self, level: usize, out: &mut Tree<W>) {
+    fn show<O: Tree>(&self, level: usize, out: &mut O) {
         match self {
             Name::Module { name, name_range } => show_module_name(name, name_range, out),
             Name::Function(names) => show_map("function", level, names, out),

@@ -3,14 +3,13 @@ ghost use Rattle.wasm_show.specs.ItemText.{index_fields};
 ghost use Rattle.wasm_tree.specs.Said.{Says, SaysFields};
 ghost use Rattle.wasm_tree.specs.Tree.{Adds};
 
-use wasm_lines::Sink;
 use wasm_tree::Tree;
 
 /// An item that can be shown.
 pub trait Show: Drop {
     /// Writes its text on the line that is begun, and under that line, which is at this level, the items of its lists.
-    fn show<W: Sink>(&self, level: usize, out: &mut Tree<W>)
-        ensures { Adds out.old out.new };
+    fn show<O: Tree>(&self, level: usize, out: &mut O)
+        ensures { Adds (O.writing out.old) (O.writing out.new) };
 }
 
 /// What is part of an item's text, without a name.
@@ -21,9 +20,9 @@ pub trait Text: Drop {
     ghost words: { Self → List ℕ };
 
     /// Writes it on the line that is begun.
-    fn text<W: Sink>(&self, out: &mut Tree<W>)
-        ensures adds { Adds out.old out.new }
-        ensures says { Says (words self.now) out.old out.new };
+    fn text<O: Tree>(&self, out: &mut O)
+        ensures adds { Adds (O.writing out.old) (O.writing out.new) }
+        ensures says { Says (words self.now) (O.writing out.old) (O.writing out.new) };
 }
 
 impl Text for u32 {
@@ -31,16 +30,16 @@ impl Text for u32 {
 
     ghost words = { decimal };
 
-    fn text<W: Sink>(&self, out: &mut Tree<W>) {
+    fn text<O: Tree>(&self, out: &mut O) {
         out.digits(u64::from(*self));
     }
 }
 
 /// An index.
 impl Show for u32 {
-    fn show<W: Sink>(&self, _level: usize, out: &mut Tree<W>)
-        ensures adds { Adds out.old out.new }
-        ensures says { SaysFields (index_fields self.now) out.old out.new }
+    fn show<O: Tree>(&self, _level: usize, out: &mut O)
+        ensures adds { Adds (O.writing out.old) (O.writing out.new) }
+        ensures says { SaysFields (index_fields self.now) (O.writing out.old) (O.writing out.new) }
     {
         out.number("index", u64::from(*self));
     }
@@ -48,7 +47,7 @@ impl Show for u32 {
 
 /// A name.
 impl Show for &str {
-    fn show<W: Sink>(&self, _level: usize, out: &mut Tree<W>) {
+    fn show<O: Tree>(&self, _level: usize, out: &mut O) {
         out.quoted("name", self);
     }
 }

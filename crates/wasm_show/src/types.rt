@@ -13,7 +13,6 @@ use wasm_items::{
     CompositeType, FieldType, FuncType, GlobalType, HeapType, MemoryType, RecGroup, RefType,
     StorageType, SubType, TableType, TagKind, TagType, ValType,
 };
-use wasm_lines::Sink;
 use wasm_tree::Tree;
 
 // The word of a heap type that is no index.
@@ -43,7 +42,7 @@ impl Text for HeapType {
 
     ghost words = { heap_text };
 
-    fn text<W: Sink>(&self, out: &mut Tree<W>) {
+    fn text<O: Tree>(&self, out: &mut O) {
         if let HeapType::Concrete(index) = self {
             out.digits(u64::from(*index));
             return;
@@ -65,7 +64,7 @@ impl Text for RefType {
 
     ghost words = { ref_text };
 
-    fn text<W: Sink>(&self, out: &mut Tree<W>) {
+    fn text<O: Tree>(&self, out: &mut O) {
         out.text(ref_start(self.nullable));
         self.heap.text(out);
         out.text(")");
@@ -77,7 +76,7 @@ impl Text for ValType {
 
     ghost words = { val_text };
 
-    fn text<W: Sink>(&self, out: &mut Tree<W>) {
+    fn text<O: Tree>(&self, out: &mut O) {
         match self {
             ValType::I32 => out.text("i32"),
             ValType::I64 => out.text("i64"),
@@ -94,7 +93,7 @@ impl Text for StorageType {
 
     ghost words = { storage_text };
 
-    fn text<W: Sink>(&self, out: &mut Tree<W>) {
+    fn text<O: Tree>(&self, out: &mut O) {
         match self {
             StorageType::I8 => out.text("i8"),
             StorageType::I16 => out.text("i16"),
@@ -104,9 +103,10 @@ impl Text for StorageType {
 }
 
 // Writes a type of what may be mutable.
-fn write_mutable<T: Text, W: Sink>(mutable: bool, ty: &T, out: &mut Tree<W>)
-    ensures adds { Adds out.old out.new }
-    ensures says { Says (mutable_text mutable (T.words ty.now)) out.old out.new }
+fn write_mutable<T: Text, O: Tree>(mutable: bool, ty: &T, out: &mut O)
+    ensures adds { Adds (O.writing out.old) (O.writing out.new) }
+    ensures says { Says (mutable_text mutable (T.words ty.now))
+        (O.writing out.old) (O.writing out.new) }
 {
     if !mutable {
         ty.text(out);
@@ -123,7 +123,7 @@ impl Text for FieldType {
 
     ghost words = { field_type_text };
 
-    fn text<W: Sink>(&self, out: &mut Tree<W>) {
+    fn text<O: Tree>(&self, out: &mut O) {
         out.text("(field ");
         write_mutable(self.mutable, &self.storage, out);
         out.text(")");
@@ -131,10 +131,10 @@ impl Text for FieldType {
 }
 
 // Writes the types of parameters or results, if there are any.
-fn write_types<W: Sink>(start: &str, types: &[ValType], out: &mut Tree<W>)
+fn write_types<O: Tree>(start: &str, types: &[ValType], out: &mut O)
     requires one_line { has_line_feed start.now ≡ false }
-    ensures adds { Adds out.old out.new }
-    ensures says { Says (types_text start.now types.now) out.old out.new }
+    ensures adds { Adds (O.writing out.old) (O.writing out.new) }
+    ensures says { Says (types_text start.now types.now) (O.writing out.old) (O.writing out.new) }
 {
     if types.is_empty() {
         return;
@@ -149,7 +149,7 @@ impl Text for FuncType {
 
     ghost words = { func_text };
 
-    fn text<W: Sink>(&self, out: &mut Tree<W>) {
+    fn text<O: Tree>(&self, out: &mut O) {
         out.text("(func");
         write_types(" (param", &self.params, out);
         write_types(" (result", &self.results, out);
@@ -158,9 +158,9 @@ impl Text for FuncType {
 }
 
 // Writes the type of an array.
-fn write_array<W: Sink>(field: &FieldType, out: &mut Tree<W>)
-    ensures adds { Adds out.old out.new }
-    ensures says { Says (array_text field.now) out.old out.new }
+fn write_array<O: Tree>(field: &FieldType, out: &mut O)
+    ensures adds { Adds (O.writing out.old) (O.writing out.new) }
+    ensures says { Says (array_text field.now) (O.writing out.old) (O.writing out.new) }
 {
     out.text("(array ");
     write_mutable(field.mutable, &field.storage, out);
@@ -168,9 +168,9 @@ fn write_array<W: Sink>(field: &FieldType, out: &mut Tree<W>)
 }
 
 // Writes the type of a structure.
-fn write_struct<W: Sink>(fields: &[FieldType], out: &mut Tree<W>)
-    ensures adds { Adds out.old out.new }
-    ensures says { Says (struct_text fields.now) out.old out.new }
+fn write_struct<O: Tree>(fields: &[FieldType], out: &mut O)
+    ensures adds { Adds (O.writing out.old) (O.writing out.new) }
+    ensures says { Says (struct_text fields.now) (O.writing out.old) (O.writing out.new) }
 {
     out.text("(struct");
     write_words(fields, out);
@@ -182,7 +182,7 @@ impl Text for CompositeType {
 
     ghost words = { composite_text };
 
-    fn text<W: Sink>(&self, out: &mut Tree<W>) {
+    fn text<O: Tree>(&self, out: &mut O) {
         match self {
             CompositeType::Func(ty) => ty.text(out),
             CompositeType::Array(field) => write_array(field, out),
@@ -200,9 +200,9 @@ fn sub_start(is_final: bool) -> &'static str
 }
 
 // Writes the index of the type that is extended, if there is one.
-fn write_supertype<W: Sink>(supertype: Option<u32>, out: &mut Tree<W>)
-    ensures adds { Adds out.old out.new }
-    ensures says { Says (supertype_text supertype) out.old out.new }
+fn write_supertype<O: Tree>(supertype: Option<u32>, out: &mut O)
+    ensures adds { Adds (O.writing out.old) (O.writing out.new) }
+    ensures says { Says (supertype_text supertype) (O.writing out.old) (O.writing out.new) }
 {
     if let Some(index) = supertype {
         out.digits(u64::from(index));
@@ -215,7 +215,7 @@ impl Text for SubType {
 
     ghost words = { sub_text };
 
-    fn text<W: Sink>(&self, out: &mut Tree<W>) {
+    fn text<O: Tree>(&self, out: &mut O) {
         out.text(sub_start(self.is_final));
         write_supertype(self.supertype, out);
         self.composite.text(out);
@@ -224,23 +224,24 @@ impl Text for SubType {
 }
 
 // Writes a type as a field of an item.
-fn show_type<T: Text, W: Sink>(name: &str, ty: &T, out: &mut Tree<W>)
+fn show_type<T: Text, O: Tree>(name: &str, ty: &T, out: &mut O)
     requires one_line { has_line_feed name.now ≡ false }
-    ensures adds { Adds out.old out.new }
-    ensures says { Says (field_text (named name.now (word (T.words ty.now)))) out.old out.new }
+    ensures adds { Adds (O.writing out.old) (O.writing out.new) }
+    ensures says { Says (field_text (named name.now (word (T.words ty.now))))
+        (O.writing out.old) (O.writing out.new) }
 {
-    out.field(name);
+    out.begin_field(name);
     ty.text(out);
 }
 
 // Writes the type of what may be mutable as a field of an item.
-fn show_mutable<W: Sink>(name: &str, mutable: bool, ty: &ValType, out: &mut Tree<W>)
+fn show_mutable<O: Tree>(name: &str, mutable: bool, ty: &ValType, out: &mut O)
     requires one_line { has_line_feed name.now ≡ false }
-    ensures adds { Adds out.old out.new }
+    ensures adds { Adds (O.writing out.old) (O.writing out.new) }
     ensures says { Says (field_text (named name.now (word (mutable_text mutable (val_text ty.now)))))
-        out.old out.new }
+        (O.writing out.old) (O.writing out.new) }
 {
-    out.field(name);
+    out.begin_field(name);
     write_mutable(mutable, ty, out);
 }
 
@@ -255,27 +256,27 @@ pub(crate) fn wide(number: Option<u32>) -> Option<u64>
 }
 
 impl Show for HeapType {
-    fn show<W: Sink>(&self, _level: usize, out: &mut Tree<W>) {
+    fn show<O: Tree>(&self, _level: usize, out: &mut O) {
         show_type("type", self, out);
     }
 }
 
 impl Show for RefType {
-    fn show<W: Sink>(&self, _level: usize, out: &mut Tree<W>) {
+    fn show<O: Tree>(&self, _level: usize, out: &mut O) {
         show_type("type", self, out);
     }
 }
 
 impl Show for ValType {
-    fn show<W: Sink>(&self, _level: usize, out: &mut Tree<W>) {
+    fn show<O: Tree>(&self, _level: usize, out: &mut O) {
         show_type("type", self, out);
     }
 }
 
 impl Show for TableType {
-    fn show<W: Sink>(&self, _level: usize, out: &mut Tree<W>)
-        ensures adds { Adds out.old out.new }
-        ensures says { SaysFields (table_fields self.now) out.old out.new }
+    fn show<O: Tree>(&self, _level: usize, out: &mut O)
+        ensures adds { Adds (O.writing out.old) (O.writing out.new) }
+        ensures says { SaysFields (table_fields self.now) (O.writing out.old) (O.writing out.new) }
     {
         show_type("element_type", &self.element_type, out);
         out.flag("table64", self.table64);
@@ -286,9 +287,9 @@ impl Show for TableType {
 }
 
 impl Show for MemoryType {
-    fn show<W: Sink>(&self, _level: usize, out: &mut Tree<W>)
-        ensures adds { Adds out.old out.new }
-        ensures says { SaysFields (memory_fields self.now) out.old out.new }
+    fn show<O: Tree>(&self, _level: usize, out: &mut O)
+        ensures adds { Adds (O.writing out.old) (O.writing out.new) }
+        ensures says { SaysFields (memory_fields self.now) (O.writing out.old) (O.writing out.new) }
     {
         out.flag("memory64", self.memory64);
         out.flag("shared", self.shared);
@@ -299,9 +300,10 @@ impl Show for MemoryType {
 }
 
 impl Show for GlobalType {
-    fn show<W: Sink>(&self, _level: usize, out: &mut Tree<W>)
-        ensures adds { Adds out.old out.new }
-        ensures says { SaysFields (global_type_fields self.now) out.old out.new }
+    fn show<O: Tree>(&self, _level: usize, out: &mut O)
+        ensures adds { Adds (O.writing out.old) (O.writing out.new) }
+        ensures says { SaysFields (global_type_fields self.now)
+            (O.writing out.old) (O.writing out.new) }
     {
         show_mutable("content_type", self.mutable, &self.content_type, out);
         out.flag("shared", self.shared);
@@ -309,9 +311,9 @@ impl Show for GlobalType {
 }
 
 impl Show for TagType {
-    fn show<W: Sink>(&self, _level: usize, out: &mut Tree<W>)
-        ensures adds { Adds out.old out.new }
-        ensures says { SaysFields (tag_fields self.now) out.old out.new }
+    fn show<O: Tree>(&self, _level: usize, out: &mut O)
+        ensures adds { Adds (O.writing out.old) (O.writing out.new) }
+        ensures says { SaysFields (tag_fields self.now) (O.writing out.old) (O.writing out.new) }
     {
         match self.kind {
             TagKind::Exception => {}
@@ -323,7 +325,7 @@ impl Show for TagType {
 
 /// A group that isn't explicit is one type, on the same line.
 impl Show for RecGroup {
-    fn show<W: Sink>(&self, level: usize, out: &mut Tree<W>) {
+    fn show<O: Tree>(&self, level: usize, out: &mut O) {
         out.flag("explicit", self.explicit);
         if self.explicit {
             write_lines(under(level), "type", &self.types, out);

@@ -1,3 +1,3 @@
 -- What the crates above may cite of the proofs of this one, each in the words of specs/.
 pub use Rattle.wasm_tree.proofs.Saying.{says_named, more_fields, says_some, says_nothing, says_item_more, says_all}
-pub use Rattle.wasm_tree.proofs.Writing.{are_objects, as_going, as_short, blank_before, first_in_objects}
+pub use Rattle.wasm_tree.proofs.Writing.{as_going, as_short, blank_before, first_in_objects}

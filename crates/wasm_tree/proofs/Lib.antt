@@ -1,5 +1,5 @@
 pub mod ForCallers
+pub mod Json
 pub mod Naming
-pub mod Objects
 pub mod Saying
 pub mod Writing

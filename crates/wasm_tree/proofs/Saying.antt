@@ -2,7 +2,7 @@
 use Rattle.std.proofs.Common.{◌≡◌, ℕ, ◌+◌, ◌<◌, ◌^◌, zero, suc, Bool, true, false, List, [], ◌∷◌, ◌++◌, codes}
 use Rattle.std.proofs.Common.{Option, Some, None, refl, sym}
 use Rattle.std.proofs.Common.{Err, ◌%◌, nat_lt}
-use Rattle.std.specs.Prelude.{slice_index}
+use Rattle.std.specs.Prelude.{slice_index, if◌then◌else◌}
 use Rattle.wasm_tree.specs.Fields.{Field, field_text, named, word, with_fields, is_escaped, quoted_byte}
 use Rattle.std.proofs.Common.{ap, subst, ◌∙◌, append_assoc, append-nil, ◌||◌, nat_eq, decimal, length, take, get_or, arith}
 use Rattle.std.specs.List.{flat_map, list_any}
@@ -241,31 +241,12 @@ neither false b e = (refl, e)
 parts_without : (xs ys : List ℕ) → has_line_feed (xs ++ ys) ≡ false → (has_line_feed xs ≡ false) × (has_line_feed ys ≡ false)
 parts_without xs ys e = neither (has_line_feed xs) (has_line_feed ys) (sym (list_any-append (λ b. nat_eq b 10) xs ys) ∙ e)
 
--- all but this rest of it, which has no line feed either
-pub record SaysAllBut (all rest : List ℕ) (old new : Writing) : Type 0 where
-  pub done : List ℕ
-  pub parts : all ≡ done ++ rest
-  pub says : Says done old new
-  pub one_line : has_line_feed rest ≡ false
-
-pub says_none : (all : List ℕ) (w : Writing) → has_line_feed all ≡ false → SaysAllBut all all w w
-says_none all w none = record { done = []; parts = refl; says = says_nothing w; one_line = none }
-
 pub none_in_first : (rest first later : List ℕ) → rest ≡ first ++ later → has_line_feed rest ≡ false
     → (has_line_feed first ≡ false) × (has_line_feed later ≡ false)
 none_in_first rest first later e none = parts_without first later (ap has_line_feed (sym e) ∙ none)
 
-pub says_first : (all rest first later : List ℕ) (old mid new : Writing) → rest ≡ first ++ later → SaysAllBut all rest old mid
-    → Says first mid new → SaysAllBut all later old new
-says_first all rest first later old mid new e p q = record {
-  done = p.done ++ first;
-  parts = p.parts ∙ (ap (λ (x : List ℕ). p.done ++ x) e ∙ sym (append_assoc p.done first later));
-  says = says_then p.done first old mid new p.says q;
-  one_line = (none_in_first rest first later e p.one_line).1;
-}
-
-pub says_last : (all rest : List ℕ) (old mid new : Writing) → SaysAllBut all rest old mid → Says rest mid new → Says all old new
-says_last all rest old mid new p q = says_same (p.done ++ rest) all old new (sym p.parts) (says_then p.done rest old mid new p.says q)
+pub says_parts : (rest first later : List ℕ) (x y z : Writing) → rest ≡ first ++ later → Says first x y → Says later y z → Says rest x z
+says_parts rest first later x y z e p q = says_same (first ++ later) rest x z (sym e) (says_then first later x y z p q)
 
 -- ---- digits are no line feeds
 
@@ -278,6 +259,11 @@ digit_alone n = rw (digit_is_none n) refl
 pub none_in_decimal : (n : ℕ) → n < 2 ^ 64 → has_line_feed (decimal n) ≡ false
 none_in_decimal = decimal_by_steps (λ n ds. has_line_feed ds ≡ false) (λ n h. digit_alone n)
     (λ n ds h k. list_any-append (λ b. nat_eq b 10) ds ((48 + n % 10) ∷ []) ∙ rw k (digit_alone (n % 10)))
+
+pub none_in_signed : (negative : Bool) (n : ℕ) → n < 2 ^ 64
+    → has_line_feed ((if negative then codes "-" else []) ++ decimal n) ≡ false
+none_in_signed true n h = none_in_decimal n h
+none_in_signed false n h = none_in_decimal n h
 
 -- nor is one escaped in quotes
 plain_digit : (n : ℕ) → n < 10 → list_any is_escaped ((48 + n) ∷ []) ≡ false
@@ -320,29 +306,10 @@ none_in_plain (x ∷ xs) e =
     let (first, later) = neither (is_escaped x) (list_any is_escaped xs) e in
     rw ((neither (nat_eq x 10) false (none_in_quoted x first)).0, none_in_plain xs later) refl
 
--- all but this rest of it in quotes
-abbrev pub QuotesAllBut : (all rest : List ℕ) (old new : Writing) → Type 0
-QuotesAllBut all rest old new = (done : List ℕ) × (all ≡ done ++ rest) × Says (flat_map quoted_byte done) old new
-
-pub quotes_none : (all : List ℕ) (w : Writing) → QuotesAllBut all all w w
-quotes_none all w = ([], refl, says_nothing w)
-
-pub quotes_more : (all rest first later text : List ℕ) (old mid new : Writing) → rest ≡ first ++ later
-    → flat_map quoted_byte first ≡ text → QuotesAllBut all rest old mid → Says text mid new → QuotesAllBut all later old new
-quotes_more all rest first later text old mid new e t p q =
-    let (done, parts, says) = p in (
-      done ++ first,
-      parts ∙ (ap (λ (x : List ℕ). done ++ x) e ∙ sym (append_assoc done first later)),
-      says_same (flat_map quoted_byte done ++ text) (flat_map quoted_byte (done ++ first)) old new
-          (sym (flat_map-append quoted_byte done first ∙ ap (λ (x : List ℕ). flat_map quoted_byte done ++ x) t))
-          (says_then (flat_map quoted_byte done) text old mid new says q),
-    )
-
-pub quotes_all : (all : List ℕ) (old new : Writing) → QuotesAllBut all [] old new → Says (flat_map quoted_byte all) old new
-quotes_all all old new p =
-    let (done, parts, says) = p in
-    says_same (flat_map quoted_byte done) (flat_map quoted_byte all) old new
-    (ap (flat_map quoted_byte) (sym (parts ∙ append-nil done))) says
+pub quotes_parts : (rest first later text : List ℕ) (x y z : Writing) → rest ≡ first ++ later → flat_map quoted_byte first ≡ text
+    → Says text x y → Says (flat_map quoted_byte later) y z → Says (flat_map quoted_byte rest) x z
+quotes_parts rest first later text x y z e t p q = says_parts (flat_map quoted_byte rest) text (flat_map quoted_byte later) x y z
+    (ap (flat_map quoted_byte) e ∙ (flat_map-append quoted_byte first later ∙ ap (λ (u : List ℕ). u ++ flat_map quoted_byte later) t)) p q
 
 -- ---- one more of a list
 

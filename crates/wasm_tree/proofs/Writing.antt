@@ -8,7 +8,7 @@ use Rattle.std.specs.List.{list_all}
 use Rattle.std.specs.List.{flat_map}
 use Rattle.std.proofs.KnownBytes.{Appends-nil, Appends-trans}
 use Rattle.std.proofs.lemmas.Grind.{flat_map-append}
-use Rattle.std.specs.Option.{is_some}
+use Rattle.std.specs.Option.{is_some, unwrap_or}
 use Rattle.std.proofs.lemmas.List.Folds.{list_all-append}
 use Rattle.wasm_lines.specs.Calls.{output_failed}
 use Rattle.wasm_lines.specs.declared.devices.ListError.{ListError}
@@ -17,15 +17,16 @@ use Rattle.wasm_lines.specs.declared.devices.ListError.TheVariants.{Input, Outpu
 use Rattle.wasm_tree.specs.Numbers.{Number, blank_numbers, number_text}
 use Rattle.wasm_tree.specs.Said.{PutsText, StopsIn}
 use Rattle.wasm_tree.specs.Tree.{Part, words, number, Line, first, under, row, has_line_feed, is_part, is_line, part_text, text_of}
-use Rattle.wasm_tree.specs.Tree.{bytes_of, first_of, name_text, row_text, with_bytes, AddsBytes}
+use Rattle.wasm_tree.specs.Tree.{begun, begun_numbers, bytes_of, first_of, name_text, row_text, with_bytes, AddsBytes}
 use Rattle.wasm_tree.specs.Tree.{part_numbers, numbers_of, IsFirst, IsOutlined, Writing, Origin, with_numbers}
 use Rattle.wasm_tree.specs.Tree.{IsGoing, IsGoingInObjects, IsGoingIn, IsCutShort, IsWrittenAs, IsWritten, IsShaped, with_line}
-use Rattle.wasm_tree.specs.Tree.{IsPushed, IsStuck, PutsAs, Puts, Adds, AddsFirst, AddsThese, is_objects}
+use Rattle.wasm_tree.specs.Tree.{IsPushed, IsStuck, PutsAs, Puts, Adds, AddsFirst, AddsThese}
+use Rattle.wasm_tree.specs.Tree.{Put, Rest, stopped_without_memory, with_rest}
 use Rattle.wasm_tree.specs.Json.{AreObjects, IsAt, Leads, after_all, start}
-use Rattle.wasm_tree.specs.declared.tree.Spot.{Spot}
+use Rattle.wasm_tree.specs.declared.objects.Spot.{Spot}
 use Rattle.wasm_tree.specs.declared.tree.Style.{Style}
 use Rattle.wasm_tree.specs.declared.tree.Style.TheVariants.{Lines, Objects}
-use Rattle.wasm_tree.proofs.Objects.{after_all-append, completes, completion}
+use Rattle.wasm_tree.proofs.Json.{after_all-append, completes, completion}
 
 -- ---- lines after lines
 
@@ -132,20 +133,11 @@ more_parts f line p = flat_map-append f line (p ∷ []) ∙ ap (λ x. flat_map f
 
 -- ---- in which style
 
-shaped_lines : (style : Style) (text outline : List ℕ) (numbers : List Number) (bytes : List ℕ) → style ≡ Lines
-    → IsOutlined text outline numbers bytes → IsShaped style text outline numbers bytes
-shaped_lines style text outline numbers bytes e i = subst (λ (x : Style). IsShaped x text outline numbers bytes) (sym e) i
-
-lines_shaped : (style : Style) (text outline : List ℕ) (numbers : List Number) (bytes : List ℕ) → style ≡ Lines
-    → IsShaped style text outline numbers bytes → IsOutlined text outline numbers bytes
-lines_shaped style text outline numbers bytes e i = subst (λ (x : Style). IsShaped x text outline numbers bytes) e i
-
 -- objects have no outline
 shaped_objects : (style : Style) (text outline outline' : List ℕ) (numbers numbers' : List Number) (bytes bytes' : List ℕ)
     → style ≡ Objects → IsShaped style text outline numbers bytes → IsShaped style text outline' numbers' bytes'
 shaped_objects style text outline outline' numbers numbers' bytes bytes' e i =
-    subst (λ (x : Style). IsShaped x text outline' numbers' bytes') (sym e)
-    (subst (λ (x : Style). IsShaped x text outline numbers bytes) e i)
+    rw e (rw e at i)
 
 -- ---- what was written before
 
@@ -181,180 +173,129 @@ short_still o w why b spot unshown c = record {
   no_input = c.no_input;
 }
 
--- a line of the first level, of which nothing could be written
-first_short : (o : Origin) (w : Writing) (why : ListError) (line outline : List ℕ) (numbers : List Number) → Outlines line outline numbers
-    → o.style ≡ Lines → IsCutShort o why w
-    → IsCutShort (with_numbers (with_line o outline) numbers) why w
-first_short o w why line outline numbers e lines c = record {
+-- nor does it matter what is unwritten, if the whole is such a text
+short_more : (o to : Origin) (w : Writing) (why : ListError) (c : IsCutShort o why w) (more : List ℕ) → to.taken ≡ o.taken
+    → to.has_failed ≡ o.has_failed → to.style ≡ Lines
+    → IsOutlined ((c.written ++ c.unwritten) ++ more) to.outline to.numbers to.bytes → IsCutShort to why w
+short_more o to w why c more taken failed lines outlined = record {
   written = c.written;
-  unwritten = c.unwritten ++ line;
-  shaped = shaped_lines o.style (c.written ++ (c.unwritten ++ line)) (o.outline ++ outline) (o.numbers ++ numbers) o.bytes lines
-      (subst (λ (x : List ℕ). IsOutlined x (o.outline ++ outline) (o.numbers ++ numbers) o.bytes)
-      (append_assoc c.written c.unwritten line)
-      (e (c.written ++ c.unwritten) o.outline o.numbers o.bytes
-      (lines_shaped o.style (c.written ++ c.unwritten) o.outline o.numbers o.bytes lines c.shaped)));
-  took = c.took;
-  failed = c.failed;
+  unwritten = c.unwritten ++ more;
+  shaped = rw lines (rw (append_assoc c.written c.unwritten more) at outlined);
+  took = rw taken c.took;
+  failed = rw failed c.failed;
   no_input = c.no_input;
 }
 
--- bytes that are to be shown, of which nothing could be written
-bytes_short : (o : Origin) (w : Writing) (why : ListError) (bytes : List ℕ) → o.style ≡ Lines → IsCutShort o why w
-    → IsCutShort (with_bytes o bytes) why w
-bytes_short o w why bytes lines c = record {
-  written = c.written;
-  unwritten = c.unwritten ++ row_text 0 bytes;
-  shaped = shaped_lines o.style (c.written ++ (c.unwritten ++ row_text 0 bytes)) o.outline o.numbers (o.bytes ++ bytes) lines
-      (subst (λ (x : List ℕ). IsOutlined x o.outline o.numbers (o.bytes ++ bytes))
-      (append_assoc c.written c.unwritten (row_text 0 bytes))
-      (row_more (c.written ++ c.unwritten) o.outline o.numbers o.bytes 0 bytes
-      (lines_shaped o.style (c.written ++ c.unwritten) o.outline o.numbers o.bytes lines c.shaped)));
-  took = c.took;
-  failed = c.failed;
-  no_input = c.no_input;
-}
+module _ (o : Origin) (w : Writing) (why : ListError) (lines : o.style ≡ Lines) (c : IsCutShort o why w) where
+  before : IsOutlined (c.written ++ c.unwritten) o.outline o.numbers o.bytes
+  before = rw lines at c.shaped
 
--- a part of a line under another, of which nothing could be written
-part_short : (o : Origin) (w : Writing) (why : ListError) (p : Part) → is_part p ≡ true → o.style ≡ Lines → IsCutShort o why w
-    → IsCutShort (with_numbers o (part_numbers p)) why w
-part_short o w why p one lines c =
-    let line = codes "  " ++ (flat_map part_text (p ∷ []) ++ codes "\n") in
-    record {
-      written = c.written;
-      unwritten = c.unwritten ++ line;
-      shaped = shaped_lines o.style (c.written ++ (c.unwritten ++ line)) o.outline (o.numbers ++ part_numbers p) o.bytes lines
-          (subst₂ (λ (x : List ℕ) (y : List Number). IsOutlined x o.outline (o.numbers ++ y) o.bytes)
-          (append_assoc c.written c.unwritten line) (append-nil (part_numbers p))
-          (under_more (c.written ++ c.unwritten) o.outline o.numbers o.bytes (p ∷ []) (rw one refl)
-          (lines_shaped o.style (c.written ++ c.unwritten) o.outline o.numbers o.bytes lines c.shaped)));
-      took = c.took;
-      failed = c.failed;
-      no_input = c.no_input;
-    }
+  -- a line of the first level, of which nothing could be written
+  first_short : (line outline : List ℕ) (numbers : List Number) → Outlines line outline numbers
+      → IsCutShort (with_numbers (with_line o outline) numbers) why w
+  first_short line outline numbers e = short_more o (with_numbers (with_line o outline) numbers) w why c line refl refl lines
+      (e (c.written ++ c.unwritten) o.outline o.numbers o.bytes before)
+
+  -- bytes that are to be shown
+  bytes_short : (bytes : List ℕ) → IsCutShort (with_bytes o bytes) why w
+  bytes_short bytes = short_more o (with_bytes o bytes) w why c (row_text 0 bytes) refl refl lines
+      (row_more (c.written ++ c.unwritten) o.outline o.numbers o.bytes 0 bytes before)
+
+  -- a part of a line under another
+  part_short : (p : Part) → is_part p ≡ true → IsCutShort (with_numbers o (part_numbers p)) why w
+  part_short p one = short_more o (with_numbers o (part_numbers p)) w why c (text_of (under (p ∷ []))) refl refl lines
+      (subst (λ (y : List Number). IsOutlined ((c.written ++ c.unwritten) ++ text_of (under (p ∷ []))) o.outline (o.numbers ++ y) o.bytes)
+      (append-nil (part_numbers p))
+      (under_more (c.written ++ c.unwritten) o.outline o.numbers o.bytes (p ∷ []) (rw one refl) before))
 
 module _ (o : Origin) (old new : Writing) (i : IsGoing o old) where
+  -- to whole lines with this outline, and a line that is begun, which has these parts
+  goes : (outline : List ℕ) (numbers : List Number) (bytes put text : List ℕ) (lined : List Number) (rows : List ℕ) (b : Bool)
+      (line : List Part) (unshown : List ℕ) → IsPushed put old new → IsOutlined text outline lined rows → list_all is_part line ≡ true
+      → (i.written ++ old.waiting) ++ put ≡ text ++ begun b line → numbers ≡ lined ++ begun_numbers b line → bytes ≡ rows ++ unshown
+      → IsGoing (record o { outline = outline; numbers = numbers; bytes = bytes }) (record new { is_begun = b; unshown = unshown })
+  goes outline numbers bytes put text lined rows b line unshown p outlined one parts numbered rowed = record {
+    written = i.written ++ p.puts.moved;
+    text = text;
+    lined = lined;
+    rows = rows;
+    line = line;
+    outlined = outlined;
+    one_line = one;
+    parts = grown i.written old.waiting put p.puts.moved new.waiting p.puts.waits ∙ parts;
+    numbered = numbered;
+    rowed = rowed;
+    took = Appends-trans o.taken old.taken new.taken i.written p.puts.moved i.took p.puts.writes;
+    failed = p.failed ∙ i.failed;
+  }
+
   -- the same bytes are to be shown
   same_unshown : new.unshown ≡ old.unshown → o.bytes ≡ i.rows ++ new.unshown
   same_unshown e = i.rowed ∙ ap (λ (x : List ℕ). i.rows ++ x) (sym e)
 
+  -- where a line is begun, its parts and what comes after them, and their numbers
+  in_begun : (b : Bool) (put : List ℕ) → old.is_begun ≡ b
+      → (i.written ++ old.waiting) ++ put ≡ (i.text ++ begun b i.line) ++ put
+  in_begun b put e = rw (← e) (ap (λ (x : List ℕ). x ++ put) i.parts)
+
   -- to a line that is begun
   part_grows : (p : Part) → old.is_begun ≡ true → is_part p ≡ true → IsPushed (part_text p) old new
       → IsGoing (with_numbers o (part_numbers p)) new
-  part_grows p b one h = record {
-    written = i.written ++ h.puts.moved;
-    text = i.text;
-    lined = i.lined;
-    rows = i.rows;
-    line = i.line ++ p ∷ [];
-    outlined = i.outlined;
-    one_line = list_all-append is_part i.line (p ∷ []) ∙ rw (i.one_line, one) refl;
-    parts = grown i.written old.waiting (part_text p) h.puts.moved new.waiting h.puts.waits
-        ∙ rw (h.begun, b) (ap (λ (x : List ℕ). x ++ part_text p) (i.parts ∙ rw b refl)
-        ∙ (append_assoc i.text (codes "  " ++ flat_map part_text i.line) (part_text p)
-        ∙ ap (λ (x : List ℕ). i.text ++ (codes "  " ++ x)) (sym (more_parts part_text i.line p))));
-    numbered = rw (h.begun, b) (ap (λ (x : List Number). x ++ part_numbers p) (i.numbered ∙ rw b refl)
-        ∙ (append_assoc i.lined (flat_map part_numbers i.line) (part_numbers p)
-        ∙ ap (λ (x : List Number). i.lined ++ x) (sym (more_parts part_numbers i.line p))));
-    rowed = same_unshown h.unshown;
-    took = Appends-trans o.taken old.taken new.taken i.written h.puts.moved i.took h.puts.writes;
-    failed = h.failed ∙ i.failed;
-  }
+  part_grows p b one h = goes o.outline (o.numbers ++ part_numbers p) o.bytes (part_text p) i.text i.lined i.rows new.is_begun
+      (i.line ++ p ∷ []) new.unshown h i.outlined (list_all-append is_part i.line (p ∷ []) ∙ rw (i.one_line, one) refl)
+      (rw (h.begun, b) (in_begun true (part_text p) b
+      ∙ (append_assoc i.text (codes "  " ++ flat_map part_text i.line) (part_text p)
+      ∙ ap (λ (x : List ℕ). i.text ++ (codes "  " ++ x)) (sym (more_parts part_text i.line p)))))
+      (rw (h.begun, b) (ap (λ (x : List Number). x ++ part_numbers p) (i.numbered ∙ rw b refl)
+      ∙ (append_assoc i.lined (flat_map part_numbers i.line) (part_numbers p)
+      ∙ ap (λ (x : List Number). i.lined ++ x) (sym (more_parts part_numbers i.line p)))))
+      (same_unshown h.unshown)
 
   -- a line is begun
   part_begins : old.is_begun ≡ false → IsPushed (codes "  ") old new → IsGoing o (record new { is_begun = true })
-  part_begins b p = record {
-    written = i.written ++ p.puts.moved;
-    text = i.text;
-    lined = i.lined;
-    rows = i.rows;
-    line = [];
-    outlined = i.outlined;
-    one_line = refl;
-    parts = grown i.written old.waiting (codes "  ") p.puts.moved new.waiting p.puts.waits
-        ∙ ap (λ (x : List ℕ). x ++ codes "  ") (i.parts ∙ rw b (append-nil i.text));
-    numbered = i.numbered ∙ rw b refl;
-    rowed = same_unshown p.unshown;
-    took = Appends-trans o.taken old.taken new.taken i.written p.puts.moved i.took p.puts.writes;
-    failed = p.failed ∙ i.failed;
-  }
+  part_begins b p = goes o.outline o.numbers o.bytes (codes "  ") i.text i.lined i.rows true [] new.unshown p i.outlined refl
+      (in_begun false (codes "  ") b ∙ ap (λ (x : List ℕ). x ++ codes "  ") (append-nil i.text)) (i.numbered ∙ rw b refl)
+      (same_unshown p.unshown)
 
   -- it is ended
   part_ends : old.is_begun ≡ true → IsPushed (codes "\n") old new → IsGoing o (record new { is_begun = false })
-  part_ends b p = record {
-    written = i.written ++ p.puts.moved;
-    text = i.text ++ (codes "  " ++ (flat_map part_text i.line ++ codes "\n"));
-    lined = i.lined ++ flat_map part_numbers i.line;
-    rows = i.rows;
-    line = [];
-    outlined = under_more i.text o.outline i.lined i.rows i.line i.one_line i.outlined;
-    one_line = refl;
-    parts = grown i.written old.waiting (codes "\n") p.puts.moved new.waiting p.puts.waits
-        ∙ (ap (λ (x : List ℕ). x ++ codes "\n") (i.parts ∙ rw b refl)
-        ∙ (append_assoc i.text (codes "  " ++ flat_map part_text i.line) (codes "\n")
-        ∙ sym (append-nil (i.text ++ (codes "  " ++ (flat_map part_text i.line ++ codes "\n"))))));
-    numbered = i.numbered ∙ (rw b refl ∙ sym (append-nil (i.lined ++ flat_map part_numbers i.line)));
-    rowed = same_unshown p.unshown;
-    took = Appends-trans o.taken old.taken new.taken i.written p.puts.moved i.took p.puts.writes;
-    failed = p.failed ∙ i.failed;
-  }
+  part_ends b p =
+      let text = i.text ++ text_of (under i.line) in
+      let lined = i.lined ++ flat_map part_numbers i.line in
+      goes o.outline o.numbers o.bytes (codes "\n") text lined i.rows false [] new.unshown p
+      (under_more i.text o.outline i.lined i.rows i.line i.one_line i.outlined) refl
+      (in_begun true (codes "\n") b ∙ (append_assoc i.text (codes "  " ++ flat_map part_text i.line) (codes "\n") ∙ sym (append-nil text)))
+      (i.numbered ∙ (rw b refl ∙ sym (append-nil lined))) (same_unshown p.unshown)
+
+  -- where none is begun, whole lines come after those that there were
+  whole_grows : (line outline : List ℕ) (numbers : List Number) (bytes rows unshown : List ℕ) → old.is_begun ≡ false
+      → IsOutlined (i.text ++ line) outline (i.lined ++ numbers) rows → bytes ≡ rows ++ unshown → IsPushed line old new
+      → IsGoing (record o { outline = outline; numbers = o.numbers ++ numbers; bytes = bytes }) (record new { unshown = unshown })
+  whole_grows line outline numbers bytes rows unshown b outlined rowed p = goes outline (o.numbers ++ numbers) bytes line (i.text ++ line)
+      (i.lined ++ numbers) rows new.is_begun [] unshown p outlined refl
+      (rw (p.begun, b) (in_begun false line b ∙ (ap (λ (x : List ℕ). x ++ line) (append-nil i.text) ∙ sym (append-nil (i.text ++ line)))))
+      (rw (p.begun, b) (ap (λ (x : List Number). x ++ numbers) (i.numbered ∙ rw b (append-nil i.lined))
+      ∙ sym (append-nil (i.lined ++ numbers)))) rowed
 
   -- a line of the first level
   first_grows : (line outline : List ℕ) (numbers : List Number) → Outlines line outline numbers → old.is_begun ≡ false
       → IsPushed line old new → IsGoing (with_numbers (with_line o outline) numbers) new
-  first_grows line outline numbers e b p = record {
-    written = i.written ++ p.puts.moved;
-    text = i.text ++ line;
-    lined = i.lined ++ numbers;
-    rows = i.rows;
-    line = [];
-    outlined = e i.text o.outline i.lined i.rows i.outlined;
-    one_line = refl;
-    parts = grown i.written old.waiting line p.puts.moved new.waiting p.puts.waits
-        ∙ rw (p.begun, b) (ap (λ (x : List ℕ). x ++ line) (i.parts ∙ rw b (append-nil i.text)) ∙ sym (append-nil (i.text ++ line)));
-    numbered = rw (p.begun, b) (ap (λ (x : List Number). x ++ numbers) (i.numbered ∙ rw b (append-nil i.lined))
-        ∙ sym (append-nil (i.lined ++ numbers)));
-    rowed = same_unshown p.unshown;
-    took = Appends-trans o.taken old.taken new.taken i.written p.puts.moved i.took p.puts.writes;
-    failed = p.failed ∙ i.failed;
-  }
+  first_grows line outline numbers e b p = whole_grows line (o.outline ++ outline) numbers o.bytes i.rows new.unshown b
+      (e i.text o.outline i.lined i.rows i.outlined) (same_unshown p.unshown) p
 
   -- all that waited is written
   all_moves : IsPushed [] old new → IsGoing o new
-  all_moves p = record {
-    written = i.written ++ p.puts.moved;
-    text = i.text;
-    lined = i.lined;
-    rows = i.rows;
-    line = i.line;
-    outlined = i.outlined;
-    one_line = i.one_line;
-    parts = grown i.written old.waiting [] p.puts.moved new.waiting p.puts.waits
-        ∙ (append-nil (i.written ++ old.waiting) ∙ rw p.begun i.parts);
-    numbered = rw p.begun i.numbered;
-    rowed = same_unshown p.unshown;
-    took = Appends-trans o.taken old.taken new.taken i.written p.puts.moved i.took p.puts.writes;
-    failed = p.failed ∙ i.failed;
-  }
+  all_moves p = goes o.outline o.numbers o.bytes [] i.text i.lined i.rows new.is_begun i.line new.unshown p i.outlined i.one_line
+      (append-nil (i.written ++ old.waiting) ∙ rw p.begun i.parts) (rw p.begun i.numbered) (same_unshown p.unshown)
 
   -- a row of bytes
   row_grows : (offset : ℕ) (bytes left : List ℕ) → old.is_begun ≡ false → IsPushed (row_text offset bytes) old new
       → old.unshown ≡ bytes ++ left → IsGoing o (record new { unshown = left })
-  row_grows offset bytes left b p e = record {
-    written = i.written ++ p.puts.moved;
-    text = i.text ++ row_text offset bytes;
-    lined = i.lined;
-    rows = i.rows ++ bytes;
-    line = [];
-    outlined = row_more i.text o.outline i.lined i.rows offset bytes i.outlined;
-    one_line = refl;
-    parts = grown i.written old.waiting (row_text offset bytes) p.puts.moved new.waiting p.puts.waits
-        ∙ rw (p.begun, b) (ap (λ (x : List ℕ). x ++ row_text offset bytes) (i.parts ∙ rw b (append-nil i.text))
-        ∙ sym (append-nil (i.text ++ row_text offset bytes)));
-    numbered = rw (p.begun, b) (i.numbered ∙ rw b refl);
-    rowed = i.rowed ∙ (ap (λ (x : List ℕ). i.rows ++ x) e ∙ sym (append_assoc i.rows bytes left));
-    took = Appends-trans o.taken old.taken new.taken i.written p.puts.moved i.took p.puts.writes;
-    failed = p.failed ∙ i.failed;
-  }
+  row_grows offset bytes left b p e =
+      subst (λ (x : List Number). IsGoing (record o { numbers = x }) (record new { unshown = left })) (append-nil o.numbers)
+      (whole_grows (row_text offset bytes) o.outline [] o.bytes (i.rows ++ bytes) left b
+      (rw (append-nil i.lined) (row_more i.text o.outline i.lined i.rows offset bytes i.outlined))
+      (i.rowed ∙ (ap (λ (x : List ℕ). i.rows ++ x) e ∙ sym (append_assoc i.rows bytes left))) p)
 
   -- the text that was cut, with what completes the line that was begun, and the bytes that weren't shown
   abbrev after_cut : Bool → List ℕ
@@ -391,9 +332,7 @@ module _ (o : Origin) (old new : Writing) (why : ListError) (s : IsStuck why old
       record {
         written = i.written ++ w.moved;
         unwritten = w.unwritten ++ more;
-        shaped = shaped_lines o.style ((i.written ++ w.moved) ++ (w.unwritten ++ more)) o.outline o.numbers o.bytes e
-            (subst (λ (x : List ℕ). IsOutlined x o.outline o.numbers o.bytes)
-            (sym (cut_at i.written old.waiting w.moved w.unwritten more w.parts)) (completed o old new i old.is_begun refl));
+        shaped = rw (e, cut_at i.written old.waiting w.moved w.unwritten more w.parts) (completed o old new i old.is_begun refl);
         took = Appends-trans o.taken old.taken new.taken i.written w.moved i.took w.wrote;
         failed = s.failed ∙ ap (λ (b : Bool). output_failed {A = Unit {0}} (Err why) b) i.failed;
         no_input = no_input old.taken new.taken old.waiting why s.cut;
@@ -406,8 +345,7 @@ module _ (o : Origin) (old new : Writing) (why : ListError) (s : IsStuck why old
       record {
         written = i.written ++ w.moved;
         unwritten = w.unwritten ++ more;
-        shaped = subst (λ (x : Style). IsShaped x ((i.written ++ w.moved) ++ (w.unwritten ++ more)) o.outline o.numbers o.bytes) (sym e)
-            (subst AreObjects (sym (cut_at i.written old.waiting w.moved w.unwritten more w.parts)) objects);
+        shaped = rw (e, cut_at i.written old.waiting w.moved w.unwritten more w.parts) objects;
         took = Appends-trans o.taken old.taken new.taken i.written w.moved i.took w.wrote;
         failed = s.failed ∙ ap (λ (b : Bool). output_failed {A = Unit {0}} (Err why) b) i.failed;
         no_input = no_input old.taken new.taken old.waiting why s.cut;
@@ -419,7 +357,7 @@ module _ (o : Origin) (old new : Writing) (why : ListError) (s : IsStuck why old
 -- ---- the calls
 
 -- memory was refused before anything was put
-pub stops : (o : Origin) (w : Writing) → w.why ≡ None → IsWritten o w → IsWritten o (record w { why = Some Memory })
+stops : (o : Origin) (w : Writing) → w.why ≡ None → IsWritten o w → IsWritten o (record w { why = Some Memory })
 stops o w e i = (
   i.0,
   is_stuck o w (record w { why = Some Memory }) Memory (record {
@@ -432,27 +370,24 @@ stops o w e i = (
   }) (as_going o w e i),
 )
 
-pub none_there : (why : Option ListError) → is_some why ≡ false → why ≡ None
-none_there None e = refl
-none_there (Some why) e = let no : true ≡ false = e in cc
+-- an output that stops, unless it has stopped
+module _ (o : Origin) (rest : Rest) (put : Put) where
+  abbrev stopped : ListError → Writing
+  stopped why = with_rest rest (record put { why = Some why })
 
--- nothing else changes
-pub record AreSame (old new : Writing) : Type 0 where
-  pub begun : new.is_begun ≡ old.is_begun
-  pub style : new.style ≡ old.style
-  pub unshown : new.unshown ≡ old.unshown
+  stops_by : (why : Option ListError) → put.why ≡ why → IsWritten o (with_rest rest put) → IsWritten o (stopped (unwrap_or why Memory))
+  stops_by None e i = stops o (with_rest rest put) e i
+  stops_by (Some why) e i = subst (λ (x : Option ListError). IsWritten o (with_rest rest (record put { why = x }))) e i
 
-same_by : (before after : Option ListError) (bytes : List ℕ) (old new : Writing) → PutsAs before after bytes old new → AreSame old new
-same_by (Some why) after bytes old new p = record {
-  begun = ap (λ (w : Writing). w.is_begun) p;
-  style = ap (λ (w : Writing). w.style) p;
-  unshown = ap (λ (w : Writing). w.unshown) p;
-}
-same_by None None bytes old new p = record { begun = p.begun; style = p.style; unshown = p.unshown }
-same_by None (Some why) bytes old new p = record { begun = p.begun; style = p.style; unshown = p.unshown }
+  pub stops_here : (new : Put) → new ≡ stopped_without_memory put → IsWritten o (with_rest rest put) → IsWritten o (with_rest rest new)
+  stops_here new e i = subst (λ (p : Put). IsWritten o (with_rest rest p)) (sym e) (stops_by put.why refl i)
 
-pub are_same : (bytes : List ℕ) (old new : Writing) → Puts bytes old new → AreSame old new
-are_same bytes old new p = same_by old.why new.why bytes old new p
+-- the style doesn't change
+same_style : (before after : Option ListError) (bytes : List ℕ) (old new : Writing) → PutsAs before after bytes old new
+    → new.style ≡ old.style
+same_style (Some why) after bytes old new p = ap (λ (w : Writing). w.style) p
+same_style None None bytes old new p = p.style
+same_style None (Some why) bytes old new p = p.style
 
 module _ (o : Origin) (old new : Writing) (b : Bool) (spot : Spot) (unshown : List ℕ) where
   -- a writer that is then in a line or not, or at another spot, or has other bytes to show
@@ -477,7 +412,7 @@ module _ (o : Origin) (old new : Writing) (b : Bool) (spot : Spot) (unshown : Li
       → (IsGoingIn o.style o old → IsPushed bytes old new → IsGoingIn to.style to (moved_on new))
       → ((why : ListError) (w : Writing) → IsCutShort o why w → IsCutShort to why w) → IsWritten to (moved_on new)
   changes to bytes same p i going short =
-      ((are_same bytes old new p).style ∙ (i.0 ∙ sym same), by_why to bytes old.why new.why refl refl p i going short)
+      (same_style old.why new.why bytes old new p ∙ (i.0 ∙ sym same), by_why to bytes old.why new.why refl refl p i going short)
 
 module _ (o : Origin) (old new : Writing) (lines : old.style ≡ Lines) where
   puts_of : (p : Part) → old.is_begun ≡ true → is_part p ≡ true → Puts (part_text p) old new → IsWritten o old
@@ -486,7 +421,7 @@ module _ (o : Origin) (old new : Writing) (lines : old.style ≡ Lines) where
       let e : o.style ≡ Lines = sym i.0 ∙ lines in
       changes o old new new.is_begun new.spot new.unshown (with_numbers o (part_numbers p)) (part_text p) refl h i
       (λ g s. from_lines o (with_numbers o (part_numbers p)) new refl e (part_grows o old new (in_lines o old e g) p b one s))
-      (λ why w c. part_short o w why p one e c)
+      (λ why w c. part_short o w why e c p one)
 
   pub puts_part : (bytes : List ℕ) → old.is_begun ≡ true → has_line_feed bytes ≡ false → Puts bytes old new → IsWritten o old
       → IsWritten o new
@@ -505,7 +440,7 @@ module _ (o : Origin) (old new : Writing) (lines : old.style ≡ Lines) where
       changes o old new new.is_begun new.spot new.unshown (with_numbers (with_line o outline) numbers) line refl p i
       (λ g h. from_lines o (with_numbers (with_line o outline) numbers) new refl s
       (first_grows o old new (in_lines o old s g) line outline numbers more b h))
-      (λ why w c. first_short o w why line outline numbers more s c)
+      (λ why w c. first_short o w why s c line outline numbers more)
 
   -- a line is then begun or ended
   pub begins : old.is_begun ≡ false → Puts (codes "  ") old new → IsWritten o old → IsWritten o (record new { is_begun = true })
@@ -556,10 +491,8 @@ module _ (o : Origin) (old new : Writing) (line outline : List ℕ) (numbers : L
       record {
         written = i.written ++ w.moved;
         unwritten = w.unwritten ++ rest;
-        shaped = shaped_lines o.style ((i.written ++ w.moved) ++ (w.unwritten ++ rest)) (o.outline ++ outline) (o.numbers ++ numbers)
-            o.bytes e
-            (subst₃ (λ (x : List ℕ) (y : List Number) (z : List ℕ). IsOutlined x (o.outline ++ outline) (y ++ numbers) z) (sym whole)
-            numbered (sym i.rowed)
+        shaped = rw e (subst₃ (λ (x : List ℕ) (y : List Number) (z : List ℕ). IsOutlined x (o.outline ++ outline) (y ++ numbers) z)
+            (sym whole) numbered (sym i.rowed)
             (row_more (i.text ++ line) (o.outline ++ outline) (i.lined ++ numbers) i.rows 0 old.unshown
             (more i.text o.outline i.lined i.rows i.outlined)));
         took = Appends-trans o.taken old.taken new.taken i.written w.moved i.took w.wrote;
@@ -585,7 +518,7 @@ module _ (o : Origin) (old new : Writing) (line outline : List ℕ) (numbers : L
       subst (λ (w : Writing). IsWrittenAs w.why with_this (record w { is_begun = false })) (sym p)
       (subst (λ (y : Option ListError). IsWrittenAs y with_this (record old { is_begun = false })) (sym e)
       (short_still with_this old why false old.spot old.unshown
-      (first_short o old why line outline numbers more s (as_short o old why e i))))
+      (first_short o old why s (as_short o old why e i) line outline numbers more)))
   by_text None None e a s b p i = subst (λ (y : Option ListError). IsWrittenAs y with_this after_line) (sym a)
       (from_lines o with_this after_line refl s
       (first_grows o old after_line (in_lines o old s (as_going o old e i)) line outline numbers more b (line_pushed b p)))
@@ -598,38 +531,10 @@ module _ (o : Origin) (old new : Writing) (line outline : List ℕ) (numbers : L
       let s : o.style ≡ Lines = sym i.0 ∙ lines in
       (after ∙ sym s, by_text old.why new.why refl refl s b p i)
 
--- bytes are to be shown, where all that were to be were
-bytes_to_show : (o : Origin) (w : Writing) (bytes : List ℕ) → w.unshown ≡ [] → IsGoing o w
-    → IsGoing (with_bytes o bytes) (record w { unshown = bytes })
-bytes_to_show o w bytes e i = record {
-  written = i.written;
-  text = i.text;
-  lined = i.lined;
-  rows = i.rows;
-  line = i.line;
-  outlined = i.outlined;
-  one_line = i.one_line;
-  parts = i.parts;
-  numbered = i.numbered;
-  rowed = ap (λ (x : List ℕ). x ++ bytes) (i.rowed ∙ (ap (λ (x : List ℕ). i.rows ++ x) e ∙ append-nil i.rows));
-  took = i.took;
-  failed = i.failed;
-}
-
 module _ (o : Origin) (w : Writing) (bytes : List ℕ) (lines : w.style ≡ Lines) where
-  -- by a writer that goes on
-  pub to_show : w.why ≡ None → w.unshown ≡ [] → IsWritten o w → IsWritten (with_bytes o bytes) (record w { unshown = bytes })
-  to_show going none i =
-      let e : o.style ≡ Lines = sym i.0 ∙ lines in (
-        i.0,
-        subst (λ (y : Option ListError). IsWrittenAs y (with_bytes o bytes) (record w { unshown = bytes })) (sym going)
-            (from_lines o (with_bytes o bytes) (record w { unshown = bytes }) refl e
-            (bytes_to_show o w bytes none (in_lines o w e (as_going o w going i)))),
-      )
-
   short_by : (why : Option ListError) → is_some why ≡ true → o.style ≡ Lines → IsWrittenAs why o w → IsWrittenAs why (with_bytes o bytes) w
   short_by None s e i = cc
-  short_by (Some why) s e i = bytes_short o w why bytes e i
+  short_by (Some why) s e i = bytes_short o w why e i bytes
 
   -- by one that has stopped
   pub never_shown : is_some w.why ≡ true → IsWritten o w → IsWritten (with_bytes o bytes) w
@@ -697,17 +602,3 @@ module _ (old new : Writing) (objects : old.style ≡ Objects) (a : Adds old new
   pub first_in_objects : (line : List ℕ) → AddsFirst line old new
   first_in_objects line outline numbers e o i =
       other_lines o new (o.outline ++ outline) (o.numbers ++ numbers) o.bytes (sym i.0 ∙ objects) (a o i)
-
-  pub bytes_in_objects : (bytes : List ℕ) → AddsBytes bytes old new
-  bytes_in_objects bytes o i = other_lines o new o.outline o.numbers (o.bytes ++ bytes) (sym i.0 ∙ objects) (a o i)
-
-  pub numbers_in_objects : (numbers : List Number) → AddsThese numbers old new
-  numbers_in_objects numbers o i = other_lines o new o.outline (o.numbers ++ numbers) o.bytes (sym i.0 ∙ objects) (a o i)
-
-pub are_objects : (style : Style) → is_objects style ≡ true → style ≡ Objects
-are_objects Lines e = cc
-are_objects Objects e = refl
-
-pub are_lines : (style : Style) → is_objects style ≡ false → style ≡ Lines
-are_lines Lines e = refl
-are_lines Objects e = cc

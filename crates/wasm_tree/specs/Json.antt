@@ -5,8 +5,8 @@ use Rattle.std.specs.Prelude.{◌≡◌, ℕ, zero, suc, Bool, true, false, List
 use Rattle.std.specs.Prelude.{◌||◌}
 use Rattle.std.specs.Prelude.{if◌then◌else◌}
 use Rattle.wasm_tree.specs.Fields.{hexadecimal}
-use Rattle.wasm_tree.specs.declared.tree.Spot.{Spot}
-use Rattle.wasm_tree.specs.declared.tree.Spot.TheVariants.{Outside, Ended, InName, AtValue, InText}
+use Rattle.wasm_tree.specs.declared.objects.Spot.{Spot}
+use Rattle.wasm_tree.specs.declared.objects.Spot.TheVariants.{Outside, Ended, InName, AtValue, InText}
 
 -- what a bracket begins
 pub data Bracket : Type 0 where

@@ -5,3 +5,5 @@ pub mod Numbers
 pub mod Rows
 pub mod Said
 pub mod Tree
+pub mod Values
+pub mod Written

@@ -1,6 +1,7 @@
 -- Lines of text, some of them under others, and what a writer has written of them.
 use Rattle.std.specs.Prelude.{◌≡◌, ◌≢◌, ℕ, Bool, true, false, List, [], ◌∷◌, ◌++◌, codes, Option, Some, None}
 use Rattle.std.specs.Prelude.{Err, nat_eq, decimal, if◌then◌else◌}
+use Rattle.std.specs.Option.{unwrap_or}
 use Rattle.std.specs.List.{flat_map, list_all, list_any}
 use Rattle.std.specs.Io.KnownBytes.{Appends}
 use Rattle.wasm_base.specs.Item.{ReadsAs}
@@ -14,10 +15,10 @@ use Rattle.wasm_tree.specs.Fields.{hexadecimal, quoted, value_text}
 use Rattle.wasm_tree.specs.Numbers.{Number, blank_numbers, number_text, numbers_from, numbers_read}
 use Rattle.wasm_tree.specs.Numbers.{AreShown, AreFrom, AreUpTo}
 use Rattle.wasm_tree.specs.declared.numbers.Space.{Space}
-use Rattle.wasm_lines.specs.declared.devices.ListError.TheVariants.{Input}
+use Rattle.wasm_lines.specs.declared.devices.ListError.TheVariants.{Input, Memory}
 use Rattle.wasm_tree.specs.Json.{AreObjects, IsAt, after_all, start}
-use Rattle.wasm_tree.specs.declared.tree.Spot.{Spot}
-use Rattle.wasm_tree.specs.declared.tree.Spot.TheVariants.{Outside}
+use Rattle.wasm_tree.specs.declared.objects.Spot.{Spot}
+use Rattle.wasm_tree.specs.declared.objects.Spot.TheVariants.{Outside}
 use Rattle.wasm_tree.specs.declared.tree.Style.{Style}
 use Rattle.wasm_tree.specs.declared.tree.Style.TheVariants.{Lines, Objects}
 
@@ -127,9 +128,35 @@ pub record Writing : Type 0 where
   pub spot : Spot
   pub unshown : List ℕ
 
-abbrev pub is_objects : Style → Bool
-is_objects Lines = false
-is_objects Objects = true
+-- the part of it that is an output: a sink, and what waits for it
+pub record Put : Type 0 where
+  pub taken : Option (List ℕ)
+  pub waiting : List ℕ
+  pub has_failed : Bool
+  pub why : Option ListError
+
+-- and the rest
+pub record Rest : Type 0 where
+  pub is_begun : Bool
+  pub style : Style
+  pub spot : Spot
+  pub unshown : List ℕ
+
+abbrev pub with_rest : Rest → Put → Writing
+with_rest rest put = record {
+  taken = put.taken;
+  waiting = put.waiting;
+  is_begun = rest.is_begun;
+  has_failed = put.has_failed;
+  why = put.why;
+  style = rest.style;
+  spot = rest.spot;
+  unshown = rest.unshown;
+}
+
+-- an output that stops since an allocation failed, unless it has stopped
+abbrev pub stopped_without_memory : Put → Put
+stopped_without_memory put = record put { why = Some (unwrap_or put.why Memory) }
 
 -- a writer that has written nothing yet
 abbrev pub starts_in : Style → (taken : Option (List ℕ)) (failed : Bool) → Writing
@@ -147,6 +174,10 @@ starts_in style taken failed = record {
 -- one that writes lines
 abbrev pub starts : (taken : Option (List ℕ)) (failed : Bool) → Writing
 starts taken failed = starts_in Lines taken failed
+
+-- one that writes objects
+abbrev pub starts_objects : (taken : Option (List ℕ)) (failed : Bool) → Writing
+starts_objects taken failed = starts_in Objects taken failed
 
 -- what there was at first, in which style is written, and the outline and the numbers since, and the bytes that are to
 -- be shown

@@ -92,3 +92,16 @@ impl<A: Allocator> ItemNames<A> {
         }
     }
 }
+
+/// The name of an item, if there are names, and it has one.
+pub(crate) fn name_in(names: &Option<ItemNames>, space: Space, index: u64) -> Option<&str> {
+    match names {
+        Some(names) => names.of(space, index),
+        None => None,
+    }
+}
+
+/// The name of a function, if there is a number, and it has a name.
+pub(crate) fn function_name(names: &Option<ItemNames>, function: Option<u64>) -> Option<&str> {
+    name_in(names, Space::Functions, function?)
+}

@@ -2,13 +2,22 @@
 //! them go the numbers of items in their index spaces, and the names of items.
 #![tactic(auto)]
 
+mod escapes;
 mod gathered;
 mod known_names;
+mod lines;
 mod numbers;
+mod objects;
+mod offsets;
+mod output;
 mod rows;
+mod short;
 mod tree;
 
 pub use gathered::Gathered;
 pub use known_names::ItemNames;
+pub use lines::Lines;
 pub use numbers::{Counts, Space, import_space, write_item};
-pub use tree::{Nowhere, Style, Tree};
+pub use objects::Objects;
+pub use offsets::Offsets;
+pub use tree::{Start, Style, Tree, Value};

@@ -4,8 +4,8 @@ ghost use Rattle.wasm_tree.specs.Rows.{BeginsWithRow};
 ghost use Rattle.std.specs.List.{flat_map};
 ghost use Rattle.wasm_tree.specs.Tree.{after_blank};
 
+use crate::escapes::hexadecimal_digits;
 use crate::gathered::Gathered;
-use crate::tree::hexadecimal_digits;
 use std::alloc::{AllocError, Global};
 use std::marker::Model;
 use wasm_lines::{ShortText, write_number, write_word};

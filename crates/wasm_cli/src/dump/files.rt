@@ -12,7 +12,7 @@ use std::fs;
 use std::io::{Error, Write};
 use wasm_dumper::{Only, collect_names};
 use wasm_feed::{Ended, Failed, ListError, ReadSource, Sink, WriteSink, write_all};
-use wasm_tree::{ItemNames, Style, Tree};
+use wasm_tree::{ItemNames, Objects, Tree};
 
 /// What is shown of each file, and how.
 #[derive(Clone, Copy)]
@@ -33,7 +33,7 @@ fn write_file_object<W: Write>(
     name: &str,
     output: WriteSink<W>,
 ) -> (Result<(), ListError>, WriteSink<W>) {
-    let mut tree = Tree::with_names(alloc, output, Style::Objects, None);
+    let mut tree = Objects::new(alloc, output);
     tree.quoted("file", name);
     tree.write_out();
     let result = match tree.stopped() {

@@ -8,7 +8,7 @@ ghost use Rattle.wasm_cli.specs.Devices.{Says};
 ghost use Rattle.wasm_cli.specs.Endings.{Reports, status_of};
 ghost use Rattle.wasm_cli.specs.Colors.{plain_device, seen_as};
 ghost use Rattle.wasm_cli.specs.DumpCommands.{WantsMemory, asked_if_any, asked_of};
-ghost use Rattle.wasm_cli.specs.DumpRuns.{HandsOn, Runs, RunsDump, RunsProgram, Shows, ShowsChosen, Tells, help_text, names_usage, version_text};
+ghost use Rattle.wasm_cli.specs.DumpRuns.{DumpsAs, HandsOn, Runs, RunsDump, RunsProgram, Shows, ShowsChosen, Tells, help_text, names_usage, version_text};
 
 use super::colored::Colored;
 use super::command::{Command, chosen_by, command_asked};
@@ -21,7 +21,7 @@ use std::io::{self, Write};
 use std::process::ExitCode;
 use wasm_dumper::{Only, dump};
 use wasm_feed::{Ended, Failed, ListError, ReadSource, Sink, Source, WriteSink, write_all};
-use wasm_tree::{ItemNames, Tree};
+use wasm_tree::{ItemNames, Lines, Objects, Style};
 
 /// What `--help` says.
 const HELP: &[u8] = b"usage: wasm_dump [OPTION]... [--section ID|NAME]... [FILE]...
@@ -244,8 +244,34 @@ fn hand_on<W: Write>(
     }
 }
 
-// Shows these sections of the input, as the options say but without colours, with these names, if there are any, and hands on all
-// that was written.
+// Shows these sections of the input over a sink, as the options say but without colours, with these names, if there are any.
+fn dump_over<R: Source, S: Sink>(
+    alloc: Global,
+    only: &[Only<'_>],
+    options: Options,
+    names: Option<ItemNames>,
+    input: &mut R,
+    output: S,
+) -> (Result<Ended, ListError>, S)
+    ensures { DumpsAs options only.now (device_of R.remaining R.has_failed input.old input.new)
+        (device_of S.taken S.has_failed output result.1) result.0 }
+{
+    let shown = options.shown(only);
+    match options.style() {
+        Style::Lines => {
+            let mut tree = Lines::with_names(alloc, output, names);
+            let how = dump(alloc, shown, input, &mut tree, PIECE);
+            (how, tree.into_output())
+        }
+        Style::Objects => {
+            let mut tree = Objects::with_names(alloc, output, names);
+            let how = dump(alloc, shown, input, &mut tree, PIECE);
+            (how, tree.into_output())
+        }
+    }
+}
+
+// The same, and hands on all that was written.
 fn dump_plain<R: Source, W: Write>(
     alloc: Global,
     only: &[Only<'_>],
@@ -257,9 +283,7 @@ fn dump_plain<R: Source, W: Write>(
     ensures { RunsDump options only.now (device_of R.remaining R.has_failed input.old input.new)
         (writer_device W.contents output result.1) result.1.handed_on result.0 }
 {
-    let mut tree = Tree::with_names(alloc, output, options.style(), names);
-    let how = dump(alloc, options.shown(only), input, &mut tree, PIECE);
-    let mut output = tree.into_output();
+    let (how, mut output) = dump_over(alloc, only, options, names, input, output);
     let result = hand_on(how, &mut output);
     (result, output)
 }
@@ -276,9 +300,9 @@ fn dump_colored<R: Source, W: Write>(
     ensures { RunsDump options only.now (device_of R.remaining R.has_failed input.old input.new)
         (plain_device (writer_device W.contents output result.1)) result.1.handed_on result.0 }
 {
-    let mut tree = Tree::with_names(alloc, Colored::new(output), options.style(), names);
-    let how = dump(alloc, options.shown(only), input, &mut tree, PIECE);
-    let mut output = tree.into_output().into_inner();
+    let colored = Colored::new(output);
+    let (how, colored) = dump_over(alloc, only, options, names, input, colored);
+    let mut output = colored.into_inner();
     let result = hand_on(how, &mut output);
     (result, output)
 }

@@ -7,7 +7,7 @@ use std::test::Fail;
 use wasm_dumper::{Only, Shown, dump};
 use wasm_feed::{BoundedSink, Ended, Failed, ListError, SliceSource, Source};
 use wasm_parser::{Error, Fault};
-use wasm_tree::Tree;
+use wasm_tree::Lines;
 
 /// A module with an item in each of its sections, and names that don't ascend.
 const MODULE: &[u8] =
@@ -50,7 +50,7 @@ fn dumped<R: Source>(
     output: BoundedSink,
     piece: usize,
 ) -> (Result<Ended, ListError>, BoundedSink) {
-    let mut tree = Tree::new(alloc, output);
+    let mut tree = Lines::new(alloc, output);
     let shown = Shown {
         only,
         has_bytes: false,

@@ -3,10 +3,10 @@ use Rattle.wasm_base.specs.FaultAt.{fault_at}
 use Rattle.wasm_lines.specs.Listing.{line_of}
 use Rattle.wasm_grammar.specs.Content.{fault}
 use Rattle.wasm_grammar.specs.Reading.{stream_end}
-use Rattle.wasm_tree.proofs.ForCallers.{are_objects, first_in_objects}
+use Rattle.wasm_tree.proofs.ForCallers.{first_in_objects}
 use Rattle.wasm_dumper.proofs.events.show_last_fault.Goals as goal
 
-pub returns-then-writes_objects : goal.returns-then-writes_objects
-returns-then-writes_objects g c =
-    first_in_objects _ _ (are_objects _ (sym c.writes_objects.ensures ∙ c.if-writes_objects.true)) c.fault_object.ensures
+pub returns-in-Objects : goal.returns-in-Objects
+returns-in-Objects g c =
+    first_in_objects _ _ (sym c.style.ensures ∙ c.in-Objects.is) c.fault_object.ensures
     (line_of (stream_end (fault (fault_at c.args.error.now))))

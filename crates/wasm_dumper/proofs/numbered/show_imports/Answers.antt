@@ -10,6 +10,7 @@ use Rattle.wasm_dumper.proofs.numbered.show_imports.Goals.{in-None, in-Some+then
 
 pub loop-import-init : goal.loop-import-init
 loop-import-init g c =
+    let now = g.O.Tree.writing c.args.out.now in
     let all = import_numbers c.args.counts.now (flattened c.args.section.now.count (place c.args.section.now.reader)) in
     let copy = rw c.unwrap.ensures at c.clone.ensures.cases in
     let begins = c.into_iter-import-iterator.ensures.into_iter_gives ∙ (c.into_imports_with_offsets-import-items.ensures
@@ -17,17 +18,19 @@ loop-import-init g c =
     record {
       can = tt;
       finite = tt;
-      left = subst (λ (s : List Found). AddsAllBut all (import_numbers c.args.counts.now s) c.args.out.now c.args.out.now) (sym begins)
-          (none_shown all c.args.out.now);
+      left = subst (λ (s : List Found). AddsAllBut all (import_numbers c.args.counts.now s) now now) (sym begins)
+          (none_shown all now);
     }
 
 pub loop-import-preserved : goal.loop-import-preserved
 loop-import-preserved g c =
+    let writing = g.O.Tree.writing in
     let all = import_numbers c.args.counts.now (flattened c.args.section.now.count (place c.args.section.now.reader)) in
     record {
       can = tt;
       finite = tt;
-      left = subst (λ (q : Counts). AddsAllBut all (import_numbers q c.next.new.self) c.args.out.now c.show_import.new.out)
+      left = subst (λ (q : Counts). AddsAllBut all (import_numbers q c.next.new.self) (writing c.args.out.now)
+          (writing c.show_import.new.out))
           (sym c.show_import.ensures.counted)
           (import_shown all c.loop-import.before _ _ _ _ _ _ c.loop-import.invariant.left c.in-Some.ensures.steps
           c.show_import.ensures.shows);

@@ -9,5 +9,5 @@ invariant-loop-import g l = record {
   can : (goal.iterator-loop-import g).can_next l.import-iterator;
   finite : (goal.iterator-loop-import g).is_finite l.import-iterator;
   left : AddsAllBut (import_numbers l.fn.counts (flattened l.fn.section.count (place l.fn.section.reader)))
-      (import_numbers l.before l.import-iterator) l.initial.out l.out;
+      (import_numbers l.before l.import-iterator) (g.O.Tree.writing l.initial.out) (g.O.Tree.writing l.out);
 }

@@ -9,15 +9,15 @@ pub loop-item-init : goal.loop-item-init
 loop-item-init g c =
     let meaning = g.T.FromReader.meaning in
     let section = c.args.section.now in
+    let now = g.O.Tree.writing c.args.out.now in
     let copy = rw c.unwrap.ensures at c.clone.ensures.cases in
     let begins = c.into_iter-item-iterator.ensures.into_iter_gives ∙ (c.into_iter_with_offsets-item-items.ensures.items
     ∙ ap (λ (s : Section). all_items s) copy) in
     record {
       can = tt;
       finite = tt;
-      left = subst (λ (n : ℕ). AddsSoFar meaning c.args.space n c.of-index.result section c.into_iter-item-iterator.result c.args.out.now
-          c.args.out.now) c.of-index.ensures
-          (none_so_far meaning c.args.space c.of-index.result section _ _ (omega arith) begins);
+      left = subst (λ (n : ℕ). AddsSoFar meaning c.args.space n c.of-index.result section c.into_iter-item-iterator.result now now)
+          c.of-index.ensures (none_so_far meaning c.args.space c.of-index.result section _ _ (omega arith) begins);
     }
 
 pub loop-item-preserved-else-has_stopped : goal.loop-item-preserved-else-has_stopped

@@ -7,5 +7,5 @@ invariant-loop-item g l = record {
   can : (goal.iterator-loop-item g).can_next l.item-iterator;
   finite : (goal.iterator-loop-item g).is_finite l.item-iterator;
   left : AddsSoFar g.T.FromReader.meaning l.fn.space (count_of l.fn.counts l.fn.space) l.index l.fn.section l.item-iterator
-      l.initial.out l.out;
+      (g.O.Tree.writing l.initial.out) (g.O.Tree.writing l.out);
 }

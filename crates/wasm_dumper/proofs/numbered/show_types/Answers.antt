@@ -8,6 +8,8 @@ pub loop-ty-init : goal.loop-ty-init
 loop-ty-init g c = up_to_none Types c.args.first _ (omega arith)
 
 pub loop-ty-preserved : goal.loop-ty-preserved
-loop-ty-preserved g c = subst (λ (n : ℕ). AddsUpTo Types c.args.first n c.args.out.now c.show_type.new.out)
+loop-ty-preserved g c =
+    let writing = g.O.Tree.writing in
+    subst (λ (n : ℕ). AddsUpTo Types c.args.first n (writing c.args.out.now) (writing c.show_type.new.out))
     (sym c.saturating_add-index.ensures)
     (up_to_one Types c.args.first _ c.loop-ty.index _ _ c.loop-ty.invariant c.show_type.ensures)

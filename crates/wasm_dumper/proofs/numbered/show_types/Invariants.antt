@@ -3,4 +3,4 @@ use Rattle.wasm_tree.specs.declared.numbers.Space.TheVariants.{Types}
 use Rattle.wasm_dumper.proofs.numbered.show_types.Given as goal
 
 abbrev pub invariant-loop-ty : goal.invariant-loop-ty
-invariant-loop-ty g l = AddsUpTo Types l.first l.index l.initial.out l.out
+invariant-loop-ty g l = AddsUpTo Types l.first l.index (g.O.Tree.writing l.initial.out) (g.O.Tree.writing l.out)

@@ -9,9 +9,11 @@ use Rattle.wasm_dumper.proofs.stream.dump_into.Given as goal
 abbrev pub invariant-events : goal.invariant-events
 invariant-events g l =
     let source = g.R.Source in
+    let writing = g.O.Tree.writing in
     record {
       dumping : Dumping l.shown.only.now l.shown.has_bytes (source.remaining l.initial.input)
-          (source.remaining l.input) l.initial.out (beside (feed_of l.stored.items l.cursor) l.ahead) l.counts l.out;
+          (source.remaining l.input) (writing l.initial.out) (beside (feed_of l.stored.items l.cursor) l.ahead) l.counts
+          (writing l.out);
       input : source.has_failed l.input ≡ source.has_failed l.initial.input;
     }
 

@@ -7,7 +7,7 @@ use Rattle.wasm_dumper.proofs.stream.show_answer.Goals as goal
 pub returns-in-Ok-NeedMoreData-clause-shows : goal.returns-in-Ok-NeedMoreData-clause-shows
 returns-in-Ok-NeedMoreData-clause-shows g c begins =
     let reads : turn.Read ≡ turn_after c.args.answer.now = search rules in
-    shows_request c.args.shown.only.now c.args.shown.has_bytes c.args.counts.now c.args.answer.now c.args.out.now reads
+    shows_request c.args.shown.only.now c.args.shown.has_bytes c.args.counts.now c.args.answer.now (g.O.Tree.writing c.args.out.now) reads
 
 pub returns-in-Err-clause-shows : goal.returns-in-Err-clause-shows
 returns-in-Err-clause-shows g c begins = shows_fault c.args.shown.only.now c.args.shown.has_bytes c.args.counts.now c.args.answer.now _ _ _

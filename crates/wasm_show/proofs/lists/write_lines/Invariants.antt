@@ -1,5 +1,5 @@
-use Rattle.wasm_tree.specs.Tree.{Origin, IsWritten}
+use Rattle.wasm_tree.specs.Tree.{Adds}
 use Rattle.wasm_show.proofs.lists.write_lines.Given as goal
 
 abbrev pub invariant-loop-item : goal.invariant-loop-item
-invariant-loop-item g l = (o : Origin) → IsWritten o l.initial.out → IsWritten o l.out
+invariant-loop-item g l = Adds (g.O.Tree.writing l.initial.out) (g.O.Tree.writing l.out)

@@ -19,5 +19,5 @@ pub returns-clause-says : goal.returns-clause-says
 returns-clause-says g c =
     let at_end : c.loop-item.item-index ≡ length c.args.items.now = omega arith in
     says_all (λ x. after_blank (g.T.Text.words x)) c.args.items.now _ _
-    (subst (λ (i : ℕ). Says (flat_map (λ x. after_blank (g.T.Text.words x)) (take i c.args.items.now)) c.args.out.now c.loop-item.out)
-    at_end c.loop-item.invariant.says)
+    (subst (λ (i : ℕ). Says (flat_map (λ x. after_blank (g.T.Text.words x)) (take i c.args.items.now))
+    (g.O.Tree.writing c.args.out.now) (g.O.Tree.writing c.loop-item.out)) at_end c.loop-item.invariant.says)

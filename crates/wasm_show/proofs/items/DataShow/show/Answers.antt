@@ -10,7 +10,7 @@ returns-clause-says g c since before h =
     let d = c.args.self.now in
     let kind = c.show_data_kind.ensures.says since before h in (
       kind.0,
-      subst (λ (t : List ℕ). HasLine since t c.range.new.self) (more_fields before (data_kind_fields d.kind kind.0)
+      subst (λ (t : List ℕ). HasLine since t (g.O.Tree.writing c.range.new.self)) (more_fields before (data_kind_fields d.kind kind.0)
           (named (codes "data") (raw d.bytes.now) ∷ named (codes "range") (range d.range.start d.range.end) ∷ []))
           (c.range.ensures.says since _ (c.raw.ensures.says since _ kind.1)),
     )

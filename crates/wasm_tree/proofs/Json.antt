@@ -1,0 +1,217 @@
+-- Lines of JSON that are put together.
+use Rattle.std.proofs.Common.{◌≡◌, ℕ, zero, suc, ◌+◌, ◌<◌, ◌≤◌, ◌%◌, ◌/◌, Bool, true, false, List, [], ◌∷◌, ◌++◌, codes, refl, sym, ap}
+use Rattle.std.proofs.Common.{◌∙◌, ◌^◌, subst, nat_lt, nat_eq, decimal, arith, length, ◌&&◌, ◌||◌}
+use Rattle.std.specs.Prelude.{slice_index, if◌then◌else◌}
+use Rattle.std.specs.List.{list_all, list_any}
+use Rattle.std.proofs.lemmas.Bool.Decides.{nat_tests}
+use Rattle.std.proofs.lemmas.Fmt.{decimal_by_steps}
+use Rattle.wasm_tree.specs.Json.{Place, State, Bracket, object, array, here, start, after_all, after_byte, has_value, is_digit}
+use Rattle.wasm_tree.specs.Json.{line_start, line_end, first_name, name, colon, first_value, value, string, escape, digits_of_escape}
+use Rattle.wasm_tree.specs.Json.{after_minus, after_zero, digits, word, ended, wrong, IsAt, Leads, StaysInString, after_value}
+use Rattle.wasm_tree.specs.Json.{begins_value, escaped_byte, is_hexadecimal}
+use Rattle.wasm_tree.specs.Fields.{is_escaped}
+use Rattle.wasm_tree.specs.declared.objects.Spot.{Spot}
+use Rattle.wasm_tree.specs.declared.objects.Spot.TheVariants.{Outside, Ended, InName, AtValue, InText}
+
+-- bytes after bytes
+pub after_all-append : (s : State) (xs ys : List ℕ) → after_all s (xs ++ ys) ≡ after_all (after_all s xs) ys
+after_all-append s [] ys = refl
+after_all-append s (x ∷ xs) ys = after_all-append (after_byte s.place s.inside x) xs ys
+
+-- ---- what completes an object that was begun
+
+abbrev pub completion : Spot → List ℕ
+completion Outside = []
+completion Ended = codes "}\n"
+completion InName = codes "\":null}\n"
+completion AtValue = codes "null}\n"
+completion InText = codes "\"}\n"
+
+-- after a value comes what may stand after one, though a number has no byte that ends it
+value_over : (p : Place) (inside : List Bracket) (b : ℕ) → has_value p ≡ true → is_digit b ≡ false → after_byte p inside b
+    ≡ after_value inside b
+value_over after_zero inside b h d = refl
+value_over digits inside b h d = rw d refl
+value_over ended inside b h d = refl
+value_over other inside b h d = cc
+
+closes : (s : State) → has_value s.place ≡ true → s.inside ≡ object ∷ [] → after_all s (codes "}\n") ≡ start
+closes s h e = ap (λ (t : State). after_byte t.place t.inside 10) (value_over s.place s.inside 125 h refl
+    ∙ ap (λ (x : List Bracket). after_value x 125) e)
+
+pub completes : (spot : Spot) (s : State) → IsAt spot s → after_all s (completion spot) ≡ start
+completes Outside s e = e
+completes Ended s e = closes s e.0 e.1
+completes InName s e = rw e refl
+completes AtValue s e = rw e refl
+completes InText s e = rw e refl
+
+-- ---- strings
+
+both : (a b : Bool) → (a && b) ≡ true → (a ≡ true) × (b ≡ true)
+both true b e = (refl, e)
+both false b e = cc
+
+neither : (a b : Bool) → (a || b) ≡ false → (a ≡ false) × (b ≡ false)
+neither true b e = cc
+neither false b e = (refl, e)
+
+hexadecimal_at : (xs : List ℕ) (i : ℕ) → list_all is_hexadecimal xs ≡ true → i < length xs → is_hexadecimal (slice_index xs i) ≡ true
+hexadecimal_at [] i h l = absurd (omega arith)
+hexadecimal_at (x ∷ xs) zero h l = (both (is_hexadecimal x) (list_all is_hexadecimal xs) h).0
+hexadecimal_at (x ∷ xs) (suc i) h l = hexadecimal_at xs i (both (is_hexadecimal x) (list_all is_hexadecimal xs) h).1 (omega arith)
+
+-- in a string, which is a name or a value
+module _ (k : Bool) (inside : List Bracket) where
+  plain_stays : (b : ℕ) → nat_lt b 32 ≡ false → (nat_eq b 34 || nat_eq b 92) ≡ false
+      → after_byte (string k) inside b ≡ here (string k) inside
+  plain_stays b low e =
+      let (quote, slash) = neither (nat_eq b 34) (nat_eq b 92) e in
+      rw (quote, slash, low) refl
+
+  run_stays : (xs : List ℕ) → list_any is_escaped xs ≡ false → after_all (here (string k) inside) xs ≡ here (string k) inside
+  run_stays [] e = refl
+  run_stays (x ∷ xs) e =
+      let (first, later) = neither (is_escaped x) (list_any is_escaped xs) e in
+      let (unquoted, slash) = neither (nat_lt x 32 || nat_lt 126 x || nat_eq x 34) (nat_eq x 92) first in
+      let (within, quote) = neither (nat_lt x 32 || nat_lt 126 x) (nat_eq x 34) unquoted in
+      let low = (neither (nat_lt x 32) (nat_lt 126 x) within).0 in
+      ap (λ (s : State). after_all s xs) (plain_stays x low (rw (quote, slash) refl)) ∙ run_stays xs later
+
+  digits_stay : (high low : ℕ) → is_hexadecimal high ≡ true → is_hexadecimal low ≡ true
+      → after_all (here (string k) inside) (92 ∷ 117 ∷ 48 ∷ 48 ∷ high ∷ low ∷ []) ≡ here (string k) inside
+  digits_stay high low h l = rw (h, l) refl
+
+  quote_stays : (b : ℕ) → (nat_eq b 34 || nat_eq b 92) ≡ true → after_all (here (string k) inside) (92 ∷ b ∷ []) ≡ here (string k) inside
+  quote_stays b e = by (nat_eq b 34) refl
+    where
+      by : (x : Bool) → nat_eq b 34 ≡ x → after_all (here (string k) inside) (92 ∷ b ∷ []) ≡ here (string k) inside
+      by true q = let is : b ≡ 34 = grind (arith, nat_tests) in rw is refl
+      by false q =
+          let slash : nat_eq b 92 ≡ true = sym (ap (λ (x : Bool). x || nat_eq b 92) q) ∙ e in
+          let is : b ≡ 92 = grind (arith, nat_tests) in rw is refl
+
+  escaped_by : (b : ℕ) → b < 256 → (x y : Bool) → nat_lt b 32 ≡ x → (nat_eq b 34 || nat_eq b 92) ≡ y
+      → after_all (here (string k) inside) (escaped_byte b) ≡ here (string k) inside
+  escaped_by b h true y low e =
+      let small : b < 32 = grind (arith, nat_tests) in
+      rw low (digits_stay (slice_index (codes "0123456789abcdef") (b / 16)) (slice_index (codes "0123456789abcdef") (b % 16))
+      (hexadecimal_at (codes "0123456789abcdef") (b / 16) refl (omega arith))
+      (hexadecimal_at (codes "0123456789abcdef") (b % 16) refl (omega arith)))
+  escaped_by b h false true low e = rw (low, e) (quote_stays b e)
+  escaped_by b h false false low e = rw (low, e) (plain_stays b low e)
+
+-- what stands in a string for a byte is part of it
+pub escaped_stays : (b : ℕ) → b < 256 → StaysInString (escaped_byte b)
+escaped_stays b h InName i s e = rw e (escaped_by true (object ∷ []) b h (nat_lt b 32) (nat_eq b 34 || nat_eq b 92) refl refl)
+escaped_stays b h InText i s e = rw e (escaped_by false (object ∷ []) b h (nat_lt b 32) (nat_eq b 34 || nat_eq b 92) refl refl)
+escaped_stays b h other i s e = cc
+
+-- nor do bytes end it that stand for themselves in quotes
+pub plain_run_stays : (xs : List ℕ) → list_any is_escaped xs ≡ false → StaysInString xs
+plain_run_stays xs p InName i s e = rw e (run_stays true (object ∷ []) xs p)
+plain_run_stays xs p InText i s e = rw e (run_stays false (object ∷ []) xs p)
+plain_run_stays xs p other i s e = cc
+
+-- ---- numbers
+
+-- a number may begin at this place
+record MayBegin (p : Place) : Type 0 where
+  nothing : (inside : List Bracket) → after_byte p inside 48 ≡ here after_zero inside
+  first : (inside : List Bracket) (d : ℕ) → 0 < d → d < 10 → after_byte p inside (48 + d) ≡ here digits inside
+
+digit_is : (d : ℕ) → d < 10 → is_digit (48 + d) ≡ true
+digit_is d h =
+    let low : nat_lt 47 (48 + d) ≡ true = grind (arith, nat_tests) in
+    let high : nat_lt (48 + d) 58 ≡ true = grind (arith, nat_tests) in
+    rw (low, high) refl
+
+value_begins : (inside : List Bracket) (d : ℕ) → 0 < d → d < 10 → begins_value inside (48 + d) ≡ here digits inside
+value_begins inside d some h =
+    let a : nat_eq (48 + d) 34 ≡ false = grind (arith, nat_tests) in
+    let b : nat_eq (48 + d) 123 ≡ false = grind (arith, nat_tests) in
+    let c : nat_eq (48 + d) 91 ≡ false = grind (arith, nat_tests) in
+    let e : nat_eq (48 + d) 45 ≡ false = grind (arith, nat_tests) in
+    let f : nat_eq (48 + d) 48 ≡ false = grind (arith, nat_tests) in
+    rw (a, b, c, e, f, digit_is d h) refl
+
+begins_at_value : MayBegin value
+begins_at_value = record { nothing = λ inside. refl; first = value_begins }
+
+begins_in_array : MayBegin first_value
+begins_in_array = record {
+  nothing = λ inside. refl;
+  first = λ inside d some h. let a : nat_eq (48 + d) 93 ≡ false = grind (arith, nat_tests) in rw a (value_begins inside d some h);
+}
+
+begins_after_minus : MayBegin after_minus
+begins_after_minus = record {
+  nothing = λ inside. refl;
+  first = λ inside d some h. let a : nat_eq (48 + d) 48 ≡ false = grind (arith, nat_tests) in rw (a, digit_is d h) refl;
+}
+
+-- after a number, these brackets are open
+record IsOver (inside : List Bracket) (s : State) : Type 0 where
+  has : has_value s.place ≡ true
+  same : s.inside ≡ inside
+
+module _ (p : Place) (m : MayBegin p) where
+  abbrev Reads : ℕ → List ℕ → Type 0
+  Reads n ds = (n ≡ 0 → ds ≡ 48 ∷ []) × (0 < n → (inside : List Bracket) → after_all (here p inside) ds ≡ here digits inside)
+
+  one : (n : ℕ) → n < 10 → Reads n ((48 + n) ∷ [])
+  one n h = (λ e. rw e refl, λ some inside. m.first inside n some h)
+
+  further : (n : ℕ) (ds : List ℕ) → 10 ≤ n → Reads (n / 10) ds → Reads n (ds ++ (48 + n % 10) ∷ [])
+  further n ds h r = (
+    λ e. absurd (omega arith),
+    λ some inside. after_all-append (here p inside) ds ((48 + n % 10) ∷ [])
+        ∙ (ap (λ (s : State). after_byte s.place s.inside (48 + n % 10)) (r.1 (omega arith) inside)
+        ∙ rw (digit_is (n % 10) (omega arith)) refl),
+  )
+
+  number_by : (n : ℕ) (ds : List ℕ) → Reads n ds → (inside : List Bracket) → IsOver inside (after_all (here p inside) ds)
+  number_by zero ds r inside = rw (r.0 refl, m.nothing inside) (record { has = refl; same = refl })
+  number_by (suc n) ds r inside = rw (r.1 (omega arith) inside) (record { has = refl; same = refl })
+
+  number_over : (n : ℕ) → n < 2 ^ 64 → (inside : List Bracket) → IsOver inside (after_all (here p inside) (decimal n))
+  number_over n h inside = number_by n (decimal n) (decimal_by_steps Reads one further n h) inside
+
+pub number_leads : (n : ℕ) → n < 2 ^ 64 → Leads AtValue (decimal n) Ended
+number_leads n h s e =
+    let over = number_over value begins_at_value n h (object ∷ []) in
+    rw e (over.has, over.same)
+
+pub negative_leads : (n : ℕ) → n < 2 ^ 64 → Leads AtValue (45 ∷ decimal n) Ended
+negative_leads n h s e =
+    let over = number_over after_minus begins_after_minus n h (object ∷ []) in
+    rw e (over.has, over.same)
+
+-- a byte after a number
+after_over : (inside : List Bracket) (s : State) (b : ℕ) → IsOver inside s → is_digit b ≡ false → after_byte s.place s.inside b
+    ≡ after_value inside b
+after_over inside s b o d = value_over s.place s.inside b o.has d ∙ ap (λ (x : List Bracket). after_value x b) o.same
+
+range_over : (from to : ℕ) → from < 2 ^ 64 → to < 2 ^ 64
+    → after_all (here value (object ∷ [])) (codes "[" ++ (decimal from ++ (codes "," ++ (decimal to ++ codes "]"))))
+    ≡ here ended (object ∷ [])
+range_over from to h k =
+    let inner = array ∷ object ∷ [] in
+    let later = codes "," ++ (decimal to ++ codes "]") in
+    after_all-append (here first_value inner) (decimal from) later
+    ∙ (ap (λ (s : State). after_all s (decimal to ++ codes "]"))
+    (after_over inner (after_all (here first_value inner) (decimal from)) 44 (number_over first_value begins_in_array from h inner) refl)
+    ∙ (after_all-append (here value inner) (decimal to) (codes "]")
+    ∙ after_over inner (after_all (here value inner) (decimal to)) 93 (number_over value begins_at_value to k inner) refl))
+
+pub range_leads : (from to : ℕ) → from < 2 ^ 64 → to < 2 ^ 64
+    → Leads AtValue (codes "[" ++ (decimal from ++ (codes "," ++ (decimal to ++ codes "]")))) Ended
+range_leads from to h k s e = rw (e, range_over from to h k) (refl, refl)
+
+pub signed_leads : (negative : Bool) (n : ℕ) → n < 2 ^ 64 → Leads AtValue ((if negative then codes "-" else []) ++ decimal n) Ended
+signed_leads true n h = negative_leads n h
+signed_leads false n h = number_leads n h
+
+-- what leads from a spot leads from one that is the same
+pub leads_from : (old spot new : Spot) (text : List ℕ) → old ≡ spot → Leads spot text new → Leads old text new
+leads_from old spot new text e leads = subst (λ (s : Spot). Leads s text new) (sym e) leads

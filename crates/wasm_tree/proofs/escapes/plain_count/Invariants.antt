@@ -1,0 +1,13 @@
+use Rattle.std.proofs.Common.{◌≡◌, ◌≤◌, ◌-◌, false, take}
+use Rattle.std.specs.List.{list_any}
+use Rattle.wasm_tree.specs.Fields.{is_escaped}
+use Rattle.wasm_tree.proofs.escapes.plain_count.Given as goal
+
+abbrev pub invariant-plain : goal.invariant-plain
+invariant-plain l = record {
+  within : l.count ≤ l.most;
+  plain : list_any is_escaped (take l.count l.bytes) ≡ false;
+}
+
+abbrev pub decreases-plain : goal.decreases-plain
+decreases-plain l = l.most - l.count

@@ -1,0 +1,16 @@
+use Rattle.std.proofs.Common.{◌++◌, [], codes, option_map, true, refl}
+use Rattle.wasm_tree.specs.Tree.{name_text}
+use Rattle.wasm_tree.specs.Written.{lines}
+use Rattle.wasm_tree.proofs.Saying.{has_nothing}
+use Rattle.wasm_tree.proofs.Writing.{named_more, puts_line}
+use Rattle.wasm_tree.proofs.lines.Lines.first_with_name.Goals as goal
+
+pub returns : goal.returns
+returns g c outline numbers e o i =
+    let name = option_map (λ n. n.now) c.args.name in
+    let text = g.T.ShortText.text c.args.text.now in
+    let mid = c.rows_to_cut.new.self in
+    let since = lines (record mid { is_begun = true }) in
+    puts_line o (lines mid) (lines c.named_text.new.self) (text ++ (name_text name ++ codes "\n")) outline numbers
+    (named_more text outline numbers name e) refl c.rows_to_cut.ensures.ended refl
+    (c.named_text.ensures since [] (has_nothing since refl refl)).puts (c.rows_to_cut.ensures.adds o i)

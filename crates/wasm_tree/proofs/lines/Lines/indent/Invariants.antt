@@ -1,0 +1,6 @@
+use Rattle.wasm_tree.specs.Tree.{Adds}
+use Rattle.wasm_tree.specs.Written.{lines}
+use Rattle.wasm_tree.proofs.lines.Lines.indent.Given as goal
+
+abbrev pub invariant-loop : goal.invariant-loop
+invariant-loop g l = Adds (lines l.initial.self) (lines l.self)

@@ -1,0 +1,28 @@
+use Rattle.std.proofs.Common.{◌≡◌, List, ℕ, [], ◌∷◌, false, rules, sym, subst, append-nil}
+use Rattle.std.specs.List.{list_any}
+use Rattle.wasm_tree.specs.Fields.{is_escaped, quoted_byte}
+use Rattle.wasm_tree.proofs.Saying.{quotes_parts, plain_quoted, none_in_plain}
+use Rattle.wasm_tree.proofs.lines.Lines.quoted_bytes.Goals as goal
+
+pub runs-preserved-then-count-eq0 : goal.runs-preserved-then-count-eq0
+runs-preserved-then-count-eq0 g c =
+    let byte = c.in-Some.byte.now in
+    record {
+      adds = search rules;
+      says = λ w p. c.runs.invariant.says w (quotes_parts c.runs.rest.now (byte ∷ []) c.in-Some.later.now (quoted_byte byte) _ _ w
+          c.in-Some.ensures.cases.0 (append-nil (quoted_byte byte)) c.quoted_byte.ensures.says p);
+    }
+
+pub piece-requires-clause-one_line : goal.piece-requires-clause-one_line
+piece-requires-clause-one_line g c = none_in_plain c.split_at.result.0.now
+    (subst (λ (x : List ℕ). list_any is_escaped x ≡ false) (sym c.split_at.ensures.front) c.plain_count-count.ensures.plain)
+
+pub runs-preserved : goal.runs-preserved
+runs-preserved g c =
+    let run = c.split_at.result.0.now in
+    let plain = subst (λ (x : List ℕ). list_any is_escaped x ≡ false) (sym c.split_at.ensures.front) c.plain_count-count.ensures.plain in
+    record {
+      adds = search rules;
+      says = λ w p. c.runs.invariant.says w (quotes_parts c.runs.rest.now run c.split_at.result.1.now run _ _ w
+          c.split_at.ensures.by_index.0 (plain_quoted run plain) c.piece.ensures.says p);
+    }

@@ -1,0 +1,24 @@
+use Rattle.std.proofs.Common.{◌≡◌, ◌++◌, List, ℕ, take, drop, take-append-drop, sym, ap, refl, arith, length, ◌∙◌}
+use Rattle.std.proofs.Math.ListN.{length-drop}
+use Rattle.wasm_tree.specs.Tree.{Puts, row_text}
+use Rattle.wasm_tree.specs.Written.{lines, lines_rest}
+use Rattle.wasm_tree.proofs.Writing.{puts_row}
+use Rattle.wasm_tree.proofs.lines.Lines.rows_to.Goals as goal
+
+pub rows-smaller : goal.rows-smaller
+rows-smaller g c =
+    let left = ap (λ (x : List ℕ). length x) c.pass.ensures in
+    omega (arith, length-drop c.in-Some.count c.rows.self.rows, c.in-Some.ensures.some.some, c.in-Some.ensures.some.within)
+
+pub rows-preserved : goal.rows-preserved
+rows-preserved g c =
+    let row = c.in-Some.ensures.some in
+    let t = c.rows.self in
+    let first = take c.in-Some.count t.rows in
+    let put = rw row.row at (c.put_text.ensures (lines_rest t)) in
+    record {
+      adds = λ o i. puts_row o (lines t) _ refl c.in-Some.row.offset first c.pass.new.self c.rows.invariant.ended put
+          (sym (take-append-drop c.in-Some.count t.rows) ∙ ap (λ (x : List ℕ). first ++ x) (sym c.pass.ensures))
+          (c.rows.invariant.adds o i);
+      ended = c.rows.invariant.ended;
+    }

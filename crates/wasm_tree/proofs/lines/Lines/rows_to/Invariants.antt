@@ -1,0 +1,13 @@
+use Rattle.std.proofs.Common.{◌≡◌, false, length}
+use Rattle.wasm_tree.specs.Tree.{Adds}
+use Rattle.wasm_tree.specs.Written.{lines}
+use Rattle.wasm_tree.proofs.lines.Lines.rows_to.Given as goal
+
+abbrev pub invariant-rows : goal.invariant-rows
+invariant-rows g l = record {
+  adds : Adds (lines l.initial.self) (lines l.self);
+  ended : l.self.is_begun ≡ false;
+}
+
+abbrev pub decreases-rows : goal.decreases-rows
+decreases-rows g l = length l.self.rows

@@ -1,0 +1,8 @@
+use Rattle.std.proofs.Common.{refl}
+use Rattle.wasm_tree.specs.Written.{lines, lines_rest}
+use Rattle.wasm_tree.proofs.Writing.{ends}
+use Rattle.wasm_tree.proofs.lines.LinesTree.end.Goals as goal
+
+pub returns-clause-adds : goal.returns-clause-adds
+returns-clause-adds g c o i =
+    ends o (lines c.args.self.now) _ refl c.if-not-self.false (c.put.ensures (lines_rest c.args.self.now)) i

@@ -1,0 +1,56 @@
+-- What each tree has written.
+use Rattle.std.specs.Prelude.{◌≡◌, ℕ, Bool, true, false, List, [], ◌∷◌, ◌++◌, Option, Some, None, if◌then◌else◌}
+use Rattle.wasm_lines.specs.declared.devices.ListError.TheVariants.{Memory}
+use Rattle.wasm_tree.specs.Tree.{Rest, Writing, with_rest}
+use Rattle.wasm_tree.specs.declared.lines.Lines.{Lines}
+use Rattle.wasm_tree.specs.declared.objects.Objects.{Objects}
+use Rattle.wasm_tree.specs.declared.objects.Spot.{Spot}
+use Rattle.wasm_tree.specs.declared.objects.Spot.TheVariants.{Outside}
+use Rattle.wasm_tree.specs.declared.offsets.Offsets.{Offsets}
+use Rattle.wasm_tree.specs.declared.tree.Start.{Start}
+use Rattle.wasm_tree.specs.declared.tree.Start.TheVariants.{Item}
+use Rattle.wasm_tree.specs.declared.tree.Style.TheVariants as style
+
+-- in lines
+abbrev pub of_lines : (is_begun : Bool) → (unshown : List ℕ) → Rest
+of_lines is_begun unshown = record { is_begun = is_begun; style = style.Lines; spot = Outside; unshown = unshown }
+
+abbrev pub lines_rest : {W : Type 0} → Lines W → Rest
+lines_rest t = of_lines t.is_begun t.rows
+
+abbrev pub lines : {W : Type 0} → Lines W → Writing
+lines t = with_rest (lines_rest t) t.output
+
+-- in objects
+abbrev pub of_objects : Spot → Rest
+of_objects spot = record { is_begun = false; style = style.Objects; spot = spot; unshown = [] }
+
+abbrev pub objects_rest : {W : Type 0} → Objects W → Rest
+objects_rest t = of_objects t.spot
+
+abbrev pub objects : {W : Type 0} → Objects W → Writing
+objects t = with_rest (objects_rest t) t.output
+
+-- What only notes where items begin writes no objects.
+abbrev pub offsets : Offsets → Writing
+offsets t = with_rest (of_objects Outside) (record {
+  taken = None;
+  waiting = [];
+  has_failed = false;
+  why = if t.has_stopped then Some Memory else None;
+})
+
+-- ---- what is noted
+
+abbrev pub noted_by : Offsets → Option (List ℕ)
+noted_by t = if t.has_stopped then None else Some t.noted.items
+
+-- An offset was noted after the others, unless an allocation failed, now or before.
+abbrev pub Notes : ℕ → (old new : Offsets) → Type 0
+Notes offset old new = (noted : List ℕ) → noted_by new ≡ Some noted
+    → (before : List ℕ) × (noted_by old ≡ Some before) × (noted ≡ before ++ offset ∷ [])
+
+-- That of an item was, if the line is an item's.
+abbrev pub NotesStart : Start → (old new : Offsets) → Type 0
+NotesStart (Item offset) old new = Notes offset old new
+NotesStart other old new = new ≡ old

@@ -1,0 +1,41 @@
+// Digits and escapes of bytes.
+ghost use Rattle.std.specs.Prelude.{◌≡◌, ◌≤◌, false, length, take};
+ghost use Rattle.std.specs.List.{list_any};
+ghost use Rattle.wasm_tree.specs.Fields.{hexadecimal, is_escaped as byte_is_escaped};
+ghost use Rattle.wasm_tree.specs.Tree.{has_line_feed};
+
+/// How many bytes are put at once at most.
+pub(crate) const PAGE_BYTES: usize = 65_536;
+
+/// Whether a byte of a text in quotes is written by its digits.
+pub(crate) fn is_escaped(byte: u8) -> bool
+    ensures { result ≡ byte_is_escaped byte }
+{
+    byte < 32 || byte > 126 || byte == b'"' || byte == b'\\'
+}
+
+/// How many bytes at first stand for themselves in a text in quotes, and in a string of JSON too: at most a page of them.
+pub(crate) fn plain_count(bytes: &[u8]) -> usize
+    ensures within { result ≤ length bytes.now }
+    ensures short { result ≤ 65536 }
+    ensures plain { list_any byte_is_escaped (take result bytes.now) ≡ false }
+{
+    let most = bytes.len().min(PAGE_BYTES);
+    let mut count = 0;
+    'plain: while count < most && !is_escaped(bytes[count]) {
+        count += 1;
+    }
+    count
+}
+
+/// The two hexadecimal digits of a byte.
+pub(crate) fn hexadecimal_digits(byte: u8) -> [u8; 2]
+    ensures digits { result ≡ hexadecimal byte }
+    ensures one_line { has_line_feed result ≡ false }
+{
+    let digits = b"0123456789abcdef";
+    [
+        digits[usize::from(byte / 16)],
+        digits[usize::from(byte % 16)],
+    ]
+}

@@ -1,0 +1,395 @@
+// Lines of text, some of them under others.
+ghost use Rattle.std.specs.Prelude.{◌≡◌, ◌≤◌, ◌++◌, [], None, true, false, codes, length, option_map, decimal};
+ghost use Rattle.std.specs.List.{flat_map};
+ghost use Rattle.std.specs.Option.{is_some};
+ghost use Rattle.wasm_tree.specs.Fields.{alone, field_start, field_text, named, quoted_byte, value_text};
+ghost use Rattle.wasm_tree.specs.Said.{Says, SaysSome};
+ghost use Rattle.wasm_tree.specs.Tree.{Adds, AddsBytes, AddsFirst, IsOut, has_line_feed, name_text, starts};
+ghost use Rattle.wasm_tree.specs.Values.{breaks_line, value_of};
+ghost use Rattle.wasm_tree.specs.Written.{lines};
+
+use crate::escapes::{PAGE_BYTES, hexadecimal_digits, is_escaped, plain_count};
+use crate::known_names::{ItemNames, function_name, name_in};
+use crate::numbers::{ItemNumber, Space};
+use crate::output::Output;
+use crate::rows::Rows;
+use crate::short::{flag_word, signed_of};
+use crate::tree::{Start, Style, Tree, Value};
+use std::alloc::Global;
+use wasm_lines::{ListError, ShortText, Sink};
+
+/// Writes lines of text, each one under another by two blanks a level. They wait until there are many, so that the sink is called
+/// seldom.
+///
+/// Items that have a name have it after their numbers, and the bytes of the stream are in rows before the lines that are read from
+/// them, if they are to be shown.
+pub struct Lines<W: Sink> {
+    output: Output<W>,
+    is_begun: bool,
+    names: Option<ItemNames>,
+    rows: Rows,
+}
+
+impl<W: Sink> Lines<W> {
+    /// Writes lines to this sink. Nothing is written yet.
+    pub fn new(alloc: Global, output: W) -> Lines<W>
+        ensures { lines result ≡ starts (W.taken output) (W.has_failed output) }
+    {
+        Lines::with_names(alloc, output, None)
+    }
+
+    /// Like `new`, with these names of items, if there are any.
+    pub fn with_names(alloc: Global, output: W, names: Option<ItemNames>) -> Lines<W>
+        ensures { lines result ≡ starts (W.taken output) (W.has_failed output) }
+    {
+        Lines {
+            output: Output::new(alloc, output),
+            is_begun: false,
+            names,
+            rows: Rows::new(alloc),
+        }
+    }
+
+    /// The sink, with what was written to it. What waits is not.
+    pub fn into_output(self) -> W
+        ensures taken { W.taken result ≡ (lines self).taken }
+        ensures failed { W.has_failed result ≡ (lines self).has_failed }
+    {
+        let Lines {
+            output,
+            is_begun: _,
+            names: _,
+            rows: _,
+        } = self;
+        output.into_sink()
+    }
+
+    /// How many bytes wait to be written: never more than 65,536.
+    pub fn waits(&self) -> usize
+        ensures waits { result ≡ length (lines self.now).waiting }
+        ensures bounded { result ≤ 65536 }
+    {
+        self.output.waits()
+    }
+
+    /// Writes a line of the first level, which has its line feed, and at most 65,536 bytes. It may end with numbers of items.
+    pub fn first(&mut self, line: &[u8])
+        requires { length line.now ≤ 65536 }
+        ensures { AddsFirst line.now (lines self.old) (lines self.new) }
+    {
+        self.rows_to_cut();
+        self.output.put(line);
+    }
+
+    // Writes a line of the first level, with a name after its text, if there is one.
+    fn first_with_name<T: ShortText>(&mut self, text: &T, name: Option<&str>)
+        ensures { AddsFirst (T.text text.now ++ codes "\n") (lines self.old) (lines self.new) }
+    {
+        self.rows_to_cut();
+        self.is_begun = true;
+        self.named_text(text, name);
+        self.is_begun = false;
+    }
+
+    // Puts a text, a name, if there is one, and the line feed.
+    fn named_text<T: ShortText>(&mut self, text: &T, name: Option<&str>)
+        ensures { Says (T.text text.now ++ (name_text (option_map (λ n. n.now) name.entry)
+            ++ codes "\n")) (lines self.old) (lines self.new) }
+    {
+        self.output.put_text(text);
+        self.name_in_quotes(name);
+        self.output.put(b"\n");
+    }
+
+    // Puts a name in quotes after a blank, if there is one.
+    fn name_in_quotes(&mut self, name: Option<&str>)
+        ensures adds { Adds (lines self.old) (lines self.new) }
+        ensures says { Says (name_text (option_map (λ n. n.now) name.entry))
+            (lines self.old) (lines self.new) }
+    {
+        if let Some(name) = name {
+            self.bytes(b" ");
+            self.in_quotes(name);
+        }
+    }
+
+    // Begins a line, if none is begun.
+    fn begin(&mut self)
+        ensures adds { Adds (lines self.old) (lines self.new) }
+        ensures begun { self.new.is_begun ≡ true }
+        ensures same { self.old.is_begun ≡ true → self.new ≡ self.old }
+    {
+        if self.is_begun {
+            return;
+        }
+        self.output.put(b"  ");
+        self.is_begun = true;
+    }
+
+    // Writes bytes, at most a page of them, on the line that is begun.
+    fn piece(&mut self, bytes: &[u8])
+        requires short { length bytes.now ≤ 65536 }
+        requires one_line { has_line_feed bytes.now ≡ false }
+        ensures adds { Adds (lines self.old) (lines self.new) }
+        ensures says { Says bytes.now (lines self.old) (lines self.new) }
+        ensures some { SaysSome (lines self.old) (lines self.new) }
+    {
+        self.begin();
+        self.output.put(bytes);
+    }
+
+    // Writes a short text on the line that is begun.
+    fn short<T: ShortText>(&mut self, text: &T)
+        requires one_line { has_line_feed (T.text text.now) ≡ false }
+        ensures adds { Adds (lines self.old) (lines self.new) }
+        ensures says { Says (T.text text.now) (lines self.old) (lines self.new) }
+        ensures some { SaysSome (lines self.old) (lines self.new) }
+    {
+        self.begin();
+        self.output.put_text(text);
+    }
+
+    // Writes a byte of a text in quotes.
+    fn quoted_byte(&mut self, byte: u8)
+        ensures adds { Adds (lines self.old) (lines self.new) }
+        ensures says { Says (quoted_byte byte) (lines self.old) (lines self.new) }
+    {
+        if is_escaped(byte) {
+            self.bytes(b"\\");
+            self.bytes(&hexadecimal_digits(byte));
+        } else {
+            self.bytes(&[byte]);
+        }
+    }
+
+    // Writes the bytes of a text in quotes: those that stand for themselves as many at once as come together.
+    fn quoted_bytes(&mut self, bytes: &[u8])
+        ensures adds { Adds (lines self.old) (lines self.new) }
+        ensures says { Says (flat_map quoted_byte bytes.now) (lines self.old) (lines self.new) }
+    {
+        let mut rest = bytes;
+        'runs: while let Some((byte, later)) = rest.split_first() {
+            let count = plain_count(rest);
+            if count == 0 {
+                self.quoted_byte(*byte);
+                rest = later;
+            } else {
+                let (plain, others) = rest.split_at(count);
+                self.piece(plain);
+                rest = others;
+            }
+        }
+    }
+
+    // Writes a text in quotes.
+    fn in_quotes(&mut self, text: &str)
+        ensures adds { Adds (lines self.old) (lines self.new) }
+        ensures says { Says (codes "\"" ++ (flat_map quoted_byte text.now ++ codes "\""))
+            (lines self.old) (lines self.new) }
+    {
+        self.bytes(b"\"");
+        self.quoted_bytes(text.as_bytes());
+        self.bytes(b"\"");
+    }
+
+    // Writes a range of offsets.
+    fn offsets(&mut self, start: u64, end: u64)
+        ensures adds { Adds (lines self.old) (lines self.new) }
+        ensures says { Says (decimal start ++ (codes ".." ++ decimal end))
+            (lines self.old) (lines self.new) }
+    {
+        self.digits(start);
+        self.bytes(b"..");
+        self.digits(end);
+    }
+
+    // Writes the value of a field.
+    fn value(&mut self, value: Value<'_>)
+        requires one_line { breaks_line value ≡ false }
+        ensures adds { Adds (lines self.old) (lines self.new) }
+        ensures says { Says (value_text (value_of value.entry)) (lines self.old) (lines self.new) }
+    {
+        match value {
+            Value::Number(number) => self.digits(number),
+            Value::Signed(number) => self.short(&signed_of(number)),
+            Value::Flag(flag) => self.bytes(flag_word(flag).as_bytes()),
+            Value::Word(word) => self.bytes(word.as_bytes()),
+            Value::Quoted(text) => self.in_quotes(text),
+            Value::Range(start, end) => self.offsets(start, end),
+            Value::Nothing => self.bytes(b"none"),
+        }
+    }
+
+    // Begins a line at this level.
+    fn indent(&mut self, level: usize)
+        ensures { Adds (lines self.old) (lines self.new) }
+    {
+        self.begin();
+        for _ in 1..level {
+            self.bytes(b"  ");
+        }
+    }
+
+    // Shows the bytes in rows that end at this offset at the latest, or all.
+    fn rows_to(&mut self, end: Option<u64>)
+        requires ended { self.old.is_begun ≡ false }
+        ensures adds { Adds (lines self.old) (lines self.new) }
+        ensures ended { self.new.is_begun ≡ false }
+        ensures all { end ≡ None → self.new.rows ≡ [] }
+    {
+        'rows: while let Some((row, count)) = self.rows.next_row(end) {
+            self.output.put_text(&row);
+            self.rows.pass(count);
+        }
+    }
+
+    // Ends the line that is begun, and shows the bytes up to the next item.
+    fn rows_to_cut(&mut self)
+        ensures adds { Adds (lines self.old) (lines self.new) }
+        ensures ended { self.new.is_begun ≡ false }
+    {
+        self.end();
+        let end = self.rows.next_cut();
+        self.rows_to(end);
+    }
+
+    // Ends the line that is begun, and shows all bytes that are left.
+    fn rows_to_end(&mut self)
+        ensures adds { Adds (lines self.old) (lines self.new) }
+        ensures ended { self.new.is_begun ≡ false }
+        ensures all { self.new.rows ≡ [] }
+    {
+        self.end();
+        self.rows_to(None);
+    }
+}
+
+impl<W: Sink> Tree for Lines<W> {
+    ghost writing = { λ t. lines t };
+
+    fn stopped(&self) -> Option<ListError> {
+        self.output.stopped()
+    }
+
+    fn style(&self) -> Style {
+        Style::Lines
+    }
+
+    fn out_of_memory(&mut self) {
+        self.output.out_of_memory();
+    }
+
+    fn write_out(&mut self)
+        ensures adds { Adds (lines self.old) (lines self.new) }
+        ensures out { IsOut (lines self.new) }
+    {
+        self.rows_to_end();
+        self.output.write_out();
+    }
+
+    fn end(&mut self) {
+        if !self.is_begun {
+            return;
+        }
+        self.output.put(b"\n");
+        self.is_begun = false;
+    }
+
+    fn begin_line(&mut self, level: usize, start: Start<'_>) {
+        if let Start::Item(_) = start {
+            self.rows_to_cut();
+        }
+        self.end();
+        self.indent(level);
+        match start {
+            Start::Empty => {}
+            Start::Item(offset) => self.digits(offset),
+            Start::Word(word) => self.bytes(word.as_bytes()),
+            Start::Field(name) => {
+                self.bytes(name.as_bytes());
+                self.bytes(b"=");
+            }
+        }
+    }
+
+    fn bytes(&mut self, bytes: &[u8])
+        requires one_line { has_line_feed bytes.now ≡ false }
+        ensures adds { Adds (lines self.old) (lines self.new) }
+        ensures says { Says bytes.now (lines self.old) (lines self.new) }
+        ensures some { SaysSome (lines self.old) (lines self.new) }
+    {
+        let mut rest = bytes;
+        'pieces: while rest.len() > PAGE_BYTES {
+            let (first, later) = rest.split_at(PAGE_BYTES);
+            self.piece(first);
+            rest = later;
+        }
+        self.piece(rest);
+    }
+
+    fn digits(&mut self, number: u64) {
+        self.short(&number);
+    }
+
+    fn begin_field(&mut self, name: &str)
+        requires one_line { has_line_feed name.now ≡ false }
+        ensures adds { Adds (lines self.old) (lines self.new) }
+        ensures says { Says (field_start name.now) (lines self.old) (lines self.new) }
+        ensures some { SaysSome (lines self.old) (lines self.new) }
+    {
+        self.bytes(b" ");
+        self.bytes(name.as_bytes());
+        self.bytes(b"=");
+    }
+
+    fn field(&mut self, name: &str, value: Value<'_>)
+        requires name_line { has_line_feed name.now ≡ false }
+        requires value_line { breaks_line value ≡ false }
+        ensures adds { Adds (lines self.old) (lines self.new) }
+        ensures says { Says (field_text (named name.now (value_of value.entry)))
+            (lines self.old) (lines self.new) }
+    {
+        self.begin_field(name);
+        self.value(value);
+    }
+
+    fn label(&mut self, _name: &str, word: &str)
+        requires word_line { has_line_feed word.now ≡ false }
+        ensures adds { Adds (lines self.old) (lines self.new) }
+        ensures says { Says (field_text (alone word.now)) (lines self.old) (lines self.new) }
+    {
+        self.bytes(b" ");
+        self.bytes(word.as_bytes());
+    }
+
+    fn item_number(&mut self, space: Space, index: u64) {
+        self.begin();
+        self.output.put_text(&ItemNumber { space, index });
+        self.item_name(space, index);
+    }
+
+    fn item_name(&mut self, space: Space, index: u64) {
+        let names = self.names.take();
+        self.name_in_quotes(name_in(&names, space, index));
+        self.names = names;
+    }
+
+    fn first_of_function<T: ShortText>(&mut self, text: &T, function: Option<u64>) {
+        let names = self.names.take();
+        self.first_with_name(text, function_name(&names, function));
+        self.names = names;
+    }
+
+    fn begin_part(&mut self, alloc: Global, offset: u64, bytes: &[u8], cuts: Vec<u64>)
+        ensures { AddsBytes bytes.now (lines self.old) (lines self.new) }
+    {
+        self.rows_to_end();
+        if self.output.stopped().is_some() {
+            return;
+        }
+        match Rows::of(alloc, offset, bytes, cuts) {
+            Ok(rows) => self.rows = rows,
+            Err(_) => self.output.out_of_memory(),
+        }
+    }
+}

@@ -1,0 +1,314 @@
+// Lines of JSON, each an object.
+ghost use Rattle.std.specs.Prelude.{◌≡◌, ◌≤◌, ◌<◌, length, true};
+ghost use Rattle.wasm_tree.specs.Json.{escaped_byte, is_in_string, Leads};
+ghost use Rattle.wasm_tree.specs.Tree.{Adds, starts_objects};
+ghost use Rattle.wasm_tree.specs.Written.{objects};
+ghost use Rattle.wasm_tree.specs.declared.objects.Spot.TheVariants.{Outside, Ended, InName, AtValue, InText};
+
+use crate::escapes::{hexadecimal_digits, plain_count};
+use crate::known_names::{ItemNames, name_in};
+use crate::numbers::{Space, space_word};
+use crate::output::Output;
+use crate::short::{Two, flag_word, signed_of};
+use crate::tree::{Start, Style, Tree, Value};
+use std::alloc::Global;
+use wasm_lines::{ListError, ShortText, Sink};
+
+/// Where a tree of objects is.
+#[derive(Clone, Copy)]
+pub(crate) enum Spot {
+    /// Before an object.
+    Outside,
+    /// In an object, after a member.
+    Ended,
+    /// In the name of a member.
+    InName,
+    /// Before the value of a member.
+    AtValue,
+    /// In a text, which is the value of a member.
+    InText,
+}
+
+// What leads into the name of the next member.
+fn before_name(spot: Spot) -> &'static str
+    ensures leads { Leads spot result.now InName }
+    ensures short { length result.now ≤ 8 }
+{
+    match spot {
+        Spot::Outside => "{\"",
+        Spot::Ended => ",\"",
+        Spot::InName => "\":null,\"",
+        Spot::AtValue => "null,\"",
+        Spot::InText => "\",\"",
+    }
+}
+
+// What ends the line.
+fn after_last(spot: Spot) -> &'static str
+    ensures leads { Leads spot result.now Outside }
+    ensures short { length result.now ≤ 8 }
+{
+    match spot {
+        Spot::Outside => "",
+        Spot::Ended => "}\n",
+        Spot::InName => "\":null}\n",
+        Spot::AtValue => "null}\n",
+        Spot::InText => "\"}\n",
+    }
+}
+
+// What stands in a string for a byte that can't stand there itself.
+fn control_escape(byte: u8) -> [u8; 6]
+    requires { byte < 32 }
+    ensures { result ≡ escaped_byte byte }
+{
+    let digits = hexadecimal_digits(byte);
+    [b'\\', b'u', b'0', b'0', digits[0], digits[1]]
+}
+
+/// Writes objects of JSON, each on a line. They wait until there are many, so that the sink is called seldom.
+///
+/// An object has a member for each field; texts outside of fields are left out.
+pub struct Objects<W: Sink> {
+    output: Output<W>,
+    spot: Spot,
+    names: Option<ItemNames>,
+}
+
+impl<W: Sink> Objects<W> {
+    /// Writes objects to this sink. Nothing is written yet.
+    pub fn new(alloc: Global, output: W) -> Objects<W>
+        ensures { objects result ≡ starts_objects (W.taken output) (W.has_failed output) }
+    {
+        Objects::with_names(alloc, output, None)
+    }
+
+    /// Like `new`, with these names of items, if there are any.
+    pub fn with_names(alloc: Global, output: W, names: Option<ItemNames>) -> Objects<W>
+        ensures { objects result ≡ starts_objects (W.taken output) (W.has_failed output) }
+    {
+        Objects {
+            output: Output::new(alloc, output),
+            spot: Spot::Outside,
+            names,
+        }
+    }
+
+    /// The sink, with what was written to it. What waits is not.
+    pub fn into_output(self) -> W
+        ensures taken { W.taken result ≡ (objects self).taken }
+        ensures failed { W.has_failed result ≡ (objects self).has_failed }
+    {
+        let Objects {
+            output,
+            spot: _,
+            names: _,
+        } = self;
+        output.into_sink()
+    }
+
+    /// How many bytes wait to be written: never more than 65,536.
+    pub fn waits(&self) -> usize
+        ensures waits { result ≡ length (objects self.now).waiting }
+        ensures bounded { result ≤ 65536 }
+    {
+        self.output.waits()
+    }
+
+    // Puts bytes that lead to this spot.
+    fn put(&mut self, bytes: &[u8], spot: Spot)
+        requires short { length bytes.now ≤ 65536 }
+        requires leads { Leads self.old.spot bytes.now spot }
+        ensures adds { Adds (objects self.old) (objects self.new) }
+        ensures spot { self.new.spot ≡ spot }
+    {
+        self.output.put(bytes);
+        self.spot = spot;
+    }
+
+    // Puts a text that leads to this spot.
+    fn short<T: ShortText>(&mut self, text: &T, spot: Spot)
+        requires leads { Leads self.old.spot (T.text text.now) spot }
+        ensures adds { Adds (objects self.old) (objects self.new) }
+        ensures spot { self.new.spot ≡ spot }
+    {
+        self.output.put_text(text);
+        self.spot = spot;
+    }
+
+    // Puts what stands for a byte of a string.
+    fn put_escaped(&mut self, byte: u8)
+        requires in_string { is_in_string self.old.spot ≡ true }
+        ensures adds { Adds (objects self.old) (objects self.new) }
+        ensures spot { self.new.spot ≡ self.old.spot }
+    {
+        let spot = self.spot;
+        if byte < 32 {
+            self.put(&control_escape(byte), spot);
+        } else if byte == b'"' || byte == b'\\' {
+            self.put(&[b'\\', byte], spot);
+        } else {
+            self.put(&[byte], spot);
+        }
+    }
+
+    // Puts more of a string.
+    fn put_string(&mut self, bytes: &[u8])
+        requires in_string { is_in_string self.old.spot ≡ true }
+        ensures adds { Adds (objects self.old) (objects self.new) }
+        ensures spot { self.new.spot ≡ self.old.spot }
+    {
+        let mut rest = bytes;
+        'runs: while let Some((byte, later)) = rest.split_first() {
+            let count = plain_count(rest);
+            if count == 0 {
+                self.put_escaped(*byte);
+                rest = later;
+            } else {
+                let (plain, others) = rest.split_at(count);
+                let spot = self.spot;
+                self.put(plain, spot);
+                rest = others;
+            }
+        }
+    }
+
+    // Begins a member, after which its value is to come. An object is begun if none is.
+    fn begin_member(&mut self, name: &str)
+        ensures adds { Adds (objects self.old) (objects self.new) }
+        ensures spot { self.new.spot ≡ AtValue }
+    {
+        let before = before_name(self.spot);
+        self.put(before.as_bytes(), Spot::InName);
+        self.put_string(name.as_bytes());
+        self.put(b"\":", Spot::AtValue);
+    }
+
+    // Puts a text as the value that is to come. More of it may come.
+    fn begin_text(&mut self, text: &str)
+        requires { self.old.spot ≡ AtValue }
+        ensures { Adds (objects self.old) (objects self.new) }
+    {
+        self.put(b"\"", Spot::InText);
+        self.put_string(text.as_bytes());
+    }
+
+    // Puts a number as the value that is to come.
+    fn decimal(&mut self, number: u64)
+        requires { self.old.spot ≡ AtValue }
+        ensures { Adds (objects self.old) (objects self.new) }
+    {
+        self.short(&number, Spot::Ended);
+    }
+
+    // Puts an array of two numbers as the value that is to come.
+    fn pair(&mut self, first: u64, second: u64)
+        requires { self.old.spot ≡ AtValue }
+        ensures { Adds (objects self.old) (objects self.new) }
+    {
+        self.short(&Two { first, second }, Spot::Ended);
+    }
+
+    // Puts the value that is to come.
+    fn value(&mut self, value: Value<'_>)
+        requires { self.old.spot ≡ AtValue }
+        ensures { Adds (objects self.old) (objects self.new) }
+    {
+        match value {
+            Value::Number(number) => self.decimal(number),
+            Value::Signed(number) => self.short(&signed_of(number), Spot::Ended),
+            Value::Flag(flag) => self.put(flag_word(flag).as_bytes(), Spot::Ended),
+            Value::Word(text) | Value::Quoted(text) => self.begin_text(text),
+            Value::Range(start, end) => self.pair(start, end),
+            Value::Nothing => self.put(b"null", Spot::Ended),
+        }
+    }
+
+    // A member with this value.
+    fn member(&mut self, name: &str, value: Value<'_>)
+        ensures { Adds (objects self.old) (objects self.new) }
+    {
+        self.begin_member(name);
+        self.value(value);
+    }
+}
+
+#[tactic(auto, using(crate::proofs::Saying::says_never, crate::proofs::Saying::says_none_ever))]
+impl<W: Sink> Tree for Objects<W> {
+    ghost writing = { λ t. objects t };
+
+    fn stopped(&self) -> Option<ListError> {
+        self.output.stopped()
+    }
+
+    fn style(&self) -> Style {
+        Style::Objects
+    }
+
+    fn out_of_memory(&mut self) {
+        self.output.out_of_memory();
+    }
+
+    fn write_out(&mut self) {
+        self.end();
+        self.output.write_out();
+    }
+
+    fn end(&mut self) {
+        let after = after_last(self.spot);
+        self.put(after.as_bytes(), Spot::Outside);
+    }
+
+    fn begin_line(&mut self, level: usize, start: Start<'_>) {
+        self.end();
+        self.member("level", Value::Number(level as u64));
+        match start {
+            Start::Empty => {}
+            Start::Item(offset) => self.member("at", Value::Number(offset)),
+            Start::Word(word) => self.member("line", Value::Word(word)),
+            Start::Field(name) => self.member(name, Value::Word("")),
+        }
+    }
+
+    fn bytes(&mut self, bytes: &[u8]) {
+        if let Spot::InText = self.spot {
+            self.put_string(bytes);
+        }
+    }
+
+    fn digits(&mut self, number: u64) {
+        if let Spot::InText = self.spot {
+            self.short(&number, Spot::InText);
+        }
+    }
+
+    fn begin_field(&mut self, name: &str) {
+        self.member(name, Value::Word(""));
+    }
+
+    fn field(&mut self, name: &str, value: Value<'_>) {
+        self.member(name, value);
+    }
+
+    fn label(&mut self, name: &str, word: &str) {
+        self.member(name, Value::Word(word));
+    }
+
+    fn item_number(&mut self, space: Space, index: u64) {
+        self.member("space", Value::Word(space_word(space)));
+        self.member("number", Value::Number(index));
+        self.item_name(space, index);
+    }
+
+    fn item_name(&mut self, space: Space, index: u64) {
+        let names = self.names.take();
+        if let Some(name) = name_in(&names, space, index) {
+            self.member("item_name", Value::Quoted(name));
+        }
+        self.names = names;
+    }
+
+    fn first_of_function<T: ShortText>(&mut self, _text: &T, _function: Option<u64>) {}
+
+    fn begin_part(&mut self, _alloc: Global, _offset: u64, _bytes: &[u8], _cuts: Vec<u64>) {}
+}

@@ -1,0 +1,97 @@
+// Where items begin.
+ghost use Rattle.std.specs.Prelude.{◌≡◌, [], Some, option_map};
+ghost use Rattle.wasm_tree.specs.Tree.{Adds};
+ghost use Rattle.wasm_tree.specs.Written.{Notes, NotesStart, noted_by, offsets};
+
+use crate::numbers::Space;
+use crate::tree::{Start, Style, Tree, Value};
+use std::alloc::Global;
+use wasm_lines::{ListError, ShortText};
+
+/// Writes nothing, and notes where items begin.
+#[derive(Drop)]
+pub struct Offsets {
+    noted: Vec<u64>,
+    has_stopped: bool,
+}
+
+impl Offsets {
+    /// None yet.
+    pub fn new(alloc: Global) -> Offsets
+        ensures { noted_by result ≡ Some [] }
+    {
+        Offsets {
+            noted: Vec::new(alloc),
+            has_stopped: false,
+        }
+    }
+
+    /// The offsets in the whole stream at which items began, in the order of their lines; `None` where an allocation failed.
+    pub fn into_noted(self) -> Option<Vec<u64>>
+        ensures { option_map (λ noted. noted.items) result ≡ noted_by self }
+    {
+        let Offsets { noted, has_stopped } = self;
+        if has_stopped { None } else { Some(noted) }
+    }
+
+    // Notes where an item begins.
+    fn note(&mut self, offset: u64)
+        ensures { Notes offset self.old self.new }
+    {
+        if self.noted.push(offset).is_err() {
+            self.has_stopped = true;
+        }
+    }
+}
+
+#[tactic(auto, using(crate::proofs::Saying::says_never, crate::proofs::Saying::says_none_ever))]
+impl Tree for Offsets {
+    ghost writing = { λ t. offsets t };
+
+    fn stopped(&self) -> Option<ListError> {
+        if self.has_stopped {
+            Some(ListError::Memory)
+        } else {
+            None
+        }
+    }
+
+    fn style(&self) -> Style {
+        Style::Objects
+    }
+
+    fn out_of_memory(&mut self) {
+        self.has_stopped = true;
+    }
+
+    fn write_out(&mut self) {}
+
+    fn end(&mut self) {}
+
+    fn begin_line(&mut self, _level: usize, start: Start<'_>)
+        ensures adds { Adds (offsets self.old) (offsets self.new) }
+        ensures notes { NotesStart start.entry self.old self.new }
+    {
+        if let Start::Item(offset) = start {
+            self.note(offset);
+        }
+    }
+
+    fn bytes(&mut self, _bytes: &[u8]) {}
+
+    fn digits(&mut self, _number: u64) {}
+
+    fn begin_field(&mut self, _name: &str) {}
+
+    fn field(&mut self, _name: &str, _value: Value<'_>) {}
+
+    fn label(&mut self, _name: &str, _word: &str) {}
+
+    fn item_number(&mut self, _space: Space, _index: u64) {}
+
+    fn item_name(&mut self, _space: Space, _index: u64) {}
+
+    fn first_of_function<T: ShortText>(&mut self, _text: &T, _function: Option<u64>) {}
+
+    fn begin_part(&mut self, _alloc: Global, _offset: u64, _bytes: &[u8], _cuts: Vec<u64>) {}
+}
