@@ -217,115 +217,94 @@ module _ (text_of : Report → List ℕ) where
             rw s.eof (omega (arith, ends_at, o, n, some, given_below (Parsed bytes payload) s)),
           )
 
-    -- ---- the turns
+      -- ---- the turns
 
-    module _ (g : Feed) (x : Result Step Error) (s : Steps f x g) (written' : Option (List ℕ)) (page' : List ℕ)
-        (w : PutsBytes written written' page (text_after text_of x) page') where
       -- an event that isn't the last one: there is less to consume
-      pub advanced : turn.Advance ≡ turn_after x → Progress text_of (from_to source rest) (from_to taken written') g page'
-          × (weight g < weight f)
-      advanced t = by_answer x refl t
+      pub advanced : (x : Result Step Error) (s : Steps f x g) (written' : Option (List ℕ)) (page' : List ℕ)
+          → PutsBytes written written' page (text_after text_of x) page' → turn.Advance ≡ turn_after x
+          → Progress text_of (from_to source rest) (from_to taken written') g page' × (weight g < weight f)
+      advanced (Ok (Parsed bytes payload)) s written' page' w t = by_end (is_end (report_of payload)) refl t
         where
-          by_end : (bytes : _) (payload : Payload) (b : Bool) → is_end (report_of payload) ≡ b → turn.Advance
-              ≡ (if b then turn.End End else turn.Advance) → x ≡ Ok (Parsed bytes payload)
+          by_end : (b : Bool) → is_end (report_of payload) ≡ b → turn.Advance ≡ (if b then turn.End End else turn.Advance)
               → Progress text_of (from_to source rest) (from_to taken written') g page' × (weight g < weight f)
-          by_end bytes payload true e t is = cc
-          by_end bytes payload false e t is =
-              let s' = subst (λ y. Steps f y g) is s in
-              went_on g bytes payload s' e written' page' (rw is at w)
-
-          by_answer : (y : Result Step Error) → x ≡ y → turn.Advance ≡ turn_after y
-              → Progress text_of (from_to source rest) (from_to taken written') g page'
-              × (weight g < weight f)
-          by_answer (Ok (NeedMoreData hint)) is t = cc
-          by_answer (Ok (Parsed bytes payload)) is t = search by_end
-          by_answer (Err e) is t = cc
+          by_end true e t = cc
+          by_end false e t = went_on bytes payload s e written' page' w
+      advanced _ s written' page' w t = cc
 
       -- a request: the parser is undecided
-      pub asked : turn.Read ≡ turn_after x → Wants text_of (from_to source rest) (from_to taken written') g page' × (weight g ≡ weight f)
-      asked t = by_answer x refl t
+      pub asked : (x : Result Step Error) (s : Steps f x g) (written' : Option (List ℕ)) (page' : List ℕ)
+          → PutsBytes written written' page (text_after text_of x) page' → turn.Read ≡ turn_after x
+          → Wants text_of (from_to source rest) (from_to taken written') g page' × (weight g ≡ weight f)
+      asked (Ok (NeedMoreData hint)) s written' page' w t =
+          let l = given_below (NeedMoreData hint) s in
+          let (u, a) = stepped (Ok (NeedMoreData hint)) s l in
+          let stays : g.state ≡ f.state = cc in (
+            record {
+              progress = record {
+                given = p.given;
+                events = p.events;
+                is_along = a;
+                gave = p.gave;
+                at_end = λ e. p.at_end (sym s.eof ∙ e);
+                lines = p.lines ++ w.moved;
+                listed = search Appends-trans;
+                parts = p.parts ∙ (ap (λ (z : List ℕ). p.lines ++ z) (sym (append-nil page) ∙ w.waits)
+                    ∙ sym (append_assoc p.lines w.moved page'));
+              };
+              hint = hint;
+              undecided = rw s.eof u;
+              below = l;
+            },
+            rw (stays, sym s.shows, s.eof) refl,
+          )
+      asked (Ok (Parsed bytes payload)) s written' page' w t = absurd (by_end (is_end (report_of payload)) t)
         where
           by_end : (b : Bool) → turn.Read ≡ (if b then turn.End End else turn.Advance) → ⊥
           by_end true t = cc
           by_end false t = cc
+      asked (Err e) s written' page' w t = cc
 
-          request : (hint : ℕ) → x ≡ Ok (NeedMoreData hint) → Wants text_of (from_to source rest) (from_to taken written') g page'
-              × (weight g ≡ weight f)
-          request hint is =
-              let s' = subst (λ y. Steps f y g) is s in
-              let w' = subst (λ y. PutsBytes written written' page (text_after text_of y) page') is w in
-              let l = given_below g (NeedMoreData hint) s' in
-              let (u, a) = stepped g (Ok (NeedMoreData hint)) s' l in
-              let stays : g.state ≡ f.state = cc in (
-                record {
-                  progress = record {
-                    given = p.given;
-                    events = p.events;
-                    is_along = a;
-                    gave = p.gave;
-                    at_end = λ e. p.at_end (sym s.eof ∙ e);
-                    lines = p.lines ++ w'.moved;
-                    listed = search Appends-trans;
-                    parts = p.parts ∙ (ap (λ (z : List ℕ). p.lines ++ z) (sym (append-nil page) ∙ w'.waits)
-                        ∙ sym (append_assoc p.lines w'.moved page'));
-                  };
-                  hint = hint;
-                  undecided = rw s.eof u;
-                  below = l;
-                },
-                rw (stays, sym s'.shows, s.eof) refl,
-              )
-
-          by_answer : (y : Result Step Error) → x ≡ y → turn.Read ≡ turn_after y
-              → Wants text_of (from_to source rest) (from_to taken written') g page'
-              × (weight g ≡ weight f)
-          by_answer (Ok (NeedMoreData hint)) is t = request hint is
-          by_answer (Ok (Parsed bytes payload)) is t = search by_end
-          by_answer (Err e) is t = cc
-
-      end_at : (how : Ended) → turn.End how ≡ turn_after x → AtEnd p.given p.events f.eof (text_after text_of x) how
-      end_at how t = by_answer x refl t
+      end_at : (x : Result Step Error) → Steps f x g → (how : Ended) → turn.End how ≡ turn_after x
+          → AtEnd p.given p.events f.eof (text_after text_of x) how
+      end_at (Ok (NeedMoreData hint)) s how t = cc
+      end_at (Ok (Parsed bytes payload)) s how t = by_end (is_end (report_of payload)) refl t
         where
-          at_end : (bytes : _) (payload : Payload) (b : Bool) → is_end (report_of payload) ≡ b → turn.End how
-              ≡ (if b then turn.End End else turn.Advance) → x ≡ Ok (Parsed bytes payload)
+          by_end : (b : Bool) → is_end (report_of payload) ≡ b → turn.End how ≡ (if b then turn.End End else turn.Advance)
               → AtEnd p.given p.events f.eof (text_of (report_of payload)) how
-          at_end bytes payload false e t is = cc
-          at_end bytes payload true e t is =
-              let s' = subst (λ y. Steps f y g) is s in
-              let l = given_below g (Parsed bytes payload) s' in
+          by_end false e t = cc
+          by_end true e t =
+              let l = given_below (Parsed bytes payload) s in
               let came : Came 0 all_features f.eof p.given p.events bytes.now payload g.state g.held =
-              stepped g (Ok (Parsed bytes payload)) s' l in
+              stepped (Ok (Parsed bytes payload)) s l in
               let each = came.ends e in
               let reading : Reading p.given 0 all_features (p.events ++ came.event ∷ []) = each p.given (all_given f.eof p.given) in
               let last : came.event ≡ last_event reading.end = search reading_ends in
               let reports : report_of payload ≡ stream_end reading.end = cc in
               let is_it : how ≡ End = cc in
               grind (arith, ends_well)
+      end_at (Err e) s how t =
+          let is_it : how ≡ Fault e = cc in
+          record {
+            end = fault (fault_at e);
+            same = refl;
+            ends = rw is_it refl;
+            within = λ l. (stepped (Err e) s l).0;
+            past_the_top = λ h.
+                let z = answers_go_along.past_the_top f.state g.state f.eof f.held (answer_of (Err e)) s.parses
+                (omega (arith, h, ends_at)) in
+                let y : fault_at e ≡ at_offset OffsetRange f.state.offset = cc in
+                ap fault y ∙ ap (λ (o : ℕ). fault (at_offset OffsetRange o)) passed;
+          }
 
-          by_answer : (y : Result Step Error) → x ≡ y → turn.End how ≡ turn_after y
-              → AtEnd p.given p.events f.eof (text_after text_of y) how
-          by_answer (Ok (NeedMoreData hint)) is t = cc
-          by_answer (Ok (Parsed bytes payload)) is t = search at_end
-          by_answer (Err e) is t =
-              let s' = subst (λ y. Steps f y g) is s in
-              let is_it : how ≡ Fault e = cc in
-              record {
-                end = fault (fault_at e);
-                same = refl;
-                ends = rw is_it refl;
-                within = λ l. (stepped g (Err e) s' l).0;
-                past_the_top = λ h.
-                    let z = answers_go_along.past_the_top f.state g.state f.eof f.held (answer_of (Err e)) s'.parses
-                    (omega (arith, h, ends_at)) in
-                    let y : fault_at e ≡ at_offset OffsetRange f.state.offset = cc in
-                    ap fault y ∙ ap (λ (o : ℕ). fault (at_offset OffsetRange o)) passed;
-              }
+    -- ---- the end
 
+    module _ (g : Feed) (x : Result Step Error) (s : Steps f x g) (written' : Option (List ℕ)) (page' : List ℕ)
+        (w : PutsBytes written written' page (text_after text_of x) page') where
       -- all is written, and the run ends
       pub listed_all : (how : Ended) → turn.End how ≡ turn_after x → (written'' : Option (List ℕ)) → Appends written' written'' page'
           → IsListed text_of (from_to source rest) (from_to taken written'') how
       listed_all how t written'' v =
-          let a = end_at how t in
+          let a = end_at g x s how t in
           record {
             given = p.given;
             first = p.events;
@@ -341,7 +320,7 @@ module _ (text_of : Report → List ℕ) where
       end_beginning : (how : Ended) → turn.End how ≡ turn_after x → (written'' : Option (List ℕ))
           → WritesBeginning written' written'' page' → IsBeginning text_of (from_to source rest) (from_to taken written'')
       end_beginning how t written'' v =
-          let a = end_at how t in
+          let a = end_at g x s how t in
           let (wrote, parts) = put_line written' (text_after text_of x) page' (last_event a.end) w a.same in
           record {
             given = p.given;
