@@ -69,7 +69,7 @@ module _ {A : Type 0} (start features : ℕ) (given : List ℕ) (f g : Feed) (va
   adds (Ok (Parsed bytes payload)) value s i n =
       let u : Came start features f.eof given h.0 bytes.now payload g.state g.held =
       stepped start features given f.state f.held h.0 h.1 f.eof (Ok (Parsed bytes payload)) g.state g.held l s.parses s.shows in
-      let more : is_end (report_of payload) ≡ false = grind (arith, last_is_end) in grind (arith, all_more, came_is)
+      grind (arith, last_is_end, all_more, came_is)
   adds (Err e) value s i n = let no : true ≡ false = sym (fault_is_last e value.kind i.kind) ∙ n in cc
 
   -- the last event came
@@ -94,10 +94,7 @@ pub fewer : {A : Type 0} (f g : Feed) (x : Result Step Error) (value : Event A) 
 fewer f g (Ok (NeedMoreData hint)) value s i n = absurd i
 fewer f g (Ok (Parsed bytes payload)) value s i n =
     let c = answers_go_along.consumes f.state g.state f.eof f.held (answer_of (Ok (Parsed bytes payload))) s.parses in
-    let some : nat_eq (length bytes.now) 0 ≡ false = grind (arith, last_is_end) in
-    let parts : length f.held ≡ length bytes.now + length g.held = grind (arith, length-append) in
-    let z : 0 < length bytes.now = not_zero (length bytes.now) some in
-    omega (arith, parts, z)
+    grind (arith, length-append, nat_tests)
 fewer f g (Err e) value s i n = let no : true ≡ false = sym (fault_is_last e value.kind i.kind) ∙ n in cc
 
 -- what is known of a step in these bytes

@@ -66,8 +66,8 @@ kind_at : (keep : Bool) (features at : ℕ) (encoding : Encoding) (f : SectionFr
 kind_at keep features at encoding f (whole form) events k g e = rw e (form_at keep features at encoding f form k g)
 kind_at keep features at encoding f code events k g (d, e) =
     rw e (inl (
-      other_stays keep f (λ z. let n : code ≡ whole custom = custom_zero encoding f.id code k z in cc),
-      (refl, bodies_stay keep features (at + 1 + length f.sized.field + length d.field) d.bodies),
+      grind (arith, other_stays, custom_zero),
+      (search bodies_stay),
       code_consumed features at f d,
     ))
 
@@ -141,23 +141,17 @@ kept_goes keep features encoding at dropped f frames e more rest kept s g c t = 
 pub kept_of : (keep : Bool) (features : ℕ) (encoding : Encoding) (at dropped : ℕ) (frames : List SectionFrame)
     (inner rest kept : List Event) → All (IsFrame encoding) frames → FramesEvents features encoding (at + dropped) frames inner
     → KeptAfter keep at dropped frames rest kept → KeptOf keep features encoding at dropped frames inner rest kept
-kept_of keep features encoding at dropped [] inner rest kept a i k =
-    rw i (record { others = []; sections = refl; moved = k dropped (omega arith); bytes = refl })
+kept_of keep features encoding at dropped [] inner rest kept a i k = grind arith
 kept_of keep features encoding at dropped (f ∷ frames) inner rest kept a (first, more, w, h, t) k =
     rw w (elim (frame_at keep features (at + dropped) encoding f first (All-head (IsFrame encoding) f frames a) h) [
       | inl (s, b, c) ↦ kept_stays keep features encoding at dropped f frames first more rest kept h s b c
           (kept_of keep features encoding (at + length (frame_bytes f)) dropped frames more rest kept
-          (All-tail (IsFrame encoding) f frames a) (subst (λ (x : ℕ). FramesEvents features encoding x frames more) (omega arith) t)
-          (λ total e. k total (rw s (omega (
-            arith,
-            e,
-            length-append (frame_bytes f) (flat_map frame_bytes frames),
-            length-append (frame_bytes f) (bytes_of_frames keep frames),
-          )))))
+          (All-tail (IsFrame encoding) f frames a) (grind arith)
+          (λ total e. k total (grind (arith, length-append))))
       | inr (s, e, z, g, c) ↦ subst (λ (x : List Event). KeptOf keep features encoding at dropped (f ∷ frames) (x ++ more) rest kept)
           (sym z)
           (kept_goes keep features encoding at dropped f frames e more rest kept s g c
           (kept_of keep features encoding at (dropped + length (frame_bytes f)) frames more rest kept
-          (All-tail (IsFrame encoding) f frames a) (subst (λ (x : ℕ). FramesEvents features encoding x frames more) (omega arith) t)
-          (λ total q. k total (rw s (omega (arith, q, length-append (frame_bytes f) (flat_map frame_bytes frames)))))))
+          (All-tail (IsFrame encoding) f frames a) (grind arith)
+          (λ total q. k total (grind (arith, length-append)))))
     ])

@@ -32,9 +32,7 @@ fewer : (f g : Feed) (bytes : Bor (List ℕ)) (payload : Payload) → Steps f (O
     → length g.held < length f.held
 fewer f g bytes payload s n =
     let c = answers_go_along.consumes f.state g.state f.eof f.held (answer_of (Ok (Parsed bytes payload))) s.parses in
-    let parts : length f.held ≡ length bytes.now + length g.held = grind (arith, length-append) in
-    let z : 0 < length bytes.now = some_bytes (length bytes.now) (c.1 ∙ n) in
-    omega (arith, parts, z)
+    grind (arith, length-append, nat_tests)
 
 pub part_goes_on : (keep : Bool) (f g : Feed) (bytes : Bor (List ℕ)) (payload : Payload) (fate : Fate)
     → Steps f (Ok (Parsed bytes payload)) g → IsFateOf keep (report_of payload) fate → IsFewer fate f g
@@ -51,15 +49,12 @@ module _ (keep : Bool) (stream : List ℕ) (events : List Event) (f g : Feed) (a
 
   pub part_comes : (bytes : Bor (List ℕ)) (payload : Payload) (fate : Fate) → Steps f (Ok (Parsed bytes payload)) g
       → IsFateOf keep (report_of payload) fate → FateComes keep stream events bytes.now fate g
-  part_comes bytes payload Stays s i =
-      let u : Came 0 all_features true stream events bytes.now payload g.state g.held = came bytes payload s in
-      grind arith
-  part_comes bytes payload Goes s i =
-      let u : Came 0 all_features true stream events bytes.now payload g.state g.held = came bytes payload s in
-      grind arith
   part_comes bytes payload End s i =
       let u : Came 0 all_features true stream events bytes.now payload g.state g.held = came bytes payload s in
       let (offset, last) = u.last i in
+      grind arith
+  part_comes bytes payload _ s i =
+      let u : Came 0 all_features true stream events bytes.now payload g.state g.held = came bytes payload s in
       grind arith
 
   pub fault_comes : (e : Error) → Steps f (Err e) g → EndsWithFault stream e

@@ -46,8 +46,7 @@ stepped start features given p held events a eof x new rest l r w = search (answ
 -- after the last answer nothing is passed, and nothing is shown
 pub none_passed : (p new : ParserState) (eof : Bool) (held : List ℕ) (x : Result Step Error) → ParseAnswer p eof held (answer_of x) new
     → is_last (answer_of x) ≡ true → shown x ≡ []
-none_passed p new eof held (Ok (Parsed bytes payload)) a l = empty bytes.now
-    ((answers_go_along.consumes p new eof held (answer_of (Ok (Parsed bytes payload))) a).1 ∙ l)
+none_passed p new eof held (Ok (Parsed bytes payload)) a l = grind (arith, empty, answers_go_along.consumes)
   where
     empty : (xs : List ℕ) → nat_eq (length xs) 0 ≡ true → xs ≡ []
     empty [] e = refl
@@ -71,7 +70,7 @@ again : (f g h : Feed) (x y : Result Step Error) → is_last (answer_of x) ≡ t
 again f g h x y l s t =
     let same : f.held ≡ g.held = grind (arith, nothing_shown) in
     answers_go_along.again f.state g.state h.state f.eof f.held (answer_of x) (answer_of y) l s.parses
-    (rw same (subst (λ (eof : Bool). ParseAnswer g.state eof g.held (answer_of y) h.state) s.eof t.parses))
+    (grind arith)
 
 -- ---- a request
 
@@ -81,9 +80,7 @@ module _ (f g : Feed) (hint : ℕ) (s : Steps f (Ok (NeedMoreData hint)) g) wher
   stays = answers_go_along.becomes f.state g.state f.eof f.held (Ok (chunk.NeedMoreData hint)) s.parses
 
   pub asked : IsUndecided g.state g.eof g.held hint
-  asked =
-      rw s.eof (subst₂ (λ (p : ParserState) (held : List ℕ). IsUndecided p f.eof held hint) (sym stays) s.shows
-      (answers_go_along.asks f.state g.state f.eof f.held hint s.parses))
+  asked = grind (arith, answers_go_along.becomes, answers_go_along.asks)
 
 -- ---- a step over a piece
 
@@ -92,12 +89,12 @@ steps_over : (start features : ℕ) (given : List ℕ) (f g : Feed) (piece : Lis
     (taken : ℕ) → IsAlong start features given f events → start + length (given ++ piece) < 2 ^ 64 → StepsOver f piece x taken g
     → SteppedOver start features given f piece events x taken g
 steps_over start features given f g piece events x taken a l s = record {
-  steps = search (stepped, answers_go_along.more, taken);
+  steps = search (stepped, answers_go_along.more);
   takes = λ later b. record {
     prefix = b.prefix;
     is_after = b.is_after;
     whole = append_cancel_right (given ++ take taken piece) (b.prefix ++ g.held) (drop taken piece)
-        (search (append_assoc, taken, take-append-drop));
+        (search (append_assoc, take-append-drop));
     has_features = b.has_features;
     listed = b.listed;
   };
@@ -105,7 +102,7 @@ steps_over start features given f g piece events x taken a l s = record {
 
 -- a step is a step over no bytes
 over_none : (f g : Feed) (x : Result Step Error) → length f.held ≤ f.stored → Steps f x g → StepsOver f [] x 0 g
-over_none f g x l s = grind (arith, append-nil, stays, nothing_shown, length-append)
+over_none f g x l s = grind (arith, append-nil, nothing_shown, length-append)
 
 is_decided : (x : Result Step Error) → is_last (answer_of x) ≡ true → IsRequest (answer_of x) → ⊥
 is_decided x l r = grind arith

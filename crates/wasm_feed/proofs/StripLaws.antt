@@ -35,8 +35,7 @@ push_same (a ∷ xs) (b ∷ ys) x y e =
     let h : a ≡ b = cc in
     let t : xs ++ x ∷ [] ≡ ys ++ y ∷ [] = cc in
     let (p, q) = push_same xs ys x y t in
-    let p' : xs ≡ ys = p in
-    (λ i. h i ∷ p' i, q)
+    grind arith
 
 end_same : (a b : Ending) → last_event a ≡ last_event b → a ≡ b
 end_same a b e = let z : stream_end a ≡ stream_end b = ap (λ (x : Event). x.report) e in cc
@@ -211,9 +210,4 @@ stripping_twice keep stream once twice o t =
       segments = b.segments;
     } in
     let q : ((t.accepted.encoding ≡ c.encoding) × (t.accepted.frames ≡ c.frames)) = one_division once t.accepted c in
-    let x : t.accepted.encoding ≡ a.encoding = q.0 ∙ e in
-    let y : t.accepted.frames ≡ filter (frame_stays keep) a.frames = q.1 ∙ f in
-    let z : filter (frame_stays keep) (filter (frame_stays keep) a.frames) ≡ filter (frame_stays keep) a.frames =
-    search (filter_twice, each_of, Spares)
-    in
-    cc
+    grind (arith, filter_twice, each_of, Spares)

@@ -56,8 +56,7 @@ events-smaller-in-Advance g c =
     a.wants in
     let t = c.in_ok-turn.ensures.takes in
     (same_lighter line_of _ _ (beside (feed_of c.events.stored.items c.events.cursor) c.events.ahead) _ _ _
-    (subst (λ (l : List ℕ). beside (feed_of l c.pass_lent.new.cursor) c.pass_lent.new.self
-    ≡ lending l c.make_ready.new.self c.parse_next-answer.new.cursor) c.deref-in-Advance.ensures.value c.pass_lent.ensures)
+    (rw c.deref-in-Advance.ensures.value at c.pass_lent.ensures)
     (advanced line_of _ _ _ _ _ _ c.events.invariant.progress _ _ s _ _ t.0 (sym c.in-Advance.is ∙ t.1))).1
 
 pub events-preserved-in-Advance : goal.events-preserved-in-Advance
@@ -69,8 +68,7 @@ events-preserved-in-Advance g c =
     let t = c.in_ok-turn.ensures.takes in
     record {
       progress = (same_lighter line_of _ _ (beside (feed_of c.events.stored.items c.events.cursor) c.events.ahead) _ _ _
-          (subst (λ (l : List ℕ). beside (feed_of l c.pass_lent.new.cursor) c.pass_lent.new.self
-          ≡ lending l c.make_ready.new.self c.parse_next-answer.new.cursor) c.deref-in-Advance.ensures.value c.pass_lent.ensures)
+          (rw c.deref-in-Advance.ensures.value at c.pass_lent.ensures)
           (advanced line_of _ _ _ _ _ _ c.events.invariant.progress _ _ s _ _ t.0 (sym c.in-Advance.is ∙ t.1))).0;
       input = c.events.invariant.input;
       output = grind (arith, common_steps);

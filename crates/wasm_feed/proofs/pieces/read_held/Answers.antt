@@ -12,7 +12,7 @@ returns-in-None-clause-reads g c s =
     let by = steps_in bytes c.steps.cursor c.parse_next.new.cursor c.parse_next.result c.parse_next.ensures.parses
     c.parse_next.ensures.shows
     c.parse_next.ensures.finished c.parse_next.ensures.wants in
-    let none = subst (IsEventOfStep c.parse_next.result) c.in-None.is c.in_ok-event_of.ensures.is in
+    let none = rw c.in-None.is at c.in_ok-event_of.ensures.is in
     let r = asks s.start s.features s.given (feed_of bytes c.steps.cursor) (feed_of bytes c.parse_next.new.cursor) c.steps.events.items
     (c.steps.invariant.comes s.start s.features s.given s.has_come s.below) s.below c.parse_next.result by none in
     (r.0, sym c.steps.invariant.eof ∙ r.1)
@@ -23,7 +23,7 @@ returns-then-is_last-clause-reads g c s =
     let by = steps_in bytes c.steps.cursor c.parse_next.new.cursor c.parse_next.result c.parse_next.ensures.parses
     c.parse_next.ensures.shows
     c.parse_next.ensures.finished c.parse_next.ensures.wants in
-    let some = subst (IsEventOfStep c.parse_next.result) c.in-Some.is c.in_ok-event_of.ensures.is in
+    let some = rw c.in-Some.is at c.in_ok-event_of.ensures.is in
     let r = ends s.start s.features s.given (feed_of bytes c.steps.cursor) (feed_of bytes c.parse_next.new.cursor) c.steps.events.items
     (c.steps.invariant.comes s.start s.features s.given s.has_come s.below) s.below c.parse_next.result c.in-Some.event by
     some (sym c.if-is_last.ensures) in
@@ -35,7 +35,7 @@ steps-smaller g c =
     let bytes = c.args.bytes.now in
     let s = steps_in bytes c.steps.cursor c.parse_next.new.cursor c.parse_next.result c.parse_next.ensures.parses c.parse_next.ensures.shows
     c.parse_next.ensures.finished c.parse_next.ensures.wants in
-    let some = subst (IsEventOfStep c.parse_next.result) c.in-Some.is c.in_ok-event_of.ensures.is in
+    let some = rw c.in-Some.is at c.in_ok-event_of.ensures.is in
     fewer (feed_of bytes c.steps.cursor) (feed_of bytes c.parse_next.new.cursor) c.parse_next.result c.in-Some.event s some
     (sym c.if-is_last.ensures)
 
@@ -44,11 +44,10 @@ steps-preserved g c =
     let bytes = c.args.bytes.now in
     let s = steps_in bytes c.steps.cursor c.parse_next.new.cursor c.parse_next.result c.parse_next.ensures.parses c.parse_next.ensures.shows
     c.parse_next.ensures.finished c.parse_next.ensures.wants in
-    let some = subst (IsEventOfStep c.parse_next.result) c.in-Some.is c.in_ok-event_of.ensures.is in
+    let some = rw c.in-Some.is at c.in_ok-event_of.ensures.is in
     record {
       comes = λ start features given h l.
-          subst (HasCome start features given (feed_of bytes c.parse_next.new.cursor)) (sym c.in_ok-push-in-Some.ensures.items)
-          (adds start features given (feed_of bytes c.steps.cursor) (feed_of bytes c.parse_next.new.cursor) c.steps.events.items
+          rw c.in_ok-push-in-Some.ensures.items (adds start features given (feed_of bytes c.steps.cursor) (feed_of bytes c.parse_next.new.cursor) c.steps.events.items
           (c.steps.invariant.comes start features given h l) l c.parse_next.result c.in-Some.event s some (sym c.if-is_last.ensures));
       eof = c.parse_next.ensures.finished ∙ c.steps.invariant.eof;
     }

@@ -38,14 +38,12 @@ parts-preserved g c =
     record {
       comes = (
         more ++ part,
-        subst (λ (x : Option (Bor (List ℕ))). KeptComes c.args.keep_names bytes more (Ok x) (feed_of bytes new)) c.in-Some.is
-            (c.in_ok-part.ensures.takes bytes more h c.requires),
+        rw c.in-Some.is at (c.in_ok-part.ensures.takes bytes more h c.requires),
         put
             ∙ (ap (λ (x : List ℕ). x ++ part) all ∙ append_assoc c.args.kept.now.items more part),
       );
       finished = c.in_ok-part.ensures.finished;
-      within = (subst (λ (x : Option (Bor (List ℕ))). PassesKept bytes c.parts.cursor.mark (Ok x) new.mark) c.in-Some.is
-          c.in_ok-part.ensures.passes c.parts.invariant.within).within;
+      within = (rw c.in-Some.is at c.in_ok-part.ensures.passes c.parts.invariant.within).within;
     }
 
 pub returns : goal.returns
@@ -54,7 +52,6 @@ returns g c =
     let new = feed_of bytes c.next_kept.new.cursor in
     let (more, h, all) = c.parts.invariant.comes in (
       more,
-      subst (λ (x : Option (Bor (List ℕ))). KeptComes c.args.keep_names bytes more (Ok x) new) c.in_default.is
-          (c.in_ok-part.ensures.takes bytes more h c.requires),
+      rw c.in_default.is at (c.in_ok-part.ensures.takes bytes more h c.requires),
       all,
     )

@@ -33,8 +33,7 @@ overflow_add-count c =
     let new = feed_of bytes c.next_kept.new.cursor in
     let (kept, h, n) = c.parts.invariant.comes in
     let part = c.in-Some.part.now in
-    let came = subst (λ (x : Option (Bor (List ℕ))). KeptComes c.args.keep_names bytes kept (Ok x) new) c.in-Some.is
-    (c.in_ok-part.ensures.takes bytes kept h c.requires) in
+    let came = rw c.in-Some.is at (c.in_ok-part.ensures.takes bytes kept h c.requires) in
     omega (arith, no_longer c.args.keep_names bytes new (kept ++ part) came, n, c.requires, length-append kept part)
 
 pub parts-preserved : goal.parts-preserved
@@ -46,13 +45,11 @@ parts-preserved c =
     record {
       comes = (
         kept ++ part,
-        subst (λ (x : Option (Bor (List ℕ))). KeptComes c.args.keep_names bytes kept (Ok x) (feed_of bytes new)) c.in-Some.is
-            (c.in_ok-part.ensures.takes bytes kept h c.requires),
+        rw c.in-Some.is at (c.in_ok-part.ensures.takes bytes kept h c.requires),
         omega (arith, n, length-append kept part),
       );
       finished = c.in_ok-part.ensures.finished;
-      within = (subst (λ (x : Option (Bor (List ℕ))). PassesKept bytes c.parts.cursor.mark (Ok x) new.mark) c.in-Some.is
-          c.in_ok-part.ensures.passes c.parts.invariant.within).within;
+      within = (rw c.in-Some.is at c.in_ok-part.ensures.passes c.parts.invariant.within).within;
     }
 
 pub returns-clause-counts : goal.returns-clause-counts
@@ -61,7 +58,6 @@ returns-clause-counts c =
     let (kept, h, n) = c.parts.invariant.comes in
     let new = feed_of bytes c.next_kept.new.cursor in (
       kept,
-      subst (λ (x : Option (Bor (List ℕ))). KeptComes c.args.keep_names bytes kept (Ok x) new) c.in_default.is
-          (c.in_ok-part.ensures.takes bytes kept h c.requires),
+      rw c.in_default.is at (c.in_ok-part.ensures.takes bytes kept h c.requires),
       n,
     )

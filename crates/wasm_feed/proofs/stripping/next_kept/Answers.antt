@@ -23,8 +23,7 @@ returns-in-Stays-clause-takes c stream kept h l =
     let new = feed_of bytes c.next_part.new.cursor in
     let m = c.parts.invariant.comes stream kept h l in
     let part = c.in_ok-part.part.bytes.now in
-    stays_kept c.args.keep_names stream kept old new m part (subst (λ (x : Fate). FateComes c.args.keep_names stream m.0 part x new)
-    c.in-Stays.is (c.in_ok-part.ensures.takes stream m.0 m.1 l))
+    stays_kept c.args.keep_names stream kept old new m part (rw c.in-Stays.is at (c.in_ok-part.ensures.takes stream m.0 m.1 l))
 
 pub returns-in-Stays-clause-passes : goal.returns-in-Stays-clause-passes
 returns-in-Stays-clause-passes c w =
@@ -33,7 +32,7 @@ returns-in-Stays-clause-passes c w =
     let new = c.next_part.new.cursor in
     let part = c.in_ok-part.part.bytes.now in
     let passes = c.in_ok-part.ensures.passes in
-    let fewer = subst (λ (x : Fate). IsFewer x (feed_of bytes old) (feed_of bytes new)) c.in-Stays.is c.in_ok-part.ensures.goes_on in
+    let fewer = rw c.in-Stays.is at c.in_ok-part.ensures.goes_on in
     record {
       start = old.mark;
       order = c.parts.invariant.order;
@@ -48,7 +47,7 @@ parts-smaller c =
     let bytes = c.args.bytes.now in
     let old = feed_of bytes c.parts.cursor in
     let new = feed_of bytes c.next_part.new.cursor in
-    subst (λ (x : Fate). IsFewer x old new) c.in-Goes.is c.in_ok-part.ensures.goes_on
+    rw c.in-Goes.is at c.in_ok-part.ensures.goes_on
 
 pub parts-preserved : goal.parts-preserved
 parts-preserved c =
@@ -60,8 +59,7 @@ parts-preserved c =
     let passes = c.in_ok-part.ensures.passes in
     record {
       comes = λ stream kept h l. goes_kept c.args.keep_names stream kept old new (loop.comes stream kept h l) part
-          (subst (λ (x : Fate). FateComes c.args.keep_names stream (loop.comes stream kept h l).0 part x new) c.in-Goes.is
-          (c.in_ok-part.ensures.takes stream (loop.comes stream kept h l).0 (loop.comes stream kept h l).1 l));
+          (rw c.in-Goes.is at (c.in_ok-part.ensures.takes stream (loop.comes stream kept h l).0 (loop.comes stream kept h l).1 l));
       finished = c.in_ok-part.ensures.finished;
       order = omega (arith, loop.order, passes.0);
       within = λ w. mark_within bytes part c.parts.cursor.mark c.next_part.new.cursor.mark (loop.within w) passes;
@@ -74,5 +72,4 @@ returns-in-End-clause-takes c stream kept h l =
     let new = feed_of bytes c.next_part.new.cursor in
     let m = c.parts.invariant.comes stream kept h l in
     let part = c.in_ok-part.part.bytes.now in
-    all_kept c.args.keep_names stream kept old new m part (subst (λ (x : Fate). FateComes c.args.keep_names stream m.0 part x new)
-    c.in-End.is (c.in_ok-part.ensures.takes stream m.0 m.1 l))
+    all_kept c.args.keep_names stream kept old new m part (rw c.in-End.is at (c.in_ok-part.ensures.takes stream m.0 m.1 l))

@@ -23,8 +23,7 @@ returns-clause-takes c stream events a l =
     let made = c.in_ok-parse_next.ensures in
     let s = steps_in bytes c.args.cursor.now c.parse_next.new.cursor (Ok c.in_ok-parse_next.field-0) made.parses made.shows made.finished
     made.wants in
-    let parsed = subst (λ (x : Step). Steps (feed_of bytes c.args.cursor.now) (Ok x) (feed_of bytes c.parse_next.new.cursor)) c.in-Parsed.is
-    s in
+    let parsed = rw c.in-Parsed.is at s in
     part_comes c.args.keep_names stream events (feed_of bytes c.args.cursor.now) (feed_of bytes c.parse_next.new.cursor) a l c.requires
     c.in-Parsed.bytes c.in-Parsed.payload c.fate_of.result parsed c.fate_of.ensures
 
@@ -34,7 +33,6 @@ returns-clause-goes_on c =
     let made = c.in_ok-parse_next.ensures in
     let s = steps_in bytes c.args.cursor.now c.parse_next.new.cursor (Ok c.in_ok-parse_next.field-0) made.parses made.shows made.finished
     made.wants in
-    let parsed = subst (λ (x : Step). Steps (feed_of bytes c.args.cursor.now) (Ok x) (feed_of bytes c.parse_next.new.cursor)) c.in-Parsed.is
-    s in
+    let parsed = rw c.in-Parsed.is at s in
     part_goes_on c.args.keep_names (feed_of bytes c.args.cursor.now) (feed_of bytes c.parse_next.new.cursor) c.in-Parsed.bytes
     c.in-Parsed.payload c.fate_of.result parsed c.fate_of.ensures

@@ -29,4 +29,4 @@ returns g c =
     let (kept, reads, all) = c.in_ok-copy_kept.ensures in
     let same : c.copy_kept.new.kept.items ≡ kept = all ∙ ap (λ (x : List ℕ). x ++ kept) c.in-Ok.ensures.empty in
     strips_so c.args.keep_names c.args.bytes.now c.copy_kept.new.kept.items c.in_ok-count.ensures.stream
-    (subst (ReadsKept c.args.keep_names c.args.bytes.now) (sym same) reads)
+    (rw same reads)
