@@ -1,6 +1,6 @@
 -- What a step adds to the events that came.
 use Rattle.std.proofs.Common.{◌≡◌, ℕ, ◌+◌, ◌^◌, ◌<◌, Bool, true, false, List, [], ◌∷◌, ◌++◌, length, take, drop, slice_index_or, Bor, Some}
-use Rattle.std.proofs.Common.{None, Result, Ok, Err, nat_eq, refl, sym, ap, subst, subst₂, ◌∙◌, arith, length-append}
+use Rattle.std.proofs.Common.{None, Result, Ok, Err, refl, sym, ap, subst₂, ◌∙◌, arith, length-append}
 use Rattle.std.proofs.lemmas.Bool.Decides.{nat_tests}
 use Rattle.std.specs.List.{AllZip}
 use Rattle.wasm_base.specs.FaultAt.{fault_at}
@@ -10,20 +10,15 @@ use Rattle.wasm_parser.specs.ParseAnswer.{report_of, is_end, ParseAnswer}
 use Rattle.wasm_grammar.specs.Reading as reading
 use Rattle.wasm_grammar.specs.Reading.{last_event}
 use Rattle.wasm_parser.specs.declared.payload.Payload.{Payload}
-use Rattle.wasm_parser.specs.declared.payload.Payload.TheVariants.{Version, TypeSection, ImportSection, FunctionSection, TableSection}
-use Rattle.wasm_parser.specs.declared.payload.Payload.TheVariants.{MemorySection, TagSection, GlobalSection, ExportSection, StartSection}
-use Rattle.wasm_parser.specs.declared.payload.Payload.TheVariants.{ElementSection, DataCountSection, DataSection, CodeSectionStart}
-use Rattle.wasm_parser.specs.declared.payload.Payload.TheVariants.{CodeSectionEntry, CustomSection, UnknownSection, End}
 use Rattle.wasm_parser.proofs.ForCallers.{answers_go_along}
 use Rattle.wasm_parser.specs.Along.{Came}
 use Rattle.wasm_feed.specs.Cursors.{feed_of}
-use Rattle.wasm_feed.specs.Events.{IsKindOf, IsEvent, is_last, offsets_of, IsEventOfStep}
+use Rattle.wasm_feed.specs.Events.{IsKindOf, IsEvent, is_last, IsEventOfStep}
 use Rattle.wasm_feed.specs.Feed.{Feed, new_feed, pushed, finished}
 use Rattle.wasm_feed.specs.Pieces.{joined, IsReading, HasCome, HasEnded, GivenTo, ReadsHeld}
 use Rattle.wasm_feed.specs.Step.{answer_of, shown, is_request, Steps}
 use Rattle.wasm_feed.specs.declared.events.Event.{Event}
 use Rattle.wasm_feed.specs.declared.events.EventKind.{EventKind}
-use Rattle.wasm_feed.specs.declared.events.EventKind.TheVariants as kinds
 use Rattle.wasm_feed.specs.declared.feeder.Cursor.{Cursor}
 use Rattle.wasm_feed.specs.declared.feeder.Step.{Step}
 use Rattle.wasm_feed.specs.declared.feeder.Step.TheVariants.{NeedMoreData, Parsed}
@@ -52,9 +47,6 @@ all_more R (a ∷ xs) (b ∷ ys) x y h r = (h.0, all_more R xs ys x y h.1 r)
 all_more R _ _ x y h r = absurd h
 
 -- ---- a step, by what is made of it
-
-not_zero : (n : ℕ) → nat_eq n 0 ≡ false → 0 < n
-not_zero n e = grind (arith, nat_tests)
 
 module _ {A : Type 0} (start features : ℕ) (given : List ℕ) (f g : Feed) (values : List (Event A))
     (h : HasCome start features given f values) (l : start + length given < 2 ^ 64) where

@@ -1,11 +1,11 @@
 -- That what a step answers beside a piece is what it answers on all of the piece.
 use Rattle.std.proofs.Common.{◌≡◌, ℕ, ◌+◌, ◌-◌, ◌<◌, ◌≤◌, Bool, true, false, List, [], ◌∷◌, ◌++◌, length, drop, Result, Ok, Err}
-use Rattle.std.proofs.Common.{refl, sym, ap, subst, subst₂, ◌∙◌, arith, append_assoc, append-nil, length-append, inl, inr, Option}
+use Rattle.std.proofs.Common.{refl, sym, ap, subst₂, ◌∙◌, arith, append_assoc, append-nil, length-append, inl, inr, Option}
 use Rattle.std.proofs.lemmas.List.{append_cancel_right, length-drop, drop-drop}
 use Rattle.wasm_base.specs.declared.error.Error.{Error}
 use Rattle.wasm_base.specs.Features.{all_features}
 use Rattle.wasm_grammar.specs.Reading.{Report}
-use Rattle.wasm_grammar.specs.Waiting.{enough as decides_all, wants as asks_for, waiting}
+use Rattle.wasm_grammar.specs.Waiting.{enough as decides_all, waiting}
 use Rattle.wasm_parser.specs.Along.{is_last, SaysTheSame}
 use Rattle.wasm_parser.specs.ParseAnswer.{IsRequest, ParseAnswer}
 use Rattle.wasm_parser.specs.ParserLaws.{AnswersLast}
@@ -13,7 +13,7 @@ use Rattle.wasm_parser.specs.ParserState.{ParserState, grammar_of}
 use Rattle.wasm_parser.specs.declared.payload.Chunk.{Chunk}
 use Rattle.wasm_parser.specs.declared.payload.Chunk.TheVariants as chunk
 use Rattle.wasm_parser.proofs.ForCallers.{answers_go_along}
-use Rattle.wasm_feed.specs.Beside.{beside, seen, unseen, lending, SeesEnough, AreEnough, ReadsEnough, MakesReady, IsAlike, FillsAlike}
+use Rattle.wasm_feed.specs.Beside.{beside, seen, lending, SeesEnough, AreEnough, ReadsEnough, MakesReady, IsAlike, FillsAlike}
 use Rattle.wasm_feed.specs.Beside.{Bounds, HasDecided, StaysIdle, StepsOver}
 use Rattle.wasm_lines.specs.Calls.{Change, from_to}
 use Rattle.wasm_feed.specs.Cursors.{feed_of}
@@ -22,7 +22,6 @@ use Rattle.wasm_feed.specs.Progress.{weight, Progress, Wants}
 use Rattle.wasm_feed.specs.Step.{answer_of, shown, is_request, Steps}
 use Rattle.wasm_feed.specs.declared.feeder.Cursor.{Cursor}
 use Rattle.wasm_feed.specs.declared.feeder.Step.{Step}
-use Rattle.wasm_feed.specs.declared.feeder.Step.TheVariants.{NeedMoreData, Parsed}
 use Rattle.wasm_feed.proofs.Progress.{begun, filled}
 use Rattle.wasm_feed.proofs.Stepping.{none_passed, steps_from}
 

@@ -1,22 +1,20 @@
 -- What is left of the events of sections.
-use Rattle.std.proofs.Common.{◌≡◌, ℕ, ◌+◌, ◌⊎◌, inl, inr, Bool, true, false, List, [], ◌∷◌, ◌++◌, length, nat_eq, Some, refl, sym, ap}
-use Rattle.std.proofs.Common.{subst, subst₂, ◌∙◌, arith, length-append, append-nil, append_assoc, eqb-true}
+use Rattle.std.proofs.Common.{◌≡◌, ℕ, ◌+◌, ◌⊎◌, inl, inr, Bool, true, false, List, [], ◌∷◌, ◌++◌, length, Some, refl, sym}
+use Rattle.std.proofs.Common.{subst, arith, length-append, append-nil, append_assoc, eqb-true}
 use Rattle.std.specs.List.{All, AllZip, filter, flat_map}
 use Rattle.std.proofs.lemmas.Bool.{false_from_ne_true}
 use Rattle.std.proofs.lemmas.Grind.{flat_map-append}
 use Rattle.std.proofs.lemmas.List.Elements.{All-head, All-tail, filter-append}
 use Rattle.wasm_base.specs.Name.{named, name_limit, name}
 use Rattle.wasm_grammar.specs.Accepted.{Sized, sized_bytes, SectionFrame, frame_bytes, IsFrame, IsGood, IsFormed, CodeDivision}
-use Rattle.wasm_grammar.specs.Content.{Kind, custom, items, index, data_count, code, unknown, kind_of, fault, ended, Form, whole}
+use Rattle.wasm_grammar.specs.Content.{Kind, custom, code, kind_of, Form, whole}
 use Rattle.wasm_grammar.specs.EventRanges.{consumed_by}
 use Rattle.wasm_grammar.specs.FrameEvents.{section_event, body_events, code_events, KindEvents, FrameEvents, FramesEvents}
-use Rattle.wasm_grammar.specs.Reading.{Report, version, counted, start_section, data_count_section, code_start, code_entry, custom_section}
-use Rattle.wasm_grammar.specs.Reading.{unknown_section, stream_end, Event}
-use Rattle.wasm_grammar.specs.Shifted.{shifted_report, shifted_event, shifted_events}
+use Rattle.wasm_grammar.specs.Reading.{Event}
+use Rattle.wasm_grammar.specs.Shifted.{shifted_event, shifted_events}
 use Rattle.wasm_grammar.specs.declared.encoding.Encoding.{Encoding}
-use Rattle.wasm_grammar.specs.declared.encoding.Encoding.TheVariants.{Module, Component}
 use Rattle.wasm_parser.proofs.ForCallers.{frames_read_the_same, custom_has_its_id}
-use Rattle.wasm_feed.specs.Stripped.{custom_stays, frame_stays, report_stays, event_stays, kept_bytes, staying, IsMovedBack}
+use Rattle.wasm_feed.specs.Stripped.{custom_stays, frame_stays, event_stays, kept_bytes, staying, IsMovedBack}
 use Rattle.wasm_grammar.specs.Ids.{custom_id}
 
 -- ---- the events of one section

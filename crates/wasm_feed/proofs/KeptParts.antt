@@ -1,21 +1,18 @@
 -- What a step over a stream that is stripped says of the bytes that are left.
-use Rattle.std.proofs.Common.{◌≡◌, ℕ, ◌+◌, ◌^◌, ◌<◌, ◌≤◌, Bool, true, false, cond, List, [], ◌∷◌, ◌++◌, length, Bor, Ok, Err, nat_eq, refl}
-use Rattle.std.proofs.Common.{sym, ap, subst, subst₂, ◌∙◌, arith, length-append, append-nil}
-use Rattle.std.specs.List.{filter}
+use Rattle.std.proofs.Common.{◌≡◌, ℕ, ◌+◌, ◌^◌, ◌<◌, ◌≤◌, Bool, true, false, List, [], ◌∷◌, ◌++◌, length, Bor, Ok, Err, refl}
+use Rattle.std.proofs.Common.{sym, ap, subst₂, ◌∙◌, arith, length-append, append-nil}
 use Rattle.std.proofs.lemmas.Bool.Decides.{nat_tests}
-use Rattle.wasm_base.specs.FaultAt.{fault_at}
 use Rattle.wasm_base.specs.declared.error.Error.{Error}
-use Rattle.wasm_grammar.specs.Content.{fault}
 use Rattle.wasm_grammar.specs.EventRanges.{consumed_by}
 use Rattle.wasm_parser.specs.ParseAnswer.{report_of, is_end}
-use Rattle.wasm_grammar.specs.Reading.{Event, last_event, Reading}
+use Rattle.wasm_grammar.specs.Reading.{Event}
 use Rattle.wasm_parser.specs.declared.payload.Payload.{Payload}
 use Rattle.wasm_parser.proofs.ForCallers.{answers_go_along}
 use Rattle.wasm_parser.specs.ParserState.{ParserState, initial_state}
-use Rattle.wasm_parser.specs.Along.{Along, Came, ReadsEach}
+use Rattle.wasm_parser.specs.Along.{Along, Came}
 use Rattle.wasm_feed.specs.Feed.{Feed}
 use Rattle.wasm_feed.specs.Step.{answer_of, Steps}
-use Rattle.wasm_feed.specs.Stripped.{report_stays, event_stays, kept_bytes, EndsWithFault}
+use Rattle.wasm_feed.specs.Stripped.{event_stays, kept_bytes, EndsWithFault}
 use Rattle.wasm_feed.specs.Strips.{IsFateOf, FateComes, IsFewer, HasKept, ReadsKept}
 use Rattle.wasm_feed.specs.declared.feeder.Step.TheVariants.{Parsed}
 use Rattle.wasm_feed.specs.declared.stripping.Fate.{Fate}
@@ -23,9 +20,6 @@ use Rattle.wasm_feed.specs.declared.stripping.Fate.TheVariants.{Stays, Goes, End
 use Rattle.wasm_feed.proofs.Stepping.{stepped}
 use Rattle.wasm_feed.proofs.KeptFrames.{kept_more}
 use Rattle.wasm_base.specs.Features.{all_features}
-
-some_bytes : (n : ℕ) → nat_eq n 0 ≡ false → 0 < n
-some_bytes n e = grind (arith, nat_tests)
 
 -- fewer bytes are held after a part that isn't the end
 fewer : (f g : Feed) (bytes : Bor (List ℕ)) (payload : Payload) → Steps f (Ok (Parsed bytes payload)) g → is_end (report_of payload) ≡ false

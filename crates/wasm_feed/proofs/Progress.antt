@@ -1,17 +1,16 @@
 -- How far a listing has come, and what each turn does to it.
-use Rattle.std.proofs.Common.{◌≡◌, ℕ, ◌+◌, ◌^◌, ◌<◌, ◌≤◌, Bool, true, false, if◌then◌else◌, List, [], ◌∷◌, ◌++◌, length}
-use Rattle.std.proofs.Common.{Option, Some, None, IfSome, Result, Ok, Err, refl, sym, ap, subst, ◌∙◌, arith, append_assoc}
-use Rattle.std.proofs.Common.{append-nil, length-append, inl, inr}
-use Rattle.std.specs.Io.KnownBytes.{Consumes, Appends, IsAtEnd, Keeps}
+use Rattle.std.proofs.Common.{◌≡◌, ℕ, ◌+◌, ◌^◌, ◌<◌, ◌≤◌, Bool, true, false, if◌then◌else◌, List, [], ◌∷◌, ◌++◌, length, Option, Result, Ok}
+use Rattle.std.proofs.Common.{Err, refl, sym, ap, subst, ◌∙◌, arith, append_assoc, append-nil, length-append, inl, inr}
+use Rattle.std.specs.Io.KnownBytes.{Consumes, Appends, Keeps}
 use Rattle.std.proofs.KnownBytes.{Consumes-nil, Consumes-trans, Consumes-kept, Appends-nil, Appends-trans}
 use Rattle.wasm_base.specs.FaultAt.{fault_at, at_offset}
 use Rattle.wasm_base.specs.declared.error.Error.{Error}
 use Rattle.wasm_base.specs.declared.fault.Fault.TheVariants.{OffsetRange}
-use Rattle.wasm_grammar.specs.Content.{Ending, fault, ended}
+use Rattle.wasm_grammar.specs.Content.{Ending, fault}
 use Rattle.wasm_grammar.specs.EventRanges.{consumed_by}
-use Rattle.wasm_parser.specs.GivesNextEvent.{MayBe, IsUndecided}
+use Rattle.wasm_parser.specs.GivesNextEvent.{MayBe}
 use Rattle.wasm_parser.specs.ParseAnswer.{report_of, is_end}
-use Rattle.wasm_grammar.specs.Reading.{Report, stream_end, Event, events_of, last_event, Reading}
+use Rattle.wasm_grammar.specs.Reading.{Report, stream_end, Event, last_event, Reading}
 use Rattle.wasm_parser.specs.declared.payload.Payload.{Payload}
 use Rattle.wasm_parser.specs.Along.{ReadingBegins, BeginsEach, ReadsEach, Came}
 use Rattle.wasm_parser.proofs.ForCallers.{answers_go_along}

@@ -1,14 +1,12 @@
 -- What a step says of a feeder, and of the stream that it goes along.
-use Rattle.std.proofs.Common.{◌≡◌, ℕ, ◌+◌, ◌^◌, ◌<◌, ◌≤◌, Bool, true, false, List, [], ◌∷◌, ◌++◌, length, take, drop, nat_eq}
-use Rattle.std.proofs.Common.{Result, Ok, Err, if◌then◌else◌, inl, inr, refl, sym, ap, subst, subst₂, ◌∙◌, arith}
-use Rattle.std.proofs.Common.{append_assoc, append-nil, length-append}
+use Rattle.std.proofs.Common.{◌≡◌, ℕ, ◌+◌, ◌^◌, ◌<◌, ◌≤◌, Bool, true, false, List, [], ◌∷◌, ◌++◌, length, take, drop, nat_eq, Result, Ok}
+use Rattle.std.proofs.Common.{inl, inr, refl, arith, append_assoc, append-nil, length-append}
 use Rattle.std.proofs.lemmas.Bool.Decides.{nat_tests}
 use Rattle.std.proofs.lemmas.List.{append_cancel_right, drop_at, take-append-drop}
 use Rattle.wasm_base.specs.declared.error.Error.{Error}
 use Rattle.wasm_parser.specs.Along.{Along, is_last, taken_by, SaysTheSame}
-use Rattle.wasm_parser.specs.ParseAnswer.{IsRequest, ParseAnswer, is_end, report_of, state_after_answer}
-use Rattle.wasm_parser.specs.ParserState.{ParserState, ended_state}
-use Rattle.wasm_parser.specs.StateAfter.{state_after}
+use Rattle.wasm_parser.specs.ParseAnswer.{IsRequest, ParseAnswer, state_after_answer}
+use Rattle.wasm_parser.specs.ParserState.{ParserState}
 use Rattle.wasm_grammar.specs.Reading.{Event}
 use Rattle.wasm_parser.proofs.ForCallers.{answers_go_along, answers_last}
 use Rattle.wasm_parser.specs.GivesNextEvent.{IsUndecided}

@@ -1,22 +1,21 @@
 -- What is left of a stream is accepted, and is read as the stream is but for what was dropped.
-use Rattle.std.proofs.Common.{◌≡◌, ℕ, ◌+◌, ◌<◌, ◌≤◌, ◌^◌, ◌⊎◌, inl, inr, Bool, true, false, cond, List, [], ◌∷◌, ◌++◌, length, nat_eq}
-use Rattle.std.proofs.Common.{take, Result, Ok, Err, refl, sym, ap, subst, subst₂, ◌∙◌, arith, length-append, eqb-true}
+use Rattle.std.proofs.Common.{◌≡◌, ℕ, ◌+◌, ◌<◌, ◌≤◌, ◌^◌, ◌⊎◌, inl, inr, Bool, true, false, cond, List, [], ◌∷◌, ◌++◌, length}
+use Rattle.std.proofs.Common.{take, Result, Ok, Err, refl, ap, ◌∙◌, arith, length-append, eqb-true}
 use Rattle.std.specs.List.{All, filter, flat_map}
 use Rattle.std.proofs.lemmas.List.Elements.{All-append, All-tail}
 use Rattle.wasm_base.specs.FaultAt.{fault_at}
 use Rattle.wasm_base.specs.Owned.{out_of_memory}
 use Rattle.wasm_base.specs.declared.error.Error.{Error}
 use Rattle.wasm_grammar.specs.Accepted.{header_bytes, SectionFrame, frame_bytes, frame_rank, IsFrame, IsAccepted}
-use Rattle.wasm_grammar.specs.Content.{Ending, fault, ended, kind_of, rank_of}
-use Rattle.wasm_grammar.specs.FrameEvents.{header_event, FramesEvents, TellsFrames}
+use Rattle.wasm_grammar.specs.Content.{Ending, fault, ended}
+use Rattle.wasm_grammar.specs.FrameEvents.{header_event, TellsFrames}
 use Rattle.wasm_grammar.specs.Grammar.{Tile}
-use Rattle.wasm_grammar.specs.Reading.{stream_end, Event, last_event, events_of, Reads, Reading, Stream}
+use Rattle.wasm_grammar.specs.Reading.{stream_end, Event, last_event, Reads, Reading, Stream}
 use Rattle.wasm_grammar.specs.Shifted.{shifted_event}
 use Rattle.wasm_grammar.specs.declared.encoding.Encoding.{Encoding}
-use Rattle.wasm_grammar.specs.declared.encoding.Encoding.TheVariants.{Module, Component}
 use Rattle.wasm_parser.proofs.ForCallers.{reads_accepted, fault_ends, rankless_may_go, one_division, frames_give_events}
 use Rattle.wasm_grammar.proofs.PlainLists.{all_prefix, Spares, filter_twice, each_of}
-use Rattle.wasm_feed.specs.Stripped.{frame_stays, stripped, kept_bytes, AreKept, IsStripped, EndsWithFault, RefusesToStrip, LeavesStream}
+use Rattle.wasm_feed.specs.Stripped.{frame_stays, stripped, AreKept, IsStripped, EndsWithFault, RefusesToStrip, LeavesStream}
 use Rattle.wasm_feed.specs.Stripped.{StripsToFront, StrippingTwiceIsOnce}
 use Rattle.wasm_feed.specs.Strips.{MovesKept, ReadsKept}
 use Rattle.wasm_feed.proofs.KeptFrames.{bytes_of_frames, KeptOf, KeptAfter, kept_of}

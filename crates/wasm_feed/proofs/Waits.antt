@@ -1,11 +1,9 @@
 -- That a feeder wants more only where its parser is undecided.
-use Rattle.std.proofs.Common.{◌≡◌, ℕ, ◌+◌, ◌^◌, ◌<◌, ◌≤◌, Bool, true, false, List, [], ◌++◌, length, drop, Result, Ok, Err}
-use Rattle.std.proofs.Common.{refl, sym, ap, subst, ◌∙◌, arith, append-nil, length-append}
+use Rattle.std.proofs.Common.{◌≡◌, ℕ, ◌+◌, ◌^◌, ◌<◌, ◌≤◌, false, List, [], length, Result, refl, arith, append-nil, length-append}
 use Rattle.std.proofs.lemmas.List.{drop_all}
 use Rattle.wasm_base.specs.FaultAt.{at_offset}
 use Rattle.wasm_base.specs.declared.fault.Fault.TheVariants.{OffsetRange}
 use Rattle.wasm_base.specs.declared.error.Error.{Error}
-use Rattle.wasm_parser.specs.GivesNextEvent.{IsUndecided}
 use Rattle.wasm_grammar.specs.Grammar.{header_grammar}
 use Rattle.wasm_parser.specs.ParseAnswer.{refuses, said}
 use Rattle.wasm_parser.specs.ParserState.{grammar_of}
@@ -14,10 +12,9 @@ use Rattle.wasm_parser.proofs.ForCallers.{answers_go_along}
 use Rattle.wasm_feed.specs.Feed.{Feed, new_feed, pushed, finished, end_of}
 use Rattle.wasm_feed.specs.FeedersLaws.{WaitsUndecided, FeedersWait}
 use Rattle.wasm_feed.proofs.Stepping.{asked, ends}
-use Rattle.wasm_feed.specs.Beside.{beside, StepsOver}
-use Rattle.wasm_feed.specs.Step.{answer_of, is_request, shown, Steps}
+use Rattle.wasm_feed.specs.Beside.{StepsOver}
+use Rattle.wasm_feed.specs.Step.{answer_of, Steps}
 use Rattle.wasm_feed.specs.declared.feeder.Step.{Step}
-use Rattle.wasm_feed.specs.declared.feeder.Step.TheVariants.{NeedMoreData, Parsed}
 
 -- before the first byte
 nothing_decides : (offset : ℕ) → waiting (header_grammar offset) [] ≡ wants 4 4

@@ -1,7 +1,6 @@
-use Rattle.std.proofs.Common.{◌++◌, List, ℕ, take, drop, Ok, sym, ap, subst, subst₂, ◌∙◌}
+use Rattle.std.proofs.Common.{◌++◌, List, ℕ, take, drop, Ok, sym, ap, subst₂, ◌∙◌}
 use Rattle.std.proofs.lemmas.List.{drop-drop, length-take-le, take-append-drop}
 use Rattle.wasm_parser.specs.ParseAnswer.{Consumes, ParseAnswer}
-use Rattle.wasm_parser.specs.declared.payload.Chunk.{Chunk}
 use Rattle.wasm_parser.specs.declared.payload.Chunk.TheVariants.{Parsed}
 use Rattle.wasm_feed.proofs.feeder.parse_next.Goals as goal
 

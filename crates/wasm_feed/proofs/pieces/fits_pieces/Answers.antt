@@ -1,4 +1,4 @@
-use Rattle.std.proofs.Common.{arith, ap, length, take, refl, IsTrue, subst, length-append, slice_index_or, List, Bor, ℕ, []}
+use Rattle.std.proofs.Common.{arith, ap, length, take, refl, length-append, slice_index_or, List, Bor, ℕ, []}
 use Rattle.std.proofs.lemmas.List.{take_all}
 use Rattle.wasm_feed.specs.Pieces.{joined}
 use Rattle.wasm_feed.proofs.Joining.{joined_more, joined_within}

@@ -1,7 +1,6 @@
-use Rattle.std.proofs.Common.{Bool, List, sym, subst, subst₂, ◌∙◌}
+use Rattle.std.proofs.Common.{Bool, List, sym, subst₂, ◌∙◌}
 use Rattle.wasm_feed.specs.Cursors.{feed_of}
-use Rattle.wasm_feed.specs.Events.{IsEventOfStep}
-use Rattle.wasm_feed.specs.Pieces.{HasCome, HasEnded}
+use Rattle.wasm_feed.specs.Pieces.{HasEnded}
 use Rattle.wasm_feed.specs.declared.events.Event.{Event}
 use Rattle.wasm_feed.proofs.Adding.{asks, adds, ends, fewer, steps_in}
 use Rattle.wasm_feed.proofs.pieces.read_held.Goals as goal

@@ -1,8 +1,8 @@
-use Rattle.std.proofs.Common.{Bool, List, ℕ, [], Ok, Bor, sym, ap, subst, subst₂, ◌∙◌, ◌≡◌, ◌+◌, take, slice_index_or}
+use Rattle.std.proofs.Common.{List, ℕ, [], Bor, sym, ap, subst₂, ◌∙◌, ◌≡◌, slice_index_or}
 use Rattle.std.proofs.lemmas.List.{take_all}
 use Rattle.wasm_feed.specs.Cursors.{feed_of}
 use Rattle.wasm_feed.specs.Feed.{Feed, empty_feed, new_feed, pushed, finished}
-use Rattle.wasm_feed.specs.Pieces.{joined, HasCome, ReadsHeld}
+use Rattle.wasm_feed.specs.Pieces.{joined, HasCome}
 use Rattle.wasm_feed.specs.declared.events.Event.{Event}
 use Rattle.wasm_feed.proofs.Adding.{come_begins, come_finished, next_piece, last_piece, ended_last}
 use Rattle.wasm_feed.proofs.pieces.read_pieces_in.Goals as goal

@@ -1,9 +1,7 @@
-use Rattle.std.proofs.Common.{◌≡◌, ℕ, List, [], ◌++◌, ◌∙◌, Option, Ok, inl, drop, sym, ap, subst, arith, append-nil, append_assoc}
+use Rattle.std.proofs.Common.{◌≡◌, ℕ, List, [], ◌++◌, ◌∙◌, inl, drop, sym, ap, arith, append-nil, append_assoc}
 use Rattle.std.proofs.lemmas.Result.{err_from_is_err_and}
 use Rattle.std.proofs.lemmas.Grind.{common_steps}
-use Rattle.std.specs.Borrow.{Bor}
 use Rattle.wasm_feed.specs.Cursors.{feed_of}
-use Rattle.wasm_feed.specs.Strips.{KeptComes, PassesKept}
 use Rattle.wasm_feed.proofs.KeptParts.{nothing_left}
 use Rattle.wasm_feed.proofs.stripping.copy_kept.Goals as goal
 
@@ -49,7 +47,6 @@ parts-preserved g c =
 pub returns : goal.returns
 returns g c =
     let bytes = c.args.bytes.now in
-    let new = feed_of bytes c.next_kept.new.cursor in
     let (more, h, all) = c.parts.invariant.comes in (
       more,
       rw c.in_default.is at (c.in_ok-part.ensures.takes bytes more h c.requires),

@@ -1,8 +1,6 @@
-use Rattle.std.proofs.Common.{ℕ, [], ◌++◌, ◌∙◌, List, Option, Ok, drop, refl, ap, subst, arith, length-append}
+use Rattle.std.proofs.Common.{ℕ, [], ◌++◌, ◌∙◌, drop, refl, ap, arith, length-append}
 use Rattle.std.proofs.lemmas.Result.{err_from_is_err_and}
-use Rattle.std.specs.Borrow.{Bor}
 use Rattle.wasm_feed.specs.Cursors.{feed_of}
-use Rattle.wasm_feed.specs.Strips.{KeptComes, PassesKept}
 use Rattle.wasm_feed.proofs.KeptParts.{nothing_left, no_longer}
 use Rattle.wasm_feed.proofs.stripping.count_kept.Goals as goal
 

@@ -1,9 +1,7 @@
-use Rattle.std.proofs.Common.{ℕ, ◌+◌, ◌-◌, List, length, Option, Ok, ◌∙◌, drop, take, refl, ap, subst, arith}
+use Rattle.std.proofs.Common.{ℕ, ◌+◌, ◌-◌, length, ◌∙◌, drop, take, refl, ap, arith}
 use Rattle.std.proofs.lemmas.Result.{err_from_is_err_and}
-use Rattle.std.specs.Borrow.{Bor}
 use Rattle.std.specs.List.{copy_within}
 use Rattle.wasm_feed.specs.Cursors.{feed_of}
-use Rattle.wasm_feed.specs.Strips.{KeptComes, PassesKept}
 use Rattle.wasm_feed.proofs.KeptInPlace.{moves_on}
 use Rattle.wasm_feed.proofs.KeptParts.{nothing_left}
 use Rattle.wasm_feed.proofs.stripping.move_kept.Goals as goal

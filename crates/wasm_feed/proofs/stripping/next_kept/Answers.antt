@@ -1,8 +1,6 @@
-use Rattle.std.proofs.Common.{subst, arith}
+use Rattle.std.proofs.Common.{arith}
 use Rattle.std.proofs.lemmas.Result.{err_from_is_err_and}
 use Rattle.wasm_feed.specs.Cursors.{feed_of}
-use Rattle.wasm_feed.specs.Strips.{FateComes, IsFewer}
-use Rattle.wasm_feed.specs.declared.stripping.Fate.{Fate}
 use Rattle.wasm_feed.proofs.KeptInPlace.{mark_within, not_empty}
 use Rattle.wasm_feed.proofs.KeptParts.{stays_kept, goes_kept, all_kept}
 use Rattle.wasm_feed.proofs.stripping.next_kept.Goals as goal
@@ -44,9 +42,6 @@ returns-in-Stays-clause-passes c w =
 
 pub parts-smaller : goal.parts-smaller
 parts-smaller c =
-    let bytes = c.args.bytes.now in
-    let old = feed_of bytes c.parts.cursor in
-    let new = feed_of bytes c.next_part.new.cursor in
     rw c.in-Goes.is at c.in_ok-part.ensures.goes_on
 
 pub parts-preserved : goal.parts-preserved

@@ -1,6 +1,5 @@
-use Rattle.std.proofs.Common.{◌≡◌, ◌∙◌, List, ◌++◌, ℕ, sym, ap, subst}
+use Rattle.std.proofs.Common.{◌≡◌, ◌∙◌, List, ◌++◌, ℕ, ap}
 use Rattle.std.proofs.lemmas.Result.{err_from_is_err_and}
-use Rattle.wasm_feed.specs.Strips.{ReadsKept}
 use Rattle.wasm_feed.proofs.StripLaws.{refused_fault, refused_memory, refused_copy, strips_so}
 use Rattle.wasm_feed.proofs.stripping.strip_in.Goals as goal
 

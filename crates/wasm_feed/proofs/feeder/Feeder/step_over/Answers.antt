@@ -1,8 +1,6 @@
-use Rattle.std.proofs.Common.{◌+◌, subst, arith}
+use Rattle.std.proofs.Common.{arith}
 use Rattle.std.proofs.lemmas.List.{take_rest}
-use Rattle.wasm_feed.specs.Beside.{StepsOver}
 use Rattle.wasm_feed.specs.Cursors.{feed_of}
-use Rattle.wasm_feed.specs.Feed.{Feed}
 use Rattle.wasm_feed.proofs.Beside.{over}
 use Rattle.wasm_feed.proofs.feeder.Feeder.step_over.Goals as goal
 

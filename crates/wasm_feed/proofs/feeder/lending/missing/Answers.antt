@@ -1,6 +1,4 @@
-use Rattle.std.proofs.Common.{false, Ok, ap, subst, ◌∙◌}
-use Rattle.wasm_parser.specs.ParseAnswer.{IsRequest, ParseAnswer}
-use Rattle.wasm_parser.specs.ParserState.{ParserState}
+use Rattle.std.proofs.Common.{Ok, ap, ◌∙◌}
 use Rattle.wasm_feed.proofs.Beside.{enough, undecided}
 use Rattle.wasm_feed.proofs.feeder.lending.missing.Goals as goal
 
