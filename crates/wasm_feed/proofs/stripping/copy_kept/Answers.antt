@@ -37,8 +37,7 @@ parts-preserved g c =
       comes = (
         more ++ part,
         rw c.in-Some.is at (c.in_ok-part.ensures.takes bytes more h c.requires),
-        put
-            ∙ (ap (λ (x : List ℕ). x ++ part) all ∙ append_assoc c.args.kept.now.items more part),
+        rw (put, all) (append_assoc c.args.kept.now.items more part),
       );
       finished = c.in_ok-part.ensures.finished;
       within = (rw c.in-Some.is at c.in_ok-part.ensures.passes c.parts.invariant.within).within;
@@ -46,9 +45,5 @@ parts-preserved g c =
 
 pub returns : goal.returns
 returns g c =
-    let bytes = c.args.bytes.now in
-    let (more, h, all) = c.parts.invariant.comes in (
-      more,
-      rw c.in_default.is at (c.in_ok-part.ensures.takes bytes more h c.requires),
-      all,
-    )
+    let (more, h, all) = c.parts.invariant.comes in
+    (more, rw c.in_default.is at (c.in_ok-part.ensures.takes c.args.bytes.now more h c.requires), all)

@@ -52,10 +52,5 @@ parts-preserved c =
 
 pub returns-clause-counts : goal.returns-clause-counts
 returns-clause-counts c =
-    let bytes = c.args.bytes.now in
     let (kept, h, n) = c.parts.invariant.comes in
-    let new = feed_of bytes c.next_kept.new.cursor in (
-      kept,
-      rw c.in_default.is at (c.in_ok-part.ensures.takes bytes kept h c.requires),
-      n,
-    )
+    (kept, rw c.in_default.is at (c.in_ok-part.ensures.takes c.args.bytes.now kept h c.requires), n)

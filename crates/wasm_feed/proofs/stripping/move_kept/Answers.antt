@@ -47,10 +47,6 @@ parts-preserved c =
 
 pub returns : goal.returns
 returns c =
-    let stream = c.args.bytes.now in
-    let bytes = c.parts.bytes in
-    let loop = c.parts.invariant in (
-      rw c.in_default.is at (c.in_ok-part.ensures.takes stream (take c.parts.kept bytes) loop.comes c.requires),
-      omega (arith, loop.order, loop.within),
-      loop.long,
-    )
+    let loop = c.parts.invariant in
+    let kept = rw c.in_default.is at (c.in_ok-part.ensures.takes c.args.bytes.now _ loop.comes c.requires) in
+    (kept, omega (arith, loop.order, loop.within), loop.long)
