@@ -31,9 +31,7 @@ returns-then-branch g c =
     let e : mid ≡ pushed f (slice_index_or c.args.pieces.now c.pieces.piece-index none).now =
     ap (λ (x : List ℕ). feed_of x c.refill.new.cursor) c.deref.ensures.value ∙ c.in_ok-refill.ensures.ok in
     let r = rw c.if-branch.true at c.in_ok-read_held.ensures.reads in
-    last_piece c.args.offset all_features c.args.pieces.now c.pieces.piece-index none f mid new c.pieces.events.items
-    c.read_held.new.events.items
-    c.pieces-test.true c.requires c.pieces.invariant.comes e
+    last_piece _ _ _ _ none f mid new _ _ c.pieces-test.true c.requires c.pieces.invariant.comes e
     (ap (λ (x : Feed). x.eof) e ∙ c.pieces.invariant.goes_on) r
 
 pub pieces-preserved : goal.pieces-preserved
@@ -44,8 +42,7 @@ pieces-preserved g c =
     let e : mid ≡ pushed f (slice_index_or c.args.pieces.now c.pieces.piece-index none).now =
     ap (λ (x : List ℕ). feed_of x c.refill.new.cursor) c.deref.ensures.value ∙ c.in_ok-refill.ensures.ok in
     let r = rw c.if-branch.false at c.in_ok-read_held.ensures.reads in
-    let came = next_piece c.args.offset all_features c.args.pieces.now c.pieces.piece-index none f mid new c.pieces.events.items
-    c.read_held.new.events.items c.pieces-test.true c.requires c.pieces.invariant.comes e r in
+    let came = next_piece _ _ _ _ none f mid new _ _ c.pieces-test.true c.requires c.pieces.invariant.comes e r in
     record {
       comes = rw c.deref.ensures.value at came;
       goes_on = c.read_held.ensures.finished ∙ (ap (λ (x : Feed). x.eof) e ∙ c.pieces.invariant.goes_on);

@@ -8,7 +8,8 @@ use Rattle.wasm_feed.proofs.stripping.next_part.Goals as goal
 pub returns-in_err-parse_next-clause-takes : goal.returns-in_err-parse_next-clause-takes
 returns-in_err-parse_next-clause-takes c stream events a l =
     let made = c.in_err-parse_next.ensures in
-    let s = steps_in c.args.bytes.now c.args.cursor.now _ (Err c.in_err-parse_next.field-0.0) made.parses made.shows made.finished made.wants in
+    let s = steps_in c.args.bytes.now c.args.cursor.now _ (Err c.in_err-parse_next.field-0.0) made.parses made.shows made.finished
+    made.wants in
     let e = err_from_is_err_and c.from_residual.result c.from_residual.ensures.1 in
     rw (e.1, e.2) (fault_comes c.args.keep_names stream events _ _ a l c.requires _ s)
 
