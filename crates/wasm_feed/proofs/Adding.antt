@@ -144,7 +144,8 @@ pub ended_last : {A : Type 0} (start features : ℕ) (given : List ℕ) (old new
     → HasCome start features given old before → start + length given < 2 ^ 64 → old.eof ≡ true
     → ReadsHeld old before (Ok over) new after → IsReading given start features after
 ended_last start features given old new before after true h l e r =
-    let z : HasEnded start features true given after = rw e at (r (record { start = start; features = features; given = given; has_come = h; below = l })) in
+    let z : HasEnded start features true given after =
+    rw e at (r (record { start = start; features = features; given = given; has_come = h; below = l })) in
     (z.0, z.1 given refl, z.2)
 ended_last start features given old new before after false h l e r = let no : true ≡ false = sym e
     ∙ (r (grind (arith, given))).1 in cc

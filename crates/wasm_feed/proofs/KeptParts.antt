@@ -38,8 +38,8 @@ module _ (keep : Bool) (stream : List ℕ) (events : List Event) (f g : Feed) (a
   came : (bytes : Bor (List ℕ)) (payload : Payload) → Steps f (Ok (Parsed bytes payload)) g
       → Came 0 all_features true stream events bytes.now payload g.state g.held
   came bytes payload s =
-      rw eof at (stepped 0 all_features stream f.state f.held events a f.eof (Ok (Parsed bytes payload)) g.state g.held (omega (arith, l)) s.parses
-      s.shows)
+      rw eof at (stepped 0 all_features stream f.state f.held events a f.eof (Ok (Parsed bytes payload)) g.state g.held (omega (arith, l))
+      s.parses s.shows)
 
   pub part_comes : (bytes : Bor (List ℕ)) (payload : Payload) (fate : Fate) → Steps f (Ok (Parsed bytes payload)) g
       → IsFateOf keep (report_of payload) fate → FateComes keep stream events bytes.now fate g

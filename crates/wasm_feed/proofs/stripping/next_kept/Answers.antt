@@ -45,7 +45,8 @@ parts-preserved c =
     let passes = c.in_ok-part.ensures.passes in
     record {
       comes = λ stream kept h l. goes_kept _ stream kept (feed_of bytes c.parts.cursor) new (loop.comes stream kept h l)
-          c.in_ok-part.part.bytes.now (rw c.in-Goes.is at (c.in_ok-part.ensures.takes stream (loop.comes stream kept h l).0 (loop.comes stream kept h l).1 l));
+          c.in_ok-part.part.bytes.now
+          (rw c.in-Goes.is at (c.in_ok-part.ensures.takes stream (loop.comes stream kept h l).0 (loop.comes stream kept h l).1 l));
       finished = c.in_ok-part.ensures.finished;
       order = omega (arith, loop.order, passes.0);
       within = λ w. mark_within _ _ _ _ (loop.within w) passes;
