@@ -1,6 +1,6 @@
 -- What a step adds to the events that came.
 use Rattle.std.proofs.Common.{◌≡◌, ℕ, ◌+◌, ◌^◌, ◌<◌, Bool, true, false, List, [], ◌∷◌, ◌++◌, length, take, drop, slice_index_or, Bor, Some}
-use Rattle.std.proofs.Common.{None, Result, Ok, Err, nat_eq, refl, sym, ap, subst, subst₂, ◌∙◌, arith, length-append}
+use Rattle.std.proofs.Common.{None, Result, Ok, Err, refl, sym, ap, subst₂, ◌∙◌, arith, length-append}
 use Rattle.std.proofs.lemmas.Bool.Decides.{nat_tests}
 use Rattle.std.specs.List.{AllZip}
 use Rattle.wasm_base.specs.FaultAt.{fault_at}
@@ -10,20 +10,15 @@ use Rattle.wasm_parser.specs.ParseAnswer.{report_of, is_end, ParseAnswer}
 use Rattle.wasm_grammar.specs.Reading as reading
 use Rattle.wasm_grammar.specs.Reading.{last_event}
 use Rattle.wasm_parser.specs.declared.payload.Payload.{Payload}
-use Rattle.wasm_parser.specs.declared.payload.Payload.TheVariants.{Version, TypeSection, ImportSection, FunctionSection, TableSection}
-use Rattle.wasm_parser.specs.declared.payload.Payload.TheVariants.{MemorySection, TagSection, GlobalSection, ExportSection, StartSection}
-use Rattle.wasm_parser.specs.declared.payload.Payload.TheVariants.{ElementSection, DataCountSection, DataSection, CodeSectionStart}
-use Rattle.wasm_parser.specs.declared.payload.Payload.TheVariants.{CodeSectionEntry, CustomSection, UnknownSection, End}
 use Rattle.wasm_parser.proofs.ForCallers.{answers_go_along}
 use Rattle.wasm_parser.specs.Along.{Came}
 use Rattle.wasm_feed.specs.Cursors.{feed_of}
-use Rattle.wasm_feed.specs.Events.{IsKindOf, IsEvent, is_last, offsets_of, IsEventOfStep}
+use Rattle.wasm_feed.specs.Events.{IsKindOf, IsEvent, is_last, IsEventOfStep}
 use Rattle.wasm_feed.specs.Feed.{Feed, new_feed, pushed, finished}
 use Rattle.wasm_feed.specs.Pieces.{joined, IsReading, HasCome, HasEnded, GivenTo, ReadsHeld}
 use Rattle.wasm_feed.specs.Step.{answer_of, shown, is_request, Steps}
 use Rattle.wasm_feed.specs.declared.events.Event.{Event}
 use Rattle.wasm_feed.specs.declared.events.EventKind.{EventKind}
-use Rattle.wasm_feed.specs.declared.events.EventKind.TheVariants as kinds
 use Rattle.wasm_feed.specs.declared.feeder.Cursor.{Cursor}
 use Rattle.wasm_feed.specs.declared.feeder.Step.{Step}
 use Rattle.wasm_feed.specs.declared.feeder.Step.TheVariants.{NeedMoreData, Parsed}
@@ -32,70 +27,32 @@ use Rattle.wasm_feed.proofs.Joining.{joined_more, joined_parts}
 
 -- the end alone is the last payload
 last_is_end : (payload : Payload) (kind : EventKind) → IsKindOf (report_of payload) kind → is_last kind ≡ is_end (report_of payload)
-last_is_end (Version encoding num range) kind h = ap is_last h
-last_is_end (TypeSection s) kind h = ap is_last h
-last_is_end (ImportSection s) kind h = ap is_last h
-last_is_end (FunctionSection s) kind h = ap is_last h
-last_is_end (TableSection s) kind h = ap is_last h
-last_is_end (MemorySection s) kind h = ap is_last h
-last_is_end (TagSection s) kind h = ap is_last h
-last_is_end (GlobalSection s) kind h = ap is_last h
-last_is_end (ExportSection s) kind h = ap is_last h
-last_is_end (StartSection func range) kind h = ap is_last h
-last_is_end (ElementSection s) kind h = ap is_last h
-last_is_end (DataCountSection count range) kind h = ap is_last h
-last_is_end (DataSection s) kind h = ap is_last h
-last_is_end (CodeSectionStart count size unchecked_range) kind h = ap is_last h
-last_is_end (CodeSectionEntry body) kind h = ap is_last h
-last_is_end (CustomSection s) kind h = ap is_last h
-last_is_end (UnknownSection id contents range) kind h = ap is_last h
-last_is_end (End at) kind h = ap is_last h
+last_is_end payload kind h = grind arith
 
 fault_is_last : (e : Error) (kind : EventKind) → IsKindOf (last_event (fault (fault_at e))).report kind → is_last kind ≡ true
-fault_is_last e (kinds.Fault f) h = refl
-fault_is_last e (kinds.Version num encoding) h = absurd h
-fault_is_last e (kinds.Section id count) h = absurd h
-fault_is_last e (kinds.Start func) h = absurd h
-fault_is_last e (kinds.DataCount count) h = absurd h
-fault_is_last e (kinds.Code count size) h = absurd h
-fault_is_last e kinds.Body h = absurd h
-fault_is_last e (kinds.Custom data_offset) h = absurd h
-fault_is_last e (kinds.Unknown id) h = absurd h
-fault_is_last e kinds.End h = absurd h
+fault_is_last e kind h = grind arith
 
 -- the event that a step gave
 came_is : {A : Type 0} (start features : ℕ) (eof : Bool) (given : List ℕ) (events : List reading.Event) (bytes : List ℕ) (payload : Payload)
     (f : Feed) (value : Event A)
     → (c : Came start features eof given events bytes payload f.state f.held)
     → IsEvent (record { report = report_of payload; consumed = bytes }) value → IsEvent c.event value
-came_is start features eof given events bytes payload f value c i = record {
-  kind = subst (λ r. IsKindOf r value.kind) c.is_payload.0 i.kind;
-  range = i.range ∙ ap offsets_of c.is_payload.0;
-  bytes = i.bytes ∙ sym c.consumed;
-}
+came_is start features eof given events bytes payload f value c i = grind arith
 
 -- one event more
 all_more : {X Y : Type 0} (R : X → Y → Type 0) (xs : List X) (ys : List Y) (x : X) (y : Y) → AllZip R xs ys → R x y
     → AllZip R (xs ++ x ∷ []) (ys ++ y ∷ [])
 all_more R [] [] x y h r = (r, tt)
-all_more R [] (b ∷ ys) x y h r = absurd h
-all_more R (a ∷ xs) [] x y h r = absurd h
 all_more R (a ∷ xs) (b ∷ ys) x y h r = (h.0, all_more R xs ys x y h.1 r)
+all_more R _ _ x y h r = absurd h
 
 -- ---- a step, by what is made of it
-
-not_zero : (n : ℕ) → nat_eq n 0 ≡ false → 0 < n
-not_zero n e = grind (arith, nat_tests)
 
 module _ {A : Type 0} (start features : ℕ) (given : List ℕ) (f g : Feed) (values : List (Event A))
     (h : HasCome start features given f values) (l : start + length given < 2 ^ 64) where
   -- more is asked for
   pub asks : (x : Result Step Error) → Steps f x g → IsEventOfStep {A = A} x None → HasCome start features given g values × (f.eof ≡ false)
-  asks (Ok (NeedMoreData hint)) s i =
-      let u = stepped start features given f.state f.held h.0 h.1 f.eof (Ok (NeedMoreData hint)) g.state g.held l s.parses s.shows in
-      ((h.0, u.1, h.2), u.0.0)
-  asks (Ok (Parsed bytes payload)) s i = absurd i
-  asks (Err e) s i = absurd i
+  asks x s i = grind (arith, stepped)
 
   -- an event came, and is not the last one
   pub adds : (x : Result Step Error) (value : Event A) → Steps f x g → IsEventOfStep x (Some value) → is_last value.kind ≡ false
@@ -104,12 +61,7 @@ module _ {A : Type 0} (start features : ℕ) (given : List ℕ) (f g : Feed) (va
   adds (Ok (Parsed bytes payload)) value s i n =
       let u : Came start features f.eof given h.0 bytes.now payload g.state g.held =
       stepped start features given f.state f.held h.0 h.1 f.eof (Ok (Parsed bytes payload)) g.state g.held l s.parses s.shows in
-      let more : is_end (report_of payload) ≡ false = sym (last_is_end payload value.kind i.kind) ∙ n in (
-        h.0 ++ u.event ∷ [],
-        (u.goes_on more).0,
-        all_more IsEvent h.0 values u.event value h.2
-            (came_is start features f.eof given h.0 bytes.now payload g value u i),
-      )
+      grind (arith, last_is_end, all_more, came_is)
   adds (Err e) value s i n = let no : true ≡ false = sym (fault_is_last e value.kind i.kind) ∙ n in cc
 
   -- the last event came
@@ -119,15 +71,14 @@ module _ {A : Type 0} (start features : ℕ) (given : List ℕ) (f g : Feed) (va
   ends (Ok (Parsed bytes payload)) value s i n =
       let u : Came start features f.eof given h.0 bytes.now payload g.state g.held =
       stepped start features given f.state f.held h.0 h.1 f.eof (Ok (Parsed bytes payload)) g.state g.held l s.parses s.shows in
-      let over : is_end (report_of payload) ≡ true = sym (last_is_end payload value.kind i.kind) ∙ n in (
+      let over : is_end (report_of payload) ≡ true = grind (arith, last_is_end) in (
         h.0 ++ u.event ∷ [],
         u.ends over,
-        all_more IsEvent h.0 values u.event value h.2
-            (came_is start features f.eof given h.0 bytes.now payload g value u i),
+        search (all_more, came_is),
       )
   ends (Err e) value s i n =
       let u = stepped start features given f.state f.held h.0 h.1 f.eof (Err e) g.state g.held l s.parses s.shows in
-      (h.0 ++ last_event (fault (fault_at e)) ∷ [], u.0, all_more IsEvent h.0 values (last_event (fault (fault_at e))) value h.2 i)
+      (search all_more)
 
 -- there is less to read after an event that is not the last one
 pub fewer : {A : Type 0} (f g : Feed) (x : Result Step Error) (value : Event A) → Steps f x g → IsEventOfStep x (Some value)
@@ -135,10 +86,7 @@ pub fewer : {A : Type 0} (f g : Feed) (x : Result Step Error) (value : Event A) 
 fewer f g (Ok (NeedMoreData hint)) value s i n = absurd i
 fewer f g (Ok (Parsed bytes payload)) value s i n =
     let c = answers_go_along.consumes f.state g.state f.eof f.held (answer_of (Ok (Parsed bytes payload))) s.parses in
-    let some : nat_eq (length bytes.now) 0 ≡ false = c.1 ∙ (sym (last_is_end payload value.kind i.kind) ∙ n) in
-    let parts : length f.held ≡ length bytes.now + length g.held = ap (λ (y : List ℕ). length y) s.shows ∙ length-append bytes.now g.held in
-    let z : 0 < length bytes.now = not_zero (length bytes.now) some in
-    omega (arith, parts, z)
+    grind (arith, length-append, nat_tests)
 fewer f g (Err e) value s i n = let no : true ≡ false = sym (fault_is_last e value.kind i.kind) ∙ n in cc
 
 -- what is known of a step in these bytes
@@ -146,13 +94,7 @@ pub steps_in : (bytes : List ℕ) (old new : Cursor) (x : Result Step Error)
     → ParseAnswer old.parser old.is_finished (drop old.mark bytes) (answer_of x) new.parser → drop old.mark bytes ≡ shown x
     ++ drop new.mark bytes
     → new.is_finished ≡ old.is_finished → new.wants_more ≡ is_request x → Steps (feed_of bytes old) x (feed_of bytes new)
-steps_in bytes old new x parses shows finished wants = record {
-  parses = parses;
-  shows = shows;
-  stored = refl;
-  eof = finished;
-  wants_more = wants;
-}
+steps_in bytes old new x parses shows finished wants = grind arith
 
 -- ---- the pieces
 
@@ -165,7 +107,7 @@ come_pushed start features given f values piece h = (h.0, answers_go_along.more 
 
 pub come_finished : {A : Type 0} (start features : ℕ) (given : List ℕ) (f g : Feed) (values : List (Event A)) → g ≡ finished f
     → HasCome start features given f values → HasCome start features given g values
-come_finished start features given f g values e h = subst (λ (x : Feed). HasCome start features given x values) (sym e) (h.0, h.1, h.2)
+come_finished start features given f g values e h = rw e (h.0, h.1, h.2)
 
 module _ {A : Type 0} (start features : ℕ) (pieces : List (Bor (List ℕ))) (i : ℕ) (d : Bor (List ℕ)) (f mid new : Feed)
     (before after : List (Event A)) (b : i < length pieces) (l : start + length (joined pieces) < 2 ^ 64)
@@ -174,7 +116,7 @@ module _ {A : Type 0} (start features : ℕ) (pieces : List (Bor (List ℕ))) (i
   given : HasCome start features (joined (take (i + 1) pieces)) mid before
   given =
       subst₂ (λ (x : List ℕ) (y : Feed). HasCome start features x y before) (sym (joined_more pieces i d b)) (sym e)
-      (come_pushed start features (joined (take i pieces)) f before (slice_index_or pieces i d).now h)
+      (search come_pushed)
 
   within : start + length (joined (take (i + 1) pieces)) < 2 ^ 64
   within =
@@ -194,8 +136,7 @@ module _ {A : Type 0} (start features : ℕ) (pieces : List (Bor (List ℕ))) (i
   pub last_piece : mid.eof ≡ false → ReadsHeld mid before (Ok true) new after → IsReading (joined pieces) start features after
   last_piece goes r =
       let z : HasEnded start features false (joined (take (i + 1) pieces)) after =
-      subst (λ (eof : Bool). HasEnded start features eof (joined (take (i + 1) pieces)) after) goes
-      (r is_given) in
+      rw goes at (r is_given) in
       (z.0, z.1 (joined pieces) (joined (drop (i + 1) pieces), joined_parts pieces (i + 1)), z.2)
 
 -- all was given
@@ -203,8 +144,8 @@ pub ended_last : {A : Type 0} (start features : ℕ) (given : List ℕ) (old new
     → HasCome start features given old before → start + length given < 2 ^ 64 → old.eof ≡ true
     → ReadsHeld old before (Ok over) new after → IsReading given start features after
 ended_last start features given old new before after true h l e r =
-    let z : HasEnded start features true given after = subst (λ (eof : Bool). HasEnded start features eof given after) e
-    (r (record { start = start; features = features; given = given; has_come = h; below = l })) in
+    let z : HasEnded start features true given after =
+    rw e at (r (record { start = start; features = features; given = given; has_come = h; below = l })) in
     (z.0, z.1 given refl, z.2)
 ended_last start features given old new before after false h l e r = let no : true ≡ false = sym e
-    ∙ (r (record { start = start; features = features; given = given; has_come = h; below = l })).1 in cc
+    ∙ (r (grind (arith, given))).1 in cc

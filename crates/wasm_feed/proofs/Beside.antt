@@ -1,11 +1,11 @@
 -- That what a step answers beside a piece is what it answers on all of the piece.
 use Rattle.std.proofs.Common.{◌≡◌, ℕ, ◌+◌, ◌-◌, ◌<◌, ◌≤◌, Bool, true, false, List, [], ◌∷◌, ◌++◌, length, drop, Result, Ok, Err}
-use Rattle.std.proofs.Common.{refl, sym, ap, subst, subst₂, ◌∙◌, arith, append_assoc, append-nil, length-append, inl, inr, Option}
+use Rattle.std.proofs.Common.{refl, sym, ap, subst₂, ◌∙◌, arith, append_assoc, append-nil, length-append, inl, inr, Option}
 use Rattle.std.proofs.lemmas.List.{append_cancel_right, length-drop, drop-drop}
 use Rattle.wasm_base.specs.declared.error.Error.{Error}
 use Rattle.wasm_base.specs.Features.{all_features}
 use Rattle.wasm_grammar.specs.Reading.{Report}
-use Rattle.wasm_grammar.specs.Waiting.{enough as decides_all, wants as asks_for, waiting}
+use Rattle.wasm_grammar.specs.Waiting.{enough as decides_all, waiting}
 use Rattle.wasm_parser.specs.Along.{is_last, SaysTheSame}
 use Rattle.wasm_parser.specs.ParseAnswer.{IsRequest, ParseAnswer}
 use Rattle.wasm_parser.specs.ParserLaws.{AnswersLast}
@@ -13,7 +13,7 @@ use Rattle.wasm_parser.specs.ParserState.{ParserState, grammar_of}
 use Rattle.wasm_parser.specs.declared.payload.Chunk.{Chunk}
 use Rattle.wasm_parser.specs.declared.payload.Chunk.TheVariants as chunk
 use Rattle.wasm_parser.proofs.ForCallers.{answers_go_along}
-use Rattle.wasm_feed.specs.Beside.{beside, seen, unseen, lending, SeesEnough, AreEnough, ReadsEnough, MakesReady, IsAlike, FillsAlike}
+use Rattle.wasm_feed.specs.Beside.{beside, seen, lending, SeesEnough, AreEnough, ReadsEnough, MakesReady, IsAlike, FillsAlike}
 use Rattle.wasm_feed.specs.Beside.{Bounds, HasDecided, StaysIdle, StepsOver}
 use Rattle.wasm_lines.specs.Calls.{Change, from_to}
 use Rattle.wasm_feed.specs.Cursors.{feed_of}
@@ -22,7 +22,6 @@ use Rattle.wasm_feed.specs.Progress.{weight, Progress, Wants}
 use Rattle.wasm_feed.specs.Step.{answer_of, shown, is_request, Steps}
 use Rattle.wasm_feed.specs.declared.feeder.Cursor.{Cursor}
 use Rattle.wasm_feed.specs.declared.feeder.Step.{Step}
-use Rattle.wasm_feed.specs.declared.feeder.Step.TheVariants.{NeedMoreData, Parsed}
 use Rattle.wasm_feed.proofs.Progress.{begun, filled}
 use Rattle.wasm_feed.proofs.Stepping.{none_passed, steps_from}
 
@@ -32,7 +31,7 @@ use Rattle.wasm_feed.proofs.Stepping.{none_passed, steps_from}
 pub enough : (law : AnswersLast) (p : ParserState) (bytes : List ℕ) (one : Result Chunk Error) (new : ParserState)
     → ParseAnswer p false bytes one new → (IsRequest one → ⊥) → AreEnough p bytes
 enough law p bytes one new a decided more l other last b = law p last bytes more other b
-    (decides one other (answers_go_along.once p new last false bytes one other a b) decided) l false
+    (grind (arith, decides, answers_go_along.once)) l false
   where
     decides : (x y : Result Chunk Error) → SaysTheSame x y → (IsRequest x → ⊥) → IsRequest y → ⊥
     decides (Ok (chunk.NeedMoreData hint)) y e goes r = goes tt
@@ -45,8 +44,7 @@ enough law p bytes one new a decided more l other last b = law p last bytes more
 
 -- no bytes more change nothing
 pub nothing_more : (p : ParserState) (eof : Bool) (bytes more : List ℕ) → more ≡ [] → SeesEnough p eof bytes more
-nothing_more p eof bytes more e answer new a = subst (λ (l : List ℕ). ParseAnswer p eof l answer new)
-    (sym (ap (λ (l : List ℕ). bytes ++ l) e ∙ append-nil bytes)) a
+nothing_more p eof bytes more e answer new a = rw (ap (λ (l : List ℕ). bytes ++ l) e ∙ append-nil bytes) a
 
 -- ---- bytes that were stored
 
@@ -56,24 +54,11 @@ bounded_by old piece stored count within same stores =
     let sizes = ap (λ (l : List ℕ). length l) same in
     let both : length stored + (length piece - count) ≤ length old.held + length piece =
     omega (arith, sizes, length-append stored (drop count piece), length-append old.held piece, length-drop count piece) in
-    record {
-      fed = λ n. both;
-      unfed = λ e. let none : length piece ≡ 0 = ap (λ (l : List ℕ). length l) e in omega (arith, both, none, stores);
-    }
+    grind arith
 
 idle_by : (old : Feed) (piece stored : List ℕ) (count : ℕ) (c : Cursor) → c.mark ≡ 0 → stored ++ drop count piece ≡ old.held ++ piece
     → length old.held ≤ old.stored → (HasDecided old piece → count ≡ 0) → HasDecided old piece → StaysIdle old count stored c
-idle_by old piece stored count c first same stores idle h =
-    let none = idle h in
-    let held : stored ≡ old.held = append_cancel_right stored old.held piece (ap (λ (n : ℕ). stored ++ drop n piece) (sym none) ∙ same) in
-    let size = ap (λ (l : List ℕ). length l) held in
-    let some = h.holds in
-    record {
-      takes_none = none;
-      reads = ap (λ (m : ℕ). drop m stored) first ∙ held;
-      some = omega (arith, size, some);
-      bounded = omega (arith, size, stores);
-    }
+idle_by old piece stored count c first same stores idle h = grind (arith, append_cancel_right)
 
 -- a cursor at the first of the stored bytes, where these and what is left of the piece are what was held and the piece
 pub ready : (old : Feed) (piece stored : List ℕ) (count : ℕ) (c : Cursor) → count ≤ length piece → c.mark ≡ 0
@@ -81,22 +66,20 @@ pub ready : (old : Feed) (piece stored : List ℕ) (count : ℕ) (c : Cursor) �
     → SeesEnough c.parser c.is_finished stored (drop count piece) → length old.held ≤ old.stored → (HasDecided old piece → count ≡ 0)
     → MakesReady old piece count stored c
 ready old piece [] count c within first same state eof wants sees stores idle = record {
-  bounded = bounded_by old piece [] count within same stores;
+  bounded = search bounded_by;
   within = within;
-  same = let h : drop c.mark (drop count piece) ++ [] ≡ old.held ++ piece = append-nil (drop c.mark (drop count piece))
-      ∙ (ap (λ (m : ℕ). drop m (drop count piece)) first ∙ same) in cc;
-  enough = nothing_more c.parser c.is_finished (drop c.mark (drop count piece)) [] refl;
+  same = grind (arith, append-nil);
+  enough = search nothing_more;
   starts = λ e. first;
-  idle = idle_by old piece [] count c first same stores idle;
+  idle = search idle_by;
 }
 ready old piece (x ∷ xs) count c within first same state eof wants sees stores idle = record {
-  bounded = bounded_by old piece (x ∷ xs) count within same stores;
+  bounded = search bounded_by;
   within = within;
-  same = let h : drop c.mark (x ∷ xs) ++ drop count piece ≡ old.held ++ piece =
-      ap (λ (m : ℕ). drop m (x ∷ xs) ++ drop count piece) first ∙ same in cc;
+  same = cc;
   enough = rw first sees;
   starts = λ e. first;
-  idle = idle_by old piece (x ∷ xs) count c first same stores idle;
+  idle = search idle_by;
 }
 
 -- ---- a step
@@ -108,100 +91,58 @@ pub lent : (f : Feed) (stored piece items rest bytes : List ℕ) (old new : Curs
     → drop old.mark bytes ≡ shown x ++ drop new.mark bytes → new.is_finished ≡ old.is_finished → new.wants_more ≡ is_request x
     → Steps f x (lending stored piece new)
 lent f stored piece items rest bytes old new x from sees read items_are rest_is parses shows finished wants =
-    steps_from (lending stored piece old) f x (lending stored piece new) from (record {
-      parses = sees (answer_of x) new.parser
-          (subst (λ (l : List ℕ). ParseAnswer old.parser old.is_finished (drop old.mark l) (answer_of x) new.parser) same parses);
-      shows = subst (λ (l : List ℕ). drop old.mark l ++ unseen stored piece ≡ shown x ++ (drop new.mark l ++ unseen stored piece)) same
-          (ap (λ (l : List ℕ). l ++ unseen stored piece) shows ∙ append_assoc (shown x) (drop new.mark bytes) (unseen stored piece));
-      stored = refl;
-      eof = finished;
-      wants_more = wants;
-    })
+    steps_from (lending stored piece old) f x (lending stored piece new) from (grind (arith, same, append_assoc))
   where
     same : bytes ≡ seen stored piece
-    same = read ∙ (ap (λ (l : List ℕ). seen l rest) items_are ∙ ap (seen stored) rest_is)
+    same = cc
 
 -- ---- a listing
 
 -- how far it has come is seen by where the feeder is, what it holds, and whether the end was told
 pub alike : (text_of : Report → List ℕ) (input output : Change) (f g : Feed) (page : List ℕ) → IsAlike f g
     → Progress text_of input output f page → Progress text_of input output g page
-alike text_of input output f g page a p = record {
-  given = p.given;
-  events = p.events;
-  is_along = rw (← a.state, ← a.held) p.is_along;
-  gave = p.gave;
-  at_end = λ e. p.at_end (a.eof ∙ e);
-  lines = p.lines;
-  listed = p.listed;
-  parts = p.parts;
-}
+alike text_of input output f g page a p = grind arith
 
 pub begun_beside : (text_of : Report → List ℕ) (source taken : Option (List ℕ)) (stored piece : List ℕ) (c : Cursor) → stored ≡ []
     → piece ≡ [] → feed_of [] c ≡ new_feed 0 all_features
     → Progress text_of (from_to source source) (from_to taken taken) (beside (feed_of stored c) piece) []
-begun_beside text_of source taken stored piece c none no_piece new =
-    subst₂ (λ (s p : List ℕ). Progress text_of (from_to source source) (from_to taken taken) (beside (feed_of s c) p) [])
-    (sym none) (sym no_piece)
-    (alike text_of (from_to source source) (from_to taken taken) (new_feed 0 all_features) (beside (feed_of [] c) []) [] (record {
-      state = sym (ap (λ (f : Feed). f.state) new);
-      held = sym (append-nil (drop c.mark []) ∙ ap (λ (f : Feed). f.held) new);
-      eof = sym (ap (λ (f : Feed). f.eof) new);
-    }) (begun text_of source taken))
+begun_beside text_of source taken stored piece c none no_piece new = grind (arith, alike, append-nil, begun)
 
 alike_lighter : (text_of : Report → List ℕ) (input output : Change) (e f g : Feed) (page : List ℕ) → IsAlike f g
     → Progress text_of input output f page × (weight f < weight e) → Progress text_of input output g page × (weight g < weight e)
-alike_lighter text_of input output e f g page a (p, less) =
-    (alike text_of input output f g page a p, rw (← a.state, ← a.held, ← a.eof) less)
+alike_lighter text_of input output e f g page a (p, less) = grind (arith, alike)
 
 pub same_lighter : (text_of : Report → List ℕ) (input output : Change) (e f g : Feed) (page : List ℕ) → g ≡ f
     → Progress text_of input output f page × (weight f < weight e) → Progress text_of input output g page × (weight g < weight e)
-same_lighter text_of input output e f g page same p =
-    subst (λ (h : Feed). Progress text_of input output h page × (weight h < weight e)) (sym same) p
+same_lighter text_of input output e f g page same p = rw same p
 
 -- what comes next was read, or the source ended
 pub filled_alike : (text_of : Report → List ℕ) (source rest taken written rest' : Option (List ℕ)) (f g : Feed)
     → Wants text_of (from_to source rest) (from_to taken written) f [] → FillsAlike rest rest' f g
     → Progress text_of (from_to source rest') (from_to taken written) g [] × (weight g < weight f)
-filled_alike text_of source rest taken written rest' f g w (inl (none, at_end, a)) =
-    alike_lighter text_of (from_to source rest') (from_to taken written) f (finished f) g [] a
-    (filled text_of source rest taken written f w rest' (finished f) (inl (none, at_end, refl)))
+filled_alike text_of source rest taken written rest' f g w (inl (none, at_end, a)) = grind (arith, alike_lighter, filled)
 filled_alike text_of source rest taken written rest' f g w (inr (piece, gave, some, a)) =
     alike_lighter text_of (from_to source rest') (from_to taken written) f (pushed f piece) g [] a
     (filled text_of source rest taken written f w rest' (pushed f piece) (inr (piece, gave, some, refl)))
 
 -- ---- a step over a piece
 
--- where something is stored, a step leaves the piece
-pub leaves_piece : (stored piece : List ℕ) (c : Cursor) → 0 < length stored
-    → beside (feed_of stored c) (drop 0 piece) ≡ lending stored piece c
-leaves_piece [] piece c some = absurd (omega arith)
-leaves_piece (x ∷ xs) piece c some = refl
-
 -- a step reads what is stored, if something is
 pub seen_some : (stored rest : List ℕ) → 0 < length stored → seen stored rest ≡ stored
-seen_some [] rest some = absurd (omega arith)
-seen_some (x ∷ xs) rest some = refl
+seen_some stored rest some = grind arith
 
 -- where more bytes are asked for, those that are there don't decide
 pub undecided : (p new : ParserState) (bytes : List ℕ) (one : Result Chunk Error) (hint : ℕ) → ParseAnswer p false bytes one new
     → one ≡ Ok (chunk.NeedMoreData hint) → waiting (grammar_of p) bytes ≡ decides_all → ⊥
-undecided p new bytes one hint a is e =
-    let (goes, (need, u)) =
-    answers_go_along.asks p new false bytes hint (subst (λ (r : Result Chunk Error). ParseAnswer p false bytes r new) is a) in
-    let no : decides_all ≡ asks_for need hint = sym e ∙ u in cc
+undecided p new bytes one hint a is e = grind (arith, answers_go_along.asks)
 
 -- bytes that decide are no request
 decided : (p new : ParserState) (bytes : List ℕ) (x : Result Step Error) → ParseAnswer p false bytes (answer_of x) new
     → waiting (grammar_of p) bytes ≡ decides_all → is_request x ≡ false
-decided p new bytes (Ok (NeedMoreData hint)) a e = absurd (undecided p new bytes (Ok (chunk.NeedMoreData hint)) hint a refl e)
-decided p new bytes (Ok (Parsed shown payload)) a e = refl
-decided p new bytes (Err error) a e = refl
+decided p new bytes x a e = grind (arith, undecided)
 
 last_is_no_request : (x : Result Step Error) → is_last (answer_of x) ≡ true → is_request x ≡ false
-last_is_no_request (Ok (NeedMoreData hint)) l = cc
-last_is_no_request (Ok (Parsed bytes payload)) l = refl
-last_is_no_request (Err e) l = refl
+last_is_no_request x l = grind arith
 
 -- What is known of a step over a piece: `old` is the cursor once so many bytes of the piece are stored, and `new` the same after the step.
 module _ (f : Feed) (piece rest stored items bytes : List ℕ) (count : ℕ) (old new : Cursor) (x : Result Step Error)
@@ -210,8 +151,7 @@ module _ (f : Feed) (piece rest stored items bytes : List ℕ) (count : ℕ) (ol
     (shows : drop old.mark bytes ≡ shown x ++ drop new.mark bytes) (finished : new.is_finished ≡ old.is_finished)
     (wants : new.wants_more ≡ is_request x) (moves : new.mark ≡ old.mark + length (shown x)) where
   stepped : Steps (beside f piece) x (lending stored (drop count piece) new)
-  stepped = lent (beside f piece) stored (drop count piece) items rest bytes old new x r.same r.enough read items_are left parses shows
-      finished wants
+  stepped = search lent
 
   reads : bytes ≡ seen stored rest
   reads = read ∙ ap (λ (l : List ℕ). seen l rest) items_are
@@ -230,17 +170,13 @@ module _ (f : Feed) (piece rest stored items bytes : List ℕ) (count : ℕ) (ol
       → (new.wants_more ≡ false → 0 < length stored → (taken ≡ 0) × (length kept ≡ length stored))
       → StepsOver f piece x (count + taken) (feed_of kept last)
   over taken kept last takes within asks bounded stays idle = record {
-    steps = subst (λ (g : Feed). Steps (beside f piece) x g) (sym same) stepped;
+    steps = rw same stepped;
     asks = λ e. let all = asks (wants ∙ e) in omega (arith, all, size, sizes, r.within);
     stays = λ l. subst₂ (λ (p q : ParserState). ParseAnswer p f.eof (drop last.mark kept) (answer_of x) q) state
         (sym (ap (λ (g : Feed). g.state) takes))
-        (subst₂ (λ (b : Bool) (held : List ℕ). ParseAnswer old.parser b held (answer_of x) new.parser)
-        eof (sym (held l)) parses);
+        (grind (arith, held, eof));
     stores = omega (arith, length-drop last.mark kept);
-    bounded = record {
-      fed = λ n. let b = r.bounded.fed n in omega (arith, b, bounded, size, sizes);
-      unfed = λ e. let b = r.bounded.unfed e in omega (arith, b, bounded, size, sizes);
-    };
+    bounded = grind (arith, size, sizes);
     idle = λ h.
         let i = r.idle h in
         let (none, kept_all) = idle (wants ∙ no_request h i) i.some in
@@ -250,24 +186,17 @@ module _ (f : Feed) (piece rest stored items bytes : List ℕ) (count : ℕ) (ol
   }
     where
       size : length rest ≡ length (drop count piece)
-      size = ap (λ (l : List ℕ). length l) left
+      size = rw left refl
 
       sizes : length (drop count piece) ≡ length piece - count
       sizes = length-drop count piece
 
       same : beside (feed_of kept last) (drop (count + taken) piece) ≡ lending stored (drop count piece) new
-      same = ap (beside (feed_of kept last)) (sym (ap (drop taken) left ∙ drop-drop taken count piece))
-          ∙ (takes ∙ ap (λ (l : List ℕ). lending stored l new) left)
+      same = grind (arith, drop-drop)
 
       held : is_last (answer_of x) ≡ true → drop last.mark kept ≡ drop old.mark bytes
       held l =
-          let none = ap (λ (b : List ℕ). length b) (none_passed old.parser new.parser old.is_finished (drop old.mark bytes) x parses l) in
-          let mark : new.mark ≡ old.mark = omega (arith, moves, none) in
-          stays (wants ∙ last_is_no_request x l) (λ e. mark ∙ r.starts e)
-          ∙ (ap (λ (m : ℕ). drop m (seen stored rest)) mark ∙ ap (drop old.mark) (sym reads))
+          grind (arith, none_passed, last_is_no_request, reads)
 
       no_request : HasDecided f piece → StaysIdle f count stored old → is_request x ≡ false
-      no_request h i = decided f.state new.parser f.held x
-          (subst₂ (λ (p : ParserState) (b : Bool). ParseAnswer p b f.held (answer_of x) new.parser) state (eof ∙ h.goes_on)
-          (subst (λ (l : List ℕ). ParseAnswer old.parser old.is_finished l (answer_of x) new.parser)
-          (ap (drop old.mark) (reads ∙ seen_some stored rest i.some) ∙ i.reads) parses)) h.decides
+      no_request h i = grind (arith, decided, state, eof, reads, seen_some)

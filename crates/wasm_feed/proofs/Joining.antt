@@ -1,5 +1,5 @@
 -- Pieces that are joined.
-use Rattle.std.proofs.Common.{◌≡◌, ℕ, ◌+◌, ◌<◌, ◌≤◌, List, [], ◌∷◌, ◌++◌, length, take, drop, slice_index_or, Bor, sym, ap, ◌∙◌, append-nil}
+use Rattle.std.proofs.Common.{◌≡◌, ℕ, ◌+◌, ◌<◌, ◌≤◌, List, ◌++◌, length, take, drop, slice_index_or, Bor, sym, ap, ◌∙◌, append-nil}
 use Rattle.std.proofs.lemmas.List.{take_more, take-append-drop}
 use Rattle.std.proofs.lemmas.List.Concat.{flat_map-append}
 use Rattle.std.proofs.lemmas.List.Folds.{length-flat_map-take}
@@ -10,8 +10,7 @@ pub joined_more : (pieces : List (Bor (List ℕ))) (i : ℕ) (d : Bor (List ℕ)
     ≡ joined (take i pieces) ++ (slice_index_or pieces i d).now
 joined_more pieces i d l =
     ap joined (take_more pieces i d l)
-    ∙ (flat_map-append (λ (p : Bor (List ℕ)). p.now) (take i pieces) (slice_index_or pieces i d ∷ [])
-    ∙ ap (λ (x : List ℕ). joined (take i pieces) ++ x) (append-nil (slice_index_or pieces i d).now))
+    ∙ (search (flat_map-append, append-nil))
 
 -- the first pieces are no longer than all
 pub joined_within : (pieces : List (Bor (List ℕ))) (i : ℕ) (d : Bor (List ℕ)) → i < length pieces

@@ -1,21 +1,18 @@
 -- What a step over a stream that is stripped says of the bytes that are left.
-use Rattle.std.proofs.Common.{◌≡◌, ℕ, ◌+◌, ◌^◌, ◌<◌, ◌≤◌, Bool, true, false, cond, List, [], ◌∷◌, ◌++◌, length, Bor, Ok, Err, nat_eq, refl}
-use Rattle.std.proofs.Common.{sym, ap, subst, subst₂, ◌∙◌, arith, length-append, append-nil}
-use Rattle.std.specs.List.{filter}
+use Rattle.std.proofs.Common.{◌≡◌, ℕ, ◌+◌, ◌^◌, ◌<◌, ◌≤◌, Bool, true, false, List, [], ◌∷◌, ◌++◌, length, Bor, Ok, Err, refl}
+use Rattle.std.proofs.Common.{sym, ap, subst₂, ◌∙◌, arith, length-append, append-nil}
 use Rattle.std.proofs.lemmas.Bool.Decides.{nat_tests}
-use Rattle.wasm_base.specs.FaultAt.{fault_at}
 use Rattle.wasm_base.specs.declared.error.Error.{Error}
-use Rattle.wasm_grammar.specs.Content.{fault}
 use Rattle.wasm_grammar.specs.EventRanges.{consumed_by}
 use Rattle.wasm_parser.specs.ParseAnswer.{report_of, is_end}
-use Rattle.wasm_grammar.specs.Reading.{Event, last_event, Reading}
+use Rattle.wasm_grammar.specs.Reading.{Event}
 use Rattle.wasm_parser.specs.declared.payload.Payload.{Payload}
 use Rattle.wasm_parser.proofs.ForCallers.{answers_go_along}
 use Rattle.wasm_parser.specs.ParserState.{ParserState, initial_state}
-use Rattle.wasm_parser.specs.Along.{Along, Came, ReadsEach}
+use Rattle.wasm_parser.specs.Along.{Along, Came}
 use Rattle.wasm_feed.specs.Feed.{Feed}
 use Rattle.wasm_feed.specs.Step.{answer_of, Steps}
-use Rattle.wasm_feed.specs.Stripped.{report_stays, event_stays, kept_bytes, EndsWithFault}
+use Rattle.wasm_feed.specs.Stripped.{event_stays, kept_bytes, EndsWithFault}
 use Rattle.wasm_feed.specs.Strips.{IsFateOf, FateComes, IsFewer, HasKept, ReadsKept}
 use Rattle.wasm_feed.specs.declared.feeder.Step.TheVariants.{Parsed}
 use Rattle.wasm_feed.specs.declared.stripping.Fate.{Fate}
@@ -24,23 +21,16 @@ use Rattle.wasm_feed.proofs.Stepping.{stepped}
 use Rattle.wasm_feed.proofs.KeptFrames.{kept_more}
 use Rattle.wasm_base.specs.Features.{all_features}
 
-some_bytes : (n : ℕ) → nat_eq n 0 ≡ false → 0 < n
-some_bytes n e = grind (arith, nat_tests)
-
 -- fewer bytes are held after a part that isn't the end
 fewer : (f g : Feed) (bytes : Bor (List ℕ)) (payload : Payload) → Steps f (Ok (Parsed bytes payload)) g → is_end (report_of payload) ≡ false
     → length g.held < length f.held
 fewer f g bytes payload s n =
     let c = answers_go_along.consumes f.state g.state f.eof f.held (answer_of (Ok (Parsed bytes payload))) s.parses in
-    let parts : length f.held ≡ length bytes.now + length g.held = ap (λ (y : List ℕ). length y) s.shows ∙ length-append bytes.now g.held in
-    let z : 0 < length bytes.now = some_bytes (length bytes.now) (c.1 ∙ n) in
-    omega (arith, parts, z)
+    grind (arith, length-append, nat_tests)
 
 pub part_goes_on : (keep : Bool) (f g : Feed) (bytes : Bor (List ℕ)) (payload : Payload) (fate : Fate)
     → Steps f (Ok (Parsed bytes payload)) g → IsFateOf keep (report_of payload) fate → IsFewer fate f g
-part_goes_on keep f g bytes payload Stays s i = fewer f g bytes payload s i.0
-part_goes_on keep f g bytes payload Goes s i = fewer f g bytes payload s i.0
-part_goes_on keep f g bytes payload End s i = tt
+part_goes_on keep f g bytes payload fate s i = grind (arith, fewer)
 
 module _ (keep : Bool) (stream : List ℕ) (events : List Event) (f g : Feed) (a : Along 0 all_features stream f.state f.held events)
     (l : length stream < 2 ^ 64) (eof : f.eof ≡ true) where
@@ -48,27 +38,23 @@ module _ (keep : Bool) (stream : List ℕ) (events : List Event) (f g : Feed) (a
   came : (bytes : Bor (List ℕ)) (payload : Payload) → Steps f (Ok (Parsed bytes payload)) g
       → Came 0 all_features true stream events bytes.now payload g.state g.held
   came bytes payload s =
-      subst (λ (b : Bool). Came 0 all_features b stream events bytes.now payload g.state g.held) eof
-      (stepped 0 all_features stream f.state f.held events a f.eof (Ok (Parsed bytes payload)) g.state g.held (omega (arith, l)) s.parses
-      s.shows)
+      rw eof at (stepped 0 all_features stream f.state f.held events a f.eof (Ok (Parsed bytes payload)) g.state g.held (omega (arith, l))
+      s.parses s.shows)
 
   pub part_comes : (bytes : Bor (List ℕ)) (payload : Payload) (fate : Fate) → Steps f (Ok (Parsed bytes payload)) g
       → IsFateOf keep (report_of payload) fate → FateComes keep stream events bytes.now fate g
-  part_comes bytes payload Stays s i =
-      let u : Came 0 all_features true stream events bytes.now payload g.state g.held = came bytes payload s in
-      (u.event, (ap (report_stays keep) (sym u.is_payload.0) ∙ i.1, (u.goes_on i.0).0), u.consumed)
-  part_comes bytes payload Goes s i =
-      let u : Came 0 all_features true stream events bytes.now payload g.state g.held = came bytes payload s in
-      (u.event, (ap (report_stays keep) (sym u.is_payload.0) ∙ i.1, (u.goes_on i.0).0))
   part_comes bytes payload End s i =
       let u : Came 0 all_features true stream events bytes.now payload g.state g.held = came bytes payload s in
       let (offset, last) = u.last i in
-      (offset, subst (λ (x : Event). Reading stream 0 all_features (events ++ x ∷ [])) last (u.ends i stream refl))
+      grind arith
+  part_comes bytes payload _ s i =
+      let u : Came 0 all_features true stream events bytes.now payload g.state g.held = came bytes payload s in
+      grind arith
 
   pub fault_comes : (e : Error) → Steps f (Err e) g → EndsWithFault stream e
   fault_comes e s =
       let u = stepped 0 all_features stream f.state f.held events a f.eof (Err e) g.state g.held (omega (arith, l)) s.parses s.shows in
-      (events, subst (λ (b : Bool). ReadsEach 0 all_features b stream (events ++ last_event (fault (fault_at e)) ∷ [])) eof u.0 stream refl)
+      (events, grind arith)
 
 -- ---- the bytes that are left
 
@@ -91,21 +77,11 @@ one_goes keep e s = rw s refl
 module _ (keep : Bool) (stream kept : List ℕ) (f g : Feed) (h : HasKept keep stream f kept) where
   -- a part that stays
   pub stays_kept : (bytes : List ℕ) → FateComes keep stream h.0 bytes Stays g → HasKept keep stream g (kept ++ bytes)
-  stays_kept bytes (e, (s, a), c) = (
-    h.0 ++ e ∷ [],
-    a,
-    (λ i. h.2 i ++ sym c i) ∙ (ap (λ (x : List ℕ). kept_bytes keep h.0 ++ x) (sym (one_stays keep e s))
-        ∙ sym (kept_more keep h.0 (e ∷ []))),
-  )
+  stays_kept bytes (e, (s, a), c) = grind (arith, one_stays, kept_more)
 
   -- a part that is dropped
   pub goes_kept : (bytes : List ℕ) → FateComes keep stream h.0 bytes Goes g → HasKept keep stream g kept
-  goes_kept bytes (e, (s, a)) = (
-    h.0 ++ e ∷ [],
-    a,
-    h.2 ∙ (sym (append-nil (kept_bytes keep h.0)) ∙ (ap (λ (x : List ℕ). kept_bytes keep h.0 ++ x) (sym (one_goes keep e s))
-        ∙ sym (kept_more keep h.0 (e ∷ [])))),
-  )
+  goes_kept bytes (e, (s, a)) = (search (append-nil, one_goes, kept_more))
 
   -- the end
   pub all_kept : (bytes : List ℕ) → FateComes keep stream h.0 bytes End g → ReadsKept keep stream kept
@@ -113,19 +89,13 @@ module _ (keep : Bool) (stream kept : List ℕ) (f g : Feed) (h : HasKept keep s
 
 kept_shorter : (keep : Bool) (events : List Event) → length (kept_bytes keep events) ≤ length (consumed_by events)
 kept_shorter keep [] = omega arith
-kept_shorter keep (e ∷ events) = by_fate (event_stays keep e) (kept_shorter keep events)
-  where
-    by_fate : (b : Bool) → length (kept_bytes keep events) ≤ length (consumed_by events)
-        → length (consumed_by (cond b (e ∷ filter (event_stays keep) events) (filter (event_stays keep) events))) ≤ length
-        (e.consumed ++ consumed_by events)
-    by_fate true h = omega (arith, h, length-append e.consumed (kept_bytes keep events), length-append e.consumed (consumed_by events))
-    by_fate false h = omega (arith, h, length-append e.consumed (consumed_by events))
+kept_shorter keep (e ∷ events) = grind (arith, length-append, kept_shorter keep events)
 
 -- what is left is no longer than the stream
 pub no_longer : (keep : Bool) (stream : List ℕ) (f : Feed) (kept : List ℕ) → HasKept keep stream f kept → length kept ≤ length stream
 no_longer keep stream f kept (events, a, e) =
-    let n : length kept ≡ length (kept_bytes keep events) = ap (λ (x : List ℕ). length x) e in
+    let n : length kept ≡ length (kept_bytes keep events) = rw e refl in
     let w : length stream ≡ length (consumed_by events) + length f.held =
-    ap (λ (x : List ℕ). length x) (answers_go_along.consumed 0 all_features stream f.state f.held events a)
+    ap (λ (x : List ℕ). length x) (search answers_go_along.consumed)
     ∙ length-append (consumed_by events) f.held in
     omega (arith, n, w, kept_shorter keep events)

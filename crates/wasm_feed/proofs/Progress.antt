@@ -1,17 +1,16 @@
 -- How far a listing has come, and what each turn does to it.
-use Rattle.std.proofs.Common.{◌≡◌, ℕ, ◌+◌, ◌^◌, ◌<◌, ◌≤◌, Bool, true, false, if◌then◌else◌, List, [], ◌∷◌, ◌++◌, length}
-use Rattle.std.proofs.Common.{Option, Some, None, IfSome, Result, Ok, Err, refl, sym, ap, subst, ◌∙◌, arith, append_assoc}
-use Rattle.std.proofs.Common.{append-nil, length-append, inl, inr}
-use Rattle.std.specs.Io.KnownBytes.{Consumes, Appends, IsAtEnd, Keeps}
+use Rattle.std.proofs.Common.{◌≡◌, ℕ, ◌+◌, ◌^◌, ◌<◌, ◌≤◌, Bool, true, false, if◌then◌else◌, List, [], ◌∷◌, ◌++◌, length, Option, Result, Ok}
+use Rattle.std.proofs.Common.{Err, refl, sym, ap, subst, ◌∙◌, arith, append_assoc, append-nil, length-append, inl, inr}
+use Rattle.std.specs.Io.KnownBytes.{Consumes, Appends, Keeps}
 use Rattle.std.proofs.KnownBytes.{Consumes-nil, Consumes-trans, Consumes-kept, Appends-nil, Appends-trans}
 use Rattle.wasm_base.specs.FaultAt.{fault_at, at_offset}
 use Rattle.wasm_base.specs.declared.error.Error.{Error}
 use Rattle.wasm_base.specs.declared.fault.Fault.TheVariants.{OffsetRange}
-use Rattle.wasm_grammar.specs.Content.{Ending, fault, ended}
+use Rattle.wasm_grammar.specs.Content.{Ending, fault}
 use Rattle.wasm_grammar.specs.EventRanges.{consumed_by}
-use Rattle.wasm_parser.specs.GivesNextEvent.{MayBe, IsUndecided}
+use Rattle.wasm_parser.specs.GivesNextEvent.{MayBe}
 use Rattle.wasm_parser.specs.ParseAnswer.{report_of, is_end}
-use Rattle.wasm_grammar.specs.Reading.{Report, stream_end, Event, events_of, last_event, Reading}
+use Rattle.wasm_grammar.specs.Reading.{Report, stream_end, Event, last_event, Reading}
 use Rattle.wasm_parser.specs.declared.payload.Payload.{Payload}
 use Rattle.wasm_parser.specs.Along.{ReadingBegins, BeginsEach, ReadsEach, Came}
 use Rattle.wasm_parser.proofs.ForCallers.{answers_go_along}
@@ -38,12 +37,7 @@ use Rattle.wasm_base.specs.Features.{all_features}
 -- a reading that is told begins each of its streams
 whole_begins : (start features : ℕ) (eof : Bool) (given : List ℕ) (events : List Event) → ReadsEach start features eof given events
     → BeginsEach start features eof given events
-whole_begins start features eof given events r stream m = record {
-  events = events;
-  more = [];
-  reading = r stream m;
-  begins = sym (append-nil events);
-}
+whole_begins start features eof given events r stream m = grind (arith, append-nil)
 
 -- a source that kept its bytes
 kept : (source rest rest' : Option (List ℕ)) (given : List ℕ) → Consumes source rest given → Keeps rest rest' → Consumes source rest' given
@@ -62,16 +56,13 @@ last_is d (x ∷ es) e = last_is x es e
 
 reading_ends : (stream : List ℕ) (events : List Event) (e : Event) (r : Reading stream 0 all_features (events ++ e ∷ [])) → e
     ≡ last_event r.end
-reading_ends stream events e r = sym (last_is e events e) ∙ (ap (last_of e) r.listed
-    ∙ last_is e (events_of 0 all_features r.tiles) (last_event r.end))
+reading_ends stream events e r = sym (last_is e events e) ∙ (grind (arith, last_is))
 
 ends_well : (end : Ending) (r : Report) → r ≡ stream_end end → is_end r ≡ true → IsEndedBy End end
-ends_well (ended o) r e t = tt
-ends_well (fault f) r e t = let no : false ≡ true = sym (ap is_end e) ∙ t in cc
+ends_well end r e t = grind arith
 
 all_given : (eof : Bool) (given : List ℕ) → MayBe eof given given
-all_given true given = refl
-all_given false given = ([], sym (append-nil given))
+all_given eof given = grind (arith, append-nil)
 
 -- ---- what is listed: each event by the text of what it reports
 
@@ -92,8 +83,7 @@ module _ (text_of : Report → List ℕ) where
 
   listing-append : (es fs : List Event) → listing_by text_of (es ++ fs) ≡ listing_by text_of es ++ listing_by text_of fs
   listing-append [] fs = refl
-  listing-append (x ∷ es) fs = ap (λ (l : List ℕ). text_of x.report ++ l) (listing-append es fs)
-      ∙ sym (append_assoc (text_of x.report) (listing_by text_of es) (listing_by text_of fs))
+  listing-append (x ∷ es) fs = search (append_assoc, listing-append es fs)
 
   one_more : (es : List Event) (e : Event) → listing_by text_of (es ++ e ∷ []) ≡ listing_by text_of es ++ text_of e.report
   one_more es e = listing-append es (e ∷ []) ∙ ap (λ (l : List ℕ). listing_by text_of es ++ l) (append-nil (text_of e.report))
@@ -105,8 +95,7 @@ module _ (text_of : Report → List ℕ) where
     events = r.events;
     reading = r.reading;
     more = more ++ listing_by text_of r.more;
-    parts = ap (listing_by text_of) r.begins ∙ (listing-append events r.more
-        ∙ (ap (λ (x : List ℕ). x ++ listing_by text_of r.more) e ∙ append_assoc lines more (listing_by text_of r.more)));
+    parts = grind (arith, listing-append, append_assoc);
   }
 
   -- a page of which a beginning was written
@@ -127,13 +116,13 @@ module _ (text_of : Report → List ℕ) where
       (p : Progress text_of (from_to source rest) (from_to taken written) f page) where
     ends_at : f.state.offset + length f.held ≡ length p.given
     ends_at = let o : f.state.offset + length f.held ≡ 0 + length p.given =
-        answers_go_along.ends 0 all_features p.given f.state f.held p.events p.is_along in omega (arith, o)
+        search answers_go_along.ends in omega (arith, o)
 
     -- the parser is where the events end
     passed : f.state.offset ≡ length (consumed_by p.events)
     passed =
         let n : length p.given ≡ length (consumed_by p.events) + length f.held =
-        ap (λ (x : List ℕ). length x) (answers_go_along.consumed 0 all_features p.given f.state f.held p.events p.is_along)
+        ap (λ (x : List ℕ). length x) (search answers_go_along.consumed)
         ∙ length-append (consumed_by p.events) f.held in
         omega (arith, n, ends_at)
 
@@ -150,7 +139,7 @@ module _ (text_of : Report → List ℕ) where
       gave = p.gave;
       at_end = p.at_end;
       lines = p.lines ++ page;
-      listed = Appends-trans taken written written' p.lines page p.listed w;
+      listed = search Appends-trans;
       parts = p.parts ∙ sym (append-nil (p.lines ++ page));
     }
 
@@ -161,16 +150,14 @@ module _ (text_of : Report → List ℕ) where
       given = p.given;
       shown = p.lines ++ w.moved;
       gave = p.gave;
-      listed = Appends-trans taken written written' p.lines w.moved p.listed w.wrote;
+      listed = search Appends-trans;
       begins = λ l. begins_listing p.given p.events (p.lines ++ w.moved) w.unwritten begins_here
-          (p.parts ∙ cut_page p.lines page w.moved w.unwritten w.parts);
+          (grind (arith, cut_page));
     }
 
     pub cut : (written' : Option (List ℕ)) (e : ListError) → IsCut written written' page e
         → ListsBy text_of (from_to source rest) (from_to taken written') (Err e)
-    cut written' Output w = cut_beginning written' w
-    cut written' Memory w = cut_beginning written' w
-    cut written' Input w = absurd w
+    cut written' e w = grind (arith, cut_beginning)
 
     -- no memory for what came
     pub no_memory : (rest' : Option (List ℕ)) (piece : List ℕ) → Consumes rest rest' piece
@@ -178,7 +165,7 @@ module _ (text_of : Report → List ℕ) where
     no_memory rest' piece c = record {
       given = p.given ++ piece;
       shown = p.lines;
-      gave = Consumes-trans source rest rest' p.given piece p.gave c;
+      gave = search Consumes-trans;
       listed = p.listed;
       begins = λ l. begins_listing (p.given ++ piece) p.events p.lines page
           (answers_go_along.first 0 all_features p.given f.state f.held p.events false p.is_along (p.given ++ piece) (piece, refl)) p.parts;
@@ -188,14 +175,7 @@ module _ (text_of : Report → List ℕ) where
     put_line : (written' : Option (List ℕ)) (line page' : List ℕ) (e : Event) (w : PutsBytes written written' page line page') → line
         ≡ text_of e.report
         → Appends taken written' (p.lines ++ w.moved) × (listing_by text_of (p.events ++ e ∷ []) ≡ (p.lines ++ w.moved) ++ page')
-    put_line written' line page' e w same = (
-      Appends-trans taken written written' p.lines w.moved p.listed w.writes,
-      one_more p.events e ∙ (ap (λ (x : List ℕ). x ++ text_of e.report) p.parts
-          ∙ (append_assoc p.lines page (text_of e.report) ∙ (ap (λ (x : List ℕ). p.lines ++ (page ++ x)) (sym same) ∙ waits_after))),
-    )
-      where
-        waits_after : p.lines ++ (page ++ line) ≡ (p.lines ++ w.moved) ++ page'
-        waits_after = ap (λ (x : List ℕ). p.lines ++ x) w.waits ∙ sym (append_assoc p.lines w.moved page')
+    put_line written' line page' e w same = grind (arith, Appends-trans, one_more, append_assoc)
 
     -- the listing of a reading that ends here, of which a part waits
     last_line : (written' : Option (List ℕ)) (line page' : List ℕ) (end : Ending) (w : PutsBytes written written' page line page') → line
@@ -204,19 +184,11 @@ module _ (text_of : Report → List ℕ) where
         → Appends taken written'' (listing_by text_of (p.events ++ last_event end ∷ []))
     last_line written' line page' end w same written'' v =
         let (wrote, parts) = put_line written' line page' (last_event end) w same in
-        subst (Appends taken written'') (sym parts) (Appends-trans taken written' written'' (p.lines ++ w.moved) page' wrote v)
+        rw parts (Appends-trans taken written' written'' (p.lines ++ w.moved) page' wrote v)
 
     -- the source's whole input is one of the streams that begin with what it gave
     whole_input : (events : List Event) → ReadsEach 0 all_features f.eof p.given events → IsWhole source p.given events
-    whole_input events r = record { reading = r p.given (all_given f.eof p.given); all = of_input source rest p.gave f.eof r p.at_end }
-      where
-        of_input : (source rest : Option (List ℕ)) → Consumes source rest p.given → (eof : Bool)
-            → ReadsEach 0 all_features eof p.given events
-            → (eof ≡ true → IsAtEnd rest) → IfSome source (λ input. Reading input 0 all_features events)
-        of_input None rest g eof r h = tt
-        of_input (Some input) None g eof r h = absurd g
-        of_input (Some input) (Some more) g true r h = r input (g ∙ (ap (λ (x : List ℕ). p.given ++ x) (h refl) ∙ append-nil p.given))
-        of_input (Some input) (Some more) g false r h = r input (more, g)
+    whole_input events r = grind (arith, all_given, append-nil)
 
     module _ (g : Feed) where
       -- what a step did, where what was given is below the top
@@ -238,144 +210,106 @@ module _ (text_of : Report → List ℕ) where
           let (after, some) = came.goes_on n in
           let (wrote, parts) = put_line written' (text_of (report_of payload)) page' came.event w (ap text_of came.is_payload.0) in
           let o : g.state.offset + length g.held ≡ 0 + length p.given =
-          answers_go_along.ends 0 all_features p.given g.state g.held (p.events ++ came.event ∷ []) after in
-          let n : length f.held ≡ length bytes.now + length g.held = ap (λ (z : List ℕ). length z) s.shows
-          ∙ length-append bytes.now g.held in (
-            record {
-              given = p.given;
-              events = p.events ++ came.event ∷ [];
-              is_along = after;
-              gave = p.gave;
-              at_end = λ e. p.at_end (sym s.eof ∙ e);
-              lines = p.lines ++ w.moved;
-              listed = wrote;
-              parts = parts;
-            },
+          search answers_go_along.ends in
+          let n : length f.held ≡ length bytes.now + length g.held = grind (arith, length-append) in (
+            grind arith,
             rw s.eof (omega (arith, ends_at, o, n, some, given_below (Parsed bytes payload) s)),
           )
 
-    -- ---- the turns
+      -- ---- the turns
 
-    module _ (g : Feed) (x : Result Step Error) (s : Steps f x g) (written' : Option (List ℕ)) (page' : List ℕ)
-        (w : PutsBytes written written' page (text_after text_of x) page') where
       -- an event that isn't the last one: there is less to consume
-      pub advanced : turn.Advance ≡ turn_after x → Progress text_of (from_to source rest) (from_to taken written') g page'
-          × (weight g < weight f)
-      advanced t = by_answer x refl t
+      pub advanced : (x : Result Step Error) (s : Steps f x g) (written' : Option (List ℕ)) (page' : List ℕ)
+          → PutsBytes written written' page (text_after text_of x) page' → turn.Advance ≡ turn_after x
+          → Progress text_of (from_to source rest) (from_to taken written') g page' × (weight g < weight f)
+      advanced (Ok (Parsed bytes payload)) s written' page' w t = by_end (is_end (report_of payload)) refl t
         where
-          by_end : (bytes : _) (payload : Payload) (b : Bool) → is_end (report_of payload) ≡ b → turn.Advance
-              ≡ (if b then turn.End End else turn.Advance) → x ≡ Ok (Parsed bytes payload)
+          by_end : (b : Bool) → is_end (report_of payload) ≡ b → turn.Advance ≡ (if b then turn.End End else turn.Advance)
               → Progress text_of (from_to source rest) (from_to taken written') g page' × (weight g < weight f)
-          by_end bytes payload true e t is = cc
-          by_end bytes payload false e t is =
-              let s' = subst (λ y. Steps f y g) is s in
-              went_on g bytes payload s' e written' page' (subst (λ y. PutsBytes written written' page (text_after text_of y) page') is w)
-
-          by_answer : (y : Result Step Error) → x ≡ y → turn.Advance ≡ turn_after y
-              → Progress text_of (from_to source rest) (from_to taken written') g page'
-              × (weight g < weight f)
-          by_answer (Ok (NeedMoreData hint)) is t = cc
-          by_answer (Ok (Parsed bytes payload)) is t = by_end bytes payload (is_end (report_of payload)) refl t is
-          by_answer (Err e) is t = cc
+          by_end true e t = cc
+          by_end false e t = went_on bytes payload s e written' page' w
+      advanced _ s written' page' w t = cc
 
       -- a request: the parser is undecided
-      pub asked : turn.Read ≡ turn_after x → Wants text_of (from_to source rest) (from_to taken written') g page' × (weight g ≡ weight f)
-      asked t = by_answer x refl t
+      pub asked : (x : Result Step Error) (s : Steps f x g) (written' : Option (List ℕ)) (page' : List ℕ)
+          → PutsBytes written written' page (text_after text_of x) page' → turn.Read ≡ turn_after x
+          → Wants text_of (from_to source rest) (from_to taken written') g page' × (weight g ≡ weight f)
+      asked (Ok (NeedMoreData hint)) s written' page' w t =
+          let l = given_below (NeedMoreData hint) s in
+          let (u, a) = stepped (Ok (NeedMoreData hint)) s l in
+          let stays : g.state ≡ f.state = cc in (
+            record {
+              progress = record {
+                given = p.given;
+                events = p.events;
+                is_along = a;
+                gave = p.gave;
+                at_end = λ e. p.at_end (sym s.eof ∙ e);
+                lines = p.lines ++ w.moved;
+                listed = search Appends-trans;
+                parts = p.parts ∙ (ap (λ (z : List ℕ). p.lines ++ z) (sym (append-nil page) ∙ w.waits)
+                    ∙ sym (append_assoc p.lines w.moved page'));
+              };
+              hint = hint;
+              undecided = rw s.eof u;
+              below = l;
+            },
+            rw (stays, sym s.shows, s.eof) refl,
+          )
+      asked (Ok (Parsed bytes payload)) s written' page' w t = absurd (by_end (is_end (report_of payload)) t)
         where
           by_end : (b : Bool) → turn.Read ≡ (if b then turn.End End else turn.Advance) → ⊥
           by_end true t = cc
           by_end false t = cc
+      asked (Err e) s written' page' w t = cc
 
-          request : (hint : ℕ) → x ≡ Ok (NeedMoreData hint) → Wants text_of (from_to source rest) (from_to taken written') g page'
-              × (weight g ≡ weight f)
-          request hint is =
-              let s' = subst (λ y. Steps f y g) is s in
-              let w' = subst (λ y. PutsBytes written written' page (text_after text_of y) page') is w in
-              let l = given_below g (NeedMoreData hint) s' in
-              let (u, a) = stepped g (Ok (NeedMoreData hint)) s' l in
-              let stays : g.state ≡ f.state = answers_go_along.becomes f.state g.state f.eof f.held (answer_of (Ok (NeedMoreData hint)))
-              s'.parses in (
-                record {
-                  progress = record {
-                    given = p.given;
-                    events = p.events;
-                    is_along = a;
-                    gave = p.gave;
-                    at_end = λ e. p.at_end (sym s.eof ∙ e);
-                    lines = p.lines ++ w'.moved;
-                    listed = Appends-trans taken written written' p.lines w'.moved p.listed w'.writes;
-                    parts = p.parts ∙ (ap (λ (z : List ℕ). p.lines ++ z) (sym (append-nil page) ∙ w'.waits)
-                        ∙ sym (append_assoc p.lines w'.moved page'));
-                  };
-                  hint = hint;
-                  undecided = subst (λ b. IsUndecided g.state b g.held hint) (sym s.eof) u;
-                  below = l;
-                },
-                rw (stays, sym s'.shows, s.eof) refl,
-              )
-
-          by_answer : (y : Result Step Error) → x ≡ y → turn.Read ≡ turn_after y
-              → Wants text_of (from_to source rest) (from_to taken written') g page'
-              × (weight g ≡ weight f)
-          by_answer (Ok (NeedMoreData hint)) is t = request hint is
-          by_answer (Ok (Parsed bytes payload)) is t = absurd (by_end (is_end (report_of payload)) t)
-          by_answer (Err e) is t = cc
-
-      end_at : (how : Ended) → turn.End how ≡ turn_after x → AtEnd p.given p.events f.eof (text_after text_of x) how
-      end_at how t = by_answer x refl t
+      end_at : (x : Result Step Error) → Steps f x g → (how : Ended) → turn.End how ≡ turn_after x
+          → AtEnd p.given p.events f.eof (text_after text_of x) how
+      end_at (Ok (NeedMoreData hint)) s how t = cc
+      end_at (Ok (Parsed bytes payload)) s how t = by_end (is_end (report_of payload)) refl t
         where
-          at_end : (bytes : _) (payload : Payload) (b : Bool) → is_end (report_of payload) ≡ b → turn.End how
-              ≡ (if b then turn.End End else turn.Advance) → x ≡ Ok (Parsed bytes payload)
+          by_end : (b : Bool) → is_end (report_of payload) ≡ b → turn.End how ≡ (if b then turn.End End else turn.Advance)
               → AtEnd p.given p.events f.eof (text_of (report_of payload)) how
-          at_end bytes payload false e t is = cc
-          at_end bytes payload true e t is =
-              let s' = subst (λ y. Steps f y g) is s in
-              let l = given_below g (Parsed bytes payload) s' in
+          by_end false e t = cc
+          by_end true e t =
+              let l = given_below (Parsed bytes payload) s in
               let came : Came 0 all_features f.eof p.given p.events bytes.now payload g.state g.held =
-              stepped g (Ok (Parsed bytes payload)) s' l in
+              stepped (Ok (Parsed bytes payload)) s l in
               let each = came.ends e in
               let reading : Reading p.given 0 all_features (p.events ++ came.event ∷ []) = each p.given (all_given f.eof p.given) in
-              let last : came.event ≡ last_event reading.end = reading_ends p.given p.events came.event reading in
-              let reports : report_of payload ≡ stream_end reading.end = came.is_payload.0 ∙ ap (λ (y : Event). y.report) last in
+              let last : came.event ≡ last_event reading.end = search reading_ends in
+              let reports : report_of payload ≡ stream_end reading.end = cc in
               let is_it : how ≡ End = cc in
-              record {
-                end = reading.end;
-                same = ap text_of reports;
-                ends = subst (λ (h : Ended). IsEndedBy h reading.end) (sym is_it) (ends_well reading.end (report_of payload) reports e);
-                within = λ _. subst (λ (y : Event). ReadsEach 0 all_features f.eof p.given (p.events ++ y ∷ [])) last each;
-                past_the_top = λ h. absurd (omega (arith, h, l));
-              }
+              grind (arith, ends_well)
+      end_at (Err e) s how t =
+          let is_it : how ≡ Fault e = cc in
+          record {
+            end = fault (fault_at e);
+            same = refl;
+            ends = rw is_it refl;
+            within = λ l. (stepped (Err e) s l).0;
+            past_the_top = λ h.
+                let z = answers_go_along.past_the_top f.state g.state f.eof f.held (answer_of (Err e)) s.parses
+                (omega (arith, h, ends_at)) in
+                let y : fault_at e ≡ at_offset OffsetRange f.state.offset = cc in
+                ap fault y ∙ ap (λ (o : ℕ). fault (at_offset OffsetRange o)) passed;
+          }
 
-          by_answer : (y : Result Step Error) → x ≡ y → turn.End how ≡ turn_after y
-              → AtEnd p.given p.events f.eof (text_after text_of y) how
-          by_answer (Ok (NeedMoreData hint)) is t = cc
-          by_answer (Ok (Parsed bytes payload)) is t = at_end bytes payload (is_end (report_of payload)) refl t is
-          by_answer (Err e) is t =
-              let s' = subst (λ y. Steps f y g) is s in
-              let is_it : how ≡ Fault e = cc in
-              record {
-                end = fault (fault_at e);
-                same = refl;
-                ends = subst (λ (h : Ended). IsEndedBy h (fault (fault_at e))) (sym is_it) refl;
-                within = λ l. (stepped g (Err e) s' l).0;
-                past_the_top = λ h.
-                    let z = answers_go_along.past_the_top f.state g.state f.eof f.held (answer_of (Err e)) s'.parses
-                    (omega (arith, h, ends_at)) in
-                    let y : fault_at e ≡ at_offset OffsetRange f.state.offset = cc in
-                    ap fault y ∙ ap (λ (o : ℕ). fault (at_offset OffsetRange o)) passed;
-              }
+    -- ---- the end
 
+    module _ (g : Feed) (x : Result Step Error) (s : Steps f x g) (written' : Option (List ℕ)) (page' : List ℕ)
+        (w : PutsBytes written written' page (text_after text_of x) page') where
       -- all is written, and the run ends
       pub listed_all : (how : Ended) → turn.End how ≡ turn_after x → (written'' : Option (List ℕ)) → Appends written' written'' page'
           → IsListed text_of (from_to source rest) (from_to taken written'') how
       listed_all how t written'' v =
-          let a = end_at how t in
+          let a = end_at g x s how t in
           record {
             given = p.given;
             first = p.events;
             end = a.end;
             gave = p.gave;
-            listed = last_line written' (text_after text_of x) page' a.end w a.same written'' v;
+            listed = search last_line;
             ends = a.ends;
             within = λ l. whole_input (p.events ++ last_event a.end ∷ []) (a.within l);
             past_the_top = λ h. record { begins = begins_here; is_fault = a.past_the_top h };
@@ -385,25 +319,23 @@ module _ (text_of : Report → List ℕ) where
       end_beginning : (how : Ended) → turn.End how ≡ turn_after x → (written'' : Option (List ℕ))
           → WritesBeginning written' written'' page' → IsBeginning text_of (from_to source rest) (from_to taken written'')
       end_beginning how t written'' v =
-          let a = end_at how t in
+          let a = end_at g x s how t in
           let (wrote, parts) = put_line written' (text_after text_of x) page' (last_event a.end) w a.same in
           record {
             given = p.given;
             shown = (p.lines ++ w.moved) ++ v.moved;
             gave = p.gave;
-            listed = Appends-trans taken written' written'' (p.lines ++ w.moved) v.moved wrote v.wrote;
+            listed = search Appends-trans;
             begins = λ l. begins_listing p.given (p.events ++ last_event a.end ∷ []) ((p.lines ++ w.moved) ++ v.moved) v.unwritten
                 (whole_begins 0 all_features true p.given (p.events ++ last_event a.end ∷ [])
                 (λ stream m. subst (λ (y : List ℕ). Reading y 0 all_features (p.events ++ last_event a.end ∷ [])) (sym m)
-                (a.within l p.given (all_given f.eof p.given))) p.given refl)
-                (parts ∙ cut_page (p.lines ++ w.moved) page' v.moved v.unwritten v.parts);
+                (grind (arith, all_given))) p.given refl)
+                (grind (arith, cut_page));
           }
 
       pub end_cut : (how : Ended) → turn.End how ≡ turn_after x → (written'' : Option (List ℕ)) (e : ListError)
           → IsCut written' written'' page' e → ListsBy text_of (from_to source rest) (from_to taken written'') (Err e)
-      end_cut how t written'' Output v = end_beginning how t written'' v
-      end_cut how t written'' Memory v = end_beginning how t written'' v
-      end_cut how t written'' Input v = absurd v
+      end_cut how t written'' e v = grind (arith, end_beginning)
 
   -- ---- a read
 
@@ -413,7 +345,7 @@ module _ (text_of : Report → List ℕ) where
       → Wants text_of (from_to source rest) (from_to taken written') f []
   unfolding written_out
   wants_written source rest taken written written' f page p w = record {
-    progress = written_out source rest taken written f page p.progress written' w;
+    progress = search written_out;
     hint = p.hint;
     undecided = p.undecided;
     below = p.below;
@@ -430,55 +362,42 @@ module _ (text_of : Report → List ℕ) where
     input_fails rest' k =
         let (end, reading) = answers_go_along.cut_short 0 all_features p.given f.state f.held p.events f.eof wants.hint p.is_along
         wants.undecided in
-        record {
-          given = p.given;
-          events = p.events;
-          last = last_event end;
-          gave = kept source rest rest' p.given p.gave k;
-          listed = subst (Appends taken written) (sym (p.parts ∙ append-nil p.lines)) p.listed;
-          reading = reading;
-        }
+        grind (arith, kept, append-nil)
 
     -- it gave something, or ended
     pub filled : (rest' : Option (List ℕ)) (g : Feed) → Fills rest rest' f g
         → Progress text_of (from_to source rest') (from_to taken written) g []
         × (weight g < weight f)
-    filled rest' g (inl (none, at_end, is)) = subst (λ (h : Feed). Progress text_of (from_to source rest') (from_to taken written) h []
-        × (weight h < weight f))
-        (sym is) (
-          record {
-            given = p.given;
-            events = p.events;
-            is_along = p.is_along;
-            gave = subst (Consumes source rest') (append-nil p.given) (Consumes-trans source rest rest' p.given [] p.gave none);
-            at_end = λ _. at_end;
-            lines = p.lines;
-            listed = p.listed;
-            parts = p.parts;
-          },
-          rw wants.undecided.0 (omega arith),
-        )
-    filled rest' g (inr (piece, gave, some, is)) = subst (λ (h : Feed). Progress text_of (from_to source rest') (from_to taken written) h []
-        × (weight h < weight f)) (sym is) (
-          record {
-            given = p.given ++ piece;
-            events = p.events;
-            is_along = answers_go_along.more 0 all_features p.given f.state f.held p.events piece p.is_along;
-            gave = Consumes-trans source rest rest' p.given piece p.gave gave;
-            at_end = λ e. let no : true ≡ false = sym e ∙ wants.undecided.0 in cc;
-            lines = p.lines;
-            listed = p.listed;
-            parts = p.parts;
-          },
-          lighter,
-        )
+    filled rest' g (inl (none, at_end, is)) = rw is (
+      record {
+        given = p.given;
+        events = p.events;
+        is_along = p.is_along;
+        gave = subst (Consumes source rest') (append-nil p.given) (Consumes-trans source rest rest' p.given [] p.gave none);
+        at_end = λ _. at_end;
+        lines = p.lines;
+        listed = p.listed;
+        parts = p.parts;
+      },
+      rw wants.undecided.0 (omega arith),
+    )
+    filled rest' g (inr (piece, gave, some, is)) = rw is (
+      record {
+        given = p.given ++ piece;
+        events = p.events;
+        is_along = answers_go_along.more 0 all_features p.given f.state f.held p.events piece p.is_along;
+        gave = Consumes-trans source rest rest' p.given piece p.gave gave;
+        at_end = λ e. let no : true ≡ false = sym e ∙ wants.undecided.0 in cc;
+        lines = p.lines;
+        listed = p.listed;
+        parts = p.parts;
+      },
+      lighter,
+    )
       where
         lighter : weight (pushed f piece) < weight f
         lighter =
-            let o : f.state.offset + length f.held ≡ length wants.progress.given = ends_at source rest taken written f [] wants.progress in
-            let n : length (pushed f piece).held ≡ length f.held + length piece = length-append f.held piece in
-            let same : (pushed f piece).state.offset ≡ f.state.offset = refl in
-            rw wants.undecided.0 (omega (arith, o, n, same, wants.below, some))
+            grind (arith, ends_at, length-append)
 
     -- a read that was given up
     pub not_filled : (rest' : Option (List ℕ)) (g : Feed) (e : ListError) → Refills rest rest' f g (Err e)

@@ -1,14 +1,12 @@
 -- What a step says of a feeder, and of the stream that it goes along.
-use Rattle.std.proofs.Common.{◌≡◌, ℕ, ◌+◌, ◌^◌, ◌<◌, ◌≤◌, Bool, true, false, List, [], ◌∷◌, ◌++◌, length, take, drop, nat_eq}
-use Rattle.std.proofs.Common.{Result, Ok, Err, if◌then◌else◌, inl, inr, refl, sym, ap, subst, subst₂, ◌∙◌, arith}
-use Rattle.std.proofs.Common.{append_assoc, append-nil, length-append}
+use Rattle.std.proofs.Common.{◌≡◌, ℕ, ◌+◌, ◌^◌, ◌<◌, ◌≤◌, Bool, true, false, List, [], ◌∷◌, ◌++◌, length, take, drop, nat_eq, Result, Ok}
+use Rattle.std.proofs.Common.{inl, inr, refl, arith, append_assoc, append-nil, length-append}
 use Rattle.std.proofs.lemmas.Bool.Decides.{nat_tests}
 use Rattle.std.proofs.lemmas.List.{append_cancel_right, drop_at, take-append-drop}
 use Rattle.wasm_base.specs.declared.error.Error.{Error}
 use Rattle.wasm_parser.specs.Along.{Along, is_last, taken_by, SaysTheSame}
-use Rattle.wasm_parser.specs.ParseAnswer.{IsRequest, ParseAnswer, is_end, report_of, state_after_answer}
-use Rattle.wasm_parser.specs.ParserState.{ParserState, ended_state}
-use Rattle.wasm_parser.specs.StateAfter.{state_after}
+use Rattle.wasm_parser.specs.ParseAnswer.{IsRequest, ParseAnswer, state_after_answer}
+use Rattle.wasm_parser.specs.ParserState.{ParserState}
 use Rattle.wasm_grammar.specs.Reading.{Event}
 use Rattle.wasm_parser.proofs.ForCallers.{answers_go_along, answers_last}
 use Rattle.wasm_parser.specs.GivesNextEvent.{IsUndecided}
@@ -25,42 +23,33 @@ becomes : (f g : Feed) (x : Result Step Error) → Steps f x g → g.state ≡ s
 becomes f g x s = answers_go_along.becomes f.state g.state f.eof f.held (answer_of x) s.parses
 
 pub gives : (old : Feed) (x : Result Step Error) (new : Feed) → Steps old x new → GivesStep old.state old.eof old.held x
-gives old x new s = record {
-  parses = subst (ParseAnswer old.state old.eof old.held (answer_of x)) (becomes old new x s) s.parses;
-  shows = s.shows ∙ ap (λ (l : List ℕ). shown x ++ l) (sym (ap (drop (length (shown x))) s.shows
-      ∙ drop_at (shown x) new.held (length (shown x)) refl));
-}
+gives old x new s = grind (arith, becomes, drop_at)
 
 -- from a feeder that equals another
 pub steps_from : (a b : Feed) (x : Result Step Error) (new : Feed) → a ≡ b → Steps a x new → Steps b x new
-steps_from a b x new e s = subst (λ (f : Feed). Steps f x new) e s
+steps_from a b x new e s = rw e at s
 
 -- ---- along a stream
 
 -- as many bytes are shown as the answer consumes
 taken : (x : Result Step Error) → length (shown x) ≡ taken_by (answer_of x)
-taken (Ok (NeedMoreData hint)) = refl
-taken (Ok (Parsed bytes payload)) = refl
-taken (Err e) = refl
+taken x = grind arith
 
 pub stepped : (start features : ℕ) (given : List ℕ) (p : ParserState) (held : List ℕ) (events : List Event)
     (a : Along start features given p held events) (eof : Bool) (x : Result Step Error) (new : ParserState) (rest : List ℕ)
     → start + length given < 2 ^ 64
     → ParseAnswer p eof held (answer_of x) new → held ≡ shown x ++ rest → Stepped start features eof given events x new rest
-stepped start features given p held events a eof x new rest l r w =
-    answers_go_along.answers start features given p held events eof (answer_of x) (shown x) new rest a l r w (taken x)
+stepped start features given p held events a eof x new rest l r w = search (answers_go_along.answers, taken)
 
 -- after the last answer nothing is passed, and nothing is shown
 pub none_passed : (p new : ParserState) (eof : Bool) (held : List ℕ) (x : Result Step Error) → ParseAnswer p eof held (answer_of x) new
     → is_last (answer_of x) ≡ true → shown x ≡ []
-none_passed p new eof held (Ok (NeedMoreData hint)) a l = refl
-none_passed p new eof held (Err e) a l = refl
-none_passed p new eof held (Ok (Parsed bytes payload)) a l = empty bytes.now
-    ((answers_go_along.consumes p new eof held (answer_of (Ok (Parsed bytes payload))) a).1 ∙ l)
+none_passed p new eof held (Ok (Parsed bytes payload)) a l = grind (arith, empty, answers_go_along.consumes)
   where
     empty : (xs : List ℕ) → nat_eq (length xs) 0 ≡ true → xs ≡ []
     empty [] e = refl
     empty (b ∷ xs) e = absurd (grind (arith, nat_tests))
+none_passed p new eof held _ a l = refl
 
 nothing_shown : (f g : Feed) (x : Result Step Error) → Steps f x g → is_last (answer_of x) ≡ true → shown x ≡ []
 nothing_shown f g x s l = none_passed f.state g.state f.eof f.held x s.parses l
@@ -68,34 +57,18 @@ nothing_shown f g x s l = none_passed f.state g.state f.eof f.held x s.parses l
 -- the parser has passed what is shown
 passes : (p new : ParserState) (eof : Bool) (held : List ℕ) (x : Result Step Error) → ParseAnswer p eof held (answer_of x) new
     → new.offset ≡ p.offset + length (shown x)
-passes p new eof held (Ok (NeedMoreData hint)) a = let e = ap (λ (q : ParserState). q.offset) a.state in omega (arith, e)
-passes p new eof held (Err error) a = let e = ap (λ (q : ParserState). q.offset) a.state in omega (arith, e)
-passes p new eof held (Ok (Parsed bytes payload)) a = by_end (is_end (report_of payload)) refl
-  where
-    by_end : (b : Bool) → is_end (report_of payload) ≡ b → new.offset ≡ p.offset + length bytes.now
-    by_end true e =
-        let same : new.offset ≡ p.offset = ap (λ (q : ParserState). q.offset) a.state
-        ∙ ap (λ (b : Bool). (if b then ended_state p else state_after p (p.offset + length bytes.now) (report_of payload)).offset) e in
-        let none : length bytes.now ≡ 0 =
-        ap (λ (l : List ℕ). length l) (none_passed p new eof held (Ok (Parsed bytes payload)) a e) in
-        omega (arith, same, none)
-    by_end false e = ap (λ (q : ParserState). q.offset) a.state
-        ∙ ap (λ (b : Bool). (if b then ended_state p else state_after p (p.offset + length bytes.now) (report_of payload)).offset) e
+passes p new eof held x a = grind (arith, none_passed)
 
 -- what is held after a step ends where it did before
 pub ends : (f g : Feed) (x : Result Step Error) → Steps f x g → end_of g ≡ end_of f
-ends f g x s =
-    let at = passes f.state g.state f.eof f.held x s.parses in
-    let n : length f.held ≡ length (shown x) + length g.held = ap (λ (l : List ℕ). length l) s.shows ∙ length-append (shown x) g.held in
-    omega (arith, at, n)
+ends f g x s = grind (arith, passes, length-append)
 
 again : (f g h : Feed) (x y : Result Step Error) → is_last (answer_of x) ≡ true → Steps f x g → Steps g y h
     → SaysTheSame (answer_of x) (answer_of y)
 again f g h x y l s t =
-    let same : f.held ≡ g.held = s.shows ∙ ap (λ (b : List ℕ). b ++ g.held) (nothing_shown f g x s l) in
+    let same : f.held ≡ g.held = grind (arith, nothing_shown) in
     answers_go_along.again f.state g.state h.state f.eof f.held (answer_of x) (answer_of y) l s.parses
-    (subst (λ (b : List ℕ). ParseAnswer g.state f.eof b (answer_of y) h.state) (sym same)
-    (subst (λ (eof : Bool). ParseAnswer g.state eof g.held (answer_of y) h.state) s.eof t.parses))
+    (grind arith)
 
 -- ---- a request
 
@@ -104,16 +77,8 @@ module _ (f g : Feed) (hint : ℕ) (s : Steps f (Ok (NeedMoreData hint)) g) wher
   stays : g.state ≡ f.state
   stays = answers_go_along.becomes f.state g.state f.eof f.held (Ok (chunk.NeedMoreData hint)) s.parses
 
-  pub asked_below : end_of g < 2 ^ 64
-  asked_below =
-      subst₂ (λ (p : ParserState) (held : List ℕ). p.offset + length held < 2 ^ 64) (sym stays) s.shows
-      (answers_go_along.below f.state g.state f.eof f.held (chunk.NeedMoreData hint) s.parses)
-
   pub asked : IsUndecided g.state g.eof g.held hint
-  asked =
-      subst (λ (b : Bool). IsUndecided g.state b g.held hint) (sym s.eof)
-      (subst₂ (λ (p : ParserState) (held : List ℕ). IsUndecided p f.eof held hint) (sym stays) s.shows
-      (answers_go_along.asks f.state g.state f.eof f.held hint s.parses))
+  asked = grind (arith, answers_go_along.becomes, answers_go_along.asks)
 
 -- ---- a step over a piece
 
@@ -122,15 +87,12 @@ steps_over : (start features : ℕ) (given : List ℕ) (f g : Feed) (piece : Lis
     (taken : ℕ) → IsAlong start features given f events → start + length (given ++ piece) < 2 ^ 64 → StepsOver f piece x taken g
     → SteppedOver start features given f piece events x taken g
 steps_over start features given f g piece events x taken a l s = record {
-  steps = stepped start features (given ++ piece) f.state (f.held ++ piece) events
-      (answers_go_along.more start features given f.state f.held events piece a) f.eof x g.state (g.held ++ drop taken piece) l
-      s.steps.parses s.steps.shows;
+  steps = search (stepped, answers_go_along.more);
   takes = λ later b. record {
     prefix = b.prefix;
     is_after = b.is_after;
     whole = append_cancel_right (given ++ take taken piece) (b.prefix ++ g.held) (drop taken piece)
-        (append_assoc given (take taken piece) (drop taken piece) ∙ (ap (λ (l : List ℕ). given ++ l) (take-append-drop taken piece)
-        ∙ (b.whole ∙ sym (append_assoc b.prefix g.held (drop taken piece)))));
+        (search (append_assoc, take-append-drop));
     has_features = b.has_features;
     listed = b.listed;
   };
@@ -138,29 +100,10 @@ steps_over start features given f g piece events x taken a l s = record {
 
 -- a step is a step over no bytes
 over_none : (f g : Feed) (x : Result Step Error) → length f.held ≤ f.stored → Steps f x g → StepsOver f [] x 0 g
-over_none f g x l s = record {
-  steps = record {
-    parses = subst (λ (b : List ℕ). ParseAnswer f.state f.eof b (answer_of x) g.state) (sym (append-nil f.held)) s.parses;
-    shows = append-nil f.held ∙ (s.shows ∙ ap (λ (b : List ℕ). shown x ++ b) (sym (append-nil g.held)));
-    stored = refl;
-    eof = s.eof;
-    wants_more = s.wants_more;
-  };
-  asks = λ e. refl;
-  stays = λ e. subst (λ (b : List ℕ). ParseAnswer f.state f.eof b (answer_of x) g.state)
-      (s.shows ∙ ap (λ (b : List ℕ). b ++ g.held) (nothing_shown f g x s e)) s.parses;
-  stores =
-      let n : length f.held ≡ length (shown x) + length g.held = ap (λ (b : List ℕ). length b) s.shows ∙ length-append (shown x) g.held in
-      let same = s.stored in
-      omega (arith, n, same, l);
-  bounded = record { fed = λ n. absurd (omega (arith, n)); unfed = λ e. let same = s.stored in omega (arith, same) };
-  idle = λ h. (refl, let same = s.stored in omega (arith, same));
-}
+over_none f g x l s = grind (arith, append-nil, nothing_shown, length-append)
 
 is_decided : (x : Result Step Error) → is_last (answer_of x) ≡ true → IsRequest (answer_of x) → ⊥
-is_decided (Ok (NeedMoreData hint)) l r = cc
-is_decided (Ok (Parsed bytes payload)) l r = r
-is_decided (Err e) l r = r
+is_decided x l r = grind arith
 
 -- what decided the last answer decides each later one
 again_over : (f g k h : Feed) (piece more : List ℕ) (one two : Result Step Error) (taken later : ℕ)
@@ -168,38 +111,32 @@ again_over : (f g k h : Feed) (piece more : List ℕ) (one two : Result Step Err
     → StepsOver k more two later h → SaysTheSame (answer_of one) (answer_of two)
 again_over f g k h piece more one two taken later l s goes may below t =
     answers_go_along.again f.state g.state h.state k.eof (g.held ++ more) (answer_of one) (answer_of two) l
-    (stays f.eof k.eof refl refl) (subst₂ (λ (p : ParserState) (b : List ℕ). ParseAnswer p k.eof (b ++ more) (answer_of two) h.state)
-    (state goes) (held goes) t.steps.parses)
+    (stays f.eof k.eof refl refl) (grind (arith, state, held))
   where
     state : GoesOn g k → k.state ≡ g.state
-    state (inl e) = ap (λ (x : Feed). x.state) e
-    state (inr e) = ap (λ (x : Feed). x.state) e
+    state (inl e) = rw e refl
+    state (inr e) = rw e refl
 
     held : GoesOn g k → k.held ≡ g.held
-    held (inl e) = ap (λ (x : Feed). x.held) e
-    held (inr e) = ap (λ (x : Feed). x.held) e
+    held (inl e) = rw e refl
+    held (inr e) = rw e refl
 
     -- the end of input stays
     eof : GoesOn g k → f.eof ≡ true → k.eof ≡ true
-    eof (inl e) ended = ap (λ (x : Feed). x.eof) e ∙ (s.steps.eof ∙ ended)
-    eof (inr e) ended = ap (λ (x : Feed). x.eof) e
+    eof (inl e) ended = cc
+    eof (inr e) ended = rw e refl
 
     last : ParseAnswer f.state f.eof g.held (answer_of one) g.state
     last = s.stays l
 
     fits : f.state.offset + length (g.held ++ more) < 2 ^ 64
     fits =
-        let at = passes f.state g.state f.eof g.held one last in
-        let none = ap (λ (b : List ℕ). length b) (none_passed f.state g.state f.eof g.held one last l) in
-        let p = ap (λ (x : ParserState). x.offset) (state goes) in
-        let n = ap (λ (b : List ℕ). length b) (held goes) in
-        omega (arith, at, none, p, n, below, length-append g.held more)
+        grind (arith, passes, last, none_passed, state, held, length-append)
 
     stays : (before now : Bool) → f.eof ≡ before → k.eof ≡ now → ParseAnswer f.state k.eof (g.held ++ more) (answer_of one) g.state
     stays false now e n = answers_last f.state g.state g.held more (answer_of one)
-        (subst (λ (b : Bool). ParseAnswer f.state b g.held (answer_of one) g.state) e last) (is_decided one l) fits k.eof
-    stays true now e n = subst₂ (λ (b : Bool) (rest : List ℕ). ParseAnswer f.state b rest (answer_of one) g.state)
-        (e ∙ sym (eof goes e)) (sym (ap (λ (b : List ℕ). g.held ++ b) (may (eof goes e)) ∙ append-nil g.held)) last
+        (rw e at last) (is_decided one l) fits k.eof
+    stays true now e n = grind (arith, eof, append-nil, last)
 
 pub feeders_go_along : FeedersGoAlong
 feeders_go_along = record {

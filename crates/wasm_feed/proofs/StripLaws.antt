@@ -1,22 +1,21 @@
 -- What is left of a stream is accepted, and is read as the stream is but for what was dropped.
-use Rattle.std.proofs.Common.{◌≡◌, ℕ, ◌+◌, ◌<◌, ◌≤◌, ◌^◌, ◌⊎◌, inl, inr, Bool, true, false, cond, List, [], ◌∷◌, ◌++◌, length, nat_eq}
-use Rattle.std.proofs.Common.{take, Result, Ok, Err, refl, sym, ap, subst, subst₂, ◌∙◌, arith, length-append, eqb-true}
+use Rattle.std.proofs.Common.{◌≡◌, ℕ, ◌+◌, ◌<◌, ◌≤◌, ◌^◌, ◌⊎◌, inl, inr, Bool, true, false, cond, List, [], ◌∷◌, ◌++◌, length}
+use Rattle.std.proofs.Common.{take, Result, Ok, Err, refl, ap, ◌∙◌, arith, length-append, eqb-true}
 use Rattle.std.specs.List.{All, filter, flat_map}
 use Rattle.std.proofs.lemmas.List.Elements.{All-append, All-tail}
 use Rattle.wasm_base.specs.FaultAt.{fault_at}
 use Rattle.wasm_base.specs.Owned.{out_of_memory}
 use Rattle.wasm_base.specs.declared.error.Error.{Error}
 use Rattle.wasm_grammar.specs.Accepted.{header_bytes, SectionFrame, frame_bytes, frame_rank, IsFrame, IsAccepted}
-use Rattle.wasm_grammar.specs.Content.{Ending, fault, ended, kind_of, rank_of}
-use Rattle.wasm_grammar.specs.FrameEvents.{header_event, FramesEvents, TellsFrames}
+use Rattle.wasm_grammar.specs.Content.{Ending, fault, ended}
+use Rattle.wasm_grammar.specs.FrameEvents.{header_event, TellsFrames}
 use Rattle.wasm_grammar.specs.Grammar.{Tile}
-use Rattle.wasm_grammar.specs.Reading.{stream_end, Event, last_event, events_of, Reads, Reading, Stream}
+use Rattle.wasm_grammar.specs.Reading.{stream_end, Event, last_event, Reads, Reading, Stream}
 use Rattle.wasm_grammar.specs.Shifted.{shifted_event}
 use Rattle.wasm_grammar.specs.declared.encoding.Encoding.{Encoding}
-use Rattle.wasm_grammar.specs.declared.encoding.Encoding.TheVariants.{Module, Component}
 use Rattle.wasm_parser.proofs.ForCallers.{reads_accepted, fault_ends, rankless_may_go, one_division, frames_give_events}
 use Rattle.wasm_grammar.proofs.PlainLists.{all_prefix, Spares, filter_twice, each_of}
-use Rattle.wasm_feed.specs.Stripped.{frame_stays, stripped, kept_bytes, AreKept, IsStripped, EndsWithFault, RefusesToStrip, LeavesStream}
+use Rattle.wasm_feed.specs.Stripped.{frame_stays, stripped, AreKept, IsStripped, EndsWithFault, RefusesToStrip, LeavesStream}
 use Rattle.wasm_feed.specs.Stripped.{StripsToFront, StrippingTwiceIsOnce}
 use Rattle.wasm_feed.specs.Strips.{MovesKept, ReadsKept}
 use Rattle.wasm_feed.proofs.KeptFrames.{bytes_of_frames, KeptOf, KeptAfter, kept_of}
@@ -35,8 +34,7 @@ push_same (a ∷ xs) (b ∷ ys) x y e =
     let h : a ≡ b = cc in
     let t : xs ++ x ∷ [] ≡ ys ++ y ∷ [] = cc in
     let (p, q) = push_same xs ys x y t in
-    let p' : xs ≡ ys = p in
-    (λ i. h i ∷ p' i, q)
+    grind arith
 
 end_same : (a b : Ending) → last_event a ≡ last_event b → a ≡ b
 end_same a b e = let z : stream_end a ≡ stream_end b = ap (λ (x : Event). x.report) e in cc
@@ -44,16 +42,13 @@ end_same a b e = let z : stream_end a ≡ stream_end b = ap (λ (x : Event). x.r
 -- a reading that is told to end so does
 ends_so : (stream : List ℕ) (events : List Event) (end : Ending) → Reading stream 0 all_features (events ++ last_event end ∷ [])
     → (tiles : List Tile) × Reads stream 0 tiles end
-ends_so stream events end r =
-    let q : ((events ≡ events_of 0 all_features r.tiles) × (last_event end ≡ last_event r.end)) =
-    push_same events (events_of 0 all_features r.tiles) (last_event end) (last_event r.end) r.listed in
-    (r.tiles, subst (Reads stream 0 r.tiles) (sym (end_same end r.end q.1)) r.reads)
+ends_so stream events end r = grind (arith, push_same, end_same)
 
 -- a stream that is read up to its end is accepted
 accepted_of : (keep : Bool) (stream kept : List ℕ) → Stream stream 0 → ReadsKept keep stream kept → IsAccepted stream
 accepted_of keep stream kept s r =
     let (tiles, reads) = ends_so stream r.events (ended r.offset) r.reading in
-    reads_accepted stream 0 r.offset tiles s.each reads
+    search reads_accepted
 
 -- one whose reading ends with a fault isn't
 not_accepted : (stream : List ℕ) (e : Error) → Stream stream 0 → EndsWithFault stream e → IsAccepted stream → ⊥
@@ -84,25 +79,18 @@ all_rest P (x ∷ xs) ys a = all_rest P xs ys (All-tail P x (xs ++ ys) a)
 
 kept_step : (P : ℕ → Type 0) (f : SectionFrame) (xs ys : List SectionFrame) → All P (frame_bytes f ++ flat_map frame_bytes xs)
     → All P (flat_map frame_bytes ys) → (b : Bool) → All P (flat_map frame_bytes (cond b (f ∷ ys) ys))
-kept_step P f xs ys a h true = All-append P (frame_bytes f) (flat_map frame_bytes ys)
-    (all_prefix P (frame_bytes f) (flat_map frame_bytes xs) a) h
+kept_step P f xs ys a h true = search (All-append, all_prefix)
 kept_step P f xs ys a h false = h
 
 all_kept : (P : ℕ → Type 0) (q : SectionFrame → Bool) (frames : List SectionFrame) → All P (flat_map frame_bytes frames)
     → All P (flat_map frame_bytes (filter q frames))
 all_kept P q [] a = a
 all_kept P q (f ∷ frames) a = kept_step P f frames (filter q frames) a
-    (all_kept P q frames (all_rest P (frame_bytes f) (flat_map frame_bytes frames) a)) (q f)
+    (all_kept P q frames (search all_rest)) (q f)
 
 length_step : (f : SectionFrame) (xs ys : List SectionFrame) → length (flat_map frame_bytes ys) ≤ length (flat_map frame_bytes xs)
     → (b : Bool) → length (flat_map frame_bytes (cond b (f ∷ ys) ys)) ≤ length (frame_bytes f ++ flat_map frame_bytes xs)
-length_step f xs ys h true = omega (
-  arith,
-  h,
-  length-append (frame_bytes f) (flat_map frame_bytes ys),
-  length-append (frame_bytes f) (flat_map frame_bytes xs),
-)
-length_step f xs ys h false = omega (arith, h, length-append (frame_bytes f) (flat_map frame_bytes xs))
+length_step f xs ys h b = grind (arith, length-append)
 
 length_kept : (q : SectionFrame → Bool) (frames : List SectionFrame)
     → length (flat_map frame_bytes (filter q frames)) ≤ length (flat_map frame_bytes frames)
@@ -113,62 +101,45 @@ length_kept q (f ∷ frames) = length_step f frames (filter q frames) (length_ke
 stream_kept : (keep : Bool) (stream : List ℕ) (a : IsAccepted stream) → Stream stream 0 → Stream (stripped keep a.encoding a.frames) 0
 stream_kept keep stream a s =
     let h : List ℕ = header_bytes a.encoding in
-    let e : All (λ b. b < 256) (h ++ flat_map frame_bytes a.frames) = subst (All (λ b. b < 256)) a.whole s.each in
-    let n : length stream ≡ length h + length (flat_map frame_bytes a.frames) = ap (λ (x : List ℕ). length x) a.whole
-    ∙ length-append h (flat_map frame_bytes a.frames) in
+    let e : All (λ b. b < 256) (h ++ flat_map frame_bytes a.frames) = rw a.whole at s.each in
+    let n : length stream ≡ length h + length (flat_map frame_bytes a.frames) = grind (arith, length-append) in
     let f : 0 + length stream < 2 ^ 64 = s.fits in
     record {
-      each = All-append (λ b. b < 256) h (bytes_of_frames keep a.frames) (all_prefix (λ b. b < 256) h (flat_map frame_bytes a.frames) e)
-          (all_kept (λ b. b < 256) (frame_stays keep) a.frames (all_rest (λ b. b < 256) h (flat_map frame_bytes a.frames) e));
+      each = search (All-append, bytes_of_frames, all_prefix, all_kept, all_rest);
       fits = omega (arith, f, n, length_kept (frame_stays keep) a.frames, length-append h (bytes_of_frames keep a.frames));
     }
 
 -- a custom section has no rank
 custom_rank : (encoding : Encoding) (f : SectionFrame) → f.id ≡ custom_id → frame_rank encoding f ≡ 0
-custom_rank Module f z = ap (λ (x : ℕ). rank_of (kind_of Module x) x) z
-custom_rank Component f z = ap (λ (x : ℕ). rank_of (kind_of Component x) x) z
+custom_rank encoding f z = grind arith
 
 -- a section with a rank stays
 ranked_stays : (keep : Bool) (encoding : Encoding) (f : SectionFrame) → 0 < frame_rank encoding f → frame_stays keep f ≡ true
-ranked_stays keep encoding f r = by_id (nat_eq f.id custom_id) refl
-  where
-    by_id : (b : Bool) → nat_eq f.id custom_id ≡ b → frame_stays keep f ≡ true
-    by_id true e = let z : frame_rank encoding f ≡ 0 = custom_rank encoding f (eqb-true f.id 0 e) in absurd (omega (arith, r, z))
-    by_id false e = rw e refl
+ranked_stays keep encoding f r = grind (arith, custom_rank, eqb-true)
 
 -- what is left of an accepted stream is accepted, with the sections that stay
 pub accepted_kept : (keep : Bool) (stream : List ℕ) (a : IsAccepted stream)
     → (b : IsAccepted (stripped keep a.encoding a.frames)) × (b.encoding ≡ a.encoding) × (b.frames ≡ filter (frame_stays keep) a.frames)
-accepted_kept keep stream a =
-    rankless_may_go stream a (frame_stays keep) (each_of (λ f. 0 < frame_rank a.encoding f → frame_stays keep f ≡ true)
-    (λ f. ranked_stays keep a.encoding f) a.frames)
+accepted_kept keep stream a = search (rankless_may_go, each_of, ranked_stays)
 
 -- ---- how it is read
 
 header_stays : (encoding : Encoding) → header_event 0 encoding ≡ shifted_event 0 (header_event 0 encoding)
-header_stays Module = refl
-header_stays Component = refl
+header_stays encoding = grind arith
 
 -- the end is moved back by all that was dropped
 end_left : (keep : Bool) (encoding : Encoding) (frames : List SectionFrame)
     → KeptAfter keep (0 + length (header_bytes encoding)) 0 frames
     (last_event (ended (0 + length (header_bytes encoding ++ flat_map frame_bytes frames))) ∷ [])
     (last_event (ended (0 + length (header_bytes encoding ++ bytes_of_frames keep frames))) ∷ [])
-end_left keep encoding frames total e =
-    let h : List ℕ = header_bytes encoding in
-    let n : 0 + length (h ++ flat_map frame_bytes frames) ≡ 0 + length (h ++ bytes_of_frames keep frames) + total =
-    omega (arith, e, length-append h (flat_map frame_bytes frames), length-append h (bytes_of_frames keep frames)) in
-    (ap (λ (x : ℕ). last_event (ended x)) n, tt)
+end_left keep encoding frames total e = grind (arith, bytes_of_frames, length-append)
 
 kept_here : (keep : Bool) (features : ℕ) (encoding : Encoding) (frames : List SectionFrame) (events : List Event)
     → All (IsFrame encoding) frames → (t : TellsFrames 0 features encoding frames events)
     → KeptOf keep features encoding (0 + length (header_bytes encoding)) 0 frames t.inner
     (last_event (ended (0 + length (header_bytes encoding ++ flat_map frame_bytes frames))) ∷ [])
     (last_event (ended (0 + length (header_bytes encoding ++ bytes_of_frames keep frames))) ∷ [])
-kept_here keep features encoding frames events a t =
-    let z : 0 + length (header_bytes encoding) ≡ 0 + length (header_bytes encoding) + 0 = omega arith in
-    kept_of keep features encoding (0 + length (header_bytes encoding)) 0 frames t.inner _ _ a
-    (subst (λ (x : ℕ). FramesEvents features encoding x frames t.inner) z t.sections) (end_left keep encoding frames)
+kept_here keep features encoding frames events a t = grind (arith, kept_of, end_left)
 
 -- it is read as the stream, but for what was dropped
 read_kept : (keep : Bool) (stream : List ℕ) (a : IsAccepted stream) → Stream stream 0 → (features : ℕ) (events : List Event)
@@ -181,11 +152,11 @@ read_kept keep stream a s features events r =
     ++ last_event (ended (0 + length (header_bytes a.encoding ++ bytes_of_frames keep a.frames))) ∷ []) in
     let (b, e, f) = accepted_kept keep stream a in
     let told : TellsFrames 0 features a.encoding (filter (frame_stays keep) a.frames) others =
-    record { inner = l.others; sections = l.sections; whole = refl } in (
+    grind arith in (
       others,
       (frames_give_events (stripped keep a.encoding a.frames) 0 features others (stream_kept keep stream a s) b).1
-          (subst₂ (λ (x : Encoding) (y : List SectionFrame). TellsFrames 0 features x y others) (sym e) (sym f) told),
-      subst (λ (x : List Event). AreKept keep x others) (sym t.whole) (header_stays a.encoding, l.moved),
+          (grind arith),
+      grind (arith, header_stays),
     )
 
 -- the stream is stripped
@@ -209,12 +180,12 @@ kept_is keep stream kept a s r =
     ≡ last_event (ended (0 + length (header_bytes a.encoding ++ flat_map frame_bytes a.frames))))) =
     push_same r.events (header_event 0 a.encoding ∷ t.inner) (last_event (ended r.offset))
     (last_event (ended (0 + length (header_bytes a.encoding ++ flat_map frame_bytes a.frames)))) t.whole in
-    r.bytes ∙ (ap (kept_bytes keep) q.0 ∙ ap (λ (x : List ℕ). header_bytes a.encoding ++ x) l.bytes)
+    grind arith
 
 pub strips_so : (keep : Bool) (stream kept : List ℕ) → Stream stream 0 → ReadsKept keep stream kept → IsStripped keep stream kept
 strips_so keep stream kept s r =
     let a : IsAccepted stream = accepted_of keep stream kept s r in
-    subst (IsStripped keep stream) (sym (kept_is keep stream kept a s r)) (is_stripped keep stream a s)
+    rw (kept_is keep stream kept a s r) (is_stripped keep stream a s)
 
 -- what is left was moved to the front, which cannot end with a fault where the stream is accepted
 pub strips_to_front : (keep : Bool) (stream kept after : List ℕ) (r : Result ℕ Error) → Stream stream 0
@@ -238,10 +209,4 @@ stripping_twice keep stream once twice o t =
       segments = b.segments;
     } in
     let q : ((t.accepted.encoding ≡ c.encoding) × (t.accepted.frames ≡ c.frames)) = one_division once t.accepted c in
-    let x : t.accepted.encoding ≡ a.encoding = q.0 ∙ e in
-    let y : t.accepted.frames ≡ filter (frame_stays keep) a.frames = q.1 ∙ f in
-    let z : filter (frame_stays keep) (filter (frame_stays keep) a.frames) ≡ filter (frame_stays keep) a.frames =
-    filter_twice (frame_stays keep) (frame_stays keep) a.frames (each_of (Spares (frame_stays keep) (frame_stays keep)) (λ g p. p) a.frames)
-    in
-    t.bytes ∙ ((λ i. stripped keep (x i) (y i)) ∙ (ap (λ (fs : List SectionFrame). header_bytes a.encoding ++ flat_map frame_bytes fs) z
-    ∙ sym o.bytes))
+    grind (arith, filter_twice, each_of, Spares)

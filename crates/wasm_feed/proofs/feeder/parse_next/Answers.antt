@@ -1,7 +1,6 @@
-use Rattle.std.proofs.Common.{◌++◌, List, ℕ, take, drop, Ok, sym, ap, subst, subst₂, ◌∙◌}
+use Rattle.std.proofs.Common.{◌++◌, List, ℕ, take, drop, Ok, sym, ap, subst₂, ◌∙◌}
 use Rattle.std.proofs.lemmas.List.{drop-drop, length-take-le, take-append-drop}
 use Rattle.wasm_parser.specs.ParseAnswer.{Consumes, ParseAnswer}
-use Rattle.wasm_parser.specs.declared.payload.Chunk.{Chunk}
 use Rattle.wasm_parser.specs.declared.payload.Chunk.TheVariants.{Parsed}
 use Rattle.wasm_feed.proofs.feeder.parse_next.Goals as goal
 
@@ -17,11 +16,10 @@ returns-in-Ok-Parsed-clause-parses c =
     let rest = c.after-rest.result.now in
     let read = c.in-Ok-Parsed in
     let fits : Consumes rest (Ok (Parsed read.consumed read.payload)) =
-    subst (λ (x : Chunk). Consumes rest (Ok x)) read.field-0-is read.ensures.consumes in
+    rw read.field-0-is at read.ensures.consumes in
     let answers : ParseAnswer c.args.cursor.now.parser c.args.cursor.now.is_finished rest
     (Ok (Parsed read.consumed read.payload)) c.parse.new.self =
-    subst (λ (x : Chunk). ParseAnswer c.args.cursor.now.parser c.args.cursor.now.is_finished rest (Ok x) c.parse.new.self)
-    read.field-0-is read.ensures.answers in
+    rw read.field-0-is at read.ensures.answers in
     subst₂ (λ (xs : List ℕ) (n : ℕ). ParseAnswer c.args.cursor.now.parser c.args.cursor.now.is_finished xs
     (Ok (Parsed n read.payload)) c.parse.new.self)
     c.after-rest.ensures (sym (length-take-le read.consumed rest fits.0)) answers

@@ -1,15 +1,14 @@
-use Rattle.std.proofs.Common.{◌≡◌, ℕ, List, refl, sym, ap, subst, ◌∙◌, arith}
+use Rattle.std.proofs.Common.{refl, sym, ap, ◌∙◌, arith}
 use Rattle.std.proofs.lemmas.Grind.{common_steps}
 use Rattle.std.proofs.lemmas.Result.{err_from_is_err_and}
 use Rattle.std.proofs.KnownBytes.{Consumes-nil}
-use Rattle.wasm_feed.specs.Beside.{beside, lending}
+use Rattle.wasm_feed.specs.Beside.{beside}
 use Rattle.wasm_feed.specs.Cursors.{feed_of}
 use Rattle.wasm_feed.specs.Feed.{empty_feed}
 use Rattle.wasm_lines.specs.Listing.{line_of}
 use Rattle.wasm_feed.proofs.Beside.{lent, begun_beside, same_lighter, filled_alike}
 use Rattle.wasm_lines.proofs.ForCallers.{cut_of}
-use Rattle.wasm_feed.proofs.Progress.{begun, no_memory, cut, wants_written, advanced, asked, listed_all, end_cut}
-use Rattle.wasm_feed.proofs.Progress.{not_filled}
+use Rattle.wasm_feed.proofs.Progress.{begun, no_memory, cut, wants_written, advanced, asked, listed_all, end_cut, not_filled}
 use Rattle.wasm_feed.proofs.listing.list_in.Goals as goal
 
 pub returns-in_err-vec : goal.returns-in_err-vec
@@ -56,8 +55,7 @@ events-smaller-in-Advance g c =
     a.wants in
     let t = c.in_ok-turn.ensures.takes in
     (same_lighter line_of _ _ (beside (feed_of c.events.stored.items c.events.cursor) c.events.ahead) _ _ _
-    (subst (λ (l : List ℕ). beside (feed_of l c.pass_lent.new.cursor) c.pass_lent.new.self
-    ≡ lending l c.make_ready.new.self c.parse_next-answer.new.cursor) c.deref-in-Advance.ensures.value c.pass_lent.ensures)
+    (rw c.deref-in-Advance.ensures.value at c.pass_lent.ensures)
     (advanced line_of _ _ _ _ _ _ c.events.invariant.progress _ _ s _ _ t.0 (sym c.in-Advance.is ∙ t.1))).1
 
 pub events-preserved-in-Advance : goal.events-preserved-in-Advance
@@ -69,8 +67,7 @@ events-preserved-in-Advance g c =
     let t = c.in_ok-turn.ensures.takes in
     record {
       progress = (same_lighter line_of _ _ (beside (feed_of c.events.stored.items c.events.cursor) c.events.ahead) _ _ _
-          (subst (λ (l : List ℕ). beside (feed_of l c.pass_lent.new.cursor) c.pass_lent.new.self
-          ≡ lending l c.make_ready.new.self c.parse_next-answer.new.cursor) c.deref-in-Advance.ensures.value c.pass_lent.ensures)
+          (rw c.deref-in-Advance.ensures.value at c.pass_lent.ensures)
           (advanced line_of _ _ _ _ _ _ c.events.invariant.progress _ _ s _ _ t.0 (sym c.in-Advance.is ∙ t.1))).0;
       input = c.events.invariant.input;
       output = grind (arith, common_steps);

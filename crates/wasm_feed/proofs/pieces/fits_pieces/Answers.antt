@@ -1,4 +1,4 @@
-use Rattle.std.proofs.Common.{arith, ap, length, take, refl, IsTrue, subst, length-append, slice_index_or, List, Bor, ℕ, []}
+use Rattle.std.proofs.Common.{arith, ap, length, take, refl, length-append, slice_index_or, List, Bor, ℕ, []}
 use Rattle.std.proofs.lemmas.List.{take_all}
 use Rattle.wasm_feed.specs.Pieces.{joined}
 use Rattle.wasm_feed.proofs.Joining.{joined_more, joined_within}
@@ -11,7 +11,7 @@ pub returns-then-not-fits : goal.returns-then-not-fits
 returns-then-not-fits c =
     let within = joined_within c.args.pieces.now c.pieces.piece-index none c.pieces-test.true in
     let end = c.pieces.invariant.end in
-    (λ t. cc, λ l. subst IsTrue c.if-not-fits.true (c.fits.ensures.1 (omega (arith, within, end, l))))
+    (λ t. cc, λ l. rw c.if-not-fits.true at (c.fits.ensures.1 (omega (arith, within, end, l))))
 
 pub pieces-preserved : goal.pieces-preserved
 pieces-preserved c =

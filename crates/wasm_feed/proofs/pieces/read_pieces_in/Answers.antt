@@ -1,8 +1,8 @@
-use Rattle.std.proofs.Common.{Bool, List, ℕ, [], Ok, Bor, sym, ap, subst, subst₂, ◌∙◌, ◌≡◌, ◌+◌, take, slice_index_or}
+use Rattle.std.proofs.Common.{List, ℕ, [], Bor, sym, ap, subst₂, ◌∙◌, ◌≡◌, slice_index_or}
 use Rattle.std.proofs.lemmas.List.{take_all}
 use Rattle.wasm_feed.specs.Cursors.{feed_of}
 use Rattle.wasm_feed.specs.Feed.{Feed, empty_feed, new_feed, pushed, finished}
-use Rattle.wasm_feed.specs.Pieces.{joined, HasCome, ReadsHeld}
+use Rattle.wasm_feed.specs.Pieces.{joined, HasCome}
 use Rattle.wasm_feed.specs.declared.events.Event.{Event}
 use Rattle.wasm_feed.proofs.Adding.{come_begins, come_finished, next_piece, last_piece, ended_last}
 use Rattle.wasm_feed.proofs.pieces.read_pieces_in.Goals as goal
@@ -30,11 +30,8 @@ returns-then-branch g c =
     let new = feed_of c.deref.result.now c.read_held.new.cursor in
     let e : mid ≡ pushed f (slice_index_or c.args.pieces.now c.pieces.piece-index none).now =
     ap (λ (x : List ℕ). feed_of x c.refill.new.cursor) c.deref.ensures.value ∙ c.in_ok-refill.ensures.ok in
-    let r = subst (λ (over : Bool). ReadsHeld mid c.pieces.events.items (Ok over) new c.read_held.new.events.items) c.if-branch.true
-    c.in_ok-read_held.ensures.reads in
-    last_piece c.args.offset all_features c.args.pieces.now c.pieces.piece-index none f mid new c.pieces.events.items
-    c.read_held.new.events.items
-    c.pieces-test.true c.requires c.pieces.invariant.comes e
+    let r = rw c.if-branch.true at c.in_ok-read_held.ensures.reads in
+    last_piece _ _ _ _ none f mid new _ _ c.pieces-test.true c.requires c.pieces.invariant.comes e
     (ap (λ (x : Feed). x.eof) e ∙ c.pieces.invariant.goes_on) r
 
 pub pieces-preserved : goal.pieces-preserved
@@ -44,13 +41,10 @@ pieces-preserved g c =
     let new = feed_of c.deref.result.now c.read_held.new.cursor in
     let e : mid ≡ pushed f (slice_index_or c.args.pieces.now c.pieces.piece-index none).now =
     ap (λ (x : List ℕ). feed_of x c.refill.new.cursor) c.deref.ensures.value ∙ c.in_ok-refill.ensures.ok in
-    let r = subst (λ (over : Bool). ReadsHeld mid c.pieces.events.items (Ok over) new c.read_held.new.events.items) c.if-branch.false
-    c.in_ok-read_held.ensures.reads in
-    let came = next_piece c.args.offset all_features c.args.pieces.now c.pieces.piece-index none f mid new c.pieces.events.items
-    c.read_held.new.events.items c.pieces-test.true c.requires c.pieces.invariant.comes e r in
+    let r = rw c.if-branch.false at c.in_ok-read_held.ensures.reads in
+    let came = next_piece _ _ _ _ none f mid new _ _ c.pieces-test.true c.requires c.pieces.invariant.comes e r in
     record {
-      comes = subst (λ (x : List ℕ). HasCome c.args.offset all_features (joined (take (c.pieces.piece-index + 1) c.args.pieces.now))
-          (feed_of x c.read_held.new.cursor) c.read_held.new.events.items) c.deref.ensures.value came;
+      comes = rw c.deref.ensures.value at came;
       goes_on = c.read_held.ensures.finished ∙ (ap (λ (x : Feed). x.eof) e ∙ c.pieces.invariant.goes_on);
     }
 
@@ -63,6 +57,6 @@ returns g c =
     ∙ ap (feed_of c.pieces.bytes.items) c.finish.ensures in
     let all = ap joined (take_all c.pieces.piece-index c.args.pieces.now c.pieces-test.false) in
     let came = come_finished c.args.offset all_features (joined c.args.pieces.now) f old c.pieces.events.items e
-    (subst (λ (x : List ℕ). HasCome c.args.offset all_features x f c.pieces.events.items) all c.pieces.invariant.comes) in
+    (rw all at c.pieces.invariant.comes) in
     ended_last c.args.offset all_features (joined c.args.pieces.now) old new c.pieces.events.items c.read_held-2.new.events.items
     c.in_ok-read_held-2.field-0 came c.requires (ap (λ (x : Feed). x.eof) e) c.in_ok-read_held-2.ensures.reads

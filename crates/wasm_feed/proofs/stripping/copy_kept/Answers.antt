@@ -1,9 +1,7 @@
-use Rattle.std.proofs.Common.{◌≡◌, ℕ, List, [], ◌++◌, ◌∙◌, Option, Ok, inl, drop, sym, ap, subst, arith, append-nil, append_assoc}
+use Rattle.std.proofs.Common.{◌≡◌, ℕ, List, [], ◌++◌, ◌∙◌, inl, drop, sym, ap, arith, append-nil, append_assoc}
 use Rattle.std.proofs.lemmas.Result.{err_from_is_err_and}
 use Rattle.std.proofs.lemmas.Grind.{common_steps}
-use Rattle.std.specs.Borrow.{Bor}
 use Rattle.wasm_feed.specs.Cursors.{feed_of}
-use Rattle.wasm_feed.specs.Strips.{KeptComes, PassesKept}
 use Rattle.wasm_feed.proofs.KeptParts.{nothing_left}
 use Rattle.wasm_feed.proofs.stripping.copy_kept.Goals as goal
 
@@ -38,23 +36,14 @@ parts-preserved g c =
     record {
       comes = (
         more ++ part,
-        subst (λ (x : Option (Bor (List ℕ))). KeptComes c.args.keep_names bytes more (Ok x) (feed_of bytes new)) c.in-Some.is
-            (c.in_ok-part.ensures.takes bytes more h c.requires),
-        put
-            ∙ (ap (λ (x : List ℕ). x ++ part) all ∙ append_assoc c.args.kept.now.items more part),
+        rw c.in-Some.is at (c.in_ok-part.ensures.takes bytes more h c.requires),
+        rw (put, all) (append_assoc c.args.kept.now.items more part),
       );
       finished = c.in_ok-part.ensures.finished;
-      within = (subst (λ (x : Option (Bor (List ℕ))). PassesKept bytes c.parts.cursor.mark (Ok x) new.mark) c.in-Some.is
-          c.in_ok-part.ensures.passes c.parts.invariant.within).within;
+      within = (rw c.in-Some.is at c.in_ok-part.ensures.passes c.parts.invariant.within).within;
     }
 
 pub returns : goal.returns
 returns g c =
-    let bytes = c.args.bytes.now in
-    let new = feed_of bytes c.next_kept.new.cursor in
-    let (more, h, all) = c.parts.invariant.comes in (
-      more,
-      subst (λ (x : Option (Bor (List ℕ))). KeptComes c.args.keep_names bytes more (Ok x) new) c.in_default.is
-          (c.in_ok-part.ensures.takes bytes more h c.requires),
-      all,
-    )
+    let (more, h, all) = c.parts.invariant.comes in
+    (more, rw c.in_default.is at (c.in_ok-part.ensures.takes c.args.bytes.now more h c.requires), all)

@@ -1,8 +1,6 @@
-use Rattle.std.proofs.Common.{ℕ, [], ◌++◌, ◌∙◌, List, Option, Ok, drop, refl, ap, subst, arith, length-append}
+use Rattle.std.proofs.Common.{ℕ, [], ◌++◌, ◌∙◌, drop, refl, ap, arith, length-append}
 use Rattle.std.proofs.lemmas.Result.{err_from_is_err_and}
-use Rattle.std.specs.Borrow.{Bor}
 use Rattle.wasm_feed.specs.Cursors.{feed_of}
-use Rattle.wasm_feed.specs.Strips.{KeptComes, PassesKept}
 use Rattle.wasm_feed.proofs.KeptParts.{nothing_left, no_longer}
 use Rattle.wasm_feed.proofs.stripping.count_kept.Goals as goal
 
@@ -33,8 +31,7 @@ overflow_add-count c =
     let new = feed_of bytes c.next_kept.new.cursor in
     let (kept, h, n) = c.parts.invariant.comes in
     let part = c.in-Some.part.now in
-    let came = subst (λ (x : Option (Bor (List ℕ))). KeptComes c.args.keep_names bytes kept (Ok x) new) c.in-Some.is
-    (c.in_ok-part.ensures.takes bytes kept h c.requires) in
+    let came = rw c.in-Some.is at (c.in_ok-part.ensures.takes bytes kept h c.requires) in
     omega (arith, no_longer c.args.keep_names bytes new (kept ++ part) came, n, c.requires, length-append kept part)
 
 pub parts-preserved : goal.parts-preserved
@@ -46,22 +43,14 @@ parts-preserved c =
     record {
       comes = (
         kept ++ part,
-        subst (λ (x : Option (Bor (List ℕ))). KeptComes c.args.keep_names bytes kept (Ok x) (feed_of bytes new)) c.in-Some.is
-            (c.in_ok-part.ensures.takes bytes kept h c.requires),
+        rw c.in-Some.is at (c.in_ok-part.ensures.takes bytes kept h c.requires),
         omega (arith, n, length-append kept part),
       );
       finished = c.in_ok-part.ensures.finished;
-      within = (subst (λ (x : Option (Bor (List ℕ))). PassesKept bytes c.parts.cursor.mark (Ok x) new.mark) c.in-Some.is
-          c.in_ok-part.ensures.passes c.parts.invariant.within).within;
+      within = (rw c.in-Some.is at c.in_ok-part.ensures.passes c.parts.invariant.within).within;
     }
 
 pub returns-clause-counts : goal.returns-clause-counts
 returns-clause-counts c =
-    let bytes = c.args.bytes.now in
     let (kept, h, n) = c.parts.invariant.comes in
-    let new = feed_of bytes c.next_kept.new.cursor in (
-      kept,
-      subst (λ (x : Option (Bor (List ℕ))). KeptComes c.args.keep_names bytes kept (Ok x) new) c.in_default.is
-          (c.in_ok-part.ensures.takes bytes kept h c.requires),
-      n,
-    )
+    (kept, rw c.in_default.is at (c.in_ok-part.ensures.takes c.args.bytes.now kept h c.requires), n)

@@ -1,9 +1,7 @@
-use Rattle.std.proofs.Common.{ℕ, ◌+◌, ◌-◌, List, length, Option, Ok, ◌∙◌, drop, take, refl, ap, subst, arith}
+use Rattle.std.proofs.Common.{ℕ, ◌+◌, ◌-◌, length, ◌∙◌, drop, take, refl, ap, arith}
 use Rattle.std.proofs.lemmas.Result.{err_from_is_err_and}
-use Rattle.std.specs.Borrow.{Bor}
 use Rattle.std.specs.List.{copy_within}
 use Rattle.wasm_feed.specs.Cursors.{feed_of}
-use Rattle.wasm_feed.specs.Strips.{KeptComes, PassesKept}
 use Rattle.wasm_feed.proofs.KeptInPlace.{moves_on}
 use Rattle.wasm_feed.proofs.KeptParts.{nothing_left}
 use Rattle.wasm_feed.proofs.stripping.move_kept.Goals as goal
@@ -34,10 +32,8 @@ parts-preserved c =
     let next = c.next_kept.new.cursor in
     let loop = c.parts.invariant in
     let part = c.in-Some.part in
-    let kept = subst (λ (x : Option (Bor (List ℕ))). KeptComes c.args.keep_names stream (take c.parts.kept bytes) (Ok x)
-    (feed_of bytes next)) c.in-Some.is (c.in_ok-part.ensures.takes stream (take c.parts.kept bytes) loop.comes c.requires) in
-    let at = subst (λ (x : Option (Bor (List ℕ))). PassesKept bytes old (Ok x) next.mark) c.in-Some.is
-    c.in_ok-part.ensures.passes loop.within in
+    let kept = rw c.in-Some.is at (c.in_ok-part.ensures.takes stream (take c.parts.kept bytes) loop.comes c.requires) in
+    let at = rw c.in-Some.is at c.in_ok-part.ensures.passes loop.within in
     let n : ℕ = length part.now in
     let moved = c.move_down.ensures.items
     ∙ ap (λ (m : ℕ). copy_within bytes (m - n) (m - n + n) c.parts.kept) c.mark.ensures in
@@ -51,12 +47,6 @@ parts-preserved c =
 
 pub returns : goal.returns
 returns c =
-    let stream = c.args.bytes.now in
-    let bytes = c.parts.bytes in
-    let loop = c.parts.invariant in (
-      subst (λ (x : Option (Bor (List ℕ))). KeptComes c.args.keep_names stream (take c.parts.kept bytes) (Ok x)
-          (feed_of bytes c.next_kept.new.cursor)) c.in_default.is
-          (c.in_ok-part.ensures.takes stream (take c.parts.kept bytes) loop.comes c.requires),
-      omega (arith, loop.order, loop.within),
-      loop.long,
-    )
+    let loop = c.parts.invariant in
+    let kept = rw c.in_default.is at (c.in_ok-part.ensures.takes c.args.bytes.now _ loop.comes c.requires) in
+    (kept, omega (arith, loop.order, loop.within), loop.long)

@@ -1,8 +1,6 @@
-use Rattle.std.proofs.Common.{subst, arith}
+use Rattle.std.proofs.Common.{arith}
 use Rattle.std.proofs.lemmas.Result.{err_from_is_err_and}
 use Rattle.wasm_feed.specs.Cursors.{feed_of}
-use Rattle.wasm_feed.specs.Strips.{FateComes, IsFewer}
-use Rattle.wasm_feed.specs.declared.stripping.Fate.{Fate}
 use Rattle.wasm_feed.proofs.KeptInPlace.{mark_within, not_empty}
 use Rattle.wasm_feed.proofs.KeptParts.{stays_kept, goes_kept, all_kept}
 use Rattle.wasm_feed.proofs.stripping.next_kept.Goals as goal
@@ -19,60 +17,44 @@ returns-in_err-part-clause-takes c stream kept h l =
 pub returns-in-Stays-clause-takes : goal.returns-in-Stays-clause-takes
 returns-in-Stays-clause-takes c stream kept h l =
     let bytes = c.args.bytes.now in
-    let old = feed_of bytes c.parts.cursor in
-    let new = feed_of bytes c.next_part.new.cursor in
     let m = c.parts.invariant.comes stream kept h l in
-    let part = c.in_ok-part.part.bytes.now in
-    stays_kept c.args.keep_names stream kept old new m part (subst (λ (x : Fate). FateComes c.args.keep_names stream m.0 part x new)
-    c.in-Stays.is (c.in_ok-part.ensures.takes stream m.0 m.1 l))
+    stays_kept _ stream kept (feed_of bytes c.parts.cursor) (feed_of bytes c.next_part.new.cursor) m _
+    (rw c.in-Stays.is at (c.in_ok-part.ensures.takes stream m.0 m.1 l))
 
 pub returns-in-Stays-clause-passes : goal.returns-in-Stays-clause-passes
 returns-in-Stays-clause-passes c w =
-    let bytes = c.args.bytes.now in
-    let old = c.parts.cursor in
-    let new = c.next_part.new.cursor in
-    let part = c.in_ok-part.part.bytes.now in
     let passes = c.in_ok-part.ensures.passes in
-    let fewer = subst (λ (x : Fate). IsFewer x (feed_of bytes old) (feed_of bytes new)) c.in-Stays.is c.in_ok-part.ensures.goes_on in
+    let fewer = rw c.in-Stays.is at c.in_ok-part.ensures.goes_on in
     record {
-      start = old.mark;
+      start = c.parts.cursor.mark;
       order = c.parts.invariant.order;
       size = passes.0;
       parts = passes.1;
-      within = mark_within bytes part old.mark new.mark (c.parts.invariant.within w) passes;
-      some = not_empty bytes part old.mark new.mark passes.1 fewer;
+      within = mark_within _ _ _ _ (c.parts.invariant.within w) passes;
+      some = not_empty c.args.bytes.now _ c.parts.cursor.mark c.next_part.new.cursor.mark passes.1 fewer;
     }
 
 pub parts-smaller : goal.parts-smaller
-parts-smaller c =
-    let bytes = c.args.bytes.now in
-    let old = feed_of bytes c.parts.cursor in
-    let new = feed_of bytes c.next_part.new.cursor in
-    subst (λ (x : Fate). IsFewer x old new) c.in-Goes.is c.in_ok-part.ensures.goes_on
+parts-smaller c = rw c.in-Goes.is at c.in_ok-part.ensures.goes_on
 
 pub parts-preserved : goal.parts-preserved
 parts-preserved c =
     let bytes = c.args.bytes.now in
-    let old = feed_of bytes c.parts.cursor in
     let new = feed_of bytes c.next_part.new.cursor in
-    let part = c.in_ok-part.part.bytes.now in
     let loop = c.parts.invariant in
     let passes = c.in_ok-part.ensures.passes in
     record {
-      comes = λ stream kept h l. goes_kept c.args.keep_names stream kept old new (loop.comes stream kept h l) part
-          (subst (λ (x : Fate). FateComes c.args.keep_names stream (loop.comes stream kept h l).0 part x new) c.in-Goes.is
-          (c.in_ok-part.ensures.takes stream (loop.comes stream kept h l).0 (loop.comes stream kept h l).1 l));
+      comes = λ stream kept h l. goes_kept _ stream kept (feed_of bytes c.parts.cursor) new (loop.comes stream kept h l)
+          c.in_ok-part.part.bytes.now
+          (rw c.in-Goes.is at (c.in_ok-part.ensures.takes stream (loop.comes stream kept h l).0 (loop.comes stream kept h l).1 l));
       finished = c.in_ok-part.ensures.finished;
       order = omega (arith, loop.order, passes.0);
-      within = λ w. mark_within bytes part c.parts.cursor.mark c.next_part.new.cursor.mark (loop.within w) passes;
+      within = λ w. mark_within _ _ _ _ (loop.within w) passes;
     }
 
 pub returns-in-End-clause-takes : goal.returns-in-End-clause-takes
 returns-in-End-clause-takes c stream kept h l =
     let bytes = c.args.bytes.now in
-    let old = feed_of bytes c.parts.cursor in
-    let new = feed_of bytes c.next_part.new.cursor in
     let m = c.parts.invariant.comes stream kept h l in
-    let part = c.in_ok-part.part.bytes.now in
-    all_kept c.args.keep_names stream kept old new m part (subst (λ (x : Fate). FateComes c.args.keep_names stream m.0 part x new)
-    c.in-End.is (c.in_ok-part.ensures.takes stream m.0 m.1 l))
+    all_kept _ stream kept (feed_of bytes c.parts.cursor) (feed_of bytes c.next_part.new.cursor) m c.in_ok-part.part.bytes.now
+    (rw c.in-End.is at (c.in_ok-part.ensures.takes stream m.0 m.1 l))

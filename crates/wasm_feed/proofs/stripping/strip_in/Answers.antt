@@ -1,6 +1,5 @@
-use Rattle.std.proofs.Common.{◌≡◌, ◌∙◌, List, ◌++◌, ℕ, sym, ap, subst}
+use Rattle.std.proofs.Common.{◌≡◌, ◌∙◌, List, ◌++◌, ℕ, ap}
 use Rattle.std.proofs.lemmas.Result.{err_from_is_err_and}
-use Rattle.wasm_feed.specs.Strips.{ReadsKept}
 use Rattle.wasm_feed.proofs.StripLaws.{refused_fault, refused_memory, refused_copy, strips_so}
 use Rattle.wasm_feed.proofs.stripping.strip_in.Goals as goal
 
@@ -29,4 +28,4 @@ returns g c =
     let (kept, reads, all) = c.in_ok-copy_kept.ensures in
     let same : c.copy_kept.new.kept.items ≡ kept = all ∙ ap (λ (x : List ℕ). x ++ kept) c.in-Ok.ensures.empty in
     strips_so c.args.keep_names c.args.bytes.now c.copy_kept.new.kept.items c.in_ok-count.ensures.stream
-    (subst (ReadsKept c.args.keep_names c.args.bytes.now) (sym same) reads)
+    (rw same reads)

@@ -1,8 +1,6 @@
-use Rattle.std.proofs.Common.{◌+◌, subst, arith}
+use Rattle.std.proofs.Common.{arith}
 use Rattle.std.proofs.lemmas.List.{take_rest}
-use Rattle.wasm_feed.specs.Beside.{StepsOver}
 use Rattle.wasm_feed.specs.Cursors.{feed_of}
-use Rattle.wasm_feed.specs.Feed.{Feed}
 use Rattle.wasm_feed.proofs.Beside.{over}
 use Rattle.wasm_feed.proofs.feeder.Feeder.step_over.Goals as goal
 
@@ -15,8 +13,7 @@ returns-clause-steps g c =
     let new = feed_of stored c.take_left-taken.new.cursor in (
       c.parse_next.result,
       c.look-told.ensures,
-      subst (λ (f : Feed). StepsOver f piece c.parse_next.result (c.in-Ok.ready + c.take_left-taken.result) new) c.self.view_is
-          (over _ piece _ _ _ _ _ _ _ c.parse_next.result c.in-Ok.ensures.ok (take_rest piece c.in-Ok.ready) c.seen.ensures
+      rw c.self.view_is at (over _ piece _ _ _ _ _ _ _ c.parse_next.result c.in-Ok.ensures.ok (take_rest piece c.in-Ok.ready) c.seen.ensures
           c.deref.ensures.value a.parses a.shows a.finished a.wants a.mark c.take_left-taken.result stored c.take_left-taken.new.cursor
           t.takes t.within t.asks (omega (arith, t.bounded)) t.stays t.idle),
     )

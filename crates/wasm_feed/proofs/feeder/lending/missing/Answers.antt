@@ -1,23 +1,18 @@
-use Rattle.std.proofs.Common.{false, Ok, ap, subst, ◌∙◌}
-use Rattle.wasm_parser.specs.ParseAnswer.{IsRequest, ParseAnswer}
-use Rattle.wasm_parser.specs.ParserState.{ParserState}
+use Rattle.std.proofs.Common.{Ok, ap, ◌∙◌}
 use Rattle.wasm_feed.proofs.Beside.{enough, undecided}
 use Rattle.wasm_feed.proofs.feeder.lending.missing.Goals as goal
 
 pub returns-in-Ok-NeedMoreData-clause-decided : goal.returns-in-Ok-NeedMoreData-clause-decided
 returns-in-Ok-NeedMoreData-clause-decided c = λ e. absurd (undecided c.args.parser.now c.parse.new.self c.args.bytes.now c.parse.result _
-    (subst (λ (p : ParserState). ParseAnswer p false c.args.bytes.now c.parse.result c.parse.new.self)
-    (c.resume-trial.ensures ∙ c.checkpoint.ensures.state) c.parse.ensures.answers)
+    (rw (c.resume-trial.ensures ∙ c.checkpoint.ensures.state) at c.parse.ensures.answers)
     (c.in-Ok-NeedMoreData.is ∙ ap Ok c.in-Ok-NeedMoreData.field-0-is) e)
 
 pub returns-in-Ok-Parsed-clause-enough : goal.returns-in-Ok-Parsed-clause-enough
 returns-in-Ok-Parsed-clause-enough c = λ _. enough c.answers_last.ensures c.args.parser.now c.args.bytes.now c.parse.result
-    c.parse.new.self (subst (λ (p : ParserState). ParseAnswer p false c.args.bytes.now c.parse.result c.parse.new.self)
-    (c.resume-trial.ensures ∙ c.checkpoint.ensures.state) c.parse.ensures.answers)
-    (λ r. subst IsRequest (c.in-Ok-Parsed.is ∙ ap Ok c.in-Ok-Parsed.field-0-is) r)
+    c.parse.new.self (rw (c.resume-trial.ensures ∙ c.checkpoint.ensures.state) at c.parse.ensures.answers)
+    (λ r. rw (c.in-Ok-Parsed.is ∙ ap Ok c.in-Ok-Parsed.field-0-is) at r)
 
 pub returns-clause-enough : goal.returns-clause-enough
 returns-clause-enough c = λ _. enough c.answers_last.ensures c.args.parser.now c.args.bytes.now c.parse.result c.parse.new.self
-    (subst (λ (p : ParserState). ParseAnswer p false c.args.bytes.now c.parse.result c.parse.new.self)
-    (c.resume-trial.ensures ∙ c.checkpoint.ensures.state) c.parse.ensures.answers)
-    (λ r. subst IsRequest c.in-Err.is r)
+    (rw (c.resume-trial.ensures ∙ c.checkpoint.ensures.state) at c.parse.ensures.answers)
+    (λ r. rw c.in-Err.is at r)
