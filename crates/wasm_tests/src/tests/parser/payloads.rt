@@ -50,7 +50,7 @@ enum Inside<'a> {
     Nothing,
 }
 
-fn inside<'a>(payload: &Payload<'a>) -> Inside<'a> {
+fn inside_of<'a>(payload: &Payload<'a>) -> Inside<'a> {
     match payload {
         Payload::FunctionSection(section) => {
             Inside::Functions(
@@ -89,7 +89,7 @@ fn functions_bodies_and_custom_sections(rt: HostRuntime) -> Result<(), Fail> {
     let mut payloads = parser.parse_all(MODULE);
     for wanted in wanted {
         let payload = payloads.next().ok_or("no payload")??;
-        same(&rt, inside(&payload), wanted);
+        same(&rt, inside_of(&payload), wanted);
     }
     Ok(())
 }
