@@ -74,7 +74,7 @@ def relocations(cursor):
 def shown(library, stream):
     """A line for each section of these kinds."""
     for event in wasm.events(io.BytesIO(stream), library=library):
-        if event.kind != wasm.CUSTOM:
+        if event.kind != wasm.EventKind.CUSTOM:
             continue
         name = stream[event.data_offset - event.name_size : event.data_offset]
         kind = library.pulleynavy_classify_custom(ctypes.create_string_buffer(name, max(1, len(name))), len(name))

@@ -8,15 +8,15 @@ sys.path.insert(0, os.path.dirname(os.path.abspath(__file__)))
 import pulleynavy as wasm
 
 LINES = {
-    wasm.VERSION: lambda e: "version %d %d %d %s" % (e.start, e.end, e.count, "component" if e.id else "module"),
-    wasm.SECTION: lambda e: "section %d %d %d %d" % (e.id, e.start, e.end, e.count),
-    wasm.START: lambda e: "start %d %d %d" % (e.start, e.end, e.count),
-    wasm.DATA_COUNT: lambda e: "datacount %d %d %d" % (e.start, e.end, e.count),
-    wasm.CODE: lambda e: "code %d %d %d %d" % (e.start, e.end, e.count, e.size),
-    wasm.BODY: lambda e: "body %d %d" % (e.start, e.end),
-    wasm.CUSTOM: lambda e: "custom %d %d %d" % (e.start, e.end, e.data_offset),
-    wasm.UNKNOWN: lambda e: "unknown %d %d %d" % (e.id, e.start, e.end),
-    wasm.END: lambda e: "end %d" % e.start,
+    wasm.EventKind.VERSION: lambda e: "version %d %d %d %s" % (e.start, e.end, e.count, "component" if e.id else "module"),
+    wasm.EventKind.SECTION: lambda e: "section %d %d %d %d" % (e.id, e.start, e.end, e.count),
+    wasm.EventKind.START: lambda e: "start %d %d %d" % (e.start, e.end, e.count),
+    wasm.EventKind.DATA_COUNT: lambda e: "datacount %d %d %d" % (e.start, e.end, e.count),
+    wasm.EventKind.CODE: lambda e: "code %d %d %d %d" % (e.start, e.end, e.count, e.size),
+    wasm.EventKind.BODY: lambda e: "body %d %d" % (e.start, e.end),
+    wasm.EventKind.CUSTOM: lambda e: "custom %d %d %d" % (e.start, e.end, e.data_offset),
+    wasm.EventKind.UNKNOWN: lambda e: "unknown %d %d %d" % (e.id, e.start, e.end),
+    wasm.EventKind.END: lambda e: "end %d" % e.start,
 }
 
 

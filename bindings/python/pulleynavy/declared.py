@@ -1,8 +1,288 @@
 """The declarations of the library, written by tools/c_header from its sources."""
 # SPDX-License-Identifier: Apache-2.0 OR MIT
 import ctypes
+import enum
 
 VERSION = "0.1.0"
+
+
+class EventKind(enum.IntEnum):
+    """What an event is."""
+
+    NEED_MORE = 0
+    VERSION = 1
+    SECTION = 2
+    START = 3
+    DATA_COUNT = 4
+    CODE = 5
+    BODY = 6
+    CUSTOM = 7
+    UNKNOWN = 8
+    END = 9
+    FAULT = 10
+
+
+class FaultKind(enum.IntEnum):
+    """What a fault is."""
+
+    OUT_OF_MEMORY = 1
+    UNEXPECTED_EOF = 2
+    OFFSET_RANGE = 3
+    BAD_MAGIC = 4
+    UNKNOWN_VERSION = 5
+    MAGIC_AT_SECTION = 6
+    MALFORMED_SECTION_ID = 7
+    SECTION_TOO_LARGE = 8
+    OUT_OF_ORDER = 9
+    START_CONTENT = 10
+    DATA_COUNT_CONTENT = 11
+    FUNCTION_CODE_DIFFER = 12
+    FUNCTION_WITHOUT_CODE = 13
+    CODE_WITHOUT_FUNCTION = 14
+    DATA_COUNT_DIFFER = 15
+    DATA_COUNT_WITHOUT_DATA = 16
+    TRAILING_CODE = 17
+    NUMBER_TOO_LONG = 18
+    NUMBER_TOO_LARGE = 19
+    STRING_SIZE = 20
+    MALFORMED_UTF8 = 21
+    INVALID_U7 = 22
+    INVALID_BOOL = 23
+    SIZE_MISMATCH = 24
+    LEADING_BYTE = 25
+    DATA_FLAGS = 26
+    ELEMENT_FLAGS = 27
+    ELEMENT_FUNCTION_ONLY = 28
+    EXACT_EXPORT = 29
+    GLOBAL_FLAGS = 30
+    COMPACT_7F = 31
+    COMPACT_7E = 32
+    MEMORY_FLAGS = 33
+    PAGE_SIZE = 34
+    TABLE_ENCODING = 35
+    TABLE_FLAGS = 36
+    TAG_ATTRIBUTES = 37
+    NAMES_ORDER = 38
+    INDIRECT_ORDER = 39
+    NAME_SECTION_ORDER = 40
+    NAME_TRAILING = 41
+    PRODUCERS_FIELD = 42
+    LINKING_VERSION = 43
+    CORE_START_BYTE = 44
+    CORE_VALUE = 45
+    CUSTOM_TRAILING = 46
+    NOT_CONSTANT = 47
+    SUPERTYPES = 48
+
+
+class NumberKind(enum.IntEnum):
+    """Of NUMBER_TOO_LONG and NUMBER_TOO_LARGE, the kind of the number."""
+
+    VAR_U32 = 0
+    VAR_I32 = 1
+    VAR_U64 = 2
+    VAR_I64 = 3
+    VAR_S33 = 4
+
+
+class Lead(enum.IntEnum):
+    """Of LEADING_BYTE, what the byte begins."""
+
+    BRANCH_HINT = 0
+    BRANCH_TAKEN = 1
+    COMDAT_SYMBOL = 2
+    SYMBOL = 3
+    RELOC = 4
+    EXTERNAL = 5
+    VALUE = 6
+    REFERENCE = 7
+    HEAP = 8
+    COMPOSITE = 9
+    MUTABILITY = 10
+
+
+class CoreStart(enum.IntEnum):
+    """Of CORE_START_BYTE, the part of a core dump that begins with the byte."""
+
+    NAME = 0
+    MODULE = 1
+    INSTANCE = 2
+    STACK_NAME = 3
+    FRAME = 4
+
+
+class TypeKind(enum.IntEnum):
+    """The kind of a type."""
+
+    I32 = 0
+    I64 = 1
+    F32 = 2
+    F64 = 3
+    V128 = 4
+    REF = 5
+    I8 = 6
+    I16 = 7
+
+
+class HeapKind(enum.IntEnum):
+    """What a reference refers to."""
+
+    FUNC = 0
+    EXTERN = 1
+    ANY = 2
+    EQ = 3
+    I31 = 4
+    STRUCT = 5
+    ARRAY = 6
+    EXN = 7
+    NONE = 8
+    NO_EXTERN = 9
+    NO_FUNC = 10
+    NO_EXN = 11
+    CONCRETE = 12
+
+
+class CompositeKind(enum.IntEnum):
+    """What a subtype defines."""
+
+    FUNC = 0
+    ARRAY = 1
+    STRUCT = 2
+
+
+class ExternalKind(enum.IntEnum):
+    """What is imported or exported."""
+
+    FUNC = 0
+    TABLE = 1
+    MEMORY = 2
+    GLOBAL = 3
+    TAG = 4
+    FUNC_EXACT = 5
+
+
+class ImportKind(enum.IntEnum):
+    """An import, a bundle of imports of one module, or a bundle of one module and one type."""
+
+    SINGLE = 0
+    BUNDLE = 1
+    BUNDLE_OF_TYPE = 2
+
+
+class ElementKind(enum.IntEnum):
+    """What becomes of an element segment."""
+
+    PASSIVE = 0
+    ACTIVE = 1
+    DECLARED = 2
+
+
+class DataKind(enum.IntEnum):
+    """What becomes of a data segment."""
+
+    PASSIVE = 0
+    ACTIVE = 1
+
+
+class CustomKind(enum.IntEnum):
+    """The custom section that a name is that of."""
+
+    UNKNOWN = 0
+    NAME = 1
+    BRANCH_HINTS = 2
+    PRODUCERS = 3
+    DYLINK0 = 4
+    LINKING = 5
+    RELOC = 6
+    CORE = 7
+    CORE_MODULES = 8
+    CORE_INSTANCES = 9
+    CORE_STACK = 10
+
+
+class SymbolKind(enum.IntEnum):
+    """What a symbol is."""
+
+    FUNC = 0
+    DATA = 1
+    GLOBAL = 2
+    SECTION = 3
+    EVENT = 4
+    TABLE = 5
+
+
+class ComdatKind(enum.IntEnum):
+    """What a symbol of a comdat is."""
+
+    DATA = 0
+    FUNC = 1
+    GLOBAL = 2
+    EVENT = 3
+    TABLE = 4
+    SECTION = 5
+
+
+class RelocationKind(enum.IntEnum):
+    """What a relocation fills in."""
+
+    FUNCTION_INDEX_LEB = 0
+    TABLE_INDEX_SLEB = 1
+    TABLE_INDEX_I32 = 2
+    MEMORY_ADDR_LEB = 3
+    MEMORY_ADDR_SLEB = 4
+    MEMORY_ADDR_I32 = 5
+    TYPE_INDEX_LEB = 6
+    GLOBAL_INDEX_LEB = 7
+    FUNCTION_OFFSET_I32 = 8
+    SECTION_OFFSET_I32 = 9
+    EVENT_INDEX_LEB = 10
+    MEMORY_ADDR_REL_SLEB = 11
+    TABLE_INDEX_REL_SLEB = 12
+    GLOBAL_INDEX_I32 = 13
+    MEMORY_ADDR_LEB64 = 14
+    MEMORY_ADDR_SLEB64 = 15
+    MEMORY_ADDR_I64 = 16
+    MEMORY_ADDR_REL_SLEB64 = 17
+    TABLE_INDEX_SLEB64 = 18
+    TABLE_INDEX_I64 = 19
+    TABLE_NUMBER_LEB = 20
+    MEMORY_ADDR_TLS_SLEB = 21
+    FUNCTION_OFFSET_I64 = 22
+    MEMORY_ADDR_LOCREL_I32 = 23
+    TABLE_INDEX_REL_SLEB64 = 24
+    MEMORY_ADDR_TLS_SLEB64 = 25
+    FUNCTION_INDEX_I32 = 26
+
+
+class CoreValueKind(enum.IntEnum):
+    """What a value of a core dump is."""
+
+    MISSING = 0
+    I32 = 1
+    I64 = 2
+    F32 = 3
+    F64 = 4
+
+
+class SymbolFlags(enum.IntFlag):
+    """The flags of a symbol, as bits."""
+
+    BINDING_WEAK = 1
+    BINDING_LOCAL = 2
+    VISIBILITY_HIDDEN = 4
+    UNDEFINED = 16
+    EXPORTED = 32
+    EXPLICIT_NAME = 64
+    NO_STRIP = 128
+    TLS = 256
+    ABSOLUTE = 512
+
+
+class SegmentFlags(enum.IntFlag):
+    """The flags of a segment for linkers, as bits."""
+
+    STRINGS = 1
+    TLS = 2
 
 
 class Fault(ctypes.Structure):

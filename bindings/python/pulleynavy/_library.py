@@ -1,0 +1,47 @@
+"""The shared library: how it is found, its declarations, and faults as exceptions."""
+# SPDX-License-Identifier: Apache-2.0 OR MIT
+from __future__ import annotations
+
+import ctypes
+import functools
+import os
+from typing import Any
+
+from . import declared
+from .declared import FaultKind
+
+MEMORY64 = 1
+COMPACT_IMPORTS = 2
+ALL_FEATURES = MEMORY64 | COMPACT_IMPORTS
+
+
+@functools.lru_cache(maxsize=None)
+def load(path: str | None = None) -> Any:
+    """Loads the shared library from `path`, from `$PULLEYNAVY_LIB`, or as `libpulleynavy.so.0` from where the system looks.
+
+    Raises `OSError` if it is not found, and `AttributeError` if it lacks a call of this version.
+    """
+    library = ctypes.CDLL(path or os.environ.get("PULLEYNAVY_LIB") or "libpulleynavy.so.0")
+    for name, (result, arguments) in declared.CALLS.items():
+        call = getattr(library, name)
+        call.restype, call.argtypes = result, arguments
+    return library
+
+
+class Fault(ValueError):
+    """A malformed or truncated module.
+
+    `kind` says what is wrong, `offset` where, in bytes from the start of the stream, `number` is the value that belongs to the fault, if
+    there is one, and `text` is the message of the Rust crate wasmparser.
+    """
+
+    def __init__(self, library: Any, fault: Any) -> None:
+        room = ctypes.create_string_buffer(80)
+        size = library.pulleynavy_format_message(fault.kind, room, len(room))
+        self.code: int = fault.kind
+        self.kind = FaultKind(fault.kind & 0xFF)
+        self.offset: int = fault.offset
+        self.text = room.raw[:size].decode()
+        self.number: int | None = fault.number if fault.has_number else None
+        number = "" if self.number is None else f": {self.number}"
+        super().__init__(f"{self.text}{number} (at offset {self.offset:#x})")

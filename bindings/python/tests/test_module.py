@@ -1,0 +1,147 @@
+"""Modules by hand, and the doctests: `python -m unittest discover -s tests -t .`."""
+# SPDX-License-Identifier: Apache-2.0 OR MIT
+import doctest
+import io
+import subprocess
+import sys
+import tempfile
+import unittest
+
+import pulleynavy
+from pulleynavy import (
+    Data,
+    DataKind,
+    Element,
+    ElementKind,
+    EventKind,
+    Export,
+    ExternalKind,
+    Fault,
+    FaultKind,
+    Global,
+    HeapKind,
+    Import,
+    Limits,
+    Memory,
+    Module,
+    Section,
+    Table,
+    TypeKind,
+    ValueType,
+)
+
+HEADER = b"\0asm\1\0\0\0"
+FUNCTIONS = HEADER + b"\3\2\1\0\x0a\4\1\2\0\x0b"
+FUNCREF = ValueType(TypeKind.REF, True, HeapKind.FUNC)
+
+
+def load_tests(loader, tests, pattern):
+    for module in (pulleynavy, pulleynavy._events, pulleynavy.module):
+        tests.addTests(doctest.DocTestSuite(module))
+    return tests
+
+
+class Items(unittest.TestCase):
+    def test_imports_and_those_of_bundles(self):
+        section = b"\2\x1c\3\1m\1a\0\5\1m\1b\2\0\1\1n\0\x7f\2\1c\4\0\3\1d\0\4"
+        imports = [
+            Import("m", "a", ExternalKind.FUNC, 5),
+            Import("m", "b", ExternalKind.MEMORY, Memory(Limits(1, None, False, False), None)),
+            Import("n", "c", ExternalKind.TAG, 3),
+            Import("n", "d", ExternalKind.FUNC, 4),
+        ]
+        self.assertEqual(Module(HEADER + section).imports, imports)
+
+    def test_tables_memories_globals_and_tags(self):
+        module = Module(HEADER + b"\4\5\1\x70\1\1\2\5\4\1\3\1\2\x0d\3\1\0\7\6\6\1\x7f\1\x41\0\x0b")
+        self.assertEqual(module.tables, [Table(FUNCREF, Limits(1, 2, False, False))])
+        self.assertEqual(module.memories, [Memory(Limits(1, 2, False, True), None)])
+        self.assertEqual(module.tags, [7])
+        self.assertEqual(module.globals, [Global(ValueType(TypeKind.I32), True, False)])
+
+    def test_exports(self):
+        module = Module(HEADER + b"\7\x0a\2\2\xc3\xa9\4\5\1a\3\0")
+        self.assertEqual(module.exports, [Export("é", ExternalKind.TAG, 5), Export("a", ExternalKind.GLOBAL, 0)])
+
+    def test_segments(self):
+        module = Module(HEADER + b"\x09\x0c\2\1\0\1\5\2\3\x41\0\x0b\0\0\x0b\x0b\2\1\2xy\0\x41\0\x0b\1z")
+        self.assertEqual(module.elements, [Element(ElementKind.PASSIVE, None, 1), Element(ElementKind.ACTIVE, 3, 0)])
+        self.assertEqual(module.data, [Data(DataKind.PASSIVE, None, b"xy"), Data(DataKind.ACTIVE, 0, b"z")])
+
+    def test_functions_and_their_bodies(self):
+        module = Module(FUNCTIONS)
+        self.assertEqual((module.functions, module.bodies, module.start), ([0], [range(16, 18)], None))
+        self.assertEqual(module.sections, [Section(3, 10, 12, 1), Section(10, 14, 18, 1)])
+
+    def test_names(self):
+        module = Module(HEADER + b"\0\x10\4name\0\2\1m\1\5\1\7\2\xc3\xa9\0\2\1x")
+        self.assertEqual((module.names.module, module.names.functions), ("m", {7: "é"}))
+        self.assertEqual([section.name for section in module.custom_sections], ["name", "x"])
+        self.assertEqual(Module(HEADER).names.functions, {})
+
+    def test_a_component_has_no_items(self):
+        module = Module(b"\0asm\x0d\0\1\0\1\1\0")
+        self.assertTrue(module.is_component)
+        self.assertEqual((module.exports, module.sections), ([], [Section(1, 10, 11, None)]))
+
+
+class Faults(unittest.TestCase):
+    def test_a_malformed_section_is_a_fault_at_once(self):
+        with self.assertRaises(Fault) as caught:
+            Module(HEADER + b"\x80")
+        self.assertEqual((caught.exception.kind, caught.exception.offset), (FaultKind.MALFORMED_SECTION_ID, 8))
+
+    def test_a_malformed_item_is_a_fault_when_it_is_read(self):
+        module = Module(HEADER + b"\7\4\1\1a\5")
+        with self.assertRaises(Fault) as caught:
+            module.exports
+        self.assertEqual((caught.exception.kind, caught.exception.offset, caught.exception.number), (FaultKind.LEADING_BYTE, 13, 5))
+
+    def test_a_truncated_stream(self):
+        for size in range(1, 8):
+            with self.assertRaises(Fault):
+                list(pulleynavy.events(io.BytesIO(HEADER[:size])))
+
+
+class Streams(unittest.TestCase):
+    def test_chunks_of_each_size_give_the_same_events(self):
+        whole = list(pulleynavy.events(io.BytesIO(FUNCTIONS)))
+        self.assertEqual([event.kind for event in whole[:3]], [EventKind.VERSION, EventKind.SECTION, EventKind.CODE])
+        self.assertEqual(b"".join(event.raw for event in whole), FUNCTIONS)
+        for chunk in range(1, len(FUNCTIONS) + 1):
+            self.assertEqual(list(pulleynavy.events(io.BytesIO(FUNCTIONS), chunk)), whole)
+
+    def test_a_large_section_makes_the_storage_grow(self):
+        data = b"\1x" + bytes(100_000)
+        stream = HEADER + b"\0" + bytes([len(data) & 0x7F | 0x80, len(data) >> 7 & 0x7F | 0x80, len(data) >> 14]) + data
+        custom = list(pulleynavy.events(io.BytesIO(stream), 1000))[1]
+        self.assertEqual((custom.name, custom.data), ("x", bytes(100_000)))
+
+    def test_strip(self):
+        self.assertEqual(pulleynavy.strip(HEADER + b"\0\5\4name\0\2\1x", keep_names=True), HEADER + b"\0\5\4name")
+        with self.assertRaises(Fault):
+            pulleynavy.strip(HEADER + b"\x80")
+
+
+class Program(unittest.TestCase):
+    def run_with(self, *arguments):
+        return subprocess.run([sys.executable, "-m", "pulleynavy", *arguments], capture_output=True, text=True)
+
+    def test_sizes_of_sections(self):
+        with tempfile.NamedTemporaryFile() as file:
+            file.write(FUNCTIONS + b"\0\2\1x")
+            file.flush()
+            done = self.run_with(file.name)
+        self.assertEqual(done.returncode, 0)
+        self.assertEqual([line.split() for line in done.stdout.splitlines()], [["2", "0xa", "function", "(1)"], ["4", "0xe", "code", "(1)"], ["2", "0x14", "x"]])
+
+    def test_errors(self):
+        self.assertEqual(self.run_with().returncode, 2)
+        self.assertEqual(self.run_with("no such file").returncode, 3)
+        with tempfile.NamedTemporaryFile() as file:
+            done = self.run_with(file.name)
+        self.assertEqual((done.returncode, done.stderr), (1, "%s: unexpected end-of-file (at offset 0x0)\n" % file.name))
+
+
+if __name__ == "__main__":
+    unittest.main()
