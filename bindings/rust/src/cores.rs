@@ -1,7 +1,6 @@
 //! Core dumps.
-use crate::error::CUSTOM_TRAILING;
 use crate::section::call;
-use crate::{BinaryReader, FromReader, List, Result};
+use crate::{BinaryReader, Fault, FromReader, Ieee32, Ieee64, List, Result};
 
 /// The section `core`.
 #[derive(Clone, Copy, Debug, PartialEq, Eq, Hash)]
@@ -16,8 +15,8 @@ impl<'a> CoreDumpSection<'a> {
     /// # Errors
     /// The fault of the name, or of bytes after it.
     pub fn new(mut reader: BinaryReader<'a>) -> Result<Self> {
-        let (window, plain) = call!(pulleynavy_read_core_process, reader);
-        reader.expect_end(CUSTOM_TRAILING)?;
+        let (window, plain) = call!(core_process, reader);
+        reader.expect_end(Fault::CustomTrailing)?;
         Ok(CoreDumpSection { name: window.text(plain.name) })
     }
 }
@@ -39,14 +38,14 @@ impl<'a> CoreDumpModulesSection<'a> {
         let count = reader.read_var_u32()?;
         // Items that were read once have no fault, so the offset is not used when they are read again.
         let modules = List::checked(&mut reader, count, |reader| module(reader, data_offset), |reader| module(reader, 0))?;
-        reader.expect_end(CUSTOM_TRAILING)?;
+        reader.expect_end(Fault::CustomTrailing)?;
         Ok(CoreDumpModulesSection { modules })
     }
 }
 
 /// The name of a module of the section whose data begins at this offset.
 fn module<'a>(reader: &mut BinaryReader<'a>, data_offset: u64) -> Result<&'a str> {
-    let (window, plain) = call!(pulleynavy_read_core_module, reader, data_offset);
+    let (window, plain) = call!(core_module, reader, data_offset);
     Ok(window.text(plain.name))
 }
 
@@ -64,7 +63,7 @@ impl<'a> CoreDumpInstancesSection<'a> {
     /// The fault of an instance, or of bytes after the last one.
     pub fn new(mut reader: BinaryReader<'a>) -> Result<Self> {
         let instances = reader.read()?;
-        reader.expect_end(CUSTOM_TRAILING)?;
+        reader.expect_end(Fault::CustomTrailing)?;
         Ok(CoreDumpInstancesSection { instances })
     }
 }
@@ -82,7 +81,7 @@ pub struct CoreDumpInstance<'a> {
 
 impl<'a> FromReader<'a> for CoreDumpInstance<'a> {
     fn from_reader(reader: &mut BinaryReader<'a>) -> Result<Self> {
-        let (_, plain) = call!(pulleynavy_read_core_instance, reader);
+        let (_, plain) = call!(core_instance, reader);
         Ok(CoreDumpInstance { module_index: plain.module_index, memories: reader.read()?, globals: reader.read()? })
     }
 }
@@ -102,9 +101,9 @@ impl<'a> CoreDumpStackSection<'a> {
     /// # Errors
     /// The fault of the name or of a frame, or of bytes after the last one.
     pub fn new(mut reader: BinaryReader<'a>) -> Result<Self> {
-        let (window, plain) = call!(pulleynavy_read_core_thread, reader);
+        let (window, plain) = call!(core_thread, reader);
         let frames = reader.read()?;
-        reader.expect_end(CUSTOM_TRAILING)?;
+        reader.expect_end(Fault::CustomTrailing)?;
         Ok(CoreDumpStackSection { name: window.text(plain.name), frames })
     }
 }
@@ -126,7 +125,7 @@ pub struct CoreDumpStackFrame<'a> {
 
 impl<'a> FromReader<'a> for CoreDumpStackFrame<'a> {
     fn from_reader(reader: &mut BinaryReader<'a>) -> Result<Self> {
-        let (_, plain) = call!(pulleynavy_read_core_frame, reader);
+        let (_, plain) = call!(core_frame, reader);
         let (instanceidx, funcidx, codeoffset) = (plain.instance, plain.func, plain.code_offset);
         Ok(CoreDumpStackFrame { instanceidx, funcidx, codeoffset, locals: reader.read()?, stack: reader.read()? })
     }
@@ -142,19 +141,19 @@ pub enum CoreDumpValue {
     /// An integer of 64 bits.
     I64(i64),
     /// The bits of a float of 32 bits.
-    F32(u32),
+    F32(Ieee32),
     /// The bits of a float of 64 bits.
-    F64(u64),
+    F64(Ieee64),
 }
 
 impl<'a> FromReader<'a> for CoreDumpValue {
     fn from_reader(reader: &mut BinaryReader<'a>) -> Result<Self> {
-        let (_, plain) = call!(pulleynavy_read_core_value, reader);
+        let (_, plain) = call!(core_value, reader);
         Ok(match plain.kind {
             1 => CoreDumpValue::I32(plain.integer as i32),
             2 => CoreDumpValue::I64(plain.integer),
-            3 => CoreDumpValue::F32(plain.bits as u32),
-            4 => CoreDumpValue::F64(plain.bits),
+            3 => CoreDumpValue::F32(Ieee32(plain.bits as u32)),
+            4 => CoreDumpValue::F64(Ieee64(plain.bits)),
             _ => CoreDumpValue::Missing,
         })
     }

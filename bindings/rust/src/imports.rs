@@ -1,6 +1,6 @@
 //! Imports.
-use crate::ffi;
 use crate::kinds::{exception_tag, global_type, memory_type, table_type};
+use crate::library;
 use crate::section::{SectionLimitedIntoIter, SectionLimitedIntoIterWithOffsets, call};
 use crate::{BinaryReader, ExternalKind, FromReader, GlobalType, MemoryType, Result, SectionLimited, TableType, TagType};
 
@@ -64,7 +64,7 @@ pub enum Imports<'a> {
     },
 }
 
-fn type_ref(ty: &ffi::ImportType) -> TypeRef {
+fn type_ref(ty: &library::ImportType) -> TypeRef {
     match ty.kind {
         0 => TypeRef::Func(ty.index),
         1 => TypeRef::Table(table_type(ty.table)),
@@ -97,7 +97,7 @@ impl<'a> FromReader<'a> for Import<'a> {
 
 impl<'a> FromReader<'a> for Imports<'a> {
     fn from_reader(reader: &mut BinaryReader<'a>) -> Result<Self> {
-        let (window, plain) = call!(pulleynavy_read_import, reader);
+        let (window, plain) = call!(import, reader);
         let (module, ty) = (window.text(plain.module_name), type_ref(&plain.ty));
         let group = match plain.kind {
             0 => Imports::Single(window.offset, Import { module, name: window.text(plain.name), ty }),
@@ -110,7 +110,7 @@ impl<'a> FromReader<'a> for Imports<'a> {
 
 impl<'a> FromReader<'a> for ImportItemCompact<'a> {
     fn from_reader(reader: &mut BinaryReader<'a>) -> Result<Self> {
-        let (window, plain) = call!(pulleynavy_read_import_item, reader);
+        let (window, plain) = call!(import_item, reader);
         Ok(ImportItemCompact { name: window.text(plain.name), ty: type_ref(&plain.ty) })
     }
 }

@@ -1,9 +1,9 @@
 //! Tables, globals, exports and segments.
-use crate::error::Lead;
 use crate::kinds::{global_type, table_type};
+use crate::library::Span;
 use crate::section::{Window, call};
 use crate::types::ref_type;
-use crate::{BinaryReader, FromReader, GlobalType, RefType, Result, SectionLimited, TableType, ffi};
+use crate::{BinaryReader, FromReader, GlobalType, Lead, RefType, Result, SectionLimited, TableType};
 use core::ops::Range;
 
 /// A constant expression: its instructions, with the end.
@@ -36,8 +36,8 @@ impl<'a> ConstExpr<'a> {
 
 impl<'a> FromReader<'a> for ConstExpr<'a> {
     fn from_reader(reader: &mut BinaryReader<'a>) -> Result<Self> {
-        let (window, plain) = call!(pulleynavy_read_expression, reader);
-        Ok(ConstExpr { window: window.part(ffi::Span { at: 0, size: plain.consumed }) })
+        let (window, plain) = call!(expression, reader);
+        Ok(ConstExpr { window: window.part(Span { at: 0, size: plain.consumed }) })
     }
 }
 
@@ -61,7 +61,7 @@ pub enum TableInit<'a> {
 
 impl<'a> FromReader<'a> for Table<'a> {
     fn from_reader(reader: &mut BinaryReader<'a>) -> Result<Self> {
-        let (window, plain) = call!(pulleynavy_read_table, reader);
+        let (window, plain) = call!(table, reader);
         let init = if plain.has_init == 0 { TableInit::RefNull } else { TableInit::Expr(ConstExpr { window: window.part(plain.init) }) };
         Ok(Table { ty: table_type(plain.ty), init })
     }
@@ -78,7 +78,7 @@ pub struct Global<'a> {
 
 impl<'a> FromReader<'a> for Global<'a> {
     fn from_reader(reader: &mut BinaryReader<'a>) -> Result<Self> {
-        let (window, plain) = call!(pulleynavy_read_global, reader);
+        let (window, plain) = call!(global, reader);
         Ok(Global { ty: global_type(plain.ty), init_expr: ConstExpr { window: window.part(plain.init) } })
     }
 }
@@ -136,7 +136,7 @@ pub struct Export<'a> {
 
 impl<'a> FromReader<'a> for Export<'a> {
     fn from_reader(reader: &mut BinaryReader<'a>) -> Result<Self> {
-        let (window, plain) = call!(pulleynavy_read_export, reader);
+        let (window, plain) = call!(export, reader);
         let kind = ExternalKind::of(plain.kind).unwrap_or(ExternalKind::FuncExact);
         Ok(Export { name: window.text(plain.name), kind, index: plain.index })
     }
@@ -180,7 +180,7 @@ pub enum ElementItems<'a> {
 
 impl<'a> FromReader<'a> for Element<'a> {
     fn from_reader(reader: &mut BinaryReader<'a>) -> Result<Self> {
-        let (window, plain) = call!(pulleynavy_read_element, reader);
+        let (window, plain) = call!(element, reader);
         let kind = match plain.kind {
             0 => ElementKind::Passive,
             1 => ElementKind::Active {
@@ -225,7 +225,7 @@ pub enum DataKind<'a> {
 
 impl<'a> FromReader<'a> for Data<'a> {
     fn from_reader(reader: &mut BinaryReader<'a>) -> Result<Self> {
-        let (window, plain) = call!(pulleynavy_read_data, reader);
+        let (window, plain) = call!(data, reader);
         let kind = match plain.kind {
             0 => DataKind::Passive,
             _ => DataKind::Active { memory_index: plain.memory, offset_expr: ConstExpr { window: window.part(plain.offset_expression) } },

@@ -3,7 +3,7 @@ use crate::cores::{CoreDumpInstancesSection, CoreDumpModulesSection, CoreDumpSec
 use crate::linking::LinkingSectionReader;
 use crate::relocations::RelocSectionReader;
 use crate::section::call;
-use crate::{BinaryReader, CustomSectionReader, FromReader, List, NameSectionReader, Result, SectionLimited, Subsection, Subsections, SymbolFlags, ffi};
+use crate::{BinaryReader, CustomSectionReader, FromReader, List, NameSectionReader, Result, SectionLimited, Subsection, Subsections, SymbolFlags, library};
 use core::ops::Range;
 
 /// A custom section whose data is known, by its name.
@@ -41,8 +41,7 @@ impl<'a> CustomSectionReader<'a> {
 
     fn known(&self) -> Result<KnownCustom<'a>> {
         let (name, data) = (self.name(), self.data_reader());
-        // SAFETY: the declaration is made from the sources; pointer and length are those of a text that is borrowed for the call.
-        Ok(match unsafe { ffi::pulleynavy_classify_custom(name.as_ptr(), name.len()) } {
+        Ok(match library::classify_custom(name) {
             1 => KnownCustom::Name(NameSectionReader::new(data)),
             2 => KnownCustom::BranchHints(BranchHintSectionReader::new(data)?),
             3 => KnownCustom::Producers(ProducersSectionReader::new(data)?),
@@ -74,7 +73,7 @@ pub struct ProducersField<'a> {
 
 impl<'a> FromReader<'a> for ProducersField<'a> {
     fn from_reader(reader: &mut BinaryReader<'a>) -> Result<Self> {
-        let (window, plain) = call!(pulleynavy_read_producers_field, reader);
+        let (window, plain) = call!(producers_field, reader);
         let values = SectionLimited::list(window, plain.values, plain.count);
         Ok(ProducersField { name: window.text(plain.name), values })
     }
@@ -91,7 +90,7 @@ pub struct ProducersFieldValue<'a> {
 
 impl<'a> FromReader<'a> for ProducersFieldValue<'a> {
     fn from_reader(reader: &mut BinaryReader<'a>) -> Result<Self> {
-        let (window, plain) = call!(pulleynavy_read_producers_value, reader);
+        let (window, plain) = call!(producers_value, reader);
         Ok(ProducersFieldValue { name: window.text(plain.name), version: window.text(plain.version) })
     }
 }
@@ -110,7 +109,7 @@ pub struct BranchHintFunction<'a> {
 
 impl<'a> FromReader<'a> for BranchHintFunction<'a> {
     fn from_reader(reader: &mut BinaryReader<'a>) -> Result<Self> {
-        let (window, plain) = call!(pulleynavy_read_hinted_function, reader);
+        let (window, plain) = call!(hinted_function, reader);
         let hints = SectionLimited::list(window, plain.hints, plain.count);
         Ok(BranchHintFunction { func: plain.func, hints })
     }
@@ -127,7 +126,7 @@ pub struct BranchHint {
 
 impl<'a> FromReader<'a> for BranchHint {
     fn from_reader(reader: &mut BinaryReader<'a>) -> Result<Self> {
-        let (_, plain) = call!(pulleynavy_read_branch_hint, reader);
+        let (_, plain) = call!(branch_hint, reader);
         Ok(BranchHint { func_offset: plain.func_offset, taken: plain.taken != 0 })
     }
 }
@@ -199,8 +198,8 @@ pub struct MemInfo {
 
 impl<'a> FromReader<'a> for MemInfo {
     fn from_reader(reader: &mut BinaryReader<'a>) -> Result<Self> {
-        let (_, plain) = call!(pulleynavy_read_dylink_memory, reader);
-        let ffi::DylinkMemory { memory_size, memory_alignment, table_size, table_alignment, .. } = plain;
+        let (_, plain) = call!(dylink_memory, reader);
+        let library::DylinkMemory { memory_size, memory_alignment, table_size, table_alignment, .. } = plain;
         Ok(MemInfo { memory_size, memory_alignment, table_size, table_alignment })
     }
 }
@@ -216,7 +215,7 @@ pub struct ExportInfo<'a> {
 
 impl<'a> FromReader<'a> for ExportInfo<'a> {
     fn from_reader(reader: &mut BinaryReader<'a>) -> Result<Self> {
-        let (window, plain) = call!(pulleynavy_read_dylink_export, reader);
+        let (window, plain) = call!(dylink_export, reader);
         Ok(ExportInfo { name: window.text(plain.name), flags: SymbolFlags::from_bits_retain(plain.flags) })
     }
 }
@@ -234,7 +233,7 @@ pub struct ImportInfo<'a> {
 
 impl<'a> FromReader<'a> for ImportInfo<'a> {
     fn from_reader(reader: &mut BinaryReader<'a>) -> Result<Self> {
-        let (window, plain) = call!(pulleynavy_read_dylink_import, reader);
+        let (window, plain) = call!(dylink_import, reader);
         Ok(ImportInfo { module: window.text(plain.module_name), field: window.text(plain.field), flags: SymbolFlags::from_bits_retain(plain.flags) })
     }
 }

@@ -14,7 +14,7 @@
 //!         }
 //!     }
 //! }
-//! # Ok::<(), pulleynavy::BinaryReaderError>(())
+//! # Ok::<(), pulleynavy::Error>(())
 //! ```
 //!
 //! What each call of the library answers is proved; this crate, which makes Rust's types of it, is tested. It takes no memory. Offsets
@@ -25,6 +25,7 @@
 mod cores;
 mod custom;
 mod error;
+mod fault;
 #[allow(missing_docs, dead_code)]
 #[rustfmt::skip]
 mod ffi;
@@ -33,10 +34,12 @@ mod imports;
 mod items;
 mod kinds;
 mod known;
+mod library;
 mod limits;
 mod linking;
 mod list;
 mod names;
+mod numbers;
 mod parser;
 mod payload;
 mod reader;
@@ -47,7 +50,8 @@ mod types;
 
 pub use cores::{CoreDumpInstance, CoreDumpInstancesSection, CoreDumpModulesSection, CoreDumpSection, CoreDumpStackFrame, CoreDumpStackSection, CoreDumpValue};
 pub use custom::{CustomSectionReader, Subsection, Subsections};
-pub use error::{BinaryReaderError, Result};
+pub use error::{BinaryReaderError, Error, Result};
+pub use fault::{CoreStart, Fault, Lead, NumberKind};
 pub use flags::{SegmentFlags, SymbolFlags, WasmFeatures};
 pub use imports::{Import, ImportItemCompact, Imports, ImportsIter, IntoImportsWithOffsets, TypeRef};
 pub use items::{ConstExpr, Data, DataKind, Element, ElementItems, ElementKind, Export, ExternalKind, Global, Table, TableInit};
@@ -63,6 +67,7 @@ pub use linking::{
 };
 pub use list::List;
 pub use names::{IndirectNameMap, IndirectNaming, Name, NameMap, NameSectionReader, Naming};
+pub use numbers::{Ieee32, Ieee64};
 pub use parser::{Chunk, ParseAll, Parser};
 pub use payload::{
     DataSectionReader, ElementSectionReader, Encoding, ExportSectionReader, FunctionBody, FunctionSectionReader, GlobalSectionReader, ImportSectionReader,

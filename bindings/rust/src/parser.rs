@@ -1,13 +1,13 @@
 //! The parser.
 use crate::payload::payload;
 use crate::section::Window;
-use crate::{BinaryReader, BinaryReaderError, Payload, Result, WasmFeatures, ffi};
+use crate::{BinaryReader, Error, Payload, Result, WasmFeatures, library};
 
 /// What `parse` answers.
 #[derive(Debug)]
 pub enum Chunk<'a> {
     /// About so many more bytes are wanted.
-    NeedMoreData(u64),
+    NeedMoreData(usize),
     /// The next part.
     Parsed {
         /// How many bytes it took.
@@ -36,10 +36,10 @@ pub enum Chunk<'a> {
 ///         },
 ///     }
 /// }
-/// # Ok::<(), pulleynavy::BinaryReaderError>(())
+/// # Ok::<(), pulleynavy::Error>(())
 /// ```
 #[derive(Clone, Debug)]
-pub struct Parser(ffi::Parser);
+pub struct Parser(library::Parser);
 
 impl Default for Parser {
     fn default() -> Self {
@@ -50,8 +50,7 @@ impl Default for Parser {
 impl Parser {
     /// A parser of a stream that begins at this offset, with all features.
     pub fn new(offset: u64) -> Self {
-        // SAFETY: the declaration is made from the sources, and any numbers may be given.
-        Parser(unsafe { ffi::pulleynavy_parser_init(offset, WasmFeatures::all().bits()) })
+        Parser(library::parser_init(offset, WasmFeatures::all().bits()))
     }
 
     /// Whether bytes begin with the header of a module.
@@ -93,11 +92,10 @@ impl Parser {
     /// The fault that is there, which leaves the parser as it was.
     pub fn parse<'a>(&mut self, data: &'a [u8], eof: bool) -> Result<Chunk<'a>> {
         let before = Window { bytes: data, offset: self.0.offset, features: self.0.features };
-        // SAFETY: the declaration is made from the sources; pointer and length are those of a slice that is borrowed for the call.
-        let event = unsafe { ffi::pulleynavy_parse(&mut self.0, data.as_ptr(), data.len(), eof) };
+        let event = library::parse(&mut self.0, data, eof);
         match event.kind {
-            0 => Ok(Chunk::NeedMoreData(event.hint)),
-            10 => Err(BinaryReaderError::new(event.fault)),
+            0 => Ok(Chunk::NeedMoreData(usize::try_from(event.hint).unwrap_or(usize::MAX))),
+            10 => Err(Error::reported(event.fault)),
             _ => Ok(Chunk::Parsed { consumed: event.consumed as usize, payload: payload(before, &event)? }),
         }
     }
@@ -109,8 +107,7 @@ impl Parser {
 
     /// Passes what is left of a code section: the caller hands in the bytes after it next. Elsewhere it passes nothing.
     pub fn skip_section(&mut self) {
-        // SAFETY: the declaration is made from the sources.
-        unsafe { ffi::pulleynavy_skip_section(&mut self.0) };
+        library::skip_section(&mut self.0);
     }
 
     /// The payloads of the stream that these bytes are, up to its end or its first fault.

@@ -1,6 +1,7 @@
 //! The parts of a stream.
+use crate::library::{Event, Span};
 use crate::section::Window;
-use crate::{BinaryReader, CustomSectionReader, Data, Element, Export, Global, Imports, MemoryType, RecGroup, Result, SectionLimited, Table, TagType, ffi};
+use crate::{BinaryReader, CustomSectionReader, Data, Element, Export, Global, Imports, MemoryType, RecGroup, Result, SectionLimited, Table, TagType};
 use core::fmt;
 use core::ops::Range;
 
@@ -113,9 +114,9 @@ pub enum Payload<'a> {
     CodeSectionStart {
         /// How many bodies come.
         count: u32,
-        /// The offsets of the section's content.
-        range: Range<u64>,
-        /// How many bytes come after the count.
+        /// The offsets of the section's content, whose end is not compared with the bodies yet.
+        unchecked_range: Range<u64>,
+        /// How many bytes follow the count.
         size: u32,
     },
     /// A body.
@@ -150,7 +151,7 @@ impl Payload<'_> {
             Payload::ExportSection(section) => (7, section.range()),
             Payload::StartSection { range, .. } => (8, range.clone()),
             Payload::ElementSection(section) => (9, section.range()),
-            Payload::CodeSectionStart { range, .. } => (10, range.clone()),
+            Payload::CodeSectionStart { unchecked_range, .. } => (10, unchecked_range.clone()),
             Payload::DataSection(section) => (11, section.range()),
             Payload::DataCountSection { range, .. } => (12, range.clone()),
             Payload::TagSection(section) => (13, section.range()),
@@ -191,7 +192,9 @@ impl fmt::Debug for Payload<'_> {
             Payload::Version { num, encoding, range } => f.debug_struct(word).field("num", num).field("encoding", encoding).field("range", range).finish(),
             Payload::StartSection { func, range } => f.debug_struct(word).field("func", func).field("range", range).finish(),
             Payload::DataCountSection { count, range } => f.debug_struct(word).field("count", count).field("range", range).finish(),
-            Payload::CodeSectionStart { count, range, size } => f.debug_struct(word).field("count", count).field("range", range).field("size", size).finish(),
+            Payload::CodeSectionStart { count, unchecked_range, size } => {
+                f.debug_struct(word).field("count", count).field("unchecked_range", unchecked_range).field("size", size).finish()
+            }
             Payload::CustomSection(section) => f.debug_tuple(word).field(section).finish(),
             Payload::UnknownSection { id, range, .. } => f.debug_struct(word).field("id", id).field("range", range).finish(),
             Payload::End(offset) => f.debug_tuple(word).field(offset).finish(),
@@ -201,11 +204,11 @@ impl fmt::Debug for Payload<'_> {
 }
 
 /// What an event says, of bytes that begin where the parser was.
-pub(crate) fn payload<'a>(before: Window<'a>, event: &ffi::Event) -> Result<Payload<'a>> {
+pub(crate) fn payload<'a>(before: Window<'a>, event: &Event) -> Result<Payload<'a>> {
     let range = event.start..event.end;
     // The end has no bytes, and the range of a code section goes beyond those that were consumed.
     let size = event.end.min(before.range().end) - event.start;
-    let window = before.part(ffi::Span { at: event.start - before.offset, size });
+    let window = before.part(Span { at: event.start - before.offset, size });
     Ok(match event.kind {
         1 => {
             let encoding = if event.id == 0 { Encoding::Module } else { Encoding::Component };
@@ -214,7 +217,7 @@ pub(crate) fn payload<'a>(before: Window<'a>, event: &ffi::Event) -> Result<Payl
         2 => return counted(event.id, window),
         3 => Payload::StartSection { func: event.count, range },
         4 => Payload::DataCountSection { count: event.count, range },
-        5 => Payload::CodeSectionStart { count: event.count, range, size: event.size },
+        5 => Payload::CodeSectionStart { count: event.count, unchecked_range: range, size: event.size },
         6 => Payload::CodeSectionEntry(FunctionBody { window }),
         7 => Payload::CustomSection(CustomSectionReader::of(window, event.data_offset, event.name_size)),
         9 => Payload::End(event.start),

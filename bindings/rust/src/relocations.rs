@@ -1,7 +1,6 @@
 //! Relocations.
-use crate::error::{Lead, OFFSET_RANGE};
 use crate::section::call;
-use crate::{BinaryReader, BinaryReaderError, FromReader, Result, SectionLimited, ffi};
+use crate::{BinaryReader, Error, Fault, FromReader, Lead, Result, SectionLimited, library};
 use core::ops::Range;
 
 /// What is added to the value that a relocation fills in.
@@ -149,15 +148,15 @@ impl RelocationEntry {
     /// That they pass the greatest `usize`, which 64 bits have room for.
     pub fn relocation_range(&self) -> Result<Range<usize>> {
         let start = self.offset as usize;
-        let end = start.checked_add(self.ty.extent()).ok_or(BinaryReaderError::of_kind(OFFSET_RANGE, self.offset.into()))?;
+        let end = start.checked_add(self.ty.extent()).ok_or_else(|| Error::new(Fault::OffsetRange, self.offset.into()))?;
         Ok(start..end)
     }
 }
 
 impl<'a> FromReader<'a> for RelocationEntry {
     fn from_reader(reader: &mut BinaryReader<'a>) -> Result<Self> {
-        let (_, plain) = call!(pulleynavy_read_relocation, reader);
-        let ffi::Relocation { kind, offset, index, addend, .. } = plain;
+        let (_, plain) = call!(relocation, reader);
+        let library::Relocation { kind, offset, index, addend, .. } = plain;
         let ty = RelocationType::try_from(kind as u8).expect("the library refuses other types");
         Ok(RelocationEntry { ty, offset, index, addend })
     }

@@ -1,6 +1,6 @@
 //! Counted items in a window.
-use crate::error::{INVALID_BOOL, SIZE_MISMATCH};
-use crate::{BinaryReader, BinaryReaderError, Result, ffi};
+use crate::library::{self, Item, Span};
+use crate::{BinaryReader, Error, Fault, Result};
 use core::fmt;
 use core::marker::PhantomData;
 use core::ops::Range;
@@ -25,13 +25,13 @@ impl<'a> Window<'a> {
     }
 
     /// A part of it.
-    pub(crate) fn part(&self, span: ffi::Span) -> Self {
+    pub(crate) fn part(&self, span: Span) -> Self {
         let rest = self.after(span.at);
         Window { bytes: &rest.bytes[..span.size as usize], ..rest }
     }
 
     /// A text in it, which the library has found to be UTF-8.
-    pub(crate) fn text(&self, span: ffi::Span) -> &'a str {
+    pub(crate) fn text(&self, span: Span) -> &'a str {
         core::str::from_utf8(self.part(span).bytes).unwrap_or_default()
     }
 }
@@ -40,16 +40,21 @@ impl<'a> Window<'a> {
 macro_rules! call {
     ($name:ident, $reader:expr $(, $more:expr)*) => {{
         let window = $reader.rest;
-        // SAFETY: the declaration is made from the sources; pointer and length are those of a slice that is borrowed for the call.
-        let plain = unsafe { crate::ffi::$name(window.bytes.as_ptr(), window.bytes.len(), window.offset, window.features $(, $more)*) };
-        if plain.fault.kind != 0 {
-            return Err(crate::BinaryReaderError::new(plain.fault));
-        }
-        $reader.rest = window.after(plain.consumed);
-        (window, plain)
+        let item = crate::library::$name(&window $(, $more)*);
+        $reader.rest = window.after(crate::section::read_size(&item)?);
+        (window, item)
     }};
 }
 pub(crate) use call;
+
+/// How many bytes an item takes, or the fault that the library reports in its place.
+#[inline]
+pub(crate) fn read_size(item: &impl Item) -> Result<u64> {
+    match item.fault() {
+        library::Fault { kind: 0, .. } => Ok(item.consumed()),
+        fault => Err(Error::reported(fault)),
+    }
+}
 
 /// What can be read where a reader stands.
 pub trait FromReader<'a>: Sized {
@@ -81,7 +86,7 @@ impl<'a> FromReader<'a> for bool {
         match reader.read_u8()? {
             0 => Ok(false),
             1 => Ok(true),
-            _ => Err(BinaryReaderError::of_kind(INVALID_BOOL, offset)),
+            _ => Err(Error::new(Fault::InvalidBool, offset)),
         }
     }
 }
@@ -125,7 +130,7 @@ impl<'a, T> SectionLimited<'a, T> {
     }
 
     /// A list in a window: so many items, which come after their count.
-    pub(crate) fn list(window: Window<'a>, items: ffi::Span, count: u32) -> Self {
+    pub(crate) fn list(window: Window<'a>, items: Span, count: u32) -> Self {
         let rest = window.part(items);
         // No byte before a count has its top bit set, and of the count itself all but the last have.
         let before = &window.bytes[..(items.at as usize).saturating_sub(1)];
@@ -201,7 +206,7 @@ impl<'a, T: FromReader<'a>> Iterator for SectionLimitedIntoIter<'a, T> {
         let mut reader = BinaryReader::of(self.section.rest);
         let Some(left) = self.left.checked_sub(1) else {
             self.ended = true;
-            return reader.expect_end(SIZE_MISMATCH).err().map(Err);
+            return reader.expect_end(Fault::SizeMismatch).err().map(Err);
         };
         self.left = left;
         let item = reader.read();

@@ -1,7 +1,6 @@
 //! Types.
-use crate::error::Lead;
 use crate::section::call;
-use crate::{BinaryReader, BinaryReaderError, FromReader, List, Result, ffi};
+use crate::{BinaryReader, Error, Fault, FromReader, Lead, List, Result, library};
 
 /// The type of a value.
 #[derive(Clone, Copy, Debug, PartialEq, Eq, Hash)]
@@ -96,7 +95,7 @@ pub struct FieldType {
     pub mutable: bool,
 }
 
-pub(crate) fn ref_type(ty: ffi::Type) -> RefType {
+pub(crate) fn ref_type(ty: library::Type) -> RefType {
     let heap = match ty.heap {
         0 => HeapType::Func,
         1 => HeapType::Extern,
@@ -115,7 +114,7 @@ pub(crate) fn ref_type(ty: ffi::Type) -> RefType {
     RefType { nullable: ty.nullable != 0, heap }
 }
 
-pub(crate) fn val_type(ty: ffi::Type) -> ValType {
+pub(crate) fn val_type(ty: library::Type) -> ValType {
     match ty.kind {
         0 => ValType::I32,
         1 => ValType::I64,
@@ -128,7 +127,7 @@ pub(crate) fn val_type(ty: ffi::Type) -> ValType {
 
 impl<'a> FromReader<'a> for ValType {
     fn from_reader(reader: &mut BinaryReader<'a>) -> Result<Self> {
-        let (_, plain) = call!(pulleynavy_read_value_type, reader);
+        let (_, plain) = call!(value_type, reader);
         Ok(val_type(plain.ty))
     }
 }
@@ -138,8 +137,8 @@ impl<'a> FromReader<'a> for RefType {
         let (offset, byte) = (reader.original_position(), reader.peek()?);
         match reader.read() {
             Ok(ValType::Ref(ty)) => Ok(ty),
-            Err(error) if !error.is_leading_byte(Lead::Value) => Err(error),
-            _ => Err(BinaryReaderError::leading_byte(Lead::Reference, byte, offset)),
+            Err(error) if !matches!(error.fault(), Fault::LeadingByte(Lead::Value)) => Err(error),
+            _ => Err(Error::leading_byte(Lead::Reference, byte, offset)),
         }
     }
 }
@@ -151,7 +150,7 @@ impl<'a> FromReader<'a> for HeapType {
         let mut bytes = [NULLABLE, 0, 0, 0, 0, 0];
         bytes[1..=size].copy_from_slice(&reader.remaining_buffer()[..size]);
         let mut reference = BinaryReader::new(&bytes[..=size], 0);
-        let ty: RefType = reference.read().map_err(|error: BinaryReaderError| error.at(offset + error.offset() - 1))?;
+        let ty: RefType = reference.read().map_err(|error: Error| error.at(offset + (error.offset() - 1)))?;
         reader.pass(reference.original_position() - 1);
         Ok(ty.heap)
     }
@@ -159,7 +158,7 @@ impl<'a> FromReader<'a> for HeapType {
 
 impl<'a> FromReader<'a> for FieldType {
     fn from_reader(reader: &mut BinaryReader<'a>) -> Result<Self> {
-        let (_, plain) = call!(pulleynavy_read_field_type, reader);
+        let (_, plain) = call!(field_type, reader);
         let element_type = match plain.ty.kind {
             6 => StorageType::I8,
             7 => StorageType::I16,
@@ -212,7 +211,7 @@ pub struct SubType<'a> {
 
 impl<'a> FromReader<'a> for SubType<'a> {
     fn from_reader(reader: &mut BinaryReader<'a>) -> Result<Self> {
-        let (_, head) = call!(pulleynavy_read_subtype, reader);
+        let (_, head) = call!(subtype, reader);
         let composite_type = match head.kind {
             0 => {
                 let params = List::pass(reader, head.count, ValType::from_reader)?;
@@ -252,7 +251,7 @@ impl<'a> RecGroup<'a> {
 
 impl<'a> FromReader<'a> for RecGroup<'a> {
     fn from_reader(reader: &mut BinaryReader<'a>) -> Result<Self> {
-        let (_, head) = call!(pulleynavy_read_type_group, reader);
+        let (_, head) = call!(type_group, reader);
         Ok(RecGroup { explicit: head.is_explicit != 0, types: List::pass(reader, head.count, SubType::from_reader)? })
     }
 }

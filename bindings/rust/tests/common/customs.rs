@@ -215,8 +215,8 @@ impl Show for CoreDumpValue {
             CoreDumpValue::Missing => "missing".to_owned(),
             CoreDumpValue::I32(value) => format!("i32:{value}"),
             CoreDumpValue::I64(value) => format!("i64:{value}"),
-            CoreDumpValue::F32(bits) => format!("f32:{bits}"),
-            CoreDumpValue::F64(bits) => format!("f64:{bits}"),
+            CoreDumpValue::F32(value) => format!("f32:{}", value.bits()),
+            CoreDumpValue::F64(value) => format!("f64:{}", value.bits()),
         }
     }
 }
