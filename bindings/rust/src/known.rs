@@ -1,9 +1,10 @@
 //! Custom sections that are known by their names.
-use crate::cores::{CoreDumpInstancesSection, CoreDumpModulesSection, CoreDumpSection, CoreDumpStackSection};
+use crate::composites::{Instances, Items, read_list};
+use crate::cores::{CoreDumpModulesSection, CoreDumpSection, CoreDumpStackSection};
 use crate::linking::LinkingSectionReader;
 use crate::relocations::RelocSectionReader;
 use crate::section::call;
-use crate::{BinaryReader, CustomSectionReader, FromReader, List, NameSectionReader, Result, SectionLimited, Subsection, Subsections, SymbolFlags, library};
+use crate::{BinaryReader, CustomSectionReader, FromReader, NameSectionReader, Result, SectionLimited, Subsection, Subsections, SymbolFlags, library};
 use core::ops::Range;
 
 /// A custom section whose data is known, by its name.
@@ -22,7 +23,7 @@ pub enum KnownCustom<'a> {
     /// The section `corestack`.
     CoreDumpStack(CoreDumpStackSection<'a>),
     /// The section `coreinstances`.
-    CoreDumpInstances(CoreDumpInstancesSection<'a>),
+    CoreDumpInstances(Instances<'a>),
     /// The section `coremodules`.
     CoreDumpModules(CoreDumpModulesSection<'a>),
     /// The section `linking`.
@@ -50,7 +51,7 @@ impl<'a> CustomSectionReader<'a> {
             6 => KnownCustom::Reloc(RelocSectionReader::new(data)?),
             7 => KnownCustom::CoreDump(CoreDumpSection::new(data)?),
             8 => KnownCustom::CoreDumpModules(CoreDumpModulesSection::new(data)?),
-            9 => KnownCustom::CoreDumpInstances(CoreDumpInstancesSection::new(data)?),
+            9 => KnownCustom::CoreDumpInstances(Instances::new(data)?),
             10 => KnownCustom::CoreDumpStack(CoreDumpStackSection::new(data)?),
             _ => KnownCustom::Unknown,
         })
@@ -142,13 +143,13 @@ pub enum Dylink0Subsection<'a> {
     /// How much memory and table a library needs.
     MemInfo(MemInfo),
     /// The libraries that it needs.
-    Needed(List<'a, &'a str>),
+    Needed(Items<'a, &'a str>),
     /// What is said of its exports.
-    ExportInfo(List<'a, ExportInfo<'a>>),
+    ExportInfo(Items<'a, ExportInfo<'a>>),
     /// What is said of its imports.
-    ImportInfo(List<'a, ImportInfo<'a>>),
+    ImportInfo(Items<'a, ImportInfo<'a>>),
     /// Where libraries are looked for.
-    RuntimePath(List<'a, &'a str>),
+    RuntimePath(Items<'a, &'a str>),
     /// The architecture that a library is for.
     TargetArch(&'a str),
     /// A subsection with another id.
@@ -169,8 +170,8 @@ impl<'a> Subsection<'a> for Dylink0Subsection<'a> {
         Ok(match id {
             1 => Dylink0Subsection::MemInfo(reader.read()?),
             2 => Dylink0Subsection::Needed(texts(reader)?),
-            3 => Dylink0Subsection::ExportInfo(reader.read()?),
-            4 => Dylink0Subsection::ImportInfo(reader.read()?),
+            3 => Dylink0Subsection::ExportInfo(read_list(reader, ExportInfo::from_reader)?),
+            4 => Dylink0Subsection::ImportInfo(read_list(reader, ImportInfo::from_reader)?),
             5 => Dylink0Subsection::RuntimePath(texts(reader)?),
             6 => Dylink0Subsection::TargetArch(reader.read_unlimited_string()?),
             ty => Dylink0Subsection::Unknown { ty, data: reader.remaining_buffer(), range: reader.remaining_range() },
@@ -179,8 +180,8 @@ impl<'a> Subsection<'a> for Dylink0Subsection<'a> {
 }
 
 /// A count and so many names of any size.
-fn texts<'a>(reader: &mut BinaryReader<'a>) -> Result<List<'a, &'a str>> {
-    List::counted(reader, BinaryReader::read_unlimited_string)
+fn texts<'a>(reader: &mut BinaryReader<'a>) -> Result<Items<'a, &'a str>> {
+    read_list(reader, BinaryReader::read_unlimited_string)
 }
 
 /// How much memory and table a library needs.

@@ -22,6 +22,12 @@
 #![no_std]
 #![warn(missing_docs)]
 
+#[cfg(feature = "alloc")]
+extern crate alloc;
+
+#[cfg_attr(feature = "alloc", path = "owned.rs")]
+#[cfg_attr(not(feature = "alloc"), path = "borrowed.rs")]
+mod composites;
 mod cores;
 mod custom;
 mod error;
@@ -37,6 +43,7 @@ mod known;
 mod library;
 mod limits;
 mod linking;
+#[cfg(not(feature = "alloc"))]
 mod list;
 mod names;
 mod numbers;
@@ -48,7 +55,10 @@ mod section;
 mod strip;
 mod types;
 
-pub use cores::{CoreDumpInstance, CoreDumpInstancesSection, CoreDumpModulesSection, CoreDumpSection, CoreDumpStackFrame, CoreDumpStackSection, CoreDumpValue};
+pub use composites::{
+    CompositeInnerType, CompositeType, CoreDumpInstance, CoreDumpInstancesSection, CoreDumpStackFrame, FuncType, RecGroup, StructType, SubType,
+};
+pub use cores::{CoreDumpModulesSection, CoreDumpSection, CoreDumpStackSection, CoreDumpValue};
 pub use custom::{CustomSectionReader, Subsection, Subsections};
 pub use error::{BinaryReaderError, Error, Result};
 pub use fault::{CoreStart, Fault, Lead, NumberKind};
@@ -65,6 +75,7 @@ pub use linking::{
     Comdat, ComdatMap, ComdatSymbol, ComdatSymbolKind, DefinedDataSymbol, InitFunc, InitFuncMap, Linking, LinkingSectionReader, Segment, SegmentMap,
     SymbolInfo, SymbolInfoMap,
 };
+#[cfg(not(feature = "alloc"))]
 pub use list::List;
 pub use names::{IndirectNameMap, IndirectNaming, Name, NameMap, NameSectionReader, Naming};
 pub use numbers::{Ieee32, Ieee64};
@@ -77,4 +88,4 @@ pub use reader::BinaryReader;
 pub use relocations::{RelocAddendKind, RelocSectionReader, RelocationEntry, RelocationEntryReader, RelocationType};
 pub use section::{FromReader, SectionLimited, SectionLimitedIntoIter, SectionLimitedIntoIterWithOffsets};
 pub use strip::strip;
-pub use types::{CompositeType, FieldType, FuncType, HeapType, RecGroup, RefType, StorageType, SubType, ValType};
+pub use types::{AbstractHeapType, ArrayType, ContType, FieldType, HeapType, PackedIndex, RefType, StorageType, UnpackedIndex, ValType};

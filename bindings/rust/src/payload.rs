@@ -1,12 +1,13 @@
 //! The parts of a stream.
+use crate::composites::RecGroups;
 use crate::library::{Event, Span};
 use crate::section::Window;
-use crate::{BinaryReader, CustomSectionReader, Data, Element, Export, Global, Imports, MemoryType, RecGroup, Result, SectionLimited, Table, TagType};
+use crate::{BinaryReader, CustomSectionReader, Data, Element, Export, Global, Imports, MemoryType, Result, SectionLimited, Table, TagType};
 use core::fmt;
 use core::ops::Range;
 
 /// The type section.
-pub type TypeSectionReader<'a> = SectionLimited<'a, RecGroup<'a>>;
+pub type TypeSectionReader<'a> = RecGroups<'a>;
 /// The import section.
 pub type ImportSectionReader<'a> = SectionLimited<'a, Imports<'a>>;
 /// The function section: the indices of the functions' types.

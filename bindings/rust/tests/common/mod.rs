@@ -49,8 +49,8 @@ pub fn told<T>(result: Result<T>, show: impl FnOnce(T) -> String) -> String {
 }
 
 /// A list that has no fault.
-pub fn owned<T: Show>(items: impl Iterator<Item = T>) -> String {
-    format!("[{}]", joined(items.map(|item| item.show())))
+pub fn owned<T: Show>(items: impl IntoIterator<Item = T>) -> String {
+    format!("[{}]", joined(items.into_iter().map(|item| item.show())))
 }
 
 /// The range, the count and the items of a list, each item after its offset.
