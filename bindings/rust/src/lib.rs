@@ -62,7 +62,7 @@ pub use cores::{CoreDumpModulesSection, CoreDumpSection, CoreDumpStackSection, C
 pub use custom::{CustomSectionReader, Subsection, Subsections};
 pub use error::{BinaryReaderError, Error, Result};
 pub use fault::{CoreStart, Fault, Lead, NumberKind};
-pub use flags::{SegmentFlags, SymbolFlags, WasmFeatures};
+pub use flags::{FlagsIter, FlagsIterNames, SegmentFlags, SymbolFlags, WasmFeatures};
 pub use imports::{Import, ImportItemCompact, Imports, ImportsIter, IntoImportsWithOffsets, TypeRef};
 pub use items::{ConstExpr, Data, DataKind, Element, ElementItems, ElementKind, Export, ExternalKind, Global, Table, TableInit};
 pub use kinds::{GlobalType, MemoryType, TableType, TagKind, TagType};

@@ -2,6 +2,7 @@
 use crate::library::{self, Item, Span};
 use crate::{BinaryReader, Error, Fault, Result};
 use core::fmt;
+use core::iter::FusedIterator;
 use core::marker::PhantomData;
 use core::ops::Range;
 
@@ -215,10 +216,21 @@ impl<'a, T: FromReader<'a>> Iterator for SectionLimitedIntoIter<'a, T> {
         Some(item)
     }
 
+    /// The number of remaining items, as announced. The lower bound is no more than the remaining bytes: a count alone allocates nothing.
     fn size_hint(&self) -> (usize, Option<usize>) {
-        (0, Some(if self.ended { 0 } else { self.left as usize + 1 }))
+        let left = self.len();
+        (left.min(self.section.rest.bytes.len()), Some(left))
     }
 }
+
+/// The length is the announced one. An error may end the iteration earlier, or follow the last item if the section has trailing bytes.
+impl<'a, T: FromReader<'a>> ExactSizeIterator for SectionLimitedIntoIter<'a, T> {
+    fn len(&self) -> usize {
+        if self.ended { 0 } else { self.left as usize }
+    }
+}
+
+impl<'a, T: FromReader<'a>> FusedIterator for SectionLimitedIntoIter<'a, T> {}
 
 /// The items of a section, each with its offset.
 #[derive(Debug)]
@@ -244,3 +256,12 @@ impl<'a, T: FromReader<'a>> Iterator for SectionLimitedIntoIterWithOffsets<'a, T
         self.items.size_hint()
     }
 }
+
+/// The length is the announced one, as that of [`SectionLimitedIntoIter`].
+impl<'a, T: FromReader<'a>> ExactSizeIterator for SectionLimitedIntoIterWithOffsets<'a, T> {
+    fn len(&self) -> usize {
+        self.items.len()
+    }
+}
+
+impl<'a, T: FromReader<'a>> FusedIterator for SectionLimitedIntoIterWithOffsets<'a, T> {}

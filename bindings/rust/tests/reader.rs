@@ -88,14 +88,16 @@ fn long_names_are_bounded() {
 #[test]
 fn bounds_of_items_that_are_left() {
     let mut items = FunctionSectionReader::new(BinaryReader::new(b"\x02\x05\x80\x01\x07", 100)).unwrap().into_iter();
-    let mut hints = vec![];
+    let (mut hints, mut lengths) = (vec![], vec![]);
     for wanted in [Some("5"), Some("128"), Some("fault 104 section size mismatch: unexpected data at the end of the section"), None] {
         hints.push(items.size_hint());
+        lengths.push(items.len());
         assert_eq!(items.next().map(|item| told(item, |item| item.to_string())).as_deref(), wanted);
     }
-    assert_eq!(hints, [3, 2, 1, 0].map(|most| (0, Some(most))));
+    assert_eq!((hints, lengths), (vec![(2, Some(2)), (1, Some(1)), (0, Some(0)), (0, Some(0))], vec![2, 1, 0, 0]));
     let mut items = SectionLimited::<bool>::new(BinaryReader::new(b"\xff\xff\xff\xff\x0f", 0)).unwrap().into_iter();
-    assert_eq!(items.size_hint(), (0, Some(1 << 32)));
+    // A count alone allocates nothing.
+    assert_eq!((items.size_hint(), items.len()), ((0, Some(u32::MAX as usize)), u32::MAX as usize));
     assert_eq!(items.next().unwrap().map_err(|error| fault(&error)), Err("fault 5 unexpected end-of-file".to_owned()));
     assert_eq!((items.next(), items.size_hint()), (None, (0, Some(0))));
 }
