@@ -213,7 +213,11 @@ impl<'a> BinaryReader<'a> {
     /// # Errors
     /// If the number is truncated, too long or too large.
     pub fn read_var_u32(&mut self) -> Result<u32> {
-        // The library reads no other kind of number alone.
+        self.read_plain_u32().map_err(|error| if error.fault() == Fault::UnexpectedEof { error.with_hint(1) } else { error })
+    }
+
+    /// Reads the number with the library, which reads no other kind of number alone and has no hints.
+    fn read_plain_u32(&mut self) -> Result<u32> {
         let (_, plain) = call!(number, self);
         Ok(plain.value as u32)
     }
@@ -280,6 +284,15 @@ impl<'a> BinaryReader<'a> {
     /// # Errors
     /// If the size is malformed, if bytes are missing, or if they are not UTF-8.
     pub fn read_string(&mut self) -> Result<&'a str> {
+        match self.read_plain_string() {
+            // The same error, with a hint.
+            Err(error) if error.fault() == Fault::UnexpectedEof => Err(self.clone().skip_string().err().unwrap_or(error)),
+            result => result,
+        }
+    }
+
+    /// Reads the string with the library, which has no hints.
+    fn read_plain_string(&mut self) -> Result<&'a str> {
         let (window, plain) = call!(name, self);
         Ok(window.text(plain.name))
     }
