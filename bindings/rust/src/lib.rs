@@ -1,7 +1,7 @@
 // SPDX-License-Identifier: Apache-2.0 OR MIT
-//! Reads WebAssembly modules by a proved parser, which is linked as a static library.
+//! A streaming parser for WebAssembly modules: the module layer of `wasmparser` 0.263.0, over a library with a machine-checked proof.
 //!
-//! The names are those of `wasmparser`, where it has them, and so are the ways to use them:
+//! The names are those of `wasmparser`, and so are the ways to use them:
 //!
 //! ```
 //! use pulleynavy::{Parser, Payload};
@@ -9,6 +9,7 @@
 //! let module = b"\0asm\x01\0\0\0\x03\x02\x01\0\x0a\x04\x01\x02\0\x0b";
 //! for payload in Parser::new(0).parse_all(module) {
 //!     if let Payload::FunctionSection(functions) = payload? {
+//!         assert_eq!(functions.clone().into_iter().len(), 1);
 //!         for index in functions {
 //!             assert_eq!(index?, 0);
 //!         }
@@ -17,8 +18,13 @@
 //! # Ok::<(), pulleynavy::Error>(())
 //! ```
 //!
-//! What each call of the library answers is proved; this crate, which makes Rust's types of it, is tested. It takes no memory. Offsets
-//! count bytes from the start of the whole stream.
+//! The results of the library are proved; this crate turns them into Rust's types, and is tested. Offsets count bytes from the start of
+//! the whole stream.
+//!
+//! The feature `alloc`, which is on by default, makes lists inside items vectors and slices. Without it the crate never allocates: lists
+//! are then iterators that borrow from the input.
+//!
+//! The README has a table of what differs from `wasmparser`, and of what to write instead.
 #![no_std]
 #![warn(missing_docs)]
 
@@ -89,3 +95,8 @@ pub use relocations::{RelocAddendKind, RelocSectionReader, RelocationEntry, Relo
 pub use section::{FromReader, SectionLimited, SectionLimitedIntoIter, SectionLimitedIntoIterWithOffsets};
 pub use strip::strip;
 pub use types::{AbstractHeapType, ArrayType, ContType, FieldType, HeapType, PackedIndex, RefType, StorageType, UnpackedIndex, ValType};
+
+/// The examples of the README are tests.
+#[cfg(doctest)]
+#[doc = include_str!("../README.md")]
+struct Readme;
