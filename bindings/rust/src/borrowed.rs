@@ -8,6 +8,8 @@ use crate::{ArrayType, BinaryReader, ContType, CoreDumpValue, Fault, FieldType, 
 pub(crate) type Items<'a, T> = List<'a, T>;
 /// The groups of a type section.
 pub(crate) type RecGroups<'a> = SectionLimited<'a, RecGroup<'a>>;
+/// The type of a function.
+pub(crate) type Func<'a> = FuncType<'a>;
 /// The section `coreinstances`.
 pub(crate) type Instances<'a> = CoreDumpInstancesSection<'a>;
 /// A frame of a core dump.

@@ -105,6 +105,8 @@ macro_rules! faults {
             LeadingByte(Lead),
             /// Something in a core dump does not begin with a byte 0.
             CoreStartByte(CoreStart),
+            /// A type that is no plain function type, in an iteration over those. The library does not have this fault, nor its number.
+            GcTypes,
         }
 
         impl Fault {
@@ -128,6 +130,7 @@ macro_rules! faults {
                     Fault::NumberTooLarge(kind) => 19 | kind.number() << 8,
                     Fault::LeadingByte(lead) => 25 | lead.number() << 8,
                     Fault::CoreStartByte(start) => 44 | start.number() << 8,
+                    Fault::GcTypes => 0xff,
                 }
             }
 
@@ -139,6 +142,7 @@ macro_rules! faults {
                     Fault::NumberTooLarge(kind) => too_large(kind),
                     Fault::LeadingByte(lead) => leading_byte(lead),
                     Fault::CoreStartByte(start) => core_start_byte(start),
+                    Fault::GcTypes => "gc proposal not supported",
                 }
             }
         }

@@ -33,6 +33,25 @@ pub struct MemoryType {
     pub page_size_log2: Option<u32>,
 }
 
+/// The type of the indices of a table, or the addresses of a memory.
+const fn index_type(is_64: bool) -> ValType {
+    if is_64 { ValType::I64 } else { ValType::I32 }
+}
+
+impl TableType {
+    /// The type of the indices of its elements.
+    pub fn index_type(&self) -> ValType {
+        index_type(self.table64)
+    }
+}
+
+impl MemoryType {
+    /// The type of its addresses.
+    pub fn index_type(&self) -> ValType {
+        index_type(self.memory64)
+    }
+}
+
 /// The type of a global.
 #[derive(Clone, Copy, Debug, PartialEq, Eq, Hash)]
 pub struct GlobalType {

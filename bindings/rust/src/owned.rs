@@ -11,6 +11,8 @@ use core::slice;
 pub(crate) type Items<'a, T> = Vec<T>;
 /// The groups of a type section.
 pub(crate) type RecGroups<'a> = SectionLimited<'a, RecGroup>;
+/// The type of a function.
+pub(crate) type Func<'a> = FuncType;
 /// The section `coreinstances`.
 pub(crate) type Instances<'a> = CoreDumpInstancesSection;
 /// A frame of a core dump.

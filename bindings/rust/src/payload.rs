@@ -1,8 +1,11 @@
 //! The parts of a stream.
-use crate::composites::RecGroups;
+use crate::composites::{Func, RecGroups};
 use crate::library::{Event, Span};
 use crate::section::Window;
-use crate::{BinaryReader, CustomSectionReader, Data, Element, Export, Global, Imports, MemoryType, Result, SectionLimited, Table, TagType};
+use crate::{
+    BinaryReader, CompositeInnerType, CustomSectionReader, Data, Element, Error, Export, Fault, Global, Imports, MemoryType, Result, SectionLimited, SubType,
+    Table, TagType,
+};
 use core::fmt;
 use core::ops::Range;
 
@@ -26,6 +29,23 @@ pub type ExportSectionReader<'a> = SectionLimited<'a, Export<'a>>;
 pub type ElementSectionReader<'a> = SectionLimited<'a, Element<'a>>;
 /// The data section.
 pub type DataSectionReader<'a> = SectionLimited<'a, Data<'a>>;
+
+impl<'a> TypeSectionReader<'a> {
+    /// Iterates over the types of a section that has plain function types alone. Any other type is an error, after which the next ones follow.
+    pub fn into_iter_err_on_gc_types(self) -> impl Iterator<Item = Result<Func<'a>>> {
+        self.into_iter_with_offsets().map(|item| {
+            let (offset, group) = item?;
+            let mut types = group.into_types();
+            match (types.next(), types.next()) {
+                (Some(SubType { is_final: true, supertype_idx: None, composite_type }), None) => match composite_type.inner {
+                    CompositeInnerType::Func(ty) => Ok(ty),
+                    _ => Err(Error::new(Fault::GcTypes, offset)),
+                },
+                _ => Err(Error::new(Fault::GcTypes, offset)),
+            }
+        })
+    }
+}
 
 /// What a header announces.
 #[derive(Clone, Copy, Debug, PartialEq, Eq, Hash)]

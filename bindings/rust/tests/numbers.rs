@@ -120,6 +120,14 @@ fn texts_of_types() {
     assert_eq!((ValType::FUNCREF.as_reference_type(), ValType::I32.is_defaultable(), RefType::FUNC.is_nullable()), (Some(RefType::FUNCREF), true, false));
 }
 
+#[test]
+fn plain_function_types() {
+    let section = bytes("04 60 00 01 7f 50 00 60 00 00 4e 00 5f 00");
+    let types = TypeSectionReader::new(BinaryReader::new(&section, 3)).unwrap().into_iter_err_on_gc_types();
+    let texts: Vec<_> = types.map(|ty| told(ty, |ty| owned(ty.results()))).collect();
+    assert_eq!(texts, ["[i32 ]", "fault 8 gc proposal not supported", "fault 13 gc proposal not supported", "fault 15 gc proposal not supported"]);
+}
+
 /// Names are public: the entries of a map and the subsections of a section, whose order isn't checked then.
 #[test]
 fn fields_of_names() {
