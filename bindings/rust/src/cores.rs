@@ -11,10 +11,10 @@ pub struct CoreDumpSection<'a> {
 }
 
 impl<'a> CoreDumpSection<'a> {
-    /// The section that a reader has left.
+    /// Reads the section from the remaining bytes of a reader.
     ///
     /// # Errors
-    /// The fault of the name, or of bytes after it.
+    /// If the name is malformed, or if bytes remain.
     pub fn new(mut reader: BinaryReader<'a>) -> Result<Self> {
         let (window, plain) = call!(core_process, reader);
         reader.expect_end(Fault::CustomTrailing)?;
@@ -30,10 +30,10 @@ pub struct CoreDumpModulesSection<'a> {
 }
 
 impl<'a> CoreDumpModulesSection<'a> {
-    /// The section that a reader has left.
+    /// Reads the section from the remaining bytes of a reader.
     ///
     /// # Errors
-    /// The fault of a module, or of bytes after the last one. The offset of `CoreStartByte` is that of the section's data, for a later module too.
+    /// If a module is malformed, or if bytes remain. The offset of `CoreStartByte` is that of the section's data, for a later module too.
     pub fn new(mut reader: BinaryReader<'a>) -> Result<Self> {
         let data_offset = reader.original_position();
         let count = reader.read_var_u32()?;
@@ -60,10 +60,10 @@ pub struct CoreDumpStackSection<'a> {
 }
 
 impl<'a> CoreDumpStackSection<'a> {
-    /// The section that a reader has left.
+    /// Reads the section from the remaining bytes of a reader.
     ///
     /// # Errors
-    /// The fault of the name or of a frame, or of bytes after the last one.
+    /// If the name or a frame is malformed, or if bytes remain.
     pub fn new(mut reader: BinaryReader<'a>) -> Result<Self> {
         let (window, plain) = call!(core_thread, reader);
         let frames = read_list(&mut reader, Frame::from_reader)?;
@@ -75,7 +75,7 @@ impl<'a> CoreDumpStackSection<'a> {
 /// A value of a core dump.
 #[derive(Clone, Copy, Debug, PartialEq, Eq, Hash)]
 pub enum CoreDumpValue {
-    /// A value that is missing.
+    /// A missing value.
     Missing,
     /// An integer of 32 bits.
     I32(i32),

@@ -22,16 +22,16 @@ impl fmt::Debug for CustomSectionReader<'_> {
 }
 
 impl<'a> CustomSectionReader<'a> {
-    /// The section whose content a reader has left.
+    /// Takes the remaining bytes of a reader as the content of a custom section.
     ///
     /// # Errors
-    /// The fault of the name.
+    /// If the name is malformed.
     pub fn new(mut reader: BinaryReader<'a>) -> Result<Self> {
         let whole = reader.rest;
         Ok(CustomSectionReader { whole, name: reader.read_string()?, data: reader.rest })
     }
 
-    /// The section that a window is, by where its data begins and how long the name before them is.
+    /// The section in a window, by the offset of its data and the size of the name before it.
     pub(crate) fn of(whole: Window<'a>, data_offset: u64, name_size: u64) -> Self {
         let at = data_offset - whole.offset;
         let name = whole.text(Span { at: at - name_size, size: name_size });
@@ -43,12 +43,12 @@ impl<'a> CustomSectionReader<'a> {
         self.name
     }
 
-    /// Its data, after the name.
+    /// Its data, which follows the name.
     pub fn data(&self) -> &'a [u8] {
         self.data.bytes
     }
 
-    /// A reader of its data.
+    /// Returns a reader of its data.
     pub fn data_reader(&self) -> BinaryReader<'a> {
         BinaryReader::of(self.data)
     }
@@ -69,17 +69,17 @@ impl<'a> CustomSectionReader<'a> {
     }
 }
 
-/// What a subsection can be read as.
+/// A type that can be read from a subsection.
 pub trait Subsection<'a>: Sized {
-    /// The subsection with this id and these bytes.
+    /// Reads the subsection with this id and these bytes.
     ///
     /// # Errors
-    /// The fault of what the bytes say.
+    /// If the content is malformed.
     fn from_reader(id: u8, reader: BinaryReader<'a>) -> Result<Self>;
 }
 
-/// Subsections. After an error the iterator goes on behind what was read: behind a subsection whose content is malformed, and behind the bytes
-/// of an id or a size that is malformed.
+/// An iterator over subsections. After an error it continues behind what was read: behind a subsection whose content is malformed, and
+/// behind the bytes of an id or a size that is malformed.
 pub struct Subsections<'a, T> {
     start: u64,
     rest: Window<'a>,
@@ -99,7 +99,7 @@ impl<T> fmt::Debug for Subsections<'_, T> {
 }
 
 impl<'a, T> Subsections<'a, T> {
-    /// The subsections that a reader has left.
+    /// Takes the remaining bytes of a reader as subsections.
     pub fn new(reader: BinaryReader<'a>) -> Self {
         Subsections { start: reader.range().start, rest: reader.rest, item: PhantomData }
     }
@@ -109,7 +109,7 @@ impl<'a, T> Subsections<'a, T> {
         self.rest.offset
     }
 
-    /// The offsets of all bytes, those that were read among them.
+    /// The offsets of all bytes, also of those that were read.
     pub fn range(&self) -> Range<u64> {
         self.start..self.rest.range().end
     }

@@ -274,42 +274,42 @@ impl<T: Set> Iterator for FlagsIterNames<T> {
 }
 
 flags! {
-    /// Features, as a set of flags.
+    /// A set of features.
     WasmFeatures {
         /// Memories and tables of 64 bits.
         MEMORY64 = 1;
-        /// Groups of imports.
+        /// Groups of compact imports.
         COMPACT_IMPORTS = 2;
     }
 }
 
 flags! {
-    /// What is said of a symbol, as a set of flags.
+    /// The flags of a symbol.
     #[derive(Default, PartialOrd, Ord)]
     SymbolFlags {
-        /// It gives way to another definition.
+        /// A weak symbol: it gives way to another definition.
         BINDING_WEAK = 1;
-        /// It is seen in its own file alone.
+        /// A local symbol: it is visible in its own file only.
         BINDING_LOCAL = 2;
-        /// It is not exported.
+        /// A hidden symbol: it is not exported.
         VISIBILITY_HIDDEN = 4;
-        /// It isn't defined in its file.
+        /// An undefined symbol.
         UNDEFINED = 16;
         /// It is exported.
         EXPORTED = 32;
-        /// It has a name of its own, not that of an import.
+        /// It has a name of its own, instead of that of an import.
         EXPLICIT_NAME = 64;
         /// It is kept even if nothing refers to it.
         NO_STRIP = 128;
         /// It is thread-local.
         TLS = 256;
-        /// It is a number, not a place.
+        /// An absolute symbol: a number instead of an address.
         ABSOLUTE = 512;
     }
 }
 
 flags! {
-    /// What is said of a data segment, as a set of flags.
+    /// The flags of a data segment.
     #[derive(Default)]
     SegmentFlags {
         /// It holds strings that end with a zero byte.
@@ -319,14 +319,14 @@ flags! {
     }
 }
 
-/// The bits, as a number.
+/// Reads the bits as a LEB128 number. Bits without a name are kept.
 impl<'a> FromReader<'a> for SymbolFlags {
     fn from_reader(reader: &mut BinaryReader<'a>) -> Result<Self> {
         reader.read_var_u32().map(SymbolFlags)
     }
 }
 
-/// The bits, as a number.
+/// Reads the bits as a LEB128 number. Bits without a name are kept.
 impl<'a> FromReader<'a> for SegmentFlags {
     fn from_reader(reader: &mut BinaryReader<'a>) -> Result<Self> {
         reader.read_var_u32().map(SegmentFlags)

@@ -4,7 +4,7 @@ use crate::library;
 use crate::section::{SectionLimitedIntoIter, SectionLimitedIntoIterWithOffsets, call};
 use crate::{BinaryReader, ExternalKind, FromReader, GlobalType, MemoryType, Result, SectionLimited, TableType, TagType};
 
-/// What is imported, with its type.
+/// The type of an import.
 #[derive(Clone, Copy, Debug, PartialEq, Eq, Hash)]
 pub enum TypeRef {
     /// A function, with the index of its type.
@@ -88,7 +88,7 @@ impl<'a> FromReader<'a> for TypeRef {
     }
 }
 
-/// An import by itself, which begins no group.
+/// A single import, which begins no group.
 impl<'a> FromReader<'a> for Import<'a> {
     fn from_reader(reader: &mut BinaryReader<'a>) -> Result<Self> {
         Ok(Import { module: reader.read()?, name: reader.read()?, ty: reader.read()? })
@@ -115,7 +115,7 @@ impl<'a> FromReader<'a> for ImportItemCompact<'a> {
     }
 }
 
-/// What is left of a group.
+/// The remaining imports of a group.
 #[derive(Clone, Debug)]
 enum Left<'a> {
     One(Option<(u64, Import<'a>)>),
@@ -123,7 +123,7 @@ enum Left<'a> {
     OfType(&'a str, TypeRef, SectionLimitedIntoIterWithOffsets<'a, &'a str>),
 }
 
-/// The imports of a group one by one, each with its offset.
+/// An iterator over the imports of a group, each with its offset.
 #[derive(Clone, Debug)]
 pub struct ImportsIter<'a>(Left<'a>);
 
@@ -158,7 +158,7 @@ impl<'a> Iterator for ImportsIter<'a> {
     }
 }
 
-/// The imports of a section one by one, whatever groups they are in, each with its offset.
+/// An iterator over the imports of a section, each with its offset. Groups are flattened.
 #[derive(Clone, Debug)]
 pub struct IntoImportsWithOffsets<'a> {
     groups: SectionLimitedIntoIter<'a, Imports<'a>>,
@@ -182,12 +182,12 @@ impl<'a> Iterator for IntoImportsWithOffsets<'a> {
 }
 
 impl<'a> SectionLimited<'a, Imports<'a>> {
-    /// The imports one by one, whatever groups they are in.
+    /// Iterates over the imports. Groups are flattened.
     pub fn into_imports(self) -> impl Iterator<Item = Result<Import<'a>>> {
         self.into_imports_with_offsets().map(|import| import.map(|(_, import)| import))
     }
 
-    /// The same, each with its offset. After a fault inside a group the next group follows.
+    /// Iterates over the imports, each with its offset. Groups are flattened. After an error inside a group the next group follows.
     pub fn into_imports_with_offsets(self) -> IntoImportsWithOffsets<'a> {
         IntoImportsWithOffsets { groups: self.into_iter(), group: ImportsIter(Left::One(None)) }
     }

@@ -6,24 +6,24 @@ use crate::types::ref_type;
 use crate::{BinaryReader, FromReader, GlobalType, Lead, RefType, Result, SectionLimited, TableType};
 use core::ops::Range;
 
-/// A constant expression: its instructions, with the end.
+/// A constant expression: its instructions, with the final `end`.
 #[derive(Clone, Copy, Debug)]
 pub struct ConstExpr<'a> {
     window: Window<'a>,
 }
 
 impl<'a> ConstExpr<'a> {
-    /// The expression that a reader has left, which isn't looked at.
+    /// Takes the remaining bytes of a reader as an expression, without reading them.
     pub fn new(reader: BinaryReader<'a>) -> Self {
         ConstExpr { window: reader.rest }
     }
 
-    /// A reader of its bytes.
+    /// Returns a reader of its bytes.
     pub fn get_binary_reader(&self) -> BinaryReader<'a> {
         BinaryReader::of(self.window)
     }
 
-    /// Its offsets.
+    /// The offsets of its bytes.
     pub fn range(&self) -> Range<u64> {
         self.window.range()
     }
@@ -46,11 +46,11 @@ impl<'a> FromReader<'a> for ConstExpr<'a> {
 pub struct Table<'a> {
     /// Its type.
     pub ty: TableType,
-    /// What each of its elements is at first.
+    /// The initial value of its elements.
     pub init: TableInit<'a>,
 }
 
-/// What each element of a table is at first.
+/// The initial value of the elements of a table.
 #[derive(Clone, Debug)]
 pub enum TableInit<'a> {
     /// A null reference.
@@ -72,7 +72,7 @@ impl<'a> FromReader<'a> for Table<'a> {
 pub struct Global<'a> {
     /// Its type.
     pub ty: GlobalType,
-    /// The expression of its first value.
+    /// The expression of its initial value.
     pub init_expr: ConstExpr<'a>,
 }
 
@@ -110,7 +110,7 @@ impl<'a> FromReader<'a> for ExternalKind {
 }
 
 impl ExternalKind {
-    /// The kind with this number, which isn't that of an exact function.
+    /// The kind with this number, except that of an exact function.
     fn of(number: u32) -> Option<Self> {
         Some(match number {
             0 => ExternalKind::Func,
@@ -130,7 +130,7 @@ pub struct Export<'a> {
     pub name: &'a str,
     /// What it is.
     pub kind: ExternalKind,
-    /// Its index among those of its kind.
+    /// Its index in the index space of its kind.
     pub index: u32,
 }
 
@@ -145,7 +145,7 @@ impl<'a> FromReader<'a> for Export<'a> {
 /// An element segment.
 #[derive(Clone, Debug)]
 pub struct Element<'a> {
-    /// What becomes of it.
+    /// Passive, active or declared.
     pub kind: ElementKind<'a>,
     /// Its elements.
     pub items: ElementItems<'a>,
@@ -153,16 +153,16 @@ pub struct Element<'a> {
     pub range: Range<u64>,
 }
 
-/// What becomes of an element segment.
+/// The mode of an element segment.
 #[derive(Clone, Debug)]
 pub enum ElementKind<'a> {
     /// Instructions copy it to tables.
     Passive,
-    /// It is copied to a table at first.
+    /// It is copied to a table when the module is instantiated.
     Active {
         /// The table's index, where it is written.
         table_index: Option<u32>,
-        /// The place in the table of the first element.
+        /// The index in the table of the first element.
         offset_expr: ConstExpr<'a>,
     },
     /// It only declares functions that are referred to.
@@ -201,7 +201,7 @@ impl<'a> FromReader<'a> for Element<'a> {
 /// A data segment.
 #[derive(Clone, Debug)]
 pub struct Data<'a> {
-    /// What becomes of it.
+    /// Passive, active or declared.
     pub kind: DataKind<'a>,
     /// Its bytes.
     pub data: &'a [u8],
@@ -209,12 +209,12 @@ pub struct Data<'a> {
     pub range: Range<u64>,
 }
 
-/// What becomes of a data segment.
+/// The mode of a data segment.
 #[derive(Clone, Debug)]
 pub enum DataKind<'a> {
     /// Instructions copy it to memories.
     Passive,
-    /// It is copied to a memory at first.
+    /// It is copied to a memory when the module is instantiated.
     Active {
         /// The memory's index.
         memory_index: u32,

@@ -7,7 +7,7 @@ use crate::section::call;
 use crate::{BinaryReader, CustomSectionReader, FromReader, NameSectionReader, Result, SectionLimited, Subsection, Subsections, SymbolFlags, library};
 use core::ops::Range;
 
-/// A custom section whose data is known, by its name.
+/// A custom section whose format is known, by its name.
 #[derive(Clone, Debug)]
 pub enum KnownCustom<'a> {
     /// The section `name`.
@@ -30,12 +30,12 @@ pub enum KnownCustom<'a> {
     Linking(LinkingSectionReader<'a>),
     /// A section whose name begins with `reloc.`.
     Reloc(RelocSectionReader<'a>),
-    /// A section of another name, or one whose data can't be read as what its name says.
+    /// A section with another name, or one whose data is malformed.
     Unknown,
 }
 
 impl<'a> CustomSectionReader<'a> {
-    /// The reader of its data, which its name decides.
+    /// Returns the reader of its data that belongs to its name.
     pub fn as_known(&self) -> KnownCustom<'a> {
         self.known().unwrap_or(KnownCustom::Unknown)
     }
@@ -66,9 +66,9 @@ pub type ProducersSectionReader<'a> = SectionLimited<'a, ProducersField<'a>>;
 /// A field of the section `producers`.
 #[derive(Clone, Debug)]
 pub struct ProducersField<'a> {
-    /// Which tools it names: `language`, `sdk` or `processed-by`.
+    /// What it lists: `language`, `sdk` or `processed-by`.
     pub name: &'a str,
-    /// The tools.
+    /// The languages or tools.
     pub values: SectionLimited<'a, ProducersFieldValue<'a>>,
 }
 
@@ -80,7 +80,7 @@ impl<'a> FromReader<'a> for ProducersField<'a> {
     }
 }
 
-/// A tool that a module was produced with.
+/// A language or tool that a module was produced with.
 #[derive(Clone, Copy, Debug, PartialEq, Eq, Hash)]
 pub struct ProducersFieldValue<'a> {
     /// Its name.
@@ -119,7 +119,7 @@ impl<'a> FromReader<'a> for BranchHintFunction<'a> {
 /// Whether a branch is likely to be taken.
 #[derive(Clone, Copy, Debug, PartialEq, Eq, Hash)]
 pub struct BranchHint {
-    /// How many bytes after the start of the function's body the branch instruction is.
+    /// The offset of the branch instruction from the start of the function's body.
     pub func_offset: u32,
     /// Whether it is likely to be taken.
     pub taken: bool,
@@ -140,17 +140,17 @@ pub type Dylink0SectionReader<'a> = Subsections<'a, Dylink0Subsection<'a>>;
 /// A subsection of the section `dylink.0`.
 #[derive(Clone, Debug)]
 pub enum Dylink0Subsection<'a> {
-    /// How much memory and table a library needs.
+    /// The memory and table space that a library needs.
     MemInfo(MemInfo),
     /// The libraries that it needs.
     Needed(Items<'a, &'a str>),
-    /// What is said of its exports.
+    /// Flags of its exports.
     ExportInfo(Items<'a, ExportInfo<'a>>),
-    /// What is said of its imports.
+    /// Flags of its imports.
     ImportInfo(Items<'a, ImportInfo<'a>>),
-    /// Where libraries are looked for.
+    /// The search paths for libraries.
     RuntimePath(Items<'a, &'a str>),
-    /// The architecture that a library is for.
+    /// The target architecture.
     TargetArch(&'a str),
     /// A subsection with another id.
     Unknown {
@@ -163,7 +163,7 @@ pub enum Dylink0Subsection<'a> {
     },
 }
 
-/// Bytes after what a subsection says are passed over.
+/// Trailing bytes of a subsection are ignored.
 impl<'a> Subsection<'a> for Dylink0Subsection<'a> {
     fn from_reader(id: u8, mut reader: BinaryReader<'a>) -> Result<Self> {
         let reader = &mut reader;
@@ -179,19 +179,19 @@ impl<'a> Subsection<'a> for Dylink0Subsection<'a> {
     }
 }
 
-/// A count and so many names of any size.
+/// A count and this many strings of any size.
 fn texts<'a>(reader: &mut BinaryReader<'a>) -> Result<Items<'a, &'a str>> {
     read_list(reader, BinaryReader::read_unlimited_string)
 }
 
-/// How much memory and table a library needs.
+/// The memory and table space that a library needs.
 #[derive(Clone, Copy, Debug, PartialEq, Eq, Hash)]
 pub struct MemInfo {
-    /// How many bytes of memory.
+    /// The size of the memory in bytes.
     pub memory_size: u32,
     /// Their alignment, as a power of two.
     pub memory_alignment: u32,
-    /// How many elements of table.
+    /// The number of table elements.
     pub table_size: u32,
     /// Their alignment, as a power of two.
     pub table_alignment: u32,
@@ -205,7 +205,7 @@ impl<'a> FromReader<'a> for MemInfo {
     }
 }
 
-/// What is said of an export to a dynamic linker.
+/// Flags of an export, for a dynamic linker.
 #[derive(Clone, Copy, Debug, PartialEq, Eq, Hash)]
 pub struct ExportInfo<'a> {
     /// Its name.
@@ -221,7 +221,7 @@ impl<'a> FromReader<'a> for ExportInfo<'a> {
     }
 }
 
-/// What is said of an import to a dynamic linker.
+/// Flags of an import, for a dynamic linker.
 #[derive(Clone, Copy, Debug, PartialEq, Eq, Hash)]
 pub struct ImportInfo<'a> {
     /// The name of its module.

@@ -12,10 +12,10 @@ pub struct LinkingSectionReader<'a> {
 }
 
 impl<'a> LinkingSectionReader<'a> {
-    /// The section that a reader has left.
+    /// Reads the version of the section from the remaining bytes of a reader.
     ///
     /// # Errors
-    /// The fault of the version.
+    /// If the version is malformed, or is not 2.
     pub fn new(mut reader: BinaryReader<'a>) -> Result<Self> {
         let range = reader.remaining_range();
         let (_, plain) = call!(linking_version, reader);
@@ -32,7 +32,7 @@ impl<'a> LinkingSectionReader<'a> {
         self.subsections.original_position()
     }
 
-    /// The offsets of its bytes, the version among them.
+    /// The offsets of its bytes, with the version.
     pub fn range(&self) -> Range<u64> {
         self.range.clone()
     }
@@ -52,9 +52,9 @@ impl<'a> IntoIterator for LinkingSectionReader<'a> {
     }
 }
 
-/// What is said of data segments.
+/// Names, alignments and flags of data segments.
 pub type SegmentMap<'a> = SectionLimited<'a, Segment<'a>>;
-/// The functions that are called at first.
+/// The initialization functions.
 pub type InitFuncMap<'a> = SectionLimited<'a, InitFunc>;
 /// Comdats.
 pub type ComdatMap<'a> = SectionLimited<'a, Comdat<'a>>;
@@ -64,15 +64,15 @@ pub type SymbolInfoMap<'a> = SectionLimited<'a, SymbolInfo<'a>>;
 /// A subsection of the section `linking`.
 #[derive(Clone, Debug)]
 pub enum Linking<'a> {
-    /// What is said of data segments.
+    /// Names, alignments and flags of data segments.
     SegmentInfo(SegmentMap<'a>),
-    /// The functions that are called at first.
+    /// The initialization functions.
     InitFuncs(InitFuncMap<'a>),
     /// The comdats.
     ComdatInfo(ComdatMap<'a>),
     /// The symbols.
     SymbolTable(SymbolInfoMap<'a>),
-    /// The architecture that the code is for.
+    /// The target architecture.
     TargetArch(&'a str),
     /// A subsection with another id.
     Unknown {
@@ -92,14 +92,14 @@ impl<'a> Subsection<'a> for Linking<'a> {
             6 => Linking::InitFuncs(SectionLimited::new(reader)?),
             7 => Linking::ComdatInfo(SectionLimited::new(reader)?),
             8 => Linking::SymbolTable(SectionLimited::new(reader)?),
-            // Bytes after the name are passed over.
+            // Trailing bytes after the name are ignored.
             9 => Linking::TargetArch(reader.read_string()?),
             ty => Linking::Unknown { ty, data: reader.remaining_buffer(), range: reader.remaining_range() },
         })
     }
 }
 
-/// What is said of a data segment.
+/// The name, the alignment and the flags of a data segment.
 #[derive(Clone, Copy, Debug, PartialEq, Eq, Hash)]
 pub struct Segment<'a> {
     /// Its name.
@@ -117,7 +117,7 @@ impl<'a> FromReader<'a> for Segment<'a> {
     }
 }
 
-/// A function that is called at first.
+/// An initialization function.
 #[derive(Clone, Copy, Debug, PartialEq, Eq, Hash)]
 pub struct InitFunc {
     /// Its priority.

@@ -19,12 +19,12 @@ impl<'a> FromReader<'a> for Naming<'a> {
     }
 }
 
-/// An index and the names of what it has.
+/// An index with its own names, as a function and its locals.
 #[derive(Clone, Debug)]
 pub struct IndirectNaming<'a> {
-    /// The index of what has the names, as a function.
+    /// The index, for instance of a function.
     pub index: u32,
-    /// The names of what it has, as of its locals.
+    /// Its names, for instance of the locals.
     pub names: NameMap<'a>,
 }
 
@@ -35,12 +35,12 @@ impl<'a> FromReader<'a> for IndirectNaming<'a> {
     }
 }
 
-/// The last index or id that was given. What isn't above it is a fault, after which the next ones follow.
+/// The last index or id in order. One that is not above it is an error, and the iteration continues.
 #[derive(Clone, Debug, Default)]
 struct Last(Option<u32>);
 
 impl Last {
-    /// The next one, or this fault at this offset.
+    /// Takes the next one, or returns this fault at this offset.
     fn then(&mut self, next: u32, fault: Fault, offset: u64) -> Result<()> {
         if self.0.is_some_and(|last| next <= last) {
             return Err(Error::new(fault, offset));
@@ -50,7 +50,7 @@ impl Last {
     }
 }
 
-/// An iterator over entries whose indices ascend, with the fault of one that doesn't.
+/// Declares an iterator over entries with ascending indices, with the fault of one that is not above the last.
 macro_rules! ascending {
     ($(#[$doc:meta])* $name:ident, $entry:ident, $fault:expr) => {
         $(#[$doc])*
@@ -62,10 +62,10 @@ macro_rules! ascending {
         }
 
         impl<'a> $name<'a> {
-            /// The names that a reader has left, with their count.
+            /// Takes the remaining bytes of a reader as a map, and reads its count.
             ///
             /// # Errors
-            /// The fault of the count.
+            /// If the count is malformed.
             pub fn new(reader: BinaryReader<'a>) -> Result<Self> {
                 Ok($name::of(SectionLimited::new(reader)?))
             }
@@ -97,15 +97,15 @@ macro_rules! ascending {
 }
 
 ascending! {
-    /// Names by index. An index that isn't above the last one is a fault, after which the next names follow.
+    /// An iterator over names by index. An index that is not above the last one is an error, and the iteration continues.
     NameMap, Naming, Fault::NamesOrder
 }
 ascending! {
-    /// Names of what indices have, by index. An index that isn't above the last one is a fault, after which the next ones follow.
+    /// An iterator over indices with their own names. An index that is not above the last one is an error, and the iteration continues.
     IndirectNameMap, IndirectNaming, Fault::IndirectOrder
 }
 
-/// The subsections of the section `name`. An id that isn't above the last one is a fault, after which the next subsections follow.
+/// An iterator over the subsections of the section `name`. An id that is not above the last one is an error, and the iteration continues.
 #[derive(Clone, Debug)]
 pub struct NameSectionReader<'a> {
     /// The remaining subsections, whose order is not checked.
@@ -114,7 +114,7 @@ pub struct NameSectionReader<'a> {
 }
 
 impl<'a> NameSectionReader<'a> {
-    /// The subsections that a reader has left.
+    /// Takes the remaining bytes of a reader as subsections.
     pub fn new(reader: BinaryReader<'a>) -> Self {
         NameSectionReader { sections: Subsections::new(reader), last: Last::default() }
     }
@@ -124,7 +124,7 @@ impl<'a> NameSectionReader<'a> {
         self.sections.original_position()
     }
 
-    /// The offsets of all bytes, those that were read among them.
+    /// The offsets of all bytes, also of those that were read.
     pub fn range(&self) -> Range<u64> {
         self.sections.range()
     }
@@ -210,7 +210,7 @@ impl<'a> Subsection<'a> for Name<'a> {
     }
 }
 
-/// The name of the module, after which no byte comes.
+/// The name of the module, without trailing bytes.
 fn module(mut reader: BinaryReader<'_>) -> Result<Name<'_>> {
     let name_range = reader.remaining_range();
     let name = reader.read_string()?;

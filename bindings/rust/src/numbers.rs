@@ -73,7 +73,7 @@ pub(crate) fn leb128(window: &Window<'_>, kind: NumberKind) -> Result<(u64, u64)
         };
         value |= u64::from(byte & 0x7f) << (7 * at);
         if at == last {
-            is_last_byte(byte, bits - 7 * last, has_sign).map_or_else(|fault| Err(Error::new(fault(kind), offset)), Ok)?;
+            check_last_byte(byte, bits - 7 * last, has_sign).map_err(|fault| Error::new(fault(kind), offset))?;
         }
         if byte < 0x80 {
             let size = 7 * (at + 1);
@@ -84,8 +84,8 @@ pub(crate) fn leb128(window: &Window<'_>, kind: NumberKind) -> Result<(u64, u64)
     unreachable!("the last byte ends the number or is a fault")
 }
 
-/// Whether a byte may be the last of all that a number can have, of which it holds so many bits.
-fn is_last_byte(byte: u8, bits: u32, has_sign: bool) -> Result<(), fn(NumberKind) -> Fault> {
+/// Checks the last byte that a number can have. It holds this many bits of the number.
+fn check_last_byte(byte: u8, bits: u32, has_sign: bool) -> Result<(), fn(NumberKind) -> Fault> {
     if byte >= 0x80 {
         return Err(Fault::NumberTooLong);
     }

@@ -1,4 +1,4 @@
-//! The parts of a stream.
+//! Payloads: the parts of a stream.
 use crate::composites::{Func, RecGroups};
 use crate::library::{Event, Span};
 use crate::section::Window;
@@ -47,7 +47,7 @@ impl<'a> TypeSectionReader<'a> {
     }
 }
 
-/// What a header announces.
+/// What a stream holds, by its header.
 #[derive(Clone, Copy, Debug, PartialEq, Eq, Hash)]
 pub enum Encoding {
     /// A module.
@@ -63,17 +63,17 @@ pub struct FunctionBody<'a> {
 }
 
 impl<'a> FunctionBody<'a> {
-    /// The body that a reader has left, which isn't looked at.
+    /// Takes the remaining bytes of a reader as a body, without reading them.
     pub fn new(reader: BinaryReader<'a>) -> Self {
         FunctionBody { window: reader.rest }
     }
 
-    /// A reader of its bytes.
+    /// Returns a reader of its bytes.
     pub fn get_binary_reader(&self) -> BinaryReader<'a> {
         BinaryReader::of(self.window)
     }
 
-    /// Its offsets.
+    /// The offsets of its bytes.
     pub fn range(&self) -> Range<u64> {
         self.window.range()
     }
@@ -84,7 +84,7 @@ impl<'a> FunctionBody<'a> {
     }
 }
 
-/// What comes next in a stream.
+/// A part of a stream.
 #[derive(Clone)]
 #[non_exhaustive]
 pub enum Payload<'a> {
@@ -92,9 +92,9 @@ pub enum Payload<'a> {
     Version {
         /// The version.
         num: u16,
-        /// What it announces.
+        /// What the stream holds.
         encoding: Encoding,
-        /// Its offsets.
+        /// The offsets of the header.
         range: Range<u64>,
     },
     /// The type section.
@@ -115,7 +115,7 @@ pub enum Payload<'a> {
     ExportSection(ExportSectionReader<'a>),
     /// The start section.
     StartSection {
-        /// The index of the function that is called first.
+        /// The index of the start function.
         func: u32,
         /// The offsets of the section's content.
         range: Range<u64>,
@@ -124,7 +124,7 @@ pub enum Payload<'a> {
     ElementSection(ElementSectionReader<'a>),
     /// The data count section.
     DataCountSection {
-        /// How many data segments there are.
+        /// The number of data segments.
         count: u32,
         /// The offsets of the section's content.
         range: Range<u64>,
@@ -133,32 +133,32 @@ pub enum Payload<'a> {
     DataSection(DataSectionReader<'a>),
     /// The start of the code section.
     CodeSectionStart {
-        /// How many bodies come.
+        /// The number of bodies that follow.
         count: u32,
         /// The offsets of the section's content, whose end is not compared with the bodies yet.
         unchecked_range: Range<u64>,
-        /// How many bytes follow the count.
+        /// The size of the section without the count.
         size: u32,
     },
-    /// A body.
+    /// The body of a function.
     CodeSectionEntry(FunctionBody<'a>),
     /// A custom section.
     CustomSection(CustomSectionReader<'a>),
-    /// A section with an id that isn't known.
+    /// A section with an unknown id.
     UnknownSection {
         /// Its id.
         id: u8,
         /// Its bytes.
         contents: &'a [u8],
-        /// Their offsets.
+        /// The offsets of its bytes.
         range: Range<u64>,
     },
-    /// The end of the stream, at this offset.
+    /// The end of the stream, which is at this offset.
     End(u64),
 }
 
 impl Payload<'_> {
-    /// The id of a section and the offsets of its content, of a code section where it starts. What is no section has none.
+    /// Returns the id of a section and the offsets of its content. Of a code section only the start counts; what is not a section has none.
     pub fn as_section(&self) -> Option<(u8, Range<u64>)> {
         Some(match self {
             Payload::Version { .. } | Payload::CodeSectionEntry(_) | Payload::End(_) => return None,
@@ -205,7 +205,7 @@ impl Payload<'_> {
     }
 }
 
-/// Counted sections, bodies and contents aren't shown.
+/// Counted sections, bodies and contents are not shown.
 impl fmt::Debug for Payload<'_> {
     fn fmt(&self, f: &mut fmt::Formatter<'_>) -> fmt::Result {
         let word = self.word();
@@ -224,7 +224,7 @@ impl fmt::Debug for Payload<'_> {
     }
 }
 
-/// What an event says, of bytes that begin where the parser was.
+/// The payload of an event, of bytes that begin at the parser's offset.
 pub(crate) fn payload<'a>(before: Window<'a>, event: &Event) -> Result<Payload<'a>> {
     let range = event.start..event.end;
     // The end has no bytes, and the range of a code section goes beyond those that were consumed.

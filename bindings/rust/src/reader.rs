@@ -1,11 +1,14 @@
-//! Reading of a run of bytes, part by part.
+//! A reader of bytes.
 use crate::library::Span;
 use crate::numbers::leb128;
 use crate::section::{Window, call};
 use crate::{Error, Fault, FromReader, Ieee32, Ieee64, Lead, MAX_WASM_STRING_SIZE, NumberKind, Result, WasmFeatures};
 use core::ops::Range;
 
-/// A place in a run of a stream's bytes. After a fault it is in these bytes, and not before where it was.
+/// A reader of bytes of a stream, which keeps its position.
+///
+/// After an error of a single byte, number or raw bytes the position is unchanged. After an error inside a larger item it is somewhere in that
+/// item.
 #[derive(Clone, Debug)]
 pub struct BinaryReader<'a> {
     start: u64,
@@ -13,18 +16,18 @@ pub struct BinaryReader<'a> {
 }
 
 impl<'a> BinaryReader<'a> {
-    /// A reader of bytes that are at this offset of the whole stream, with all features.
+    /// Returns a reader of bytes at this offset of the whole stream, with all features.
     ///
     /// # Panics
-    /// If the bytes pass the offset 2^64 - 1.
+    /// If the bytes pass offset 2^64 - 1.
     pub fn new(bytes: &'a [u8], offset: u64) -> Self {
         BinaryReader::new_features(bytes, offset, WasmFeatures::all())
     }
 
-    /// The same, with these features.
+    /// Returns a reader of bytes at this offset of the whole stream, with these features.
     ///
     /// # Panics
-    /// If the bytes pass the offset 2^64 - 1.
+    /// If the bytes pass offset 2^64 - 1.
     pub fn new_features(bytes: &'a [u8], offset: u64, features: WasmFeatures) -> Self {
         assert!(offset.checked_add(bytes.len() as u64).is_some(), "data passes the offset range");
         BinaryReader::of(Window { bytes, offset, features: features.bits() })
@@ -35,52 +38,52 @@ impl<'a> BinaryReader<'a> {
         BinaryReader { start: rest.offset, rest }
     }
 
-    /// The features that are taken.
+    /// The enabled features.
     pub fn features(&self) -> WasmFeatures {
         WasmFeatures::from_bits_retain(self.rest.features)
     }
 
-    /// Whether limits of memories and tables may have 64 bits.
+    /// Returns whether limits of memories and tables may have 64 bits.
     pub fn memory64(&self) -> bool {
         self.features().contains(WasmFeatures::MEMORY64)
     }
 
-    /// The offset of what comes next.
+    /// The offset of the next byte in the whole stream.
     pub fn original_position(&self) -> u64 {
         self.rest.offset
     }
 
-    /// How many bytes were read.
+    /// The number of bytes that were read.
     pub fn current_position(&self) -> usize {
         (self.rest.offset - self.start) as usize
     }
 
-    /// The offsets of all bytes, those that were read among them.
+    /// The offsets of all bytes, also of those that were read.
     pub fn range(&self) -> Range<u64> {
         self.start..self.rest.range().end
     }
 
-    /// The offsets of the bytes that are left.
+    /// The offsets of the remaining bytes.
     pub fn remaining_range(&self) -> Range<u64> {
         self.rest.range()
     }
 
-    /// The bytes that are left.
+    /// The remaining bytes.
     pub fn remaining_buffer(&self) -> &'a [u8] {
         self.rest.bytes
     }
 
-    /// How many bytes are left.
+    /// The number of remaining bytes.
     pub fn bytes_remaining(&self) -> usize {
         self.rest.bytes.len()
     }
 
-    /// Whether no byte is left.
+    /// Returns whether no byte remains.
     pub fn eof(&self) -> bool {
         self.rest.bytes.is_empty()
     }
 
-    /// The bytes that are left, as a reader of their own.
+    /// Returns a reader of the remaining bytes alone.
     pub fn shrink(&self) -> Self {
         BinaryReader::of(self.rest)
     }
@@ -92,7 +95,7 @@ impl<'a> BinaryReader<'a> {
         passed
     }
 
-    /// The next bytes, this many, or an error if some are missing.
+    /// Returns an error if fewer than this many bytes remain.
     fn expect(&self, count: u64) -> Result<()> {
         match count.checked_sub(self.rest.bytes.len() as u64) {
             None | Some(0) => Ok(()),
@@ -121,7 +124,7 @@ impl<'a> BinaryReader<'a> {
         if self.eof() { Ok(()) } else { Err(self.error(fault)) }
     }
 
-    /// The next byte, which is not consumed.
+    /// Returns the next byte without consuming it.
     ///
     /// # Errors
     /// If no byte remains.
@@ -129,7 +132,7 @@ impl<'a> BinaryReader<'a> {
         Ok(self.peek_bytes(1)?[0])
     }
 
-    /// The next `size` bytes, which are not consumed.
+    /// Returns the next `size` bytes without consuming them.
     ///
     /// # Errors
     /// If fewer bytes remain.
@@ -303,7 +306,7 @@ impl<'a> BinaryReader<'a> {
     /// If the size is malformed, if bytes are missing, or if they are not UTF-8.
     pub fn read_unlimited_string(&mut self) -> Result<&'a str> {
         let text = self.read_reader()?.rest;
-        // Where it isn't UTF-8, the fault is at its last byte.
+        // If it is not UTF-8, the error is at its last byte.
         core::str::from_utf8(text.bytes).map_err(|_| Error::new(Fault::MalformedUtf8, text.range().end - 1))
     }
 

@@ -102,10 +102,10 @@ pub struct RelocSectionReader<'a> {
 }
 
 impl<'a> RelocSectionReader<'a> {
-    /// The section that a reader has left.
+    /// Reads the head of the section from the remaining bytes of a reader.
     ///
     /// # Errors
-    /// The fault of the index of its section, or of the count.
+    /// If the index of the section or the count is malformed.
     pub fn new(mut reader: BinaryReader<'a>) -> Result<Self> {
         let range = reader.remaining_range();
         let section = reader.read_var_u32()?;
@@ -145,7 +145,7 @@ impl RelocationEntry {
     /// Which bytes it fills in, from the start of the content of its section.
     ///
     /// # Errors
-    /// That they pass the greatest `usize`, which 64 bits have room for.
+    /// If they pass the greatest `usize`, which cannot happen where it has 64 bits.
     pub fn relocation_range(&self) -> Result<Range<usize>> {
         let start = self.offset as usize;
         let end = start.checked_add(self.ty.extent()).ok_or_else(|| Error::new(Fault::OffsetRange, self.offset.into()))?;
