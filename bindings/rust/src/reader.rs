@@ -7,8 +7,7 @@ use core::ops::Range;
 
 /// A reader of bytes of a stream, which keeps its position.
 ///
-/// After an error of a single byte, number or raw bytes the position is unchanged. After an error inside a larger item it is somewhere in that
-/// item.
+/// After an error of a number or of missing bytes the position is unchanged. After an error inside an item it is somewhere in that item.
 #[derive(Clone, Debug)]
 pub struct BinaryReader<'a> {
     start: u64,
@@ -152,12 +151,11 @@ impl<'a> BinaryReader<'a> {
     /// Reads a byte that is below 128.
     ///
     /// # Errors
-    /// If no byte remains, or at another byte.
+    /// If no byte remains, or at another byte, which is consumed.
     pub fn read_u7(&mut self) -> Result<u8> {
-        if self.peek()? >= 128 {
-            return Err(self.error(Fault::InvalidU7));
-        }
-        self.read_u8()
+        let error = self.error(Fault::InvalidU7);
+        let byte = self.read_u8()?;
+        if byte < 128 { Ok(byte) } else { Err(error) }
     }
 
     /// Reads a byte as what it is a kind of.

@@ -39,6 +39,8 @@ fn malformed_numbers() {
     assert_eq!(number(&bytes(&format!("{nine} 01")), BinaryReader::read_var_i64), "fault 9 invalid var_i64: integer too large at 0");
     assert_eq!(number(&bytes(&format!("{nine} 80")), BinaryReader::read_var_u64), "fault 9 invalid var_u64: integer representation too long at 0");
     assert_eq!(number(&bytes("80 80"), BinaryReader::read_var_i64), "fault 2 unexpected end-of-file at 0");
+    // A byte is consumed before its value is looked at.
+    assert_eq!(number(&bytes("80 80"), BinaryReader::read_u7), "fault 0 invalid u7 at 1");
 }
 
 /// The last byte of a number of every kind, whatever it is, as the library reads it in an item.
