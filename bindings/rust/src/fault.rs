@@ -295,10 +295,13 @@ mod tests {
     #[test]
     fn texts_are_those_of_the_library() {
         let mut found = 0;
-        for code in (0..0x1000).chain(0x10000..0x10100) {
+        for code in (0..0x1_0000).chain(0xffff_ff00..=u32::MAX) {
             let mut text = [0; 200];
             let size = library::format_message(code, &mut text);
-            let Some(fault) = Fault::of(code) else { continue };
+            let Some(fault) = Fault::of(code) else {
+                assert_eq!(size, 0, "the library has a text for {code}");
+                continue;
+            };
             assert_eq!((fault.code(), fault.message().as_bytes()), (code, &text[..size]));
             found += 1;
         }

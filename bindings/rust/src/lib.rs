@@ -26,6 +26,7 @@
 //!
 //! The README has a table of what differs from `wasmparser`, and of what to write instead.
 #![no_std]
+#![deny(unsafe_code, clippy::undocumented_unsafe_blocks)]
 #![warn(missing_docs)]
 
 #[cfg(feature = "alloc")]
@@ -38,7 +39,7 @@ mod cores;
 mod custom;
 mod error;
 mod fault;
-#[allow(missing_docs, dead_code)]
+#[allow(missing_docs, dead_code, unsafe_code)]
 #[rustfmt::skip]
 mod ffi;
 mod flags;
@@ -46,6 +47,7 @@ mod imports;
 mod items;
 mod kinds;
 mod known;
+#[allow(unsafe_code)]
 mod library;
 mod limits;
 mod linking;
