@@ -65,7 +65,7 @@ impl Module {
     }
 }
 
-fn show(bytes: &[u8]) -> wasmparser::Result<()> {
+pub fn show(bytes: &[u8]) -> wasmparser::Result<()> {
     let mut module = Module::default();
     for payload in Parser::new(0).parse_all(bytes) {
         match payload? {

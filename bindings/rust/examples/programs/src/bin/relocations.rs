@@ -28,7 +28,7 @@ fn target(entry: &RelocationEntry, symbols: &[SymbolInfo<'_>]) -> String {
     }
 }
 
-fn show(bytes: &[u8]) -> wasmparser::Result<()> {
+pub fn show(bytes: &[u8]) -> wasmparser::Result<()> {
     let (mut sections, mut symbols, mut relocations) = (Vec::new(), Vec::new(), Vec::new());
     for payload in Parser::new(0).parse_all(bytes) {
         let payload = payload?;

@@ -8,10 +8,10 @@ use wasmparser::{Parser, Payload};
 const NAMES: [&str; 14] =
     ["custom", "type", "import", "function", "table", "memory", "global", "export", "start", "element", "code", "data", "data count", "tag"];
 
-struct Section {
-    name: String,
-    size: u64,
-    items: Option<u32>,
+pub struct Section {
+    pub name: String,
+    pub size: u64,
+    pub items: Option<u32>,
 }
 
 fn items(payload: &Payload<'_>) -> Option<u32> {
@@ -31,7 +31,7 @@ fn items(payload: &Payload<'_>) -> Option<u32> {
     })
 }
 
-fn sections(module: &[u8]) -> Result<Vec<Section>, wasmparser::BinaryReaderError> {
+pub fn sections(module: &[u8]) -> Result<Vec<Section>, wasmparser::BinaryReaderError> {
     let mut sections = Vec::new();
     for payload in Parser::new(0).parse_all(module) {
         let payload = payload?;
