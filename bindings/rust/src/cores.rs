@@ -1,4 +1,5 @@
 //! Core dumps.
+use crate::codes::core_value_kind;
 use crate::composites::{Frame, Items, read_items, read_list};
 use crate::section::call;
 use crate::{BinaryReader, Fault, FromReader, Ieee32, Ieee64, Result};
@@ -91,10 +92,10 @@ impl<'a> FromReader<'a> for CoreDumpValue {
     fn from_reader(reader: &mut BinaryReader<'a>) -> Result<Self> {
         let (_, plain) = call!(core_value, reader);
         Ok(match plain.kind {
-            1 => CoreDumpValue::I32(plain.integer as i32),
-            2 => CoreDumpValue::I64(plain.integer),
-            3 => CoreDumpValue::F32(Ieee32(plain.bits as u32)),
-            4 => CoreDumpValue::F64(Ieee64(plain.bits)),
+            core_value_kind::I32 => CoreDumpValue::I32(plain.integer as i32),
+            core_value_kind::I64 => CoreDumpValue::I64(plain.integer),
+            core_value_kind::F32 => CoreDumpValue::F32(Ieee32(plain.bits as u32)),
+            core_value_kind::F64 => CoreDumpValue::F64(Ieee64(plain.bits)),
             _ => CoreDumpValue::Missing,
         })
     }

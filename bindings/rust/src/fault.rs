@@ -1,8 +1,9 @@
 //! Why input is refused.
+use crate::codes::{core_start, fault_kind, lead, number_kind};
 
 /// Declares an enum whose variants have a number in the C library.
 macro_rules! numbered {
-    ($(#[$doc:meta])* $name:ident { $($(#[$variant_doc:meta])* $number:literal $variant:ident,)* }) => {
+    ($(#[$doc:meta])* $name:ident { $($(#[$variant_doc:meta])* $module:ident::$code:ident $variant:ident,)* }) => {
         $(#[$doc])*
         #[derive(Clone, Copy, Debug, PartialEq, Eq, Hash)]
         pub enum $name {
@@ -13,7 +14,7 @@ macro_rules! numbered {
             /// The variant with this number.
             fn of(number: u32) -> Option<Self> {
                 Some(match number {
-                    $($number => $name::$variant,)*
+                    $($module::$code => $name::$variant,)*
                     _ => return None,
                 })
             }
@@ -21,7 +22,7 @@ macro_rules! numbered {
             /// Its number in the C library.
             const fn number(self) -> u32 {
                 match self {
-                    $($name::$variant => $number,)*
+                    $($name::$variant => $module::$code,)*
                 }
             }
         }
@@ -32,15 +33,15 @@ numbered! {
     /// The kinds of LEB128 numbers.
     NumberKind {
         /// An unsigned number of 32 bits.
-        0 VarU32,
+        number_kind::U32 VarU32,
         /// A signed number of 32 bits.
-        1 VarI32,
+        number_kind::I32 VarI32,
         /// An unsigned number of 64 bits.
-        2 VarU64,
+        number_kind::U64 VarU64,
         /// A signed number of 64 bits.
-        3 VarI64,
+        number_kind::I64 VarI64,
         /// A signed number of 33 bits: a heap type, or a type index.
-        4 VarS33,
+        number_kind::S33 VarS33,
     }
 }
 
@@ -48,27 +49,27 @@ numbered! {
     /// What a leading byte should begin.
     Lead {
         /// A branch hint.
-        0 BranchHint,
+        lead::BRANCH_HINT BranchHint,
         /// Whether a branch is likely taken.
-        1 BranchTaken,
+        lead::BRANCH_TAKEN BranchTaken,
         /// The kind of a symbol in a comdat.
-        2 ComdatSymbol,
+        lead::COMDAT_SYMBOL ComdatSymbol,
         /// The kind of a symbol.
-        3 Symbol,
+        lead::SYMBOL Symbol,
         /// The type of a relocation.
-        4 Reloc,
+        lead::RELOC Reloc,
         /// The kind of an import or export.
-        5 External,
+        lead::EXTERNAL External,
         /// A value type.
-        6 Value,
+        lead::VALUE Value,
         /// A reference type.
-        7 Reference,
+        lead::REFERENCE Reference,
         /// A heap type.
-        8 Heap,
+        lead::HEAP Heap,
         /// A function, array or struct type.
-        9 Composite,
+        lead::COMPOSITE Composite,
         /// Whether a field is mutable.
-        10 Mutability,
+        lead::MUTABILITY Mutability,
     }
 }
 
@@ -76,21 +77,21 @@ numbered! {
     /// What begins with a byte 0 in a core dump.
     CoreStart {
         /// The name of the process.
-        0 Name,
+        core_start::NAME Name,
         /// A module.
-        1 Module,
+        core_start::MODULE Module,
         /// An instance.
-        2 Instance,
+        core_start::INSTANCE Instance,
         /// The name of a thread.
-        3 StackName,
+        core_start::STACK_NAME StackName,
         /// A frame of a thread.
-        4 Frame,
+        core_start::FRAME Frame,
     }
 }
 
 /// Declares the kinds of faults: those with a text alone, and those that say more.
 macro_rules! faults {
-    ($($(#[$doc:meta])* $number:literal $variant:ident $text:literal,)*) => {
+    ($($(#[$doc:meta])* $code:ident $variant:ident $text:literal,)*) => {
         /// Why input is refused.
         ///
         /// Unless its text says otherwise, the offset of a fault is that of the byte, number or section that it speaks of.
@@ -113,11 +114,11 @@ macro_rules! faults {
             /// The fault with this number in the lowest 8 bits, and above them what it names.
             pub(crate) fn of(code: u32) -> Option<Self> {
                 Some(match (code & 0xff, code >> 8) {
-                    $(($number, 0) => Fault::$variant,)*
-                    (18, kind) => Fault::NumberTooLong(NumberKind::of(kind)?),
-                    (19, kind) => Fault::NumberTooLarge(NumberKind::of(kind)?),
-                    (25, lead) => Fault::LeadingByte(Lead::of(lead)?),
-                    (44, start) => Fault::CoreStartByte(CoreStart::of(start)?),
+                    $((fault_kind::$code, 0) => Fault::$variant,)*
+                    (fault_kind::NUMBER_TOO_LONG, kind) => Fault::NumberTooLong(NumberKind::of(kind)?),
+                    (fault_kind::NUMBER_TOO_LARGE, kind) => Fault::NumberTooLarge(NumberKind::of(kind)?),
+                    (fault_kind::LEADING_BYTE, lead) => Fault::LeadingByte(Lead::of(lead)?),
+                    (fault_kind::CORE_START_BYTE, start) => Fault::CoreStartByte(CoreStart::of(start)?),
                     _ => return None,
                 })
             }
@@ -125,11 +126,11 @@ macro_rules! faults {
             /// Its number in the C library: in the lowest 8 bits its kind, and above them what it names.
             pub const fn code(self) -> u32 {
                 match self {
-                    $(Fault::$variant => $number,)*
-                    Fault::NumberTooLong(kind) => 18 | kind.number() << 8,
-                    Fault::NumberTooLarge(kind) => 19 | kind.number() << 8,
-                    Fault::LeadingByte(lead) => 25 | lead.number() << 8,
-                    Fault::CoreStartByte(start) => 44 | start.number() << 8,
+                    $(Fault::$variant => fault_kind::$code,)*
+                    Fault::NumberTooLong(kind) => fault_kind::NUMBER_TOO_LONG | kind.number() << 8,
+                    Fault::NumberTooLarge(kind) => fault_kind::NUMBER_TOO_LARGE | kind.number() << 8,
+                    Fault::LeadingByte(lead) => fault_kind::LEADING_BYTE | lead.number() << 8,
+                    Fault::CoreStartByte(start) => fault_kind::CORE_START_BYTE | start.number() << 8,
                     Fault::GcTypes => 0xff,
                 }
             }
@@ -151,93 +152,93 @@ macro_rules! faults {
 
 faults! {
     /// An allocation failed. This crate never returns it.
-    1 OutOfMemory "out of memory",
+    OUT_OF_MEMORY OutOfMemory "out of memory",
     /// The input is truncated. Inside a number, the offset is the end of the input; for raw bytes, it is where they should have started.
-    2 UnexpectedEof "unexpected end-of-file",
+    UNEXPECTED_EOF UnexpectedEof "unexpected end-of-file",
     /// The data would pass offset 2^64 - 1. The offset is that of the parser.
-    3 OffsetRange "data passes the offset range",
+    OFFSET_RANGE OffsetRange "data passes the offset range",
     /// The stream does not begin with the magic number. The offset is the start of the stream.
-    4 BadMagic "magic header not detected: bad magic number",
+    BAD_MAGIC BadMagic "magic header not detected: bad magic number",
     /// No encoding has this version, which is the error's number. The offset is that of the version.
-    5 UnknownVersion "unknown binary version",
+    UNKNOWN_VERSION UnknownVersion "unknown binary version",
     /// The magic number of a header is where a section should begin.
-    6 MagicAtSection "expected section, got wasm magic number",
+    MAGIC_AT_SECTION MagicAtSection "expected section, got wasm magic number",
     /// The id of a section is above 127.
-    7 MalformedSectionId "malformed section id",
+    MALFORMED_SECTION_ID MalformedSectionId "malformed section id",
     /// A section would pass offset 2^64 - 1. The offset is that of its length, which is the error's number.
-    8 SectionTooLarge "section too large",
+    SECTION_TOO_LARGE SectionTooLarge "section too large",
     /// A section may not follow an earlier one. The offset is that of its content.
-    9 OutOfOrder "section out of order",
+    OUT_OF_ORDER OutOfOrder "section out of order",
     /// A start section has trailing bytes. The offset is that of the first one.
-    10 StartContent "unexpected content in the start section",
+    START_CONTENT StartContent "unexpected content in the start section",
     /// A data count section has trailing bytes. The offset is that of the first one.
-    11 DataCountContent "unexpected content in the data count section",
+    DATA_COUNT_CONTENT DataCountContent "unexpected content in the data count section",
     /// The code section and the function section have different counts. The offset is that of the code section's content.
-    12 FunctionCodeDiffer "function and code section have inconsistent lengths",
+    FUNCTION_CODE_DIFFER FunctionCodeDiffer "function and code section have inconsistent lengths",
     /// The stream ends with functions and without a code section. The offset is the end.
-    13 FunctionWithoutCode "function section has non-zero count but code section is absent",
+    FUNCTION_WITHOUT_CODE FunctionWithoutCode "function section has non-zero count but code section is absent",
     /// A code section has bodies and no function section precedes it. The offset is that of its content.
-    14 CodeWithoutFunction "function section is absent but code section has non-zero count",
+    CODE_WITHOUT_FUNCTION CodeWithoutFunction "function section is absent but code section has non-zero count",
     /// The data section has another count than announced. The offset is the end of the section.
-    15 DataCountDiffer "data count and data section have inconsistent lengths",
+    DATA_COUNT_DIFFER DataCountDiffer "data count and data section have inconsistent lengths",
     /// The stream ends with a data count and without a data section. The offset is the end.
-    16 DataCountWithoutData "data count is non-zero but data section is absent",
+    DATA_COUNT_WITHOUT_DATA DataCountWithoutData "data count is non-zero but data section is absent",
     /// A code section has trailing bytes after its last body. The offset is that of the first one.
-    17 TrailingCode "trailing bytes at end of section",
+    TRAILING_CODE TrailingCode "trailing bytes at end of section",
     /// A string is too long. The offset is that of the last byte of its size.
-    20 StringSize "string size out of bounds",
+    STRING_SIZE StringSize "string size out of bounds",
     /// A string is not UTF-8. The offset is that of its last byte.
-    21 MalformedUtf8 "malformed UTF-8 encoding",
+    MALFORMED_UTF8 MalformedUtf8 "malformed UTF-8 encoding",
     /// A byte is not below 128.
-    22 InvalidU7 "invalid u7",
+    INVALID_U7 InvalidU7 "invalid u7",
     /// A byte is neither 0 nor 1.
-    23 InvalidBool "invalid boolean value",
+    INVALID_BOOL InvalidBool "invalid boolean value",
     /// A section has trailing bytes after its last item. The offset is that of the first one.
-    24 SizeMismatch "section size mismatch: unexpected data at the end of the section",
+    SIZE_MISMATCH SizeMismatch "section size mismatch: unexpected data at the end of the section",
     /// A data segment has unknown flags.
-    26 DataFlags "invalid flags byte in data segment",
+    DATA_FLAGS DataFlags "invalid flags byte in data segment",
     /// An element segment has unknown flags.
-    27 ElementFlags "invalid flags byte in element segment",
+    ELEMENT_FLAGS ElementFlags "invalid flags byte in element segment",
     /// An element segment holds indices of something else than functions.
-    28 ElementFunctionOnly "only the function external type is supported in elem segment",
+    ELEMENT_FUNCTION_ONLY ElementFunctionOnly "only the function external type is supported in elem segment",
     /// An export has an exact function type.
-    29 ExactExport "Exact type is not allowed in the exports",
+    EXACT_EXPORT ExactExport "Exact type is not allowed in the exports",
     /// A global type has unknown flags.
-    30 GlobalFlags "malformed global flags",
+    GLOBAL_FLAGS GlobalFlags "malformed global flags",
     /// A group of compact imports, without the feature.
-    31 Compact7F "invalid leading byte 0x7F with compact imports proposal disabled",
+    COMPACT_7F Compact7F "invalid leading byte 0x7F with compact imports proposal disabled",
     /// A group of compact imports of one type, without the feature.
-    32 Compact7E "invalid leading byte 0x7E with compact imports proposal disabled",
+    COMPACT_7E Compact7E "invalid leading byte 0x7E with compact imports proposal disabled",
     /// A memory type has unknown flags.
-    33 MemoryFlags "invalid memory limits flags",
+    MEMORY_FLAGS MemoryFlags "invalid memory limits flags",
     /// A memory type has an invalid page size.
-    34 PageSize "invalid custom page size",
+    PAGE_SIZE PageSize "invalid custom page size",
     /// A table with an initial value is malformed.
-    35 TableEncoding "invalid table encoding",
+    TABLE_ENCODING TableEncoding "invalid table encoding",
     /// A table type has unknown flags.
-    36 TableFlags "invalid table resizable limits flags",
+    TABLE_FLAGS TableFlags "invalid table resizable limits flags",
     /// A tag has another attribute than 0.
-    37 TagAttributes "invalid tag attributes",
+    TAG_ATTRIBUTES TagAttributes "invalid tag attributes",
     /// An index in a name map is not above the previous one. The offset is that of the entry.
-    38 NamesOrder "names out of order",
+    NAMES_ORDER NamesOrder "names out of order",
     /// An index in an indirect name map is not above the previous one. The offset is that of the entry.
-    39 IndirectOrder "indirect names out of order",
+    INDIRECT_ORDER IndirectOrder "indirect names out of order",
     /// The id of a name subsection is not above the previous one. The offset is that of the subsection.
-    40 NameSectionOrder "name subsection out of order",
+    NAME_SECTION_ORDER NameSectionOrder "name subsection out of order",
     /// Trailing bytes follow the name of a module. The offset is that of the first one.
-    41 NameTrailing "trailing data at the end of a name",
+    NAME_TRAILING NameTrailing "trailing data at the end of a name",
     /// A producers field has an unknown name.
-    42 ProducersField "invalid producers field name",
+    PRODUCERS_FIELD ProducersField "invalid producers field name",
     /// A linking section has this version, which is the error's number.
-    43 LinkingVersion "unsupported linking section version",
+    LINKING_VERSION LinkingVersion "unsupported linking section version",
     /// A core dump value begins with an unknown byte.
-    45 CoreValue "invalid CoreDumpValue type",
+    CORE_VALUE CoreValue "invalid CoreDumpValue type",
     /// A custom section has trailing bytes. The offset is that of the first one.
-    46 CustomTrailing "trailing bytes at end of custom section",
+    CUSTOM_TRAILING CustomTrailing "trailing bytes at end of custom section",
     /// An instruction is not allowed in a constant expression.
-    47 NotConstant "not a constant instruction",
+    NOT_CONSTANT NotConstant "not a constant instruction",
     /// A type has more than one supertype.
-    48 Supertypes "more than one supertype",
+    SUPERTYPES Supertypes "more than one supertype",
 }
 
 const fn too_long(kind: NumberKind) -> &'static str {

@@ -1,4 +1,5 @@
 //! Sets of flags.
+use crate::codes::{segment_flags, symbol_flags};
 use crate::{BinaryReader, FromReader, Result};
 use core::fmt;
 use core::ops::{BitAnd, BitAndAssign, BitOr, BitOrAssign, BitXor, BitXorAssign, Not, Sub, SubAssign};
@@ -288,23 +289,23 @@ flags! {
     #[derive(Default, PartialOrd, Ord)]
     SymbolFlags {
         /// A weak symbol: it gives way to another definition.
-        BINDING_WEAK = 1;
+        BINDING_WEAK = symbol_flags::BINDING_WEAK;
         /// A local symbol: it is visible in its own file only.
-        BINDING_LOCAL = 2;
+        BINDING_LOCAL = symbol_flags::BINDING_LOCAL;
         /// A hidden symbol: it is not exported.
-        VISIBILITY_HIDDEN = 4;
+        VISIBILITY_HIDDEN = symbol_flags::VISIBILITY_HIDDEN;
         /// An undefined symbol.
-        UNDEFINED = 16;
+        UNDEFINED = symbol_flags::UNDEFINED;
         /// It is exported.
-        EXPORTED = 32;
+        EXPORTED = symbol_flags::EXPORTED;
         /// It has a name of its own, instead of that of an import.
-        EXPLICIT_NAME = 64;
+        EXPLICIT_NAME = symbol_flags::EXPLICIT_NAME;
         /// It is kept even if nothing refers to it.
-        NO_STRIP = 128;
+        NO_STRIP = symbol_flags::NO_STRIP;
         /// It is thread-local.
-        TLS = 256;
+        TLS = symbol_flags::TLS;
         /// An absolute symbol: a number instead of an address.
-        ABSOLUTE = 512;
+        ABSOLUTE = symbol_flags::ABSOLUTE;
     }
 }
 
@@ -313,9 +314,9 @@ flags! {
     #[derive(Default)]
     SegmentFlags {
         /// It holds strings that end with a zero byte.
-        STRINGS = 1;
+        STRINGS = segment_flags::STRINGS;
         /// It is thread-local.
-        TLS = 2;
+        TLS = segment_flags::TLS;
     }
 }
 

@@ -1,4 +1,5 @@
 //! Imports.
+use crate::codes::{external_kind, import_kind};
 use crate::kinds::{exception_tag, global_type, memory_type, table_type};
 use crate::library;
 use crate::section::{SectionLimitedIntoIter, SectionLimitedIntoIterWithOffsets, call};
@@ -66,11 +67,11 @@ pub enum Imports<'a> {
 
 fn type_ref(ty: &library::ImportType) -> TypeRef {
     match ty.kind {
-        0 => TypeRef::Func(ty.index),
-        1 => TypeRef::Table(table_type(ty.table)),
-        2 => TypeRef::Memory(memory_type(ty.memory)),
-        3 => TypeRef::Global(global_type(ty.global)),
-        4 => TypeRef::Tag(exception_tag(ty.index)),
+        external_kind::FUNC => TypeRef::Func(ty.index),
+        external_kind::TABLE => TypeRef::Table(table_type(ty.table)),
+        external_kind::MEMORY => TypeRef::Memory(memory_type(ty.memory)),
+        external_kind::GLOBAL => TypeRef::Global(global_type(ty.global)),
+        external_kind::TAG => TypeRef::Tag(exception_tag(ty.index)),
         _ => TypeRef::FuncExact(ty.index),
     }
 }
@@ -100,8 +101,8 @@ impl<'a> FromReader<'a> for Imports<'a> {
         let (window, plain) = call!(import, reader);
         let (module, ty) = (window.text(plain.module_name), type_ref(&plain.ty));
         let group = match plain.kind {
-            0 => Imports::Single(window.offset, Import { module, name: window.text(plain.name), ty }),
-            1 => Imports::Compact1 { module, items: SectionLimited::list(window, plain.items, plain.count) },
+            import_kind::SINGLE => Imports::Single(window.offset, Import { module, name: window.text(plain.name), ty }),
+            import_kind::BUNDLE => Imports::Compact1 { module, items: SectionLimited::list(window, plain.items, plain.count) },
             _ => Imports::Compact2 { module, ty, names: SectionLimited::list(window, plain.items, plain.count) },
         };
         Ok(group)

@@ -1,4 +1,5 @@
 //! Tables, globals, exports and segments.
+use crate::codes::{data_kind, element_kind, external_kind};
 use crate::kinds::{global_type, table_type};
 use crate::library::Span;
 use crate::section::{Window, call};
@@ -113,11 +114,11 @@ impl ExternalKind {
     /// The kind with this number, except that of an exact function.
     fn of(number: u32) -> Option<Self> {
         Some(match number {
-            0 => ExternalKind::Func,
-            1 => ExternalKind::Table,
-            2 => ExternalKind::Memory,
-            3 => ExternalKind::Global,
-            4 => ExternalKind::Tag,
+            external_kind::FUNC => ExternalKind::Func,
+            external_kind::TABLE => ExternalKind::Table,
+            external_kind::MEMORY => ExternalKind::Memory,
+            external_kind::GLOBAL => ExternalKind::Global,
+            external_kind::TAG => ExternalKind::Tag,
             _ => return None,
         })
     }
@@ -182,8 +183,8 @@ impl<'a> FromReader<'a> for Element<'a> {
     fn from_reader(reader: &mut BinaryReader<'a>) -> Result<Self> {
         let (window, plain) = call!(element, reader);
         let kind = match plain.kind {
-            0 => ElementKind::Passive,
-            1 => ElementKind::Active {
+            element_kind::PASSIVE => ElementKind::Passive,
+            element_kind::ACTIVE => ElementKind::Active {
                 table_index: (plain.has_table != 0).then_some(plain.table),
                 offset_expr: ConstExpr { window: window.part(plain.offset_expression) },
             },
@@ -227,7 +228,7 @@ impl<'a> FromReader<'a> for Data<'a> {
     fn from_reader(reader: &mut BinaryReader<'a>) -> Result<Self> {
         let (window, plain) = call!(data, reader);
         let kind = match plain.kind {
-            0 => DataKind::Passive,
+            data_kind::PASSIVE => DataKind::Passive,
             _ => DataKind::Active { memory_index: plain.memory, offset_expr: ConstExpr { window: window.part(plain.offset_expression) } },
         };
         let range = window.offset..reader.original_position();

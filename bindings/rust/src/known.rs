@@ -1,4 +1,5 @@
 //! Custom sections that are known by their names.
+use crate::codes::custom_kind;
 use crate::composites::{Instances, Items, read_list};
 use crate::cores::{CoreDumpModulesSection, CoreDumpSection, CoreDumpStackSection};
 use crate::linking::LinkingSectionReader;
@@ -43,16 +44,16 @@ impl<'a> CustomSectionReader<'a> {
     fn known(&self) -> Result<KnownCustom<'a>> {
         let (name, data) = (self.name(), self.data_reader());
         Ok(match library::classify_custom(name) {
-            1 => KnownCustom::Name(NameSectionReader::new(data)),
-            2 => KnownCustom::BranchHints(BranchHintSectionReader::new(data)?),
-            3 => KnownCustom::Producers(ProducersSectionReader::new(data)?),
-            4 => KnownCustom::Dylink0(Dylink0SectionReader::new(data)),
-            5 => KnownCustom::Linking(LinkingSectionReader::new(data)?),
-            6 => KnownCustom::Reloc(RelocSectionReader::new(data)?),
-            7 => KnownCustom::CoreDump(CoreDumpSection::new(data)?),
-            8 => KnownCustom::CoreDumpModules(CoreDumpModulesSection::new(data)?),
-            9 => KnownCustom::CoreDumpInstances(Instances::new(data)?),
-            10 => KnownCustom::CoreDumpStack(CoreDumpStackSection::new(data)?),
+            custom_kind::NAME => KnownCustom::Name(NameSectionReader::new(data)),
+            custom_kind::BRANCH_HINTS => KnownCustom::BranchHints(BranchHintSectionReader::new(data)?),
+            custom_kind::PRODUCERS => KnownCustom::Producers(ProducersSectionReader::new(data)?),
+            custom_kind::DYLINK0 => KnownCustom::Dylink0(Dylink0SectionReader::new(data)),
+            custom_kind::LINKING => KnownCustom::Linking(LinkingSectionReader::new(data)?),
+            custom_kind::RELOC => KnownCustom::Reloc(RelocSectionReader::new(data)?),
+            custom_kind::CORE => KnownCustom::CoreDump(CoreDumpSection::new(data)?),
+            custom_kind::CORE_MODULES => KnownCustom::CoreDumpModules(CoreDumpModulesSection::new(data)?),
+            custom_kind::CORE_INSTANCES => KnownCustom::CoreDumpInstances(Instances::new(data)?),
+            custom_kind::CORE_STACK => KnownCustom::CoreDumpStack(CoreDumpStackSection::new(data)?),
             _ => KnownCustom::Unknown,
         })
     }

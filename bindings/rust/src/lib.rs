@@ -32,6 +32,9 @@
 #[cfg(feature = "alloc")]
 extern crate alloc;
 
+#[allow(dead_code)]
+#[rustfmt::skip]
+mod codes;
 #[cfg_attr(feature = "alloc", path = "owned.rs")]
 #[cfg_attr(not(feature = "alloc"), path = "borrowed.rs")]
 mod composites;

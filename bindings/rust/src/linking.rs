@@ -1,4 +1,5 @@
 //! Sections for linkers.
+use crate::codes::{comdat_kind, symbol_kind};
 use crate::section::call;
 use crate::{BinaryReader, FromReader, Lead, Result, SectionLimited, SegmentFlags, Subsection, Subsections, SymbolFlags};
 use core::ops::Range;
@@ -182,12 +183,12 @@ impl ComdatSymbolKind {
     /// The kind with this number.
     fn of(number: u32) -> Option<Self> {
         Some(match number {
-            0 => ComdatSymbolKind::Data,
-            1 => ComdatSymbolKind::Func,
-            2 => ComdatSymbolKind::Global,
-            3 => ComdatSymbolKind::Event,
-            4 => ComdatSymbolKind::Table,
-            5 => ComdatSymbolKind::Section,
+            comdat_kind::DATA => ComdatSymbolKind::Data,
+            comdat_kind::FUNC => ComdatSymbolKind::Func,
+            comdat_kind::GLOBAL => ComdatSymbolKind::Global,
+            comdat_kind::EVENT => ComdatSymbolKind::Event,
+            comdat_kind::TABLE => ComdatSymbolKind::Table,
+            comdat_kind::SECTION => ComdatSymbolKind::Section,
             _ => return None,
         })
     }
@@ -248,11 +249,11 @@ impl<'a> FromReader<'a> for SymbolInfo<'a> {
         let name = (plain.has_name != 0).then(|| window.text(plain.name));
         let place = DefinedDataSymbol { index, offset: plain.data_offset, size: plain.data_size };
         let symbol = match plain.kind {
-            0 => SymbolInfo::Func { flags, index, name },
-            1 => SymbolInfo::Data { flags, name: name.unwrap_or_default(), symbol: (plain.is_defined != 0).then_some(place) },
-            2 => SymbolInfo::Global { flags, index, name },
-            3 => SymbolInfo::Section { flags, section: index },
-            4 => SymbolInfo::Event { flags, index, name },
+            symbol_kind::FUNC => SymbolInfo::Func { flags, index, name },
+            symbol_kind::DATA => SymbolInfo::Data { flags, name: name.unwrap_or_default(), symbol: (plain.is_defined != 0).then_some(place) },
+            symbol_kind::GLOBAL => SymbolInfo::Global { flags, index, name },
+            symbol_kind::SECTION => SymbolInfo::Section { flags, section: index },
+            symbol_kind::EVENT => SymbolInfo::Event { flags, index, name },
             _ => SymbolInfo::Table { flags, index, name },
         };
         Ok(symbol)

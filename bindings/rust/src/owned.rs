@@ -1,4 +1,5 @@
 //! Items that own lists.
+use crate::codes::composite_kind;
 use crate::error::Result;
 use crate::section::call;
 use crate::types::type_index;
@@ -197,8 +198,8 @@ impl<'a> FromReader<'a> for SubType {
     fn from_reader(reader: &mut BinaryReader<'a>) -> Result<Self> {
         let (_, head) = call!(subtype, reader);
         let inner = match head.kind {
-            0 => CompositeInnerType::Func(FuncType::read(reader, head.count)?),
-            1 => CompositeInnerType::Array(reader.read()?),
+            composite_kind::FUNC => CompositeInnerType::Func(FuncType::read(reader, head.count)?),
+            composite_kind::ARRAY => CompositeInnerType::Array(reader.read()?),
             _ => CompositeInnerType::Struct(StructType { fields: read_items(reader, head.count, FieldType::from_reader, FieldType::from_reader)?.into() }),
         };
         let supertype_idx = (head.has_supertype != 0).then(|| type_index(head.supertype));

@@ -1,4 +1,5 @@
 //! The parser.
+use crate::codes::event_kind;
 use crate::payload::payload;
 use crate::section::Window;
 use crate::{BinaryReader, Error, Payload, Result, WasmFeatures, library};
@@ -96,8 +97,8 @@ impl Parser {
         let before = Window { bytes: data, offset: self.0.offset, features: self.0.features };
         let event = library::parse(&mut self.0, data, eof);
         match event.kind {
-            0 => Ok(Chunk::NeedMoreData(usize::try_from(event.hint).unwrap_or(usize::MAX))),
-            10 => Err(Error::reported(event.fault)),
+            event_kind::NEED_MORE => Ok(Chunk::NeedMoreData(usize::try_from(event.hint).unwrap_or(usize::MAX))),
+            event_kind::FAULT => Err(Error::reported(event.fault)),
             _ => Ok(Chunk::Parsed { consumed: event.consumed as usize, payload: payload(before, &event)? }),
         }
     }

@@ -1,4 +1,5 @@
 //! Payloads: the parts of a stream.
+use crate::codes::event_kind;
 use crate::composites::{Func, RecGroups};
 use crate::library::{Event, Span};
 use crate::section::Window;
@@ -231,17 +232,17 @@ pub(crate) fn payload<'a>(before: Window<'a>, event: &Event) -> Result<Payload<'
     let size = event.end.min(before.range().end) - event.start;
     let window = before.part(Span { at: event.start - before.offset, size });
     Ok(match event.kind {
-        1 => {
+        event_kind::VERSION => {
             let encoding = if event.id == 0 { Encoding::Module } else { Encoding::Component };
             Payload::Version { num: event.count as u16, encoding, range }
         }
-        2 => return counted(event.id, window),
-        3 => Payload::StartSection { func: event.count, range },
-        4 => Payload::DataCountSection { count: event.count, range },
-        5 => Payload::CodeSectionStart { count: event.count, unchecked_range: range, size: event.size },
-        6 => Payload::CodeSectionEntry(FunctionBody { window }),
-        7 => Payload::CustomSection(CustomSectionReader::of(window, event.data_offset, event.name_size)),
-        9 => Payload::End(event.start),
+        event_kind::SECTION => return counted(event.id, window),
+        event_kind::START => Payload::StartSection { func: event.count, range },
+        event_kind::DATA_COUNT => Payload::DataCountSection { count: event.count, range },
+        event_kind::CODE => Payload::CodeSectionStart { count: event.count, unchecked_range: range, size: event.size },
+        event_kind::BODY => Payload::CodeSectionEntry(FunctionBody { window }),
+        event_kind::CUSTOM => Payload::CustomSection(CustomSectionReader::of(window, event.data_offset, event.name_size)),
+        event_kind::END => Payload::End(event.start),
         _ => Payload::UnknownSection { id: event.id as u8, contents: window.bytes, range },
     })
 }

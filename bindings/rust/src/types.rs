@@ -1,4 +1,5 @@
 //! Value types, reference types and heap types.
+use crate::codes::{heap_kind, type_kind};
 use crate::section::call;
 use crate::{BinaryReader, Error, Fault, FromReader, Lead, Result, library};
 use core::fmt;
@@ -81,9 +82,10 @@ pub struct RefType {
     heap: HeapType,
 }
 
-/// The abstract heap types: of each the constants of its nullable reference and of the other one, and the short form of the former.
+/// The abstract heap types. Of each: the constants of its nullable reference and of the other one, its name, the short form of the nullable
+/// reference, and its name in the C library.
 macro_rules! abstract_types {
-    ($($(#[$doc:meta])* $number:literal $name:ident $constant:ident $nullable:ident $other:ident $text:literal $short:literal,)*) => {
+    ($($(#[$doc:meta])* $name:ident $constant:ident $nullable:ident $other:ident $text:literal $short:literal $(= $code:ident)?,)*) => {
         /// A heap type that is not defined in a module.
         #[derive(Clone, Copy, Debug, PartialEq, Eq, Hash, PartialOrd, Ord)]
         pub enum AbstractHeapType {
@@ -94,7 +96,7 @@ macro_rules! abstract_types {
             /// The type with this number in the C library.
             fn of(number: u32) -> Option<Self> {
                 Some(match number {
-                    $($number => AbstractHeapType::$name,)*
+                    $($(heap_kind::$code => AbstractHeapType::$name,)?)*
                     _ => return None,
                 })
             }
@@ -134,36 +136,36 @@ macro_rules! abstract_types {
     };
 }
 
-// The last two have no number in the library, which reads no continuations.
+// Continuations have no number in the library, which does not read them.
 abstract_types! {
     /// Any function.
-    0 Func FUNC FUNCREF FUNC "func" "funcref",
+    Func FUNC FUNCREF FUNC "func" "funcref" = FUNC,
     /// Any value of the host.
-    1 Extern EXTERN EXTERNREF EXTERN "extern" "externref",
+    Extern EXTERN EXTERNREF EXTERN "extern" "externref" = EXTERN,
     /// Any value of the module.
-    2 Any ANY ANYREF ANY "any" "anyref",
+    Any ANY ANYREF ANY "any" "anyref" = ANY,
     /// No value: the bottom type below `Any`.
-    8 None NONE NULLREF NONE "none" "nullref",
+    None NONE NULLREF NONE "none" "nullref" = NONE,
     /// No value: the bottom type below `Extern`.
-    9 NoExtern NOEXTERN NULLEXTERNREF NOEXTERN "noextern" "nullexternref",
+    NoExtern NOEXTERN NULLEXTERNREF NOEXTERN "noextern" "nullexternref" = NO_EXTERN,
     /// No value: the bottom type below `Func`.
-    10 NoFunc NOFUNC NULLFUNCREF NOFUNC "nofunc" "nullfuncref",
+    NoFunc NOFUNC NULLFUNCREF NOFUNC "nofunc" "nullfuncref" = NO_FUNC,
     /// Any value that can be compared.
-    3 Eq EQ EQREF EQ "eq" "eqref",
+    Eq EQ EQREF EQ "eq" "eqref" = EQ,
     /// Any structure.
-    5 Struct STRUCT STRUCTREF STRUCT "struct" "structref",
+    Struct STRUCT STRUCTREF STRUCT "struct" "structref" = STRUCT,
     /// Any array.
-    6 Array ARRAY ARRAYREF ARRAY "array" "arrayref",
+    Array ARRAY ARRAYREF ARRAY "array" "arrayref" = ARRAY,
     /// An integer of 31 bits.
-    4 I31 I31 I31REF I31 "i31" "i31ref",
+    I31 I31 I31REF I31 "i31" "i31ref" = I31,
     /// An exception.
-    7 Exn EXN EXNREF EXN "exn" "exnref",
+    Exn EXN EXNREF EXN "exn" "exnref" = EXN,
     /// No value: the bottom type below `Exn`.
-    11 NoExn NOEXN NULLEXNREF NOEXN "noexn" "nullexnref",
+    NoExn NOEXN NULLEXNREF NOEXN "noexn" "nullexnref" = NO_EXN,
     /// A continuation. This crate never returns it.
-    0xffff_fffe Cont CONT CONTREF CONT "cont" "contref",
+    Cont CONT CONTREF CONT "cont" "contref",
     /// No value: the bottom type below `Cont`. This crate never returns it.
-    0xffff_ffff NoCont NOCONT NULLCONTREF NOCONT "nocont" "nullcontref",
+    NoCont NOCONT NULLCONTREF NOCONT "nocont" "nullcontref",
 }
 
 impl RefType {
@@ -395,11 +397,11 @@ pub(crate) fn ref_type(ty: library::Type) -> RefType {
 
 pub(crate) fn val_type(ty: library::Type) -> ValType {
     match ty.kind {
-        0 => ValType::I32,
-        1 => ValType::I64,
-        2 => ValType::F32,
-        3 => ValType::F64,
-        4 => ValType::V128,
+        type_kind::I32 => ValType::I32,
+        type_kind::I64 => ValType::I64,
+        type_kind::F32 => ValType::F32,
+        type_kind::F64 => ValType::F64,
+        type_kind::V128 => ValType::V128,
         _ => ValType::Ref(ref_type(ty)),
     }
 }
@@ -452,8 +454,8 @@ impl<'a> FromReader<'a> for FieldType {
     fn from_reader(reader: &mut BinaryReader<'a>) -> Result<Self> {
         let (_, plain) = call!(field_type, reader);
         let element_type = match plain.ty.kind {
-            6 => StorageType::I8,
-            7 => StorageType::I16,
+            type_kind::I8 => StorageType::I8,
+            type_kind::I16 => StorageType::I16,
             _ => StorageType::Val(val_type(plain.ty)),
         };
         Ok(FieldType { element_type, mutable: plain.is_mutable != 0 })
