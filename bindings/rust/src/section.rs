@@ -216,19 +216,16 @@ impl<'a, T: FromReader<'a>> Iterator for SectionLimitedIntoIter<'a, T> {
         Some(item)
     }
 
-    /// The number of remaining items, as announced. The lower bound is no more than the remaining bytes: a count alone allocates nothing.
+    /// The announced number of remaining items, but at most one more than the number of remaining bytes: a malformed count allocates nothing.
     fn size_hint(&self) -> (usize, Option<usize>) {
-        let left = self.len();
-        (left.min(self.section.rest.bytes.len()), Some(left))
+        let most = self.section.rest.bytes.len().saturating_add(1);
+        let left = if self.ended { 0 } else { most.min(self.left as usize) };
+        (left, Some(left))
     }
 }
 
-/// The length is the announced one. An error may end the iteration earlier, or follow the last item if the section has trailing bytes.
-impl<'a, T: FromReader<'a>> ExactSizeIterator for SectionLimitedIntoIter<'a, T> {
-    fn len(&self) -> usize {
-        if self.ended { 0 } else { self.left as usize }
-    }
-}
+/// The length is that of a well-formed section. An error may end the iteration earlier, or follow the last item if there are trailing bytes.
+impl<'a, T: FromReader<'a>> ExactSizeIterator for SectionLimitedIntoIter<'a, T> {}
 
 impl<'a, T: FromReader<'a>> FusedIterator for SectionLimitedIntoIter<'a, T> {}
 
@@ -257,11 +254,7 @@ impl<'a, T: FromReader<'a>> Iterator for SectionLimitedIntoIterWithOffsets<'a, T
     }
 }
 
-/// The length is the announced one, as that of [`SectionLimitedIntoIter`].
-impl<'a, T: FromReader<'a>> ExactSizeIterator for SectionLimitedIntoIterWithOffsets<'a, T> {
-    fn len(&self) -> usize {
-        self.items.len()
-    }
-}
+/// The length is that of [`SectionLimitedIntoIter`].
+impl<'a, T: FromReader<'a>> ExactSizeIterator for SectionLimitedIntoIterWithOffsets<'a, T> {}
 
 impl<'a, T: FromReader<'a>> FusedIterator for SectionLimitedIntoIterWithOffsets<'a, T> {}

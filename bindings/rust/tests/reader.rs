@@ -94,10 +94,10 @@ fn bounds_of_items_that_are_left() {
         lengths.push(items.len());
         assert_eq!(items.next().map(|item| told(item, |item| item.to_string())).as_deref(), wanted);
     }
-    assert_eq!((hints, lengths), (vec![(2, Some(2)), (1, Some(1)), (0, Some(0)), (0, Some(0))], vec![2, 1, 0, 0]));
+    assert_eq!((hints, lengths), ([2, 1, 0, 0].map(|left| (left, Some(left))).to_vec(), vec![2, 1, 0, 0]));
     let mut items = SectionLimited::<bool>::new(BinaryReader::new(b"\xff\xff\xff\xff\x0f", 0)).unwrap().into_iter();
-    // A count alone allocates nothing.
-    assert_eq!((items.size_hint(), items.len()), ((0, Some(u32::MAX as usize)), u32::MAX as usize));
+    // A malformed count allocates nothing: no byte is there, so an error is all that can come.
+    assert_eq!((items.size_hint(), items.len()), ((1, Some(1)), 1));
     assert_eq!(items.next().unwrap().map_err(|error| fault(&error)), Err("fault 5 unexpected end-of-file".to_owned()));
     assert_eq!((items.next(), items.size_hint()), (None, (0, Some(0))));
 }
