@@ -13,7 +13,7 @@ fn show(payload: &Payload<'_>) {
         Payload::ExportSection(section) => ("exports", section.range(), section.count()),
         Payload::ElementSection(section) => ("elements", section.range(), section.count()),
         Payload::DataSection(section) => ("data", section.range(), section.count()),
-        Payload::CodeSectionStart { range, count, .. } => ("code", range.clone(), *count),
+        Payload::CodeSectionStart { unchecked_range, count, .. } => ("code", unchecked_range.clone(), *count),
         Payload::StartSection { range, .. } => ("start", range.clone(), 1),
         Payload::DataCountSection { range, .. } => ("data count", range.clone(), 1),
         Payload::CustomSection(section) => {

@@ -1,7 +1,8 @@
 //! Core dumps.
-use crate::error::CUSTOM_TRAILING;
+use crate::codes::core_value_kind;
+use crate::composites::{Frame, Items, read_items, read_list};
 use crate::section::call;
-use crate::{BinaryReader, FromReader, List, Result};
+use crate::{BinaryReader, Fault, FromReader, Ieee32, Ieee64, Result};
 
 /// The section `core`.
 #[derive(Clone, Copy, Debug, PartialEq, Eq, Hash)]
@@ -11,13 +12,13 @@ pub struct CoreDumpSection<'a> {
 }
 
 impl<'a> CoreDumpSection<'a> {
-    /// The section that a reader has left.
+    /// Reads the section from the remaining bytes of a reader.
     ///
     /// # Errors
-    /// The fault of the name, or of bytes after it.
+    /// If the name is malformed, or if bytes remain.
     pub fn new(mut reader: BinaryReader<'a>) -> Result<Self> {
-        let (window, plain) = call!(pulleynavy_read_core_process, reader);
-        reader.expect_end(CUSTOM_TRAILING)?;
+        let (window, plain) = call!(core_process, reader);
+        reader.expect_end(Fault::CustomTrailing)?;
         Ok(CoreDumpSection { name: window.text(plain.name) })
     }
 }
@@ -26,65 +27,28 @@ impl<'a> CoreDumpSection<'a> {
 #[derive(Clone, Debug)]
 pub struct CoreDumpModulesSection<'a> {
     /// The names of the modules.
-    pub modules: List<'a, &'a str>,
+    pub modules: Items<'a, &'a str>,
 }
 
 impl<'a> CoreDumpModulesSection<'a> {
-    /// The section that a reader has left.
+    /// Reads the section from the remaining bytes of a reader.
     ///
     /// # Errors
-    /// The fault of a module, or of bytes after the last one. The offset of `CoreStartByte` is that of the section's data, for a later module too.
+    /// If a module is malformed, or if bytes remain. The offset of `CoreStartByte` is that of the section's data, for a later module too.
     pub fn new(mut reader: BinaryReader<'a>) -> Result<Self> {
         let data_offset = reader.original_position();
         let count = reader.read_var_u32()?;
-        // Items that were read once have no fault, so the offset is not used when they are read again.
-        let modules = List::checked(&mut reader, count, |reader| module(reader, data_offset), |reader| module(reader, 0))?;
-        reader.expect_end(CUSTOM_TRAILING)?;
+        // Only a list that borrows reads its items again. They have no fault then, so the offset is not used.
+        let modules = read_items(&mut reader, count, |reader| module(reader, data_offset), |reader| module(reader, 0))?;
+        reader.expect_end(Fault::CustomTrailing)?;
         Ok(CoreDumpModulesSection { modules })
     }
 }
 
 /// The name of a module of the section whose data begins at this offset.
 fn module<'a>(reader: &mut BinaryReader<'a>, data_offset: u64) -> Result<&'a str> {
-    let (window, plain) = call!(pulleynavy_read_core_module, reader, data_offset);
+    let (window, plain) = call!(core_module, reader, data_offset);
     Ok(window.text(plain.name))
-}
-
-/// The section `coreinstances`.
-#[derive(Clone, Debug)]
-pub struct CoreDumpInstancesSection<'a> {
-    /// The instances.
-    pub instances: List<'a, CoreDumpInstance<'a>>,
-}
-
-impl<'a> CoreDumpInstancesSection<'a> {
-    /// The section that a reader has left.
-    ///
-    /// # Errors
-    /// The fault of an instance, or of bytes after the last one.
-    pub fn new(mut reader: BinaryReader<'a>) -> Result<Self> {
-        let instances = reader.read()?;
-        reader.expect_end(CUSTOM_TRAILING)?;
-        Ok(CoreDumpInstancesSection { instances })
-    }
-}
-
-/// An instance of a core dump.
-#[derive(Clone, Debug)]
-pub struct CoreDumpInstance<'a> {
-    /// The index of its module.
-    pub module_index: u32,
-    /// The indices of its memories.
-    pub memories: List<'a, u32>,
-    /// The indices of its globals.
-    pub globals: List<'a, u32>,
-}
-
-impl<'a> FromReader<'a> for CoreDumpInstance<'a> {
-    fn from_reader(reader: &mut BinaryReader<'a>) -> Result<Self> {
-        let (_, plain) = call!(pulleynavy_read_core_instance, reader);
-        Ok(CoreDumpInstance { module_index: plain.module_index, memories: reader.read()?, globals: reader.read()? })
-    }
 }
 
 /// The section `corestack`.
@@ -93,68 +57,45 @@ pub struct CoreDumpStackSection<'a> {
     /// The name of the thread.
     pub name: &'a str,
     /// Its frames.
-    pub frames: List<'a, CoreDumpStackFrame<'a>>,
+    pub frames: Items<'a, Frame<'a>>,
 }
 
 impl<'a> CoreDumpStackSection<'a> {
-    /// The section that a reader has left.
+    /// Reads the section from the remaining bytes of a reader.
     ///
     /// # Errors
-    /// The fault of the name or of a frame, or of bytes after the last one.
+    /// If the name or a frame is malformed, or if bytes remain.
     pub fn new(mut reader: BinaryReader<'a>) -> Result<Self> {
-        let (window, plain) = call!(pulleynavy_read_core_thread, reader);
-        let frames = reader.read()?;
-        reader.expect_end(CUSTOM_TRAILING)?;
+        let (window, plain) = call!(core_thread, reader);
+        let frames = read_list(&mut reader, Frame::from_reader)?;
+        reader.expect_end(Fault::CustomTrailing)?;
         Ok(CoreDumpStackSection { name: window.text(plain.name), frames })
-    }
-}
-
-/// A frame of a core dump.
-#[derive(Clone, Debug)]
-pub struct CoreDumpStackFrame<'a> {
-    /// The index of its instance.
-    pub instanceidx: u32,
-    /// The index of its function.
-    pub funcidx: u32,
-    /// Where its instruction is, in bytes from the start of the function's body.
-    pub codeoffset: u32,
-    /// Its locals.
-    pub locals: List<'a, CoreDumpValue>,
-    /// Its stack.
-    pub stack: List<'a, CoreDumpValue>,
-}
-
-impl<'a> FromReader<'a> for CoreDumpStackFrame<'a> {
-    fn from_reader(reader: &mut BinaryReader<'a>) -> Result<Self> {
-        let (_, plain) = call!(pulleynavy_read_core_frame, reader);
-        let (instanceidx, funcidx, codeoffset) = (plain.instance, plain.func, plain.code_offset);
-        Ok(CoreDumpStackFrame { instanceidx, funcidx, codeoffset, locals: reader.read()?, stack: reader.read()? })
     }
 }
 
 /// A value of a core dump.
 #[derive(Clone, Copy, Debug, PartialEq, Eq, Hash)]
 pub enum CoreDumpValue {
-    /// A value that is missing.
+    /// A missing value.
     Missing,
     /// An integer of 32 bits.
     I32(i32),
     /// An integer of 64 bits.
     I64(i64),
     /// The bits of a float of 32 bits.
-    F32(u32),
+    F32(Ieee32),
     /// The bits of a float of 64 bits.
-    F64(u64),
+    F64(Ieee64),
 }
 
 impl<'a> FromReader<'a> for CoreDumpValue {
     fn from_reader(reader: &mut BinaryReader<'a>) -> Result<Self> {
-        let (_, plain) = call!(pulleynavy_read_core_value, reader);
+        let (_, plain) = call!(core_value, reader);
         Ok(match plain.kind {
-            1 => CoreDumpValue::I32(plain.integer as i32),
-            2 => CoreDumpValue::I64(plain.integer),
-            3 => CoreDumpValue::F32(plain.bits as u32),
-            4 => CoreDumpValue::F64(plain.bits),
+            core_value_kind::I32 => CoreDumpValue::I32(plain.integer as i32),
+            core_value_kind::I64 => CoreDumpValue::I64(plain.integer),
+            core_value_kind::F32 => CoreDumpValue::F32(Ieee32(plain.bits as u32)),
+            core_value_kind::F64 => CoreDumpValue::F64(Ieee64(plain.bits)),
             _ => CoreDumpValue::Missing,
         })
     }

@@ -1,6 +1,7 @@
 //! Custom sections and subsections.
-use crate::section::{Window, call};
-use crate::{BinaryReader, Result, ffi};
+use crate::library::{self, Span};
+use crate::section::{Window, read_size};
+use crate::{BinaryReader, Error, Fault, Result};
 use core::fmt;
 use core::marker::PhantomData;
 use core::ops::Range;
@@ -21,19 +22,19 @@ impl fmt::Debug for CustomSectionReader<'_> {
 }
 
 impl<'a> CustomSectionReader<'a> {
-    /// The section whose content a reader has left.
+    /// Takes the remaining bytes of a reader as the content of a custom section.
     ///
     /// # Errors
-    /// The fault of the name.
+    /// If the name is malformed.
     pub fn new(mut reader: BinaryReader<'a>) -> Result<Self> {
         let whole = reader.rest;
         Ok(CustomSectionReader { whole, name: reader.read_string()?, data: reader.rest })
     }
 
-    /// The section that a window is, by where its data begins and how long the name before them is.
+    /// The section in a window, by the offset of its data and the size of the name before it.
     pub(crate) fn of(whole: Window<'a>, data_offset: u64, name_size: u64) -> Self {
         let at = data_offset - whole.offset;
-        let name = whole.text(ffi::Span { at: at - name_size, size: name_size });
+        let name = whole.text(Span { at: at - name_size, size: name_size });
         CustomSectionReader { whole, name, data: whole.after(at) }
     }
 
@@ -42,12 +43,12 @@ impl<'a> CustomSectionReader<'a> {
         self.name
     }
 
-    /// Its data, after the name.
+    /// Its data, which follows the name.
     pub fn data(&self) -> &'a [u8] {
         self.data.bytes
     }
 
-    /// A reader of its data.
+    /// Returns a reader of its data.
     pub fn data_reader(&self) -> BinaryReader<'a> {
         BinaryReader::of(self.data)
     }
@@ -68,27 +69,20 @@ impl<'a> CustomSectionReader<'a> {
     }
 }
 
-/// What a subsection can be read as.
+/// A type that can be read from a subsection.
 pub trait Subsection<'a>: Sized {
-    /// The subsection with this id and these bytes.
+    /// Reads the subsection with this id and these bytes.
     ///
     /// # Errors
-    /// The fault of what the bytes say.
+    /// If the content is malformed.
     fn from_reader(id: u8, reader: BinaryReader<'a>) -> Result<Self>;
 }
 
-/// A subsection after its id.
-impl<'a, T: Subsection<'a>> Subsection<'a> for (u8, T) {
-    fn from_reader(id: u8, reader: BinaryReader<'a>) -> Result<Self> {
-        Ok((id, T::from_reader(id, reader)?))
-    }
-}
-
-/// Subsections, up to the first fault of an id or a size. After a fault of what a subsection says the next one follows.
+/// An iterator over subsections. After an error it continues behind what was read: behind a subsection whose content is malformed, and
+/// behind the bytes of an id or a size that is malformed.
 pub struct Subsections<'a, T> {
     start: u64,
     rest: Window<'a>,
-    ended: bool,
     item: PhantomData<fn() -> T>,
 }
 
@@ -105,9 +99,9 @@ impl<T> fmt::Debug for Subsections<'_, T> {
 }
 
 impl<'a, T> Subsections<'a, T> {
-    /// The subsections that a reader has left.
+    /// Takes the remaining bytes of a reader as subsections.
     pub fn new(reader: BinaryReader<'a>) -> Self {
-        Subsections { start: reader.range().start, rest: reader.rest, ended: false, item: PhantomData }
+        Subsections { start: reader.range().start, rest: reader.rest, item: PhantomData }
     }
 
     /// The offset at which the next subsection begins.
@@ -115,14 +109,22 @@ impl<'a, T> Subsections<'a, T> {
         self.rest.offset
     }
 
-    /// The offsets of all bytes, those that were read among them.
+    /// The offsets of all bytes, also of those that were read.
     pub fn range(&self) -> Range<u64> {
         self.start..self.rest.range().end
     }
 
+    /// The id of the next one, if a byte remains.
+    pub(crate) fn next_id(&self) -> Option<u8> {
+        self.rest.bytes.first().copied()
+    }
+
     /// The id and the bytes of the next one.
     fn read(&mut self) -> Result<(u8, BinaryReader<'a>)> {
-        let (window, plain) = call!(pulleynavy_read_subsection, self);
+        let window = self.rest;
+        let plain = library::subsection(&window);
+        let size = read_size(&plain).inspect_err(|error| self.rest = window.after(malformed_size(error, window.offset)))?;
+        self.rest = window.after(size);
         Ok((plain.id as u8, BinaryReader::of(window.part(plain.contents))))
     }
 }
@@ -131,11 +133,16 @@ impl<'a, T: Subsection<'a>> Iterator for Subsections<'a, T> {
     type Item = Result<T>;
 
     fn next(&mut self) -> Option<Self::Item> {
-        if self.ended || self.rest.bytes.is_empty() {
+        if self.rest.bytes.is_empty() {
             return None;
         }
-        let part = self.read();
-        self.ended = part.is_err();
-        Some(part.and_then(|(id, reader)| T::from_reader(id, reader)))
+        Some(self.read().and_then(|(id, reader)| T::from_reader(id, reader)))
     }
+}
+
+/// How many bytes were read before an error of an id or a size at this offset.
+fn malformed_size(error: &Error, offset: u64) -> u64 {
+    let size = error.offset() - offset;
+    // The error is at a byte that was read, or where bytes are missing.
+    if error.fault() == Fault::UnexpectedEof { size } else { size + 1 }
 }

@@ -1,116 +1,152 @@
-//! Faults.
-use crate::ffi;
+//! Errors.
+use crate::{Fault, Lead, library};
 use core::fmt;
 
-/// What a call answers.
-pub type Result<T, E = BinaryReaderError> = core::result::Result<T, E>;
+/// The result of a read.
+pub type Result<T, E = Error> = core::result::Result<T, E>;
 
-// The kinds of faults that are found here, by their numbers.
-pub(crate) const UNEXPECTED_EOF: u32 = 2;
-pub(crate) const OFFSET_RANGE: u32 = 3;
-pub(crate) const STRING_SIZE: u32 = 20;
-pub(crate) const MALFORMED_UTF8: u32 = 21;
-pub(crate) const INVALID_U7: u32 = 22;
-pub(crate) const INVALID_BOOL: u32 = 23;
-pub(crate) const SIZE_MISMATCH: u32 = 24;
-const LEADING_BYTE: u32 = 25;
-pub(crate) const GLOBAL_FLAGS: u32 = 30;
-pub(crate) const NAMES_ORDER: u32 = 38;
-pub(crate) const INDIRECT_ORDER: u32 = 39;
-pub(crate) const NAME_SECTION_ORDER: u32 = 40;
-pub(crate) const NAME_TRAILING: u32 = 41;
-pub(crate) const CUSTOM_TRAILING: u32 = 46;
+/// Another name of [`Error`], from before it had this one.
+pub type BinaryReaderError = Error;
 
-/// What a byte begins that is no such thing, by its number.
+/// An error in the input: what it is, and at which offset.
+///
+/// Two errors are equal if their faults, offsets and numbers are.
 #[derive(Clone, Copy)]
-pub(crate) enum Lead {
-    ComdatSymbol = 2,
-    Reloc = 4,
-    External = 5,
-    Value = 6,
-    Reference = 7,
+pub struct Error {
+    fault: Fault,
+    offset: u64,
+    number: Option<u64>,
+    needed_hint: Option<usize>,
+    text: Text,
 }
 
-/// A fault of a stream: what it is, and where.
-#[derive(Clone, Copy)]
-pub struct BinaryReaderError {
-    fault: ffi::Fault,
-    text: [u8; 80],
-    size: usize,
-}
-
-impl BinaryReaderError {
-    pub(crate) fn new(fault: ffi::Fault) -> Self {
-        let mut text = [0; 80];
-        // SAFETY: the declaration is made from the sources; pointer and length are those of an array of our own.
-        let size = unsafe { ffi::pulleynavy_format_message(fault.kind, text.as_mut_ptr(), text.len()) };
-        BinaryReaderError { fault, text, size: size.min(80) }
+impl Error {
+    /// An error at an offset, without a number.
+    pub fn new(fault: Fault, offset: u64) -> Self {
+        Error { fault, offset, number: None, needed_hint: None, text: Text::EMPTY }
     }
 
-    /// A fault of this kind at this offset, without a number.
-    pub(crate) fn of_kind(kind: u32, offset: u64) -> Self {
-        BinaryReaderError::new(ffi::Fault { kind, has_number: 0, number: 0, offset })
+    /// The same error with this number, which its message then has.
+    pub fn with_number(self, number: u64) -> Self {
+        Error { number: Some(number), text: Text::of(self.fault, number), ..self }
     }
 
-    /// That a byte at this offset begins no such thing.
+    /// The error of a fault that the library reports.
+    #[cold]
+    pub(crate) fn reported(fault: library::Fault) -> Self {
+        let error = Error::new(Fault::of(fault.kind).expect("every kind of fault has a variant"), fault.offset);
+        if fault.has_number == 0 { error } else { error.with_number(fault.number) }
+    }
+
+    /// A byte at this offset begins nothing of this sort.
     pub(crate) fn leading_byte(lead: Lead, byte: u8, offset: u64) -> Self {
-        let kind = LEADING_BYTE | (lead as u32) << 8;
-        BinaryReaderError::new(ffi::Fault { kind, has_number: 1, number: byte.into(), offset })
+        Error::new(Fault::LeadingByte(lead), offset).with_number(byte.into())
     }
 
-    /// Whether it is that a byte begins no such thing.
-    pub(crate) fn is_leading_byte(&self, lead: Lead) -> bool {
-        self.fault.kind == LEADING_BYTE | (lead as u32) << 8
-    }
-
-    /// The same fault at another offset.
+    /// The same error at another offset.
     pub(crate) fn at(self, offset: u64) -> Self {
-        BinaryReaderError { fault: ffi::Fault { offset, ..self.fault }, ..self }
+        Error { offset, ..self }
     }
 
-    /// The text of the fault.
+    /// The same error with this hint.
+    pub(crate) fn with_hint(self, hint: usize) -> Self {
+        Error { needed_hint: Some(hint), ..self }
+    }
+
+    /// The same error without a hint.
+    pub fn without_needed_hint(self) -> Self {
+        Error { needed_hint: None, ..self }
+    }
+
+    /// What is wrong.
+    pub fn fault(&self) -> Fault {
+        self.fault
+    }
+
+    /// The text of the error, with its number if it has one.
     pub fn message(&self) -> &str {
-        core::str::from_utf8(&self.text[..self.size]).unwrap_or_default()
+        if self.number.is_some() { self.text.as_str() } else { self.fault.message() }
     }
 
-    /// Where it is, in bytes from the start of the whole stream.
+    /// The offset, in bytes from the start of the whole stream.
     pub fn offset(&self) -> u64 {
-        self.fault.offset
+        self.offset
     }
 
-    /// The number that belongs to it, if there is one.
+    /// The number that belongs to the fault, if there is one: a version, a length, or the byte that was read.
     pub fn number(&self) -> Option<u64> {
-        (self.fault.has_number != 0).then_some(self.fault.number)
+        self.number
     }
 
-    /// The number of its kind, in the lowest 8 bits, and above them that of what it names. Neither changes.
+    /// How many more bytes a read of a [`BinaryReader`](crate::BinaryReader) would have taken at least, if it failed at the end of its input.
+    ///
+    /// Reads of whole items have no hint.
+    pub fn needed_hint(&self) -> Option<usize> {
+        self.needed_hint
+    }
+
+    /// The number of the fault in the C library: in the lowest 8 bits its kind, and above them what it names.
     pub fn code(&self) -> u32 {
-        self.fault.kind
+        self.fault.code()
     }
 }
 
-impl PartialEq for BinaryReaderError {
+impl PartialEq for Error {
     fn eq(&self, other: &Self) -> bool {
-        (self.code(), self.offset(), self.number()) == (other.code(), other.offset(), other.number())
+        (self.fault, self.offset, self.number) == (other.fault, other.offset, other.number)
     }
 }
 
-impl Eq for BinaryReaderError {}
+impl Eq for Error {}
 
-impl fmt::Debug for BinaryReaderError {
+impl fmt::Debug for Error {
     fn fmt(&self, f: &mut fmt::Formatter<'_>) -> fmt::Result {
-        f.debug_struct("BinaryReaderError").field("message", &self.message()).field("number", &self.number()).field("offset", &self.offset()).finish()
+        f.debug_struct("Error").field("message", &self.message()).field("offset", &self.offset).finish()
     }
 }
 
-impl fmt::Display for BinaryReaderError {
+impl fmt::Display for Error {
     fn fmt(&self, f: &mut fmt::Formatter<'_>) -> fmt::Result {
-        f.write_str(self.message())?;
-        if let Some(number) = self.number() {
-            write!(f, ": {number}")?;
-        }
-        write!(f, " (at offset 0x{:x})", self.offset())
+        write!(f, "{} (at offset 0x{:x})", self.message(), self.offset)
     }
 }
 
-impl core::error::Error for BinaryReaderError {}
+impl core::error::Error for Error {}
+
+/// A message with a number, at most 72 bytes of it.
+#[derive(Clone, Copy)]
+struct Text {
+    bytes: [u8; 72],
+    size: u8,
+}
+
+impl Text {
+    const EMPTY: Text = Text { bytes: [0; 72], size: 0 };
+
+    /// The message of a fault with this number.
+    fn of(fault: Fault, number: u64) -> Self {
+        use fmt::Write;
+        let mut text = Text::EMPTY;
+        // No message is cut: the longest has 62 bytes.
+        let _ = match fault {
+            Fault::UnknownVersion => write!(text, "{}: {number:#10x}", fault.message()),
+            Fault::LeadingByte(_) => write!(text, "invalid leading byte (0x{number:x}){}", &fault.message()["invalid leading byte".len()..]),
+            _ => write!(text, "{}: {number}", fault.message()),
+        };
+        text
+    }
+
+    fn as_str(&self) -> &str {
+        core::str::from_utf8(&self.bytes[..self.size.into()]).unwrap_or_default()
+    }
+}
+
+impl fmt::Write for Text {
+    fn write_str(&mut self, text: &str) -> fmt::Result {
+        let start = usize::from(self.size);
+        let room = self.bytes.get_mut(start..start + text.len()).ok_or(fmt::Error)?;
+        room.copy_from_slice(text.as_bytes());
+        self.size += text.len() as u8;
+        Ok(())
+    }
+}

@@ -1,10 +1,11 @@
 //! Imports.
-use crate::ffi;
+use crate::codes::{external_kind, import_kind};
 use crate::kinds::{exception_tag, global_type, memory_type, table_type};
+use crate::library;
 use crate::section::{SectionLimitedIntoIter, SectionLimitedIntoIterWithOffsets, call};
 use crate::{BinaryReader, ExternalKind, FromReader, GlobalType, MemoryType, Result, SectionLimited, TableType, TagType};
 
-/// What is imported, with its type.
+/// The type of an import.
 #[derive(Clone, Copy, Debug, PartialEq, Eq, Hash)]
 pub enum TypeRef {
     /// A function, with the index of its type.
@@ -64,13 +65,13 @@ pub enum Imports<'a> {
     },
 }
 
-fn type_ref(ty: &ffi::ImportType) -> TypeRef {
+fn type_ref(ty: &library::ImportType) -> TypeRef {
     match ty.kind {
-        0 => TypeRef::Func(ty.index),
-        1 => TypeRef::Table(table_type(ty.table)),
-        2 => TypeRef::Memory(memory_type(ty.memory)),
-        3 => TypeRef::Global(global_type(ty.global)),
-        4 => TypeRef::Tag(exception_tag(ty.index)),
+        external_kind::FUNC => TypeRef::Func(ty.index),
+        external_kind::TABLE => TypeRef::Table(table_type(ty.table)),
+        external_kind::MEMORY => TypeRef::Memory(memory_type(ty.memory)),
+        external_kind::GLOBAL => TypeRef::Global(global_type(ty.global)),
+        external_kind::TAG => TypeRef::Tag(exception_tag(ty.index)),
         _ => TypeRef::FuncExact(ty.index),
     }
 }
@@ -88,7 +89,7 @@ impl<'a> FromReader<'a> for TypeRef {
     }
 }
 
-/// An import by itself, which begins no group.
+/// A single import, which begins no group.
 impl<'a> FromReader<'a> for Import<'a> {
     fn from_reader(reader: &mut BinaryReader<'a>) -> Result<Self> {
         Ok(Import { module: reader.read()?, name: reader.read()?, ty: reader.read()? })
@@ -97,11 +98,11 @@ impl<'a> FromReader<'a> for Import<'a> {
 
 impl<'a> FromReader<'a> for Imports<'a> {
     fn from_reader(reader: &mut BinaryReader<'a>) -> Result<Self> {
-        let (window, plain) = call!(pulleynavy_read_import, reader);
+        let (window, plain) = call!(import, reader);
         let (module, ty) = (window.text(plain.module_name), type_ref(&plain.ty));
         let group = match plain.kind {
-            0 => Imports::Single(window.offset, Import { module, name: window.text(plain.name), ty }),
-            1 => Imports::Compact1 { module, items: SectionLimited::list(window, plain.items, plain.count) },
+            import_kind::SINGLE => Imports::Single(window.offset, Import { module, name: window.text(plain.name), ty }),
+            import_kind::BUNDLE => Imports::Compact1 { module, items: SectionLimited::list(window, plain.items, plain.count) },
             _ => Imports::Compact2 { module, ty, names: SectionLimited::list(window, plain.items, plain.count) },
         };
         Ok(group)
@@ -110,12 +111,12 @@ impl<'a> FromReader<'a> for Imports<'a> {
 
 impl<'a> FromReader<'a> for ImportItemCompact<'a> {
     fn from_reader(reader: &mut BinaryReader<'a>) -> Result<Self> {
-        let (window, plain) = call!(pulleynavy_read_import_item, reader);
+        let (window, plain) = call!(import_item, reader);
         Ok(ImportItemCompact { name: window.text(plain.name), ty: type_ref(&plain.ty) })
     }
 }
 
-/// What is left of a group.
+/// The remaining imports of a group.
 #[derive(Clone, Debug)]
 enum Left<'a> {
     One(Option<(u64, Import<'a>)>),
@@ -123,7 +124,7 @@ enum Left<'a> {
     OfType(&'a str, TypeRef, SectionLimitedIntoIterWithOffsets<'a, &'a str>),
 }
 
-/// The imports of a group one by one, each with its offset.
+/// An iterator over the imports of a group, each with its offset.
 #[derive(Clone, Debug)]
 pub struct ImportsIter<'a>(Left<'a>);
 
@@ -158,7 +159,7 @@ impl<'a> Iterator for ImportsIter<'a> {
     }
 }
 
-/// The imports of a section one by one, whatever groups they are in, each with its offset.
+/// An iterator over the imports of a section, each with its offset. Groups are flattened.
 #[derive(Clone, Debug)]
 pub struct IntoImportsWithOffsets<'a> {
     groups: SectionLimitedIntoIter<'a, Imports<'a>>,
@@ -182,12 +183,12 @@ impl<'a> Iterator for IntoImportsWithOffsets<'a> {
 }
 
 impl<'a> SectionLimited<'a, Imports<'a>> {
-    /// The imports one by one, whatever groups they are in.
+    /// Iterates over the imports. Groups are flattened.
     pub fn into_imports(self) -> impl Iterator<Item = Result<Import<'a>>> {
         self.into_imports_with_offsets().map(|import| import.map(|(_, import)| import))
     }
 
-    /// The same, each with its offset. After a fault inside a group the next group follows.
+    /// Iterates over the imports, each with its offset. Groups are flattened. After an error inside a group the next group follows.
     pub fn into_imports_with_offsets(self) -> IntoImportsWithOffsets<'a> {
         IntoImportsWithOffsets { groups: self.into_iter(), group: ImportsIter(Left::One(None)) }
     }

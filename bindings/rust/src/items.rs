@@ -1,29 +1,30 @@
 //! Tables, globals, exports and segments.
-use crate::error::Lead;
+use crate::codes::{data_kind, element_kind, external_kind};
 use crate::kinds::{global_type, table_type};
+use crate::library::Span;
 use crate::section::{Window, call};
 use crate::types::ref_type;
-use crate::{BinaryReader, FromReader, GlobalType, RefType, Result, SectionLimited, TableType, ffi};
+use crate::{BinaryReader, FromReader, GlobalType, Lead, RefType, Result, SectionLimited, TableType};
 use core::ops::Range;
 
-/// A constant expression: its instructions, with the end.
+/// A constant expression: its instructions, with the final `end`.
 #[derive(Clone, Copy, Debug)]
 pub struct ConstExpr<'a> {
     window: Window<'a>,
 }
 
 impl<'a> ConstExpr<'a> {
-    /// The expression that a reader has left, which isn't looked at.
+    /// Takes the remaining bytes of a reader as an expression, without reading them.
     pub fn new(reader: BinaryReader<'a>) -> Self {
         ConstExpr { window: reader.rest }
     }
 
-    /// A reader of its bytes.
+    /// Returns a reader of its bytes.
     pub fn get_binary_reader(&self) -> BinaryReader<'a> {
         BinaryReader::of(self.window)
     }
 
-    /// Its offsets.
+    /// The offsets of its bytes.
     pub fn range(&self) -> Range<u64> {
         self.window.range()
     }
@@ -36,8 +37,8 @@ impl<'a> ConstExpr<'a> {
 
 impl<'a> FromReader<'a> for ConstExpr<'a> {
     fn from_reader(reader: &mut BinaryReader<'a>) -> Result<Self> {
-        let (window, plain) = call!(pulleynavy_read_expression, reader);
-        Ok(ConstExpr { window: window.part(ffi::Span { at: 0, size: plain.consumed }) })
+        let (window, plain) = call!(expression, reader);
+        Ok(ConstExpr { window: window.part(Span { at: 0, size: plain.consumed }) })
     }
 }
 
@@ -46,11 +47,11 @@ impl<'a> FromReader<'a> for ConstExpr<'a> {
 pub struct Table<'a> {
     /// Its type.
     pub ty: TableType,
-    /// What each of its elements is at first.
+    /// The initial value of its elements.
     pub init: TableInit<'a>,
 }
 
-/// What each element of a table is at first.
+/// The initial value of the elements of a table.
 #[derive(Clone, Debug)]
 pub enum TableInit<'a> {
     /// A null reference.
@@ -61,7 +62,7 @@ pub enum TableInit<'a> {
 
 impl<'a> FromReader<'a> for Table<'a> {
     fn from_reader(reader: &mut BinaryReader<'a>) -> Result<Self> {
-        let (window, plain) = call!(pulleynavy_read_table, reader);
+        let (window, plain) = call!(table, reader);
         let init = if plain.has_init == 0 { TableInit::RefNull } else { TableInit::Expr(ConstExpr { window: window.part(plain.init) }) };
         Ok(Table { ty: table_type(plain.ty), init })
     }
@@ -72,13 +73,13 @@ impl<'a> FromReader<'a> for Table<'a> {
 pub struct Global<'a> {
     /// Its type.
     pub ty: GlobalType,
-    /// The expression of its first value.
+    /// The expression of its initial value.
     pub init_expr: ConstExpr<'a>,
 }
 
 impl<'a> FromReader<'a> for Global<'a> {
     fn from_reader(reader: &mut BinaryReader<'a>) -> Result<Self> {
-        let (window, plain) = call!(pulleynavy_read_global, reader);
+        let (window, plain) = call!(global, reader);
         Ok(Global { ty: global_type(plain.ty), init_expr: ConstExpr { window: window.part(plain.init) } })
     }
 }
@@ -110,14 +111,14 @@ impl<'a> FromReader<'a> for ExternalKind {
 }
 
 impl ExternalKind {
-    /// The kind with this number, which isn't that of an exact function.
+    /// The kind with this number, except that of an exact function.
     fn of(number: u32) -> Option<Self> {
         Some(match number {
-            0 => ExternalKind::Func,
-            1 => ExternalKind::Table,
-            2 => ExternalKind::Memory,
-            3 => ExternalKind::Global,
-            4 => ExternalKind::Tag,
+            external_kind::FUNC => ExternalKind::Func,
+            external_kind::TABLE => ExternalKind::Table,
+            external_kind::MEMORY => ExternalKind::Memory,
+            external_kind::GLOBAL => ExternalKind::Global,
+            external_kind::TAG => ExternalKind::Tag,
             _ => return None,
         })
     }
@@ -130,13 +131,13 @@ pub struct Export<'a> {
     pub name: &'a str,
     /// What it is.
     pub kind: ExternalKind,
-    /// Its index among those of its kind.
+    /// Its index in the index space of its kind.
     pub index: u32,
 }
 
 impl<'a> FromReader<'a> for Export<'a> {
     fn from_reader(reader: &mut BinaryReader<'a>) -> Result<Self> {
-        let (window, plain) = call!(pulleynavy_read_export, reader);
+        let (window, plain) = call!(export, reader);
         let kind = ExternalKind::of(plain.kind).unwrap_or(ExternalKind::FuncExact);
         Ok(Export { name: window.text(plain.name), kind, index: plain.index })
     }
@@ -145,7 +146,7 @@ impl<'a> FromReader<'a> for Export<'a> {
 /// An element segment.
 #[derive(Clone, Debug)]
 pub struct Element<'a> {
-    /// What becomes of it.
+    /// Passive, active or declared.
     pub kind: ElementKind<'a>,
     /// Its elements.
     pub items: ElementItems<'a>,
@@ -153,16 +154,16 @@ pub struct Element<'a> {
     pub range: Range<u64>,
 }
 
-/// What becomes of an element segment.
+/// The mode of an element segment.
 #[derive(Clone, Debug)]
 pub enum ElementKind<'a> {
     /// Instructions copy it to tables.
     Passive,
-    /// It is copied to a table at first.
+    /// It is copied to a table when the module is instantiated.
     Active {
         /// The table's index, where it is written.
         table_index: Option<u32>,
-        /// The place in the table of the first element.
+        /// The index in the table of the first element.
         offset_expr: ConstExpr<'a>,
     },
     /// It only declares functions that are referred to.
@@ -180,10 +181,10 @@ pub enum ElementItems<'a> {
 
 impl<'a> FromReader<'a> for Element<'a> {
     fn from_reader(reader: &mut BinaryReader<'a>) -> Result<Self> {
-        let (window, plain) = call!(pulleynavy_read_element, reader);
+        let (window, plain) = call!(element, reader);
         let kind = match plain.kind {
-            0 => ElementKind::Passive,
-            1 => ElementKind::Active {
+            element_kind::PASSIVE => ElementKind::Passive,
+            element_kind::ACTIVE => ElementKind::Active {
                 table_index: (plain.has_table != 0).then_some(plain.table),
                 offset_expr: ConstExpr { window: window.part(plain.offset_expression) },
             },
@@ -201,7 +202,7 @@ impl<'a> FromReader<'a> for Element<'a> {
 /// A data segment.
 #[derive(Clone, Debug)]
 pub struct Data<'a> {
-    /// What becomes of it.
+    /// Passive, active or declared.
     pub kind: DataKind<'a>,
     /// Its bytes.
     pub data: &'a [u8],
@@ -209,12 +210,12 @@ pub struct Data<'a> {
     pub range: Range<u64>,
 }
 
-/// What becomes of a data segment.
+/// The mode of a data segment.
 #[derive(Clone, Debug)]
 pub enum DataKind<'a> {
     /// Instructions copy it to memories.
     Passive,
-    /// It is copied to a memory at first.
+    /// It is copied to a memory when the module is instantiated.
     Active {
         /// The memory's index.
         memory_index: u32,
@@ -225,9 +226,9 @@ pub enum DataKind<'a> {
 
 impl<'a> FromReader<'a> for Data<'a> {
     fn from_reader(reader: &mut BinaryReader<'a>) -> Result<Self> {
-        let (window, plain) = call!(pulleynavy_read_data, reader);
+        let (window, plain) = call!(data, reader);
         let kind = match plain.kind {
-            0 => DataKind::Passive,
+            data_kind::PASSIVE => DataKind::Passive,
             _ => DataKind::Active { memory_index: plain.memory, offset_expr: ConstExpr { window: window.part(plain.offset_expression) } },
         };
         let range = window.offset..reader.original_position();

@@ -1,8 +1,7 @@
 //! Types of tables, memories, globals and tags.
-use crate::error::{GLOBAL_FLAGS, Lead};
 use crate::section::call;
 use crate::types::{ref_type, val_type};
-use crate::{BinaryReader, BinaryReaderError, FromReader, RefType, Result, Table, ValType, ffi};
+use crate::{BinaryReader, Error, Fault, FromReader, Lead, RefType, Result, Table, ValType, library};
 
 /// The type of a table.
 #[derive(Clone, Copy, Debug, PartialEq, Eq, Hash)]
@@ -32,6 +31,25 @@ pub struct MemoryType {
     pub maximum: Option<u64>,
     /// The size of a page, as a power of two.
     pub page_size_log2: Option<u32>,
+}
+
+/// The type of the indices of a table, or the addresses of a memory.
+const fn index_type(is_64: bool) -> ValType {
+    if is_64 { ValType::I64 } else { ValType::I32 }
+}
+
+impl TableType {
+    /// The type of the indices of its elements.
+    pub fn index_type(&self) -> ValType {
+        index_type(self.table64)
+    }
+}
+
+impl MemoryType {
+    /// The type of its addresses.
+    pub fn index_type(&self) -> ValType {
+        index_type(self.memory64)
+    }
 }
 
 /// The type of a global.
@@ -66,12 +84,12 @@ pub(crate) fn exception_tag(func_type_idx: u32) -> TagType {
     TagType { kind: TagKind::Exception, func_type_idx }
 }
 
-pub(crate) fn table_type(ty: ffi::TableType) -> TableType {
+pub(crate) fn table_type(ty: library::TableType) -> TableType {
     let maximum = (ty.has_maximum != 0).then_some(ty.maximum);
     TableType { element_type: ref_type(ty.element), table64: ty.table64 != 0, initial: ty.initial, maximum, shared: ty.shared != 0 }
 }
 
-pub(crate) fn memory_type(ty: ffi::MemoryType) -> MemoryType {
+pub(crate) fn memory_type(ty: library::MemoryType) -> MemoryType {
     MemoryType {
         memory64: ty.memory64 != 0,
         shared: ty.shared != 0,
@@ -81,7 +99,7 @@ pub(crate) fn memory_type(ty: ffi::MemoryType) -> MemoryType {
     }
 }
 
-pub(crate) fn global_type(ty: ffi::GlobalType) -> GlobalType {
+pub(crate) fn global_type(ty: library::GlobalType) -> GlobalType {
     GlobalType { content_type: val_type(ty.content), mutable: ty.is_mutable != 0, shared: ty.shared != 0 }
 }
 
@@ -91,7 +109,7 @@ const WITH_EXPRESSION: u8 = 0x40;
 impl<'a> FromReader<'a> for TableType {
     fn from_reader(reader: &mut BinaryReader<'a>) -> Result<Self> {
         if reader.peek()? == WITH_EXPRESSION {
-            return Err(BinaryReaderError::leading_byte(Lead::Reference, WITH_EXPRESSION, reader.original_position()));
+            return Err(Error::leading_byte(Lead::Reference, WITH_EXPRESSION, reader.original_position()));
         }
         Ok(reader.read::<Table>()?.ty)
     }
@@ -103,21 +121,21 @@ impl<'a> FromReader<'a> for GlobalType {
         let offset = reader.original_position();
         match reader.read_u8()? {
             flags @ 0..=3 => Ok(GlobalType { content_type, mutable: flags & 1 != 0, shared: flags & 2 != 0 }),
-            _ => Err(BinaryReaderError::of_kind(GLOBAL_FLAGS, offset)),
+            _ => Err(Error::new(Fault::GlobalFlags, offset)),
         }
     }
 }
 
 impl<'a> FromReader<'a> for MemoryType {
     fn from_reader(reader: &mut BinaryReader<'a>) -> Result<Self> {
-        let (_, plain) = call!(pulleynavy_read_memory, reader);
+        let (_, plain) = call!(memory, reader);
         Ok(memory_type(plain.ty))
     }
 }
 
 impl<'a> FromReader<'a> for TagType {
     fn from_reader(reader: &mut BinaryReader<'a>) -> Result<Self> {
-        let (_, plain) = call!(pulleynavy_read_tag, reader);
+        let (_, plain) = call!(tag, reader);
         Ok(exception_tag(plain.func_type_index))
     }
 }

@@ -1,12 +1,14 @@
 //! Custom sections that are known by their names.
-use crate::cores::{CoreDumpInstancesSection, CoreDumpModulesSection, CoreDumpSection, CoreDumpStackSection};
+use crate::codes::custom_kind;
+use crate::composites::{Instances, Items, read_list};
+use crate::cores::{CoreDumpModulesSection, CoreDumpSection, CoreDumpStackSection};
 use crate::linking::LinkingSectionReader;
 use crate::relocations::RelocSectionReader;
 use crate::section::call;
-use crate::{BinaryReader, CustomSectionReader, FromReader, List, NameSectionReader, Result, SectionLimited, Subsection, Subsections, SymbolFlags, ffi};
+use crate::{BinaryReader, CustomSectionReader, FromReader, NameSectionReader, Result, SectionLimited, Subsection, Subsections, SymbolFlags, library};
 use core::ops::Range;
 
-/// A custom section whose data is known, by its name.
+/// A custom section whose format is known, by its name.
 #[derive(Clone, Debug)]
 pub enum KnownCustom<'a> {
     /// The section `name`.
@@ -22,37 +24,36 @@ pub enum KnownCustom<'a> {
     /// The section `corestack`.
     CoreDumpStack(CoreDumpStackSection<'a>),
     /// The section `coreinstances`.
-    CoreDumpInstances(CoreDumpInstancesSection<'a>),
+    CoreDumpInstances(Instances<'a>),
     /// The section `coremodules`.
     CoreDumpModules(CoreDumpModulesSection<'a>),
     /// The section `linking`.
     Linking(LinkingSectionReader<'a>),
     /// A section whose name begins with `reloc.`.
     Reloc(RelocSectionReader<'a>),
-    /// A section of another name, or one whose data can't be read as what its name says.
+    /// A section with another name, or one whose data is malformed.
     Unknown,
 }
 
 impl<'a> CustomSectionReader<'a> {
-    /// The reader of its data, which its name decides.
+    /// Returns the reader of its data that belongs to its name.
     pub fn as_known(&self) -> KnownCustom<'a> {
         self.known().unwrap_or(KnownCustom::Unknown)
     }
 
     fn known(&self) -> Result<KnownCustom<'a>> {
         let (name, data) = (self.name(), self.data_reader());
-        // SAFETY: the declaration is made from the sources; pointer and length are those of a text that is borrowed for the call.
-        Ok(match unsafe { ffi::pulleynavy_classify_custom(name.as_ptr(), name.len()) } {
-            1 => KnownCustom::Name(NameSectionReader::new(data)),
-            2 => KnownCustom::BranchHints(BranchHintSectionReader::new(data)?),
-            3 => KnownCustom::Producers(ProducersSectionReader::new(data)?),
-            4 => KnownCustom::Dylink0(Dylink0SectionReader::new(data)),
-            5 => KnownCustom::Linking(LinkingSectionReader::new(data)?),
-            6 => KnownCustom::Reloc(RelocSectionReader::new(data)?),
-            7 => KnownCustom::CoreDump(CoreDumpSection::new(data)?),
-            8 => KnownCustom::CoreDumpModules(CoreDumpModulesSection::new(data)?),
-            9 => KnownCustom::CoreDumpInstances(CoreDumpInstancesSection::new(data)?),
-            10 => KnownCustom::CoreDumpStack(CoreDumpStackSection::new(data)?),
+        Ok(match library::classify_custom(name) {
+            custom_kind::NAME => KnownCustom::Name(NameSectionReader::new(data)),
+            custom_kind::BRANCH_HINTS => KnownCustom::BranchHints(BranchHintSectionReader::new(data)?),
+            custom_kind::PRODUCERS => KnownCustom::Producers(ProducersSectionReader::new(data)?),
+            custom_kind::DYLINK0 => KnownCustom::Dylink0(Dylink0SectionReader::new(data)),
+            custom_kind::LINKING => KnownCustom::Linking(LinkingSectionReader::new(data)?),
+            custom_kind::RELOC => KnownCustom::Reloc(RelocSectionReader::new(data)?),
+            custom_kind::CORE => KnownCustom::CoreDump(CoreDumpSection::new(data)?),
+            custom_kind::CORE_MODULES => KnownCustom::CoreDumpModules(CoreDumpModulesSection::new(data)?),
+            custom_kind::CORE_INSTANCES => KnownCustom::CoreDumpInstances(Instances::new(data)?),
+            custom_kind::CORE_STACK => KnownCustom::CoreDumpStack(CoreDumpStackSection::new(data)?),
             _ => KnownCustom::Unknown,
         })
     }
@@ -66,21 +67,21 @@ pub type ProducersSectionReader<'a> = SectionLimited<'a, ProducersField<'a>>;
 /// A field of the section `producers`.
 #[derive(Clone, Debug)]
 pub struct ProducersField<'a> {
-    /// Which tools it names: `language`, `sdk` or `processed-by`.
+    /// What it lists: `language`, `sdk` or `processed-by`.
     pub name: &'a str,
-    /// The tools.
+    /// The languages or tools.
     pub values: SectionLimited<'a, ProducersFieldValue<'a>>,
 }
 
 impl<'a> FromReader<'a> for ProducersField<'a> {
     fn from_reader(reader: &mut BinaryReader<'a>) -> Result<Self> {
-        let (window, plain) = call!(pulleynavy_read_producers_field, reader);
+        let (window, plain) = call!(producers_field, reader);
         let values = SectionLimited::list(window, plain.values, plain.count);
         Ok(ProducersField { name: window.text(plain.name), values })
     }
 }
 
-/// A tool that a module was produced with.
+/// A language or tool that a module was produced with.
 #[derive(Clone, Copy, Debug, PartialEq, Eq, Hash)]
 pub struct ProducersFieldValue<'a> {
     /// Its name.
@@ -91,7 +92,7 @@ pub struct ProducersFieldValue<'a> {
 
 impl<'a> FromReader<'a> for ProducersFieldValue<'a> {
     fn from_reader(reader: &mut BinaryReader<'a>) -> Result<Self> {
-        let (window, plain) = call!(pulleynavy_read_producers_value, reader);
+        let (window, plain) = call!(producers_value, reader);
         Ok(ProducersFieldValue { name: window.text(plain.name), version: window.text(plain.version) })
     }
 }
@@ -110,7 +111,7 @@ pub struct BranchHintFunction<'a> {
 
 impl<'a> FromReader<'a> for BranchHintFunction<'a> {
     fn from_reader(reader: &mut BinaryReader<'a>) -> Result<Self> {
-        let (window, plain) = call!(pulleynavy_read_hinted_function, reader);
+        let (window, plain) = call!(hinted_function, reader);
         let hints = SectionLimited::list(window, plain.hints, plain.count);
         Ok(BranchHintFunction { func: plain.func, hints })
     }
@@ -119,7 +120,7 @@ impl<'a> FromReader<'a> for BranchHintFunction<'a> {
 /// Whether a branch is likely to be taken.
 #[derive(Clone, Copy, Debug, PartialEq, Eq, Hash)]
 pub struct BranchHint {
-    /// How many bytes after the start of the function's body the branch instruction is.
+    /// The offset of the branch instruction from the start of the function's body.
     pub func_offset: u32,
     /// Whether it is likely to be taken.
     pub taken: bool,
@@ -127,7 +128,7 @@ pub struct BranchHint {
 
 impl<'a> FromReader<'a> for BranchHint {
     fn from_reader(reader: &mut BinaryReader<'a>) -> Result<Self> {
-        let (_, plain) = call!(pulleynavy_read_branch_hint, reader);
+        let (_, plain) = call!(branch_hint, reader);
         Ok(BranchHint { func_offset: plain.func_offset, taken: plain.taken != 0 })
     }
 }
@@ -140,17 +141,17 @@ pub type Dylink0SectionReader<'a> = Subsections<'a, Dylink0Subsection<'a>>;
 /// A subsection of the section `dylink.0`.
 #[derive(Clone, Debug)]
 pub enum Dylink0Subsection<'a> {
-    /// How much memory and table a library needs.
+    /// The memory and table space that a library needs.
     MemInfo(MemInfo),
     /// The libraries that it needs.
-    Needed(List<'a, &'a str>),
-    /// What is said of its exports.
-    ExportInfo(List<'a, ExportInfo<'a>>),
-    /// What is said of its imports.
-    ImportInfo(List<'a, ImportInfo<'a>>),
-    /// Where libraries are looked for.
-    RuntimePath(List<'a, &'a str>),
-    /// The architecture that a library is for.
+    Needed(Items<'a, &'a str>),
+    /// Flags of its exports.
+    ExportInfo(Items<'a, ExportInfo<'a>>),
+    /// Flags of its imports.
+    ImportInfo(Items<'a, ImportInfo<'a>>),
+    /// The search paths for libraries.
+    RuntimePath(Items<'a, &'a str>),
+    /// The target architecture.
     TargetArch(&'a str),
     /// A subsection with another id.
     Unknown {
@@ -163,15 +164,15 @@ pub enum Dylink0Subsection<'a> {
     },
 }
 
-/// Bytes after what a subsection says are passed over.
+/// Trailing bytes of a subsection are ignored.
 impl<'a> Subsection<'a> for Dylink0Subsection<'a> {
     fn from_reader(id: u8, mut reader: BinaryReader<'a>) -> Result<Self> {
         let reader = &mut reader;
         Ok(match id {
             1 => Dylink0Subsection::MemInfo(reader.read()?),
             2 => Dylink0Subsection::Needed(texts(reader)?),
-            3 => Dylink0Subsection::ExportInfo(reader.read()?),
-            4 => Dylink0Subsection::ImportInfo(reader.read()?),
+            3 => Dylink0Subsection::ExportInfo(read_list(reader, ExportInfo::from_reader)?),
+            4 => Dylink0Subsection::ImportInfo(read_list(reader, ImportInfo::from_reader)?),
             5 => Dylink0Subsection::RuntimePath(texts(reader)?),
             6 => Dylink0Subsection::TargetArch(reader.read_unlimited_string()?),
             ty => Dylink0Subsection::Unknown { ty, data: reader.remaining_buffer(), range: reader.remaining_range() },
@@ -179,19 +180,19 @@ impl<'a> Subsection<'a> for Dylink0Subsection<'a> {
     }
 }
 
-/// A count and so many names of any size.
-fn texts<'a>(reader: &mut BinaryReader<'a>) -> Result<List<'a, &'a str>> {
-    List::counted(reader, BinaryReader::read_unlimited_string)
+/// A count and this many strings of any size.
+fn texts<'a>(reader: &mut BinaryReader<'a>) -> Result<Items<'a, &'a str>> {
+    read_list(reader, BinaryReader::read_unlimited_string)
 }
 
-/// How much memory and table a library needs.
+/// The memory and table space that a library needs.
 #[derive(Clone, Copy, Debug, PartialEq, Eq, Hash)]
 pub struct MemInfo {
-    /// How many bytes of memory.
+    /// The size of the memory in bytes.
     pub memory_size: u32,
     /// Their alignment, as a power of two.
     pub memory_alignment: u32,
-    /// How many elements of table.
+    /// The number of table elements.
     pub table_size: u32,
     /// Their alignment, as a power of two.
     pub table_alignment: u32,
@@ -199,13 +200,13 @@ pub struct MemInfo {
 
 impl<'a> FromReader<'a> for MemInfo {
     fn from_reader(reader: &mut BinaryReader<'a>) -> Result<Self> {
-        let (_, plain) = call!(pulleynavy_read_dylink_memory, reader);
-        let ffi::DylinkMemory { memory_size, memory_alignment, table_size, table_alignment, .. } = plain;
+        let (_, plain) = call!(dylink_memory, reader);
+        let library::DylinkMemory { memory_size, memory_alignment, table_size, table_alignment, .. } = plain;
         Ok(MemInfo { memory_size, memory_alignment, table_size, table_alignment })
     }
 }
 
-/// What is said of an export to a dynamic linker.
+/// Flags of an export, for a dynamic linker.
 #[derive(Clone, Copy, Debug, PartialEq, Eq, Hash)]
 pub struct ExportInfo<'a> {
     /// Its name.
@@ -216,12 +217,12 @@ pub struct ExportInfo<'a> {
 
 impl<'a> FromReader<'a> for ExportInfo<'a> {
     fn from_reader(reader: &mut BinaryReader<'a>) -> Result<Self> {
-        let (window, plain) = call!(pulleynavy_read_dylink_export, reader);
+        let (window, plain) = call!(dylink_export, reader);
         Ok(ExportInfo { name: window.text(plain.name), flags: SymbolFlags::from_bits_retain(plain.flags) })
     }
 }
 
-/// What is said of an import to a dynamic linker.
+/// Flags of an import, for a dynamic linker.
 #[derive(Clone, Copy, Debug, PartialEq, Eq, Hash)]
 pub struct ImportInfo<'a> {
     /// The name of its module.
@@ -234,7 +235,7 @@ pub struct ImportInfo<'a> {
 
 impl<'a> FromReader<'a> for ImportInfo<'a> {
     fn from_reader(reader: &mut BinaryReader<'a>) -> Result<Self> {
-        let (window, plain) = call!(pulleynavy_read_dylink_import, reader);
+        let (window, plain) = call!(dylink_import, reader);
         Ok(ImportInfo { module: window.text(plain.module_name), field: window.text(plain.field), flags: SymbolFlags::from_bits_retain(plain.flags) })
     }
 }

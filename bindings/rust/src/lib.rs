@@ -1,7 +1,7 @@
 // SPDX-License-Identifier: Apache-2.0 OR MIT
-//! Reads WebAssembly modules by a proved parser, which is linked as a static library.
+//! A streaming parser for WebAssembly modules: the module layer of `wasmparser` 0.263.0, over a library with a machine-checked proof.
 //!
-//! The names are those of `wasmparser`, where it has them, and so are the ways to use them:
+//! The names are those of `wasmparser`, and so are the ways to use them:
 //!
 //! ```
 //! use pulleynavy::{Parser, Payload};
@@ -9,23 +9,40 @@
 //! let module = b"\0asm\x01\0\0\0\x03\x02\x01\0\x0a\x04\x01\x02\0\x0b";
 //! for payload in Parser::new(0).parse_all(module) {
 //!     if let Payload::FunctionSection(functions) = payload? {
+//!         assert_eq!(functions.clone().into_iter().len(), 1);
 //!         for index in functions {
 //!             assert_eq!(index?, 0);
 //!         }
 //!     }
 //! }
-//! # Ok::<(), pulleynavy::BinaryReaderError>(())
+//! # Ok::<(), pulleynavy::Error>(())
 //! ```
 //!
-//! What each call of the library answers is proved; this crate, which makes Rust's types of it, is tested. It takes no memory. Offsets
-//! count bytes from the start of the whole stream.
+//! The results of the library are proved; this crate turns them into Rust's types, and is tested. Offsets count bytes from the start of
+//! the whole stream.
+//!
+//! The feature `alloc`, which is on by default, makes lists inside items vectors and slices. Without it the crate never allocates: lists
+//! are then iterators that borrow from the input.
+//!
+//! The README has a table of what differs from `wasmparser`, and of what to write instead.
 #![no_std]
+#![deny(unsafe_code, clippy::undocumented_unsafe_blocks)]
 #![warn(missing_docs)]
 
+#[cfg(feature = "alloc")]
+extern crate alloc;
+
+#[allow(dead_code)]
+#[rustfmt::skip]
+mod codes;
+#[cfg_attr(feature = "alloc", path = "owned.rs")]
+#[cfg_attr(not(feature = "alloc"), path = "borrowed.rs")]
+mod composites;
 mod cores;
 mod custom;
 mod error;
-#[allow(missing_docs, dead_code)]
+mod fault;
+#[allow(missing_docs, dead_code, unsafe_code)]
 #[rustfmt::skip]
 mod ffi;
 mod flags;
@@ -33,10 +50,14 @@ mod imports;
 mod items;
 mod kinds;
 mod known;
+#[allow(unsafe_code)]
+mod library;
 mod limits;
 mod linking;
+#[cfg(not(feature = "alloc"))]
 mod list;
 mod names;
+mod numbers;
 mod parser;
 mod payload;
 mod reader;
@@ -45,10 +66,14 @@ mod section;
 mod strip;
 mod types;
 
-pub use cores::{CoreDumpInstance, CoreDumpInstancesSection, CoreDumpModulesSection, CoreDumpSection, CoreDumpStackFrame, CoreDumpStackSection, CoreDumpValue};
+pub use composites::{
+    CompositeInnerType, CompositeType, CoreDumpInstance, CoreDumpInstancesSection, CoreDumpStackFrame, FuncType, RecGroup, StructType, SubType,
+};
+pub use cores::{CoreDumpModulesSection, CoreDumpSection, CoreDumpStackSection, CoreDumpValue};
 pub use custom::{CustomSectionReader, Subsection, Subsections};
-pub use error::{BinaryReaderError, Result};
-pub use flags::{SegmentFlags, SymbolFlags, WasmFeatures};
+pub use error::{BinaryReaderError, Error, Result};
+pub use fault::{CoreStart, Fault, Lead, NumberKind};
+pub use flags::{FlagsIter, FlagsIterNames, SegmentFlags, SymbolFlags, WasmFeatures};
 pub use imports::{Import, ImportItemCompact, Imports, ImportsIter, IntoImportsWithOffsets, TypeRef};
 pub use items::{ConstExpr, Data, DataKind, Element, ElementItems, ElementKind, Export, ExternalKind, Global, Table, TableInit};
 pub use kinds::{GlobalType, MemoryType, TableType, TagKind, TagType};
@@ -61,8 +86,10 @@ pub use linking::{
     Comdat, ComdatMap, ComdatSymbol, ComdatSymbolKind, DefinedDataSymbol, InitFunc, InitFuncMap, Linking, LinkingSectionReader, Segment, SegmentMap,
     SymbolInfo, SymbolInfoMap,
 };
+#[cfg(not(feature = "alloc"))]
 pub use list::List;
 pub use names::{IndirectNameMap, IndirectNaming, Name, NameMap, NameSectionReader, Naming};
+pub use numbers::{Ieee32, Ieee64};
 pub use parser::{Chunk, ParseAll, Parser};
 pub use payload::{
     DataSectionReader, ElementSectionReader, Encoding, ExportSectionReader, FunctionBody, FunctionSectionReader, GlobalSectionReader, ImportSectionReader,
@@ -72,4 +99,9 @@ pub use reader::BinaryReader;
 pub use relocations::{RelocAddendKind, RelocSectionReader, RelocationEntry, RelocationEntryReader, RelocationType};
 pub use section::{FromReader, SectionLimited, SectionLimitedIntoIter, SectionLimitedIntoIterWithOffsets};
 pub use strip::strip;
-pub use types::{CompositeType, FieldType, FuncType, HeapType, RecGroup, RefType, StorageType, SubType, ValType};
+pub use types::{AbstractHeapType, ArrayType, ContType, FieldType, HeapType, PackedIndex, RefType, StorageType, UnpackedIndex, ValType};
+
+/// The examples of the README are tests.
+#[cfg(doctest)]
+#[doc = include_str!("../README.md")]
+struct Readme;

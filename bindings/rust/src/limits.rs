@@ -1,5 +1,4 @@
-//! Limits of the implementation, which validators and tools share. Nothing that is read here is refused by them but names, which have
-//! at most [`MAX_WASM_STRING_SIZE`] bytes.
+//! Limits that validators and tools share. This crate applies one of them: names have at most [`MAX_WASM_STRING_SIZE`] bytes.
 #![allow(missing_docs)]
 
 pub const MAX_WASM_TYPES: usize = 1_000_000;
@@ -30,25 +29,25 @@ pub const MAX_WASM_TYPE_SIZE: u32 = 1_000_000;
 pub const MAX_WASM_SELECT_RESULT_SIZE: usize = 10;
 pub const DEFAULT_WASM_PAGE_SIZE: u64 = 1 << 16;
 
-/// The most pages of so many bytes that a memory with 32-bit addresses has.
+/// The largest number of pages of this size in a memory with 32-bit addresses.
 ///
 /// # Panics
-/// If the size isn't a power of two of at most 65,536.
+/// If the size is not a power of two of at most 65,536.
 pub fn max_wasm_memory32_pages(page_size: u64) -> u64 {
     assert!(is_page_size(page_size));
     ((1 << 32) / page_size).min(u32::MAX.into())
 }
 
-/// The most pages of so many bytes that a memory with 64-bit addresses has.
+/// The largest number of pages of this size in a memory with 64-bit addresses.
 ///
 /// # Panics
-/// If the size isn't a power of two of at most 65,536.
+/// If the size is not a power of two of at most 65,536.
 pub fn max_wasm_memory64_pages(page_size: u64) -> u64 {
     assert!(is_page_size(page_size));
     u64::try_from((1_u128 << 64) / u128::from(page_size)).unwrap_or(u64::MAX)
 }
 
-/// Whether a page may have so many bytes.
+/// Returns whether a page may have this size.
 pub fn is_page_size(size: u64) -> bool {
     size.is_power_of_two() && size <= DEFAULT_WASM_PAGE_SIZE
 }

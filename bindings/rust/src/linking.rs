@@ -1,7 +1,7 @@
 //! Sections for linkers.
-use crate::error::Lead;
+use crate::codes::{comdat_kind, symbol_kind};
 use crate::section::call;
-use crate::{BinaryReader, FromReader, Result, SectionLimited, SegmentFlags, Subsection, Subsections, SymbolFlags};
+use crate::{BinaryReader, FromReader, Lead, Result, SectionLimited, SegmentFlags, Subsection, Subsections, SymbolFlags};
 use core::ops::Range;
 
 /// The section `linking`.
@@ -13,13 +13,13 @@ pub struct LinkingSectionReader<'a> {
 }
 
 impl<'a> LinkingSectionReader<'a> {
-    /// The section that a reader has left.
+    /// Reads the version of the section from the remaining bytes of a reader.
     ///
     /// # Errors
-    /// The fault of the version.
+    /// If the version is malformed, or is not 2.
     pub fn new(mut reader: BinaryReader<'a>) -> Result<Self> {
         let range = reader.remaining_range();
-        let (_, plain) = call!(pulleynavy_read_linking_version, reader);
+        let (_, plain) = call!(linking_version, reader);
         Ok(LinkingSectionReader { version: plain.value as u32, range, subsections: Subsections::new(reader.shrink()) })
     }
 
@@ -33,7 +33,7 @@ impl<'a> LinkingSectionReader<'a> {
         self.subsections.original_position()
     }
 
-    /// The offsets of its bytes, the version among them.
+    /// The offsets of its bytes, with the version.
     pub fn range(&self) -> Range<u64> {
         self.range.clone()
     }
@@ -53,9 +53,9 @@ impl<'a> IntoIterator for LinkingSectionReader<'a> {
     }
 }
 
-/// What is said of data segments.
+/// Names, alignments and flags of data segments.
 pub type SegmentMap<'a> = SectionLimited<'a, Segment<'a>>;
-/// The functions that are called at first.
+/// The initialization functions.
 pub type InitFuncMap<'a> = SectionLimited<'a, InitFunc>;
 /// Comdats.
 pub type ComdatMap<'a> = SectionLimited<'a, Comdat<'a>>;
@@ -65,15 +65,15 @@ pub type SymbolInfoMap<'a> = SectionLimited<'a, SymbolInfo<'a>>;
 /// A subsection of the section `linking`.
 #[derive(Clone, Debug)]
 pub enum Linking<'a> {
-    /// What is said of data segments.
+    /// Names, alignments and flags of data segments.
     SegmentInfo(SegmentMap<'a>),
-    /// The functions that are called at first.
+    /// The initialization functions.
     InitFuncs(InitFuncMap<'a>),
     /// The comdats.
     ComdatInfo(ComdatMap<'a>),
     /// The symbols.
     SymbolTable(SymbolInfoMap<'a>),
-    /// The architecture that the code is for.
+    /// The target architecture.
     TargetArch(&'a str),
     /// A subsection with another id.
     Unknown {
@@ -93,14 +93,14 @@ impl<'a> Subsection<'a> for Linking<'a> {
             6 => Linking::InitFuncs(SectionLimited::new(reader)?),
             7 => Linking::ComdatInfo(SectionLimited::new(reader)?),
             8 => Linking::SymbolTable(SectionLimited::new(reader)?),
-            // Bytes after the name are passed over.
+            // Trailing bytes after the name are ignored.
             9 => Linking::TargetArch(reader.read_string()?),
             ty => Linking::Unknown { ty, data: reader.remaining_buffer(), range: reader.remaining_range() },
         })
     }
 }
 
-/// What is said of a data segment.
+/// The name, the alignment and the flags of a data segment.
 #[derive(Clone, Copy, Debug, PartialEq, Eq, Hash)]
 pub struct Segment<'a> {
     /// Its name.
@@ -113,12 +113,12 @@ pub struct Segment<'a> {
 
 impl<'a> FromReader<'a> for Segment<'a> {
     fn from_reader(reader: &mut BinaryReader<'a>) -> Result<Self> {
-        let (window, plain) = call!(pulleynavy_read_linking_segment, reader);
+        let (window, plain) = call!(linking_segment, reader);
         Ok(Segment { name: window.text(plain.name), alignment: plain.alignment, flags: SegmentFlags::from_bits_retain(plain.flags) })
     }
 }
 
-/// A function that is called at first.
+/// An initialization function.
 #[derive(Clone, Copy, Debug, PartialEq, Eq, Hash)]
 pub struct InitFunc {
     /// Its priority.
@@ -129,7 +129,7 @@ pub struct InitFunc {
 
 impl<'a> FromReader<'a> for InitFunc {
     fn from_reader(reader: &mut BinaryReader<'a>) -> Result<Self> {
-        let (_, plain) = call!(pulleynavy_read_init_function, reader);
+        let (_, plain) = call!(init_function, reader);
         Ok(InitFunc { priority: plain.priority, symbol_index: plain.symbol })
     }
 }
@@ -147,7 +147,7 @@ pub struct Comdat<'a> {
 
 impl<'a> FromReader<'a> for Comdat<'a> {
     fn from_reader(reader: &mut BinaryReader<'a>) -> Result<Self> {
-        let (window, plain) = call!(pulleynavy_read_comdat, reader);
+        let (window, plain) = call!(comdat, reader);
         let symbols = SectionLimited::list(window, plain.symbols, plain.count);
         Ok(Comdat { name: window.text(plain.name), flags: plain.flags, symbols })
     }
@@ -183,12 +183,12 @@ impl ComdatSymbolKind {
     /// The kind with this number.
     fn of(number: u32) -> Option<Self> {
         Some(match number {
-            0 => ComdatSymbolKind::Data,
-            1 => ComdatSymbolKind::Func,
-            2 => ComdatSymbolKind::Global,
-            3 => ComdatSymbolKind::Event,
-            4 => ComdatSymbolKind::Table,
-            5 => ComdatSymbolKind::Section,
+            comdat_kind::DATA => ComdatSymbolKind::Data,
+            comdat_kind::FUNC => ComdatSymbolKind::Func,
+            comdat_kind::GLOBAL => ComdatSymbolKind::Global,
+            comdat_kind::EVENT => ComdatSymbolKind::Event,
+            comdat_kind::TABLE => ComdatSymbolKind::Table,
+            comdat_kind::SECTION => ComdatSymbolKind::Section,
             _ => return None,
         })
     }
@@ -202,7 +202,7 @@ impl<'a> FromReader<'a> for ComdatSymbolKind {
 
 impl<'a> FromReader<'a> for ComdatSymbol {
     fn from_reader(reader: &mut BinaryReader<'a>) -> Result<Self> {
-        let (_, plain) = call!(pulleynavy_read_comdat_symbol, reader);
+        let (_, plain) = call!(comdat_symbol, reader);
         Ok(ComdatSymbol { kind: ComdatSymbolKind::of(plain.kind).expect("the library refuses other kinds"), index: plain.index })
     }
 }
@@ -244,16 +244,16 @@ impl<'a> FromReader<'a> for DefinedDataSymbol {
 
 impl<'a> FromReader<'a> for SymbolInfo<'a> {
     fn from_reader(reader: &mut BinaryReader<'a>) -> Result<Self> {
-        let (window, plain) = call!(pulleynavy_read_symbol, reader);
+        let (window, plain) = call!(symbol, reader);
         let (flags, index) = (SymbolFlags::from_bits_retain(plain.flags), plain.index);
         let name = (plain.has_name != 0).then(|| window.text(plain.name));
         let place = DefinedDataSymbol { index, offset: plain.data_offset, size: plain.data_size };
         let symbol = match plain.kind {
-            0 => SymbolInfo::Func { flags, index, name },
-            1 => SymbolInfo::Data { flags, name: name.unwrap_or_default(), symbol: (plain.is_defined != 0).then_some(place) },
-            2 => SymbolInfo::Global { flags, index, name },
-            3 => SymbolInfo::Section { flags, section: index },
-            4 => SymbolInfo::Event { flags, index, name },
+            symbol_kind::FUNC => SymbolInfo::Func { flags, index, name },
+            symbol_kind::DATA => SymbolInfo::Data { flags, name: name.unwrap_or_default(), symbol: (plain.is_defined != 0).then_some(place) },
+            symbol_kind::GLOBAL => SymbolInfo::Global { flags, index, name },
+            symbol_kind::SECTION => SymbolInfo::Section { flags, section: index },
+            symbol_kind::EVENT => SymbolInfo::Event { flags, index, name },
             _ => SymbolInfo::Table { flags, index, name },
         };
         Ok(symbol)

@@ -5,7 +5,7 @@ use core::fmt;
 /// How an item is read.
 type Read<'a, T> = fn(&mut BinaryReader<'a>) -> Result<T>;
 
-/// A list of items that were read before and have no fault. Each is read again where it comes.
+/// An iterator over a list inside an item. Its items were read once without an error; each is read again when it is returned.
 pub struct List<'a, T> {
     reader: BinaryReader<'a>,
     left: u32,
@@ -13,18 +13,18 @@ pub struct List<'a, T> {
 }
 
 impl<'a, T> List<'a, T> {
-    /// A count and so many items, which a reader passes over.
+    /// Reads a count and this many items.
     pub(crate) fn counted(reader: &mut BinaryReader<'a>, read: Read<'a, T>) -> Result<Self> {
         let count = reader.read_var_u32()?;
         List::pass(reader, count, read)
     }
 
-    /// So many items, which a reader passes over.
+    /// Reads this many items.
     pub(crate) fn pass(reader: &mut BinaryReader<'a>, left: u32, read: Read<'a, T>) -> Result<Self> {
         List::checked(reader, left, read, read)
     }
 
-    /// Like `pass`, but `check` reads each item first, and its faults are returned.
+    /// Like `pass`, but `check` reads each item first, and its errors are returned.
     pub(crate) fn checked(reader: &mut BinaryReader<'a>, left: u32, check: impl Fn(&mut BinaryReader<'a>) -> Result<T>, read: Read<'a, T>) -> Result<Self> {
         let items = reader.skip(|reader| (0..left).try_for_each(|_| check(reader).map(drop)))?;
         Ok(List { reader: items, left, read })

@@ -1,7 +1,6 @@
 //! The section `name`.
-use crate::error::{INDIRECT_ORDER, NAME_SECTION_ORDER, NAME_TRAILING, NAMES_ORDER};
 use crate::section::call;
-use crate::{BinaryReader, BinaryReaderError, FromReader, Result, SectionLimited, SectionLimitedIntoIter, Subsection, Subsections};
+use crate::{BinaryReader, Error, Fault, FromReader, Result, SectionLimited, SectionLimitedIntoIter, Subsection, Subsections};
 use core::ops::Range;
 
 /// An index and its name.
@@ -15,57 +14,58 @@ pub struct Naming<'a> {
 
 impl<'a> FromReader<'a> for Naming<'a> {
     fn from_reader(reader: &mut BinaryReader<'a>) -> Result<Self> {
-        let (window, plain) = call!(pulleynavy_read_naming, reader);
+        let (window, plain) = call!(naming, reader);
         Ok(Naming { index: plain.index, name: window.text(plain.name) })
     }
 }
 
-/// An index and the names of what it has.
+/// An index with its own names, as a function and its locals.
 #[derive(Clone, Debug)]
 pub struct IndirectNaming<'a> {
-    /// The index of what has the names, as a function.
+    /// The index, for instance of a function.
     pub index: u32,
-    /// The names of what it has, as of its locals.
+    /// Its names, for instance of the locals.
     pub names: NameMap<'a>,
 }
 
 impl<'a> FromReader<'a> for IndirectNaming<'a> {
     fn from_reader(reader: &mut BinaryReader<'a>) -> Result<Self> {
-        let (window, plain) = call!(pulleynavy_read_indirect_naming, reader);
+        let (window, plain) = call!(indirect_naming, reader);
         Ok(IndirectNaming { index: plain.index, names: NameMap::of(SectionLimited::list(window, plain.names, plain.count)) })
     }
 }
 
-/// The last index or id that was given. What isn't above it is a fault, after which the next ones follow.
+/// The last index or id in order. One that is not above it is an error, and the iteration continues.
 #[derive(Clone, Debug, Default)]
 struct Last(Option<u32>);
 
 impl Last {
-    /// The next one, or the fault of this kind at this offset.
-    fn then(&mut self, next: u32, kind: u32, offset: u64) -> Result<()> {
+    /// Takes the next one, or returns this fault at this offset.
+    fn then(&mut self, next: u32, fault: Fault, offset: u64) -> Result<()> {
         if self.0.is_some_and(|last| next <= last) {
-            return Err(BinaryReaderError::of_kind(kind, offset));
+            return Err(Error::new(fault, offset));
         }
         self.0 = Some(next);
         Ok(())
     }
 }
 
-/// An iterator over entries whose indices ascend, with the kind of the fault of one that doesn't.
+/// Declares an iterator over entries with ascending indices, with the fault of one that is not above the last.
 macro_rules! ascending {
-    ($(#[$doc:meta])* $name:ident, $entry:ident, $kind:expr) => {
+    ($(#[$doc:meta])* $name:ident, $entry:ident, $fault:expr) => {
         $(#[$doc])*
         #[derive(Clone, Debug)]
         pub struct $name<'a> {
-            names: SectionLimitedIntoIter<'a, $entry<'a>>,
+            /// The remaining entries, whose order is not checked.
+            pub names: SectionLimitedIntoIter<'a, $entry<'a>>,
             last: Last,
         }
 
         impl<'a> $name<'a> {
-            /// The names that a reader has left, with their count.
+            /// Takes the remaining bytes of a reader as a map, and reads its count.
             ///
             /// # Errors
-            /// The fault of the count.
+            /// If the count is malformed.
             pub fn new(reader: BinaryReader<'a>) -> Result<Self> {
                 Ok($name::of(SectionLimited::new(reader)?))
             }
@@ -86,7 +86,7 @@ macro_rules! ascending {
             fn next(&mut self) -> Option<Self::Item> {
                 let offset = self.names.original_position();
                 let entry = self.names.next()?;
-                Some(entry.and_then(|entry| self.last.then(entry.index, $kind, offset).map(|()| entry)))
+                Some(entry.and_then(|entry| self.last.then(entry.index, $fault, offset).map(|()| entry)))
             }
 
             fn size_hint(&self) -> (usize, Option<usize>) {
@@ -97,23 +97,24 @@ macro_rules! ascending {
 }
 
 ascending! {
-    /// Names by index. An index that isn't above the last one is a fault, after which the next names follow.
-    NameMap, Naming, NAMES_ORDER
+    /// An iterator over names by index. An index that is not above the last one is an error, and the iteration continues.
+    NameMap, Naming, Fault::NamesOrder
 }
 ascending! {
-    /// Names of what indices have, by index. An index that isn't above the last one is a fault, after which the next ones follow.
-    IndirectNameMap, IndirectNaming, INDIRECT_ORDER
+    /// An iterator over indices with their own names. An index that is not above the last one is an error, and the iteration continues.
+    IndirectNameMap, IndirectNaming, Fault::IndirectOrder
 }
 
-/// The subsections of the section `name`. An id that isn't above the last one is a fault, after which the next subsections follow.
+/// An iterator over the subsections of the section `name`. An id that is not above the last one is an error, and the iteration continues.
 #[derive(Clone, Debug)]
 pub struct NameSectionReader<'a> {
-    sections: Subsections<'a, (u8, Name<'a>)>,
+    /// The remaining subsections, whose order is not checked.
+    pub sections: Subsections<'a, Name<'a>>,
     last: Last,
 }
 
 impl<'a> NameSectionReader<'a> {
-    /// The subsections that a reader has left.
+    /// Takes the remaining bytes of a reader as subsections.
     pub fn new(reader: BinaryReader<'a>) -> Self {
         NameSectionReader { sections: Subsections::new(reader), last: Last::default() }
     }
@@ -123,7 +124,7 @@ impl<'a> NameSectionReader<'a> {
         self.sections.original_position()
     }
 
-    /// The offsets of all bytes, those that were read among them.
+    /// The offsets of all bytes, also of those that were read.
     pub fn range(&self) -> Range<u64> {
         self.sections.range()
     }
@@ -134,8 +135,9 @@ impl<'a> Iterator for NameSectionReader<'a> {
 
     fn next(&mut self) -> Option<Self::Item> {
         let offset = self.sections.original_position();
-        let part = self.sections.next()?;
-        Some(part.and_then(|(id, name)| self.last.then(id.into(), NAME_SECTION_ORDER, offset).map(|()| name)))
+        let id = self.sections.next_id()?;
+        let name = self.sections.next()?;
+        Some(name.and_then(|name| self.last.then(id.into(), Fault::NameSectionOrder, offset).map(|()| name)))
     }
 }
 
@@ -208,10 +210,10 @@ impl<'a> Subsection<'a> for Name<'a> {
     }
 }
 
-/// The name of the module, after which no byte comes.
+/// The name of the module, without trailing bytes.
 fn module(mut reader: BinaryReader<'_>) -> Result<Name<'_>> {
     let name_range = reader.remaining_range();
     let name = reader.read_string()?;
-    reader.expect_end(NAME_TRAILING)?;
+    reader.expect_end(Fault::NameTrailing)?;
     Ok(Name::Module { name, name_range })
 }

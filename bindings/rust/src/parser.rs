@@ -1,45 +1,46 @@
 //! The parser.
+use crate::codes::event_kind;
 use crate::payload::payload;
 use crate::section::Window;
-use crate::{BinaryReader, BinaryReaderError, Payload, Result, WasmFeatures, ffi};
+use crate::{BinaryReader, Error, Payload, Result, WasmFeatures, library};
 
-/// What `parse` answers.
+/// The result of [`Parser::parse`].
 #[derive(Debug)]
 pub enum Chunk<'a> {
-    /// About so many more bytes are wanted.
-    NeedMoreData(u64),
-    /// The next part.
+    /// More input is needed, by about this many bytes.
+    NeedMoreData(usize),
+    /// The next payload.
     Parsed {
-        /// How many bytes it took.
+        /// How many bytes it consumed.
         consumed: usize,
-        /// What it is.
+        /// The payload.
         payload: Payload<'a>,
     },
 }
 
-/// A parser of a stream. A copy of it is a checkpoint.
+/// A streaming parser. A clone of it is a checkpoint.
 ///
-/// A stream that comes in pieces is held by the caller until it is consumed:
+/// With chunked input you buffer the bytes until they are consumed:
 ///
 /// ```
 /// use pulleynavy::{Chunk, Parser, Payload};
 ///
-/// let mut pieces = b"\0asm\x01\0\0\0\x03\x02\x01\0\x0a\x04\x01\x02\0\x0b".chunks(5);
-/// let (mut parser, mut held, mut is_all) = (Parser::new(0), Vec::new(), false);
+/// let mut chunks = b"\0asm\x01\0\0\0\x03\x02\x01\0\x0a\x04\x01\x02\0\x0b".chunks(5);
+/// let (mut parser, mut buffer, mut eof) = (Parser::new(0), Vec::new(), false);
 /// loop {
-///     match parser.parse(&held, is_all)? {
+///     match parser.parse(&buffer, eof)? {
 ///         Chunk::Parsed { payload: Payload::End(offset), .. } => break assert_eq!(offset, 18),
-///         Chunk::Parsed { consumed, .. } => drop(held.drain(..consumed)),
-///         Chunk::NeedMoreData(_) => match pieces.next() {
-///             Some(piece) => held.extend_from_slice(piece),
-///             None => is_all = true,
+///         Chunk::Parsed { consumed, .. } => drop(buffer.drain(..consumed)),
+///         Chunk::NeedMoreData(_) => match chunks.next() {
+///             Some(chunk) => buffer.extend_from_slice(chunk),
+///             None => eof = true,
 ///         },
 ///     }
 /// }
-/// # Ok::<(), pulleynavy::BinaryReaderError>(())
+/// # Ok::<(), pulleynavy::Error>(())
 /// ```
 #[derive(Clone, Debug)]
-pub struct Parser(ffi::Parser);
+pub struct Parser(library::Parser);
 
 impl Default for Parser {
     fn default() -> Self {
@@ -48,78 +49,77 @@ impl Default for Parser {
 }
 
 impl Parser {
-    /// A parser of a stream that begins at this offset, with all features.
+    /// Returns a parser of a stream that begins at this offset, with all features.
     pub fn new(offset: u64) -> Self {
-        // SAFETY: the declaration is made from the sources, and any numbers may be given.
-        Parser(unsafe { ffi::pulleynavy_parser_init(offset, WasmFeatures::all().bits()) })
+        Parser(library::parser_init(offset, WasmFeatures::all().bits()))
     }
 
-    /// Whether bytes begin with the header of a module.
+    /// Returns whether bytes begin with the header of a module.
     pub fn is_core_wasm(bytes: &[u8]) -> bool {
         bytes.starts_with(b"\0asm\x01\0\0\0")
     }
 
-    /// Whether bytes begin with the header of a component.
+    /// Returns whether bytes begin with the header of a component.
     pub fn is_component(bytes: &[u8]) -> bool {
         bytes.starts_with(b"\0asm\x0d\0\x01\0")
     }
 
-    /// A reader of bytes that are at this offset of the whole stream, with the features of what comes next.
+    /// Returns a reader of bytes at this offset of the whole stream, with the features of the next payload.
     ///
     /// # Panics
-    /// If the bytes pass the offset 2^64 - 1.
+    /// If the bytes pass offset 2^64 - 1.
     pub fn binary_reader<'a>(&self, bytes: &'a [u8], offset: u64) -> BinaryReader<'a> {
         BinaryReader::new_features(bytes, offset, self.features())
     }
 
-    /// The offset of what comes next.
+    /// The offset of the next payload.
     pub fn offset(&self) -> u64 {
         self.0.offset
     }
 
-    /// The features of what comes next.
+    /// The features of the next payloads.
     pub fn features(&self) -> WasmFeatures {
         WasmFeatures::from_bits_retain(self.0.features)
     }
 
-    /// Sets the features of what comes next.
+    /// Sets the features of the next payloads.
     pub fn set_features(&mut self, features: WasmFeatures) {
         self.0.features = features.bits();
     }
 
-    /// What comes next in the stream of which these bytes are the rest, or with `eof` false the beginning of the rest.
+    /// Parses the next payload. The bytes are a prefix of the remaining input, or with `eof` all of it.
+    ///
+    /// Call it again with the bytes after the consumed ones. After [`Chunk::NeedMoreData`], call it with the same bytes and more.
     ///
     /// # Errors
-    /// The fault that is there, which leaves the parser as it was.
+    /// If the input is malformed. The parser is then unchanged.
     pub fn parse<'a>(&mut self, data: &'a [u8], eof: bool) -> Result<Chunk<'a>> {
         let before = Window { bytes: data, offset: self.0.offset, features: self.0.features };
-        // SAFETY: the declaration is made from the sources; pointer and length are those of a slice that is borrowed for the call.
-        let event = unsafe { ffi::pulleynavy_parse(&mut self.0, data.as_ptr(), data.len(), eof) };
+        let event = library::parse(&mut self.0, data, eof);
         match event.kind {
-            0 => Ok(Chunk::NeedMoreData(event.hint)),
-            10 => Err(BinaryReaderError::new(event.fault)),
+            event_kind::NEED_MORE => Ok(Chunk::NeedMoreData(usize::try_from(event.hint).unwrap_or(usize::MAX))),
+            event_kind::FAULT => Err(Error::reported(event.fault)),
             _ => Ok(Chunk::Parsed { consumed: event.consumed as usize, payload: payload(before, &event)? }),
         }
     }
 
-    /// How many bytes are left of a code section, from its start until the next payload that is no body.
+    /// The number of remaining bytes of a code section, from its start until the next payload that is not a body.
     pub fn skippable(&self) -> Option<u32> {
         (self.0.in_code != 0).then_some(self.0.code_bytes)
     }
 
-    /// Passes what is left of a code section: the caller hands in the bytes after it next. Elsewhere it passes nothing.
+    /// Skips the remaining bytes of a code section: pass the bytes behind it next. Outside a code section it does nothing.
     pub fn skip_section(&mut self) {
-        // SAFETY: the declaration is made from the sources.
-        unsafe { ffi::pulleynavy_skip_section(&mut self.0) };
+        library::skip_section(&mut self.0);
     }
 
-    /// The payloads of the stream that these bytes are, up to its end or its first fault.
+    /// Iterates over the payloads of a complete stream, up to its end or its first error.
     pub fn parse_all(self, data: &[u8]) -> ParseAll<'_> {
         ParseAll { parser: self, rest: data, ended: false }
     }
 }
 
-/// The payloads of a stream.
+/// An iterator over the payloads of a stream.
 #[derive(Clone, Debug)]
 pub struct ParseAll<'a> {
     parser: Parser,
@@ -140,7 +140,7 @@ impl<'a> Iterator for ParseAll<'a> {
                 self.ended = matches!(payload, Payload::End(_));
                 Some(Ok(payload))
             }
-            // All bytes were given, so that none are asked for.
+            // All bytes were passed, so none are missing.
             Ok(Chunk::NeedMoreData(_)) => None,
             Err(error) => {
                 self.ended = true;

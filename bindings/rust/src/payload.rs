@@ -1,11 +1,17 @@
-//! The parts of a stream.
+//! Payloads: the parts of a stream.
+use crate::codes::event_kind;
+use crate::composites::{Func, RecGroups};
+use crate::library::{Event, Span};
 use crate::section::Window;
-use crate::{BinaryReader, CustomSectionReader, Data, Element, Export, Global, Imports, MemoryType, RecGroup, Result, SectionLimited, Table, TagType, ffi};
+use crate::{
+    BinaryReader, CompositeInnerType, CustomSectionReader, Data, Element, Error, Export, Fault, Global, Imports, MemoryType, Result, SectionLimited, SubType,
+    Table, TagType,
+};
 use core::fmt;
 use core::ops::Range;
 
 /// The type section.
-pub type TypeSectionReader<'a> = SectionLimited<'a, RecGroup<'a>>;
+pub type TypeSectionReader<'a> = RecGroups<'a>;
 /// The import section.
 pub type ImportSectionReader<'a> = SectionLimited<'a, Imports<'a>>;
 /// The function section: the indices of the functions' types.
@@ -25,7 +31,24 @@ pub type ElementSectionReader<'a> = SectionLimited<'a, Element<'a>>;
 /// The data section.
 pub type DataSectionReader<'a> = SectionLimited<'a, Data<'a>>;
 
-/// What a header announces.
+impl<'a> TypeSectionReader<'a> {
+    /// Iterates over the types of a section that has plain function types alone. Any other type is an error, after which the next ones follow.
+    pub fn into_iter_err_on_gc_types(self) -> impl Iterator<Item = Result<Func<'a>>> {
+        self.into_iter_with_offsets().map(|item| {
+            let (offset, group) = item?;
+            let mut types = group.into_types();
+            match (types.next(), types.next()) {
+                (Some(SubType { is_final: true, supertype_idx: None, composite_type }), None) => match composite_type.inner {
+                    CompositeInnerType::Func(ty) => Ok(ty),
+                    _ => Err(Error::new(Fault::GcTypes, offset)),
+                },
+                _ => Err(Error::new(Fault::GcTypes, offset)),
+            }
+        })
+    }
+}
+
+/// What a stream holds, by its header.
 #[derive(Clone, Copy, Debug, PartialEq, Eq, Hash)]
 pub enum Encoding {
     /// A module.
@@ -41,17 +64,17 @@ pub struct FunctionBody<'a> {
 }
 
 impl<'a> FunctionBody<'a> {
-    /// The body that a reader has left, which isn't looked at.
+    /// Takes the remaining bytes of a reader as a body, without reading them.
     pub fn new(reader: BinaryReader<'a>) -> Self {
         FunctionBody { window: reader.rest }
     }
 
-    /// A reader of its bytes.
+    /// Returns a reader of its bytes.
     pub fn get_binary_reader(&self) -> BinaryReader<'a> {
         BinaryReader::of(self.window)
     }
 
-    /// Its offsets.
+    /// The offsets of its bytes.
     pub fn range(&self) -> Range<u64> {
         self.window.range()
     }
@@ -62,7 +85,7 @@ impl<'a> FunctionBody<'a> {
     }
 }
 
-/// What comes next in a stream.
+/// A part of a stream.
 #[derive(Clone)]
 #[non_exhaustive]
 pub enum Payload<'a> {
@@ -70,9 +93,9 @@ pub enum Payload<'a> {
     Version {
         /// The version.
         num: u16,
-        /// What it announces.
+        /// What the stream holds.
         encoding: Encoding,
-        /// Its offsets.
+        /// The offsets of the header.
         range: Range<u64>,
     },
     /// The type section.
@@ -93,7 +116,7 @@ pub enum Payload<'a> {
     ExportSection(ExportSectionReader<'a>),
     /// The start section.
     StartSection {
-        /// The index of the function that is called first.
+        /// The index of the start function.
         func: u32,
         /// The offsets of the section's content.
         range: Range<u64>,
@@ -102,7 +125,7 @@ pub enum Payload<'a> {
     ElementSection(ElementSectionReader<'a>),
     /// The data count section.
     DataCountSection {
-        /// How many data segments there are.
+        /// The number of data segments.
         count: u32,
         /// The offsets of the section's content.
         range: Range<u64>,
@@ -111,32 +134,32 @@ pub enum Payload<'a> {
     DataSection(DataSectionReader<'a>),
     /// The start of the code section.
     CodeSectionStart {
-        /// How many bodies come.
+        /// The number of bodies that follow.
         count: u32,
-        /// The offsets of the section's content.
-        range: Range<u64>,
-        /// How many bytes come after the count.
+        /// The offsets of the section's content, whose end is not compared with the bodies yet.
+        unchecked_range: Range<u64>,
+        /// The size of the section without the count.
         size: u32,
     },
-    /// A body.
+    /// The body of a function.
     CodeSectionEntry(FunctionBody<'a>),
     /// A custom section.
     CustomSection(CustomSectionReader<'a>),
-    /// A section with an id that isn't known.
+    /// A section with an unknown id.
     UnknownSection {
         /// Its id.
         id: u8,
         /// Its bytes.
         contents: &'a [u8],
-        /// Their offsets.
+        /// The offsets of its bytes.
         range: Range<u64>,
     },
-    /// The end of the stream, at this offset.
+    /// The end of the stream, which is at this offset.
     End(u64),
 }
 
 impl Payload<'_> {
-    /// The id of a section and the offsets of its content, of a code section where it starts. What is no section has none.
+    /// Returns the id of a section and the offsets of its content. Of a code section only the start counts; what is not a section has none.
     pub fn as_section(&self) -> Option<(u8, Range<u64>)> {
         Some(match self {
             Payload::Version { .. } | Payload::CodeSectionEntry(_) | Payload::End(_) => return None,
@@ -150,7 +173,7 @@ impl Payload<'_> {
             Payload::ExportSection(section) => (7, section.range()),
             Payload::StartSection { range, .. } => (8, range.clone()),
             Payload::ElementSection(section) => (9, section.range()),
-            Payload::CodeSectionStart { range, .. } => (10, range.clone()),
+            Payload::CodeSectionStart { unchecked_range, .. } => (10, unchecked_range.clone()),
             Payload::DataSection(section) => (11, section.range()),
             Payload::DataCountSection { range, .. } => (12, range.clone()),
             Payload::TagSection(section) => (13, section.range()),
@@ -183,7 +206,7 @@ impl Payload<'_> {
     }
 }
 
-/// Counted sections, bodies and contents aren't shown.
+/// Counted sections, bodies and contents are not shown.
 impl fmt::Debug for Payload<'_> {
     fn fmt(&self, f: &mut fmt::Formatter<'_>) -> fmt::Result {
         let word = self.word();
@@ -191,7 +214,9 @@ impl fmt::Debug for Payload<'_> {
             Payload::Version { num, encoding, range } => f.debug_struct(word).field("num", num).field("encoding", encoding).field("range", range).finish(),
             Payload::StartSection { func, range } => f.debug_struct(word).field("func", func).field("range", range).finish(),
             Payload::DataCountSection { count, range } => f.debug_struct(word).field("count", count).field("range", range).finish(),
-            Payload::CodeSectionStart { count, range, size } => f.debug_struct(word).field("count", count).field("range", range).field("size", size).finish(),
+            Payload::CodeSectionStart { count, unchecked_range, size } => {
+                f.debug_struct(word).field("count", count).field("unchecked_range", unchecked_range).field("size", size).finish()
+            }
             Payload::CustomSection(section) => f.debug_tuple(word).field(section).finish(),
             Payload::UnknownSection { id, range, .. } => f.debug_struct(word).field("id", id).field("range", range).finish(),
             Payload::End(offset) => f.debug_tuple(word).field(offset).finish(),
@@ -200,24 +225,24 @@ impl fmt::Debug for Payload<'_> {
     }
 }
 
-/// What an event says, of bytes that begin where the parser was.
-pub(crate) fn payload<'a>(before: Window<'a>, event: &ffi::Event) -> Result<Payload<'a>> {
+/// The payload of an event, of bytes that begin at the parser's offset.
+pub(crate) fn payload<'a>(before: Window<'a>, event: &Event) -> Result<Payload<'a>> {
     let range = event.start..event.end;
     // The end has no bytes, and the range of a code section goes beyond those that were consumed.
     let size = event.end.min(before.range().end) - event.start;
-    let window = before.part(ffi::Span { at: event.start - before.offset, size });
+    let window = before.part(Span { at: event.start - before.offset, size });
     Ok(match event.kind {
-        1 => {
+        event_kind::VERSION => {
             let encoding = if event.id == 0 { Encoding::Module } else { Encoding::Component };
             Payload::Version { num: event.count as u16, encoding, range }
         }
-        2 => return counted(event.id, window),
-        3 => Payload::StartSection { func: event.count, range },
-        4 => Payload::DataCountSection { count: event.count, range },
-        5 => Payload::CodeSectionStart { count: event.count, range, size: event.size },
-        6 => Payload::CodeSectionEntry(FunctionBody { window }),
-        7 => Payload::CustomSection(CustomSectionReader::of(window, event.data_offset, event.name_size)),
-        9 => Payload::End(event.start),
+        event_kind::SECTION => return counted(event.id, window),
+        event_kind::START => Payload::StartSection { func: event.count, range },
+        event_kind::DATA_COUNT => Payload::DataCountSection { count: event.count, range },
+        event_kind::CODE => Payload::CodeSectionStart { count: event.count, unchecked_range: range, size: event.size },
+        event_kind::BODY => Payload::CodeSectionEntry(FunctionBody { window }),
+        event_kind::CUSTOM => Payload::CustomSection(CustomSectionReader::of(window, event.data_offset, event.name_size)),
+        event_kind::END => Payload::End(event.start),
         _ => Payload::UnknownSection { id: event.id as u8, contents: window.bytes, range },
     })
 }

@@ -1,7 +1,6 @@
 //! Relocations.
-use crate::error::{Lead, OFFSET_RANGE};
 use crate::section::call;
-use crate::{BinaryReader, BinaryReaderError, FromReader, Result, SectionLimited, ffi};
+use crate::{BinaryReader, Error, Fault, FromReader, Lead, Result, SectionLimited, library};
 use core::ops::Range;
 
 /// What is added to the value that a relocation fills in.
@@ -103,10 +102,10 @@ pub struct RelocSectionReader<'a> {
 }
 
 impl<'a> RelocSectionReader<'a> {
-    /// The section that a reader has left.
+    /// Reads the head of the section from the remaining bytes of a reader.
     ///
     /// # Errors
-    /// The fault of the index of its section, or of the count.
+    /// If the index of the section or the count is malformed.
     pub fn new(mut reader: BinaryReader<'a>) -> Result<Self> {
         let range = reader.remaining_range();
         let section = reader.read_var_u32()?;
@@ -146,18 +145,18 @@ impl RelocationEntry {
     /// Which bytes it fills in, from the start of the content of its section.
     ///
     /// # Errors
-    /// That they pass the greatest `usize`, which 64 bits have room for.
+    /// If they pass the greatest `usize`, which cannot happen where it has 64 bits.
     pub fn relocation_range(&self) -> Result<Range<usize>> {
         let start = self.offset as usize;
-        let end = start.checked_add(self.ty.extent()).ok_or(BinaryReaderError::of_kind(OFFSET_RANGE, self.offset.into()))?;
+        let end = start.checked_add(self.ty.extent()).ok_or_else(|| Error::new(Fault::OffsetRange, self.offset.into()))?;
         Ok(start..end)
     }
 }
 
 impl<'a> FromReader<'a> for RelocationEntry {
     fn from_reader(reader: &mut BinaryReader<'a>) -> Result<Self> {
-        let (_, plain) = call!(pulleynavy_read_relocation, reader);
-        let ffi::Relocation { kind, offset, index, addend, .. } = plain;
+        let (_, plain) = call!(relocation, reader);
+        let library::Relocation { kind, offset, index, addend, .. } = plain;
         let ty = RelocationType::try_from(kind as u8).expect("the library refuses other types");
         Ok(RelocationEntry { ty, offset, index, addend })
     }

@@ -1,11 +1,12 @@
 //! Counted items in a window.
-use crate::error::{INVALID_BOOL, SIZE_MISMATCH};
-use crate::{BinaryReader, BinaryReaderError, Result, ffi};
+use crate::library::{self, Item, Span};
+use crate::{BinaryReader, Error, Fault, Result};
 use core::fmt;
+use core::iter::FusedIterator;
 use core::marker::PhantomData;
 use core::ops::Range;
 
-/// A run of a stream's bytes, with its offset in the stream and the features that are taken in it.
+/// Bytes of a stream, with their offset in the stream and the enabled features. They end at most at offset 2^64 - 1.
 #[derive(Clone, Copy, Debug)]
 pub(crate) struct Window<'a> {
     pub(crate) bytes: &'a [u8],
@@ -19,19 +20,19 @@ impl<'a> Window<'a> {
         self.offset..self.offset + self.bytes.len() as u64
     }
 
-    /// What is left after so many bytes.
+    /// The remaining bytes after this many.
     pub(crate) fn after(&self, count: u64) -> Self {
         Window { bytes: &self.bytes[count as usize..], offset: self.offset + count, features: self.features }
     }
 
     /// A part of it.
-    pub(crate) fn part(&self, span: ffi::Span) -> Self {
+    pub(crate) fn part(&self, span: Span) -> Self {
         let rest = self.after(span.at);
         Window { bytes: &rest.bytes[..span.size as usize], ..rest }
     }
 
-    /// A text in it, which the library has found to be UTF-8.
-    pub(crate) fn text(&self, span: ffi::Span) -> &'a str {
+    /// A string in it, which the library has found to be UTF-8.
+    pub(crate) fn text(&self, span: Span) -> &'a str {
         core::str::from_utf8(self.part(span).bytes).unwrap_or_default()
     }
 }
@@ -40,34 +41,39 @@ impl<'a> Window<'a> {
 macro_rules! call {
     ($name:ident, $reader:expr $(, $more:expr)*) => {{
         let window = $reader.rest;
-        // SAFETY: the declaration is made from the sources; pointer and length are those of a slice that is borrowed for the call.
-        let plain = unsafe { crate::ffi::$name(window.bytes.as_ptr(), window.bytes.len(), window.offset, window.features $(, $more)*) };
-        if plain.fault.kind != 0 {
-            return Err(crate::BinaryReaderError::new(plain.fault));
-        }
-        $reader.rest = window.after(plain.consumed);
-        (window, plain)
+        let item = crate::library::$name(&window $(, $more)*);
+        $reader.rest = window.after(crate::section::read_size(&item)?);
+        (window, item)
     }};
 }
 pub(crate) use call;
 
-/// What can be read where a reader stands.
+/// How many bytes an item takes, or the fault that the library reports in its place.
+#[inline]
+pub(crate) fn read_size(item: &impl Item) -> Result<u64> {
+    match item.fault() {
+        library::Fault { kind: 0, .. } => Ok(item.consumed()),
+        fault => Err(Error::reported(fault)),
+    }
+}
+
+/// A type that can be read from a [`BinaryReader`].
 pub trait FromReader<'a>: Sized {
-    /// Reads the next item, and passes over it.
+    /// Reads an item at the reader's position and moves past it.
     ///
     /// # Errors
-    /// The fault of the item.
+    /// If the item is malformed.
     fn from_reader(reader: &mut BinaryReader<'a>) -> Result<Self>;
 }
 
-/// A u32.
+/// An unsigned LEB128 number.
 impl<'a> FromReader<'a> for u32 {
     fn from_reader(reader: &mut BinaryReader<'a>) -> Result<Self> {
         reader.read_var_u32()
     }
 }
 
-/// A name of at most 100,000 bytes.
+/// A string of at most 100,000 bytes.
 impl<'a> FromReader<'a> for &'a str {
     fn from_reader(reader: &mut BinaryReader<'a>) -> Result<Self> {
         reader.read_string()
@@ -81,19 +87,19 @@ impl<'a> FromReader<'a> for bool {
         match reader.read_u8()? {
             0 => Ok(false),
             1 => Ok(true),
-            _ => Err(BinaryReaderError::of_kind(INVALID_BOOL, offset)),
+            _ => Err(Error::new(Fault::InvalidBool, offset)),
         }
     }
 }
 
-/// One item, and another after it.
+/// An item and another one behind it.
 impl<'a, T: FromReader<'a>, U: FromReader<'a>> FromReader<'a> for (T, U) {
     fn from_reader(reader: &mut BinaryReader<'a>) -> Result<Self> {
         Ok((reader.read()?, reader.read()?))
     }
 }
 
-/// A window with a count of items.
+/// A section that begins with a count of items.
 pub struct SectionLimited<'a, T> {
     whole: Range<u64>,
     rest: Window<'a>,
@@ -114,18 +120,18 @@ impl<T> fmt::Debug for SectionLimited<'_, T> {
 }
 
 impl<'a, T> SectionLimited<'a, T> {
-    /// What a reader has left: a count and so many items.
+    /// Takes the remaining bytes of a reader as a section, and reads its count.
     ///
     /// # Errors
-    /// The fault of the count.
+    /// If the count is malformed.
     pub fn new(mut reader: BinaryReader<'a>) -> Result<Self> {
         let whole = reader.remaining_range();
         let count = reader.read_var_u32()?;
         Ok(SectionLimited { whole, rest: reader.rest, count, item: PhantomData })
     }
 
-    /// A list in a window: so many items, which come after their count.
-    pub(crate) fn list(window: Window<'a>, items: ffi::Span, count: u32) -> Self {
+    /// A list inside an item: this many items behind their count.
+    pub(crate) fn list(window: Window<'a>, items: Span, count: u32) -> Self {
         let rest = window.part(items);
         // No byte before a count has its top bit set, and of the count itself all but the last have.
         let before = &window.bytes[..(items.at as usize).saturating_sub(1)];
@@ -133,7 +139,7 @@ impl<'a, T> SectionLimited<'a, T> {
         SectionLimited { whole: rest.offset - size..rest.range().end, rest, count, item: PhantomData }
     }
 
-    /// How many items are announced.
+    /// The announced number of items.
     pub fn count(&self) -> u32 {
         self.count
     }
@@ -143,12 +149,12 @@ impl<'a, T> SectionLimited<'a, T> {
         self.rest.offset
     }
 
-    /// The offsets of the window, its count among them.
+    /// The offsets of the section, with its count.
     pub fn range(&self) -> Range<u64> {
         self.whole.clone()
     }
 
-    /// The items, each with the offset at which it begins.
+    /// Iterates over the items, each with its offset.
     pub fn into_iter_with_offsets(self) -> SectionLimitedIntoIterWithOffsets<'a, T> {
         SectionLimitedIntoIterWithOffsets { items: SectionLimitedIntoIter { left: self.count, section: self, ended: false } }
     }
@@ -163,7 +169,7 @@ impl<'a, T: FromReader<'a>> IntoIterator for SectionLimited<'a, T> {
     }
 }
 
-/// The items of a section, up to the first fault. Bytes after the last one are a fault too.
+/// An iterator over the items of a section, up to the first error. Trailing bytes after the last item are an error too.
 #[derive(Debug)]
 pub struct SectionLimitedIntoIter<'a, T> {
     section: SectionLimited<'a, T>,
@@ -184,7 +190,7 @@ impl<T> SectionLimitedIntoIter<'_, T> {
     }
 }
 
-/// The section, whose items begin where the iterator was. Its count is what it was.
+/// The section with the remaining items. Its count stays that of all items.
 impl<'a, T> From<SectionLimitedIntoIter<'a, T>> for SectionLimited<'a, T> {
     fn from(items: SectionLimitedIntoIter<'a, T>) -> Self {
         items.section
@@ -201,7 +207,7 @@ impl<'a, T: FromReader<'a>> Iterator for SectionLimitedIntoIter<'a, T> {
         let mut reader = BinaryReader::of(self.section.rest);
         let Some(left) = self.left.checked_sub(1) else {
             self.ended = true;
-            return reader.expect_end(SIZE_MISMATCH).err().map(Err);
+            return reader.expect_end(Fault::SizeMismatch).err().map(Err);
         };
         self.left = left;
         let item = reader.read();
@@ -210,12 +216,20 @@ impl<'a, T: FromReader<'a>> Iterator for SectionLimitedIntoIter<'a, T> {
         Some(item)
     }
 
+    /// The announced number of remaining items, but at most one more than the number of remaining bytes: a malformed count allocates nothing.
     fn size_hint(&self) -> (usize, Option<usize>) {
-        (0, Some(if self.ended { 0 } else { self.left as usize + 1 }))
+        let most = self.section.rest.bytes.len().saturating_add(1);
+        let left = if self.ended { 0 } else { most.min(self.left as usize) };
+        (left, Some(left))
     }
 }
 
-/// The items of a section, each with its offset.
+/// The length is that of a well-formed section. An error may end the iteration earlier, or follow the last item if there are trailing bytes.
+impl<'a, T: FromReader<'a>> ExactSizeIterator for SectionLimitedIntoIter<'a, T> {}
+
+impl<'a, T: FromReader<'a>> FusedIterator for SectionLimitedIntoIter<'a, T> {}
+
+/// An iterator over the items of a section, each with its offset.
 #[derive(Debug)]
 pub struct SectionLimitedIntoIterWithOffsets<'a, T> {
     items: SectionLimitedIntoIter<'a, T>,
@@ -239,3 +253,8 @@ impl<'a, T: FromReader<'a>> Iterator for SectionLimitedIntoIterWithOffsets<'a, T
         self.items.size_hint()
     }
 }
+
+/// The length is that of [`SectionLimitedIntoIter`].
+impl<'a, T: FromReader<'a>> ExactSizeIterator for SectionLimitedIntoIterWithOffsets<'a, T> {}
+
+impl<'a, T: FromReader<'a>> FusedIterator for SectionLimitedIntoIterWithOffsets<'a, T> {}

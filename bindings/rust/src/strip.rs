@@ -1,16 +1,12 @@
 //! Streams without their custom sections.
-use crate::ffi;
-use crate::{BinaryReaderError, Result};
+use crate::{Error, Result, library};
 
-/// Takes the custom sections out of a whole stream, which begins at offset 0, in its own bytes, and gives those that are left. With
-/// `keep_names` the sections with the name `name` stay.
+/// Removes the custom sections of a complete stream in place, and returns the remaining bytes. With `keep_names` the sections called `name`
+/// stay.
 ///
-/// The fault of a stream that isn't accepted, which is left as it was.
+/// # Errors
+/// The error of a stream that is not accepted, which is left as it was.
 pub fn strip(bytes: &mut [u8], keep_names: bool) -> Result<&mut [u8]> {
-    // SAFETY: the declaration is made from the sources; pointer and length are those of the slice, which nobody else has.
-    let stripped = unsafe { ffi::pulleynavy_strip(bytes.as_mut_ptr(), bytes.len(), keep_names) };
-    if stripped.fault.kind != 0 {
-        return Err(BinaryReaderError::new(stripped.fault));
-    }
-    Ok(&mut bytes[..stripped.size])
+    let size = library::strip(bytes, keep_names).map_err(Error::reported)?;
+    Ok(&mut bytes[..size])
 }

@@ -1,10 +1,11 @@
-//! Types.
-use crate::error::Lead;
+//! Value types, reference types and heap types.
+use crate::codes::{heap_kind, type_kind};
 use crate::section::call;
-use crate::{BinaryReader, BinaryReaderError, FromReader, List, Result, ffi};
+use crate::{BinaryReader, Error, Fault, FromReader, Lead, Result, library};
+use core::fmt;
 
 /// The type of a value.
-#[derive(Clone, Copy, Debug, PartialEq, Eq, Hash)]
+#[derive(Clone, Copy, Debug, PartialEq, Eq, Hash, PartialOrd, Ord)]
 pub enum ValType {
     /// A 32-bit integer.
     I32,
@@ -20,64 +21,318 @@ pub enum ValType {
     Ref(RefType),
 }
 
+impl ValType {
+    /// A nullable reference to a function.
+    pub const FUNCREF: ValType = ValType::Ref(RefType::FUNCREF);
+    /// A nullable reference to a value of the host.
+    pub const EXTERNREF: ValType = ValType::Ref(RefType::EXTERNREF);
+    /// A nullable reference to an exception.
+    pub const EXNREF: ValType = ValType::Ref(RefType::EXNREF);
+
+    /// Whether it is a reference.
+    pub fn is_reference_type(&self) -> bool {
+        matches!(self, ValType::Ref(_))
+    }
+
+    /// Whether it is a vector.
+    pub fn is_vector_type(&self) -> bool {
+        matches!(self, ValType::V128)
+    }
+
+    /// Whether it has a default value, as all types but references that are not nullable.
+    pub fn is_defaultable(&self) -> bool {
+        self.as_reference_type().is_none_or(|ty| ty.is_nullable())
+    }
+
+    /// The reference type, if it is one.
+    pub fn as_reference_type(&self) -> Option<RefType> {
+        match self {
+            ValType::Ref(ty) => Some(*ty),
+            _ => None,
+        }
+    }
+}
+
+impl From<RefType> for ValType {
+    fn from(ty: RefType) -> Self {
+        ValType::Ref(ty)
+    }
+}
+
+impl fmt::Display for ValType {
+    fn fmt(&self, f: &mut fmt::Formatter<'_>) -> fmt::Result {
+        match self {
+            ValType::I32 => f.write_str("i32"),
+            ValType::I64 => f.write_str("i64"),
+            ValType::F32 => f.write_str("f32"),
+            ValType::F64 => f.write_str("f64"),
+            ValType::V128 => f.write_str("v128"),
+            ValType::Ref(ty) => ty.fmt(f),
+        }
+    }
+}
+
 /// The byte before the heap type of a reference that may be null.
 const NULLABLE: u8 = 0x63;
 
 /// The type of a reference.
-#[derive(Clone, Copy, Debug, PartialEq, Eq, Hash)]
+#[derive(Clone, Copy, Debug, PartialEq, Eq, Hash, PartialOrd, Ord)]
 pub struct RefType {
     nullable: bool,
     heap: HeapType,
 }
 
+/// The abstract heap types. Of each: the constants of its nullable reference and of the other one, its name, the short form of the nullable
+/// reference, and its name in the C library.
+macro_rules! abstract_types {
+    ($($(#[$doc:meta])* $name:ident $constant:ident $nullable:ident $other:ident $text:literal $short:literal $(= $code:ident)?,)*) => {
+        /// A heap type that is not defined in a module.
+        #[derive(Clone, Copy, Debug, PartialEq, Eq, Hash, PartialOrd, Ord)]
+        pub enum AbstractHeapType {
+            $($(#[$doc])* $name,)*
+        }
+
+        impl AbstractHeapType {
+            /// The type with this number in the C library.
+            fn of(number: u32) -> Option<Self> {
+                Some(match number {
+                    $($(heap_kind::$code => AbstractHeapType::$name,)?)*
+                    _ => return None,
+                })
+            }
+        }
+
+        impl HeapType {
+            $(
+                $(#[$doc])*
+                pub const $constant: HeapType = HeapType::Abstract { shared: false, ty: AbstractHeapType::$name };
+            )*
+        }
+
+        impl RefType {
+            $(
+                #[doc = concat!("The nullable reference `", $short, "`.")]
+                pub const $nullable: RefType = RefType { nullable: true, heap: HeapType::$constant };
+                #[doc = concat!("The reference `(ref ", $text, ")`.")]
+                pub const $other: RefType = RefType { nullable: false, heap: HeapType::$constant };
+            )*
+
+            /// The short form of a nullable reference to an abstract type that is not shared.
+            fn short(&self) -> Option<&'static str> {
+                match (self.nullable, self.heap) {
+                    $((true, HeapType::$constant) => Some($short),)*
+                    _ => None,
+                }
+            }
+        }
+
+        impl fmt::Display for AbstractHeapType {
+            fn fmt(&self, f: &mut fmt::Formatter<'_>) -> fmt::Result {
+                f.write_str(match self {
+                    $(AbstractHeapType::$name => $text,)*
+                })
+            }
+        }
+    };
+}
+
+// Continuations have no number in the library, which does not read them.
+abstract_types! {
+    /// Any function.
+    Func FUNC FUNCREF FUNC "func" "funcref" = FUNC,
+    /// Any value of the host.
+    Extern EXTERN EXTERNREF EXTERN "extern" "externref" = EXTERN,
+    /// Any value of the module.
+    Any ANY ANYREF ANY "any" "anyref" = ANY,
+    /// No value: the bottom type below `Any`.
+    None NONE NULLREF NONE "none" "nullref" = NONE,
+    /// No value: the bottom type below `Extern`.
+    NoExtern NOEXTERN NULLEXTERNREF NOEXTERN "noextern" "nullexternref" = NO_EXTERN,
+    /// No value: the bottom type below `Func`.
+    NoFunc NOFUNC NULLFUNCREF NOFUNC "nofunc" "nullfuncref" = NO_FUNC,
+    /// Any value that can be compared.
+    Eq EQ EQREF EQ "eq" "eqref" = EQ,
+    /// Any structure.
+    Struct STRUCT STRUCTREF STRUCT "struct" "structref" = STRUCT,
+    /// Any array.
+    Array ARRAY ARRAYREF ARRAY "array" "arrayref" = ARRAY,
+    /// An integer of 31 bits.
+    I31 I31 I31REF I31 "i31" "i31ref" = I31,
+    /// An exception.
+    Exn EXN EXNREF EXN "exn" "exnref" = EXN,
+    /// No value: the bottom type below `Exn`.
+    NoExn NOEXN NULLEXNREF NOEXN "noexn" "nullexnref" = NO_EXN,
+    /// A continuation. This crate never returns it.
+    Cont CONT CONTREF CONT "cont" "contref",
+    /// No value: the bottom type below `Cont`. This crate never returns it.
+    NoCont NOCONT NULLCONTREF NOCONT "nocont" "nullcontref",
+}
+
 impl RefType {
-    /// A reference to a function, which may be null.
-    pub const FUNCREF: RefType = RefType { nullable: true, heap: HeapType::Func };
+    /// A reference to a heap type. It is never `None`.
+    pub fn new(nullable: bool, heap: HeapType) -> Option<Self> {
+        Some(RefType { nullable, heap })
+    }
+
+    /// A reference to the type with this index.
+    pub const fn concrete(nullable: bool, index: PackedIndex) -> Self {
+        RefType { nullable, heap: HeapType::Concrete(index.unpack()) }
+    }
 
     /// Whether the reference may be null.
-    pub fn is_nullable(&self) -> bool {
+    pub const fn is_nullable(&self) -> bool {
         self.nullable
     }
 
+    /// The same reference, nullable.
+    pub const fn nullable(&self) -> Self {
+        RefType { nullable: true, heap: self.heap }
+    }
+
+    /// The same reference, not nullable.
+    pub const fn as_non_null(&self) -> Self {
+        RefType { nullable: false, heap: self.heap }
+    }
+
     /// What it refers to.
-    pub fn heap_type(&self) -> HeapType {
+    pub const fn heap_type(&self) -> HeapType {
         self.heap
+    }
+
+    /// The index of the type that it refers to, if a module defines the type.
+    pub fn type_index(&self) -> Option<PackedIndex> {
+        match self.heap {
+            HeapType::Concrete(index) | HeapType::Exact(index) => index.pack(),
+            HeapType::Abstract { .. } => None,
+        }
+    }
+
+    /// Whether a module defines the type that it refers to.
+    pub const fn is_concrete_type_ref(&self) -> bool {
+        matches!(self.heap, HeapType::Concrete(_) | HeapType::Exact(_))
+    }
+
+    /// Whether it refers to any function.
+    pub const fn is_func_ref(&self) -> bool {
+        matches!(self.heap, HeapType::FUNC)
+    }
+
+    /// Whether it refers to any value of the host.
+    pub const fn is_extern_ref(&self) -> bool {
+        matches!(self.heap, HeapType::EXTERN)
+    }
+}
+
+impl fmt::Display for RefType {
+    fn fmt(&self, f: &mut fmt::Formatter<'_>) -> fmt::Result {
+        match (self.short(), self.nullable) {
+            (Some(short), _) => f.write_str(short),
+            (None, true) => write!(f, "(ref null {})", self.heap),
+            (None, false) => write!(f, "(ref {})", self.heap),
+        }
     }
 }
 
 /// What a reference refers to.
-#[derive(Clone, Copy, Debug, PartialEq, Eq, Hash)]
+#[derive(Clone, Copy, Debug, PartialEq, Eq, Hash, PartialOrd, Ord)]
 pub enum HeapType {
-    /// Any function.
-    Func,
-    /// Any value of the host.
-    Extern,
-    /// Any value of the module.
-    Any,
-    /// Any value that can be compared.
-    Eq,
-    /// An integer of 31 bits.
-    I31,
-    /// Any structure.
-    Struct,
-    /// Any array.
-    Array,
-    /// An exception.
-    Exn,
-    /// No value: the least type below `Any`.
-    None,
-    /// No value: the least type below `Extern`.
-    NoExtern,
-    /// No value: the least type below `Func`.
-    NoFunc,
-    /// No value: the least type below `Exn`.
-    NoExn,
+    /// A type that is not defined in a module.
+    Abstract {
+        /// Whether it is shared between threads. Types that this crate reads are not.
+        shared: bool,
+        /// Which type it is.
+        ty: AbstractHeapType,
+    },
     /// The type with this index.
-    Concrete(u32),
+    Concrete(UnpackedIndex),
+    /// Exactly the type with this index. This crate never returns it.
+    Exact(UnpackedIndex),
+}
+
+impl fmt::Display for HeapType {
+    fn fmt(&self, f: &mut fmt::Formatter<'_>) -> fmt::Result {
+        match self {
+            HeapType::Abstract { shared: false, ty } => ty.fmt(f),
+            HeapType::Abstract { shared: true, ty } => write!(f, "(shared {ty})"),
+            HeapType::Concrete(index) => index.fmt(f),
+            HeapType::Exact(index) => write!(f, "(exact {index})"),
+        }
+    }
+}
+
+/// The index of a type.
+#[derive(Clone, Copy, Debug, PartialEq, Eq, Hash, PartialOrd, Ord)]
+pub enum UnpackedIndex {
+    /// An index in the type index space of the module.
+    Module(u32),
+    /// An index in the recursion group. This crate never returns it.
+    RecGroup(u32),
+}
+
+impl UnpackedIndex {
+    /// The same index, packed, if it is one in the module.
+    pub const fn pack(&self) -> Option<PackedIndex> {
+        match self {
+            UnpackedIndex::Module(index) => Some(PackedIndex(*index)),
+            UnpackedIndex::RecGroup(_) => None,
+        }
+    }
+
+    /// The index in the module, if it is one.
+    pub const fn as_module_index(&self) -> Option<u32> {
+        match self {
+            UnpackedIndex::Module(index) => Some(*index),
+            UnpackedIndex::RecGroup(_) => None,
+        }
+    }
+
+    /// The index in the recursion group, if it is one.
+    pub const fn as_rec_group_index(&self) -> Option<u32> {
+        match self {
+            UnpackedIndex::Module(_) => None,
+            UnpackedIndex::RecGroup(index) => Some(*index),
+        }
+    }
+}
+
+impl fmt::Display for UnpackedIndex {
+    fn fmt(&self, f: &mut fmt::Formatter<'_>) -> fmt::Result {
+        match self {
+            UnpackedIndex::Module(index) => write!(f, "(module {index})"),
+            UnpackedIndex::RecGroup(index) => write!(f, "(recgroup {index})"),
+        }
+    }
+}
+
+/// The index of a type in the type index space of the module.
+#[derive(Clone, Copy, Debug, PartialEq, Eq, Hash, PartialOrd, Ord)]
+pub struct PackedIndex(u32);
+
+impl PackedIndex {
+    /// An index in the module.
+    pub const fn from_module_index(index: u32) -> Option<Self> {
+        Some(PackedIndex(index))
+    }
+
+    /// The same index, unpacked.
+    pub const fn unpack(&self) -> UnpackedIndex {
+        UnpackedIndex::Module(self.0)
+    }
+
+    /// The index in the module.
+    pub const fn as_module_index(&self) -> Option<u32> {
+        Some(self.0)
+    }
+}
+
+impl fmt::Display for PackedIndex {
+    fn fmt(&self, f: &mut fmt::Formatter<'_>) -> fmt::Result {
+        self.unpack().fmt(f)
+    }
 }
 
 /// What a field holds.
-#[derive(Clone, Copy, Debug, PartialEq, Eq, Hash)]
+#[derive(Clone, Copy, Debug, PartialEq, Eq, Hash, PartialOrd, Ord)]
 pub enum StorageType {
     /// An integer of 8 bits.
     I8,
@@ -87,8 +342,28 @@ pub enum StorageType {
     Val(ValType),
 }
 
+impl StorageType {
+    /// The type of the value that a read of the field has.
+    pub fn unpack(&self) -> ValType {
+        match self {
+            StorageType::I8 | StorageType::I16 => ValType::I32,
+            StorageType::Val(ty) => *ty,
+        }
+    }
+}
+
+impl fmt::Display for StorageType {
+    fn fmt(&self, f: &mut fmt::Formatter<'_>) -> fmt::Result {
+        match self {
+            StorageType::I8 => f.write_str("i8"),
+            StorageType::I16 => f.write_str("i16"),
+            StorageType::Val(ty) => ty.fmt(f),
+        }
+    }
+}
+
 /// A field of a structure, or the element of an array.
-#[derive(Clone, Copy, Debug, PartialEq, Eq, Hash)]
+#[derive(Clone, Copy, Debug, PartialEq, Eq, Hash, PartialOrd, Ord)]
 pub struct FieldType {
     /// What it holds.
     pub element_type: StorageType,
@@ -96,39 +371,44 @@ pub struct FieldType {
     pub mutable: bool,
 }
 
-pub(crate) fn ref_type(ty: ffi::Type) -> RefType {
-    let heap = match ty.heap {
-        0 => HeapType::Func,
-        1 => HeapType::Extern,
-        2 => HeapType::Any,
-        3 => HeapType::Eq,
-        4 => HeapType::I31,
-        5 => HeapType::Struct,
-        6 => HeapType::Array,
-        7 => HeapType::Exn,
-        8 => HeapType::None,
-        9 => HeapType::NoExtern,
-        10 => HeapType::NoFunc,
-        11 => HeapType::NoExn,
-        _ => HeapType::Concrete(ty.index),
-    };
+/// The type of an array.
+#[derive(Clone, Copy, Debug, PartialEq, Eq, Hash, PartialOrd, Ord)]
+pub struct ArrayType(
+    /// The type of its elements.
+    pub FieldType,
+);
+
+/// The type of a continuation. This crate never returns it.
+#[derive(Clone, Copy, Debug, PartialEq, Eq, Hash, PartialOrd, Ord)]
+pub struct ContType(
+    /// The index of its function type.
+    pub PackedIndex,
+);
+
+pub(crate) fn type_index(index: u32) -> PackedIndex {
+    PackedIndex(index)
+}
+
+pub(crate) fn ref_type(ty: library::Type) -> RefType {
+    let concrete = HeapType::Concrete(UnpackedIndex::Module(ty.index));
+    let heap = AbstractHeapType::of(ty.heap).map_or(concrete, |ty| HeapType::Abstract { shared: false, ty });
     RefType { nullable: ty.nullable != 0, heap }
 }
 
-pub(crate) fn val_type(ty: ffi::Type) -> ValType {
+pub(crate) fn val_type(ty: library::Type) -> ValType {
     match ty.kind {
-        0 => ValType::I32,
-        1 => ValType::I64,
-        2 => ValType::F32,
-        3 => ValType::F64,
-        4 => ValType::V128,
+        type_kind::I32 => ValType::I32,
+        type_kind::I64 => ValType::I64,
+        type_kind::F32 => ValType::F32,
+        type_kind::F64 => ValType::F64,
+        type_kind::V128 => ValType::V128,
         _ => ValType::Ref(ref_type(ty)),
     }
 }
 
 impl<'a> FromReader<'a> for ValType {
     fn from_reader(reader: &mut BinaryReader<'a>) -> Result<Self> {
-        let (_, plain) = call!(pulleynavy_read_value_type, reader);
+        let (_, plain) = call!(value_type, reader);
         Ok(val_type(plain.ty))
     }
 }
@@ -138,8 +418,8 @@ impl<'a> FromReader<'a> for RefType {
         let (offset, byte) = (reader.original_position(), reader.peek()?);
         match reader.read() {
             Ok(ValType::Ref(ty)) => Ok(ty),
-            Err(error) if !error.is_leading_byte(Lead::Value) => Err(error),
-            _ => Err(BinaryReaderError::leading_byte(Lead::Reference, byte, offset)),
+            Err(error) if error.fault() != Fault::LeadingByte(Lead::Value) => Err(error),
+            _ => Err(Error::leading_byte(Lead::Reference, byte, offset)),
         }
     }
 }
@@ -151,108 +431,39 @@ impl<'a> FromReader<'a> for HeapType {
         let mut bytes = [NULLABLE, 0, 0, 0, 0, 0];
         bytes[1..=size].copy_from_slice(&reader.remaining_buffer()[..size]);
         let mut reference = BinaryReader::new(&bytes[..=size], 0);
-        let ty: RefType = reference.read().map_err(|error: BinaryReaderError| error.at(offset + error.offset() - 1))?;
+        // The first byte has no fault: the offset of each is at least 1, and the sum is at most the end of the bytes.
+        let ty: RefType = reference.read().map_err(|error: Error| error.at(offset + (error.offset() - 1)))?;
         reader.pass(reference.original_position() - 1);
         Ok(ty.heap)
     }
 }
 
+impl<'a> FromReader<'a> for StorageType {
+    fn from_reader(reader: &mut BinaryReader<'a>) -> Result<Self> {
+        let packed = match reader.peek()? {
+            0x78 => StorageType::I8,
+            0x77 => StorageType::I16,
+            _ => return reader.read().map(StorageType::Val),
+        };
+        reader.pass(1);
+        Ok(packed)
+    }
+}
+
 impl<'a> FromReader<'a> for FieldType {
     fn from_reader(reader: &mut BinaryReader<'a>) -> Result<Self> {
-        let (_, plain) = call!(pulleynavy_read_field_type, reader);
+        let (_, plain) = call!(field_type, reader);
         let element_type = match plain.ty.kind {
-            6 => StorageType::I8,
-            7 => StorageType::I16,
+            type_kind::I8 => StorageType::I8,
+            type_kind::I16 => StorageType::I16,
             _ => StorageType::Val(val_type(plain.ty)),
         };
         Ok(FieldType { element_type, mutable: plain.is_mutable != 0 })
     }
 }
 
-/// The type of a function.
-#[derive(Clone, Debug)]
-pub struct FuncType<'a> {
-    params: List<'a, ValType>,
-    results: List<'a, ValType>,
-}
-
-impl<'a> FuncType<'a> {
-    /// The types of its parameters.
-    pub fn params(&self) -> List<'a, ValType> {
-        self.params.clone()
-    }
-
-    /// The types of its results.
-    pub fn results(&self) -> List<'a, ValType> {
-        self.results.clone()
-    }
-}
-
-/// The type of functions, arrays or structures.
-#[derive(Clone, Debug)]
-pub enum CompositeType<'a> {
-    /// Functions.
-    Func(FuncType<'a>),
-    /// Arrays of this element.
-    Array(FieldType),
-    /// Structures with these fields.
-    Struct(List<'a, FieldType>),
-}
-
-/// A type, and the type that it extends.
-#[derive(Clone, Debug)]
-pub struct SubType<'a> {
-    /// Whether no type may extend this one.
-    pub is_final: bool,
-    /// The index of the type that this one extends.
-    pub supertype_idx: Option<u32>,
-    /// What it is a type of.
-    pub composite_type: CompositeType<'a>,
-}
-
-impl<'a> FromReader<'a> for SubType<'a> {
+impl<'a> FromReader<'a> for ArrayType {
     fn from_reader(reader: &mut BinaryReader<'a>) -> Result<Self> {
-        let (_, head) = call!(pulleynavy_read_subtype, reader);
-        let composite_type = match head.kind {
-            0 => {
-                let params = List::pass(reader, head.count, ValType::from_reader)?;
-                CompositeType::Func(FuncType { params, results: reader.read()? })
-            }
-            1 => CompositeType::Array(reader.read()?),
-            _ => CompositeType::Struct(List::pass(reader, head.count, FieldType::from_reader)?),
-        };
-        let supertype_idx = (head.has_supertype != 0).then_some(head.supertype);
-        Ok(SubType { is_final: head.is_final != 0, supertype_idx, composite_type })
-    }
-}
-
-/// Types that may refer to each other.
-#[derive(Clone, Debug)]
-pub struct RecGroup<'a> {
-    explicit: bool,
-    types: List<'a, SubType<'a>>,
-}
-
-impl<'a> RecGroup<'a> {
-    /// Whether the group is written as one. If not, it is a single type.
-    pub fn is_explicit_rec_group(&self) -> bool {
-        self.explicit
-    }
-
-    /// The types of the group, in their order.
-    pub fn types(&self) -> List<'a, SubType<'a>> {
-        self.types.clone()
-    }
-
-    /// The same.
-    pub fn into_types(self) -> List<'a, SubType<'a>> {
-        self.types
-    }
-}
-
-impl<'a> FromReader<'a> for RecGroup<'a> {
-    fn from_reader(reader: &mut BinaryReader<'a>) -> Result<Self> {
-        let (_, head) = call!(pulleynavy_read_type_group, reader);
-        Ok(RecGroup { explicit: head.is_explicit != 0, types: List::pass(reader, head.count, SubType::from_reader)? })
+        reader.read().map(ArrayType)
     }
 }

@@ -4,14 +4,14 @@ mod common;
 use common::*;
 use pulleynavy::*;
 
-type Read = fn(&[u8]) -> BinaryReaderError;
+type Read = fn(&[u8]) -> Error;
 
-fn stream(bytes: &[u8]) -> BinaryReaderError {
+fn stream(bytes: &[u8]) -> Error {
     Parser::new(0).parse_all(bytes).find_map(Result::err).unwrap()
 }
 
 /// The fault of an item, wherever in it.
-fn of<'a, T: FromReader<'a>>(bytes: &'a [u8]) -> BinaryReaderError {
+fn of<'a, T: FromReader<'a>>(bytes: &'a [u8]) -> Error {
     BinaryReader::new(bytes, 0).read::<T>().err().unwrap()
 }
 
@@ -23,19 +23,19 @@ macro_rules! of {
 }
 
 /// The first fault among items.
-fn among<T>(items: impl Iterator<Item = Result<T>>) -> BinaryReaderError {
+fn among<T>(items: impl Iterator<Item = Result<T>>) -> Error {
     items.filter_map(Result::err).next().unwrap()
 }
 
-fn features_off(bytes: &[u8]) -> BinaryReaderError {
+fn features_off(bytes: &[u8]) -> Error {
     among(ImportSectionReader::new(BinaryReader::new_features(bytes, 0, WasmFeatures::empty())).unwrap().into_imports())
 }
 
-fn offset_range(bytes: &[u8]) -> BinaryReaderError {
+fn offset_range(bytes: &[u8]) -> Error {
     Parser::new(u64::MAX).parse(bytes, true).unwrap_err()
 }
 
-fn too_large(bytes: &[u8]) -> BinaryReaderError {
+fn too_large(bytes: &[u8]) -> Error {
     Parser::new(u64::MAX - 15).parse_all(bytes).find_map(Result::err).unwrap()
 }
 
@@ -52,8 +52,13 @@ fn agree(rows: &[(Read, &str, u32, &str, u64)]) {
 fn numbered(rows: &[(Read, &str, u32, &str, u64, u64)]) {
     for (read, digits, code, text, number, offset) in rows {
         let error = read(&bytes(digits));
-        assert_eq!((error.code(), error.message(), error.offset(), error.number()), (*code, *text, *offset, Some(*number)), "{digits}");
-        assert_eq!(error.to_string(), format!("{text}: {number} (at offset 0x{offset:x})"));
+        assert_eq!((error.code(), error.fault().message(), error.offset(), error.number()), (*code, *text, *offset, Some(*number)), "{digits}");
+        let message = match text.strip_prefix("invalid leading byte ") {
+            Some(what) => format!("invalid leading byte (0x{number:x}) {what}"),
+            None if *code == 5 => format!("{text}: {number:#10x}"),
+            None => format!("{text}: {number}"),
+        };
+        assert_eq!((error.message(), error.to_string()), (message.as_str(), format!("{message} (at offset 0x{offset:x})")));
     }
 }
 
@@ -185,5 +190,5 @@ fn equal_faults() {
     for other in [fault(6, 3), fault(5, 4), BinaryReader::new(&[], 3).read_u8().unwrap_err()] {
         assert_ne!(fault(5, 3), other);
     }
-    assert_eq!(format!("{:?}", fault(5, 3)), "BinaryReaderError { message: \"invalid leading byte for external kind\", number: Some(5), offset: 3 }");
+    assert_eq!(format!("{:?}", fault(5, 3)), "Error { message: \"invalid leading byte (0x5) for external kind\", offset: 3 }");
 }

@@ -188,6 +188,26 @@ fn flags_of_symbols_and_segments() {
     assert_eq!(BinaryReader::new(&[5], 0).read(), Ok(SegmentFlags::from_bits_retain(5)));
 }
 
+#[test]
+fn operators_of_flags() {
+    let (weak, tls) = (SymbolFlags::BINDING_WEAK, SymbolFlags::TLS);
+    let both = weak | tls;
+    assert_eq!((both.bits(), both & tls, both ^ tls, both - weak, both.intersects(tls)), (257, tls, weak, tls, true));
+    assert_eq!((!both | both, !SymbolFlags::all(), weak & tls), (SymbolFlags::all(), SymbolFlags::empty(), SymbolFlags::empty()));
+    let unknown = SymbolFlags::from_bits_retain(0x1101);
+    assert_eq!(unknown.iter().map(|flag| flag.bits()).collect::<Vec<_>>(), [1, 0x100, 0x1000]);
+    assert_eq!(unknown.iter_names().map(|(name, _)| name).collect::<Vec<_>>(), ["BINDING_WEAK", "TLS"]);
+    assert_eq!((SymbolFlags::from_bits(0x1101), SymbolFlags::from_bits_truncate(0x1101)), (None, both));
+    assert_eq!((unknown.into_iter().collect::<SymbolFlags>(), SymbolFlags::from_name("TLS")), (unknown, Some(tls)));
+    let texts = [format!("{unknown:?}"), format!("{both:?}"), format!("{:?}", SymbolFlags::empty()), format!("{both:#x}")];
+    assert_eq!(texts, ["SymbolFlags(BINDING_WEAK | TLS | 0x1000)", "SymbolFlags(BINDING_WEAK | TLS)", "SymbolFlags(0x0)", "0x101"]);
+    let mut set = weak;
+    set |= tls;
+    set.set(weak, false);
+    set.toggle(both);
+    assert_eq!((set, set.is_empty(), SymbolFlags::all().is_all()), (weak, false, true));
+}
+
 /// The kinds of symbols with each form of their flags: defined, undefined, and undefined with a name of its own.
 #[test]
 fn kinds_of_symbols() {

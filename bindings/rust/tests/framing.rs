@@ -294,7 +294,7 @@ fn payloads_have_short_debug_texts() {
         payloads[1..].join(" ")
     };
     for (stream, wanted) in [
-        (WHOLE, "FunctionSection(\"...\") CodeSectionStart { count: 1, range: 14..18, size: 3 } CodeSectionEntry(\"...\") End(18)"),
+        (WHOLE, "FunctionSection(\"...\") CodeSectionStart { count: 1, unchecked_range: 14..18, size: 3 } CodeSectionEntry(\"...\") End(18)"),
         ("M 01 01 00 02 01 00", "TypeSection(\"...\") ImportSection(\"...\") End(14)"),
         ("M 08 01 05 0e 01 ff", "StartSection { func: 5, range: 10..11 } UnknownSection { id: 14, range: 13..14 } End(14)"),
         ("M 0c 01 00", "DataCountSection { count: 0, range: 10..11 } End(11)"),

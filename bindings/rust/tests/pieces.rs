@@ -129,7 +129,7 @@ fn places(offset: u64, stream: &[u8]) -> Vec<(u64, u64, String)> {
         };
         (range.start - offset, range.end - offset, format!("{payload:?}").split([' ', '(']).next().unwrap().to_owned())
     };
-    let fault = |error: BinaryReaderError| (error.offset() - offset, 0, format!("{} {:?}", error.message(), error.number()));
+    let fault = |error: Error| (error.offset() - offset, 0, format!("{} {:?}", error.fault().message(), error.number()));
     Parser::new(offset).parse_all(stream).map(|payload| payload.map_or_else(fault, place)).collect()
 }
 

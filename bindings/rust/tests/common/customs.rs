@@ -203,11 +203,28 @@ pub fn reloc(reader: BinaryReader<'_>) -> Result<String> {
     RelocSectionReader::new(reader).map(reloc_text)
 }
 
-impl Show for CoreDumpInstance<'_> {
-    fn show(&self) -> String {
-        format!("instance({} {} {} )", self.module_index, owned(self.memories.clone()), owned(self.globals.clone()))
-    }
+/// What is shown of core dumps, which borrow from the input if they own no lists.
+macro_rules! show_core_dumps {
+    ($($lifetime:lifetime)?) => {
+        impl Show for CoreDumpInstance$(<$lifetime>)? {
+            fn show(&self) -> String {
+                format!("instance({} {} {} )", self.module_index, owned(self.memories.clone()), owned(self.globals.clone()))
+            }
+        }
+
+        impl Show for CoreDumpStackFrame$(<$lifetime>)? {
+            fn show(&self) -> String {
+                let place = format!("{} {} {}", self.instanceidx, self.funcidx, self.codeoffset);
+                format!("frame({place} {} {} )", owned(self.locals.clone()), owned(self.stack.clone()))
+            }
+        }
+    };
 }
+
+#[cfg(feature = "alloc")]
+show_core_dumps!();
+#[cfg(not(feature = "alloc"))]
+show_core_dumps!('_);
 
 impl Show for CoreDumpValue {
     fn show(&self) -> String {
@@ -215,16 +232,9 @@ impl Show for CoreDumpValue {
             CoreDumpValue::Missing => "missing".to_owned(),
             CoreDumpValue::I32(value) => format!("i32:{value}"),
             CoreDumpValue::I64(value) => format!("i64:{value}"),
-            CoreDumpValue::F32(bits) => format!("f32:{bits}"),
-            CoreDumpValue::F64(bits) => format!("f64:{bits}"),
+            CoreDumpValue::F32(value) => format!("f32:{}", value.bits()),
+            CoreDumpValue::F64(value) => format!("f64:{}", value.bits()),
         }
-    }
-}
-
-impl Show for CoreDumpStackFrame<'_> {
-    fn show(&self) -> String {
-        let place = format!("{} {} {}", self.instanceidx, self.funcidx, self.codeoffset);
-        format!("frame({place} {} {} )", owned(self.locals.clone()), owned(self.stack.clone()))
     }
 }
 

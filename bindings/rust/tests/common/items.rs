@@ -25,6 +25,12 @@ impl Show for &str {
     }
 }
 
+impl<T: Show> Show for &T {
+    fn show(&self) -> String {
+        (**self).show()
+    }
+}
+
 impl Show for ConstExpr<'_> {
     fn show(&self) -> String {
         range(self.range())
@@ -40,8 +46,9 @@ impl Show for RefType {
 impl Show for HeapType {
     fn show(&self) -> String {
         match self {
-            HeapType::Concrete(index) => index.to_string(),
-            other => format!("{other:?}").to_lowercase(),
+            HeapType::Concrete(index) => index.as_module_index().unwrap().to_string(),
+            HeapType::Abstract { shared: false, ty } => format!("{ty:?}").to_lowercase(),
+            other => panic!("{other:?}"),
         }
     }
 }
@@ -72,22 +79,34 @@ impl Show for FieldType {
     }
 }
 
-impl Show for SubType<'_> {
-    fn show(&self) -> String {
-        let composite = match &self.composite_type {
-            CompositeType::Func(ty) => format!("func({} {} )", owned(ty.params()), owned(ty.results())),
-            CompositeType::Array(ty) => format!("array {}", ty.show()),
-            CompositeType::Struct(fields) => format!("struct {}", owned(fields.clone())),
-        };
-        format!("sub({} {} {composite} )", self.is_final, option(self.supertype_idx))
-    }
+/// What is shown of types, which borrow from the input if they own no lists.
+macro_rules! show_types {
+    ($($lifetime:lifetime)?) => {
+        impl Show for SubType$(<$lifetime>)? {
+            fn show(&self) -> String {
+                let CompositeType { inner, shared: false } = &self.composite_type else { panic!("{self:?}") };
+                let inner = match inner {
+                    CompositeInnerType::Func(ty) => format!("func({} {} )", owned(ty.params()), owned(ty.results())),
+                    CompositeInnerType::Array(ty) => format!("array {}", ty.0.show()),
+                    CompositeInnerType::Struct(ty) => format!("struct {}", owned(ty.fields.clone())),
+                    CompositeInnerType::Cont(ty) => panic!("{ty:?}"),
+                };
+                format!("sub({} {} {inner} )", self.is_final, option(self.supertype_idx.and_then(|index| index.as_module_index())))
+            }
+        }
+
+        impl Show for RecGroup$(<$lifetime>)? {
+            fn show(&self) -> String {
+                format!("rec({} {} )", self.is_explicit_rec_group(), owned(self.types()))
+            }
+        }
+    };
 }
 
-impl Show for RecGroup<'_> {
-    fn show(&self) -> String {
-        format!("rec({} {} )", self.is_explicit_rec_group(), owned(self.types()))
-    }
-}
+#[cfg(feature = "alloc")]
+show_types!();
+#[cfg(not(feature = "alloc"))]
+show_types!('_);
 
 impl Show for TableType {
     fn show(&self) -> String {

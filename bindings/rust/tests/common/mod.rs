@@ -25,9 +25,9 @@ pub fn hex(bytes: &[u8]) -> String {
     })
 }
 
-pub fn fault(error: &BinaryReaderError) -> String {
+pub fn fault(error: &Error) -> String {
     let number = error.number().map_or(String::new(), |number| format!(": {number}"));
-    format!("fault {} {}{number}", error.offset(), error.message())
+    format!("fault {} {}{number}", error.offset(), error.fault().message())
 }
 
 pub fn range(range: Range<u64>) -> String {
@@ -49,8 +49,8 @@ pub fn told<T>(result: Result<T>, show: impl FnOnce(T) -> String) -> String {
 }
 
 /// A list that has no fault.
-pub fn owned<T: Show>(items: impl Iterator<Item = T>) -> String {
-    format!("[{}]", joined(items.map(|item| item.show())))
+pub fn owned<T: Show>(items: impl IntoIterator<Item = T>) -> String {
+    format!("[{}]", joined(items.into_iter().map(|item| item.show())))
 }
 
 /// The range, the count and the items of a list, each item after its offset.
@@ -117,7 +117,7 @@ fn uncounted(payload: &Payload<'_>) -> String {
         Payload::Version { num, encoding, range } => format!("version {} {num} {}", place(range), format!("{encoding:?}").to_lowercase()),
         Payload::StartSection { func, range } => format!("start {} {func}", place(range)),
         Payload::DataCountSection { count, range } => format!("datacount {} {count}", place(range)),
-        Payload::CodeSectionStart { count, range, size } => format!("code {} {count} {size}", place(range)),
+        Payload::CodeSectionStart { count, unchecked_range, size } => format!("code {} {count} {size}", place(unchecked_range)),
         Payload::CodeSectionEntry(body) => format!("body {}", place(&body.range())),
         Payload::CustomSection(section) => format!("custom {} {}", place(&section.range()), section.data_offset()),
         Payload::UnknownSection { id, range, .. } => format!("unknown {id} {}", place(range)),

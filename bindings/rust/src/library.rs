@@ -1,0 +1,133 @@
+//! The safe layer over the declarations in `ffi`: the one other module with `unsafe` code.
+//!
+//! Every call passes slices that are borrowed for its duration. The library reads nothing beyond them and keeps no pointer to them.
+use crate::ffi;
+pub(crate) use crate::ffi::GlobalType;
+pub(crate) use crate::ffi::{DylinkMemory, Event, Fault, ImportType, MemoryType, Parser, Relocation, Span, TableType, Type};
+use crate::section::Window;
+
+/// The result of a read: what it holds, or the fault of the library.
+pub(crate) trait Item: Copy {
+    /// The fault, whose kind is 0 if there is none.
+    fn fault(&self) -> Fault;
+
+    /// How many bytes the item takes.
+    fn consumed(&self) -> u64;
+}
+
+/// Declares a safe function for each read of an item in a window.
+macro_rules! reads {
+    ($($name:ident = $call:ident($($more:ident: $ty:ty)?) -> $item:ident;)*) => {
+        $(
+            pub(crate) fn $name(window: &Window<'_> $(, $more: $ty)?) -> ffi::$item {
+                // SAFETY: the declaration is generated from the library's sources. Pointer and length are those of a slice that is borrowed
+                // for the call, and a window ends at most at offset 2^64 - 1.
+                unsafe { ffi::$call(window.bytes.as_ptr(), window.bytes.len(), window.offset, window.features $(, $more)?) }
+            }
+        )*
+    };
+}
+
+/// Reads a fault and a size from each struct of an item.
+macro_rules! items {
+    ($($item:ident)*) => {
+        $(
+            impl Item for ffi::$item {
+                fn fault(&self) -> Fault {
+                    self.fault
+                }
+
+                fn consumed(&self) -> u64 {
+                    self.consumed
+                }
+            }
+        )*
+    };
+}
+
+items! {
+    Number Value Field TypeGroup Subtype Table Memory Tag Global Import ImportItem Name Export Expression Element Data Subsection Naming
+    IndirectNaming ProducersField ProducersValue HintedFunction BranchHint DylinkMemory DylinkExport DylinkImport LinkingSegment InitFunction
+    Comdat ComdatSymbol Symbol Relocation CoreProcess CoreModule CoreInstance CoreThread CoreFrame CoreValue
+}
+
+reads! {
+    number = pulleynavy_read_number() -> Number;
+    value_type = pulleynavy_read_value_type() -> Value;
+    field_type = pulleynavy_read_field_type() -> Field;
+    type_group = pulleynavy_read_type_group() -> TypeGroup;
+    subtype = pulleynavy_read_subtype() -> Subtype;
+    table = pulleynavy_read_table() -> Table;
+    memory = pulleynavy_read_memory() -> Memory;
+    tag = pulleynavy_read_tag() -> Tag;
+    global = pulleynavy_read_global() -> Global;
+    import = pulleynavy_read_import() -> Import;
+    import_item = pulleynavy_read_import_item() -> ImportItem;
+    name = pulleynavy_read_name() -> Name;
+    export = pulleynavy_read_export() -> Export;
+    expression = pulleynavy_read_expression() -> Expression;
+    element = pulleynavy_read_element() -> Element;
+    data = pulleynavy_read_data() -> Data;
+    subsection = pulleynavy_read_subsection() -> Subsection;
+    naming = pulleynavy_read_naming() -> Naming;
+    indirect_naming = pulleynavy_read_indirect_naming() -> IndirectNaming;
+    producers_field = pulleynavy_read_producers_field() -> ProducersField;
+    producers_value = pulleynavy_read_producers_value() -> ProducersValue;
+    hinted_function = pulleynavy_read_hinted_function() -> HintedFunction;
+    branch_hint = pulleynavy_read_branch_hint() -> BranchHint;
+    dylink_memory = pulleynavy_read_dylink_memory() -> DylinkMemory;
+    dylink_export = pulleynavy_read_dylink_export() -> DylinkExport;
+    dylink_import = pulleynavy_read_dylink_import() -> DylinkImport;
+    linking_segment = pulleynavy_read_linking_segment() -> LinkingSegment;
+    init_function = pulleynavy_read_init_function() -> InitFunction;
+    comdat = pulleynavy_read_comdat() -> Comdat;
+    comdat_symbol = pulleynavy_read_comdat_symbol() -> ComdatSymbol;
+    linking_version = pulleynavy_read_linking_version() -> Number;
+    symbol = pulleynavy_read_symbol() -> Symbol;
+    relocation = pulleynavy_read_relocation() -> Relocation;
+    core_process = pulleynavy_read_core_process() -> CoreProcess;
+    core_module = pulleynavy_read_core_module(data_offset: u64) -> CoreModule;
+    core_instance = pulleynavy_read_core_instance() -> CoreInstance;
+    core_thread = pulleynavy_read_core_thread() -> CoreThread;
+    core_frame = pulleynavy_read_core_frame() -> CoreFrame;
+    core_value = pulleynavy_read_core_value() -> CoreValue;
+}
+
+/// The state of a new parser.
+pub(crate) fn parser_init(offset: u64, features: u32) -> Parser {
+    // SAFETY: the declaration is generated from the library's sources, and every pair of numbers is allowed.
+    unsafe { ffi::pulleynavy_parser_init(offset, features) }
+}
+
+/// The next event of a stream, of which these bytes are a prefix of the remaining ones, or with `eof` all of them.
+pub(crate) fn parse(parser: &mut Parser, bytes: &[u8], eof: bool) -> Event {
+    // SAFETY: the declaration is generated from the library's sources. Pointer and length are those of a slice that is borrowed for the
+    // call, and nobody else has the parser.
+    unsafe { ffi::pulleynavy_parse(parser, bytes.as_ptr(), bytes.len(), eof) }
+}
+
+/// Moves a parser past the remaining bytes of a code section; elsewhere it stays where it is.
+pub(crate) fn skip_section(parser: &mut Parser) {
+    // SAFETY: the declaration is generated from the library's sources, and nobody else has the parser.
+    unsafe { ffi::pulleynavy_skip_section(parser) };
+}
+
+/// The number of the kind of custom section that has this name.
+pub(crate) fn classify_custom(name: &str) -> u32 {
+    // SAFETY: the declaration is generated from the library's sources. Pointer and length are those of a text that is borrowed for the call.
+    unsafe { ffi::pulleynavy_classify_custom(name.as_ptr(), name.len()) }
+}
+
+/// Removes custom sections in place. Returns how many bytes remain.
+pub(crate) fn strip(bytes: &mut [u8], keep_names: bool) -> Result<usize, Fault> {
+    // SAFETY: the declaration is generated from the library's sources. Pointer and length are those of a slice that nobody else has.
+    let stripped = unsafe { ffi::pulleynavy_strip(bytes.as_mut_ptr(), bytes.len(), keep_names) };
+    if stripped.fault.kind == 0 { Ok(stripped.size) } else { Err(stripped.fault) }
+}
+
+/// Writes the fixed text of the kind of a fault. Returns its length.
+#[cfg(test)]
+pub(crate) fn format_message(kind: u32, out: &mut [u8]) -> usize {
+    // SAFETY: the declaration is generated from the library's sources. Pointer and length are those of a slice that nobody else has.
+    unsafe { ffi::pulleynavy_format_message(kind, out.as_mut_ptr(), out.len()) }
+}
