@@ -63,6 +63,13 @@ fn prints_in<'a, T: FromReaderIn<'a> + Debug>(
     is_printed(rt, alloc, &item, text)
 }
 
+// What an iterator returns when it is polled.
+fn polled<I: Iterator>(items: &mut I) -> Option<I::Item>
+    requires { (items : I) → I.can_next items }
+{
+    items.next()
+}
+
 // An iterator gives items that are printed as these texts, and then nothing, however often it is polled.
 fn gives<I: Iterator>(
     rt: &impl Abort,
@@ -72,12 +79,13 @@ fn gives<I: Iterator>(
 ) -> Result<(), Fail>
 where
     I::Item: Debug + Drop,
+    requires { (items : I) → I.can_next items }
 {
     for text in texts {
-        is_printed(rt, alloc, &items.next().ok_or("nothing")?, text)?;
+        is_printed(rt, alloc, &polled(&mut items).ok_or("nothing")?, text)?;
     }
     for _ in 0..4 {
-        assert!(rt; items.next().is_none());
+        assert!(rt; polled(&mut items).is_none());
     }
     Ok(())
 }
