@@ -92,7 +92,7 @@ pub fn a_clone_gives_the_same_items<'a, T: FromReader<'a>>()
         (EqualRuns ⟦<SectionLimitedIntoIter<'a, T> as Iterator>⟧.next_gives) }
 {}
 
-/// A clone of a section gives the same items that own lists and the same fault, up to a want of memory, where the meaning
+/// A clone of a section gives the same items that own lists and the same fault, up to an `OutOfMemory`, where the meaning
 /// of an item allows one outcome.
 pub fn a_clone_gives_the_same_owned_items<'a, T: FromReaderIn<'a>>()
     ensures { AllowsOne T.meaning → (section copy : Section) →

@@ -325,8 +325,8 @@ impl<'a, T: FromReader<'a>> Iterator for SectionLimitedIntoIterWithOffsets<'a, T
 
 /// The items of a section that own lists.
 ///
-/// They come, and end, as those of `SectionLimitedIntoIter`; `OutOfMemory`, where a growth of an item's list is refused,
-/// is an item's fault like any other.
+/// They come, and end, as those of `SectionLimitedIntoIter`; `OutOfMemory`, when the allocation of an item's list
+/// fails, is an item's fault like any other.
 pub struct SectionLimitedIntoIterIn<'a, T> {
     alloc: Global,
     items: SectionLimitedIntoIter<'a, T>,

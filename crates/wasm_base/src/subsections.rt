@@ -59,7 +59,7 @@ pub trait Subsection<'a>: Sized + Drop {
 
     /// Reads the subsection with this id, which is the reader's window.
     ///
-    /// `OutOfMemory`, at offset 0, where a growth is refused.
+    /// `OutOfMemory`, at offset 0, when an allocation fails.
     fn from_reader(alloc: Global, id: u8, reader: BinaryReader<'a>) -> Result<Self>
         ensures means { MeansSubsection meaning Self.Allocation.ALLOCATES id reader.entry result }
         ensures memory { Self.Allocation.ALLOCATES ≡ false → TakesNoMemory result };

@@ -349,7 +349,7 @@ impl<'a> CoreDumpModulesSection<'a> {
     /// Reads the list of modules, of each a byte 0 and its name, a text of any size, to the window's end.
     ///
     /// Another byte is `CoreStartByte(Module)` at the start of the list; bytes that are left are `CustomTrailing` at the
-    /// first of them. `OutOfMemory`, at offset 0, where a growth is refused.
+    /// first of them. `OutOfMemory`, at offset 0, when an allocation fails.
     pub fn new(alloc: Global, reader: BinaryReader<'a>) -> Result<CoreDumpModulesSection<'a>>
         ensures gives { GivesResultUnlessMemory modules_parts result (modules_in (place reader.entry)) }
     {
@@ -374,7 +374,7 @@ impl CoreDumpInstancesSection {
     /// Reads the list of instances, to the window's end.
     ///
     /// The faults are those of instances; bytes that are left are `CustomTrailing` at the first of them. `OutOfMemory`, at
-    /// offset 0, where a growth is refused.
+    /// offset 0, when an allocation fails.
     pub fn new(alloc: Global, reader: BinaryReader<'_>) -> Result<CoreDumpInstancesSection>
         ensures gives { GivesResultUnlessMemory instances_parts result (instances_in (place reader.entry)) }
     {
@@ -398,7 +398,7 @@ impl<'a> CoreDumpStackSection<'a> {
     /// Reads a byte 0, the name of the thread, a text of any size, and the list of its frames, to the window's end.
     ///
     /// Another byte is `CoreStartByte(StackName)` at it; other faults are those of frames; bytes that are left are
-    /// `CustomTrailing` at the first of them. `OutOfMemory`, at offset 0, where a growth is refused.
+    /// `CustomTrailing` at the first of them. `OutOfMemory`, at offset 0, when an allocation fails.
     pub fn new(alloc: Global, reader: BinaryReader<'a>) -> Result<CoreDumpStackSection<'a>>
         ensures gives { GivesResultUnlessMemory stack_parts result (stack_in (place reader.entry)) }
     {

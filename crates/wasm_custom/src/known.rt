@@ -135,7 +135,7 @@ fn core_stack<'a, A: Allocator + Copy>(
     }
 }
 
-// What a section is whose reader answered this error: `Unknown` after a fault of the data. A want of memory is an error here
+// What a section is whose reader answered this error: `Unknown` after a fault of the data. Out of memory is an error here
 // too, made anew, so that it has the offset 0 whatever the reader said.
 fn unknown_but_for_memory<'a, A: Allocator>(error: Error) -> Result<KnownCustom<'a, A>>
     ensures known { IfOk result (λ known. known_parts known ≡ unknown) }
@@ -152,8 +152,8 @@ impl<'a> CustomSectionReader<'a> {
     /// The reader of the section's data, which its name decides. It is `Unknown` for a name that isn't known, and for data of
     /// which the reader's `new` answers a fault.
     ///
-    /// The only error is `OutOfMemory`, at offset 0, where a growth is refused. Only `coremodules`, `coreinstances` and
-    /// `corestack` make something grow.
+    /// The only error is `OutOfMemory`, at offset 0, when an allocation fails. Only `coremodules`, `coreinstances` and
+    /// `corestack` allocate.
     pub fn as_known(&self, alloc: Global) -> Result<KnownCustom<'a>>
         ensures known { IfOk result (λ known. known_parts known ≡ known_of self.now) }
         ensures refused { IfErr result (λ e. fault_at e ≡ out_of_memory) }

@@ -201,7 +201,7 @@ fn collect_into<R: Source>(
 /// Reads the input, and answers the names of items that its custom sections `name` have: those before the first fault of the
 /// stream, of a name section or of the source. Of two names of one item it is the first.
 ///
-/// `Memory` where a growth was refused, and no other error.
+/// `Memory` when an allocation failed, and no other error.
 pub fn collect_names<R: Source>(alloc: Global, input: &mut R) -> Result<ItemNames, ListError>
     ensures { IfErr result (λ why. why ≡ Memory) }
 {

@@ -75,7 +75,7 @@ pub struct Outside<'a> {
 /// Why a module can't be loaded.
 #[derive(Clone, Copy, Debug, PartialEq, Eq)]
 pub enum Misfit {
-    /// A fault of its stream, or a want of memory.
+    /// A fault of its stream, or out of memory.
     Stream(Error),
     /// The export of this place, counted from 0, names what is not there.
     NoSuch(usize),

@@ -17,7 +17,7 @@ pub trait Visitor {
     /// What a part makes of a visitor.
     ghost takes: { Self → Event → Self → Type 0 };
 
-    /// A part of the stream that is not its end, and the bytes that it is. Its only error is a want of memory.
+    /// A part of the stream that is not its end, and the bytes that it is. Its only error is out of memory.
     fn visit(&mut self, bytes: &[u8], payload: Payload<'_>) -> Result<()>
         ensures visits { OnOk result
             (takes self.old (part bytes.now payload.entry) self.new) }

@@ -33,8 +33,8 @@ pub fn check<'a, T: FromReader<'a>>(section: SectionLimited<'a, T>) -> Result<()
     Ok(())
 }
 
-/// The same of items that own lists, as types do: these grow by the allocator, and a growth that is refused ends the walk
-/// with `OutOfMemory`.
+/// The same of items that own lists, as types do: these allocate, and an allocation that fails ends the walk with
+/// `OutOfMemory`.
 pub fn check_in<'a, T: FromReaderIn<'a>>(
     section: SectionLimited<'a, T>,
     alloc: Global,

@@ -3,7 +3,7 @@ ghost use Rattle.std.specs.Prelude.{◌≡◌, ◌+◌, ◌≤◌, ◌++◌, dro
 
 use std::alloc::{AllocError, Allocator};
 
-/// Puts a piece after the bytes that are left, and takes those before them out. A growth that is refused changes nothing.
+/// Puts a piece after the bytes that are left, and takes those before them out. A failed allocation changes nothing.
 pub(crate) fn append<A: Allocator>(
     bytes: &mut Vec<u8, A>,
     spent: usize,
@@ -18,8 +18,8 @@ pub(crate) fn append<A: Allocator>(
     Ok(())
 }
 
-/// Takes the first bytes out, and makes room for so many after those that are left. Memory grows for these alone, before
-/// anything is moved: a growth that is refused changes nothing. It grows by more than it must, so that many small pieces cost
+/// Takes the first bytes out, and makes room for so many after those that are left. It allocates for these alone, before
+/// anything is moved: a failed allocation changes nothing. It grows by more than it must, so that many small pieces cost
 /// no more than a large one.
 pub(crate) fn make_room<A: Allocator>(
     bytes: &mut Vec<u8, A>,

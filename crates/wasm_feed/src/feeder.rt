@@ -214,8 +214,8 @@ impl<A: Allocator> Feeder<A> {
 
     /// Gives the next bytes of the stream. The feeder must want more.
     ///
-    /// `OffsetRange` at the parser's offset, where the stream would pass the offset 2^64 - 1; then `OutOfMemory` where the
-    /// growth was refused. Either leaves the feeder as it was.
+    /// `OffsetRange` at the parser's offset, where the stream would pass the offset 2^64 - 1; then `OutOfMemory` when an
+    /// allocation fails. Either leaves the feeder as it was.
     pub fn push(&mut self, piece: &[u8]) -> Result<()>
         requires { self.old.wants_more ≡ true }
         ensures ok { OnOk result (self.new ≡ pushed self.old piece.now) }
@@ -234,7 +234,7 @@ impl<A: Allocator> Feeder<A> {
     /// that it was the end. A stream that passes the offset 2^64 - 1 is a fault of the next step. The feeder must want more, as for
     /// `push`, and `buffer` must have a byte.
     ///
-    /// `Input` where the source failed; `Memory` where the growth was refused. Either leaves the feeder as it was.
+    /// `Input` where the source failed; `Memory` when an allocation failed. Either leaves the feeder as it was.
     pub fn read_from<R: Source>(
         &mut self,
         input: &mut R,
@@ -332,8 +332,8 @@ impl<'c, 'a> Opened<'c, 'a> {
     }
 }
 
-/// Puts the next bytes after those that are held, and lets the ones before the mark go. Where the growth was refused nothing
-/// changes.
+/// Puts the next bytes after those that are held, and lets the ones before the mark go. A failed allocation changes
+/// nothing.
 pub(crate) fn refill<A: Allocator>(
     cursor: &mut Cursor,
     bytes: &mut Vec<u8, A>,

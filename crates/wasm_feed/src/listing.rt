@@ -96,9 +96,9 @@ pub fn list_in<A: Allocator + Copy, R: Source, W: Sink>(
 /// is read. It keeps what the parser has not decided, the piece that came last, the buffer that it was read into, and a page of
 /// lines; no clause says how much that is.
 ///
-/// A stream that passes the offset 2^64 - 1 ends with the fault `OffsetRange`. An error leaves a beginning of the listing
+/// A stream that passes the offset 2^64 - 1 ends with the fault `OffsetRange`. An error leaves a prefix of the listing
 /// written: `Input` where the source failed, all lines but the last of what it gave; `Output` where the sink did; `Memory`
-/// where a growth was refused. A device that had failed before the call is still known to have failed.
+/// when an allocation failed. A device that had failed before the call is still known to have failed.
 pub fn list<R: Source, W: Sink>(
     alloc: Global,
     input: &mut R,

@@ -74,7 +74,7 @@ pub fn read_pieces_in<A: Allocator + Copy>(
 /// The events of a stream that is cut into pieces and begins at this offset, read with all features: those of its reading
 /// as a whole, wherever it is cut. The last one is the end, or the first fault. `fits_pieces` says whether they may be read.
 ///
-/// `OutOfMemory`, at offset 0, where a growth was refused, and no other error: a fault of the stream is an event.
+/// `OutOfMemory`, at offset 0, when an allocation fails, and no other error: a fault of the stream is an event.
 pub fn read_pieces(alloc: Global, offset: u64, pieces: &[&[u8]]) -> Result<Vec<Event>>
     requires { offset + length (joined pieces.now) < 2 ^ 64 }
     ensures { ReadsUnlessMemory (joined pieces.now) offset all_features result }

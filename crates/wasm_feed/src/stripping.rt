@@ -188,8 +188,8 @@ pub fn strip_in<A: Allocator>(alloc: A, bytes: &[u8], keep_names: bool) -> Resul
 /// the bytes dropped before them. The stream begins at offset 0.
 ///
 /// The fault at which the reading of the stream ends, if it isn't accepted, with its offset in bytes from the start of the
-/// stream; and only otherwise `OutOfMemory`, at offset 0, where a growth was refused. Memory is taken once, for as many
-/// bytes as are left.
+/// stream; and only otherwise `OutOfMemory`, at offset 0, when the allocation fails. It allocates once, for as many bytes
+/// as are left.
 pub fn strip(alloc: Global, bytes: &[u8], keep_names: bool) -> Result<Vec<u8>>
     ensures { Strips keep_names bytes.now result }
 {

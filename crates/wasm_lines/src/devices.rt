@@ -17,7 +17,7 @@ pub enum ListError {
     Input,
     /// The sink failed.
     Output,
-    /// No memory was left.
+    /// An allocation failed.
     Memory,
 }
 

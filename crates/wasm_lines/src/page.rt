@@ -13,7 +13,7 @@ use std::marker::Model;
 /// How many bytes wait at most.
 const PAGE_BYTES: usize = 65_536;
 
-// Makes them a whole page of bytes, of which none is to be kept. `Memory` where a growth is refused.
+// Makes them a whole page of bytes, of which none is to be kept. `Memory` when an allocation fails.
 fn fill<A: Allocator>(bytes: &mut Vec<u8, A>) -> Result<(), ListError>
     requires { vec_len bytes.old ≤ 65536 }
     ensures len { OnOk result (vec_len bytes.new ≡ 65536) }
@@ -140,7 +140,7 @@ impl<A: Allocator> Page<A> {
     }
 
     /// Puts at most 65,536 bytes after those that wait, which are written first where there is no room. `Output` where the sink
-    /// fails, and `Memory` where a growth is refused: a beginning of what waited is then written, and no more is known.
+    /// fails, and `Memory` when an allocation fails: a prefix of what waited is then written, and no more is known.
     #[inline(always)]
     pub fn put<W: Sink>(&mut self, bytes: &[u8], output: &mut W) -> Result<(), ListError>
         requires { length bytes.now ≤ 65536 }

@@ -152,7 +152,7 @@ pub(crate) fn add_fed(
     Ok(())
 }
 
-// Adds the line of a fault that is none of the bytes, or fails where memory is refused.
+// Adds the line of a fault that is none of the bytes, or fails when an allocation failed.
 fn add_last(error: &Error, lines: &mut Vec<u8>) -> Result<(), Failed> {
     match error.fault() {
         Fault::OutOfMemory => Err(Failed::System(ListError::Memory)),

@@ -90,6 +90,7 @@ pub trait Tree {
     /// Stops, since an allocation failed.
     fn out_of_memory(&mut self)
         ensures adds { Adds (writing self.old) (writing self.new) }
+        ensures style { (writing self.new).style ≡ (writing self.old).style }
         ensures stops { is_some (writing self.new).why ≡ true };
 
     /// Writes what waits. A line that is begun is ended first, and the bytes of the stream that are to be shown are.
@@ -100,6 +101,7 @@ pub trait Tree {
     /// Ends the line that is begun, if one is.
     fn end(&mut self)
         ensures adds { Adds (writing self.old) (writing self.new) }
+        ensures style { (writing self.new).style ≡ (writing self.old).style }
         ensures ended { (writing self.new).style ≡ Lines → (writing self.new).is_begun ≡ false }
         ensures outside { (writing self.new).style ≡ Objects → (writing self.new).spot ≡ Outside };
 

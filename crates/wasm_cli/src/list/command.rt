@@ -57,7 +57,7 @@ fn command_after_name(mut args: Args) -> Command
     }
 }
 
-/// What these arguments ask for, if they could be had. One that is no text asks for nothing that is known.
+/// What these arguments ask for, if they could be had. One that is not valid UTF-8 asks for nothing known.
 pub(super) fn command_asked(arguments: io::Result<Args>) -> Option<Command>
     ensures { result
         ≡ command_if_any (λ args. map string_bytes (into_iter_items args)) arguments }

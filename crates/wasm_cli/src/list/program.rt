@@ -32,7 +32,7 @@ pub fn run_host(rt: HostRuntime) -> ExitCode {
 /// The whole program: it looks at the arguments after the program's own name, runs, hands on what the output has kept, and
 /// answers the exit status.
 ///
-/// An argument that is no text is another argument; arguments that could not be had otherwise are a want of memory.
+/// An argument that is not valid UTF-8 is another argument; where the arguments cannot be read otherwise, it is out of memory.
 pub fn run_program<R: Source, W: Write, E: Sink>(
     alloc: Global,
     arguments: io::Result<Args>,

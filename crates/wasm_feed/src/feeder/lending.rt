@@ -23,7 +23,7 @@ pub fn seen<'a>(stored: &'a [u8], piece: &'a [u8]) -> &'a [u8]
 }
 
 /// Stores as many bytes of the piece as the next step has to read after those that are held, and says how many: none where
-/// nothing is held, since the piece is read where it is then. There is room for the others too. A growth that is refused changes
+/// nothing is held, since the piece is read where it is then. There is room for the others too. A failed allocation changes
 /// nothing.
 pub(crate) fn make_ready<A: Allocator>(
     cursor: &mut Cursor,

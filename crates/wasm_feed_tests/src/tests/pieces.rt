@@ -146,7 +146,7 @@ fn count_in(heap: &Sparing<Global>, pieces: &[&[u8]]) -> Result<usize, Error> {
     Ok(read_pieces_in(heap, 40, pieces)?.len())
 }
 
-// Each growth of a reading is refused in turn: that is a want of memory each time.
+// Each growth of a reading is refused in turn: it is out of memory each time.
 fn runs_out(rt: &impl Abort, alloc: Global, stream: &[u8], least: u64) -> Result<(), Fail> {
     let pieces = cut(alloc, stream, 5, true)?;
     let whole = events(alloc, 40, &pieces)?;

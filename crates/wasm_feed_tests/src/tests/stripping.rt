@@ -170,7 +170,7 @@ fn leaves_at_front(
     Ok(())
 }
 
-// The same is left with one growth, and without any a want of memory is answered.
+// The same is left with one growth, and without any it returns out of memory.
 fn leaves_in(
     rt: &impl Abort,
     alloc: Global,
